@@ -1,0 +1,315 @@
+-- What a run keeps while it goes from one place of its script to another.
+use Rattle.std.proofs.Common.{◌≡◌, ◌≢◌, ◌<◌, ◌≤◌, ◌+◌, ◌-◌, ◌⊎◌, inl, inr, ℕ, zero, suc, Bool, true, false, List, [], ◌∷◌, ◌++◌, ◌∙◌, Option, Some, None, take, drop, get_or, length, refl, sym, ap, subst, arith, add-one, lit≤, Vec, Global, Result, Ok, Err}
+use Rattle.std.specs.Prelude.{option_map, IfOk, OnOk, OnErr}
+use Rattle.std.specs.Option.{is_some}
+use Rattle.std.specs.Io.KnownBytes.{Appends, Consumes, IsAtEnd, Keeps}
+use Rattle.std.proofs.lemmas.List.{append_assoc, append-nil, take_all, length-take, length-drop}
+use Rattle.std.proofs.lemmas.List.Elements.{All-nil, All-append}
+use Rattle.scrib_core.specs.declared.reply.Reply.{Reply}
+use Rattle.scrib_core.specs.declared.step.Step.TheVariants.{Put}
+use Rattle.scrib_core.specs.World.{World, nothing}
+use Rattle.scrib_core.specs.Marks.{unmarked}
+use Rattle.scrib_core.specs.Answers.{IsAnswered}
+use Rattle.scrib_core.specs.Held.{world_of}
+use Rattle.scrib_script.specs.Says.{Says}
+use Rattle.scrib_script.specs.declared.line.Line.{Line}
+use Rattle.scrib_script.specs.declared.line.Line.TheVariants as line
+use Rattle.scrib_cli.specs.declared.run.Run.{Run}
+use Rattle.scrib_cli.specs.Scripts.{IsOutput, AppendsPart, lines, bare, text_end, end_of_text, reply_line}
+use Rattle.scrib_cli.specs.Progress.{NoLf, Place, Whole, WholeFrom, Leads, Short, most, text_of, Holds, place, Went, Stopped, LineEnded, LastLine, Ended, Failed, tail, Does, CarriedOut, PartCarriedOut, unread, halfway, Answered, PartAnswered, CarriedText, PartPut}
+use Rattle.scrib_cli.proofs.Bytes.{bare_last, length-bare, all_or_most, take_kept, take_kept_line, take_of_none, end_of_kept, end_is_kept, last_of_kept, last_is_kept}
+use Rattle.scrib_cli.proofs.Writes.{appends_none, appends_more, appends_kept, consumes_more}
+use Rattle.scrib_cli.proofs.Outputs.{begun, at, whole_does, whole_puts, whole_goes_on, whole_ends, whole_stops, whole_last, leads_none, leads_then, leads_part, leads_line, short_any, short_then, short_part, short_led, short_whole}
+
+pub none_some : {A : Type 0} (x : A) → None ≡ Some x → ⊥
+none_some x e = cc
+
+pub some_same : {A : Type 0} (x y : A) → Some x ≡ Some y → x ≡ y
+some_same x y e = cc
+
+pub few : 4 ≤ 1048577
+few = lit≤ tt
+
+says_long : (a b : List ℕ) (said : Line) → 131072 < length a → 131072 < length b → Says a said → Says b said
+says_long a b line.Skipped la lb s = absurd (omega (arith, s.0))
+says_long a b line.Put la lb s = absurd (omega (arith, s.0))
+says_long a b (line.Step t) la lb s = absurd (omega (arith, s.0))
+says_long a b line.Bad la lb s = inl lb
+
+-- what is kept of a line says what the line says
+says_kept : (k : List ℕ) (said : Line) → Says (bare (take 131074 k ++ 10 ∷ [])) said → Says (bare (k ++ 10 ∷ [])) said
+says_kept k said s = elim (all_or_most 131074 k) [
+  | inl all ↦ subst (λ (t : List ℕ). Says (bare (t ++ 10 ∷ [])) said) all s
+  | inr long ↦
+      says_long (bare (take 131074 k ++ 10 ∷ [])) (bare (k ++ 10 ∷ [])) said
+      (omega (arith, length-bare (take 131074 k), long.0)) (omega (arith, length-bare k, long.1)) s
+]
+
+pub says_last : (k : List ℕ) (said : Line) → NoLf k → Says (take 131074 k) said → Says (bare k) said
+says_last k said no_lf s = subst (λ (t : List ℕ). Says t said) (sym (bare_last k no_lf)) (elim (all_or_most 131074 k) [
+  | inl all ↦ subst (λ (t : List ℕ). Says t said) all s
+  | inr long ↦ says_long (take 131074 k) k said (omega (arith, long.0)) (omega (arith, long.1)) s
+])
+
+pub none_kept : (m : ℕ) (k : List ℕ) → 1 ≤ m → take m k ≡ [] → k ≡ []
+none_kept zero k h e = absurd (omega arith)
+none_kept (suc m) [] h e = refl
+none_kept (suc m) (x ∷ k) h e = cc
+
+most_map : (text : Option (List ℕ)) → most (option_map (take 1048577) text) ≡ most text
+most_map None = refl
+most_map (Some t) = refl
+
+pub most_some : {A : Type 0} (f : A → List ℕ) (o : Option A) → true ≡ is_some o → most (option_map f o) ≡ 1048577
+most_some f None e = cc
+most_some f (Some x) e = refl
+
+pub most_none : {A : Type 0} (f : A → List ℕ) (o : Option A) → false ≡ is_some o → most (option_map f o) ≡ 131074
+most_none f None e = refl
+most_none f (Some x) e = cc
+
+pub text_inside : (r : Run) (v : Vec ℕ Global) → r.text ≡ Some v → text_of r ≡ Some v.items
+text_inside r v e = ap (option_map (λ (x : Vec ℕ Global). x.items)) e
+
+pub text_outside : (r : Run) → r.text ≡ None → text_of r ≡ None
+text_outside r e = ap (option_map (λ (x : Vec ℕ Global). x.items)) e
+
+begun_kept : (b : Bool) → begun b ≡ option_map (take 1048577) (begun b)
+begun_kept true = ap Some (sym (take_of_none 1048577))
+begun_kept false = refl
+
+-- one run and another
+pub went_then : (a b c : Run) (x y : List ℕ) (w0 w1 w2 : Option (List ℕ)) → Went a b x w0 w1 → Went b c y w1 w2 → Went a c (x ++ y) w0 w2
+went_then a b c x y w0 w1 w2 f g = record {
+  goes = λ text line h.
+      let p = f.goes text line h in
+      let q = g.goes p.0 p.1 p.3 in
+      (q.0, q.1, p.2 ++ q.2, q.3, leads_then (place a text line) (place b p.0 p.1) (place c q.0 q.1) x y p.2 q.2 p.4 q.4, appends_more w0 w1 w2 p.2 q.2 p.5 q.5);
+}
+
+pub stopped_then : (a b : Run) (x y : List ℕ) (w0 w1 w2 : Option (List ℕ)) → Went a b x w0 w1 → Stopped b y w1 w2 → Stopped a (x ++ y) w0 w2
+stopped_then a b x y w0 w1 w2 f s = record {
+  so = λ text line h.
+      let p = f.goes text line h in
+      let q = s.so p.0 p.1 p.3 in (
+        p.2 ++ q.0,
+        λ more. subst (λ (t : List ℕ). Short (place a text line) t (p.2 ++ q.0)) (sym (append_assoc x y more)) (short_then (place a text line) (place b p.0 p.1) x (y ++ more) p.2 q.0 p.4 (q.1 more)),
+        appends_more w0 w1 w2 p.2 q.0 p.5 q.2,
+      );
+}
+
+pub stopped_more : (a : Run) (x y : List ℕ) (was now : Option (List ℕ)) → Stopped a x was now → Stopped a (x ++ y) was now
+stopped_more a x y was now s = record {
+  so = λ text line h.
+      let q = s.so text line h in
+      (q.0, λ more. subst (λ (t : List ℕ). Short (place a text line) t q.0) (sym (append_assoc x y more)) (q.1 (y ++ more)), q.2);
+}
+
+pub stopped_any : (a : Run) (x : List ℕ) (w : Option (List ℕ)) → Stopped a x w w
+stopped_any a x w = record { so = λ text line h. ([], λ more. short_any (place a text line) (x ++ more), appends_none w) }
+
+-- a run with other counts only
+pub stopped_as : (a b : Run) (x : List ℕ) (was now : Option (List ℕ)) → Stopped a x was now
+    → text_of a ≡ text_of b → a.line.items ≡ b.line.items → a.lines ≡ b.lines → world_of a.core ≡ world_of b.core → Stopped b x was now
+stopped_as a b x was now s text_is line_is lines_is world_is = record {
+  so = λ text line h.
+      let q = s.so text line (record { kept_text = text_is ∙ h.kept_text; kept_line = line_is ∙ h.kept_line; no_lf = h.no_lf }) in
+      let short = q.1 in (
+        q.0,
+        λ more.
+            subst (λ (v : World). Short (at (b.lines + 1) text line v) (x ++ more) q.0) world_is
+            (subst (λ (i : ℕ). Short (at (i + 1) text line (world_of a.core)) (x ++ more) q.0) lines_is (short more)),
+        q.2,
+      );
+}
+
+-- bytes of a line came
+pub went_part : (old new : Run) (part : List ℕ) (w : Option (List ℕ)) → text_of new ≡ text_of old → world_of new.core ≡ world_of old.core → new.lines ≡ old.lines
+    → (length old.line.items ≤ most (text_of old) → new.line.items ≡ take (most (text_of old)) (old.line.items ++ part)) → NoLf part → Went old new part w w
+went_part old new part w text_is world_is lines_is line_is no_lf = record {
+  goes = λ text line h.
+      let m : most (text_of old) ≡ most text = ap most h.kept_text ∙ most_map text in
+      let short : length old.line.items ≤ most (text_of old) = omega (arith, ap length h.kept_line, length-take (most text) line, m) in
+      let kept : new.line.items ≡ take (most text) (line ++ part) =
+      line_is short ∙ ap (λ (n : ℕ). take n (old.line.items ++ part)) m ∙ ap (λ (t : List ℕ). take (most text) (t ++ part)) h.kept_line ∙ take_kept (most text) line part in
+      let holds : Holds new text (line ++ part) = record {
+        kept_text = text_is ∙ h.kept_text;
+        kept_line = kept;
+        no_lf = All-append (λ b. b ≢ 10) line part h.no_lf no_lf;
+      } in
+      let n = old.lines + 1 in
+      let leads : Leads (place old text line) part [] (at n text (line ++ part) (world_of old.core)) = leads_part n text line part (world_of old.core) in
+      let at_world : Leads (place old text line) part [] (at n text (line ++ part) (world_of new.core)) =
+      subst (λ (v : World). Leads (place old text line) part [] (at n text (line ++ part) v)) (sym world_is) leads in
+      let at_number : Leads (place old text line) part [] (place new text (line ++ part)) =
+      subst (λ (i : ℕ). Leads (place old text line) part [] (at (i + 1) text (line ++ part) (world_of new.core))) (sym lines_is) at_world in
+      (text, line ++ part, [], holds, at_number, appends_none w);
+}
+
+pub went_same : (a : Run) (part : List ℕ) (w : Option (List ℕ)) → part ≡ [] → NoLf part → Went a a part w w
+went_same a part w e no_lf =
+    went_part a a part w refl refl refl (λ h. sym (ap (λ (t : List ℕ). take (most (text_of a)) (a.line.items ++ t)) e ∙ ap (take (most (text_of a))) (append-nil a.line.items) ∙ take_all (most (text_of a)) a.line.items h)) no_lf
+
+-- a line ended
+module _ (old : Run) (was now : Option (List ℕ)) where
+  outer_at : (b : Bool) (v : World) → text_of old ≡ None → CarriedOut (old.lines + 1) (bare (old.line.items ++ 10 ∷ [])) (world_of old.core) b v was now
+      → (text : Option (List ℕ)) (line : List ℕ) → Holds old text line
+      → (text' : Option (List ℕ)) × (out : List ℕ) × (begun b ≡ option_map (take 1048577) text')
+      × Leads (place old text line) (10 ∷ []) out (at (old.lines + 1 + 1) text' [] v) × Appends was now out
+  outer_at b v outside carried None line h =
+      let n = old.lines + 1 in
+      let w = world_of old.core in
+      let says : Says (bare (line ++ 10 ∷ [])) carried.said = says_kept line carried.said (subst (λ (t : List ℕ). Says (bare (t ++ 10 ∷ [])) carried.said) h.kept_line carried.says) in
+      let leads = leads_line n None (begun b) line w v carried.out h.no_lf (λ ls output more. whole_does n (line ++ 10 ∷ []) ls w output carried.said b v carried.out says carried.does more) in
+      (begun b, carried.out, begun_kept b, leads, carried.appends)
+  outer_at b v outside carried (Some t) line h = absurd (none_some (take 1048577 t) (sym outside ∙ h.kept_text))
+
+  pub ended_outer : (b : Bool) (v : World) → text_of old ≡ None → CarriedOut (old.lines + 1) (bare (old.line.items ++ 10 ∷ [])) (world_of old.core) b v was now → LineEnded old (begun b) v was now
+  ended_outer b v outside carried = record { goes = outer_at b v outside carried }
+
+  inner_at : (kept : List ℕ) (after : Option (List ℕ)) (v : World) → text_of old ≡ Some kept → CarriedText kept old.line.items (world_of old.core) after v was now
+      → (text : Option (List ℕ)) (line : List ℕ) → Holds old text line
+      → (text' : Option (List ℕ)) × (out : List ℕ) × (after ≡ option_map (take 1048577) text')
+      × Leads (place old text line) (10 ∷ []) out (at (old.lines + 1 + 1) text' [] v) × Appends was now out
+  inner_at kept after v inside carried None line h = absurd (none_some kept (sym h.kept_text ∙ inside))
+  inner_at kept None v inside carried (Some t) line h =
+      let n = old.lines + 1 in
+      let w = world_of old.core in
+      let same : kept ≡ take 1048577 t = some_same kept (take 1048577 t) (sym inside ∙ h.kept_text) in
+      let is_end : bare (line ++ 10 ∷ []) ≡ text_end = end_of_kept 1048577 line few (subst (λ (x : List ℕ). bare (x ++ 10 ∷ []) ≡ text_end) h.kept_line carried.0) in
+      let r = carried.1.0 in
+      let answered : IsAnswered (world_of old.core) unmarked (Put (take 1048577 t)) carried.1.0 v unmarked = subst (λ (x : List ℕ). IsAnswered (world_of old.core) unmarked (Put x) carried.1.0 v unmarked) same carried.1.1 in
+      let leads = leads_line n (Some t) None line w v (reply_line r) h.no_lf (λ ls output more. whole_puts n (line ++ 10 ∷ []) ls w output t r v is_end answered more) in
+      (None, reply_line r, refl, leads, carried.1.2)
+  inner_at kept (Some after) v inside carried (Some t) line h =
+      let n = old.lines + 1 in
+      let w = world_of old.core in
+      let same : kept ≡ take 1048577 t = some_same kept (take 1048577 t) (sym inside ∙ h.kept_text) in
+      let ne : bare (line ++ 10 ∷ []) ≢ text_end = λ e. carried.0 (subst (λ (x : List ℕ). bare (x ++ 10 ∷ []) ≡ text_end) (sym h.kept_line) (end_is_kept 1048577 line few e)) in
+      let short : length kept ≤ 1048577 = omega (arith, ap length same, length-take 1048577 t) in
+      let after_is : after ≡ take 1048577 (t ++ (line ++ 10 ∷ [])) =
+      carried.1 short ∙ ap (λ (x : List ℕ). take 1048577 (x ++ (old.line.items ++ 10 ∷ []))) same ∙ ap (λ (x : List ℕ). take 1048577 (take 1048577 t ++ (x ++ 10 ∷ []))) h.kept_line ∙ take_kept_line 1048577 t line (10 ∷ []) in
+      let leads = leads_line n (Some t) (Some (t ++ (line ++ 10 ∷ []))) line w v [] h.no_lf
+      (λ ls output more. whole_goes_on n (line ++ 10 ∷ []) ls w output t ne (subst (λ (x : World). Whole (n + 1) (Some (t ++ (line ++ 10 ∷ []))) ls x output) carried.2 more)) in
+      (Some (t ++ (line ++ 10 ∷ [])), [], ap Some after_is, leads, carried.3)
+
+  pub ended_inner : (kept : List ℕ) (after : Option (List ℕ)) (v : World) → text_of old ≡ Some kept → CarriedText kept old.line.items (world_of old.core) after v was now → LineEnded old after v was now
+  ended_inner kept after v inside carried = record { goes = inner_at kept after v inside carried }
+
+  stopped_outer_at : text_of old ≡ None → PartCarriedOut (old.lines + 1) (bare (old.line.items ++ 10 ∷ [])) (world_of old.core) was now
+      → (text : Option (List ℕ)) (line : List ℕ) → Holds old text line
+      → (part : List ℕ) × ((more : List ℕ) → Short (place old text line) (10 ∷ [] ++ more) part) × Appends was now part
+  stopped_outer_at outside (unread none) text line h = ([], λ more. short_any (place old text line) (10 ∷ [] ++ more), none)
+  stopped_outer_at outside (halfway said b v out says does part) None line h =
+      let n = old.lines + 1 in
+      let w = world_of old.core in
+      let said_whole : Says (bare (line ++ 10 ∷ [])) said = says_kept line said (subst (λ (t : List ℕ). Says (bare (t ++ 10 ∷ [])) said) h.kept_line says) in
+      let leads = leads_line n None (begun b) line w v out h.no_lf (λ ls output more. whole_does n (line ++ 10 ∷ []) ls w output said b v out said_whole does more) in
+      (part.0, λ more. short_led (place old None line) (at (n + 1) (begun b) [] v) (10 ∷ []) more out part.0 part.1 leads part.2, part.3)
+  stopped_outer_at outside (halfway said b v out says does part) (Some t) line h = absurd (none_some (take 1048577 t) (sym outside ∙ h.kept_text))
+
+  pub stopped_outer : text_of old ≡ None → PartCarriedOut (old.lines + 1) (bare (old.line.items ++ 10 ∷ [])) (world_of old.core) was now → Stopped old (10 ∷ []) was now
+  stopped_outer outside p = record { so = stopped_outer_at outside p }
+
+  stopped_inner_at : (kept : List ℕ) (v : World) → text_of old ≡ Some kept → PartPut kept old.line.items (world_of old.core) v was now
+      → (text : Option (List ℕ)) (line : List ℕ) → Holds old text line
+      → (part : List ℕ) × ((more : List ℕ) → Short (place old text line) (10 ∷ [] ++ more) part) × Appends was now part
+  stopped_inner_at kept v inside (inl none) text line h = ([], λ more. short_any (place old text line) (10 ∷ [] ++ more), none)
+  stopped_inner_at kept v inside (inr put) None line h = absurd (none_some kept (sym h.kept_text ∙ inside))
+  stopped_inner_at kept v inside (inr put) (Some t) line h =
+      let n = old.lines + 1 in
+      let w = world_of old.core in
+      let same : kept ≡ take 1048577 t = some_same kept (take 1048577 t) (sym inside ∙ h.kept_text) in
+      let is_end : bare (line ++ 10 ∷ []) ≡ text_end = end_of_kept 1048577 line few (subst (λ (x : List ℕ). bare (x ++ 10 ∷ []) ≡ text_end) h.kept_line put.0) in
+      let r = put.1.0 in
+      let part = put.1.2 in
+      let answered : IsAnswered (world_of old.core) unmarked (Put (take 1048577 t)) put.1.0 v unmarked = subst (λ (x : List ℕ). IsAnswered (world_of old.core) unmarked (Put x) put.1.0 v unmarked) same put.1.1 in
+      let leads = leads_line n (Some t) None line w v (reply_line r) h.no_lf (λ ls output more. whole_puts n (line ++ 10 ∷ []) ls w output t r v is_end answered more) in
+      (part.0, λ more. short_led (place old (Some t) line) (at (n + 1) None [] v) (10 ∷ []) more (reply_line r) part.0 part.1 leads part.2, part.3)
+
+  pub stopped_inner : (kept : List ℕ) (v : World) → text_of old ≡ Some kept → PartPut kept old.line.items (world_of old.core) v was now → Stopped old (10 ∷ []) was now
+  stopped_inner kept v inside p = record { so = stopped_inner_at kept v inside p }
+
+-- the next line begins
+pub went_line : (old new : Run) (after : Option (List ℕ)) (was now : Option (List ℕ)) → LineEnded old after (world_of new.core) was now
+    → text_of new ≡ after → new.line.items ≡ [] → new.lines ≡ old.lines + 1 → Went old new (10 ∷ []) was now
+went_line old new after was now ended text_is line_is lines_is = record {
+  goes = λ text line h.
+      let p = ended.goes text line h in
+      let holds : Holds new p.0 [] = record {
+        kept_text = text_is ∙ p.2;
+        kept_line = line_is ∙ sym (take_of_none (most p.0));
+        no_lf = All-nil (λ b. b ≢ 10);
+      } in
+      let leads : Leads (place old text line) (10 ∷ []) p.1 (place new p.0 []) =
+      subst (λ (i : ℕ). Leads (place old text line) (10 ∷ []) p.1 (at (i + 1) p.0 [] (world_of new.core))) (sym lines_is) p.3 in
+      (p.0, [], p.1, holds, leads, p.4);
+}
+
+pub ended_text : {E : Type 0} (r : Result (Option (Vec ℕ Global)) E) (old : Run) (was now : Option (List ℕ)) (kept l : List ℕ) (v : World) → text_of old ≡ Some kept → l ≡ old.line.items
+    → IfOk r (λ after. CarriedText kept l (world_of old.core) (option_map (λ (x : Vec ℕ Global). x.items) after) v was now)
+    → IfOk r (λ after. LineEnded old (option_map (λ (x : Vec ℕ Global). x.items) after) v was now)
+ended_text (Ok after) old was now kept l v inside same carried =
+    let texts = option_map (λ (x : Vec ℕ Global). x.items) after in
+    ended_inner old was now kept texts v inside (subst (λ (t : List ℕ). CarriedText kept t (world_of old.core) (option_map (λ (x : Vec ℕ Global). x.items) after) v was now) same carried)
+ended_text (Err e) old was now kept l v inside same carried = tt
+
+-- so far these bytes of a piece were taken in, and the rest is left
+pub record Took (old new : Run) (piece rest : List ℕ) (was now : Option (List ℕ)) : Type 0 where
+  pub done : List ℕ
+  pub is : piece ≡ done ++ rest
+  pub went : Went old new done was now
+
+pub took_none : (r : Run) (piece : List ℕ) (w : Option (List ℕ)) → Took r r piece piece w w
+took_none r piece w = record { done = []; is = refl; went = went_same r [] w refl (All-nil (λ b. b ≢ 10)) }
+
+-- a line, its LF and what comes after
+at_lf_suc : (rest : List ℕ) (i : ℕ) → i < length rest → get_or rest i 0 ≡ 10 → rest ≡ take i rest ++ 10 ∷ drop (suc i) rest
+at_lf_suc [] i h e = absurd (omega arith)
+at_lf_suc (x ∷ rest) zero h e = ap (λ (b : ℕ). b ∷ rest) e
+at_lf_suc (x ∷ rest) (suc i) h e = ap (λ (t : List ℕ). x ∷ t) (at_lf_suc rest i (omega arith) e)
+
+at_lf : (rest : List ℕ) (i : ℕ) → i < length rest → get_or rest i 0 ≡ 10 → rest ≡ take i rest ++ 10 ∷ drop (i + 1) rest
+at_lf rest i h e = subst (λ (n : ℕ). rest ≡ take i rest ++ 10 ∷ drop n rest) (sym (add-one i)) (at_lf_suc rest i h e)
+
+pub took_line : (old mid part new : Run) (piece rest : List ℕ) (i : ℕ) (w0 w1 w2 : Option (List ℕ)) → Took old mid piece rest w0 w1 → i < length rest → get_or rest i 0 ≡ 10
+    → Went mid part (take i rest) w1 w1 → Went part new (10 ∷ []) w1 w2 → Took old new piece (drop (i + 1) rest) w0 w2
+took_line old mid part new piece rest i w0 w1 w2 t within lf first then =
+    let line = take i rest in
+    let after = drop (i + 1) rest in
+    let all : piece ≡ t.done ++ (take i rest ++ 10 ∷ drop (i + 1) rest) = t.is ∙ ap (λ (x : List ℕ). t.done ++ x) (at_lf rest i within lf) in
+    record {
+      done = t.done ++ take i rest ++ 10 ∷ [];
+      is = all ∙ sym (append_assoc t.done line (10 ∷ after)) ∙ sym (append_assoc (t.done ++ line) (10 ∷ []) after);
+      went = went_then old part new (t.done ++ line) (10 ∷ []) w0 w1 w2 (went_then old mid part t.done line w0 w1 w1 t.went first) then;
+    }
+
+-- the last part of a piece
+pub took_all : (old mid new : Run) (piece rest : List ℕ) (w0 w1 : Option (List ℕ)) → Took old mid piece rest w0 w1 → Went mid new rest w1 w1 → Went old new piece w0 w1
+took_all old mid new piece rest w0 w1 t last = subst (λ (x : List ℕ). Went old new x w0 w1) (sym t.is) (went_then old mid new t.done rest w0 w1 w1 t.went last)
+
+-- nothing more was written
+pub stopped_took : (old mid : Run) (piece rest : List ℕ) (w0 w1 : Option (List ℕ)) → Took old mid piece rest w0 w1 → Stopped old piece w0 w1
+stopped_took old mid piece rest w0 w1 t = subst (λ (x : List ℕ). Stopped old x w0 w1) (sym t.is) (stopped_then old mid t.done rest w0 w1 w1 t.went (stopped_any mid rest w1))
+
+-- the line failed
+pub stopped_line : (old mid part : Run) (piece rest : List ℕ) (i : ℕ) (w0 w1 w2 : Option (List ℕ)) → Took old mid piece rest w0 w1 → i < length rest → get_or rest i 0 ≡ 10
+    → Went mid part (take i rest) w1 w1 → Stopped part (10 ∷ []) w1 w2 → Stopped old piece w0 w2
+stopped_line old mid part piece rest i w0 w1 w2 t within lf first s =
+    let line = take i rest in
+    let after = drop (i + 1) rest in
+    let all : piece ≡ t.done ++ (take i rest ++ 10 ∷ drop (i + 1) rest) = t.is ∙ ap (λ (x : List ℕ). t.done ++ x) (at_lf rest i within lf) in
+    let same : piece ≡ t.done ++ take i rest ++ (10 ∷ [] ++ drop (i + 1) rest) = all ∙ sym (append_assoc t.done line (10 ∷ after)) in
+    subst (λ (x : List ℕ). Stopped old x w0 w2) (sym same)
+    (stopped_then old part (t.done ++ line) (10 ∷ [] ++ after) w0 w1 w2 (went_then old mid part t.done line w0 w1 w1 t.went first) (stopped_more part (10 ∷ []) after w1 w2 s))
+
+pub on_ok_any : {T E P : Type 0} (r : Result T E) → P → OnOk r P
+on_ok_any (Ok x) p = p
+on_ok_any (Err e) p = tt
+
+pub on_err_any : {T E P : Type 0} (r : Result T E) → P → OnErr r P
+on_err_any (Ok x) p = tt
+on_err_any (Err e) p = p
+
+pub slice_rest : (i : ℕ) (xs : List ℕ) → take (length xs - i) (drop i xs) ≡ drop i xs
+slice_rest i xs = take_all (length xs - i) (drop i xs) (omega (arith, length-drop i xs))

@@ -1,0 +1,5 @@
+pub mod Bytes
+pub mod Writes
+pub mod Outputs
+pub mod Going
+pub mod Ending

@@ -1,0 +1,22 @@
+use Rattle.std.proofs.Common.{◌≡◌, refl, false}
+use Rattle.std.proofs.lemmas.Result.{err_from_is_err_and}
+use Rattle.scrib_core.specs.Held.{world_of}
+use Rattle.scrib_script.specs.Says.{Says}
+use Rattle.scrib_script.specs.declared.line.Line.TheVariants as line
+use Rattle.scrib_cli.specs.Scripts.{bad_line, reply_line}
+use Rattle.scrib_cli.specs.Progress.{PartAnswered, halfway}
+use Rattle.scrib_cli.proofs.carrying.carry_out.Goals as goal
+
+pub returns-in_err-make_step-in-Step-clause-err : goal.returns-in_err-make_step-in-Step-clause-err
+returns-in_err-make_step-in-Step-clause-err g c =
+    let p = err_from_is_err_and c.from_residual-in_err-make_step-in-Step.result c.from_residual-in_err-make_step-in-Step.ensures.1 in
+    let says : Says c.args.bytes.now (line.Step c.in-Step.step) = rw c.in-Step.is at c.in_ok-line_of.ensures in
+    let made : PartAnswered (world_of c.args.core.now) c.in-Step.step (world_of c.make_step.new.core) (g.W.Write.contents c.args.writer.now) (g.W.Write.contents c.make_step.new.writer) =
+    c.in_err-make_step-in-Step.ensures.err in
+    rw p.1 (halfway (line.Step c.in-Step.step) false (world_of c.make_step.new.core) (reply_line made.0) says (refl, (made.0, made.1, refl)) made.2)
+
+pub returns-in_err-refuse_line-in-Bad-clause-err : goal.returns-in_err-refuse_line-in-Bad-clause-err
+returns-in_err-refuse_line-in-Bad-clause-err g c =
+    let p = err_from_is_err_and c.from_residual-in_err-refuse_line-in-Bad.result c.from_residual-in_err-refuse_line-in-Bad.ensures.1 in
+    let says : Says c.args.bytes.now line.Bad = rw c.in-Bad.is at c.in_ok-line_of.ensures in
+    rw p.1 (halfway line.Bad false (world_of c.args.core.now) (bad_line c.args.number) says (refl, refl, refl) c.in_err-refuse_line-in-Bad.ensures.err)

@@ -1,0 +1,40 @@
+//! Why a script ended early.
+
+use std::alloc::{AllocError, AllocFailed};
+use thiserror::Error;
+
+/// Why a script ended early. What was written by then is a beginning of its output.
+#[derive(Debug, Drop, PartialEq, Eq, Error)]
+pub enum ScriptFault {
+    /// The reader failed, or the script is longer than a script may be.
+    #[error("the script was not read to its end")]
+    Read,
+    /// The writer failed.
+    #[error("the output was not written")]
+    Write,
+    /// Memory for a line or a reply's text was refused.
+    #[error("out of memory")]
+    OutOfMemory,
+}
+
+impl From<AllocError> for ScriptFault {
+    ghost use Rattle.std.specs.Prelude.{◌≡◌};
+    ghost use Rattle.scrib_cli.specs.declared.fault.ScriptFault.TheVariants.{OutOfMemory};
+
+    ghost from_gives = { λ _ e. e ≡ OutOfMemory };
+
+    fn from(_e: AllocError) -> ScriptFault {
+        ScriptFault::OutOfMemory
+    }
+}
+
+impl<T: Drop> From<AllocFailed<T>> for ScriptFault {
+    ghost use Rattle.std.specs.Prelude.{◌≡◌};
+    ghost use Rattle.scrib_cli.specs.declared.fault.ScriptFault.TheVariants.{OutOfMemory};
+
+    ghost from_gives = { λ _ e. e ≡ OutOfMemory };
+
+    fn from(_e: AllocFailed<T>) -> ScriptFault {
+        ScriptFault::OutOfMemory
+    }
+}

@@ -1,0 +1,11 @@
+//! Scripts, and the commands of the program.
+#![tactic(auto)]
+
+mod carrying;
+pub mod fault;
+mod keeping;
+mod run;
+pub mod run_script;
+#[cfg(test)]
+mod tests;
+mod writing;

@@ -1,0 +1,71 @@
+//! Running a script.
+
+ghost use Rattle.std.specs.Prelude.{◌≡◌, ◌<◌, ◌≢◌, ℕ, List, OnOk, OnErr, IfSome, length};
+ghost use Rattle.std.specs.Io.KnownBytes.{Appends};
+ghost use Rattle.scrib_cli.specs.Scripts.{IsOutput, AppendsPart};
+
+pub use crate::fault::ScriptFault;
+use crate::run::Run;
+use crate::writing::flush_out;
+use std::alloc::Global;
+use std::io::{ErrorKind, Read, Write};
+
+// How many bytes are read at once.
+const PIECE_BYTES: usize = 8192;
+
+/// Reads a script, makes its steps over a new monitor, and writes the line of each reply, however
+/// the reads and writes are cut. At the end the writer is flushed.
+///
+/// # Errors
+/// What was written by then is a beginning of the script's output.
+/// - `Read` where the reader fails, and at the first byte past 1,099,511,627,776 bytes or past
+///   16,777,216 lines.
+/// - `Write` where the writer fails.
+/// - `OutOfMemory` where there is no memory for a line or a reply's text. A step that lacks memory
+///   is refused in its reply, and the script goes on.
+pub fn run_script<R: Read, W: Write>(
+    alloc: Global,
+    reader: &mut R,
+    writer: &mut W,
+) -> Result<(), ScriptFault>
+    ensures ok { OnOk result (IfSome (R.remaining reader.old) (λ input. (output : List ℕ) × IsOutput input output
+        × Appends (W.contents writer.old) (W.contents writer.new) output)) }
+    ensures err { OnErr result (IfSome (R.remaining reader.old) (λ input. ((output : List ℕ) × IsOutput input output
+        × AppendsPart (W.contents writer.old) (W.contents writer.new) output → ⊥) → ⊥)) }
+{
+    let mut piece = vec![in alloc; 0u8; PIECE_BYTES]?;
+    run_by_pieces(alloc, reader, writer, piece.as_mut_slice())
+}
+
+// Runs a script that is read by pieces into this buffer.
+fn run_by_pieces<R: Read, W: Write>(
+    alloc: Global,
+    reader: &mut R,
+    writer: &mut W,
+    piece: &mut [u8],
+) -> Result<(), ScriptFault>
+    requires { 0 < length piece.old }
+    ensures ok { OnOk result (IfSome (R.remaining reader.old) (λ input. (output : List ℕ) × IsOutput input output
+        × Appends (W.contents writer.old) (W.contents writer.new) output)) }
+    ensures err { OnErr result (IfSome (R.remaining reader.old) (λ input. ((output : List ℕ) × IsOutput input output
+        × AppendsPart (W.contents writer.old) (W.contents writer.new) output → ⊥) → ⊥)) }
+{
+    let mut run = Run::new(alloc);
+    for _ in 0..u64::MAX {
+        let n = match reader.read(piece) {
+            Ok(n) => n,
+            Err(e) => {
+                if e.kind() == ErrorKind::Interrupted {
+                    continue;
+                }
+                return Err(ScriptFault::Read);
+            }
+        };
+        if n == 0 {
+            run.finish(writer)?;
+            return flush_out(writer);
+        }
+        run.take_piece(writer, &piece[..n])?;
+    }
+    Err(ScriptFault::Read)
+}

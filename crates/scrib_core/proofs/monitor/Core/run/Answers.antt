@@ -1,0 +1,23 @@
+use Rattle.std.proofs.Common.{◌≡◌, ◌<◌, ◌+◌, ◌++◌, ◌∷◌, [], List, length, take, get_or, sym, ap, ◌∙◌, arith, rules}
+use Rattle.std.proofs.lemmas.List.{take_more}
+use Rattle.scrib_core.specs.declared.step.Step.{Step}
+use Rattle.scrib_core.specs.declared.reply.Reply.{Reply}
+use Rattle.scrib_core.specs.Answers.{IsAnswered, Answers}
+use Rattle.scrib_core.specs.Held.{world_of, marks_of}
+use Rattle.scrib_core.proofs.Steps.{answers_push}
+use Rattle.scrib_core.proofs.monitor.Core.run.Goals as goal
+
+pub loop-step-preserved : goal.loop-step-preserved
+loop-step-preserved c =
+    let steps = c.args.steps.now in
+    let i = c.loop-step.step-index in
+    let within : c.loop-step.step-index < length c.args.steps.now = omega arith in
+    let taken : take (c.loop-step.step-index + 1) c.args.steps.now ≡ take c.loop-step.step-index c.args.steps.now ++ c.step-item.result ∷ [] =
+    take_more steps i c.step-item.result within ∙ ap (λ (s : Step). take i steps ++ s ∷ []) (sym c.step-item.is) in
+    let more = answers_push (take i steps) c.loop-step.replies.items (world_of c.args.self.now) (world_of c.loop-step.self) (world_of c.apply_lent-reply.new.self) (marks_of c.args.self.now) (marks_of c.loop-step.self) (marks_of c.apply_lent-reply.new.self) c.step-item.result c.apply_lent-reply.result
+    c.loop-step.invariant.answered c.apply_lent-reply.ensures.answered in
+    record {
+      answered = rw (taken, c.push_reserved.ensures.items) more;
+      room = omega (arith, c.push_reserved.ensures.capacity, c.loop-step.invariant.room);
+      count = omega (arith, c.push_reserved.ensures.len, c.loop-step.invariant.count);
+    }

@@ -1,0 +1,4 @@
+pub mod World
+pub mod Marks
+pub mod Answers
+pub mod Held

@@ -1,0 +1,18 @@
+//! Steps: what is asked of the monitor.
+
+use scrib_types::event::Event;
+use scrib_types::name::Dotted;
+use scrib_types::plain::Items;
+
+/// One step.
+#[derive(Drop)]
+pub enum Step {
+    /// Put the module of this text into the library.
+    Put { text: Items<u8> },
+    /// Open a conversation of a protocol, by its full name.
+    Open { id: u32, name: Dotted },
+    /// Note an event of a conversation.
+    Note { id: u32, event: Event },
+    /// Ask for the verdict on a conversation.
+    Ask { id: u32 },
+}

@@ -1,0 +1,5 @@
+pub mod Branches
+pub mod Names
+pub mod Places
+pub mod Refuted
+pub mod Sequence

@@ -1,0 +1,10 @@
+use Rattle.std.proofs.Common.{◌≡◌, ◌≤◌, true, take}
+use Rattle.scrib_types.specs.WellFormed.{distinct_roles}
+use Rattle.scrib_elaborate.specs.Elaboration.{role_names}
+use Rattle.scrib_elaborate.proofs.check.check_roles.Given as goal
+
+abbrev pub invariant-loop-i : goal.invariant-loop-i
+invariant-loop-i l = record {
+  few : l.i ≤ 16;
+  distinct : distinct_roles (role_names (take l.i l.roles)) ≡ true;
+}

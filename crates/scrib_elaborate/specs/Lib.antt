@@ -1,0 +1,3 @@
+pub mod Elaboration
+pub mod Faults
+pub mod Rules

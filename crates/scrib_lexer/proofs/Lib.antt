@@ -1,0 +1,4 @@
+pub mod Words
+pub mod Spots
+pub mod Read
+pub mod Faults

@@ -1,0 +1,63 @@
+-- The place after more bytes.
+use Rattle.std.proofs.Common.{◌≡◌, ℕ, ◌+◌, ◌≤◌, Bool, true, false, cond, List, [], ◌∷◌, ◌++◌, length, refl, sym, ap, ◌∙◌, arith, ◌&&◌, reverse, count_by, not}
+use Rattle.std.specs.List.{prefix_len}
+use Rattle.std.proofs.lemmas.Bool.{and_parts, not-true}
+use Rattle.std.proofs.lemmas.List.{append_assoc, append-nil, reverse-append, length-reverse}
+use Rattle.std.proofs.lemmas.List.Sums.{count_by-le-length, prefix_len-le-length, sum_by-append}
+use Rattle.scrib_types.specs.declared.spot.Spot.{Spot}
+use Rattle.scrib_lexer.specs.Tokens.{is_line_feed, spot_after}
+use Rattle.scrib_lexer.specs.Steps.{spot_past}
+
+lines-push : (before : List ℕ) (b : ℕ) → count_by is_line_feed (before ++ b ∷ []) ≡ count_by is_line_feed before + cond (is_line_feed b) 1 0
+lines-push before b = sum_by-append (λ x. cond (is_line_feed x) 1 0) before (b ∷ []) ∙ omega arith
+
+columns-push : (before : List ℕ) (b : ℕ) → prefix_len (λ x. not (is_line_feed x)) (reverse (before ++ b ∷ [])) ≡ cond (not (is_line_feed b)) (1 + prefix_len (λ x. not (is_line_feed x)) (reverse before)) 0
+columns-push before b = ap (λ l. prefix_len (λ x. not (is_line_feed x)) l) (reverse-append before (b ∷ []))
+
+spot_at : ℕ → ℕ → Spot
+spot_at l c = record { line = l; column = c }
+
+same_spot : (l m c d : ℕ) → l ≡ m → c ≡ d → spot_at l c ≡ spot_at m d
+same_spot l m c d p q = λ i. spot_at (p i) (q i)
+
+by_feed : (t : Bool) (l m c d : ℕ) → m ≡ l + cond t 1 0 → d ≡ cond (not t) (1 + c) 0 → spot_at (m + 1) (d + 1) ≡ cond t (spot_at (l + 1 + 1) 1) (spot_at (l + 1) (c + 1 + 1))
+by_feed true l m c d p q = same_spot _ _ _ _ (omega arith) (omega arith)
+by_feed false l m c d p q = same_spot _ _ _ _ (omega arith) (omega arith)
+
+pub spot_after-push : (before : List ℕ) (b : ℕ) → spot_after (before ++ b ∷ []) ≡ spot_past (spot_after before) b
+unfolding spot_at
+spot_after-push before b =
+    by_feed (is_line_feed b) _ _ _ _ (lines-push before b) (columns-push before b)
+
+-- the bytes have no line feed
+abbrev pub in_line : List ℕ → Bool
+in_line [] = true
+in_line (b ∷ bytes) = not (is_line_feed b) && in_line bytes
+
+-- a place some bytes on in the line
+abbrev pub spot_on : Spot → ℕ → Spot
+spot_on spot n = record { line = spot.line; column = spot.column + n }
+
+-- a byte that is no line feed
+spot_past-in_line : (spot : Spot) (b : ℕ) → is_line_feed b ≡ false → spot_past spot b ≡ spot_on spot 1
+spot_past-in_line spot b e = ap (λ t. cond t (spot_past spot 10) (spot_on spot 1)) e
+
+spot_on-on : (spot : Spot) (n m k : ℕ) → n + m ≡ k → spot_on (spot_on spot n) m ≡ spot_on spot k
+unfolding spot_at
+spot_on-on spot n m k e = same_spot _ _ _ _ refl (omega arith)
+
+pub spot_after-append : (before bytes : List ℕ) → in_line bytes ≡ true → spot_after (before ++ bytes) ≡ spot_on (spot_after before) (length bytes)
+unfolding spot_at
+spot_after-append before [] h =
+    ap spot_after (append-nil before) ∙ same_spot _ _ _ _ refl (omega arith)
+spot_after-append before (b ∷ bytes) h =
+    let p = and_parts (not (is_line_feed b)) (in_line bytes) h in
+    let one = spot_after-push before b ∙ spot_past-in_line (spot_after before) b (not-true (is_line_feed b) p.0) in
+    ap spot_after (sym (append_assoc before (b ∷ []) bytes)) ∙ spot_after-append (before ++ b ∷ []) bytes p.1 ∙ ap (λ s. spot_on s (length bytes)) one ∙ spot_on-on (spot_after before) 1 (length bytes) (length (b ∷ bytes)) (omega arith)
+
+pub line-le : (before : List ℕ) → (spot_after before).line ≤ length before + 1
+line-le before = omega (arith, count_by-le-length is_line_feed before)
+
+pub column-le : (before : List ℕ) → (spot_after before).column ≤ length before + 1
+column-le before =
+    omega (arith, prefix_len-le-length (λ b. not (is_line_feed b)) (reverse before), length-reverse before)

@@ -1,0 +1,4 @@
+pub mod Lexeme
+pub mod Words
+pub mod Tokens
+pub mod Steps

@@ -1,0 +1,11 @@
+pub mod Lists
+pub mod Names
+pub mod Meanings
+pub mod Placing
+pub mod Texts
+pub mod Insertions
+pub mod Noting
+pub mod Refusals
+pub mod Versions
+pub mod Planning
+pub mod Rooms

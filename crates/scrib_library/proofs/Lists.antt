@@ -1,0 +1,42 @@
+-- Membership in lists, by recursion.
+use Rattle.std.proofs.Common.{◌≡◌, ℕ, zero, suc, ◌<◌, ◌+◌, List, [], ◌∷◌, ◌++◌, length, get_or, set, map, Option, Some, None, ◌⊎◌, inl, inr, refl, sym, ap, ◌∙◌, subst, arith}
+use Rattle.std.specs.List.{Contains}
+use Rattle.std.proofs.lemmas.List.Elements.{Contains-append_right, Contains-append_cases}
+
+pub Contains-nil : {X : Type 0} (x : X) → Contains [] x → ⊥
+Contains-nil x h = omega (arith, h.1)
+
+pub Contains-head : {X : Type 0} (x : X) (xs : List X) → Contains (x ∷ xs) x
+Contains-head x xs = (0, omega arith, refl)
+
+pub Contains-head_at : {X : Type 0} (x : X) (xs : List X) (y : X) → x ≡ y → Contains (x ∷ xs) y
+Contains-head_at {X} x xs y e = let P : X → Type 0 = λ z. Contains (x ∷ xs) z in subst P e (Contains-head x xs)
+
+pub Contains-tail : {X : Type 0} (x : X) (xs : List X) (y : X) → Contains xs y → Contains (x ∷ xs) y
+Contains-tail x xs y h = Contains-append_right (x ∷ []) xs y h
+
+only_one : {X : Type 0} (x y : X) → Contains (x ∷ []) y → x ≡ y
+only_one x y h = at_first h.0 h.1 h.2
+  where
+    at_first : (k : ℕ) → k < length (x ∷ []) → get_or (x ∷ []) k y ≡ y → x ≡ y
+    at_first zero lt e = e
+    at_first (suc k) lt e = absurd (omega arith)
+
+pub Contains-cases : {X : Type 0} (x : X) (xs : List X) (y : X) → Contains (x ∷ xs) y → (x ≡ y) ⊎ Contains xs y
+Contains-cases x xs y h = elim (Contains-append_cases (x ∷ []) xs y h) [ inl p ↦ inl (only_one x y p) | inr p ↦ inr p ]
+
+pub Contains-map : {X Y : Type 0} (f : X → Y) (xs : List X) (x : X) → Contains xs x → Contains (map f xs) (f x)
+Contains-map f [] x h = absurd (Contains-nil x h)
+Contains-map f (y ∷ ys) x h =
+    elim (Contains-cases y ys x h) [ inl e ↦ Contains-head_at (f y) (map f ys) (f x) (ap f e) | inr p ↦ Contains-tail (f y) (map f ys) (f x) (Contains-map f ys x p) ]
+
+pub Contains-map_back : {X Y : Type 0} (f : X → Y) (xs : List X) (y : Y) → Contains (map f xs) y → (x : X) × Contains xs x × (f x ≡ y)
+Contains-map_back f [] y h = absurd (Contains-nil y h)
+Contains-map_back f (x ∷ xs) y h =
+    elim (Contains-cases (f x) (map f xs) y h) [ inl e ↦ (x, Contains-head x xs, e) | inr p ↦ (let q = Contains-map_back f xs y p in (q.0, Contains-tail x xs q.0 q.1, q.2)) ]
+
+pub Contains-set_cases : {X : Type 0} (xs : List X) (i : ℕ) (x y : X) → Contains (set xs i x) y → (x ≡ y) ⊎ Contains xs y
+Contains-set_cases [] i x y h = absurd (Contains-nil y h)
+Contains-set_cases (z ∷ zs) zero x y h = elim (Contains-cases x zs y h) [ inl e ↦ inl e | inr p ↦ inr (Contains-tail z zs y p) ]
+Contains-set_cases (z ∷ zs) (suc i) x y h =
+    elim (Contains-cases z (set zs i x) y h) [ inl e ↦ inr (Contains-head_at z zs y e) | inr p ↦ elim (Contains-set_cases zs i x y p) [ inl e ↦ inl e | inr q ↦ inr (Contains-tail z zs y q) ] ]

@@ -1,0 +1,63 @@
+-- What an edit does to the modules, when it is refused, and what it changes.
+use Rattle.std.specs.Prelude.{◌≡◌, ◌≢◌, ℕ, ◌<◌, ◌≤◌, List, [], ◌∷◌, length, Contains, AllPairs, ◌↔◌}
+use Rattle.std.specs.Ordering.{nat_cmp}
+use Rattle.std.specs.declared.cmp.Ordering.TheVariants.{Less}
+use Rattle.std.specs.Cmp.Lexicographic.{slice_cmp}
+use Rattle.scrib_types.specs.Agreement.{Agreement}
+use Rattle.scrib_types.specs.Texts.{dotted_text}
+use Rattle.scrib_lexer.specs.declared.fault.LexFault.{LexFault}
+use Rattle.scrib_lexer.specs.Lexeme.{Lexeme}
+use Rattle.scrib_lexer.specs.Tokens as tokens
+use Rattle.scrib_lexer.specs.Tokens.{IsTokens}
+use Rattle.scrib_parser.specs.declared.fault.ParseFault.{ParseFault}
+use Rattle.scrib_parser.specs.declared.tree.ModuleTree.{ModuleTree}
+use Rattle.scrib_parser.specs.declared.tree.ProtocolDeclaration.{ProtocolDeclaration}
+use Rattle.scrib_parser.specs.Grammar.{IsModule, IsFaultOf}
+use Rattle.scrib_elaborate.specs.declared.fault.Fault.{Fault}
+use Rattle.scrib_elaborate.specs.Faults.{IsBroken}
+use Rattle.scrib_library.specs.declared.changes.ChangeKind.{ChangeKind}
+use Rattle.scrib_library.specs.declared.changes.ChangeKind.TheVariants.{Added, Replaced, Withdrawn}
+use Rattle.scrib_library.specs.declared.changes.Change.{Change}
+use Rattle.scrib_library.specs.declared.fault.EditFault.{EditFault}
+use Rattle.scrib_library.specs.declared.fault.EditFault.TheVariants as edit
+use Rattle.scrib_library.specs.Modules.{Means, AreWellFormed, with_module, protocol_count}
+
+-- the text's tokens are the module
+abbrev pub Reads : List ℕ → ModuleTree → Type 0
+Reads text m = (ts : List Lexeme) × IsTokens text ts × IsModule ts m
+
+-- the name's meaning was changed in this way
+abbrev pub Changes : (before after : List ModuleTree) → ChangeKind → List (List ℕ) → Type 0
+Changes before after Added name = ((a : Agreement) → Means before name a → ⊥) × ((a : Agreement) × Means after name a)
+Changes before after Withdrawn name = ((a : Agreement) × Means before name a) × ((a : Agreement) → Means after name a → ⊥)
+Changes before after Replaced name = (a b : Agreement) × Means before name a × Means after name b × (a ≢ b)
+
+abbrev pub NamedBefore : Change → Change → Type 0
+NamedBefore x y = slice_cmp nat_cmp (dotted_text x.name) (dotted_text y.name) ≡ Less
+
+-- exactly the names whose meaning differs, by their texts, each once
+pub record IsChanges (before after : List ModuleTree) (list : List Change) : Type 0 where
+  pub sorted : AllPairs NamedBefore list
+  pub exact : (x : Change) → Contains list x ↔ Changes before after x.kind x.name
+
+-- The put is accepted: the text is a module, which takes the place of the one of its name. There are at most
+-- 256 modules and 1,024 protocols then, and each protocol means something.
+pub record IsPut (before : List ModuleTree) (text : List ℕ) (m : ModuleTree) (after : List ModuleTree) : Type 0 where
+  pub read : Reads text m
+  pub placed : after ≡ with_module m before
+  pub modules : length after ≤ 256
+  pub protocols : protocol_count after ≤ 1024
+  pub meant : AreWellFormed after
+
+-- the put is refused for this, and for nothing that comes before it in this list
+abbrev pub PutFails : List ModuleTree → List ℕ → EditFault → Type 0
+PutFails before text (edit.Lex f) = tokens.FailsAt text f
+PutFails before text (edit.Parse f) = (ts : List Lexeme) × IsTokens text ts × IsFaultOf ts f
+PutFails before text edit.TooManyModules = (m : ModuleTree) × Reads text m × (256 < length (with_module m before))
+PutFails before text edit.TooManyProtocols =
+    (m : ModuleTree) × Reads text m × (length (with_module m before) ≤ 256) × (1024 < protocol_count (with_module m before))
+-- a protocol of the resulting library breaks a rule
+PutFails before text (edit.Elaborate f) =
+    (m : ModuleTree) × (tree : ModuleTree) × (d : ProtocolDeclaration) × Reads text m × (length (with_module m before) ≤ 256) × (protocol_count (with_module m before) ≤ 1024)
+    × Contains (with_module m before) tree × Contains tree.protocols d × IsBroken tree d f
+PutFails before text edit.OutOfMemory = Unit {0}

@@ -1,0 +1,26 @@
+//! What an edit changes.
+
+use scrib_types::name::Dotted;
+use scrib_types::plain::Items;
+
+/// What an edit did to a protocol.
+#[derive(Clone, Copy, Debug, PartialEq, Eq)]
+pub enum ChangeKind {
+    Added,
+    Replaced,
+    Withdrawn,
+}
+
+/// A protocol that an edit changed, by its full name.
+#[derive(Drop)]
+pub struct Change {
+    pub kind: ChangeKind,
+    pub name: Dotted,
+}
+
+/// What an edit of a module changed, by name.
+#[derive(Drop)]
+pub struct Changes {
+    pub module: Dotted,
+    pub list: Items<Change>,
+}

@@ -1,0 +1,9 @@
+//! Module trees: the grammar of module texts, over their tokens.
+#![tactic(auto)]
+
+mod cursor;
+pub mod fault;
+pub mod parse;
+#[cfg(test)]
+mod tests;
+pub mod tree;

@@ -1,0 +1,4 @@
+pub mod Courses
+pub mod Listed
+pub mod Projected
+pub mod Versions

@@ -1,0 +1,10 @@
+//! Versions of protocols, and the judgement of a conversation's log under one.
+#![tactic(auto)]
+
+mod allowed;
+mod course;
+pub mod judge;
+#[cfg(test)]
+mod tests;
+mod text;
+pub mod version;

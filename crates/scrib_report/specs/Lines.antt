@@ -1,0 +1,121 @@
+-- The printed text of replies: verdicts, changes, refusals, and the line of a reply, without its end.
+use Rattle.std.specs.Prelude.{ℕ, List, [], ◌∷◌, ◌++◌, codes}
+use Rattle.std.specs.Fmt.{decimal}
+use Rattle.scrib_types.specs.declared.event.Action.{Action}
+use Rattle.scrib_types.specs.declared.event.Verdict.{Verdict}
+use Rattle.scrib_types.specs.declared.event.Verdict.TheVariants.{Permitted, Offence, Withdrawn}
+use Rattle.scrib_types.specs.declared.event.Told.{Told}
+use Rattle.scrib_types.specs.declared.event.Told.TheVariants.{Stale, Judged}
+use Rattle.scrib_types.specs.declared.spot.Spot.{Spot}
+use Rattle.scrib_types.specs.Texts.{dotted_text, action_text}
+use Rattle.scrib_lexer.specs.declared.fault.LexFault.{LexFault}
+use Rattle.scrib_lexer.specs.declared.fault.LexFault.TheVariants as lex
+use Rattle.scrib_parser.specs.declared.fault.ParseFault.{ParseFault}
+use Rattle.scrib_parser.specs.declared.fault.ParseFault.TheVariants as parse
+use Rattle.scrib_elaborate.specs.declared.fault.FaultKind.{FaultKind}
+use Rattle.scrib_elaborate.specs.declared.fault.FaultKind.TheVariants.{TwiceDeclared, NoRole, SelfMessage, TooManyRoles, TooLarge}
+use Rattle.scrib_elaborate.specs.declared.fault.Fault.{Fault}
+use Rattle.scrib_library.specs.declared.changes.ChangeKind.{ChangeKind}
+use Rattle.scrib_library.specs.declared.changes.ChangeKind.TheVariants as change
+use Rattle.scrib_library.specs.declared.changes.Change.{Change}
+use Rattle.scrib_library.specs.declared.fault.EditFault.{EditFault}
+use Rattle.scrib_library.specs.declared.fault.EditFault.TheVariants as edit
+use Rattle.scrib_core.specs.declared.reply.Edit.{Edit}
+use Rattle.scrib_core.specs.declared.reply.Edit.TheVariants as which
+use Rattle.scrib_core.specs.declared.reply.Refusal.{Refusal}
+use Rattle.scrib_core.specs.declared.reply.Refusal.TheVariants as refusal
+use Rattle.scrib_core.specs.declared.reply.Reply.{Reply}
+use Rattle.scrib_core.specs.declared.reply.Reply.TheVariants as reply
+
+-- ` 3:14`, the line and the column
+unfoldable pub spot_text : Spot → List ℕ
+spot_text s = codes " " ++ decimal s.line ++ codes ":" ++ decimal s.column
+
+-- each action after a comma and a blank
+abbrev pub further_actions : List Action → List ℕ
+further_actions [] = []
+further_actions (a ∷ as_) = codes ", " ++ action_text a ++ further_actions as_
+
+-- the actions with commas between them, or `none`
+abbrev pub allowed_text : List Action → List ℕ
+allowed_text [] = codes "none"
+allowed_text (a ∷ as_) = action_text a ++ further_actions as_
+
+-- `offence at 3 by A`
+unfoldable pub offence_text : ℕ → List ℕ → List ℕ
+offence_text place role = codes "offence at " ++ decimal place ++ codes " by " ++ role
+
+-- `permitted`, `withdrawn`, or `offence at 3 by A, allowed: B!hello(), B!x()`
+unfoldable pub verdict_text : Verdict → List ℕ
+verdict_text Permitted = codes "permitted"
+verdict_text Withdrawn = codes "withdrawn"
+verdict_text (Offence place role allowed) = offence_text place role ++ codes ", allowed: " ++ allowed_text allowed
+
+unfoldable pub told_text : Told → List ℕ
+told_text Stale = codes "stale"
+told_text (Judged v) = verdict_text v
+
+-- ` +demo.A`: added, ` -demo.B`: withdrawn, ` ~demo.C`: replaced
+abbrev pub sign_of : ChangeKind → List ℕ
+sign_of change.Added = codes " +"
+sign_of change.Withdrawn = codes " -"
+sign_of change.Replaced = codes " ~"
+
+abbrev pub change_texts : List Change → List ℕ
+change_texts [] = []
+change_texts (c ∷ cs) = sign_of c.kind ++ dotted_text c.name ++ change_texts cs
+
+abbrev pub changes_text : List Change → List ℕ
+changes_text [] = codes " no change"
+changes_text (c ∷ cs) = change_texts (c ∷ cs)
+
+unfoldable pub lex_fault_text : LexFault → List ℕ
+lex_fault_text lex.TextTooLong = codes "TextTooLong"
+lex_fault_text (lex.BadByte at) = codes "BadByte" ++ spot_text at
+lex_fault_text (lex.LongName at) = codes "LongName" ++ spot_text at
+lex_fault_text lex.OutOfMemory = codes "OutOfMemory"
+
+unfoldable pub parse_fault_text : ParseFault → List ℕ
+parse_fault_text (parse.Unexpected at) = codes "Unexpected" ++ spot_text at
+parse_fault_text parse.EndOfText = codes "EndOfText"
+parse_fault_text parse.OutOfMemory = codes "OutOfMemory"
+
+abbrev pub kind_text : FaultKind → List ℕ
+kind_text TwiceDeclared = codes "TwiceDeclared"
+kind_text NoRole = codes "NoRole"
+kind_text SelfMessage = codes "SelfMessage"
+kind_text TooManyRoles = codes "TooManyRoles"
+kind_text TooLarge = codes "TooLarge"
+
+-- `NoRole demo 3:14`, with the module and the place
+unfoldable pub fault_text : Fault → List ℕ
+fault_text f = kind_text f.kind ++ codes " " ++ dotted_text f.module ++ spot_text f.spot
+
+unfoldable pub edit_fault_text : EditFault → List ℕ
+edit_fault_text (edit.Lex f) = lex_fault_text f
+edit_fault_text (edit.Parse f) = parse_fault_text f
+edit_fault_text edit.TooManyModules = codes "TooManyModules"
+edit_fault_text edit.TooManyProtocols = codes "TooManyProtocols"
+edit_fault_text (edit.Elaborate f) = fault_text f
+edit_fault_text edit.OutOfMemory = codes "OutOfMemory"
+
+unfoldable pub refusal_text : Refusal → List ℕ
+refusal_text refusal.AlreadyOpen = codes "AlreadyOpen"
+refusal_text refusal.UnknownProtocol = codes "UnknownProtocol"
+refusal_text refusal.TooManyConversations = codes "TooManyConversations"
+refusal_text refusal.NoConversation = codes "NoConversation"
+refusal_text (refusal.Edit f) = edit_fault_text f
+refusal_text refusal.LogFull = codes "LogFull"
+refusal_text refusal.OutOfMemory = codes "OutOfMemory"
+
+abbrev pub edit_text : Edit → List ℕ
+edit_text which.Put = codes "put "
+edit_text which.Withdraw = codes "withdraw "
+
+-- `put demo: +demo.Hello`, `open 1: demo.Hello`, `1.3 permitted`, `1 permitted`, `refused NoConversation`
+unfoldable pub line_of : Reply → List ℕ
+line_of (reply.Edited e changes) = edit_text e ++ dotted_text changes.module ++ codes ":" ++ changes_text changes.list
+line_of (reply.Opened id name) = codes "open " ++ decimal id ++ codes ": " ++ dotted_text name
+line_of (reply.Noted id place told) = decimal id ++ codes "." ++ decimal place ++ codes " " ++ told_text told
+line_of (reply.Judged id name events told) = decimal id ++ codes " " ++ told_text told
+line_of (reply.Refused f) = codes "refused " ++ refusal_text f

@@ -1,0 +1,97 @@
+//! The line of a reply.
+
+ghost use Rattle.std.specs.Prelude.{◌≡◌, ◌++◌, IfOk, OnOk};
+ghost use Rattle.scrib_report.specs.Lines as lines;
+
+use crate::fault::push_refusal;
+use crate::verdict::push_told;
+use scrib_core::reply::{Edit, Reply};
+use scrib_library::changes::{Change, ChangeKind};
+use scrib_types::text::{push_bytes, push_dotted, push_number};
+use std::alloc::{AllocError, Global};
+
+fn push_edit(out: &mut Vec<u8>, edit: Edit) -> Result<(), AllocError>
+    ensures { OnOk result (out.new.items ≡ out.old.items ++ lines.edit_text edit) }
+{
+    match edit {
+        Edit::Put => push_bytes(out, b"put "),
+        Edit::Withdraw => push_bytes(out, b"withdraw "),
+    }
+}
+
+fn push_sign(out: &mut Vec<u8>, kind: ChangeKind) -> Result<(), AllocError>
+    ensures { OnOk result (out.new.items ≡ out.old.items ++ lines.sign_of kind) }
+{
+    match kind {
+        ChangeKind::Added => push_bytes(out, b" +"),
+        ChangeKind::Withdrawn => push_bytes(out, b" -"),
+        ChangeKind::Replaced => push_bytes(out, b" ~"),
+    }
+}
+
+fn push_each_change(out: &mut Vec<u8>, changes: &[Change]) -> Result<(), AllocError>
+    ensures { OnOk result (out.new.items ≡ out.old.items ++ lines.change_texts changes.now) }
+{
+    for change in changes {
+        push_sign(out, change.kind)?;
+        push_dotted(out, &change.name)?;
+    }
+    Ok(())
+}
+
+fn push_changes(out: &mut Vec<u8>, changes: &[Change]) -> Result<(), AllocError>
+    ensures { OnOk result (out.new.items ≡ out.old.items ++ lines.changes_text changes.now) }
+{
+    if changes.is_empty() {
+        return push_bytes(out, b" no change");
+    }
+    push_each_change(out, changes)
+}
+
+#[tactic(auto, unfolding(crate::specs::Lines::line_of))]
+fn push_line(out: &mut Vec<u8>, reply: &Reply) -> Result<(), AllocError>
+    ensures { OnOk result (out.new.items ≡ out.old.items ++ lines.line_of reply.now) }
+{
+    match reply {
+        Reply::Edited { edit, changes } => {
+            push_edit(out, *edit)?;
+            push_dotted(out, &changes.module)?;
+            push_bytes(out, b":")?;
+            push_changes(out, changes.list.as_slice())
+        }
+        Reply::Opened { id, name } => {
+            push_bytes(out, b"open ")?;
+            push_number(out, u64::from(*id))?;
+            push_bytes(out, b": ")?;
+            push_dotted(out, name)
+        }
+        Reply::Noted { id, place, told } => {
+            push_number(out, u64::from(*id))?;
+            push_bytes(out, b".")?;
+            push_number(out, *place as u64)?;
+            push_bytes(out, b" ")?;
+            push_told(out, told)
+        }
+        Reply::Judged { id, told, .. } => {
+            push_number(out, u64::from(*id))?;
+            push_bytes(out, b" ")?;
+            push_told(out, told)
+        }
+        Reply::Refused(refusal) => {
+            push_bytes(out, b"refused ")?;
+            push_refusal(out, refusal)
+        }
+    }
+}
+
+/// The line that tells the reply, in ASCII bytes, without a line feed.
+///
+/// # Errors
+/// `AllocError` where memory for the text was refused.
+pub fn line(alloc: Global, reply: &Reply) -> Result<Vec<u8>, AllocError>
+    ensures { IfOk result (λ text. text.items ≡ lines.line_of reply.now) }
+{
+    let mut out = Vec::new(alloc);
+    push_line(&mut out, reply)?;
+    Ok(out)
+}

@@ -1,0 +1,71 @@
+//! The text of what is told of a conversation.
+
+ghost use Rattle.std.specs.Prelude.{◌≡◌, ◌++◌, OnOk};
+ghost use Rattle.scrib_report.specs.Lines as lines;
+
+use scrib_types::event::{Action, Told, Verdict};
+use scrib_types::name::Role;
+use scrib_types::text::{push_action, push_bytes, push_number};
+use std::alloc::AllocError;
+
+fn push_further_actions(out: &mut Vec<u8>, actions: &[Action]) -> Result<(), AllocError>
+    ensures { OnOk result (out.new.items ≡ out.old.items ++ lines.further_actions actions.now) }
+{
+    for action in actions {
+        push_bytes(out, b", ")?;
+        push_action(out, action)?;
+    }
+    Ok(())
+}
+
+fn push_allowed(out: &mut Vec<u8>, actions: &[Action]) -> Result<(), AllocError>
+    ensures { OnOk result (out.new.items ≡ out.old.items ++ lines.allowed_text actions.now) }
+{
+    match actions {
+        [] => push_bytes(out, b"none"),
+        [first, others @ ..] => {
+            push_action(out, first)?;
+            push_further_actions(out, others)
+        }
+    }
+}
+
+#[tactic(auto, unfolding(crate::specs::Lines::offence_text))]
+fn push_offence(out: &mut Vec<u8>, place: usize, role: &Role) -> Result<(), AllocError>
+    ensures { OnOk result (out.new.items ≡ out.old.items ++ lines.offence_text place role.now) }
+{
+    push_bytes(out, b"offence at ")?;
+    push_number(out, place as u64)?;
+    push_bytes(out, b" by ")?;
+    push_bytes(out, role.as_bytes())
+}
+
+#[tactic(auto, unfolding(crate::specs::Lines::verdict_text))]
+fn push_verdict(out: &mut Vec<u8>, verdict: &Verdict) -> Result<(), AllocError>
+    ensures { OnOk result (out.new.items ≡ out.old.items ++ lines.verdict_text verdict.now) }
+{
+    match verdict {
+        Verdict::Permitted => push_bytes(out, b"permitted"),
+        Verdict::Withdrawn => push_bytes(out, b"withdrawn"),
+        Verdict::Offence {
+            place,
+            role,
+            allowed,
+        } => {
+            push_offence(out, *place, role)?;
+            push_bytes(out, b", allowed: ")?;
+            push_allowed(out, allowed.as_slice())
+        }
+    }
+}
+
+/// Adds what is told: `stale`, or the verdict.
+#[tactic(auto, unfolding(crate::specs::Lines::told_text))]
+pub(crate) fn push_told(out: &mut Vec<u8>, told: &Told) -> Result<(), AllocError>
+    ensures { OnOk result (out.new.items ≡ out.old.items ++ lines.told_text told.now) }
+{
+    match told {
+        Told::Stale => push_bytes(out, b"stale"),
+        Told::Judged(verdict) => push_verdict(out, verdict),
+    }
+}

@@ -1,0 +1,4 @@
+pub mod Digits
+pub mod Pieces
+pub mod Printed
+pub mod Steps

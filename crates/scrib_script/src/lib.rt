@@ -1,0 +1,9 @@
+//! What a line of a script says.
+#![tactic(auto)]
+
+mod fields;
+pub mod line;
+mod step;
+#[cfg(test)]
+mod tests;
+mod text;

@@ -1,0 +1,68 @@
+//! Lines of a script.
+
+ghost use Rattle.std.specs.Prelude.{◌↔◌, IfOk, IsTrue, map};
+ghost use Rattle.scrib_script.specs.Says.{Says, IsSkipped, IsPutLine};
+
+use crate::fields::fields_of;
+use crate::step::step_of;
+use scrib_core::step::Step;
+use std::alloc::{AllocError, Global};
+
+/// The most bytes of a line outside module texts, without its end.
+pub const MAX_LINE_BYTES: usize = 131_072;
+
+/// What a line outside module texts says.
+#[derive(Drop)]
+pub enum Line {
+    /// A line without fields, or a comment.
+    Skipped,
+    /// The text of a module follows.
+    Put,
+    /// A step.
+    Step(Step),
+    /// None of these.
+    Bad,
+}
+
+/// What the line of these bytes, without their end, says.
+///
+/// # Errors
+/// `AllocError` where memory for the fields or for the step was refused.
+pub fn line_of(alloc: Global, bytes: &[u8]) -> Result<Line, AllocError>
+    ensures { IfOk result (Says bytes.now) }
+{
+    if bytes.len() > MAX_LINE_BYTES {
+        return Ok(Line::Bad);
+    }
+    let fields = fields_of(alloc, bytes)?;
+    let fields = fields.as_slice();
+    if is_skipped(fields) {
+        return Ok(Line::Skipped);
+    }
+    if is_put(fields) {
+        return Ok(Line::Put);
+    }
+    match step_of(alloc, fields)? {
+        Some(step) => Ok(Line::Step(step)),
+        None => Ok(Line::Bad),
+    }
+}
+
+// Whether there is no field, or the first one begins with `#`.
+fn is_skipped(fields: &[&[u8]]) -> bool
+    ensures { IsTrue result ↔ IsSkipped (map (λ field. field.now) fields.now) }
+{
+    match fields {
+        [] => true,
+        [first, ..] => first.first() == Some(&b'#'),
+    }
+}
+
+fn is_put(fields: &[&[u8]]) -> bool
+    ensures { IsTrue result ↔ IsPutLine (map (λ field. field.now) fields.now) }
+{
+    match fields {
+        [word] => *word == b"put".as_slice(),
+        _ => false,
+    }
+}

@@ -1,0 +1,126 @@
+//! The step that a line's fields make.
+
+ghost use Rattle.std.specs.Prelude.{IfOk, map, codes};
+ghost use Rattle.scrib_script.specs.Fields.{Finds};
+ghost use Rattle.scrib_script.specs.Steps.{Makes, MakesStep, IsExchange};
+
+use crate::text::{dotted_of, message_of, number_of};
+use scrib_core::step::Step;
+use scrib_types::event::Event;
+use scrib_types::message::Message;
+use scrib_types::name::{Name, Role};
+use std::alloc::{AllocError, Global};
+
+// Who sends what to whom.
+#[derive(Drop)]
+struct Exchange {
+    from: Role,
+    to: Role,
+    message: Message,
+}
+
+// The step that the fields make, if they make one.
+pub(crate) fn step_of(alloc: Global, fields: &[&[u8]]) -> Result<Option<Step>, AllocError>
+    ensures { IfOk result (Finds (MakesStep (map (λ field. field.now) fields.now))) }
+{
+    let [word, number, rest @ ..] = fields else {
+        return Ok(None);
+    };
+    let Some(id) = number_of(number) else {
+        return Ok(None);
+    };
+    step_with(alloc, word, id, rest)
+}
+
+// The step that the word, the id and the fields behind them make, if they make one.
+fn step_with(
+    alloc: Global,
+    word: &[u8],
+    id: u32,
+    fields: &[&[u8]],
+) -> Result<Option<Step>, AllocError>
+    ensures { IfOk result (Finds (Makes word.now id (map (λ field. field.now) fields.now))) }
+{
+    if word == b"open".as_slice() {
+        return open_of(alloc, id, fields);
+    }
+    if word == b"join".as_slice() {
+        return join_of(alloc, id, fields);
+    }
+    if word == b"send".as_slice() {
+        return send_of(alloc, id, fields);
+    }
+    if word == b"recv".as_slice() {
+        return recv_of(alloc, id, fields);
+    }
+    if word == b"ask".as_slice() && fields.is_empty() {
+        return Ok(Some(Step::Ask { id }));
+    }
+    Ok(None)
+}
+
+fn open_of(alloc: Global, id: u32, fields: &[&[u8]]) -> Result<Option<Step>, AllocError>
+    ensures { IfOk result (Finds (Makes (codes "open") id (map (λ field. field.now) fields.now))) }
+{
+    let [text] = fields else {
+        return Ok(None);
+    };
+    let Some(name) = dotted_of(alloc, text)? else {
+        return Ok(None);
+    };
+    Ok(Some(Step::Open { id, name }))
+}
+
+fn join_of(alloc: Global, id: u32, fields: &[&[u8]]) -> Result<Option<Step>, AllocError>
+    ensures { IfOk result (Finds (Makes (codes "join") id (map (λ field. field.now) fields.now))) }
+{
+    let [role] = fields else {
+        return Ok(None);
+    };
+    let Some(role) = Name::from_bytes(alloc, role)? else {
+        return Ok(None);
+    };
+    let event = Event::Join { role };
+    Ok(Some(Step::Note { id, event }))
+}
+
+fn send_of(alloc: Global, id: u32, fields: &[&[u8]]) -> Result<Option<Step>, AllocError>
+    ensures { IfOk result (Finds (Makes (codes "send") id (map (λ field. field.now) fields.now))) }
+{
+    let Some(exchange) = exchange_of(alloc, fields)? else {
+        return Ok(None);
+    };
+    let Exchange { from, to, message } = exchange;
+    let event = Event::Sent { from, to, message };
+    Ok(Some(Step::Note { id, event }))
+}
+
+fn recv_of(alloc: Global, id: u32, fields: &[&[u8]]) -> Result<Option<Step>, AllocError>
+    ensures { IfOk result (Finds (Makes (codes "recv") id (map (λ field. field.now) fields.now))) }
+{
+    let Some(exchange) = exchange_of(alloc, fields)? else {
+        return Ok(None);
+    };
+    let Exchange { from, to, message } = exchange;
+    let event = Event::Received { from, to, message };
+    Ok(Some(Step::Note { id, event }))
+}
+
+// The sender, the receiver and the message that the fields are, if they are these.
+fn exchange_of(alloc: Global, fields: &[&[u8]]) -> Result<Option<Exchange>, AllocError>
+    ensures { IfOk result (Finds (λ e. IsExchange (map (λ field. field.now) fields.now) e.from e.to e.message)) }
+{
+    let [from, to, text] = fields else {
+        return Ok(None);
+    };
+    let Some(from) = Name::from_bytes(alloc, from)? else {
+        return Ok(None);
+    };
+    let Some(to) = Name::from_bytes(alloc, to)? else {
+        return Ok(None);
+    };
+    let Some(message) = message_of(alloc, text)? else {
+        return Ok(None);
+    };
+    Ok(Some(Exchange { from, to, message }))
+}

@@ -1,0 +1,36 @@
+-- The printed text of messages and actions (this project's own).
+use Rattle.std.specs.Prelude.{ℕ, List, [], ◌∷◌, ◌++◌, Option, Some, None, codes}
+use Rattle.scrib_types.specs.declared.message.Message.{Message}
+use Rattle.scrib_types.specs.declared.event.Action.{Action}
+use Rattle.scrib_types.specs.declared.event.Action.TheVariants.{Join, Sends, Receives}
+
+-- the texts with this byte between each two
+abbrev pub after_each : ℕ → List (List ℕ) → List ℕ
+after_each b [] = []
+after_each b (t ∷ ts) = (b ∷ t) ++ after_each b ts
+
+abbrev pub joined_by : ℕ → List (List ℕ) → List ℕ
+joined_by b [] = []
+joined_by b (t ∷ ts) = t ++ after_each b ts
+
+-- `a.b`
+abbrev pub dotted_text : List (List ℕ) → List ℕ
+dotted_text names = joined_by 46 names
+
+abbrev pub dotted_texts : List (List (List ℕ)) → List (List ℕ)
+dotted_texts [] = []
+dotted_texts (d ∷ ds) = dotted_text d ∷ dotted_texts ds
+
+abbrev pub operator_text : Option (List ℕ) → List ℕ
+operator_text None = []
+operator_text (Some name) = name
+
+-- `hello()`, `a(Int,b.Str)`, `()`
+unfoldable pub message_text : Message → List ℕ
+message_text m = operator_text m.op ++ (40 ∷ joined_by 44 (dotted_texts m.payload)) ++ 41 ∷ []
+
+-- `join`, `B!hello()` for a send to B, `A?hello()` for a reception from A
+unfoldable pub action_text : Action → List ℕ
+action_text Join = codes "join"
+action_text (Sends q m) = q ++ 33 ∷ message_text m
+action_text (Receives p m) = p ++ 63 ∷ message_text m

@@ -1,0 +1,13 @@
+//! The vocabulary of the monitor: names, messages, global and local types, protocols, events and verdicts.
+#![tactic(auto)]
+
+pub mod event;
+pub mod global;
+pub mod local;
+pub mod message;
+pub mod name;
+pub mod protocol;
+pub mod spot;
+pub mod text;
+
+pub use sqlite_items as plain;

@@ -1,0 +1,185 @@
+//! Names, and names joined by dots.
+
+ghost use Rattle.std.specs.Prelude.{◌≡◌, ◌↔◌, ◌<◌, IsTrue, IfOk, Some, None, if◌then◌else◌, length};
+ghost use Rattle.std.specs.Str.{bytes_eq};
+ghost use Rattle.scrib_types.specs.Names as names;
+
+use std::alloc::{AllocError, Global};
+use std::marker::Model;
+
+/// The most bytes that a name may have.
+pub const MAX_NAME_BYTES: usize = 128;
+
+/// A name: an ASCII letter or underscore, then letters, digits and underscores, 1 to 128 bytes in all.
+/// Contracts see its bytes.
+#[derive(Drop)]
+pub struct Name {
+    bytes: Vec<u8>,
+}
+
+/// A role of a protocol.
+pub type Role = Name;
+
+impl Model for Name {
+    ghost use Rattle.std.specs.Prelude.{ℕ, List, IsTrue};
+    ghost use Rattle.scrib_types.specs.Names.{is_name};
+
+    ghost Value = { List ℕ };
+
+    ghost view = { λ n. n.bytes.items };
+
+    ghost invariant = { λ n. IsTrue (is_name n.bytes.items) };
+}
+
+impl Name {
+    /// The name that the bytes are, or `None` where they are no name.
+    ///
+    /// # Errors
+    /// `AllocError` where memory for the name is refused.
+    pub fn from_bytes(alloc: Global, bytes: &[u8]) -> Result<Option<Name>, AllocError>
+        ensures { IfOk result (λ name. name ≡ (if names.is_name bytes.now then Some bytes.now else None)) }
+    {
+        if !is_name(bytes) {
+            return Ok(None);
+        }
+        let bytes = Vec::from_slice(alloc, bytes)?;
+        Ok(Some(Name { bytes }))
+    }
+
+    /// The name's bytes, which are ASCII.
+    pub fn as_bytes(&self) -> &[u8]
+        ensures { result.now ≡ self.now }
+    {
+        self.bytes.as_slice()
+    }
+
+    /// Whether the two names are the same.
+    pub fn equal(&self, other: &Name) -> bool
+        ensures same { IsTrue result ↔ (self.now ≡ other.now) }
+        ensures test { result ≡ bytes_eq self.now other.now }
+    {
+        self.as_bytes() == other.as_bytes()
+    }
+
+    /// The same name once more.
+    ///
+    /// # Errors
+    /// `AllocError` where memory for the copy is refused.
+    pub fn copy(&self, alloc: Global) -> Result<Name, AllocError>
+        ensures { IfOk result (λ name. name ≡ self.now) }
+    {
+        let bytes = Vec::from_slice(alloc, &self.bytes)?;
+        Ok(Name { bytes })
+    }
+}
+
+/// One or more names, joined by dots. Contracts see the list of the names.
+#[derive(Drop)]
+pub struct Dotted {
+    names: Vec<Name>,
+}
+
+impl Model for Dotted {
+    ghost use Rattle.std.specs.Prelude.{ℕ, List, ◌<◌, length};
+
+    ghost Value = { List (List ℕ) };
+
+    ghost view = { λ d. d.names.items };
+
+    ghost invariant = { λ d. 0 < length d.names.items };
+}
+
+impl Dotted {
+    /// The names joined.
+    pub fn from_vec(names: Vec<Name>) -> Dotted
+        requires { 0 < length names.items }
+        ensures { result ≡ names.items }
+    {
+        Self { names }
+    }
+
+    /// The names, from the first.
+    pub fn as_slice(&self) -> &[Name]
+        ensures names { result.now ≡ self.now }
+        ensures some { 0 < length self.now }
+    {
+        self.names.as_slice()
+    }
+
+    /// Whether the two are the same.
+    pub fn equal(&self, other: &Dotted) -> bool
+        ensures { IsTrue result ↔ (self.now ≡ other.now) }
+    {
+        names_equal(&self.names, &other.names)
+    }
+
+    /// The same once more.
+    ///
+    /// # Errors
+    /// `AllocError` where memory for the copy is refused.
+    pub fn copy(&self, alloc: Global) -> Result<Dotted, AllocError>
+        ensures { IfOk result (λ dotted. dotted ≡ self.now) }
+    {
+        let names = copy_names(alloc, &self.names)?;
+        Ok(Dotted { names })
+    }
+}
+
+/// Whether the byte is an ASCII letter or an underscore.
+pub fn is_letter(byte: u8) -> bool
+    ensures { result ≡ names.is_letter byte }
+{
+    matches!(byte, b'a'..=b'z' | b'A'..=b'Z' | b'_')
+}
+
+/// Whether the byte may stand in a name after its first byte.
+pub fn is_word_byte(byte: u8) -> bool
+    ensures { result ≡ names.is_word_byte byte }
+{
+    is_letter(byte) || (byte >= b'0' && byte <= b'9')
+}
+
+fn all_word(bytes: &[u8]) -> bool
+    ensures { result ≡ names.all_word bytes.now }
+{
+    for byte in bytes {
+        if !is_word_byte(*byte) {
+            return false;
+        }
+    }
+    true
+}
+
+/// Whether the bytes are a name.
+pub fn is_name(bytes: &[u8]) -> bool
+    ensures { result ≡ names.is_name bytes.now }
+{
+    if bytes.is_empty() || bytes.len() > MAX_NAME_BYTES {
+        return false;
+    }
+    is_letter(bytes[0]) && all_word(&bytes[1..])
+}
+
+fn names_equal(a: &[Name], b: &[Name]) -> bool
+    ensures { IsTrue result ↔ (a.now ≡ b.now) }
+{
+    if a.len() != b.len() {
+        return false;
+    }
+    for i in 0..a.len() {
+        if !a[i].equal(&b[i]) {
+            return false;
+        }
+    }
+    true
+}
+
+fn copy_names(alloc: Global, names: &[Name]) -> Result<Vec<Name>, AllocError>
+    ensures { IfOk result (λ copies. copies.items ≡ names.now) }
+{
+    let mut copies = Vec::with_capacity(alloc, names.len())?;
+    for name in names {
+        copies.push(name.copy(alloc)?)?;
+    }
+    Ok(copies)
+}

@@ -1,0 +1,8 @@
+//! Local types, followed action by action.
+#![tactic(auto)]
+
+pub mod offer;
+pub mod step;
+#[cfg(test)]
+mod tests;
+mod unfold;
