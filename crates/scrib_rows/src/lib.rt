@@ -2,8 +2,6 @@
 #![tactic(auto)]
 
 #[cfg(test)]
-mod monitor;
-#[cfg(test)]
 mod scripts;
 #[cfg(test)]
 mod types;
