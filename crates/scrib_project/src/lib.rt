@@ -3,5 +3,3 @@
 
 pub mod fault;
 pub mod project;
-#[cfg(test)]
-mod tests;
