@@ -3,3 +3,5 @@
 
 pub mod fault;
 pub mod project;
+#[cfg(test)]
+mod tests;

@@ -2,6 +2,8 @@
 #![tactic(auto)]
 
 #[cfg(test)]
+mod monitor;
+#[cfg(test)]
 mod scripts;
 #[cfg(test)]
 mod types;

@@ -69,3 +69,81 @@ fn refusals_of_the_core(rt: HostRuntime) -> Result<(), Fail> {
     assert_eq!(rt; written.as_slice(), want.as_bytes());
     Ok(())
 }
+
+#[test]
+fn refusals_of_texts(rt: HostRuntime) -> Result<(), Fail> {
+    let rows = [
+        // a name of 129 letters, and one of 128
+        (
+            "module aaaaaaaaaaaaaaaaaaaaaaaaaaaaaaaaaaaaaaaaaaaaaaaaaaaaaaaaaaaaaaaaaaaaaaaaaaaaaaaaaaaaaaaaaaaaaaaaaaaaaaaaaaaaaaaaaaaaaaaaaaaaaaaaa",
+            "refused LongName 1:8\n",
+        ),
+        (
+            "module aaaaaaaaaaaaaaaaaaaaaaaaaaaaaaaaaaaaaaaaaaaaaaaaaaaaaaaaaaaaaaaaaaaaaaaaaaaaaaaaaaaaaaaaaaaaaaaaaaaaaaaaaaaaaaaaaaaaaaaaaaaaaaaa",
+            "refused EndOfText\n",
+        ),
+        ("module p; %", "refused BadByte 1:11\n"),
+        ("mod", "refused Unexpected 1:1\n"),
+        ("module demo;", "put demo: no change\n"),
+        ("module demo; g", "refused Unexpected 1:14\n"),
+        (
+            "module t; global protocol T(role A, role A) { }",
+            "refused TwiceDeclared t 1:37\n",
+        ),
+        (
+            "module t; global protocol T(role A, role B, role C) {\na() from A to Z; }",
+            "refused NoRole t 2:1\n",
+        ),
+        (
+            "module t; global protocol T(role A, role B, role C) {\na() from A to A; }",
+            "refused SelfMessage t 2:1\n",
+        ),
+    ];
+    for (text, want) in rows {
+        let script = format!(in rt.alloc(); "put\n{text}\n%%\n")?;
+        let written = output_of(&rt, rt.alloc(), script.as_bytes())?;
+        assert_eq!(rt; written.as_slice(), want.as_bytes(), "put {text}");
+    }
+    Ok(())
+}
+
+#[test]
+fn edits_tell_what_they_change(rt: HostRuntime) -> Result<(), Fail> {
+    let script =
+        "put\nmodule f; global protocol B(role A, role B) { a() from A to B; } global protocol A(role A, role B) { }\n%%\nput\nmodule f; global protocol A(role A, role B) { a(Int) from A to B; } global protocol C(role A, role B) { }\n%%\nput\nmodule f; global protocol C(role A, role B) { }\n\nglobal protocol A(role A, role B) { a(x:Int) from A to B; }\n%%\n";
+    let want = "put f: +f.A +f.B\nput f: ~f.A -f.B +f.C\nput f: no change\n";
+    let written = output_of(&rt, rt.alloc(), script.as_bytes())?;
+    assert_eq!(rt; written.as_slice(), want.as_bytes());
+    Ok(())
+}
+
+// The demonstration module, then so many conversations on it.
+fn opens(alloc: Global, conversations: u32) -> Result<String, Fail> {
+    let mut script = format!(in alloc; "put\n{DEMO}\n%%\n")?;
+    for id in 0..conversations {
+        let line = format!(in alloc; "open {id} demo.Hello\n")?;
+        script.push_str(line.as_str())?;
+    }
+    Ok(script)
+}
+
+// What so many conversations are told.
+fn opened(alloc: Global, conversations: u32) -> Result<String, Fail> {
+    let mut lines = String::from_str(alloc, "put demo: +demo.Hello\n")?;
+    for id in 0..conversations {
+        let line = format!(in alloc; "open {id}: demo.Hello\n")?;
+        lines.push_str(line.as_str())?;
+    }
+    Ok(lines)
+}
+
+#[test]
+fn one_conversation_too_many(rt: HostRuntime) -> Result<(), Fail> {
+    let mut script = opens(rt.alloc(), 65_536)?;
+    script.push_str("open 65536 demo.Hello\nopen 0 demo.Hello\n")?;
+    let mut want = opened(rt.alloc(), 65_536)?;
+    want.push_str("refused TooManyConversations\nrefused AlreadyOpen\n")?;
+    let written = output_of(&rt, rt.alloc(), script.as_bytes())?;
+    assert!(rt; written.as_slice() == want.as_bytes());
+    Ok(())
+}

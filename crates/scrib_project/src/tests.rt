@@ -1,0 +1,161 @@
+//! Projections of small global types.
+
+use crate::fault::ProjectFault;
+use crate::project::project;
+use scrib_types::global::GlobalType;
+use scrib_types::local::Local;
+use scrib_types::message::{Message, Payload};
+use scrib_types::name::{Name, Role};
+use scrib_types::plain::{Boxed, Items};
+use std::alloc::Global;
+use std::test::Fail;
+
+// A type as a constant: its branches are operators, and what follows each.
+enum Tree {
+    End,
+    Var(u32),
+    Rec(&'static Tree),
+    Comm(&'static str, &'static str, &'static [(&'static str, Tree)]),
+    Send(&'static str, &'static [(&'static str, Tree)]),
+    Recv(&'static str, &'static [(&'static str, Tree)]),
+}
+
+use Tree::{Comm, End, Rec, Recv, Send, Var};
+
+fn role(alloc: Global, text: &str) -> Result<Role, Fail> {
+    Ok(Name::from_bytes(alloc, text.as_bytes())?.ok_or("no name")?)
+}
+
+fn message(alloc: Global, operator: &str) -> Result<Message, Fail> {
+    let op = Some(role(alloc, operator)?);
+    let payload = Payload::from_vec(Vec::new(alloc));
+    Ok(Message { op, payload })
+}
+
+// The global type that the tree is.
+#[cycle(global)]
+fn global(alloc: Global, tree: &Tree) -> Result<GlobalType, Fail> {
+    match tree {
+        Var(i) => Ok(GlobalType::Var(*i)),
+        Rec(body) => {
+            let body = global(alloc, body)?;
+            Ok(GlobalType::Rec(Boxed::new(alloc, body)?))
+        }
+        Comm(from, to, branches) => {
+            let branches = global_branches(alloc, branches)?;
+            let from = role(alloc, from)?;
+            let to = role(alloc, to)?;
+            Ok(GlobalType::Comm { from, to, branches })
+        }
+        End | Send(_, _) | Recv(_, _) => Ok(GlobalType::End),
+    }
+}
+
+#[cycle(global)]
+fn global_branches(
+    alloc: Global,
+    branches: &[(&'static str, Tree)],
+) -> Result<Items<(Message, GlobalType)>, Fail> {
+    let mut made = Items::new(alloc);
+    for (operator, then) in branches {
+        let then = global(alloc, then)?;
+        made.push((message(alloc, operator)?, then))?;
+    }
+    Ok(made)
+}
+
+// Whether the local type is the tree.
+#[cycle(is_local)]
+fn is_local(local: &Local, tree: &Tree) -> bool {
+    match (local, tree) {
+        (Local::End, End) => true,
+        (Local::Var(i), Var(j)) => i == j,
+        (Local::Rec(body), Rec(tree)) => is_local(body.get(), tree),
+        (Local::Send { to, branches }, Send(text, trees)) => {
+            to.as_bytes() == text.as_bytes() && are_branches(branches.as_slice(), trees)
+        }
+        (Local::Recv { from, branches }, Recv(text, trees)) => {
+            from.as_bytes() == text.as_bytes() && are_branches(branches.as_slice(), trees)
+        }
+        _ => false,
+    }
+}
+
+#[cycle(is_local)]
+fn are_branches(branches: &[(Message, Local)], trees: &[(&'static str, Tree)]) -> bool {
+    if branches.len() != trees.len() {
+        return false;
+    }
+    for ((message, then), (operator, tree)) in branches.iter().zip(trees) {
+        if !is_operator(message, operator) || !is_local(then, tree) {
+            return false;
+        }
+    }
+    true
+}
+
+fn is_operator(message: &Message, text: &str) -> bool {
+    match &message.op {
+        Some(operator) => operator.as_bytes() == text.as_bytes(),
+        None => false,
+    }
+}
+
+const GREETING: Tree = Comm("A", "B", &[("hello", Comm("B", "A", &[("bye", End)]))]);
+
+const LOOP: Tree = Rec(&Comm("A", "B", &[("m", Var(0))]));
+
+// A chooses m or n to B, and B then sends x to C.
+const AGREEING: Tree = Comm(
+    "A",
+    "B",
+    &[
+        ("m", Comm("B", "C", &[("x", End)])),
+        ("n", Comm("B", "C", &[("x", End)])),
+    ],
+);
+
+// The same, but B sends y to C in the second branch.
+const DIFFERING: Tree = Comm(
+    "A",
+    "B",
+    &[
+        ("m", Comm("B", "C", &[("x", End)])),
+        ("n", Comm("B", "C", &[("y", End)])),
+    ],
+);
+
+const ROWS: [(&Tree, &str, &Tree); 6] = [
+    (
+        &GREETING,
+        "A",
+        &Send("B", &[("hello", Recv("B", &[("bye", End)]))]),
+    ),
+    (
+        &GREETING,
+        "B",
+        &Recv("A", &[("hello", Send("A", &[("bye", End)]))]),
+    ),
+    (&GREETING, "C", &End),
+    (&LOOP, "A", &Rec(&Send("B", &[("m", Var(0))]))),
+    (&LOOP, "C", &End),
+    (&AGREEING, "C", &Recv("B", &[("x", End)])),
+];
+
+#[test]
+fn what_a_role_does(rt: HostRuntime) -> Result<(), Fail> {
+    let alloc = rt.alloc();
+    for (tree, text, want) in &ROWS {
+        let local = project(alloc, &global(alloc, tree)?, &role(alloc, text)?)?;
+        assert!(rt; is_local(&local, want), "on {text}");
+    }
+    Ok(())
+}
+
+#[test]
+fn branches_that_differ_do_not_merge(rt: HostRuntime) -> Result<(), Fail> {
+    let alloc = rt.alloc();
+    let projected = project(alloc, &global(alloc, &DIFFERING)?, &role(alloc, "C")?);
+    assert!(rt; matches!(projected, Err(ProjectFault::Unmergeable)));
+    Ok(())
+}
