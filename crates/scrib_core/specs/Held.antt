@@ -1,4 +1,4 @@
--- The world and the marks that a core holds, and what it shows of them.
+-- The world and the marks that a core holds, and what it shows of them (this project's own).
 use Rattle.std.specs.Prelude.{◌≡◌, ℕ, List, Option, Some, None}
 use Rattle.std.specs.Option.{option_map}
 use Rattle.std.specs.Borrow.{Bor}

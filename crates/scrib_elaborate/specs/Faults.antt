@@ -1,4 +1,4 @@
--- When a fault of elaboration may be told: its rule fails at its place.
+-- When a fault of elaboration may be told: its rule fails at its place (this project's own).
 use Rattle.std.specs.Prelude.{◌≡◌, ◌⊎◌, ◌+◌, ◌<◌, true, false, List, ◌∷◌, ◌++◌, length, slice_get, Some, Result, Ok, Err}
 use Rattle.scrib_types.specs.declared.spot.Spot.{Spot}
 use Rattle.scrib_types.specs.declared.protocol.Protocol.{Protocol}

@@ -1,4 +1,4 @@
--- What an edit does to the modules, when it is refused, and what it changes.
+-- What an edit does to the modules, when it is refused, and what it changes (this project's own).
 use Rattle.std.specs.Prelude.{◌≡◌, ◌≢◌, ℕ, ◌<◌, ◌≤◌, List, [], ◌∷◌, length, Contains, AllPairs, ◌↔◌}
 use Rattle.std.specs.Ordering.{nat_cmp}
 use Rattle.std.specs.declared.cmp.Ordering.TheVariants.{Less}

@@ -1,4 +1,5 @@
 -- What a course keeps of a log, and how an event moves it.
+-- Only contracts of private functions cite this file.
 use Rattle.std.specs.Prelude.{◌≡◌, ◌↔◌, ℕ, Contains, AllPairs, ◌&&◌, Bool, true, false, List, [], ◌∷◌, ◌++◌, ◌<◌, length, take, slice_index_or, Option, Some, None, if◌then◌else◌}
 use Rattle.std.specs.List.{filter_map, remove}
 use Rattle.std.specs.Str.{bytes_eq}

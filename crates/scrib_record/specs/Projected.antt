@@ -1,4 +1,4 @@
--- The projections of a protocol on its roles.
+-- The projections of a protocol on its roles (Honda, Yoshida and Carbone, POPL 2008).
 use Rattle.std.specs.Prelude.{ℕ, Bool, true, false, ◌&&◌, List, [], ◌∷◌, Option, Some, None}
 use Rattle.scrib_types.specs.declared.local.Local.{Local}
 use Rattle.scrib_types.specs.LocalView.{local_of}

@@ -1,4 +1,4 @@
--- What a version of a protocol means.
+-- What a version of a protocol means (this project's own).
 use Rattle.scrib_record.specs.declared.version.Version.{Version}
 use Rattle.scrib_types.specs.Agreement.{Agreement}
 use Rattle.scrib_types.specs.Meaning.{agreement_of}

@@ -1,4 +1,5 @@
--- The printed text of replies: verdicts, changes, refusals, and the line of a reply, without its end.
+-- The printed text of replies: verdicts, changes, refusals, and the line of a reply, without its end
+-- (this project's own).
 use Rattle.std.specs.Prelude.{ℕ, List, [], ◌∷◌, ◌++◌, codes}
 use Rattle.std.specs.Fmt.{decimal}
 use Rattle.scrib_types.specs.declared.event.Action.{Action}

@@ -1,4 +1,4 @@
--- The fields of a line, and what one field says.
+-- The fields of a line, and what one field says (this project's own).
 use Rattle.std.specs.Prelude.{◌≡◌, ℕ, ◌≤◌, ◌<◌, ◌^◌, Bool, true, false, not, ◌||◌, ◌==◌, List, [], ◌∷◌, ◌++◌, length, Option, Some, None, MatchOption, IsTrue}
 use Rattle.std.specs.List.{All, filter, list_all, slice_split}
 use Rattle.std.specs.Str.Parse.{AllDigits, digits_value}

@@ -1,4 +1,4 @@
--- What a line outside module texts says, from its bytes without its end.
+-- What a line outside module texts says, from its bytes without its end (this project's own).
 use Rattle.std.specs.Prelude.{◌≡◌, ◌⊎◌, ℕ, ◌≤◌, ◌<◌, List, [], ◌∷◌, length, codes}
 use Rattle.scrib_core.specs.declared.step.Step.{Step}
 use Rattle.scrib_script.specs.declared.line.Line.{Line}

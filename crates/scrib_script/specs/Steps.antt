@@ -1,4 +1,4 @@
--- The step that the fields of a line make.
+-- The step that the fields of a line make (this project's own).
 use Rattle.std.specs.Prelude.{◌≡◌, ℕ, List, [], ◌∷◌, IsTrue, codes}
 use Rattle.scrib_types.specs.declared.message.Message.{Message}
 use Rattle.scrib_types.specs.declared.event.Event.TheVariants as event
