@@ -6,10 +6,12 @@ use Rattle.std.specs.Cmp.Lexicographic.{slice_cmp}
 use Rattle.scrib_types.specs.Agreement.{Agreement}
 use Rattle.scrib_types.specs.Texts.{dotted_text}
 use Rattle.scrib_lexer.specs.declared.fault.LexFault.{LexFault}
+use Rattle.scrib_lexer.specs.declared.fault.LexFault.TheVariants as lex
 use Rattle.scrib_lexer.specs.Lexeme.{Lexeme}
 use Rattle.scrib_lexer.specs.Tokens as tokens
 use Rattle.scrib_lexer.specs.Tokens.{IsTokens}
 use Rattle.scrib_parser.specs.declared.fault.ParseFault.{ParseFault}
+use Rattle.scrib_parser.specs.declared.fault.ParseFault.TheVariants as parse
 use Rattle.scrib_parser.specs.declared.tree.ModuleTree.{ModuleTree}
 use Rattle.scrib_parser.specs.declared.tree.ProtocolDeclaration.{ProtocolDeclaration}
 use Rattle.scrib_parser.specs.Grammar.{IsModule, IsFaultOf}
@@ -49,10 +51,23 @@ pub record IsPut (before : List ModuleTree) (text : List ℕ) (m : ModuleTree) (
   pub protocols : protocol_count after ≤ 1024
   pub meant : AreWellFormed after
 
+-- the text has no tokens for this reason; want of memory is told as the edit's own fault
+abbrev pub TellsLex : List ℕ → LexFault → Type 0
+TellsLex text lex.TextTooLong = tokens.FailsAt text lex.TextTooLong
+TellsLex text (lex.BadByte at) = tokens.FailsAt text (lex.BadByte at)
+TellsLex text (lex.LongName at) = tokens.FailsAt text (lex.LongName at)
+TellsLex text lex.OutOfMemory = ⊥
+
+-- the tokens are no module for this reason; want of memory is told as the edit's own fault
+abbrev pub TellsParse : List Lexeme → ParseFault → Type 0
+TellsParse ts (parse.Unexpected at) = IsFaultOf ts (parse.Unexpected at)
+TellsParse ts parse.EndOfText = IsFaultOf ts parse.EndOfText
+TellsParse ts parse.OutOfMemory = ⊥
+
 -- the put is refused for this, and for nothing that comes before it in this list
 abbrev pub PutFails : List ModuleTree → List ℕ → EditFault → Type 0
-PutFails before text (edit.Lex f) = tokens.FailsAt text f
-PutFails before text (edit.Parse f) = (ts : List Lexeme) × IsTokens text ts × IsFaultOf ts f
+PutFails before text (edit.Lex f) = TellsLex text f
+PutFails before text (edit.Parse f) = (ts : List Lexeme) × IsTokens text ts × TellsParse ts f
 PutFails before text edit.TooManyModules = (m : ModuleTree) × Reads text m × (256 < length (with_module m before))
 PutFails before text edit.TooManyProtocols =
     (m : ModuleTree) × Reads text m × (length (with_module m before) ≤ 256) × (1024 < protocol_count (with_module m before))

@@ -5,3 +5,4 @@ pub mod fault;
 pub mod project;
 #[cfg(test)]
 mod tests;
+pub mod text;

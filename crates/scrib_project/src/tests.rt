@@ -1,26 +1,24 @@
-//! Projections of small global types.
+//! Projections of small global types, by their text.
 
 use crate::fault::ProjectFault;
 use crate::project::project;
+use crate::text::text;
 use scrib_types::global::GlobalType;
-use scrib_types::local::Local;
 use scrib_types::message::{Message, Payload};
 use scrib_types::name::{Name, Role};
 use scrib_types::plain::{Boxed, Items};
 use std::alloc::Global;
 use std::test::Fail;
 
-// A type as a constant: its branches are operators, and what follows each.
+// A global type as a constant: its branches are operators, and what follows each.
 enum Tree {
     End,
     Var(u32),
     Rec(&'static Tree),
     Comm(&'static str, &'static str, &'static [(&'static str, Tree)]),
-    Send(&'static str, &'static [(&'static str, Tree)]),
-    Recv(&'static str, &'static [(&'static str, Tree)]),
 }
 
-use Tree::{Comm, End, Rec, Recv, Send, Var};
+use Tree::{Comm, End, Rec, Var};
 
 fn role(alloc: Global, text: &str) -> Result<Role, Fail> {
     Ok(Name::from_bytes(alloc, text.as_bytes())?.ok_or("no name")?)
@@ -36,6 +34,7 @@ fn message(alloc: Global, operator: &str) -> Result<Message, Fail> {
 #[cycle(global)]
 fn global(alloc: Global, tree: &Tree) -> Result<GlobalType, Fail> {
     match tree {
+        End => Ok(GlobalType::End),
         Var(i) => Ok(GlobalType::Var(*i)),
         Rec(body) => {
             let body = global(alloc, body)?;
@@ -47,7 +46,6 @@ fn global(alloc: Global, tree: &Tree) -> Result<GlobalType, Fail> {
             let to = role(alloc, to)?;
             Ok(GlobalType::Comm { from, to, branches })
         }
-        End | Send(_, _) | Recv(_, _) => Ok(GlobalType::End),
     }
 }
 
@@ -64,90 +62,64 @@ fn global_branches(
     Ok(made)
 }
 
-// Whether the local type is the tree.
-#[cycle(is_local)]
-fn is_local(local: &Local, tree: &Tree) -> bool {
-    match (local, tree) {
-        (Local::End, End) => true,
-        (Local::Var(i), Var(j)) => i == j,
-        (Local::Rec(body), Rec(tree)) => is_local(body.get(), tree),
-        (Local::Send { to, branches }, Send(text, trees)) => {
-            to.as_bytes() == text.as_bytes() && are_branches(branches.as_slice(), trees)
-        }
-        (Local::Recv { from, branches }, Recv(text, trees)) => {
-            from.as_bytes() == text.as_bytes() && are_branches(branches.as_slice(), trees)
-        }
-        _ => false,
-    }
-}
+const HELLO: Tree = Comm("A", "B", &[("hello", Comm("B", "A", &[("bye", End)]))]);
 
-#[cycle(is_local)]
-fn are_branches(branches: &[(Message, Local)], trees: &[(&'static str, Tree)]) -> bool {
-    if branches.len() != trees.len() {
-        return false;
-    }
-    for ((message, then), (operator, tree)) in branches.iter().zip(trees) {
-        if !is_operator(message, operator) || !is_local(then, tree) {
-            return false;
-        }
-    }
-    true
-}
+const LOOP: Tree = Rec(&Comm("A", "B", &[("a", Comm("C", "D", &[("c", Var(0))]))]));
 
-fn is_operator(message: &Message, text: &str) -> bool {
-    match &message.op {
-        Some(operator) => operator.as_bytes() == text.as_bytes(),
-        None => false,
-    }
-}
+const LOOP_OF_TWO: Tree = Rec(&Comm("A", "B", &[("a", Var(0))]));
 
-const GREETING: Tree = Comm("A", "B", &[("hello", Comm("B", "A", &[("bye", End)]))]);
-
-const LOOP: Tree = Rec(&Comm("A", "B", &[("m", Var(0))]));
-
-// A chooses m or n to B, and B then sends x to C.
+// A chooses ok or quit, and B then sends x to C.
 const AGREEING: Tree = Comm(
     "A",
     "B",
     &[
-        ("m", Comm("B", "C", &[("x", End)])),
-        ("n", Comm("B", "C", &[("x", End)])),
+        ("ok", Comm("B", "C", &[("x", End)])),
+        ("quit", Comm("B", "C", &[("x", End)])),
     ],
 );
 
-// The same, but B sends y to C in the second branch.
+// A chooses ok or quit, and tells C the same.
 const DIFFERING: Tree = Comm(
     "A",
     "B",
     &[
-        ("m", Comm("B", "C", &[("x", End)])),
-        ("n", Comm("B", "C", &[("y", End)])),
+        ("ok", Comm("A", "C", &[("ok", End)])),
+        ("quit", Comm("A", "C", &[("quit", End)])),
     ],
 );
 
-const ROWS: [(&Tree, &str, &Tree); 6] = [
+// In a loop A chooses a or b, and after b the inner loop goes on.
+const NESTED: Tree = Rec(&Comm(
+    "A",
+    "B",
+    &[
+        ("a", Var(0)),
+        ("b", Rec(&Comm("A", "B", &[("c", Var(0)), ("d", Var(1))]))),
+    ],
+));
+
+const ROWS: [(&Tree, &str, &str); 8] = [
+    (&HELLO, "A", "B!hello().B?bye().end"),
+    (&HELLO, "B", "A?hello().A!bye().end"),
+    (&HELLO, "C", "end"),
+    (&LOOP, "C", "rec X0.D!c().X0"),
+    (&LOOP_OF_TWO, "C", "end"),
+    (&AGREEING, "C", "B?x().end"),
+    (&DIFFERING, "B", "A?{ok().end,quit().end}"),
     (
-        &GREETING,
+        &NESTED,
         "A",
-        &Send("B", &[("hello", Recv("B", &[("bye", End)]))]),
+        "rec X0.B!{a().X0,b().rec X1.B!{c().X1,d().X0}}",
     ),
-    (
-        &GREETING,
-        "B",
-        &Recv("A", &[("hello", Send("A", &[("bye", End)]))]),
-    ),
-    (&GREETING, "C", &End),
-    (&LOOP, "A", &Rec(&Send("B", &[("m", Var(0))]))),
-    (&LOOP, "C", &End),
-    (&AGREEING, "C", &Recv("B", &[("x", End)])),
 ];
 
 #[test]
 fn what_a_role_does(rt: HostRuntime) -> Result<(), Fail> {
     let alloc = rt.alloc();
-    for (tree, text, want) in &ROWS {
-        let local = project(alloc, &global(alloc, tree)?, &role(alloc, text)?)?;
-        assert!(rt; is_local(&local, want), "on {text}");
+    for (tree, on, want) in &ROWS {
+        let local = project(alloc, &global(alloc, tree)?, &role(alloc, on)?)?;
+        let written = text(alloc, &local)?;
+        assert_eq!(rt; written.as_slice(), want.as_bytes(), "on {on}");
     }
     Ok(())
 }

@@ -61,11 +61,11 @@ fn verdicts_on_the_demonstration(rt: HostRuntime) -> Result<(), Fail> {
 #[test]
 fn refusals_of_the_core(rt: HostRuntime) -> Result<(), Fail> {
     let lines =
-        "open 1 demo.Hello\nopen 2 demo.Nil\nask 9\n# five\n#\n\n#\n# nine\njion 1 A\nask 1\n";
+        "open 1 demo.Hello\nopen 2 demo.Nil\nask 9\n# eight\n#\n\n# eleven\njion 1 A\nask 1\n";
     let script = demonstration(rt.alloc(), lines)?;
     let written = output_of(&rt, rt.alloc(), script.as_bytes())?;
     let want =
-        "put demo: +demo.Hello\nopen 1: demo.Hello\nrefused AlreadyOpen\nrefused UnknownProtocol\nrefused NoConversation\nrefused BadLine 13\n1 permitted\n";
+        "put demo: +demo.Hello\nopen 1: demo.Hello\nrefused AlreadyOpen\nrefused UnknownProtocol\nrefused NoConversation\nrefused BadLine 12\n1 permitted\n";
     assert_eq!(rt; written.as_slice(), want.as_bytes());
     Ok(())
 }
