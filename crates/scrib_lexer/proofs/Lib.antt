@@ -1,4 +1,7 @@
 pub mod Words
+pub mod Quotes
 pub mod Spots
+pub mod Front
+pub mod Wrong
 pub mod Read
-pub mod Faults
+pub mod Steps

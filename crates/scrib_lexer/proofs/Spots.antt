@@ -1,12 +1,13 @@
 -- The place after more bytes.
-use Rattle.std.proofs.Common.{◌≡◌, ℕ, ◌+◌, ◌≤◌, Bool, true, false, cond, List, [], ◌∷◌, ◌++◌, length, refl, sym, ap, ◌∙◌, arith, ◌&&◌, reverse, count_by, not}
+use Rattle.std.proofs.Common.{◌≡◌, ℕ, ◌+◌, ◌≤◌, Bool, true, false, cond, List, [], ◌∷◌, ◌++◌, length, refl, sym, ap, ◌∙◌, arith, reverse, count_by, not}
 use Rattle.std.specs.List.{prefix_len}
 use Rattle.std.proofs.lemmas.Bool.{and_parts, not-true}
 use Rattle.std.proofs.lemmas.List.{append_assoc, append-nil, reverse-append, length-reverse}
 use Rattle.std.proofs.lemmas.List.Sums.{count_by-le-length, prefix_len-le-length, sum_by-append}
 use Rattle.scrib_types.specs.declared.spot.Spot.{Spot}
-use Rattle.scrib_lexer.specs.Tokens.{is_line_feed, spot_after}
-use Rattle.scrib_lexer.specs.Steps.{spot_past}
+use Rattle.scrib_lexer.specs.Words.{is_line_feed, in_line}
+use Rattle.scrib_lexer.specs.Tokens.{spot_after}
+use Rattle.scrib_lexer.specs.Steps.{spot_on, spot_past, spot_past_all}
 
 lines-push : (before : List ℕ) (b : ℕ) → count_by is_line_feed (before ++ b ∷ []) ≡ count_by is_line_feed before + cond (is_line_feed b) 1 0
 lines-push before b = sum_by-append (λ x. cond (is_line_feed x) 1 0) before (b ∷ []) ∙ omega arith
@@ -29,14 +30,10 @@ unfolding spot_at
 spot_after-push before b =
     by_feed (is_line_feed b) _ _ _ _ (lines-push before b) (columns-push before b)
 
--- the bytes have no line feed
-abbrev pub in_line : List ℕ → Bool
-in_line [] = true
-in_line (b ∷ bytes) = not (is_line_feed b) && in_line bytes
-
--- a place some bytes on in the line
-abbrev pub spot_on : Spot → ℕ → Spot
-spot_on spot n = record { line = spot.line; column = spot.column + n }
+pub spot_after-past_all : (before bytes : List ℕ) → spot_after (before ++ bytes) ≡ spot_past_all (spot_after before) bytes
+spot_after-past_all before [] = ap spot_after (append-nil before)
+spot_after-past_all before (b ∷ bytes) =
+    ap spot_after (sym (append_assoc before (b ∷ []) bytes)) ∙ spot_after-past_all (before ++ b ∷ []) bytes ∙ ap (λ s. spot_past_all s bytes) (spot_after-push before b)
 
 -- a byte that is no line feed
 spot_past-in_line : (spot : Spot) (b : ℕ) → is_line_feed b ≡ false → spot_past spot b ≡ spot_on spot 1
@@ -46,14 +43,18 @@ spot_on-on : (spot : Spot) (n m k : ℕ) → n + m ≡ k → spot_on (spot_on sp
 unfolding spot_at
 spot_on-on spot n m k e = same_spot _ _ _ _ refl (omega arith)
 
-pub spot_after-append : (before bytes : List ℕ) → in_line bytes ≡ true → spot_after (before ++ bytes) ≡ spot_on (spot_after before) (length bytes)
+pub spot_on-zero : (spot : Spot) → spot_on spot 0 ≡ spot
 unfolding spot_at
-spot_after-append before [] h =
+spot_on-zero spot = same_spot _ _ _ _ refl (omega arith)
+
+pub spot_after-in_line : (before bytes : List ℕ) → in_line bytes ≡ true → spot_after (before ++ bytes) ≡ spot_on (spot_after before) (length bytes)
+unfolding spot_at
+spot_after-in_line before [] h =
     ap spot_after (append-nil before) ∙ same_spot _ _ _ _ refl (omega arith)
-spot_after-append before (b ∷ bytes) h =
+spot_after-in_line before (b ∷ bytes) h =
     let p = and_parts (not (is_line_feed b)) (in_line bytes) h in
     let one = spot_after-push before b ∙ spot_past-in_line (spot_after before) b (not-true (is_line_feed b) p.0) in
-    ap spot_after (sym (append_assoc before (b ∷ []) bytes)) ∙ spot_after-append (before ++ b ∷ []) bytes p.1 ∙ ap (λ s. spot_on s (length bytes)) one ∙ spot_on-on (spot_after before) 1 (length bytes) (length (b ∷ bytes)) (omega arith)
+    ap spot_after (sym (append_assoc before (b ∷ []) bytes)) ∙ spot_after-in_line (before ++ b ∷ []) bytes p.1 ∙ ap (λ s. spot_on s (length bytes)) one ∙ spot_on-on (spot_after before) 1 (length bytes) (length (b ∷ bytes)) (omega arith)
 
 pub line-le : (before : List ℕ) → (spot_after before).line ≤ length before + 1
 line-le before = omega (arith, count_by-le-length is_line_feed before)

@@ -1,4 +1,5 @@
 pub mod Lexeme
 pub mod Words
+pub mod Pieces
 pub mod Tokens
 pub mod Steps

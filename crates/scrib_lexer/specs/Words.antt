@@ -1,6 +1,7 @@
--- The words and marks of a module's text.
-use Rattle.std.specs.Prelude.{◌≡◌, ℕ, Bool, true, false, ◌||◌, ◌&&◌, ◌==◌, List, [], ◌∷◌, Option, Some, None, if◌then◌else◌, codes, IsTrue}
-use Rattle.std.specs.Str.{bytes_eq}
+-- White space, words, marks and string literals of a module's text (names and marks after the Scribble
+-- Language Reference 0.3; the reserved words and the string literals are this project's own).
+use Rattle.std.specs.Prelude.{◌≡◌, ℕ, Bool, true, false, not, ◌||◌, ◌&&◌, ◌==◌, List, [], ◌∷◌, ◌++◌, Option, Some, None, if◌then◌else◌, codes, IsTrue}
+use Rattle.std.specs.Str.{bytes_eq, IsUtf8}
 use Rattle.scrib_types.specs.Names.{is_word_byte, is_name}
 use Rattle.scrib_lexer.specs.declared.token.Keyword.TheVariants as keyword
 use Rattle.scrib_lexer.specs.declared.token.Keyword.{Keyword}
@@ -11,9 +12,19 @@ use Rattle.scrib_lexer.specs.declared.token.TokenKind.{TokenKind}
 abbrev pub is_space : ℕ → Bool
 is_space b = (b == 32) || (b == 9) || (b == 13) || (b == 10)
 
-abbrev pub all_space : List ℕ → Bool
-all_space [] = true
-all_space (b ∷ bs) = is_space b && all_space bs
+-- a byte that ends a line
+abbrev pub is_line_feed : ℕ → Bool
+is_line_feed b = b == 10
+
+-- the bytes end no line
+abbrev pub in_line : List ℕ → Bool
+in_line [] = true
+in_line (b ∷ bs) = not (is_line_feed b) && in_line bs
+
+-- the line ends here: by a line feed, or with the text
+abbrev pub ends_line : List ℕ → Bool
+ends_line [] = true
+ends_line (b ∷ bs) = is_line_feed b
 
 -- the reserved words
 abbrev pub reserved : List (List ℕ × Keyword)
@@ -33,10 +44,24 @@ look_up word (row ∷ rows) = if bytes_eq word row.0 then Some row.1 else look_u
 abbrev pub keyword_of : List ℕ → Option Keyword
 keyword_of word = look_up word reserved
 
--- the bytes are a whole token of the kind
+-- the double quote
+abbrev pub is_quote : ℕ → Bool
+is_quote b = b == 34
+
+-- what may stand between the quotes of a string literal: no quote and no line's end
+abbrev pub is_quotable : List ℕ → Bool
+is_quotable [] = true
+is_quotable (b ∷ bs) = not (is_quote b) && not (is_line_feed b) && is_quotable bs
+
+-- the bytes between two double quotes
+abbrev pub quoted : List ℕ → List ℕ
+quoted bytes = 34 ∷ (bytes ++ 34 ∷ [])
+
+-- the bytes are a whole token of the kind. A string literal is UTF-8 between two double quotes on one line
 abbrev pub IsLexeme : TokenKind → List ℕ → Type 0
 IsLexeme kind.Name bytes = IsTrue (is_name bytes) × (keyword_of bytes ≡ None)
 IsLexeme (kind.Keyword k) bytes = keyword_of bytes ≡ Some k
+IsLexeme kind.StringLiteral bytes = (inner : List ℕ) × (bytes ≡ quoted inner) × IsTrue (is_quotable inner) × IsUtf8 inner
 IsLexeme kind.Semicolon bytes = bytes ≡ codes ";"
 IsLexeme kind.Comma bytes = bytes ≡ codes ","
 IsLexeme kind.Dot bytes = bytes ≡ codes "."
@@ -52,24 +77,3 @@ IsLexeme kind.CloseAngle bytes = bytes ≡ codes ">"
 abbrev pub begins_in_word : List ℕ → Bool
 begins_in_word [] = false
 begins_in_word (b ∷ bs) = is_word_byte b
-
--- the bytes end with a byte of a word
-abbrev pub ends_in_word : List ℕ → Bool
-ends_in_word [] = false
-ends_in_word (b ∷ []) = is_word_byte b
-ends_in_word (b ∷ c ∷ bs) = ends_in_word (c ∷ bs)
-
--- a word goes on as far as it can: where one is followed by the rest, the rest begins with no byte of a word
-abbrev pub IsLongest : TokenKind → List ℕ → Type 0
-IsLongest kind.Name rest = begins_in_word rest ≡ false
-IsLongest (kind.Keyword k) rest = begins_in_word rest ≡ false
-IsLongest kind.Semicolon rest = Unit {0}
-IsLongest kind.Comma rest = Unit {0}
-IsLongest kind.Dot rest = Unit {0}
-IsLongest kind.Colon rest = Unit {0}
-IsLongest kind.OpenParen rest = Unit {0}
-IsLongest kind.CloseParen rest = Unit {0}
-IsLongest kind.OpenBrace rest = Unit {0}
-IsLongest kind.CloseBrace rest = Unit {0}
-IsLongest kind.OpenAngle rest = Unit {0}
-IsLongest kind.CloseAngle rest = Unit {0}

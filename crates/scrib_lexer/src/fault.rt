@@ -10,9 +10,15 @@ pub enum LexFault {
     /// The text is longer than a module text may be.
     #[error("the text is too long")]
     TextTooLong,
-    /// A byte that starts no token.
+    /// A byte that starts no token, or the first byte of a wrong UTF-8 sequence in a closed string.
     #[error("bad byte")]
     BadByte { at: Spot },
+    /// A `/*` that has no `*/`.
+    #[error("open comment")]
+    OpenComment { at: Spot },
+    /// A double quote that its line doesn't close.
+    #[error("open string")]
+    OpenString { at: Spot },
     /// A name of more than 128 bytes.
     #[error("long name")]
     LongName { at: Spot },

@@ -1,28 +1,37 @@
 //! From a module's text to its tokens.
 
-ghost use Rattle.std.specs.Prelude.{◌≡◌, ◌≢◌, ◌+◌, ◌^◌, ◌<◌, ◌≤◌, IfOk, IfErr, IsTrue, List, false, length, slice_index, take, drop};
-ghost use Rattle.scrib_types.specs.Names.{all_word};
+ghost use Rattle.std.specs.Prelude.{◌≡◌, ◌≢◌, ◌+◌, ◌^◌, ◌<◌, ◌≤◌, IfOk, IfErr, IsTrue, List, false, true, length, slice_index, take, drop};
+ghost use Rattle.std.specs.List.{prefix_len};
+ghost use Rattle.scrib_types.specs.Names as names;
 ghost use Rattle.scrib_lexer.specs.declared.fault.LexFault.{LexFault};
 ghost use Rattle.scrib_lexer.specs.Lexeme.{Lexeme, lexemes_of};
 ghost use Rattle.scrib_lexer.specs.Tokens.{IsTokens, LexGives, LexFails, FailsAt};
 ghost use Rattle.scrib_lexer.specs.Words as words;
-ghost use Rattle.scrib_lexer.specs.Steps.{IsFrontToken, IsFrontFault, mark_of, spot_past};
+ghost use Rattle.scrib_lexer.specs.Pieces as pieces;
+ghost use Rattle.scrib_lexer.specs.Steps.{IsFrontElement, IsFrontFault, mark_of, close_in, quote_in, spot_past, spot_past_all};
 
 use crate::fault::LexFault;
-use crate::token::{Keyword, Token, TokenKind};
+use crate::token::{Element, Keyword, Token, TokenKind};
 use scrib_types::name::{MAX_NAME_BYTES, is_letter, is_word_byte};
 use scrib_types::spot::Spot;
 use std::alloc::Global;
+use std::str;
 
 /// The most bytes that a module's text may have.
 pub const MAX_TEXT_BYTES: usize = 1_048_576;
 
-/// The tokens of a module's text, in order. They borrow its bytes.
+/// The tokens of a module's text, in order. They borrow its bytes. White space and comments lie between
+/// them.
 ///
 /// # Errors
-/// `TextTooLong` for a text of more than `MAX_TEXT_BYTES`. Otherwise the leftmost of `BadByte`, at a byte
-/// that is no white space and starts no token, and `LongName`, at the first byte of a word of more than
-/// 128 bytes. `OutOfMemory` where memory for the tokens is refused.
+/// `TextTooLong` for a text of more than `MAX_TEXT_BYTES`. Otherwise the leftmost of these faults:
+/// - `BadByte` at a byte that is no white space and begins no comment and no token, or at the first byte of
+///   a wrong UTF-8 sequence in a closed string;
+/// - `OpenComment` at a `/*` that has no `*/`;
+/// - `OpenString` at a double quote that has no other before the line's end;
+/// - `LongName` at the first byte of a word of more than 128 bytes.
+///
+/// `OutOfMemory` where memory for the tokens is refused.
 pub fn lex<'a>(alloc: Global, text: &'a [u8]) -> Result<Vec<Token<'a>>, LexFault>
     ensures found { IfOk result (λ tokens. IsTokens text.now (lexemes_of tokens.items)) }
     ensures only { (ts : List Lexeme) → IsTokens text.now ts → LexGives result ts }
@@ -36,50 +45,121 @@ pub fn lex<'a>(alloc: Global, text: &'a [u8]) -> Result<Vec<Token<'a>>, LexFault
     let mut start = 0;
     let mut spot = Spot { line: 1, column: 1 };
     while start < text.len() {
-        if is_space(text[start]) {
-            spot = past_space(spot, text[start]);
-            start += 1;
-        } else {
-            let (kind, len) = front_token(&text[start..], spot)?;
-            let bytes = &text[start..start + len];
+        let (element, len) = front_element(&text[start..], spot)?;
+        let bytes = &text[start..start + len];
+        if let Element::Token(kind) = element {
             tokens.push(Token {
                 kind,
                 bytes,
                 start,
                 spot,
             })?;
-            spot.column += len as u32;
-            start += len;
         }
+        spot = past_all(spot, bytes);
+        start += len;
     }
     Ok(tokens)
 }
 
-/// The kind and the length of the token that the text begins with, where it begins with no white space.
-fn front_token(text: &[u8], at: Spot) -> Result<(TokenKind, usize), LexFault>
+/// What the text begins with, and the length of that.
+fn front_element(text: &[u8], at: Spot) -> Result<(Element, usize), LexFault>
     requires some { 0 < length text.now }
-    requires solid { words.is_space (slice_index text.now 0) ≡ false }
-    ensures found { IfOk result (λ found. IsFrontToken text.now found.0 found.1) }
+    requires column { at.column + length text.now < 2 ^ 32 }
+    ensures found { IfOk result (λ found. IsFrontElement text.now found.0 found.1) }
     ensures fault { IfErr result (IsFrontFault text.now at) }
 {
-    if let Some(kind) = mark_of(text[0]) {
-        return Ok((kind, 1));
+    let first = text[0];
+    if is_space(first) {
+        return Ok((Element::Space, 1));
     }
-    if !is_letter(text[0]) {
-        return Err(LexFault::BadByte { at });
+    if is_letter(first) {
+        return front_word(text, at);
     }
+    if let Some(mark) = mark_of(first) {
+        return Ok((Element::Token(mark), 1));
+    }
+    match first {
+        b'"' => front_string(text, at),
+        b'/' => front_comment(text, at),
+        _ => Err(LexFault::BadByte { at }),
+    }
+}
+
+/// The word that the text begins with, and its length.
+fn front_word(text: &[u8], at: Spot) -> Result<(Element, usize), LexFault>
+    requires some { 0 < length text.now }
+    requires letter { names.is_letter (slice_index text.now 0) ≡ true }
+    ensures found { IfOk result (λ found. IsFrontElement text.now found.0 found.1) }
+    ensures fault { IfErr result (IsFrontFault text.now at) }
+{
     let len = word_len(text);
     if len > MAX_NAME_BYTES {
         return Err(LexFault::LongName { at });
     }
     match keyword_of(&text[..len]) {
-        Some(keyword) => Ok((TokenKind::Keyword(keyword), len)),
-        None => Ok((TokenKind::Name, len)),
+        Some(keyword) => Ok((Element::Token(TokenKind::Keyword(keyword)), len)),
+        None => Ok((Element::Token(TokenKind::Name), len)),
     }
 }
 
-/// The place behind a byte of white space.
-fn past_space(spot: Spot, byte: u8) -> Spot
+/// The string literal that the text begins with, and its length.
+fn front_string(text: &[u8], at: Spot) -> Result<(Element, usize), LexFault>
+    requires some { 0 < length text.now }
+    requires quote { slice_index text.now 0 ≡ 34 }
+    requires column { at.column + length text.now < 2 ^ 32 }
+    ensures found { IfOk result (λ found. IsFrontElement text.now found.0 found.1) }
+    ensures fault { IfErr result (IsFrontFault text.now at) }
+{
+    let rest = &text[1..];
+    let Some(len) = quote_in(rest) else {
+        return Err(LexFault::OpenString { at });
+    };
+    match str::from_utf8(&rest[..len]) {
+        Ok(_) => Ok((Element::Token(TokenKind::StringLiteral), len + 2)),
+        Err(error) => Err(LexFault::BadByte {
+            at: Spot {
+                line: at.line,
+                column: at.column + (error.valid_up_to() + 1) as u32,
+            },
+        }),
+    }
+}
+
+/// The comment that the text begins with, and its length.
+fn front_comment(text: &[u8], at: Spot) -> Result<(Element, usize), LexFault>
+    requires some { 0 < length text.now }
+    requires slash { slice_index text.now 0 ≡ 47 }
+    ensures found { IfOk result (λ found. IsFrontElement text.now found.0 found.1) }
+    ensures fault { IfErr result (IsFrontFault text.now at) }
+{
+    if text.len() < 2 {
+        return Err(LexFault::BadByte { at });
+    }
+    match text[1] {
+        b'/' => Ok((Element::LineComment, line_len(text))),
+        b'*' => match close_in(&text[2..]) {
+            Some(len) => Ok((Element::BlockComment, len + 4)),
+            None => Err(LexFault::OpenComment { at }),
+        },
+        _ => Err(LexFault::BadByte { at }),
+    }
+}
+
+/// The place behind the bytes, of which the first is at the place.
+fn past_all(spot: Spot, bytes: &[u8]) -> Spot
+    requires line { spot.line + length bytes.now < 2 ^ 32 }
+    requires column { spot.column + length bytes.now < 2 ^ 32 }
+    ensures { result ≡ spot_past_all spot bytes.now }
+{
+    let mut here = spot;
+    for byte in bytes {
+        here = past(here, *byte);
+    }
+    here
+}
+
+/// The place behind a byte.
+fn past(spot: Spot, byte: u8) -> Spot
     requires line { spot.line + 1 < 2 ^ 32 }
     requires column { spot.column + 1 < 2 ^ 32 }
     ensures { result ≡ spot_past spot byte }
@@ -107,7 +187,7 @@ fn is_space(byte: u8) -> bool
 /// How many bytes in front may stand in a word.
 fn word_len(text: &[u8]) -> usize
     ensures within { result ≤ length text.now }
-    ensures word { IsTrue (all_word (take result text.now)) }
+    ensures word { IsTrue (names.all_word (take result text.now)) }
     ensures longest { words.begins_in_word (drop result text.now) ≡ false }
 {
     for i in 0..text.len() {
@@ -116,6 +196,56 @@ fn word_len(text: &[u8]) -> usize
         }
     }
     text.len()
+}
+
+/// How many bytes stand before the line's end.
+fn line_len(text: &[u8]) -> usize
+    ensures within { result ≤ length text.now }
+    ensures line { IsTrue (words.in_line (take result text.now)) }
+    ensures longest { IsTrue (words.ends_line (drop result text.now)) }
+{
+    for i in 0..text.len() {
+        if text[i] == b'\n' {
+            return i;
+        }
+    }
+    text.len()
+}
+
+/// How many bytes stand before the first `*/`.
+fn close_in(text: &[u8]) -> Option<usize>
+    ensures { result ≡ close_in text.now }
+{
+    for i in 0..text.len() {
+        if begins_close(&text[i..]) {
+            return Some(i);
+        }
+    }
+    None
+}
+
+/// Whether the text begins with `*/`.
+fn begins_close(text: &[u8]) -> bool
+    ensures { result ≡ pieces.begins_close text.now }
+{
+    match text {
+        [first, second, ..] => *first == b'*' && *second == b'/',
+        _ => false,
+    }
+}
+
+/// How many bytes stand before the first double quote of the line.
+fn quote_in(text: &[u8]) -> Option<usize>
+    ensures { result ≡ quote_in text.now }
+{
+    for i in 0..text.len() {
+        match text[i] {
+            b'"' => return Some(i),
+            b'\n' => return None,
+            _ => {}
+        }
+    }
+    None
 }
 
 /// The mark that the byte is.

@@ -29,6 +29,8 @@ pub enum TokenKind {
     Name,
     /// A reserved word.
     Keyword(Keyword),
+    /// UTF-8 between two double quotes on one line. A backslash has no meaning in it.
+    StringLiteral,
     Semicolon,
     Comma,
     Dot,
@@ -39,6 +41,18 @@ pub enum TokenKind {
     CloseBrace,
     OpenAngle,
     CloseAngle,
+}
+
+/// What a piece of a text is: white space, a comment or a token.
+#[derive(Clone, Copy)]
+pub enum Element {
+    /// One byte of white space.
+    Space,
+    /// A comment from `//` to the line's end, without its line feed.
+    LineComment,
+    /// A comment from `/*` to the next `*/`.
+    BlockComment,
+    Token(TokenKind),
 }
 
 /// A token of a text: its kind, its bytes, the index of its first byte and that byte's place.

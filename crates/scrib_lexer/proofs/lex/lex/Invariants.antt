@@ -1,14 +1,14 @@
-use Rattle.std.proofs.Common.{◌≡◌, ◌≤◌, ◌-◌, length, take, drop}
+use Rattle.std.proofs.Common.{◌≡◌, ◌≤◌, ◌-◌, length, take}
 use Rattle.scrib_lexer.specs.Lexeme.{lexemes_of}
 use Rattle.scrib_lexer.specs.Tokens.{spot_after}
-use Rattle.scrib_lexer.proofs.Read.{IsLexed}
+use Rattle.scrib_lexer.proofs.Read.{IsRead}
 use Rattle.scrib_lexer.proofs.lex.lex.Given as goal
 
 abbrev pub invariant-loop-start : goal.invariant-loop-start
 invariant-loop-start l = record {
   within : l.start ≤ length l.text;
   place : l.spot ≡ spot_after (take l.start l.text);
-  lexed : IsLexed (take l.start l.text) (drop l.start l.text) (lexemes_of l.tokens.items);
+  read : IsRead l.text l.start (lexemes_of l.tokens.items);
 }
 
 abbrev pub decreases-loop-start : goal.decreases-loop-start
