@@ -55,6 +55,8 @@ pub record IsPut (before : List ModuleTree) (text : List ℕ) (m : ModuleTree) (
 abbrev pub TellsLex : List ℕ → LexFault → Type 0
 TellsLex text lex.TextTooLong = tokens.FailsAt text lex.TextTooLong
 TellsLex text (lex.BadByte at) = tokens.FailsAt text (lex.BadByte at)
+TellsLex text (lex.OpenComment at) = tokens.FailsAt text (lex.OpenComment at)
+TellsLex text (lex.OpenString at) = tokens.FailsAt text (lex.OpenString at)
 TellsLex text (lex.LongName at) = tokens.FailsAt text (lex.LongName at)
 TellsLex text lex.OutOfMemory = ⊥
 

@@ -6,7 +6,7 @@ use Rattle.scrib_types.specs.declared.spot.Spot.{Spot}
 use Rattle.scrib_lexer.specs.declared.token.Keyword as keyword
 use Rattle.scrib_lexer.specs.declared.token.Keyword.TheVariants as words
 use Rattle.scrib_lexer.specs.declared.token.TokenKind.{TokenKind}
-use Rattle.scrib_lexer.specs.declared.token.TokenKind.TheVariants.{Name, Keyword, Semicolon, Comma, Dot, Colon, OpenParen, CloseParen, OpenBrace, CloseBrace, OpenAngle, CloseAngle}
+use Rattle.scrib_lexer.specs.declared.token.TokenKind.TheVariants.{Name, Keyword, StringLiteral, Semicolon, Comma, Dot, Colon, OpenParen, CloseParen, OpenBrace, CloseBrace, OpenAngle, CloseAngle}
 use Rattle.scrib_lexer.specs.Lexeme.{Lexeme}
 use Rattle.scrib_parser.specs.declared.fault.ParseFault.{ParseFault}
 use Rattle.scrib_parser.specs.declared.fault.ParseFault.TheVariants.{Unexpected, EndOfText}
@@ -37,6 +37,7 @@ same_word-refl words.Do = refl
 pub same_kind-refl : (kind : TokenKind) → same_kind kind kind ≡ true
 same_kind-refl Name = refl
 same_kind-refl (Keyword word) = same_word-refl word
+same_kind-refl StringLiteral = refl
 same_kind-refl Semicolon = refl
 same_kind-refl Comma = refl
 same_kind-refl Dot = refl
@@ -69,6 +70,7 @@ word_is _ _ e = absurd cc
 pub kind_is : (a b : TokenKind) → same_kind a b ≡ true → a ≡ b
 kind_is Name Name e = refl
 kind_is (Keyword a) (Keyword b) e = ap Keyword (word_is a b e)
+kind_is StringLiteral StringLiteral e = refl
 kind_is Semicolon Semicolon e = refl
 kind_is Comma Comma e = refl
 kind_is Dot Dot e = refl

@@ -6,7 +6,7 @@ use Rattle.scrib_types.specs.declared.spot.Spot.{Spot}
 use Rattle.scrib_lexer.specs.declared.token.Keyword as keyword
 use Rattle.scrib_lexer.specs.declared.token.Keyword.TheVariants as words
 use Rattle.scrib_lexer.specs.declared.token.TokenKind.{TokenKind}
-use Rattle.scrib_lexer.specs.declared.token.TokenKind.TheVariants.{Name, Keyword, Semicolon, Comma, Dot, Colon, OpenParen, CloseParen, OpenBrace, CloseBrace, OpenAngle, CloseAngle}
+use Rattle.scrib_lexer.specs.declared.token.TokenKind.TheVariants.{Name, Keyword, StringLiteral, Semicolon, Comma, Dot, Colon, OpenParen, CloseParen, OpenBrace, CloseBrace, OpenAngle, CloseAngle}
 use Rattle.scrib_lexer.specs.Lexeme.{Lexeme, lexemes_of}
 use Rattle.scrib_parser.specs.declared.cursor.Cursor.{Cursor}
 use Rattle.scrib_parser.specs.declared.fault.ParseFault.{ParseFault}
@@ -65,6 +65,7 @@ same_word _ _ = false
 abbrev pub same_kind : TokenKind → TokenKind → Bool
 same_kind Name Name = true
 same_kind (Keyword a) (Keyword b) = same_word a b
+same_kind StringLiteral StringLiteral = true
 same_kind Semicolon Semicolon = true
 same_kind Comma Comma = true
 same_kind Dot Dot = true

@@ -73,6 +73,8 @@ changes_text (c ∷ cs) = change_texts (c ∷ cs)
 unfoldable pub lex_fault_text : LexFault → List ℕ
 lex_fault_text lex.TextTooLong = codes "TextTooLong"
 lex_fault_text (lex.BadByte at) = codes "BadByte" ++ spot_text at
+lex_fault_text (lex.OpenComment at) = codes "OpenComment" ++ spot_text at
+lex_fault_text (lex.OpenString at) = codes "OpenString" ++ spot_text at
 lex_fault_text (lex.LongName at) = codes "LongName" ++ spot_text at
 lex_fault_text lex.OutOfMemory = codes "OutOfMemory"
 

@@ -32,6 +32,14 @@ fn push_lex_fault(out: &mut Vec<u8>, fault: &LexFault) -> Result<(), AllocError>
             push_bytes(out, b"BadByte")?;
             push_spot(out, at)
         }
+        LexFault::OpenComment { at } => {
+            push_bytes(out, b"OpenComment")?;
+            push_spot(out, at)
+        }
+        LexFault::OpenString { at } => {
+            push_bytes(out, b"OpenString")?;
+            push_spot(out, at)
+        }
         LexFault::LongName { at } => {
             push_bytes(out, b"LongName")?;
             push_spot(out, at)

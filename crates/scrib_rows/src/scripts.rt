@@ -83,6 +83,10 @@ fn refusals_of_texts(rt: HostRuntime) -> Result<(), Fail> {
             "refused EndOfText\n",
         ),
         ("module p; %", "refused BadByte 1:11\n"),
+        ("module c; /* x", "refused OpenComment 1:11\n"),
+        ("module c; type <t> \"a", "refused OpenString 1:20\n"),
+        // two bytes of UTF-8 in a comment
+        ("module z; // \u{e9}", "put z: no change\n"),
         ("mod", "refused Unexpected 1:1\n"),
         ("module demo;", "put demo: no change\n"),
         ("module demo; g", "refused Unexpected 1:14\n"),
