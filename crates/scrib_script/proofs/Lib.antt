@@ -1,3 +1,4 @@
+pub mod Decisions
 pub mod Digits
 pub mod Pieces
 pub mod Printed

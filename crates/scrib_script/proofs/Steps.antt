@@ -1,14 +1,15 @@
 -- Steps, by the fields that make them.
-use Rattle.std.proofs.Common.{◌≡◌, ℕ, ◌<◌, ◌≤◌, List, [], ◌∷◌, length, get_or, map, take, drop, ◌-◌, Option, Some, None, codes, refl, sym, ap, ◌∙◌, subst, false, arith}
+use Rattle.std.proofs.Common.{◌≡◌, ℕ, ◌<◌, ◌≤◌, List, [], ◌∷◌, length, get_or, map, take, drop, ◌-◌, Option, Some, None, codes, refl, sym, ap, ◌∙◌, subst, true, false, arith}
 use Rattle.std.specs.Str.{bytes_eq}
 use Rattle.std.proofs.lemmas.List.{take_rest}
 use Rattle.std.proofs.lemmas.Bool.{false≢true}
 use Rattle.std.proofs.lemmas.Slice.Eq.{bytes_eq-Decides}
 use Rattle.scrib_types.specs.declared.message.Message.{Message}
 use Rattle.scrib_types.specs.declared.event.Event.TheVariants as event
+use Rattle.scrib_types.specs.Names.{is_name}
 use Rattle.scrib_core.specs.declared.step.Step.{Step}
 use Rattle.scrib_core.specs.declared.step.Step.TheVariants as step
-use Rattle.scrib_script.specs.Fields.{Finds, IsNumber}
+use Rattle.scrib_script.specs.Fields.{Finds, IsNumber, IsDottedText}
 use Rattle.scrib_script.specs.Steps.{IsExchange, Makes, MakesStep}
 use Rattle.scrib_script.proofs.Digits.{same_number}
 
@@ -31,6 +32,41 @@ no-recv id fs none (step.Note i (event.Join role)) h = apart (codes "recv") (cod
 no-recv id fs none (step.Note i (event.Sent from to m)) h = apart (codes "recv") (codes "send") refl h.0
 no-recv id fs none (step.Note i (event.Received from to m)) h = none from to m h.2
 no-recv id fs none (step.Ask i) h = apart (codes "recv") (codes "ask") refl h.0
+
+-- no dotted text, no opening
+pub no-open : (id : ℕ) (fs : List (List ℕ)) → ((name : List (List ℕ)) → (text : List ℕ) × (fs ≡ text ∷ []) × IsDottedText text name → ⊥) → (s : Step) → Makes (codes "open") id fs s → ⊥
+no-open id fs none (step.Put text) h = h
+no-open id fs none (step.Open i name) h = none name h.2
+no-open id fs none (step.Note i (event.Join role)) h = apart (codes "open") (codes "join") refl h.0
+no-open id fs none (step.Note i (event.Sent from to m)) h = apart (codes "open") (codes "send") refl h.0
+no-open id fs none (step.Note i (event.Received from to m)) h = apart (codes "open") (codes "recv") refl h.0
+no-open id fs none (step.Ask i) h = apart (codes "open") (codes "ask") refl h.0
+
+pub no-join : (id : ℕ) (fs : List (List ℕ)) → ((role : List ℕ) → (fs ≡ role ∷ []) × (is_name role ≡ true) → ⊥) → (s : Step) → Makes (codes "join") id fs s → ⊥
+no-join id fs none (step.Put text) h = h
+no-join id fs none (step.Open i name) h = apart (codes "join") (codes "open") refl h.0
+no-join id fs none (step.Note i (event.Join role)) h = none role (h.2, h.3)
+no-join id fs none (step.Note i (event.Sent from to m)) h = apart (codes "join") (codes "send") refl h.0
+no-join id fs none (step.Note i (event.Received from to m)) h = apart (codes "join") (codes "recv") refl h.0
+no-join id fs none (step.Ask i) h = apart (codes "join") (codes "ask") refl h.0
+
+pub no-ask : (id : ℕ) (fs : List (List ℕ)) → (fs ≡ [] → ⊥) → (s : Step) → Makes (codes "ask") id fs s → ⊥
+no-ask id fs none (step.Put text) h = h
+no-ask id fs none (step.Open i name) h = apart (codes "ask") (codes "open") refl h.0
+no-ask id fs none (step.Note i (event.Join role)) h = apart (codes "ask") (codes "join") refl h.0
+no-ask id fs none (step.Note i (event.Sent from to m)) h = apart (codes "ask") (codes "send") refl h.0
+no-ask id fs none (step.Note i (event.Received from to m)) h = apart (codes "ask") (codes "recv") refl h.0
+no-ask id fs none (step.Ask i) h = none h.2
+
+-- another word makes no step
+pub no-word : (word : List ℕ) (id : ℕ) (fs : List (List ℕ)) → (word ≡ codes "open" → ⊥) → (word ≡ codes "join" → ⊥) → (word ≡ codes "send" → ⊥) → (word ≡ codes "recv" → ⊥) → (word ≡ codes "ask" → ⊥)
+    → (s : Step) → Makes word id fs s → ⊥
+no-word word id fs opens joins sends receives asks (step.Put text) h = h
+no-word word id fs opens joins sends receives asks (step.Open i name) h = opens h.0
+no-word word id fs opens joins sends receives asks (step.Note i (event.Join role)) h = joins h.0
+no-word word id fs opens joins sends receives asks (step.Note i (event.Sent from to m)) h = sends h.0
+no-word word id fs opens joins sends receives asks (step.Note i (event.Received from to m)) h = receives h.0
+no-word word id fs opens joins sends receives asks (step.Ask i) h = asks h.0
 
 -- a step has two fields
 pub no-short : (fs : List (List ℕ)) → length fs < 2 → (s : Step) → MakesStep fs s → ⊥
