@@ -63,6 +63,7 @@ all_digits : (bytes : List ℕ) → Decided (AllDigits 10 bytes)
 all_digits [] = inl tt
 all_digits (b ∷ bs) = both (at_most (suc (digit_value b)) 10) (all_digits bs)
 
+-- the number that the bytes are
 number_found : (bytes : List ℕ) → Found (IsNumber bytes)
 number_found bytes =
     let value = digits_value 10 bytes in
@@ -71,6 +72,7 @@ number_found bytes =
       | inr n ↦ (None, λ v k. n ((k.digits, k.some), (k.most, subst (λ (i : ℕ). i < 2 ^ 32) k.value k.fits)))
     ]
 
+-- the names that the bytes join by dots
 dotted_found : (bytes : List ℕ) → Found (IsDottedText bytes)
 dotted_found bytes = elim (is_true (list_all is_name (pieces 46 bytes))) [
   | inl t ↦ (Some (pieces 46 bytes), dotted-read bytes (pieces 46 bytes) refl t)
@@ -81,6 +83,7 @@ no_operator : (b : ℕ) (bs : List ℕ) → (is_name (b ∷ bs) ≡ true → ⊥
 no_operator b bs n None h = let e : b ∷ bs ≡ [] = h.0 in cc
 no_operator b bs n (Some name) h = n (ap is_name h.0 ∙ h.1)
 
+-- the operator, or none, that the bytes are
 operator_found : (bytes : List ℕ) → Found (IsOperatorText bytes)
 operator_found [] = (Some None, (refl, refl))
 operator_found (b ∷ bs) = elim (is_true (is_name (b ∷ bs))) [
@@ -122,6 +125,7 @@ payload_from : (bytes : List ℕ) → 0 < length bytes → (o : Option (List (Li
 payload_from bytes some None none = λ payload h. let p = payload-pieces bytes payload some h in none payload (sym p.0, p.1)
 payload_from bytes some (Some payload) k = payload-read bytes payload k.0 k.1
 
+-- the payload that the bytes are
 payload_found : (bytes : List ℕ) → Found (IsPayloadText bytes)
 payload_found [] = (Some [], (refl, refl))
 payload_found (b ∷ bs) =
@@ -184,6 +188,7 @@ parts_more : (b : ℕ) (bs : List ℕ) → (b == 40) ≡ false → (o : Option (
 parts_more b bs f None none = (None, λ p h. let q = parts_tail b bs p.0 p.1 f h in none (q.0, p.1) q.1)
 parts_more b bs f (Some p) k = (Some (b ∷ p.0, p.1), (ap (λ (t : List ℕ). b ∷ t) k.0, All-cons (λ y. (y == 40) ≡ false) b p.0 f k.1))
 
+-- what stands before a text's parentheses, and between them
 parts_found : (bytes : List ℕ) → Found (Parts bytes)
 parts_found [] = (None, λ p h. omega (arith, ap length h.0, length-append (p.0 ++ 40 ∷ p.1) (41 ∷ [])))
 parts_found (b ∷ bs) = elim (cases_Bool (b == 40)) [
@@ -206,6 +211,7 @@ message_from bytes (Some p) cut =
     let payload = payload_found p.1 in
     message_at bytes p.0 p.1 cut op.0 op.1 payload.0 payload.1
 
+-- the message whose printed text this is
 message_found : (bytes : List ℕ) → Found (IsMessageText bytes)
 message_found bytes = let parts = parts_found bytes in message_from bytes parts.0 parts.1
 
@@ -305,6 +311,7 @@ ask_step id (f ∷ fs) = (None, no-ask id (f ∷ fs) (λ e. cc))
 worded : (word known : List ℕ) (id : ℕ) (fs : List (List ℕ)) → word ≡ known → Found (Makes known id fs) → Found (Makes word id fs)
 worded word known id fs e found = (found.0, subst (λ (w : List ℕ). Finds (Makes w id fs) found.0) (sym e) found.1)
 
+-- the step that a word makes with an id and the fields behind them
 word_step : (word : List ℕ) (id : ℕ) (fs : List (List ℕ)) → Found (Makes word id fs)
 word_step word id fs = elim (same_bytes word (codes "open")) [
   | inl e ↦ let opens = opens_found fs in worded word (codes "open") id fs e (open_step id fs opens.0 opens.1)
@@ -328,6 +335,7 @@ step_from word number fs None none = (None, λ s h. none h.0 h.1)
 step_from word number fs (Some id) n =
     let made = word_step word id fs in (made.0, found-step word number fs id n made.0 made.1)
 
+-- the step that fields make
 step_found : (fs : List (List ℕ)) → Found (MakesStep fs)
 step_found [] = (None, no-short [] (omega arith))
 step_found (word ∷ []) = (None, no-short (word ∷ []) (omega arith))
