@@ -1,5 +1,5 @@
 -- What a run writes at the end of its script, and where it fails.
-use Rattle.std.proofs.Common.{◌≡◌, ◌≢◌, ◌<◌, ◌≤◌, ◌+◌, ◌⊎◌, inl, inr, ℕ, zero, suc, Bool, true, false, List, [], ◌∷◌, ◌++◌, ◌∙◌, Option, Some, None, take, length, rules, refl, sym, ap, subst, arith, lit≤, Result, Ok, Err, Vec, Global, vec_len, eqb}
+use Rattle.std.proofs.Common.{◌≡◌, ◌≢◌, ◌≤◌, ◌+◌, ℕ, Bool, true, false, List, [], ◌∷◌, ◌++◌, ◌∙◌, Option, Some, None, take, length, rules, refl, sym, ap, subst, arith, lit≤, Result, Ok, Err, Vec, Global, vec_len, eqb}
 use Rattle.std.specs.Prelude.{IfSome, IfOk}
 use Rattle.std.specs.Io.KnownBytes.{Appends, Consumes, IsAtEnd, Keeps}
 use Rattle.std.proofs.lemmas.Bool.{eqb-true, eqb-false}
@@ -12,7 +12,7 @@ use Rattle.scrib_core.specs.Held.{world_of}
 use Rattle.scrib_script.specs.Says.{Says}
 use Rattle.scrib_cli.specs.declared.run.Run.{Run}
 use Rattle.scrib_cli.specs.Scripts.{IsOutput, AppendsPart, lines, bare, text_end, end_of_text, reply_line}
-use Rattle.scrib_cli.specs.Progress.{NoLf, Place, Whole, WholeFrom, Leads, Short, most, text_of, Holds, place, Went, Stopped, LastLine, Ended, Failed, tail, CarriedOut, PartCarriedOut, unread, halfway, Answered, PartAnswered}
+use Rattle.scrib_cli.specs.Progress.{NoLf, Place, Whole, WholeFrom, Leads, Short, text_of, Holds, place, Went, Stopped, LastLine, Ended, Failed, tail, CarriedOut, PartCarriedOut, unread, halfway, Answered, PartAnswered}
 use Rattle.scrib_cli.proofs.Bytes.{bare_last, last_of_kept, last_is_kept}
 use Rattle.scrib_cli.proofs.Writes.{appends_none, appends_more, appends_kept, consumes_none, consumes_more, consumes_kept}
 use Rattle.scrib_cli.proofs.Outputs.{begun, at, whole_does, whole_puts, whole_goes_on, whole_ends, whole_stops, whole_last, leads_none, leads_then, short_any, short_then, short_whole}
@@ -198,13 +198,13 @@ whole_output input output h = (h.items, h.replies, h.after, h.marks, h.spelled, 
 abbrev pub Writes : Option (List ℕ) → Option (List ℕ) → Option (List ℕ) → Type 0
 Writes r old new = IfSome r (λ input. (output : List ℕ) × IsOutput input output × Appends old new output)
 
--- it can't be that no beginning of an output was written
+-- a beginning of an output was written
 abbrev pub WritesPart : Option (List ℕ) → Option (List ℕ) → Option (List ℕ) → Type 0
-WritesPart r old new = IfSome r (λ input. ((output : List ℕ) × IsOutput input output × AppendsPart old new output → ⊥) → ⊥)
+WritesPart r old new = IfSome r (λ input. (output : List ℕ) × IsOutput input output × AppendsPart old new output)
 
 short_writes : (input part : List ℕ) (old new : Option (List ℕ)) → Short start input part → Appends old new part
-    → ((output : List ℕ) × IsOutput input output × AppendsPart old new output → ⊥) → ⊥
-short_writes input part old new s a k = s.so (λ output rest h e. k (output, whole_output input output h, (part, rest, e, a)))
+    → (output : List ℕ) × IsOutput input output × AppendsPart old new output
+short_writes input part old new s a = (s.output, whole_output input s.output s.whole, (part, s.rest, s.is, a))
 
 -- all was read and written
 pub writes : (run : Run) (seen : List ℕ) (r0 r w0 w w' : Option (List ℕ)) → Came run seen w0 w → Consumes r0 r seen → IsAtEnd r → Ended run w w' → Writes r0 w0 w'

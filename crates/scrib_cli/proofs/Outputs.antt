@@ -1,8 +1,7 @@
 -- What is spelled and written from a place of a script on.
-use Rattle.std.proofs.Common.{◌≡◌, ◌≢◌, ◌<◌, ◌≤◌, ◌+◌, ◌⊎◌, inl, inr, ℕ, Bool, true, false, List, [], ◌∷◌, ◌++◌, ◌∙◌, Option, Some, None, take, length, refl, sym, ap, subst, arith}
-use Rattle.std.proofs.lemmas.Bool.{cases_lt, false≢true}
+use Rattle.std.proofs.Common.{◌≡◌, ◌≢◌, ◌+◌, inl, inr, ℕ, Bool, true, false, List, [], ◌∷◌, ◌++◌, ◌∙◌, Option, Some, None, take, refl, sym, ap, subst}
+use Rattle.std.proofs.lemmas.Bool.{false≢true}
 use Rattle.std.proofs.lemmas.List.{append_assoc, append-nil}
-use Rattle.std.proofs.lemmas.List.Elements.{All-nil}
 use Rattle.scrib_core.specs.declared.step.Step.{Step}
 use Rattle.scrib_core.specs.declared.step.Step.TheVariants.{Put, Open, Note, Ask}
 use Rattle.scrib_core.specs.declared.reply.Reply.{Reply}
@@ -14,7 +13,8 @@ use Rattle.scrib_core.specs.Answers.{IsAnswered}
 use Rattle.scrib_script.specs.Says.{Says}
 use Rattle.scrib_script.specs.declared.line.Line.{Line}
 use Rattle.scrib_script.specs.declared.line.Line.TheVariants as line
-use Rattle.scrib_cli.specs.Scripts.{Item, Makes, BadLine, EndOfText, ends, skips, makes, is_bad, begins, goes_on, puts, stops, lines, bare, text_end, bad_line, end_of_text, reply_line}
+use Rattle.scrib_script.proofs.Decisions.{same_bytes, line_said}
+use Rattle.scrib_cli.specs.Scripts.{Makes, BadLine, EndOfText, ends, skips, makes, is_bad, begins, goes_on, puts, stops, lines, bare, text_end, bad_line, end_of_text, reply_line}
 use Rattle.scrib_cli.specs.Progress.{NoLf, Place, Whole, WholeFrom, Leads, Short, Does}
 use Rattle.scrib_cli.proofs.Bytes.{lines_lf, lines_last}
 
@@ -144,42 +144,39 @@ whole_does n l ls w output line.Bad b v out says d h =
     let at_none : Whole (n + 1) None ls w output = rw (d.0, d.1) at h in
     rw d.2 (whole_is_bad n l ls w output says at_none)
 
--- it can't be that a line says nothing that a line may say
-no_line_says_nothing : (bytes : List ℕ) → ((said : Line) → Says bytes said → ⊥) → ⊥
-no_line_says_nothing bytes k = elim (cases_lt 131072 (length bytes)) [
-  | inl long ↦ k line.Bad (inl long)
-  | inr fits ↦ k line.Bad (inr ((λ s. k line.Skipped (fits, s)), (λ p. k line.Put (fits, p)), (λ s m. k (line.Step s) (fits, m))))
+-- an output of these lines, wherever they stand
+abbrev pub IsWritten : List (List ℕ) → Type 0
+IsWritten ls = (n : ℕ) (text : Option (List ℕ)) (w : World) → (output : List ℕ) × Whole n text ls w output
+
+written_said : (l : List ℕ) (ls : List (List ℕ)) → IsWritten ls → (n : ℕ) (w : World) → (said : Line) → Says (bare l) said → (output : List ℕ) × Whole n None (l ∷ ls) w output
+written_said l ls more n w line.Skipped says = let p = more (n + 1) None w in (p.0, whole_skips n l ls w p.0 says p.1)
+written_said l ls more n w line.Put says = let p = more (n + 1) (Some []) w in (p.0, whole_begins n l ls w p.0 says p.1)
+written_said l ls more n w (line.Step s) says =
+    let p = more (n + 1) None w in
+    (reply_line (Refused OutOfMemory) ++ p.0, whole_makes n l ls w p.0 s (Refused OutOfMemory) w says (answered_by_refusal w s) p.1)
+written_said l ls more n w line.Bad says = let p = more (n + 1) None w in (bad_line n ++ p.0, whole_is_bad n l ls w p.0 says p.1)
+
+written_inside : (l : List ℕ) (ls : List (List ℕ)) → IsWritten ls → (n : ℕ) (text : List ℕ) (w : World) → (output : List ℕ) × Whole n (Some text) (l ∷ ls) w output
+written_inside l ls more n text w = elim (same_bytes (bare l) text_end) [
+  | inl e ↦
+      let p = more (n + 1) None w in
+      let answered = answered_by_refusal w (Put (take 1048577 text)) in
+      (reply_line (Refused OutOfMemory) ++ p.0, whole_puts n l ls w p.0 text (Refused OutOfMemory) w e answered p.1)
+  | inr ne ↦ let p = more (n + 1) (Some (text ++ l)) w in (p.0, whole_goes_on n l ls w p.0 text ne p.1)
 ]
 
--- it can't be that nothing is written for these lines
-abbrev pub IsWritten : List (List ℕ) → Type 0
-IsWritten ls = (n : ℕ) (text : Option (List ℕ)) (w : World) → ((output : List ℕ) → Whole n text ls w output → ⊥) → ⊥
-
-written_said : (l : List ℕ) (ls : List (List ℕ)) → IsWritten ls → (n : ℕ) (w : World) → ((output : List ℕ) → Whole n None (l ∷ ls) w output → ⊥)
-    → (said : Line) → Says (bare l) said → ⊥
-written_said l ls more n w k line.Skipped says = more (n + 1) None w (λ o h. k o (whole_skips n l ls w o says h))
-written_said l ls more n w k line.Put says = more (n + 1) (Some []) w (λ o h. k o (whole_begins n l ls w o says h))
-written_said l ls more n w k (line.Step s) says =
-    more (n + 1) None w (λ o h. k (reply_line (Refused OutOfMemory) ++ o) (whole_makes n l ls w o s (Refused OutOfMemory) w says (answered_by_refusal w s) h))
-written_said l ls more n w k line.Bad says = more (n + 1) None w (λ o h. k (bad_line n ++ o) (whole_is_bad n l ls w o says h))
-
-written_inside : (l : List ℕ) (ls : List (List ℕ)) → IsWritten ls → (n : ℕ) (text : List ℕ) (w : World) → ((output : List ℕ) → Whole n (Some text) (l ∷ ls) w output → ⊥) → ⊥
-written_inside l ls more n text w k =
-    let s : Step = Put (take 1048577 text) in
-    let ne : bare l ≢ text_end = λ e. more (n + 1) None w (λ o h. k (reply_line (Refused OutOfMemory) ++ o) (whole_puts n l ls w o text (Refused OutOfMemory) w e (answered_by_refusal w s) h)) in
-    more (n + 1) (Some (text ++ l)) w (λ o h. k o (whole_goes_on n l ls w o text ne h))
-
+-- an output of any lines, with memory refused at each of their steps
 pub is_written : (ls : List (List ℕ)) → IsWritten ls
-is_written [] = λ n text w k. elim text as (λ t. ((output : List ℕ) → Whole n t [] w output → ⊥) → ⊥) [
-  | None ↦ λ f. f [] (whole_ends n w)
-  | Some t ↦ λ f. f end_of_text (whole_stops n t w)
-] k
+is_written [] = λ n text w. elim text as (λ t. (output : List ℕ) × Whole n t [] w output) [
+  | None ↦ ([], whole_ends n w)
+  | Some t ↦ (end_of_text, whole_stops n t w)
+]
 is_written (l ∷ ls) =
     let more = is_written ls in
-    λ n text w k. (elim text as (λ t. ((output : List ℕ) → Whole n t (l ∷ ls) w output → ⊥) → ⊥) [
-      | None ↦ λ f. no_line_says_nothing (bare l) (written_said l ls more n w f)
-      | Some t ↦ λ f. written_inside l ls more n t w f
-    ]) k
+    λ n text w. elim text as (λ t. (output : List ℕ) × Whole n t (l ∷ ls) w output) [
+      | None ↦ let p = line_said (bare l) in written_said l ls more n w p.0 p.1
+      | Some t ↦ written_inside l ls more n t w
+    ]
 
 -- Nothing leads from a place to itself.
 pub leads_none : (p : Place) → Leads p [] [] p
@@ -218,28 +215,34 @@ whole_last n text (b ∷ k) w out no_lf some h =
     subst (λ (t : List ℕ). Whole n text (lines t) w out) (sym (append-nil (b ∷ k)))
     (subst (λ (ls : List (List ℕ)). Whole n text ls w out) (sym (lines_last b k no_lf)) h)
 
--- What fails where nothing was written.
+-- What an output begins with where nothing was written.
 pub short_any : (p : Place) (bytes : List ℕ) → Short p bytes []
-short_any p bytes = record {
-  so = λ k. is_written (lines (p.line ++ bytes)) p.number p.text p.world (λ output h. k output output h refl);
-}
+short_any p bytes =
+    let written = is_written (lines (p.line ++ bytes)) p.number p.text p.world in
+    record { output = written.0; rest = written.0; whole = written.1; is = refl }
 
 pub short_then : (p q : Place) (a more x part : List ℕ) → Leads p a x q → Short q more part → Short p (a ++ more) (x ++ part)
 short_then p q a more x part f s = record {
-  so = λ k. s.so (λ output rest h e. k (x ++ output) rest (f.goes more output h) (ap (λ (t : List ℕ). x ++ t) e ∙ sym (append_assoc x part rest)));
+  output = x ++ s.output;
+  rest = s.rest;
+  whole = f.goes more s.output s.whole;
+  is = ap (λ (t : List ℕ). x ++ t) s.is ∙ sym (append_assoc x part s.rest);
 }
 
 pub short_part : (p : Place) (bytes part after : List ℕ) → Short p bytes (part ++ after) → Short p bytes part
 short_part p bytes part after s = record {
-  so = λ k. s.so (λ output rest h e. k output (after ++ rest) h (e ∙ append_assoc part after rest));
+  output = s.output;
+  rest = after ++ s.rest;
+  whole = s.whole;
+  is = s.is ∙ append_assoc part after s.rest;
 }
 
--- what fails on a way whose output is known
+-- on a way whose output is known
 pub short_led : (p q : Place) (a more x part after : List ℕ) → Leads p a x q → x ≡ part ++ after → Short p (a ++ more) part
 short_led p q a more x part after f e =
     let all : Short p (a ++ more) (x ++ []) = short_then p q a more x [] f (short_any q more) in
     short_part p (a ++ more) part (after ++ []) (subst (λ (t : List ℕ). Short p (a ++ more) t) (append-nil x ∙ e ∙ ap (λ (t : List ℕ). part ++ t) (sym (append-nil after))) all)
 
--- what fails where the output is known
+-- where the output is known
 pub short_whole : (p : Place) (bytes output part after : List ℕ) → WholeFrom p bytes output → output ≡ part ++ after → Short p bytes part
-short_whole p bytes output part after h e = record { so = λ k. k output after h e }
+short_whole p bytes output part after h e = record { output = output; rest = after; whole = h; is = e }

@@ -45,9 +45,12 @@ WholeFrom p bytes output = Whole p.number p.text (lines (p.line ++ bytes)) p.wor
 pub record Leads (p : Place) (bytes out : List ℕ) (q : Place) : Type 0 where
   pub goes : (more output : List ℕ) → WholeFrom q more output → WholeFrom p (bytes ++ more) (out ++ output)
 
--- it can't be that no output begins so, where `bytes` are all that comes from here on
+-- an output begins so, where `bytes` are all that comes from here on
 pub record Short (p : Place) (bytes part : List ℕ) : Type 0 where
-  pub so : ((output rest : List ℕ) → WholeFrom p bytes output → output ≡ part ++ rest → ⊥) → ⊥
+  pub output : List ℕ
+  pub rest : List ℕ
+  pub whole : WholeFrom p bytes output
+  pub is : output ≡ part ++ rest
 
 -- what is kept of the bytes of a line at most: of one outside module texts a CR and one byte more than it may have
 abbrev pub most : Option (List ℕ) → ℕ

@@ -30,8 +30,8 @@ pub fn run_script<R: Read, W: Write>(
 ) -> Result<(), ScriptFault>
     ensures ok { OnOk result (IfSome (R.remaining reader.old) (λ input. (output : List ℕ) × IsOutput input output
         × Appends (W.contents writer.old) (W.contents writer.new) output)) }
-    ensures err { OnErr result (IfSome (R.remaining reader.old) (λ input. ((output : List ℕ) × IsOutput input output
-        × AppendsPart (W.contents writer.old) (W.contents writer.new) output → ⊥) → ⊥)) }
+    ensures err { OnErr result (IfSome (R.remaining reader.old) (λ input. (output : List ℕ) × IsOutput input output
+        × AppendsPart (W.contents writer.old) (W.contents writer.new) output)) }
 {
     let mut piece = vec![in alloc; 0u8; PIECE_BYTES]?;
     run_by_pieces(alloc, reader, writer, piece.as_mut_slice())
@@ -47,8 +47,8 @@ fn run_by_pieces<R: Read, W: Write>(
     requires { 0 < length piece.old }
     ensures ok { OnOk result (IfSome (R.remaining reader.old) (λ input. (output : List ℕ) × IsOutput input output
         × Appends (W.contents writer.old) (W.contents writer.new) output)) }
-    ensures err { OnErr result (IfSome (R.remaining reader.old) (λ input. ((output : List ℕ) × IsOutput input output
-        × AppendsPart (W.contents writer.old) (W.contents writer.new) output → ⊥) → ⊥)) }
+    ensures err { OnErr result (IfSome (R.remaining reader.old) (λ input. (output : List ℕ) × IsOutput input output
+        × AppendsPart (W.contents writer.old) (W.contents writer.new) output)) }
 {
     let mut run = Run::new(alloc);
     for _ in 0..u64::MAX {
