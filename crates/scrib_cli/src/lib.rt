@@ -6,6 +6,4 @@ pub mod fault;
 mod keeping;
 mod run;
 pub mod run_script;
-#[cfg(test)]
-mod tests;
 mod writing;

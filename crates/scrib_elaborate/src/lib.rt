@@ -4,5 +4,3 @@
 mod check;
 pub mod elaborate;
 pub mod fault;
-#[cfg(test)]
-mod tests;

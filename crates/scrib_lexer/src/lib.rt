@@ -3,6 +3,4 @@
 
 pub mod fault;
 pub mod lex;
-#[cfg(test)]
-mod tests;
 pub mod token;

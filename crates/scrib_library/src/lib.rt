@@ -8,5 +8,3 @@ mod difference;
 pub mod fault;
 pub mod library;
 mod plan;
-#[cfg(test)]
-mod tests;

@@ -4,6 +4,4 @@
 mod cursor;
 pub mod fault;
 pub mod parse;
-#[cfg(test)]
-mod tests;
 pub mod tree;

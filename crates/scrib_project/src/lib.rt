@@ -3,6 +3,4 @@
 
 pub mod fault;
 pub mod project;
-#[cfg(test)]
-mod tests;
 pub mod text;

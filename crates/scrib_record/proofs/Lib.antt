@@ -9,5 +9,4 @@ pub mod Start
 pub mod Judged
 pub mod Listed
 pub mod Offered
-pub mod Hello
 pub mod Projections

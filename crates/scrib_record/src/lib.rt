@@ -4,7 +4,5 @@
 mod allowed;
 mod course;
 pub mod judge;
-#[cfg(test)]
-mod tests;
 mod text;
 pub mod version;

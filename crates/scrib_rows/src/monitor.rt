@@ -1,32 +1,22 @@
 //! The calls of the core.
 
+use crate::making::{DEMO, step};
 use scrib_core::monitor::Core;
 use scrib_core::reply::Reply;
 use scrib_core::step::Step;
 use scrib_report::line::line;
-use scrib_script::line::{Line, line_of};
 use scrib_types::plain::Items;
 use std::alloc::Global;
 use std::test::Fail;
 
-const DEMO: &[u8] =
-    b"module demo; global protocol Hello(role A, role B) { hello() from A to B; bye() from B to A; }";
-
-const STEPS: [&[u8]; 4] = [b"open 1 demo.Hello", b"join 1 A", b"ask 1", b"ask 2"];
+const STEPS: [&str; 4] = ["open 1 demo.Hello", "join 1 A", "ask 1", "ask 2"];
 
 const LINES: &[u8] =
     b"put demo: +demo.Hello\nopen 1: demo.Hello\n1.1 permitted\n1 permitted\nrefused NoConversation\n";
 
 fn put(alloc: Global) -> Result<Step, Fail> {
-    let text = Items::from_slice(alloc, DEMO)?;
+    let text = Items::from_slice(alloc, DEMO.as_bytes())?;
     Ok(Step::Put { text })
-}
-
-fn step(alloc: Global, text: &[u8]) -> Result<Step, Fail> {
-    match line_of(alloc, text)? {
-        Line::Step(step) => Ok(step),
-        _ => Err(Fail::from("no step")),
-    }
 }
 
 fn steps(alloc: Global) -> Result<Vec<Step>, Fail> {

@@ -1,12 +1,10 @@
 //! Scripts, and the lines that they give.
 
+use crate::making::DEMO;
 use scrib_cli::run_script::run_script;
 use std::alloc::Global;
 use std::process::Abort;
 use std::test::Fail;
-
-const DEMO: &str =
-    "module demo; global protocol Hello(role A, role B) { hello() from A to B; bye() from B to A; }";
 
 // What a script writes.
 fn output_of(rt: &impl Abort, alloc: Global, script: &[u8]) -> Result<Vec<u8>, Fail> {

@@ -4,6 +4,4 @@
 mod fields;
 pub mod line;
 mod step;
-#[cfg(test)]
-mod tests;
 mod text;

@@ -3,6 +3,4 @@
 
 pub mod offer;
 pub mod step;
-#[cfg(test)]
-mod tests;
 mod unfold;

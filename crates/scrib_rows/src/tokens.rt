@@ -1,6 +1,6 @@
-use crate::fault::LexFault;
-use crate::lex::{MAX_TEXT_BYTES, lex};
-use crate::token::{Keyword, TokenKind};
+use scrib_lexer::fault::LexFault;
+use scrib_lexer::lex::{MAX_TEXT_BYTES, lex};
+use scrib_lexer::token::{Keyword, TokenKind};
 use scrib_types::spot::Spot;
 use std::alloc::{AllocError, Global};
 use std::test::Fail;

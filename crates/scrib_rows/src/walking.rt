@@ -1,12 +1,12 @@
 //! Small local types, followed.
 
-use crate::offer::offers;
-use crate::step::step;
 use scrib_types::event::Action;
 use scrib_types::local::Local;
 use scrib_types::message::{Message, Payload};
 use scrib_types::name::{Name, Role};
 use scrib_types::plain::{Boxed, Items};
+use scrib_walk::offer::offers;
+use scrib_walk::step::step;
 use std::alloc::Global;
 use std::test::Fail;
 

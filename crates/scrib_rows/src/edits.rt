@@ -1,9 +1,9 @@
 //! Libraries of small modules, with what their texts change or why they are refused.
 
-use crate::changes::{ChangeKind, Changes};
-use crate::fault::EditFault;
-use crate::library::Library;
 use scrib_elaborate::fault::FaultKind;
+use scrib_library::changes::{ChangeKind, Changes};
+use scrib_library::fault::EditFault;
+use scrib_library::library::Library;
 use scrib_types::name::{Dotted, Name};
 use std::alloc::Global;
 use std::test::Fail;

@@ -1,5 +1,5 @@
-use crate::line::{Line, MAX_LINE_BYTES, line_of};
 use scrib_core::step::Step;
+use scrib_script::line::{Line, MAX_LINE_BYTES, line_of};
 use scrib_types::event::Event;
 use scrib_types::message::Message;
 use scrib_types::name::{Dotted, Name};

@@ -1,7 +1,7 @@
-use crate::fault::ParseFault;
-use crate::parse::parse;
-use crate::tree::{MessageStatement, ModuleTree};
 use scrib_lexer::token::{Keyword, Token, TokenKind};
+use scrib_parser::fault::ParseFault;
+use scrib_parser::parse::parse;
+use scrib_parser::tree::{MessageStatement, ModuleTree};
 use scrib_types::name::{Dotted, is_word_byte};
 use scrib_types::spot::Spot;
 use std::alloc::{AllocError, Global};

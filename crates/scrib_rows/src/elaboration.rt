@@ -1,7 +1,7 @@
 //! Modules built by hand, with the protocols and the faults that the rules give.
 
-use crate::elaborate::{check_names, elaborate, elaborate_named};
-use crate::fault::{ElaborateFault, Fault, FaultKind};
+use scrib_elaborate::elaborate::{check_names, elaborate, elaborate_named};
+use scrib_elaborate::fault::{ElaborateFault, Fault, FaultKind};
 use scrib_parser::tree::{MessageStatement, ModuleTree, ProtocolDeclaration, RoleDeclaration};
 use scrib_types::global::GlobalType;
 use scrib_types::message::{Message, Payload};

@@ -1,8 +1,8 @@
 //! Projections of small global types, by their text.
 
-use crate::fault::ProjectFault;
-use crate::project::project;
-use crate::text::text;
+use scrib_project::fault::ProjectFault;
+use scrib_project::project::project;
+use scrib_project::text::text;
 use scrib_types::global::GlobalType;
 use scrib_types::message::{Message, Payload};
 use scrib_types::name::{Name, Role};

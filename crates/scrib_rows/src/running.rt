@@ -1,4 +1,4 @@
-use crate::run_script::{ScriptFault, run_script};
+use scrib_cli::run_script::{ScriptFault, run_script};
 use std::alloc::{AllocError, Global};
 use std::io;
 use std::io::{ErrorKind, Read, Write};
