@@ -2,3 +2,4 @@ pub mod World
 pub mod Marks
 pub mod Answers
 pub mod Held
+pub mod Runs

@@ -5,6 +5,7 @@ ghost use Rattle.scrib_core.specs.declared.step.Step.TheVariants.{Put, Open, Not
 ghost use Rattle.scrib_core.specs.World.{nothing, Refuses, NeedsMemory};
 ghost use Rattle.scrib_core.specs.Answers.{IsAnswered, IsDue, Answers};
 ghost use Rattle.scrib_core.specs.Held.{world_of, marks_of, IsViewed};
+ghost use Rattle.scrib_core.specs.Runs.{PermitsRuns};
 
 use crate::conversation::{Conversation, MAX_EVENTS, note, verdict_of};
 use crate::reply::{Edit, Refusal, Reply};
@@ -42,9 +43,11 @@ impl Core {
     }
 
     /// Makes one step and answers it. A refused step changes nothing.
+    #[tactic(auto, using(crate::proofs::Runs::permits_runs))]
     pub fn apply(&mut self, step: Step) -> Reply
         ensures answered { IsAnswered (world_of self.old) (marks_of self.old) step result (world_of self.new) (marks_of self.new) }
         ensures memory { IsDue (world_of self.old) step result }
+        ensures runs { PermitsRuns (world_of self.new) }
     {
         match step {
             Step::Put { text } => self.put(text.as_slice()),
@@ -54,14 +57,18 @@ impl Core {
         }
     }
 
-    /// Makes the steps one after another and answers each.
+    /// Makes the steps one after another and answers each. After them each conversation is permitted
+    /// exactly where whoever acted joined beforehand and its sends and receptions are a run of its
+    /// protocol's global type over first-in-first-out queues.
     ///
     /// # Errors
     /// `AllocError` where there is no memory for all replies: then no step was made.
+    #[tactic(auto, using(crate::proofs::Runs::permits_runs))]
     pub fn run(&mut self, steps: &[Step]) -> Result<Vec<Reply>, AllocError>
         ensures answered { IfOk result (λ replies. Answers (world_of self.old) (marks_of self.old) steps.now replies.items
             (world_of self.new) (marks_of self.new)) }
         ensures err { OnErr result (world_of self.new ≡ world_of self.old) }
+        ensures runs { PermitsRuns (world_of self.new) }
     {
         let mut replies = Vec::with_capacity(self.alloc, steps.len())?;
         for step in steps {

@@ -3,4 +3,3 @@
 
 pub mod fault;
 pub mod project;
-pub mod text;

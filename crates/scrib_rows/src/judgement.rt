@@ -1,6 +1,7 @@
 //! Judgements of short logs of one conversation: A sends hello() to B, and B sends bye() to A.
 
 use crate::making::{dotted, event, library};
+use scrib_global::judge::judge_whole;
 use scrib_record::judge::judge;
 use scrib_types::event::{Event, Verdict};
 use scrib_types::text::{push_action, push_bytes, push_number};
@@ -68,6 +69,15 @@ fn judged(alloc: Global, log: &[Event]) -> Result<Verdict, Fail> {
     Ok(judge(alloc, version, log)?)
 }
 
+// The same verdict, by the definitions.
+fn judged_whole(alloc: Global, log: &[Event]) -> Result<Verdict, Fail> {
+    let library = library(alloc)?;
+    let version = library
+        .present(&dotted(alloc, "demo", "Hello")?)
+        .ok_or("demo.Hello is there")?;
+    Ok(judge_whole(alloc, version.protocol(), log)?)
+}
+
 fn told(alloc: Global, verdict: &Verdict) -> Result<Vec<u8>, Fail> {
     let mut text = Vec::new(alloc);
     match verdict {
@@ -109,6 +119,22 @@ fn the_first_offence_is_named(rt: HostRuntime) -> Result<(), Fail> {
         let verdict = judged(rt.alloc(), log.as_slice())?;
         let text = told(rt.alloc(), &verdict)?;
         assert_eq!(rt; text.as_slice(), want.as_bytes());
+    }
+    Ok(())
+}
+
+#[test]
+fn by_the_definitions_verdicts_are_the_same(rt: HostRuntime) -> Result<(), Fail> {
+    for (lines, want) in &OFFENCES {
+        let log = log(rt.alloc(), lines)?;
+        let verdict = judged_whole(rt.alloc(), log.as_slice())?;
+        let text = told(rt.alloc(), &verdict)?;
+        assert_eq!(rt; text.as_slice(), want.as_bytes());
+    }
+    let log = log(rt.alloc(), &WHOLE)?;
+    for n in 0..log.len() {
+        let verdict = judged_whole(rt.alloc(), &log[..n + 1])?;
+        assert!(rt; matches!(verdict, Verdict::Permitted), "{n}");
     }
     Ok(())
 }

@@ -1,0 +1,18 @@
+mod Names
+mod Puts
+mod Projects
+mod Locals
+mod Follows
+mod Moves
+mod Carries
+mod Can
+mod Events
+mod Given
+pub mod Runs
+mod Reading
+mod Branches
+mod Steps
+mod Order
+mod Candidates
+pub mod Judged
+mod Explaining

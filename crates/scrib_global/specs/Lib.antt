@@ -1,0 +1,12 @@
+pub mod Transitions
+pub mod Runs
+pub mod InFlight
+pub mod Simulation
+pub mod Due
+pub mod Unfolded
+pub mod Steps
+pub mod Traced
+pub mod Offences
+pub mod Named
+pub mod Sorted
+pub mod Explained

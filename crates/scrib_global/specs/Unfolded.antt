@@ -1,0 +1,25 @@
+-- A recursion put in place of its variable, where variables and depths are counted in machine numbers, and
+-- where a type acts at once (this project's own).
+use Rattle.std.specs.Prelude.{◌≡◌, ℕ, ◌^◌, min, Bool, true, false}
+use Rattle.scrib_types.specs.Trees.{LocalTree, LocalEnd, LocalVar, LocalRec, Send, Recv, LocalBranches}
+use Rattle.scrib_types.specs.Traces.{put, put_all}
+
+-- after its leading recursions it sends or receives
+abbrev pub acts_first : LocalTree → Bool
+acts_first LocalEnd = false
+acts_first (LocalVar n) = false
+acts_first (LocalRec body) = acts_first body
+acts_first (Send q ls) = true
+acts_first (Recv p ls) = true
+
+-- d stands for n recursions; from 2 ^ 32 on all numbers are as one, as no variable of a `Local` is so large
+abbrev pub StandsFor : ℕ → ℕ → Type 0
+StandsFor d n = min d (2 ^ 32) ≡ min n (2 ^ 32)
+
+-- r is l with the recursion of this body in place of the variable of the d-th recursion outside
+abbrev pub Puts : (body l : LocalTree) → ℕ → LocalTree → Type 0
+Puts body l d r = (n : ℕ) → StandsFor d n → r ≡ put (LocalRec body) l n
+
+-- the same of each branch
+abbrev pub PutsAll : LocalTree → LocalBranches → ℕ → LocalBranches → Type 0
+PutsAll body ls d rs = (n : ℕ) → StandsFor d n → rs ≡ put_all (LocalRec body) ls n

@@ -1,0 +1,159 @@
+//! What a role is allowed after a log.
+
+ghost use Rattle.std.specs.Prelude.{◌≡◌, ◌↔◌, ◌⊎◌, [], ◌∷◌, ◌++◌, IsTrue, IfOk, OnOk, AllPairs, Contains};
+ghost use Rattle.scrib_types.specs.GlobalView.{global_of};
+ghost use Rattle.scrib_types.specs.LocalView.{local_of, local_branches};
+ghost use Rattle.scrib_types.specs.Meaning.{agreement_of};
+ghost use Rattle.scrib_types.specs.Permitted.{IsPermitted};
+ghost use Rattle.scrib_types.specs.Projection.{projection};
+ghost use Rattle.scrib_types.specs.Logs.{event_of};
+ghost use Rattle.scrib_types.specs.Judgement.{AreAllowed, ComesBefore};
+ghost use Rattle.scrib_types.specs.declared.event.Action.{Action};
+ghost use Rattle.scrib_types.specs.declared.event.Action.TheVariants as act;
+ghost use Rattle.scrib_global.specs.Named as spec;
+
+use crate::logs::event_of;
+use crate::permitted::is_permitted;
+use crate::sorted::insert;
+use scrib_project::fault::ProjectFault;
+use scrib_project::project::project;
+use scrib_types::event::{Action, Event};
+use scrib_types::global::GlobalType;
+use scrib_types::local::Local;
+use scrib_types::message::Message;
+use scrib_types::name::Role;
+use scrib_types::plain::Items;
+use scrib_types::protocol::Protocol;
+use std::alloc::{AllocError, Global};
+
+/// Exactly the actions with which the role may go on after the log, sorted by their printed text, none twice.
+///
+/// # Errors
+/// `AllocError` where memory was refused, here and below.
+pub fn allowed(
+    alloc: Global,
+    protocol: &Protocol,
+    before: &[Event],
+    role: &Role,
+) -> Result<Items<Action>, AllocError>
+    ensures { IfOk result (AreAllowed (agreement_of protocol.now) before.now role.now) }
+{
+    let candidates = candidates(alloc, protocol.global(), role)?;
+    let mut list = Vec::new(alloc);
+    for action in candidates {
+        add_allowed(alloc, protocol, before, role, action, &mut list)?;
+    }
+    Ok(Items::from_vec(list))
+}
+
+/// Puts the action at its place in the list, where the role may go on with it.
+fn add_allowed(
+    alloc: Global,
+    protocol: &Protocol,
+    before: &[Event],
+    role: &Role,
+    action: Action,
+    list: &mut Vec<Action>,
+) -> Result<(), AllocError>
+    requires { AllPairs ComesBefore list.old.items }
+    ensures sorted { OnOk result (AllPairs ComesBefore list.new.items) }
+    ensures kept { OnOk result ((a : Action) → Contains list.new.items a ↔ (Contains list.old.items a
+        ⊎ ((action ≡ a) × IsPermitted (agreement_of protocol.now) (before.now ++ event_of role.now action ∷ [])))) }
+{
+    if may_follow(alloc, protocol, before, role, &action)? {
+        insert(alloc, list, action)
+    } else {
+        Ok(())
+    }
+}
+
+/// Whether the log with this action of the role after it is permitted.
+fn may_follow(
+    alloc: Global,
+    protocol: &Protocol,
+    before: &[Event],
+    role: &Role,
+    action: &Action,
+) -> Result<bool, AllocError>
+    ensures { IfOk result (λ may.
+        IsTrue may ↔ IsPermitted (agreement_of protocol.now) (before.now ++ event_of role.now action.now ∷ [])) }
+{
+    let mut log = copies(alloc, before)?;
+    log.push(event_of(alloc, role, action)?)?;
+    is_permitted(alloc, protocol, &log)
+}
+
+/// The same log once more.
+fn copies(alloc: Global, log: &[Event]) -> Result<Vec<Event>, AllocError>
+    ensures { IfOk result (λ copies. copies.items ≡ log.now) }
+{
+    let mut copies = Vec::with_capacity(alloc, log.len())?;
+    for event in log {
+        copies.push(event.copy(alloc)?)?;
+    }
+    Ok(copies)
+}
+
+/// The join, and each send and reception that stands in the role's projection: the role does no others.
+fn candidates(alloc: Global, global: &GlobalType, role: &Role) -> Result<Vec<Action>, AllocError>
+    ensures { IfOk result (λ list. list.items ≡ act.Join ∷ spec.named_by (projection role.now (global_of global.now))) }
+{
+    let mut list = Vec::new(alloc);
+    list.push(Action::Join)?;
+    match project(alloc, global, role) {
+        Ok(local) => push_named(alloc, &local, &mut list)?,
+        Err(ProjectFault::Unmergeable) => {}
+        Err(ProjectFault::OutOfMemory) => return Err(AllocError),
+    }
+    Ok(list)
+}
+
+/// Adds each send and reception that stands in the type, in order.
+#[cycle(push_named)]
+#[tactic(auto, using(scrib_types::specs::LocalView::local_views))]
+fn push_named(alloc: Global, local: &Local, list: &mut Vec<Action>) -> Result<(), AllocError>
+    ensures { OnOk result (list.new.items ≡ list.old.items ++ spec.named (local_of local.now)) }
+{
+    match local {
+        Local::End | Local::Var(_) => Ok(()),
+        Local::Rec(body) => push_named(alloc, body.get(), list),
+        Local::Send { to, branches } => push_sends(alloc, branches.as_slice(), to, list),
+        Local::Recv { from, branches } => push_receptions(alloc, branches.as_slice(), from, list),
+    }
+}
+
+#[cycle(push_named)]
+fn push_sends(
+    alloc: Global,
+    branches: &[(Message, Local)],
+    to: &Role,
+    list: &mut Vec<Action>,
+) -> Result<(), AllocError>
+    ensures { OnOk result (list.new.items ≡ list.old.items ++ spec.named_sends to.now (local_branches branches.now)) }
+{
+    for (message, next) in branches {
+        let to = to.copy(alloc)?;
+        let message = message.copy(alloc)?;
+        list.push(Action::Sends { to, message })?;
+        push_named(alloc, next, list)?;
+    }
+    Ok(())
+}
+
+#[cycle(push_named)]
+fn push_receptions(
+    alloc: Global,
+    branches: &[(Message, Local)],
+    from: &Role,
+    list: &mut Vec<Action>,
+) -> Result<(), AllocError>
+    ensures { OnOk result (list.new.items ≡ list.old.items ++ spec.named_receptions from.now (local_branches branches.now)) }
+{
+    for (message, next) in branches {
+        let from = from.copy(alloc)?;
+        let message = message.copy(alloc)?;
+        list.push(Action::Receives { from, message })?;
+        push_named(alloc, next, list)?;
+    }
+    Ok(())
+}

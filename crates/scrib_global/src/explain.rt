@@ -1,0 +1,93 @@
+//! What is in flight after a permitted log.
+
+ghost use Rattle.std.specs.Prelude.{◌≡◌, ◌++◌, OnOk, IfOk};
+ghost use Rattle.scrib_types.specs.Meaning.{agreement_of};
+ghost use Rattle.scrib_global.specs.Explained as spec;
+
+use crate::fault::ExplainFault;
+use crate::judge::first_offence;
+use crate::queues::{received, sent};
+use scrib_types::event::Event;
+use scrib_types::message::Message;
+use scrib_types::name::Role;
+use scrib_types::protocol::Protocol;
+use std::alloc::{AllocError, Global};
+
+/// A message that was sent and not yet received.
+#[derive(Drop)]
+pub struct Flight {
+    pub from: Role,
+    pub to: Role,
+    pub message: Message,
+}
+
+/// The messages in flight after the log, by sender and then receiver in the order in which the roles are
+/// declared, and of each two roles the oldest first. On every path through the state that the log reaches as a
+/// run, just these are in flight.
+///
+/// # Errors
+/// `NotPermitted` exactly where the protocol does not permit the log, with the place of the first offence;
+/// `OutOfMemory` where memory was refused.
+pub fn explain(
+    alloc: Global,
+    protocol: &Protocol,
+    log: &[Event],
+) -> Result<Vec<Flight>, ExplainFault>
+    ensures { spec.Explains (agreement_of protocol.now) log.now result }
+{
+    match first_offence(alloc, protocol, log)? {
+        Some(at) => Err(ExplainFault::NotPermitted { place: at + 1 }),
+        None => Ok(all_in_flight(alloc, protocol.roles(), log)?),
+    }
+}
+
+/// What is in flight from each of the roles to each of them.
+///
+/// # Errors
+/// `AllocError` where memory was refused, here and below.
+fn all_in_flight(alloc: Global, roles: &[Role], log: &[Event]) -> Result<Vec<Flight>, AllocError>
+    ensures { IfOk result (λ flights. flights.items ≡ spec.all_in_flight roles.now log.now) }
+{
+    let mut flights = Vec::new(alloc);
+    for from in roles {
+        push_from(alloc, from, roles, log, &mut flights)?;
+    }
+    Ok(flights)
+}
+
+/// Adds what is in flight from the role to each of the roles.
+fn push_from(
+    alloc: Global,
+    from: &Role,
+    roles: &[Role],
+    log: &[Event],
+    flights: &mut Vec<Flight>,
+) -> Result<(), AllocError>
+    ensures { OnOk result (flights.new.items ≡ flights.old.items ++ spec.in_flight_from from.now roles.now log.now) }
+{
+    for to in roles {
+        push_between(alloc, from, to, log, flights)?;
+    }
+    Ok(())
+}
+
+/// Adds what is in flight from the one role to the other: what was sent after what was received.
+fn push_between(
+    alloc: Global,
+    from: &Role,
+    to: &Role,
+    log: &[Event],
+    flights: &mut Vec<Flight>,
+) -> Result<(), AllocError>
+    ensures { OnOk result (flights.new.items ≡ flights.old.items ++ spec.in_flight from.now to.now log.now) }
+{
+    let landed = received(alloc, from, to, log)?.len();
+    let messages = sent(alloc, from, to, log)?;
+    for i in landed..messages.len() {
+        let from = from.copy(alloc)?;
+        let to = to.copy(alloc)?;
+        let message = messages[i].copy(alloc)?;
+        flights.push(Flight { from, to, message })?;
+    }
+    Ok(())
+}

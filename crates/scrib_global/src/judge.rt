@@ -1,0 +1,57 @@
+//! The judgement of a whole log, by the definitions.
+
+ghost use Rattle.std.specs.Prelude.{◌≡◌, ◌↔◌, IfOk, Some};
+ghost use Rattle.scrib_types.specs.Meaning.{agreement_of};
+ghost use Rattle.scrib_types.specs.Judgement.{Judges};
+ghost use Rattle.scrib_types.specs.declared.event.Verdict.TheVariants.{Permitted};
+ghost use Rattle.scrib_global.specs.Offences.{FirstOffence};
+ghost use Rattle.scrib_global.specs.Simulation.{IsJoinedRun};
+
+use crate::allowed::allowed;
+use crate::permitted::is_permitted;
+use scrib_types::event::{Event, Verdict};
+use scrib_types::protocol::Protocol;
+use std::alloc::{AllocError, Global};
+
+/// The verdict on the whole log under the protocol: `Permitted` exactly where it is a run with lawful joins; and
+/// otherwise the least offending place, from 1, its role, and exactly the actions that the role was allowed
+/// there, by their printed text, none twice. It judges each beginning of the log afresh, and is slow.
+///
+/// # Errors
+/// `AllocError` where memory was refused.
+pub fn judge_whole(alloc: Global, protocol: &Protocol, log: &[Event]) -> Result<Verdict, AllocError>
+    ensures verdict { IfOk result (Judges (Some (agreement_of protocol.now)) log.now) }
+    ensures runs { IfOk result (λ verdict. (verdict ≡ Permitted) ↔ IsJoinedRun (agreement_of protocol.now) log.now) }
+{
+    match first_offence(alloc, protocol, log)? {
+        None => Ok(Verdict::Permitted),
+        Some(at) => {
+            let role = log[at].subject().copy(alloc)?;
+            let allowed = allowed(alloc, protocol, &log[..at], &role)?;
+            Ok(Verdict::Offence {
+                place: at + 1,
+                role,
+                allowed,
+            })
+        }
+    }
+}
+
+/// The index of the first event with which the log isn't permitted, or `None` where the log is.
+///
+/// # Errors
+/// `AllocError` where memory was refused.
+pub fn first_offence(
+    alloc: Global,
+    protocol: &Protocol,
+    log: &[Event],
+) -> Result<Option<usize>, AllocError>
+    ensures { IfOk result (FirstOffence (agreement_of protocol.now) log.now) }
+{
+    for i in 0..log.len() {
+        if !is_permitted(alloc, protocol, &log[..i + 1])? {
+            return Ok(Some(i));
+        }
+    }
+    Ok(None)
+}

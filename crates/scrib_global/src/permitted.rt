@@ -1,0 +1,70 @@
+//! Whether a protocol permits a log, by the definition: the whole log is filtered by role, and lists of messages
+//! are compared.
+
+ghost use Rattle.std.specs.Prelude.{◌↔◌, IsTrue, IfOk};
+ghost use Rattle.scrib_types.specs.GlobalView.{global_of};
+ghost use Rattle.scrib_types.specs.Meaning.{agreement_of};
+ghost use Rattle.scrib_types.specs.Permitted.{IsPermitted};
+ghost use Rattle.scrib_global.specs.Traced.{IsTraced, AllTraced};
+
+use crate::logs::{all_joined, own_actions};
+use crate::queues::is_queued;
+use crate::trace::is_trace;
+use scrib_project::fault::ProjectFault;
+use scrib_project::project::project;
+use scrib_types::event::Event;
+use scrib_types::global::GlobalType;
+use scrib_types::name::Role;
+use scrib_types::protocol::Protocol;
+use std::alloc::{AllocError, Global};
+
+/// Whether the protocol permits the log.
+///
+/// # Errors
+/// `AllocError` where memory was refused, here and below.
+pub fn is_permitted(alloc: Global, protocol: &Protocol, log: &[Event]) -> Result<bool, AllocError>
+    ensures { IfOk result (λ is. IsTrue is ↔ IsPermitted (agreement_of protocol.now) log.now) }
+{
+    let roles = protocol.roles();
+    if !all_joined(roles, log) {
+        return Ok(false);
+    }
+    if !all_traced(alloc, protocol.global(), log, roles)? {
+        return Ok(false);
+    }
+    is_queued(alloc, log)
+}
+
+/// Whether what each of the roles did is a trace of its projection.
+fn all_traced(
+    alloc: Global,
+    global: &GlobalType,
+    log: &[Event],
+    roles: &[Role],
+) -> Result<bool, AllocError>
+    ensures { IfOk result (λ are. IsTrue are ↔ AllTraced (global_of global.now) log.now roles.now) }
+{
+    for role in roles {
+        if !is_traced(alloc, global, log, role)? {
+            return Ok(false);
+        }
+    }
+    Ok(true)
+}
+
+/// Whether the role has a projection, and what it did is a trace of that.
+fn is_traced(
+    alloc: Global,
+    global: &GlobalType,
+    log: &[Event],
+    role: &Role,
+) -> Result<bool, AllocError>
+    ensures { IfOk result (λ is. IsTrue is ↔ IsTraced (global_of global.now) log.now role.now) }
+{
+    let own = own_actions(alloc, role, log)?;
+    match project(alloc, global, role) {
+        Ok(local) => is_trace(alloc, local, &own),
+        Err(ProjectFault::Unmergeable) => Ok(false),
+        Err(ProjectFault::OutOfMemory) => Err(AllocError),
+    }
+}

@@ -1,0 +1,138 @@
+//! The messages between two roles, as lists read from the whole log.
+
+ghost use Rattle.std.specs.Prelude.{◌≡◌, ◌↔◌, IsTrue, IfOk};
+ghost use Rattle.scrib_types.specs.Queues as queue;
+ghost use Rattle.scrib_global.specs.Due.{IsDue};
+
+use scrib_types::event::Event;
+use scrib_types::message::Message;
+use scrib_types::name::Role;
+use std::alloc::{AllocError, Global};
+
+/// The message, where the event is that the one role sent it to the other.
+fn sent_message(
+    alloc: Global,
+    from: &Role,
+    to: &Role,
+    event: &Event,
+) -> Result<Option<Message>, AllocError>
+    ensures { IfOk result (λ message. message ≡ queue.sent_message from.now to.now event.now) }
+{
+    match event {
+        Event::Sent {
+            from: sender,
+            to: receiver,
+            message,
+        } if from.equal(sender) && to.equal(receiver) => Ok(Some(message.copy(alloc)?)),
+        _ => Ok(None),
+    }
+}
+
+/// The message, where the event is that the other role received it from the one.
+fn received_message(
+    alloc: Global,
+    from: &Role,
+    to: &Role,
+    event: &Event,
+) -> Result<Option<Message>, AllocError>
+    ensures { IfOk result (λ message. message ≡ queue.received_message from.now to.now event.now) }
+{
+    match event {
+        Event::Received {
+            from: sender,
+            to: receiver,
+            message,
+        } if from.equal(sender) && to.equal(receiver) => Ok(Some(message.copy(alloc)?)),
+        _ => Ok(None),
+    }
+}
+
+/// What the one role sent to the other, in order.
+///
+/// # Errors
+/// `AllocError` where memory was refused, here and below.
+pub fn sent(
+    alloc: Global,
+    from: &Role,
+    to: &Role,
+    log: &[Event],
+) -> Result<Vec<Message>, AllocError>
+    ensures { IfOk result (λ messages. messages.items ≡ queue.sent from.now to.now log.now) }
+{
+    let mut messages = Vec::new(alloc);
+    for event in log {
+        match sent_message(alloc, from, to, event)? {
+            Some(message) => messages.push(message)?,
+            None => {}
+        }
+    }
+    Ok(messages)
+}
+
+/// What the other role received from the one, in order.
+pub fn received(
+    alloc: Global,
+    from: &Role,
+    to: &Role,
+    log: &[Event],
+) -> Result<Vec<Message>, AllocError>
+    ensures { IfOk result (λ messages. messages.items ≡ queue.received from.now to.now log.now) }
+{
+    let mut messages = Vec::new(alloc);
+    for event in log {
+        match received_message(alloc, from, to, event)? {
+            Some(message) => messages.push(message)?,
+            None => {}
+        }
+    }
+    Ok(messages)
+}
+
+/// Whether the two lists are the same.
+fn all_equal(a: &[Message], b: &[Message]) -> bool
+    ensures { IsTrue result ↔ (a.now ≡ b.now) }
+{
+    if a.len() != b.len() {
+        return false;
+    }
+    for i in 0..a.len() {
+        if !a[i].equal(&b[i]) {
+            return false;
+        }
+    }
+    true
+}
+
+/// Whether the second list begins with the first.
+fn is_prefix(a: &[Message], b: &[Message]) -> bool
+    ensures { IsTrue result ↔ queue.IsPrefix a.now b.now }
+{
+    a.len() <= b.len() && all_equal(a, &b[..a.len()])
+}
+
+/// Whether, if the event is a reception, what the receiver has from the sender in the log is a prefix of what
+/// was sent.
+fn is_due(alloc: Global, log: &[Event], event: &Event) -> Result<bool, AllocError>
+    ensures { IfOk result (λ due. IsTrue due ↔ IsDue log.now event.now) }
+{
+    match event {
+        Event::Received { from, to, .. } => {
+            let sent = sent(alloc, from, to, log)?;
+            let received = received(alloc, from, to, log)?;
+            Ok(is_prefix(&received, &sent))
+        }
+        _ => Ok(true),
+    }
+}
+
+/// Whether at each moment what each role received from another is a prefix of what that one sent to it.
+pub fn is_queued(alloc: Global, log: &[Event]) -> Result<bool, AllocError>
+    ensures { IfOk result (λ queued. IsTrue queued ↔ queue.IsQueued log.now) }
+{
+    for (i, event) in log.iter().enumerate() {
+        if !is_due(alloc, &log[..i + 1], event)? {
+            return Ok(false);
+        }
+    }
+    Ok(true)
+}

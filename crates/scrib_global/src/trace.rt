@@ -1,0 +1,101 @@
+//! Traces of local types.
+
+ghost use Rattle.std.specs.Prelude.{◌↔◌, IsTrue, IfOk};
+ghost use Rattle.scrib_types.specs.LocalView.{local_of, local_branches};
+ghost use Rattle.scrib_types.specs.Traces.{IsTrace};
+ghost use Rattle.scrib_types.specs.Trees.{Send, Recv};
+ghost use Rattle.scrib_global.specs.Steps as spec;
+
+use crate::unfold::{acts_first, unfold};
+use scrib_types::event::Action;
+use scrib_types::local::Local;
+use scrib_types::message::Message;
+use scrib_types::name::Role;
+use std::alloc::{AllocError, Global};
+
+/// Whether the local type may make these actions, one after another.
+///
+/// # Errors
+/// `AllocError` where memory was refused, here and below.
+pub fn is_trace(alloc: Global, local: Local, actions: &[Action]) -> Result<bool, AllocError>
+    ensures { IfOk result (λ is. IsTrue is ↔ IsTrace (local_of local) actions.now) }
+{
+    let mut left = local;
+    for action in actions {
+        match after(alloc, &left, action)? {
+            Some(next) => left = next,
+            None => return Ok(false),
+        }
+    }
+    Ok(true)
+}
+
+/// What the action leaves of the local type, or `None` where the type cannot make it.
+#[tactic(auto, using(scrib_types::specs::LocalView::local_views))]
+fn after(alloc: Global, local: &Local, action: &Action) -> Result<Option<Local>, AllocError>
+    ensures { IfOk result (spec.Leaves (local_of local.now) action.now) }
+{
+    match local {
+        Local::End | Local::Var(_) => Ok(None),
+        Local::Rec(body) => {
+            if !acts_first(body.get()) {
+                return Ok(None);
+            }
+            let unfolded = unfold(alloc, body.get())?;
+            after(alloc, &unfolded, action)
+        }
+        Local::Send { to, branches } => after_send(alloc, to, branches.as_slice(), action),
+        Local::Recv { from, branches } => after_reception(alloc, from, branches.as_slice(), action),
+    }
+}
+
+/// What the action leaves of a choice of sends to the role.
+fn after_send(
+    alloc: Global,
+    to: &Role,
+    branches: &[(Message, Local)],
+    action: &Action,
+) -> Result<Option<Local>, AllocError>
+    ensures { IfOk result (spec.Leaves (Send to.now (local_branches branches.now)) action.now) }
+{
+    match action {
+        Action::Sends { to: role, message } if role.equal(to) => branch_of(
+            alloc, branches, message,
+        ),
+        _ => Ok(None),
+    }
+}
+
+/// What the action leaves of a choice of receptions from the role.
+fn after_reception(
+    alloc: Global,
+    from: &Role,
+    branches: &[(Message, Local)],
+    action: &Action,
+) -> Result<Option<Local>, AllocError>
+    ensures { IfOk result (spec.Leaves (Recv from.now (local_branches branches.now)) action.now) }
+{
+    match action {
+        Action::Receives {
+            from: role,
+            message,
+        } if role.equal(from) => branch_of(alloc, branches, message),
+        _ => Ok(None),
+    }
+}
+
+/// What the first branch of the message continues as.
+fn branch_of(
+    alloc: Global,
+    branches: &[(Message, Local)],
+    message: &Message,
+) -> Result<Option<Local>, AllocError>
+    ensures { IfOk result (spec.Continues (local_branches branches.now) message.now) }
+{
+    for (other, next) in branches {
+        if message.equal(other) {
+            return Ok(Some(Local::copy(alloc, next)?));
+        }
+    }
+    Ok(None)
+}
