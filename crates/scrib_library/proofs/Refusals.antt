@@ -2,7 +2,10 @@
 use Rattle.std.proofs.Common.{◌≡◌, ℕ, ◌<◌, ◌≤◌, List, ◌∷◌, length, inl, sym, subst, arith}
 use Rattle.std.specs.List.{Contains}
 use Rattle.std.proofs.lemmas.List.Elements.{Contains-append_right}
+use Rattle.scrib_lexer.specs.declared.fault.LexFault.{LexFault}
+use Rattle.scrib_lexer.specs.declared.fault.LexFault.TheVariants as lex
 use Rattle.scrib_lexer.specs.Lexeme.{Lexeme}
+use Rattle.scrib_lexer.specs.Tokens as tokens
 use Rattle.scrib_lexer.specs.Tokens.{IsTokens}
 use Rattle.scrib_parser.specs.declared.fault.ParseFault.{ParseFault}
 use Rattle.scrib_parser.specs.declared.fault.ParseFault.TheVariants as parse
@@ -15,7 +18,7 @@ use Rattle.scrib_elaborate.specs.Faults.{Fails}
 use Rattle.scrib_elaborate.specs.Rules.{NamesFailAt}
 use Rattle.scrib_library.specs.declared.fault.EditFault.{EditFault}
 use Rattle.scrib_library.specs.declared.fault.EditFault.TheVariants as edit
-use Rattle.scrib_library.specs.Made.{edit_fault_of_parse, edit_fault_of_elaborate}
+use Rattle.scrib_library.specs.Made.{edit_fault_of_lex, edit_fault_of_parse, edit_fault_of_elaborate}
 use Rattle.scrib_library.specs.Modules.{with_module, protocol_count}
 use Rattle.scrib_library.specs.Edits.{Reads, PutFails}
 use Rattle.scrib_library.specs.Stored.{IsRefusal, IsRefusalOf}
@@ -23,6 +26,15 @@ use Rattle.scrib_library.specs.Plans.{IsRoom, IsNoRoom}
 use Rattle.scrib_parser.specs.declared.tree.ProtocolDeclaration.{ProtocolDeclaration}
 use Rattle.scrib_library.proofs.Lists.{Contains-head}
 use Rattle.scrib_library.proofs.Placing.{with_module-itself}
+
+-- why the text has no tokens is why it is refused
+pub lex_refused : (text : List ℕ) (f : LexFault) → tokens.FailsAt text f → (before : List ModuleTree) → PutFails before text (edit_fault_of_lex f)
+lex_refused text lex.OutOfMemory h before = tt
+lex_refused text lex.TextTooLong h before = h
+lex_refused text (lex.BadByte at) h before = h
+lex_refused text (lex.OpenComment at) h before = h
+lex_refused text (lex.OpenString at) h before = h
+lex_refused text (lex.LongName at) h before = h
 
 pub parse_refused : (text : List ℕ) (ts : List Lexeme) (f : ParseFault) → IsTokens text ts → IsFaultOf ts f → (before : List ModuleTree) → PutFails before text (edit_fault_of_parse f)
 parse_refused text ts parse.OutOfMemory t h before = tt

@@ -12,6 +12,8 @@ abbrev pub edit_fault_of_lex : LexFault → EditFault
 edit_fault_of_lex lex.OutOfMemory = edit.OutOfMemory
 edit_fault_of_lex lex.TextTooLong = edit.Lex lex.TextTooLong
 edit_fault_of_lex (lex.BadByte at) = edit.Lex (lex.BadByte at)
+edit_fault_of_lex (lex.OpenComment at) = edit.Lex (lex.OpenComment at)
+edit_fault_of_lex (lex.OpenString at) = edit.Lex (lex.OpenString at)
 edit_fault_of_lex (lex.LongName at) = edit.Lex (lex.LongName at)
 
 abbrev pub edit_fault_of_parse : ParseFault → EditFault

@@ -3,3 +3,4 @@
 
 pub mod fault;
 pub mod project;
+pub mod text;

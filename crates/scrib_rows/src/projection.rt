@@ -1,26 +1,24 @@
-//! Projections of small global types.
+//! Projections of small global types, by their text.
 
 use scrib_project::fault::ProjectFault;
 use scrib_project::project::project;
+use scrib_project::text::text;
 use scrib_types::global::GlobalType;
-use scrib_types::local::Local;
 use scrib_types::message::{Message, Payload};
 use scrib_types::name::{Name, Role};
 use scrib_types::plain::{Boxed, Items};
 use std::alloc::Global;
 use std::test::Fail;
 
-// A type as a constant: its branches are operators, and what follows each.
+// A global type as a constant: its branches are operators, and what follows each.
 enum Tree {
     End,
     Var(u32),
     Rec(&'static Tree),
     Comm(&'static str, &'static str, &'static [(&'static str, Tree)]),
-    Send(&'static str, &'static [(&'static str, Tree)]),
-    Recv(&'static str, &'static [(&'static str, Tree)]),
 }
 
-use Tree::{Comm, End, Rec, Recv, Send, Var};
+use Tree::{Comm, End, Rec, Var};
 
 fn role(alloc: Global, text: &str) -> Result<Role, Fail> {
     Ok(Name::from_bytes(alloc, text.as_bytes())?.ok_or("no name")?)
@@ -36,6 +34,7 @@ fn message(alloc: Global, operator: &str) -> Result<Message, Fail> {
 #[cycle(global)]
 fn global(alloc: Global, tree: &Tree) -> Result<GlobalType, Fail> {
     match tree {
+        End => Ok(GlobalType::End),
         Var(i) => Ok(GlobalType::Var(*i)),
         Rec(body) => {
             let body = global(alloc, body)?;
@@ -47,7 +46,6 @@ fn global(alloc: Global, tree: &Tree) -> Result<GlobalType, Fail> {
             let to = role(alloc, to)?;
             Ok(GlobalType::Comm { from, to, branches })
         }
-        End | Send(_, _) | Recv(_, _) => Ok(GlobalType::End),
     }
 }
 
@@ -62,43 +60,6 @@ fn global_branches(
         made.push((message(alloc, operator)?, then))?;
     }
     Ok(made)
-}
-
-// Whether the local type is the tree.
-#[cycle(is_local)]
-fn is_local(local: &Local, tree: &Tree) -> bool {
-    match (local, tree) {
-        (Local::End, End) => true,
-        (Local::Var(i), Var(j)) => i == j,
-        (Local::Rec(body), Rec(tree)) => is_local(body.get(), tree),
-        (Local::Send { to, branches }, Send(text, trees)) => {
-            to.as_bytes() == text.as_bytes() && are_branches(branches.as_slice(), trees)
-        }
-        (Local::Recv { from, branches }, Recv(text, trees)) => {
-            from.as_bytes() == text.as_bytes() && are_branches(branches.as_slice(), trees)
-        }
-        _ => false,
-    }
-}
-
-#[cycle(is_local)]
-fn are_branches(branches: &[(Message, Local)], trees: &[(&'static str, Tree)]) -> bool {
-    if branches.len() != trees.len() {
-        return false;
-    }
-    for ((message, then), (operator, tree)) in branches.iter().zip(trees) {
-        if !is_operator(message, operator) || !is_local(then, tree) {
-            return false;
-        }
-    }
-    true
-}
-
-fn is_operator(message: &Message, text: &str) -> bool {
-    match &message.op {
-        Some(operator) => operator.as_bytes() == text.as_bytes(),
-        None => false,
-    }
 }
 
 const HELLO: Tree = Comm("A", "B", &[("hello", Comm("B", "A", &[("bye", End)]))]);
@@ -137,32 +98,18 @@ const NESTED: Tree = Rec(&Comm(
     ],
 ));
 
-const ROWS: [(&Tree, &str, &Tree); 8] = [
-    (
-        &HELLO,
-        "A",
-        &Send("B", &[("hello", Recv("B", &[("bye", End)]))]),
-    ),
-    (
-        &HELLO,
-        "B",
-        &Recv("A", &[("hello", Send("A", &[("bye", End)]))]),
-    ),
-    (&HELLO, "C", &End),
-    (&LOOP, "C", &Rec(&Send("D", &[("c", Var(0))]))),
-    (&LOOP_OF_TWO, "C", &End),
-    (&AGREEING, "C", &Recv("B", &[("x", End)])),
-    (&DIFFERING, "B", &Recv("A", &[("ok", End), ("quit", End)])),
+const ROWS: [(&Tree, &str, &str); 8] = [
+    (&HELLO, "A", "B!hello().B?bye().end"),
+    (&HELLO, "B", "A?hello().A!bye().end"),
+    (&HELLO, "C", "end"),
+    (&LOOP, "C", "rec X0.D!c().X0"),
+    (&LOOP_OF_TWO, "C", "end"),
+    (&AGREEING, "C", "B?x().end"),
+    (&DIFFERING, "B", "A?{ok().end,quit().end}"),
     (
         &NESTED,
         "A",
-        &Rec(&Send(
-            "B",
-            &[
-                ("a", Var(0)),
-                ("b", Rec(&Send("B", &[("c", Var(0)), ("d", Var(1))]))),
-            ],
-        )),
+        "rec X0.B!{a().X0,b().rec X1.B!{c().X1,d().X0}}",
     ),
 ];
 
@@ -171,7 +118,8 @@ fn what_a_role_does(rt: HostRuntime) -> Result<(), Fail> {
     let alloc = rt.alloc();
     for (tree, on, want) in &ROWS {
         let local = project(alloc, &global(alloc, tree)?, &role(alloc, on)?)?;
-        assert!(rt; is_local(&local, want), "on {on}");
+        let written = text(alloc, &local)?;
+        assert_eq!(rt; written.as_slice(), want.as_bytes(), "on {on}");
     }
     Ok(())
 }
