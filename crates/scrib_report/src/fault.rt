@@ -22,28 +22,24 @@ fn push_spot(out: &mut Vec<u8>, spot: &Spot) -> Result<(), AllocError>
     push_number(out, u64::from(spot.column))
 }
 
+// Adds the word and the place.
+fn push_placed(out: &mut Vec<u8>, word: &[u8], spot: &Spot) -> Result<(), AllocError>
+    ensures { OnOk result (out.new.items ≡ out.old.items ++ (word.now ++ lines.spot_text spot.now)) }
+{
+    push_bytes(out, word)?;
+    push_spot(out, spot)
+}
+
 #[tactic(auto, unfolding(crate::specs::Lines::lex_fault_text))]
 fn push_lex_fault(out: &mut Vec<u8>, fault: &LexFault) -> Result<(), AllocError>
     ensures { OnOk result (out.new.items ≡ out.old.items ++ lines.lex_fault_text fault.now) }
 {
     match fault {
         LexFault::TextTooLong => push_bytes(out, b"TextTooLong"),
-        LexFault::BadByte { at } => {
-            push_bytes(out, b"BadByte")?;
-            push_spot(out, at)
-        }
-        LexFault::OpenComment { at } => {
-            push_bytes(out, b"OpenComment")?;
-            push_spot(out, at)
-        }
-        LexFault::OpenString { at } => {
-            push_bytes(out, b"OpenString")?;
-            push_spot(out, at)
-        }
-        LexFault::LongName { at } => {
-            push_bytes(out, b"LongName")?;
-            push_spot(out, at)
-        }
+        LexFault::BadByte { at } => push_placed(out, b"BadByte", at),
+        LexFault::OpenComment { at } => push_placed(out, b"OpenComment", at),
+        LexFault::OpenString { at } => push_placed(out, b"OpenString", at),
+        LexFault::LongName { at } => push_placed(out, b"LongName", at),
         LexFault::OutOfMemory => push_bytes(out, b"OutOfMemory"),
     }
 }
@@ -53,10 +49,7 @@ fn push_parse_fault(out: &mut Vec<u8>, fault: &ParseFault) -> Result<(), AllocEr
     ensures { OnOk result (out.new.items ≡ out.old.items ++ lines.parse_fault_text fault.now) }
 {
     match fault {
-        ParseFault::Unexpected { at } => {
-            push_bytes(out, b"Unexpected")?;
-            push_spot(out, at)
-        }
+        ParseFault::Unexpected { at } => push_placed(out, b"Unexpected", at),
         ParseFault::EndOfText => push_bytes(out, b"EndOfText"),
         ParseFault::OutOfMemory => push_bytes(out, b"OutOfMemory"),
     }
