@@ -16,3 +16,4 @@ mod Order
 mod Candidates
 pub mod Judged
 mod Explaining
+mod Samples

@@ -5,7 +5,7 @@ ghost use Rattle.scrib_types.specs.Meaning.{agreement_of};
 ghost use Rattle.scrib_global.specs.Explained as spec;
 
 use crate::fault::ExplainFault;
-use crate::judge::first_offence;
+use crate::permitted::first_offence;
 use crate::queues::{received, sent};
 use scrib_types::event::Event;
 use scrib_types::message::Message;

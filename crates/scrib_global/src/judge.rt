@@ -4,11 +4,10 @@ ghost use Rattle.std.specs.Prelude.{◌≡◌, ◌↔◌, IfOk, Some};
 ghost use Rattle.scrib_types.specs.Meaning.{agreement_of};
 ghost use Rattle.scrib_types.specs.Judgement.{Judges};
 ghost use Rattle.scrib_types.specs.declared.event.Verdict.TheVariants.{Permitted};
-ghost use Rattle.scrib_global.specs.Offences.{FirstOffence};
 ghost use Rattle.scrib_global.specs.Simulation.{IsJoinedRun};
 
 use crate::allowed::allowed;
-use crate::permitted::is_permitted;
+use crate::permitted::first_offence;
 use scrib_types::event::{Event, Verdict};
 use scrib_types::protocol::Protocol;
 use std::alloc::{AllocError, Global};
@@ -35,23 +34,4 @@ pub fn judge_whole(alloc: Global, protocol: &Protocol, log: &[Event]) -> Result<
             })
         }
     }
-}
-
-/// The index of the first event with which the log isn't permitted, or `None` where the log is.
-///
-/// # Errors
-/// `AllocError` where memory was refused.
-pub fn first_offence(
-    alloc: Global,
-    protocol: &Protocol,
-    log: &[Event],
-) -> Result<Option<usize>, AllocError>
-    ensures { IfOk result (FirstOffence (agreement_of protocol.now) log.now) }
-{
-    for i in 0..log.len() {
-        if !is_permitted(alloc, protocol, &log[..i + 1])? {
-            return Ok(Some(i));
-        }
-    }
-    Ok(None)
 }

@@ -11,5 +11,7 @@ mod logs;
 mod permitted;
 mod queues;
 mod sorted;
+#[cfg(test)]
+mod tests;
 mod trace;
 mod unfold;

@@ -5,6 +5,7 @@ ghost use Rattle.std.specs.Prelude.{◌↔◌, IsTrue, IfOk};
 ghost use Rattle.scrib_types.specs.GlobalView.{global_of};
 ghost use Rattle.scrib_types.specs.Meaning.{agreement_of};
 ghost use Rattle.scrib_types.specs.Permitted.{IsPermitted};
+ghost use Rattle.scrib_global.specs.Offences.{FirstOffence};
 ghost use Rattle.scrib_global.specs.Traced.{IsTraced, AllTraced};
 
 use crate::logs::{all_joined, own_actions};
@@ -33,6 +34,22 @@ pub fn is_permitted(alloc: Global, protocol: &Protocol, log: &[Event]) -> Result
         return Ok(false);
     }
     is_queued(alloc, log)
+}
+
+/// The index of the first event with which the log isn't permitted, or `None` where the log is.
+pub fn first_offence(
+    alloc: Global,
+    protocol: &Protocol,
+    log: &[Event],
+) -> Result<Option<usize>, AllocError>
+    ensures { IfOk result (FirstOffence (agreement_of protocol.now) log.now) }
+{
+    for i in 0..log.len() {
+        if !is_permitted(alloc, protocol, &log[..i + 1])? {
+            return Ok(Some(i));
+        }
+    }
+    Ok(None)
 }
 
 /// Whether what each of the roles did is a trace of its projection.

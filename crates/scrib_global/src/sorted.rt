@@ -56,7 +56,7 @@ fn is_after(alloc: Global, action: &Action, text: &[u8]) -> Result<bool, AllocEr
 }
 
 /// The action's printed text.
-fn printed(alloc: Global, action: &Action) -> Result<Vec<u8>, AllocError>
+pub fn printed(alloc: Global, action: &Action) -> Result<Vec<u8>, AllocError>
     ensures { IfOk result (λ text. text.items ≡ action_text action.now) }
 {
     let mut text = Vec::new(alloc);
