@@ -1,6 +1,6 @@
 -- Lines, their ends, and what is kept of them.
-use Rattle.std.proofs.Common.{◌≡◌, ◌≢◌, ◌<◌, ◌≤◌, ◌+◌, ◌-◌, ◌⊎◌, ◌&&◌, inl, inr, min, Result, Ok, Err, ℕ, zero, suc, Bool, true, false, cond, eqb, List, [], ◌∷◌, ◌++◌, ◌∙◌, Option, Some, None, take, drop, length, get_or, refl, sym, ap, subst, arith, rules}
-use Rattle.std.specs.Prelude.{All, OnOk, is_ok, if◌then◌else◌}
+use Rattle.std.proofs.Common.{◌≡◌, ◌≢◌, ◌≤◌, ◌+◌, ◌-◌, ◌⊎◌, ◌&&◌, inl, inr, min, Result, Ok, Err, ℕ, zero, suc, Bool, true, false, cond, eqb, List, [], ◌∷◌, ◌++◌, ◌∙◌, take, length, get_or, refl, sym, ap, subst, arith}
+use Rattle.std.specs.Prelude.{OnOk, is_ok, if◌then◌else◌}
 use Rattle.std.proofs.lemmas.Bool.{cases_lt, ne_eqb}
 use Rattle.std.proofs.lemmas.List.{append_assoc, take_all, length-take, length-append, get_or_at}
 use Rattle.std.proofs.lemmas.List.Elements.{All-head, All-tail}

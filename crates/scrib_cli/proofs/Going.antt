@@ -1,13 +1,13 @@
 -- What a run keeps while it goes from one place of its script to another.
-use Rattle.std.proofs.Common.{◌≡◌, ◌≢◌, ◌<◌, ◌≤◌, ◌+◌, ◌-◌, ◌⊎◌, inl, inr, ℕ, zero, suc, Bool, true, false, List, [], ◌∷◌, ◌++◌, ◌∙◌, Option, Some, None, take, drop, get_or, length, refl, sym, ap, subst, arith, add-one, lit≤, Vec, Global, Result, Ok, Err}
+use Rattle.std.proofs.Common.{◌≡◌, ◌≢◌, ◌<◌, ◌≤◌, ◌+◌, ◌-◌, inl, inr, ℕ, zero, suc, Bool, true, false, List, [], ◌∷◌, ◌++◌, ◌∙◌, Option, Some, None, take, drop, get_or, length, refl, sym, ap, subst, arith, add-one, lit≤, Vec, Global, Result, Ok, Err, eqb}
 use Rattle.std.specs.Prelude.{option_map, IfOk, OnOk, OnErr}
 use Rattle.std.specs.Option.{is_some}
-use Rattle.std.specs.Io.KnownBytes.{Appends, Consumes, IsAtEnd, Keeps}
+use Rattle.std.specs.Io.KnownBytes.{Appends}
+use Rattle.std.proofs.lemmas.Bool.{eqb-true}
 use Rattle.std.proofs.lemmas.List.{append_assoc, append-nil, take_all, length-take, length-drop}
 use Rattle.std.proofs.lemmas.List.Elements.{All-nil, All-append}
-use Rattle.scrib_core.specs.declared.reply.Reply.{Reply}
 use Rattle.scrib_core.specs.declared.step.Step.TheVariants.{Put}
-use Rattle.scrib_core.specs.World.{World, nothing}
+use Rattle.scrib_core.specs.World.{World}
 use Rattle.scrib_core.specs.Marks.{unmarked}
 use Rattle.scrib_core.specs.Answers.{IsAnswered}
 use Rattle.scrib_core.specs.Held.{world_of}
@@ -15,11 +15,12 @@ use Rattle.scrib_script.specs.Says.{Says}
 use Rattle.scrib_script.specs.declared.line.Line.{Line}
 use Rattle.scrib_script.specs.declared.line.Line.TheVariants as line
 use Rattle.scrib_cli.specs.declared.run.Run.{Run}
-use Rattle.scrib_cli.specs.Scripts.{IsOutput, AppendsPart, lines, bare, text_end, end_of_text, reply_line}
-use Rattle.scrib_cli.specs.Progress.{NoLf, Place, Whole, WholeFrom, Leads, Short, most, text_of, Holds, place, Went, Stopped, LineEnded, LastLine, Ended, Failed, tail, Does, CarriedOut, PartCarriedOut, unread, halfway, Answered, PartAnswered, CarriedText, PartPut}
-use Rattle.scrib_cli.proofs.Bytes.{bare_last, length-bare, all_or_most, take_kept, take_kept_line, take_of_none, end_of_kept, end_is_kept, last_of_kept, last_is_kept}
-use Rattle.scrib_cli.proofs.Writes.{appends_none, appends_more, appends_kept, consumes_more}
-use Rattle.scrib_cli.proofs.Outputs.{begun, at, whole_does, whole_puts, whole_goes_on, whole_ends, whole_stops, whole_last, leads_none, leads_then, leads_part, leads_line, short_any, short_then, short_part, short_led, short_whole}
+use Rattle.scrib_cli.specs.declared.telling.Telling.{Telling}
+use Rattle.scrib_cli.specs.Scripts.{bare, text_end, reply_line}
+use Rattle.scrib_cli.specs.Progress.{NoLf, Whole, Leads, Short, most, text_of, Holds, place, Went, Stopped, LineEnded, said, CarriedOut, PartCarriedOut, unread, halfway, CarriedText, PartPut}
+use Rattle.scrib_cli.proofs.Bytes.{bare_last, length-bare, all_or_most, take_kept, take_kept_line, take_of_none, end_of_kept, end_is_kept}
+use Rattle.scrib_cli.proofs.Writes.{appends_none, appends_more}
+use Rattle.scrib_cli.proofs.Outputs.{begun, at, said_none, said_said, does_said, whole_does, whole_puts, whole_goes_on, leads_then, leads_part, leads_line, short_any, short_then, short_led}
 
 pub none_some : {A : Type 0} (x : A) → None ≡ Some x → ⊥
 none_some x e = cc
@@ -81,19 +82,22 @@ begun_kept false = refl
 -- one run and another
 pub went_then : (a b c : Run) (x y : List ℕ) (w0 w1 w2 : Option (List ℕ)) → Went a b x w0 w1 → Went b c y w1 w2 → Went a c (x ++ y) w0 w2
 went_then a b c x y w0 w1 w2 f g = record {
+  telling = g.telling ∙ f.telling;
   goes = λ text line h.
       let p = f.goes text line h in
       let q = g.goes p.0 p.1 p.3 in
-      (q.0, q.1, p.2 ++ q.2, q.3, leads_then (place a text line) (place b p.0 p.1) (place c q.0 q.1) x y p.2 q.2 p.4 q.4, appends_more w0 w1 w2 p.2 q.2 p.5 q.5);
+      let more : Leads a.telling (place b p.0 p.1) y q.2 (place c q.0 q.1) = subst (λ (t : Telling). Leads t (place b p.0 p.1) y q.2 (place c q.0 q.1)) f.telling q.4 in
+      (q.0, q.1, p.2 ++ q.2, q.3, leads_then a.telling (place a text line) (place b p.0 p.1) (place c q.0 q.1) x y p.2 q.2 p.4 more, appends_more w0 w1 w2 p.2 q.2 p.5 q.5);
 }
 
 pub stopped_then : (a b : Run) (x y : List ℕ) (w0 w1 w2 : Option (List ℕ)) → Went a b x w0 w1 → Stopped b y w1 w2 → Stopped a (x ++ y) w0 w2
 stopped_then a b x y w0 w1 w2 f s = record {
   so = λ text line h.
       let p = f.goes text line h in
-      let q = s.so p.0 p.1 p.3 in (
+      let q = s.so p.0 p.1 p.3 in
+      let short : (more : List ℕ) → Short a.telling (place b p.0 p.1) (y ++ more) q.0 = λ more. subst (λ (t : Telling). Short t (place b p.0 p.1) (y ++ more) q.0) f.telling (q.1 more) in (
         p.2 ++ q.0,
-        λ more. subst (λ (t : List ℕ). Short (place a text line) t (p.2 ++ q.0)) (sym (append_assoc x y more)) (short_then (place a text line) (place b p.0 p.1) x (y ++ more) p.2 q.0 p.4 (q.1 more)),
+        λ more. subst (λ (u : List ℕ). Short a.telling (place a text line) u (p.2 ++ q.0)) (sym (append_assoc x y more)) (short_then a.telling (place a text line) (place b p.0 p.1) x (y ++ more) p.2 q.0 p.4 (short more)),
         appends_more w0 w1 w2 p.2 q.0 p.5 q.2,
       );
 }
@@ -102,31 +106,33 @@ pub stopped_more : (a : Run) (x y : List ℕ) (was now : Option (List ℕ)) → 
 stopped_more a x y was now s = record {
   so = λ text line h.
       let q = s.so text line h in
-      (q.0, λ more. subst (λ (t : List ℕ). Short (place a text line) t q.0) (sym (append_assoc x y more)) (q.1 (y ++ more)), q.2);
+      (q.0, λ more. subst (λ (u : List ℕ). Short a.telling (place a text line) u q.0) (sym (append_assoc x y more)) (q.1 (y ++ more)), q.2);
 }
 
 pub stopped_any : (a : Run) (x : List ℕ) (w : Option (List ℕ)) → Stopped a x w w
-stopped_any a x w = record { so = λ text line h. ([], λ more. short_any (place a text line) (x ++ more), appends_none w) }
+stopped_any a x w = record { so = λ text line h. ([], λ more. short_any a.telling (place a text line) (x ++ more), appends_none w) }
 
 -- a run with other counts only
 pub stopped_as : (a b : Run) (x : List ℕ) (was now : Option (List ℕ)) → Stopped a x was now
-    → text_of a ≡ text_of b → a.line.items ≡ b.line.items → a.lines ≡ b.lines → world_of a.core ≡ world_of b.core → Stopped b x was now
-stopped_as a b x was now s text_is line_is lines_is world_is = record {
+    → text_of a ≡ text_of b → a.line.items ≡ b.line.items → a.lines ≡ b.lines → world_of a.core ≡ world_of b.core → a.telling ≡ b.telling → Stopped b x was now
+stopped_as a b x was now s text_is line_is lines_is world_is telling_is = record {
   so = λ text line h.
       let q = s.so text line (record { kept_text = text_is ∙ h.kept_text; kept_line = line_is ∙ h.kept_line; no_lf = h.no_lf }) in
       let short = q.1 in (
         q.0,
         λ more.
-            subst (λ (v : World). Short (at (b.lines + 1) text line v) (x ++ more) q.0) world_is
-            (subst (λ (i : ℕ). Short (at (i + 1) text line (world_of a.core)) (x ++ more) q.0) lines_is (short more)),
+            subst (λ (t : Telling). Short t (at (b.lines + 1) text line (world_of b.core)) (x ++ more) q.0) telling_is
+            (subst (λ (v : World). Short a.telling (at (b.lines + 1) text line v) (x ++ more) q.0) world_is
+            (subst (λ (i : ℕ). Short a.telling (at (i + 1) text line (world_of a.core)) (x ++ more) q.0) lines_is (short more))),
         q.2,
       );
 }
 
 -- bytes of a line came
-pub went_part : (old new : Run) (part : List ℕ) (w : Option (List ℕ)) → text_of new ≡ text_of old → world_of new.core ≡ world_of old.core → new.lines ≡ old.lines
+pub went_part : (old new : Run) (part : List ℕ) (w : Option (List ℕ)) → text_of new ≡ text_of old → world_of new.core ≡ world_of old.core → new.lines ≡ old.lines → new.telling ≡ old.telling
     → (length old.line.items ≤ most (text_of old) → new.line.items ≡ take (most (text_of old)) (old.line.items ++ part)) → NoLf part → Went old new part w w
-went_part old new part w text_is world_is lines_is line_is no_lf = record {
+went_part old new part w text_is world_is lines_is telling_is line_is no_lf = record {
+  telling = telling_is;
   goes = λ text line h.
       let m : most (text_of old) ≡ most text = ap most h.kept_text ∙ most_map text in
       let short : length old.line.items ≤ most (text_of old) = omega (arith, ap length h.kept_line, length-take (most text) line, m) in
@@ -138,39 +144,47 @@ went_part old new part w text_is world_is lines_is line_is no_lf = record {
         no_lf = All-append (λ b. b ≢ 10) line part h.no_lf no_lf;
       } in
       let n = old.lines + 1 in
-      let leads : Leads (place old text line) part [] (at n text (line ++ part) (world_of old.core)) = leads_part n text line part (world_of old.core) in
-      let at_world : Leads (place old text line) part [] (at n text (line ++ part) (world_of new.core)) =
-      subst (λ (v : World). Leads (place old text line) part [] (at n text (line ++ part) v)) (sym world_is) leads in
-      let at_number : Leads (place old text line) part [] (place new text (line ++ part)) =
-      subst (λ (i : ℕ). Leads (place old text line) part [] (at (i + 1) text (line ++ part) (world_of new.core))) (sym lines_is) at_world in
+      let leads : Leads old.telling (place old text line) part [] (at n text (line ++ part) (world_of old.core)) = leads_part old.telling n text line part (world_of old.core) in
+      let at_world : Leads old.telling (place old text line) part [] (at n text (line ++ part) (world_of new.core)) =
+      subst (λ (v : World). Leads old.telling (place old text line) part [] (at n text (line ++ part) v)) (sym world_is) leads in
+      let at_number : Leads old.telling (place old text line) part [] (place new text (line ++ part)) =
+      subst (λ (i : ℕ). Leads old.telling (place old text line) part [] (at (i + 1) text (line ++ part) (world_of new.core))) (sym lines_is) at_world in
       (text, line ++ part, [], holds, at_number, appends_none w);
 }
 
 pub went_same : (a : Run) (part : List ℕ) (w : Option (List ℕ)) → part ≡ [] → NoLf part → Went a a part w w
 went_same a part w e no_lf =
-    went_part a a part w refl refl refl (λ h. sym (ap (λ (t : List ℕ). take (most (text_of a)) (a.line.items ++ t)) e ∙ ap (take (most (text_of a))) (append-nil a.line.items) ∙ take_all (most (text_of a)) a.line.items h)) no_lf
+    went_part a a part w refl refl refl refl (λ h. sym (ap (λ (t : List ℕ). take (most (text_of a)) (a.line.items ++ t)) e ∙ ap (take (most (text_of a))) (append-nil a.line.items) ∙ take_all (most (text_of a)) a.line.items h)) no_lf
+
+no_items : (xs : List ℕ) → length xs ≡ 0 → xs ≡ []
+no_items [] e = refl
+no_items (x ∷ xs) e = absurd (omega arith)
+
+pub went_none : (a : Run) (part : List ℕ) → true ≡ eqb (length part) 0 → NoLf part → (w : Option (List ℕ)) → Went a a part w w
+went_none a part e no_lf w = went_same a part w (no_items part (eqb-true (length part) 0 (sym e))) no_lf
 
 -- a line ended
 module _ (old : Run) (was now : Option (List ℕ)) where
-  outer_at : (b : Bool) (v : World) → text_of old ≡ None → CarriedOut (old.lines + 1) (bare (old.line.items ++ 10 ∷ [])) (world_of old.core) b v was now
+  outer_at : (b : Bool) (v : World) → text_of old ≡ None → CarriedOut old.telling (old.lines + 1) (bare (old.line.items ++ 10 ∷ [])) (world_of old.core) b v was now
       → (text : Option (List ℕ)) (line : List ℕ) → Holds old text line
       → (text' : Option (List ℕ)) × (out : List ℕ) × (begun b ≡ option_map (take 1048577) text')
-      × Leads (place old text line) (10 ∷ []) out (at (old.lines + 1 + 1) text' [] v) × Appends was now out
+      × Leads old.telling (place old text line) (10 ∷ []) out (at (old.lines + 1 + 1) text' [] v) × Appends was now out
   outer_at b v outside carried None line h =
       let n = old.lines + 1 in
       let w = world_of old.core in
-      let says : Says (bare (line ++ 10 ∷ [])) carried.said = says_kept line carried.said (subst (λ (t : List ℕ). Says (bare (t ++ 10 ∷ [])) carried.said) h.kept_line carried.says) in
-      let leads = leads_line n None (begun b) line w v carried.out h.no_lf (λ ls output more. whole_does n (line ++ 10 ∷ []) ls w output carried.said b v carried.out says carried.does more) in
+      let says : Says (bare (line ++ 10 ∷ [])) carried.word = says_kept line carried.word (subst (λ (t : List ℕ). Says (bare (t ++ 10 ∷ [])) carried.word) h.kept_line carried.says) in
+      let is_said = does_said old.telling n w carried.word b v carried.out carried.does in
+      let leads = leads_line old.telling n None (begun b) line w v carried.out h.no_lf is_said (λ ls after output more. whole_does old.telling n (line ++ 10 ∷ []) ls w after output carried.word b v carried.out says carried.does more) in
       (begun b, carried.out, begun_kept b, leads, carried.appends)
   outer_at b v outside carried (Some t) line h = absurd (none_some (take 1048577 t) (sym outside ∙ h.kept_text))
 
-  pub ended_outer : (b : Bool) (v : World) → text_of old ≡ None → CarriedOut (old.lines + 1) (bare (old.line.items ++ 10 ∷ [])) (world_of old.core) b v was now → LineEnded old (begun b) v was now
+  pub ended_outer : (b : Bool) (v : World) → text_of old ≡ None → CarriedOut old.telling (old.lines + 1) (bare (old.line.items ++ 10 ∷ [])) (world_of old.core) b v was now → LineEnded old (begun b) v was now
   ended_outer b v outside carried = record { goes = outer_at b v outside carried }
 
-  inner_at : (kept : List ℕ) (after : Option (List ℕ)) (v : World) → text_of old ≡ Some kept → CarriedText kept old.line.items (world_of old.core) after v was now
+  inner_at : (kept : List ℕ) (after : Option (List ℕ)) (v : World) → text_of old ≡ Some kept → CarriedText old.telling kept old.line.items (world_of old.core) after v was now
       → (text : Option (List ℕ)) (line : List ℕ) → Holds old text line
       → (text' : Option (List ℕ)) × (out : List ℕ) × (after ≡ option_map (take 1048577) text')
-      × Leads (place old text line) (10 ∷ []) out (at (old.lines + 1 + 1) text' [] v) × Appends was now out
+      × Leads old.telling (place old text line) (10 ∷ []) out (at (old.lines + 1 + 1) text' [] v) × Appends was now out
   inner_at kept after v inside carried None line h = absurd (none_some kept (sym h.kept_text ∙ inside))
   inner_at kept None v inside carried (Some t) line h =
       let n = old.lines + 1 in
@@ -179,8 +193,10 @@ module _ (old : Run) (was now : Option (List ℕ)) where
       let is_end : bare (line ++ 10 ∷ []) ≡ text_end = end_of_kept 1048577 line few (subst (λ (x : List ℕ). bare (x ++ 10 ∷ []) ≡ text_end) h.kept_line carried.0) in
       let r = carried.1.0 in
       let answered : IsAnswered (world_of old.core) unmarked (Put (take 1048577 t)) carried.1.0 v unmarked = subst (λ (x : List ℕ). IsAnswered (world_of old.core) unmarked (Put x) carried.1.0 v unmarked) same carried.1.1 in
-      let leads = leads_line n (Some t) None line w v (reply_line r) h.no_lf (λ ls output more. whole_puts n (line ++ 10 ∷ []) ls w output t r v is_end answered more) in
-      (None, reply_line r, refl, leads, carried.1.2)
+      let goes_on = carried.1.2 in
+      let leads = leads_line old.telling n (Some t) None line w v (said old.telling (reply_line r)) h.no_lf (said_said old.telling (reply_line r))
+      (λ ls after output more. whole_puts old.telling n (line ++ 10 ∷ []) ls w after output t r v is_end answered goes_on more) in
+      (None, said old.telling (reply_line r), refl, leads, carried.1.3)
   inner_at kept (Some after) v inside carried (Some t) line h =
       let n = old.lines + 1 in
       let w = world_of old.core in
@@ -189,32 +205,33 @@ module _ (old : Run) (was now : Option (List ℕ)) where
       let short : length kept ≤ 1048577 = omega (arith, ap length same, length-take 1048577 t) in
       let after_is : after ≡ take 1048577 (t ++ (line ++ 10 ∷ [])) =
       carried.1 short ∙ ap (λ (x : List ℕ). take 1048577 (x ++ (old.line.items ++ 10 ∷ []))) same ∙ ap (λ (x : List ℕ). take 1048577 (take 1048577 t ++ (x ++ 10 ∷ []))) h.kept_line ∙ take_kept_line 1048577 t line (10 ∷ []) in
-      let leads = leads_line n (Some t) (Some (t ++ (line ++ 10 ∷ []))) line w v [] h.no_lf
-      (λ ls output more. whole_goes_on n (line ++ 10 ∷ []) ls w output t ne (subst (λ (x : World). Whole (n + 1) (Some (t ++ (line ++ 10 ∷ []))) ls x output) carried.2 more)) in
+      let leads = leads_line old.telling n (Some t) (Some (t ++ (line ++ 10 ∷ []))) line w v [] h.no_lf (said_none old.telling)
+      (λ ls end output more. whole_goes_on old.telling n (line ++ 10 ∷ []) ls w end output t ne (subst (λ (x : World). Whole old.telling (n + 1) (Some (t ++ (line ++ 10 ∷ []))) ls x end output) carried.2 more)) in
       (Some (t ++ (line ++ 10 ∷ [])), [], ap Some after_is, leads, carried.3)
 
-  pub ended_inner : (kept : List ℕ) (after : Option (List ℕ)) (v : World) → text_of old ≡ Some kept → CarriedText kept old.line.items (world_of old.core) after v was now → LineEnded old after v was now
+  pub ended_inner : (kept : List ℕ) (after : Option (List ℕ)) (v : World) → text_of old ≡ Some kept → CarriedText old.telling kept old.line.items (world_of old.core) after v was now → LineEnded old after v was now
   ended_inner kept after v inside carried = record { goes = inner_at kept after v inside carried }
 
-  stopped_outer_at : text_of old ≡ None → PartCarriedOut (old.lines + 1) (bare (old.line.items ++ 10 ∷ [])) (world_of old.core) was now
+  stopped_outer_at : text_of old ≡ None → PartCarriedOut old.telling (old.lines + 1) (bare (old.line.items ++ 10 ∷ [])) (world_of old.core) was now
       → (text : Option (List ℕ)) (line : List ℕ) → Holds old text line
-      → (part : List ℕ) × ((more : List ℕ) → Short (place old text line) (10 ∷ [] ++ more) part) × Appends was now part
-  stopped_outer_at outside (unread none) text line h = ([], λ more. short_any (place old text line) (10 ∷ [] ++ more), none)
-  stopped_outer_at outside (halfway said b v out says does part) None line h =
+      → (part : List ℕ) × ((more : List ℕ) → Short old.telling (place old text line) (10 ∷ [] ++ more) part) × Appends was now part
+  stopped_outer_at outside (unread none) text line h = ([], λ more. short_any old.telling (place old text line) (10 ∷ [] ++ more), none)
+  stopped_outer_at outside (halfway word b v out says does part) None line h =
       let n = old.lines + 1 in
       let w = world_of old.core in
-      let said_whole : Says (bare (line ++ 10 ∷ [])) said = says_kept line said (subst (λ (t : List ℕ). Says (bare (t ++ 10 ∷ [])) said) h.kept_line says) in
-      let leads = leads_line n None (begun b) line w v out h.no_lf (λ ls output more. whole_does n (line ++ 10 ∷ []) ls w output said b v out said_whole does more) in
-      (part.0, λ more. short_led (place old None line) (at (n + 1) (begun b) [] v) (10 ∷ []) more out part.0 part.1 leads part.2, part.3)
-  stopped_outer_at outside (halfway said b v out says does part) (Some t) line h = absurd (none_some (take 1048577 t) (sym outside ∙ h.kept_text))
+      let says_whole : Says (bare (line ++ 10 ∷ [])) word = says_kept line word (subst (λ (t : List ℕ). Says (bare (t ++ 10 ∷ [])) word) h.kept_line says) in
+      let is_said = does_said old.telling n w word b v out does in
+      let leads = leads_line old.telling n None (begun b) line w v out h.no_lf is_said (λ ls after output more. whole_does old.telling n (line ++ 10 ∷ []) ls w after output word b v out says_whole does more) in
+      (part.0, λ more. short_led old.telling (place old None line) (at (n + 1) (begun b) [] v) (10 ∷ []) more out part.0 part.1 leads part.2, part.3)
+  stopped_outer_at outside (halfway word b v out says does part) (Some t) line h = absurd (none_some (take 1048577 t) (sym outside ∙ h.kept_text))
 
-  pub stopped_outer : text_of old ≡ None → PartCarriedOut (old.lines + 1) (bare (old.line.items ++ 10 ∷ [])) (world_of old.core) was now → Stopped old (10 ∷ []) was now
+  pub stopped_outer : text_of old ≡ None → PartCarriedOut old.telling (old.lines + 1) (bare (old.line.items ++ 10 ∷ [])) (world_of old.core) was now → Stopped old (10 ∷ []) was now
   stopped_outer outside p = record { so = stopped_outer_at outside p }
 
-  stopped_inner_at : (kept : List ℕ) (v : World) → text_of old ≡ Some kept → PartPut kept old.line.items (world_of old.core) v was now
+  stopped_inner_at : (kept : List ℕ) (v : World) → text_of old ≡ Some kept → PartPut old.telling kept old.line.items (world_of old.core) v was now
       → (text : Option (List ℕ)) (line : List ℕ) → Holds old text line
-      → (part : List ℕ) × ((more : List ℕ) → Short (place old text line) (10 ∷ [] ++ more) part) × Appends was now part
-  stopped_inner_at kept v inside (inl none) text line h = ([], λ more. short_any (place old text line) (10 ∷ [] ++ more), none)
+      → (part : List ℕ) × ((more : List ℕ) → Short old.telling (place old text line) (10 ∷ [] ++ more) part) × Appends was now part
+  stopped_inner_at kept v inside (inl none) text line h = ([], λ more. short_any old.telling (place old text line) (10 ∷ [] ++ more), none)
   stopped_inner_at kept v inside (inr put) None line h = absurd (none_some kept (sym h.kept_text ∙ inside))
   stopped_inner_at kept v inside (inr put) (Some t) line h =
       let n = old.lines + 1 in
@@ -222,18 +239,21 @@ module _ (old : Run) (was now : Option (List ℕ)) where
       let same : kept ≡ take 1048577 t = some_same kept (take 1048577 t) (sym inside ∙ h.kept_text) in
       let is_end : bare (line ++ 10 ∷ []) ≡ text_end = end_of_kept 1048577 line few (subst (λ (x : List ℕ). bare (x ++ 10 ∷ []) ≡ text_end) h.kept_line put.0) in
       let r = put.1.0 in
-      let part = put.1.2 in
+      let goes_on = put.1.2 in
+      let part = put.1.3 in
       let answered : IsAnswered (world_of old.core) unmarked (Put (take 1048577 t)) put.1.0 v unmarked = subst (λ (x : List ℕ). IsAnswered (world_of old.core) unmarked (Put x) put.1.0 v unmarked) same put.1.1 in
-      let leads = leads_line n (Some t) None line w v (reply_line r) h.no_lf (λ ls output more. whole_puts n (line ++ 10 ∷ []) ls w output t r v is_end answered more) in
-      (part.0, λ more. short_led (place old (Some t) line) (at (n + 1) None [] v) (10 ∷ []) more (reply_line r) part.0 part.1 leads part.2, part.3)
+      let leads = leads_line old.telling n (Some t) None line w v (said old.telling (reply_line r)) h.no_lf (said_said old.telling (reply_line r))
+      (λ ls after output more. whole_puts old.telling n (line ++ 10 ∷ []) ls w after output t r v is_end answered goes_on more) in
+      (part.0, λ more. short_led old.telling (place old (Some t) line) (at (n + 1) None [] v) (10 ∷ []) more (said old.telling (reply_line r)) part.0 part.1 leads part.2, part.3)
 
-  pub stopped_inner : (kept : List ℕ) (v : World) → text_of old ≡ Some kept → PartPut kept old.line.items (world_of old.core) v was now → Stopped old (10 ∷ []) was now
+  pub stopped_inner : (kept : List ℕ) (v : World) → text_of old ≡ Some kept → PartPut old.telling kept old.line.items (world_of old.core) v was now → Stopped old (10 ∷ []) was now
   stopped_inner kept v inside p = record { so = stopped_inner_at kept v inside p }
 
 -- the next line begins
 pub went_line : (old new : Run) (after : Option (List ℕ)) (was now : Option (List ℕ)) → LineEnded old after (world_of new.core) was now
-    → text_of new ≡ after → new.line.items ≡ [] → new.lines ≡ old.lines + 1 → Went old new (10 ∷ []) was now
-went_line old new after was now ended text_is line_is lines_is = record {
+    → text_of new ≡ after → new.line.items ≡ [] → new.lines ≡ old.lines + 1 → new.telling ≡ old.telling → Went old new (10 ∷ []) was now
+went_line old new after was now ended text_is line_is lines_is telling_is = record {
+  telling = telling_is;
   goes = λ text line h.
       let p = ended.goes text line h in
       let holds : Holds new p.0 [] = record {
@@ -241,17 +261,17 @@ went_line old new after was now ended text_is line_is lines_is = record {
         kept_line = line_is ∙ sym (take_of_none (most p.0));
         no_lf = All-nil (λ b. b ≢ 10);
       } in
-      let leads : Leads (place old text line) (10 ∷ []) p.1 (place new p.0 []) =
-      subst (λ (i : ℕ). Leads (place old text line) (10 ∷ []) p.1 (at (i + 1) p.0 [] (world_of new.core))) (sym lines_is) p.3 in
+      let leads : Leads old.telling (place old text line) (10 ∷ []) p.1 (place new p.0 []) =
+      subst (λ (i : ℕ). Leads old.telling (place old text line) (10 ∷ []) p.1 (at (i + 1) p.0 [] (world_of new.core))) (sym lines_is) p.3 in
       (p.0, [], p.1, holds, leads, p.4);
 }
 
 pub ended_text : {E : Type 0} (r : Result (Option (Vec ℕ Global)) E) (old : Run) (was now : Option (List ℕ)) (kept l : List ℕ) (v : World) → text_of old ≡ Some kept → l ≡ old.line.items
-    → IfOk r (λ after. CarriedText kept l (world_of old.core) (option_map (λ (x : Vec ℕ Global). x.items) after) v was now)
+    → IfOk r (λ after. CarriedText old.telling kept l (world_of old.core) (option_map (λ (x : Vec ℕ Global). x.items) after) v was now)
     → IfOk r (λ after. LineEnded old (option_map (λ (x : Vec ℕ Global). x.items) after) v was now)
 ended_text (Ok after) old was now kept l v inside same carried =
     let texts = option_map (λ (x : Vec ℕ Global). x.items) after in
-    ended_inner old was now kept texts v inside (subst (λ (t : List ℕ). CarriedText kept t (world_of old.core) (option_map (λ (x : Vec ℕ Global). x.items) after) v was now) same carried)
+    ended_inner old was now kept texts v inside (subst (λ (t : List ℕ). CarriedText old.telling kept t (world_of old.core) (option_map (λ (x : Vec ℕ Global). x.items) after) v was now) same carried)
 ended_text (Err e) old was now kept l v inside same carried = tt
 
 -- so far these bytes of a piece were taken in, and the rest is left

@@ -3,3 +3,4 @@ pub mod Writes
 pub mod Outputs
 pub mod Going
 pub mod Ending
+pub mod Tellings

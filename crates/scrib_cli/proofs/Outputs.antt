@@ -2,6 +2,7 @@
 use Rattle.std.proofs.Common.{◌≡◌, ◌≢◌, ◌+◌, inl, inr, ℕ, Bool, true, false, List, [], ◌∷◌, ◌++◌, ◌∙◌, Option, Some, None, take, refl, sym, ap, subst}
 use Rattle.std.proofs.lemmas.Bool.{false≢true}
 use Rattle.std.proofs.lemmas.List.{append_assoc, append-nil}
+use Rattle.std.proofs.lemmas.List.Elements.{All-nil, All-cons}
 use Rattle.scrib_core.specs.declared.step.Step.{Step}
 use Rattle.scrib_core.specs.declared.step.Step.TheVariants.{Put, Open, Note, Ask}
 use Rattle.scrib_core.specs.declared.reply.Reply.{Reply}
@@ -14,8 +15,10 @@ use Rattle.scrib_script.specs.Says.{Says}
 use Rattle.scrib_script.specs.declared.line.Line.{Line}
 use Rattle.scrib_script.specs.declared.line.Line.TheVariants as line
 use Rattle.scrib_script.proofs.Decisions.{same_bytes, line_said}
-use Rattle.scrib_cli.specs.Scripts.{Makes, BadLine, EndOfText, ends, skips, makes, is_bad, begins, goes_on, puts, stops, lines, bare, text_end, bad_line, end_of_text, reply_line}
-use Rattle.scrib_cli.specs.Progress.{NoLf, Place, Whole, WholeFrom, Leads, Short, Does}
+use Rattle.scrib_cli.specs.declared.telling.Telling.{Telling}
+use Rattle.scrib_cli.specs.declared.telling.Telling.TheVariants.{Printed, Silent}
+use Rattle.scrib_cli.specs.Scripts.{Makes, BadLine, EndOfText, ends, skips, makes, is_bad, begins, goes_on, puts, stops, lines, bare, text_end, bad_line, end_of_text, reply_line, written}
+use Rattle.scrib_cli.specs.Progress.{NoLf, Place, Whole, WholeFrom, Leads, Short, Does, said, GoesOn}
 use Rattle.scrib_cli.proofs.Bytes.{lines_lf, lines_last}
 
 -- a module text that begins after a line, if one does
@@ -36,213 +39,250 @@ unmarked_stays w = (λ id c there marked. absurd (false≢true marked), λ id. r
 pub answered_by_refusal : (w : World) (s : Step) → IsAnswered w unmarked s (Refused OutOfMemory) w unmarked
 answered_by_refusal w s = (refuses_memory w s, refl, unmarked_stays w)
 
+-- what is told, piece by piece
+pub said_then : (t : Telling) (a b x : List ℕ) → x ≡ said t b → said t a ++ x ≡ said t (a ++ b)
+said_then Printed a b x e = ap (λ (u : List ℕ). a ++ u) e
+said_then Silent a b x e = e
+
+pub said_none : (t : Telling) → [] ≡ said t []
+said_none Printed = refl
+said_none Silent = refl
+
+pub said_said : (t : Telling) (a : List ℕ) → said t a ≡ said t (said t a)
+said_said Printed a = refl
+said_said Silent a = refl
+
+said_both : (t : Telling) (a b : List ℕ) → a ≡ said t a → b ≡ said t b → a ++ b ≡ said t (a ++ b)
+said_both Printed a b d e = refl
+said_both Silent a b d e = ap (λ (u : List ℕ). u ++ b) d ∙ e
+
 -- one line more in front
-module _ (n : ℕ) (l : List ℕ) (ls : List (List ℕ)) (w : World) (output : List ℕ) where
-  pub whole_skips : Says (bare l) line.Skipped → Whole (n + 1) None ls w output → Whole n None (l ∷ ls) w output
+module _ (t : Telling) (n : ℕ) (l : List ℕ) (ls : List (List ℕ)) (w after : World) (output : List ℕ) where
+  pub whole_skips : Says (bare l) line.Skipped → Whole t (n + 1) None ls w after output → Whole t n None (l ∷ ls) w after output
   whole_skips says h = record {
     items = h.items;
     replies = h.replies;
-    after = h.after;
     marks = h.marks;
     spelled = skips n l ls h.items says h.spelled;
     answered = h.answered;
+    goes_on = h.goes_on;
     is = h.is;
   }
 
-  pub whole_makes : (s : Step) (r : Reply) (v : World) → Says (bare l) (line.Step s) → IsAnswered w unmarked s r v unmarked
-      → Whole (n + 1) None ls v output → Whole n None (l ∷ ls) w (reply_line r ++ output)
-  whole_makes s r v says answered h = record {
+  pub whole_makes : (s : Step) (r : Reply) (v : World) → Says (bare l) (line.Step s) → IsAnswered w unmarked s r v unmarked → GoesOn t r
+      → Whole t (n + 1) None ls v after output → Whole t n None (l ∷ ls) w after (said t (reply_line r) ++ output)
+  whole_makes s r v says answered on h = record {
     items = Makes s ∷ h.items;
     replies = r ∷ h.replies;
-    after = h.after;
     marks = h.marks;
     spelled = makes n l ls h.items s says h.spelled;
     answered = (v, unmarked, answered, h.answered);
-    is = ap (λ (t : List ℕ). reply_line r ++ t) h.is;
+    goes_on = All-cons (GoesOn t) r h.replies on h.goes_on;
+    is = said_then t (reply_line r) (written h.items h.replies) output h.is;
   }
 
-  pub whole_is_bad : Says (bare l) line.Bad → Whole (n + 1) None ls w output → Whole n None (l ∷ ls) w (bad_line n ++ output)
+  pub whole_is_bad : Says (bare l) line.Bad → Whole t (n + 1) None ls w after output → Whole t n None (l ∷ ls) w after (said t (bad_line n) ++ output)
   whole_is_bad says h = record {
     items = BadLine n ∷ h.items;
     replies = h.replies;
-    after = h.after;
     marks = h.marks;
     spelled = is_bad n l ls h.items says h.spelled;
     answered = h.answered;
-    is = ap (λ (t : List ℕ). bad_line n ++ t) h.is;
+    goes_on = h.goes_on;
+    is = said_then t (bad_line n) (written h.items h.replies) output h.is;
   }
 
-  pub whole_begins : Says (bare l) line.Put → Whole (n + 1) (Some []) ls w output → Whole n None (l ∷ ls) w output
+  pub whole_begins : Says (bare l) line.Put → Whole t (n + 1) (Some []) ls w after output → Whole t n None (l ∷ ls) w after output
   whole_begins says h = record {
     items = h.items;
     replies = h.replies;
-    after = h.after;
     marks = h.marks;
     spelled = begins n l ls h.items says h.spelled;
     answered = h.answered;
+    goes_on = h.goes_on;
     is = h.is;
   }
 
-  pub whole_goes_on : (text : List ℕ) → bare l ≢ text_end → Whole (n + 1) (Some (text ++ l)) ls w output → Whole n (Some text) (l ∷ ls) w output
+  pub whole_goes_on : (text : List ℕ) → bare l ≢ text_end → Whole t (n + 1) (Some (text ++ l)) ls w after output → Whole t n (Some text) (l ∷ ls) w after output
   whole_goes_on text ne h = record {
     items = h.items;
     replies = h.replies;
-    after = h.after;
     marks = h.marks;
     spelled = goes_on n text l ls h.items ne h.spelled;
     answered = h.answered;
+    goes_on = h.goes_on;
     is = h.is;
   }
 
-  pub whole_puts : (text : List ℕ) (r : Reply) (v : World) → bare l ≡ text_end → IsAnswered w unmarked (Put (take 1048577 text)) r v unmarked
-      → Whole (n + 1) None ls v output → Whole n (Some text) (l ∷ ls) w (reply_line r ++ output)
-  whole_puts text r v e answered h = record {
+  pub whole_puts : (text : List ℕ) (r : Reply) (v : World) → bare l ≡ text_end → IsAnswered w unmarked (Put (take 1048577 text)) r v unmarked → GoesOn t r
+      → Whole t (n + 1) None ls v after output → Whole t n (Some text) (l ∷ ls) w after (said t (reply_line r) ++ output)
+  whole_puts text r v e answered on h = record {
     items = Makes (Put (take 1048577 text)) ∷ h.items;
     replies = r ∷ h.replies;
-    after = h.after;
     marks = h.marks;
     spelled = puts n text l ls h.items e h.spelled;
     answered = (v, unmarked, answered, h.answered);
-    is = ap (λ (t : List ℕ). reply_line r ++ t) h.is;
+    goes_on = All-cons (GoesOn t) r h.replies on h.goes_on;
+    is = said_then t (reply_line r) (written h.items h.replies) output h.is;
   }
 
-pub whole_ends : (n : ℕ) (w : World) → Whole n None [] w []
-whole_ends n w = record {
+pub whole_ends : (t : Telling) (n : ℕ) (w : World) → Whole t n None [] w w []
+whole_ends t n w = record {
   items = [];
   replies = [];
-  after = w;
   marks = unmarked;
   spelled = ends n;
   answered = (refl, refl);
-  is = refl;
+  goes_on = All-nil (GoesOn t);
+  is = said_none t;
 }
 
-pub whole_stops : (n : ℕ) (text : List ℕ) (w : World) → Whole n (Some text) [] w end_of_text
-whole_stops n text w = record {
+pub whole_stops : (t : Telling) (n : ℕ) (text : List ℕ) (w : World) → Whole t n (Some text) [] w w (said t end_of_text)
+whole_stops t n text w = record {
   items = EndOfText ∷ [];
   replies = [];
-  after = w;
   marks = unmarked;
   spelled = stops n text;
   answered = (refl, refl);
-  is = sym (append-nil end_of_text);
+  goes_on = All-nil (GoesOn t);
+  is = ap (said t) (sym (append-nil end_of_text));
 }
 
+-- what is written for a line
+pub does_said : (t : Telling) (n : ℕ) (w : World) (word : Line) (begins_text : Bool) (v : World) (out : List ℕ) → Does t n word w begins_text v out → out ≡ said t out
+does_said t n w line.Skipped b v out d = d.2 ∙ said_none t ∙ ap (said t) (sym d.2)
+does_said t n w line.Put b v out d = d.2 ∙ said_none t ∙ ap (said t) (sym d.2)
+does_said t n w (line.Step s) b v out d = d.1.3 ∙ said_said t (reply_line d.1.0) ∙ ap (said t) (sym d.1.3)
+does_said t n w line.Bad b v out d = d.2 ∙ said_said t (bad_line n) ∙ ap (said t) (sym d.2)
+
 -- a line that is carried out, outside module texts
-pub whole_does : (n : ℕ) (l : List ℕ) (ls : List (List ℕ)) (w : World) (output : List ℕ) (said : Line) (begins_text : Bool) (v : World) (out : List ℕ)
-    → Says (bare l) said → Does n said w begins_text v out → Whole (n + 1) (begun begins_text) ls v output → Whole n None (l ∷ ls) w (out ++ output)
-whole_does n l ls w output line.Skipped b v out says d h =
-    let at_none : Whole (n + 1) None ls w output = rw (d.0, d.1) at h in
-    rw d.2 (whole_skips n l ls w output says at_none)
-whole_does n l ls w output line.Put b v out says d h =
-    let at_text : Whole (n + 1) (Some []) ls w output = rw (d.0, d.1) at h in
-    rw d.2 (whole_begins n l ls w output says at_text)
-whole_does n l ls w output (line.Step s) b v out says d h =
-    let at_none : Whole (n + 1) None ls v output = rw d.0 at h in
-    rw d.1.2 (whole_makes n l ls w output s d.1.0 v says d.1.1 at_none)
-whole_does n l ls w output line.Bad b v out says d h =
-    let at_none : Whole (n + 1) None ls w output = rw (d.0, d.1) at h in
-    rw d.2 (whole_is_bad n l ls w output says at_none)
+pub whole_does : (t : Telling) (n : ℕ) (l : List ℕ) (ls : List (List ℕ)) (w after : World) (output : List ℕ) (word : Line) (begins_text : Bool) (v : World) (out : List ℕ)
+    → Says (bare l) word → Does t n word w begins_text v out → Whole t (n + 1) (begun begins_text) ls v after output → Whole t n None (l ∷ ls) w after (out ++ output)
+whole_does t n l ls w after output line.Skipped b v out says d h =
+    let at_none : Whole t (n + 1) None ls w after output = rw (d.0, d.1) at h in
+    rw d.2 (whole_skips t n l ls w after output says at_none)
+whole_does t n l ls w after output line.Put b v out says d h =
+    let at_text : Whole t (n + 1) (Some []) ls w after output = rw (d.0, d.1) at h in
+    rw d.2 (whole_begins t n l ls w after output says at_text)
+whole_does t n l ls w after output (line.Step s) b v out says d h =
+    let at_none : Whole t (n + 1) None ls v after output = rw d.0 at h in
+    rw d.1.3 (whole_makes t n l ls w after output s d.1.0 v says d.1.1 d.1.2 at_none)
+whole_does t n l ls w after output line.Bad b v out says d h =
+    let at_none : Whole t (n + 1) None ls w after output = rw (d.0, d.1) at h in
+    rw d.2 (whole_is_bad t n l ls w after output says at_none)
 
 -- an output of these lines, wherever they stand
 abbrev pub IsWritten : List (List ℕ) → Type 0
-IsWritten ls = (n : ℕ) (text : Option (List ℕ)) (w : World) → (output : List ℕ) × Whole n text ls w output
+IsWritten ls = (n : ℕ) (text : Option (List ℕ)) (w : World) → (after : World) × (output : List ℕ) × Whole Printed n text ls w after output
 
-written_said : (l : List ℕ) (ls : List (List ℕ)) → IsWritten ls → (n : ℕ) (w : World) → (said : Line) → Says (bare l) said → (output : List ℕ) × Whole n None (l ∷ ls) w output
-written_said l ls more n w line.Skipped says = let p = more (n + 1) None w in (p.0, whole_skips n l ls w p.0 says p.1)
-written_said l ls more n w line.Put says = let p = more (n + 1) (Some []) w in (p.0, whole_begins n l ls w p.0 says p.1)
+written_said : (l : List ℕ) (ls : List (List ℕ)) → IsWritten ls → (n : ℕ) (w : World) → (word : Line) → Says (bare l) word → (after : World) × (output : List ℕ) × Whole Printed n None (l ∷ ls) w after output
+written_said l ls more n w line.Skipped says = let p = more (n + 1) None w in (p.0, p.1, whole_skips Printed n l ls w p.0 p.1 says p.2)
+written_said l ls more n w line.Put says = let p = more (n + 1) (Some []) w in (p.0, p.1, whole_begins Printed n l ls w p.0 p.1 says p.2)
 written_said l ls more n w (line.Step s) says =
     let p = more (n + 1) None w in
-    (reply_line (Refused OutOfMemory) ++ p.0, whole_makes n l ls w p.0 s (Refused OutOfMemory) w says (answered_by_refusal w s) p.1)
-written_said l ls more n w line.Bad says = let p = more (n + 1) None w in (bad_line n ++ p.0, whole_is_bad n l ls w p.0 says p.1)
+    (p.0, reply_line (Refused OutOfMemory) ++ p.1, whole_makes Printed n l ls w p.0 p.1 s (Refused OutOfMemory) w says (answered_by_refusal w s) tt p.2)
+written_said l ls more n w line.Bad says = let p = more (n + 1) None w in (p.0, bad_line n ++ p.1, whole_is_bad Printed n l ls w p.0 p.1 says p.2)
 
-written_inside : (l : List ℕ) (ls : List (List ℕ)) → IsWritten ls → (n : ℕ) (text : List ℕ) (w : World) → (output : List ℕ) × Whole n (Some text) (l ∷ ls) w output
+written_inside : (l : List ℕ) (ls : List (List ℕ)) → IsWritten ls → (n : ℕ) (text : List ℕ) (w : World) → (after : World) × (output : List ℕ) × Whole Printed n (Some text) (l ∷ ls) w after output
 written_inside l ls more n text w = elim (same_bytes (bare l) text_end) [
   | inl e ↦
       let p = more (n + 1) None w in
       let answered = answered_by_refusal w (Put (take 1048577 text)) in
-      (reply_line (Refused OutOfMemory) ++ p.0, whole_puts n l ls w p.0 text (Refused OutOfMemory) w e answered p.1)
-  | inr ne ↦ let p = more (n + 1) (Some (text ++ l)) w in (p.0, whole_goes_on n l ls w p.0 text ne p.1)
+      (p.0, reply_line (Refused OutOfMemory) ++ p.1, whole_puts Printed n l ls w p.0 p.1 text (Refused OutOfMemory) w e answered tt p.2)
+  | inr ne ↦ let p = more (n + 1) (Some (text ++ l)) w in (p.0, p.1, whole_goes_on Printed n l ls w p.0 p.1 text ne p.2)
 ]
 
 -- an output of any lines, with memory refused at each of their steps
 pub is_written : (ls : List (List ℕ)) → IsWritten ls
-is_written [] = λ n text w. elim text as (λ t. (output : List ℕ) × Whole n t [] w output) [
-  | None ↦ ([], whole_ends n w)
-  | Some t ↦ (end_of_text, whole_stops n t w)
+is_written [] = λ n text w. elim text as (λ t. (after : World) × (output : List ℕ) × Whole Printed n t [] w after output) [
+  | None ↦ (w, [], whole_ends Printed n w)
+  | Some t ↦ (w, end_of_text, whole_stops Printed n t w)
 ]
 is_written (l ∷ ls) =
     let more = is_written ls in
-    λ n text w. elim text as (λ t. (output : List ℕ) × Whole n t (l ∷ ls) w output) [
+    λ n text w. elim text as (λ t. (after : World) × (output : List ℕ) × Whole Printed n t (l ∷ ls) w after output) [
       | None ↦ let p = line_said (bare l) in written_said l ls more n w p.0 p.1
       | Some t ↦ written_inside l ls more n t w
     ]
 
 -- Nothing leads from a place to itself.
-pub leads_none : (p : Place) → Leads p [] [] p
-leads_none p = record { goes = λ more output h. h }
+pub leads_none : (t : Telling) (p : Place) → Leads t p [] [] p
+leads_none t p = record { is_said = said_none t; goes = λ more after output h. h }
 
-pub leads_then : (p q r : Place) (a b x y : List ℕ) → Leads p a x q → Leads q b y r → Leads p (a ++ b) (x ++ y) r
-leads_then p q r a b x y f g = record {
-  goes = λ more output h.
-      let all : WholeFrom p (a ++ (b ++ more)) (x ++ (y ++ output)) = f.goes (b ++ more) (y ++ output) (g.goes more output h) in
-      let at_bytes : WholeFrom p (a ++ b ++ more) (x ++ (y ++ output)) = subst (λ (t : List ℕ). WholeFrom p t (x ++ (y ++ output))) (sym (append_assoc a b more)) all in
-      subst (λ (t : List ℕ). WholeFrom p (a ++ b ++ more) t) (sym (append_assoc x y output)) at_bytes;
+pub leads_then : (t : Telling) (p q r : Place) (a b x y : List ℕ) → Leads t p a x q → Leads t q b y r → Leads t p (a ++ b) (x ++ y) r
+leads_then t p q r a b x y f g = record {
+  is_said = said_both t x y f.is_said g.is_said;
+  goes = λ more after output h.
+      let all : WholeFrom t p (a ++ (b ++ more)) after (x ++ (y ++ output)) = f.goes (b ++ more) after (y ++ output) (g.goes more after output h) in
+      let at_bytes : WholeFrom t p (a ++ b ++ more) after (x ++ (y ++ output)) = subst (λ (u : List ℕ). WholeFrom t p u after (x ++ (y ++ output))) (sym (append_assoc a b more)) all in
+      subst (λ (u : List ℕ). WholeFrom t p (a ++ b ++ more) after u) (sym (append_assoc x y output)) at_bytes;
 }
 
 abbrev pub at : ℕ → Option (List ℕ) → List ℕ → World → Place
 at n text k w = record { number = n; text = text; line = k; world = w }
 
 -- bytes of a line
-pub leads_part : (n : ℕ) (text : Option (List ℕ)) (k part : List ℕ) (w : World) → Leads (at n text k w) part [] (at n text (k ++ part) w)
-leads_part n text k part w = record {
-  goes = λ more output h. subst (λ (t : List ℕ). Whole n text (lines t) w output) (append_assoc k part more) h;
+pub leads_part : (t : Telling) (n : ℕ) (text : Option (List ℕ)) (k part : List ℕ) (w : World) → Leads t (at n text k w) part [] (at n text (k ++ part) w)
+leads_part t n text k part w = record {
+  is_said = said_none t;
+  goes = λ more after output h. subst (λ (u : List ℕ). Whole t n text (lines u) w after output) (append_assoc k part more) h;
 }
 
 -- the end of a line
-pub leads_line : (n : ℕ) (text after : Option (List ℕ)) (k : List ℕ) (w v : World) (out : List ℕ) → NoLf k
-    → ((ls : List (List ℕ)) (output : List ℕ) → Whole (n + 1) after ls v output → Whole n text ((k ++ 10 ∷ []) ∷ ls) w (out ++ output))
-    → Leads (at n text k w) (10 ∷ []) out (at (n + 1) after [] v)
-leads_line n text after k w v out no_lf step = record {
-  goes = λ more output h. subst (λ (ls : List (List ℕ)). Whole n text ls w (out ++ output)) (sym (lines_lf k more no_lf)) (step (lines more) output h);
+pub leads_line : (t : Telling) (n : ℕ) (text next : Option (List ℕ)) (k : List ℕ) (w v : World) (out : List ℕ) → NoLf k → out ≡ said t out
+    → ((ls : List (List ℕ)) (after : World) (output : List ℕ) → Whole t (n + 1) next ls v after output → Whole t n text ((k ++ 10 ∷ []) ∷ ls) w after (out ++ output))
+    → Leads t (at n text k w) (10 ∷ []) out (at (n + 1) next [] v)
+leads_line t n text next k w v out no_lf is_said step = record {
+  is_said = is_said;
+  goes = λ more after output h. subst (λ (ls : List (List ℕ)). Whole t n text ls w after (out ++ output)) (sym (lines_lf k more no_lf)) (step (lines more) after output h);
 }
 
 -- bytes that are all read, and a last line
-pub whole_last : (n : ℕ) (text : Option (List ℕ)) (k : List ℕ) (w : World) (out : List ℕ) → NoLf k → ((k ≡ []) → ⊥)
-    → Whole n text (k ∷ []) w out → WholeFrom (at n text k w) [] out
-whole_last n text [] w out no_lf some h = absurd (some refl)
-whole_last n text (b ∷ k) w out no_lf some h =
-    subst (λ (t : List ℕ). Whole n text (lines t) w out) (sym (append-nil (b ∷ k)))
-    (subst (λ (ls : List (List ℕ)). Whole n text ls w out) (sym (lines_last b k no_lf)) h)
+pub whole_last : (t : Telling) (n : ℕ) (text : Option (List ℕ)) (k : List ℕ) (w after : World) (out : List ℕ) → NoLf k → ((k ≡ []) → ⊥)
+    → Whole t n text (k ∷ []) w after out → WholeFrom t (at n text k w) [] after out
+whole_last t n text [] w after out no_lf some h = absurd (some refl)
+whole_last t n text (b ∷ k) w after out no_lf some h =
+    subst (λ (u : List ℕ). Whole t n text (lines u) w after out) (sym (append-nil (b ∷ k)))
+    (subst (λ (ls : List (List ℕ)). Whole t n text ls w after out) (sym (lines_last b k no_lf)) h)
 
 -- What an output begins with where nothing was written.
-pub short_any : (p : Place) (bytes : List ℕ) → Short p bytes []
-short_any p bytes =
-    let written = is_written (lines (p.line ++ bytes)) p.number p.text p.world in
-    record { output = written.0; rest = written.0; whole = written.1; is = refl }
+pub short_any : (t : Telling) (p : Place) (bytes : List ℕ) → Short t p bytes []
+short_any Printed p bytes =
+    let any = is_written (lines (p.line ++ bytes)) p.number p.text p.world in
+    record { after = any.0; output = any.1; rest = any.1; whole = any.2; is = refl }
+short_any Silent p bytes = refl
 
-pub short_then : (p q : Place) (a more x part : List ℕ) → Leads p a x q → Short q more part → Short p (a ++ more) (x ++ part)
-short_then p q a more x part f s = record {
+pub short_then : (t : Telling) (p q : Place) (a more x part : List ℕ) → Leads t p a x q → Short t q more part → Short t p (a ++ more) (x ++ part)
+short_then Printed p q a more x part f s = record {
+  after = s.after;
   output = x ++ s.output;
   rest = s.rest;
-  whole = f.goes more s.output s.whole;
-  is = ap (λ (t : List ℕ). x ++ t) s.is ∙ sym (append_assoc x part s.rest);
+  whole = f.goes more s.after s.output s.whole;
+  is = ap (λ (u : List ℕ). x ++ u) s.is ∙ sym (append_assoc x part s.rest);
 }
+short_then Silent p q a more x part f s = ap (λ (u : List ℕ). u ++ part) f.is_said ∙ s
 
-pub short_part : (p : Place) (bytes part after : List ℕ) → Short p bytes (part ++ after) → Short p bytes part
-short_part p bytes part after s = record {
+none_before : (part after : List ℕ) → part ++ after ≡ [] → part ≡ []
+none_before [] after e = refl
+none_before (b ∷ part) after e = cc
+
+pub short_part : (t : Telling) (p : Place) (bytes part after : List ℕ) → Short t p bytes (part ++ after) → Short t p bytes part
+short_part Printed p bytes part after s = record {
+  after = s.after;
   output = s.output;
   rest = after ++ s.rest;
   whole = s.whole;
   is = s.is ∙ append_assoc part after s.rest;
 }
+short_part Silent p bytes part after s = none_before part after s
 
 -- on a way whose output is known
-pub short_led : (p q : Place) (a more x part after : List ℕ) → Leads p a x q → x ≡ part ++ after → Short p (a ++ more) part
-short_led p q a more x part after f e =
-    let all : Short p (a ++ more) (x ++ []) = short_then p q a more x [] f (short_any q more) in
-    short_part p (a ++ more) part (after ++ []) (subst (λ (t : List ℕ). Short p (a ++ more) t) (append-nil x ∙ e ∙ ap (λ (t : List ℕ). part ++ t) (sym (append-nil after))) all)
+pub short_led : (t : Telling) (p q : Place) (a more x part after : List ℕ) → Leads t p a x q → x ≡ part ++ after → Short t p (a ++ more) part
+short_led t p q a more x part after f e =
+    let all : Short t p (a ++ more) (x ++ []) = short_then t p q a more x [] f (short_any t q more) in
+    short_part t p (a ++ more) part (after ++ []) (subst (λ (u : List ℕ). Short t p (a ++ more) u) (append-nil x ∙ e ∙ ap (λ (u : List ℕ). part ++ u) (sym (append-nil after))) all)
 
 -- where the output is known
-pub short_whole : (p : Place) (bytes output part after : List ℕ) → WholeFrom p bytes output → output ≡ part ++ after → Short p bytes part
-short_whole p bytes output part after h e = record { output = output; rest = after; whole = h; is = e }
+pub short_whole : (t : Telling) (p : Place) (bytes : List ℕ) (after : World) (output part rest : List ℕ) → WholeFrom t p bytes after output → output ≡ part ++ rest → Short t p bytes part
+short_whole Printed p bytes after output part rest h e = record { after = after; output = output; rest = rest; whole = h; is = e }
+short_whole Silent p bytes after output part rest h e = none_before part rest (sym e ∙ h.is)

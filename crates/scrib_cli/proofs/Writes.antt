@@ -1,5 +1,5 @@
 -- What a writer holds after one write and another, and what a reader has left.
-use Rattle.std.proofs.Common.{◌≡◌, ◌<◌, ◌≤◌, ◌+◌, ◌-◌, ℕ, List, [], ◌∷◌, ◌++◌, ◌∙◌, Option, Some, None, take, drop, length, rules, refl, sym, ap, arith}
+use Rattle.std.proofs.Common.{◌≡◌, ◌≤◌, ◌+◌, ◌-◌, ℕ, List, [], ◌++◌, ◌∙◌, Option, Some, None, take, drop, length, rules, refl, sym, ap, arith}
 use Rattle.std.proofs.lemmas.List.{append_assoc, take-append-drop, take_all, length-drop, length-take}
 use Rattle.std.proofs.Math.Seq.{take-add}
 use Rattle.std.specs.Io.KnownBytes.{Appends, Consumes, Keeps}

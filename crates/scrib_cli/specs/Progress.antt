@@ -1,11 +1,13 @@
 -- How far a run has come: what its functions promise one another.
 -- Only contracts of private functions cite this file.
-use Rattle.std.specs.Prelude.{◌≡◌, ◌≢◌, ◌⊎◌, ℕ, ◌+◌, ◌≤◌, true, false, Bool, List, [], ◌∷◌, ◌++◌, length, take, Option, Some, None, option_map, All}
+use Rattle.std.specs.Prelude.{◌≡◌, ◌≢◌, ◌⊎◌, ℕ, ◌+◌, ◌≤◌, true, false, Bool, List, [], ◌∷◌, ◌++◌, length, take, Option, Some, None, option_map, All, IfSome}
 use Rattle.std.specs.Io.KnownBytes.{Appends}
 use Rattle.scrib_core.specs.declared.reply.Reply.{Reply}
+use Rattle.scrib_core.specs.declared.reply.Reply.TheVariants.{Refused}
+use Rattle.scrib_core.specs.declared.reply.Refusal.TheVariants.{OutOfMemory}
 use Rattle.scrib_core.specs.declared.step.Step.{Step}
 use Rattle.scrib_core.specs.declared.step.Step.TheVariants.{Put}
-use Rattle.scrib_core.specs.World.{World}
+use Rattle.scrib_core.specs.World.{World, nothing}
 use Rattle.scrib_core.specs.Marks.{Marks, unmarked}
 use Rattle.scrib_core.specs.Answers.{IsAnswered, Answers}
 use Rattle.scrib_core.specs.Held.{world_of}
@@ -13,6 +15,8 @@ use Rattle.scrib_script.specs.Says.{Says}
 use Rattle.scrib_script.specs.declared.line.Line.{Line}
 use Rattle.scrib_script.specs.declared.line.Line.TheVariants as line
 use Rattle.scrib_cli.specs.declared.run.Run.{Run}
+use Rattle.scrib_cli.specs.declared.telling.Telling.{Telling}
+use Rattle.scrib_cli.specs.declared.telling.Telling.TheVariants.{Printed, Silent}
 use Rattle.scrib_cli.specs.Scripts.{Item, Spells, lines, bare, text_end, steps_of, written, bad_line, end_of_text, reply_line, AppendsPart}
 
 -- no byte of these is an LF
@@ -27,30 +31,60 @@ pub record Place : Type 0 where
   pub line : List ℕ
   pub world : World
 
--- the output of lines from number n on, inside this module text or outside one, in this world
-pub record Whole (n : ℕ) (text : Option (List ℕ)) (ls : List (List ℕ)) (w : World) (output : List ℕ) : Type 0 where
+-- what is told of these bytes: in silence nothing
+abbrev pub said : Telling → List ℕ → List ℕ
+said Printed bytes = bytes
+said Silent bytes = []
+
+-- a run goes on after this reply: in silence, unless memory was refused to its step
+abbrev pub GoesOn : Telling → Reply → Type 0
+GoesOn Printed r = Unit {0}
+GoesOn Silent r = r ≢ Refused OutOfMemory
+
+-- The output of lines from number n on, inside this module text or outside one, in this world, and the world after
+-- them.
+pub record Whole (t : Telling) (n : ℕ) (text : Option (List ℕ)) (ls : List (List ℕ)) (w after : World) (output : List ℕ) : Type 0 where
   pub items : List Item
   pub replies : List Reply
-  pub after : World
   pub marks : Marks
   pub spelled : Spells n text ls items
   pub answered : Answers w unmarked (steps_of items) replies after marks
-  pub is : output ≡ written items replies
+  pub goes_on : All (GoesOn t) replies
+  pub is : output ≡ said t (written items replies)
 
 -- the output, where `bytes` are all that comes from here on
-abbrev pub WholeFrom : Place → List ℕ → List ℕ → Type 0
-WholeFrom p bytes output = Whole p.number p.text (lines (p.line ++ bytes)) p.world output
+abbrev pub WholeFrom : Telling → Place → List ℕ → World → List ℕ → Type 0
+WholeFrom t p bytes after output = Whole t p.number p.text (lines (p.line ++ bytes)) p.world after output
 
 -- `bytes` lead from p to q, and `out` is written on the way
-pub record Leads (p : Place) (bytes out : List ℕ) (q : Place) : Type 0 where
-  pub goes : (more output : List ℕ) → WholeFrom q more output → WholeFrom p (bytes ++ more) (out ++ output)
+pub record Leads (t : Telling) (p : Place) (bytes out : List ℕ) (q : Place) : Type 0 where
+  pub is_said : out ≡ said t out
+  pub goes : (more : List ℕ) (after : World) (output : List ℕ) → WholeFrom t q more after output → WholeFrom t p (bytes ++ more) after (out ++ output)
 
 -- an output begins so, where `bytes` are all that comes from here on
-pub record Short (p : Place) (bytes part : List ℕ) : Type 0 where
+pub record Begins (p : Place) (bytes part : List ℕ) : Type 0 where
+  pub after : World
   pub output : List ℕ
   pub rest : List ℕ
-  pub whole : WholeFrom p bytes output
+  pub whole : WholeFrom Printed p bytes after output
   pub is : output ≡ part ++ rest
+
+-- this much was written where a run failed: a beginning of an output, and in silence nothing
+abbrev pub Short : Telling → Place → List ℕ → List ℕ → Type 0
+Short Printed p bytes part = Begins p bytes part
+Short Silent p bytes part = part ≡ []
+
+-- a whole script was run, and the world after it
+abbrev pub Ran : Telling → Option (List ℕ) → World → Option (List ℕ) → Option (List ℕ) → Type 0
+Ran t r after was now = IfSome r (λ input. (output : List ℕ) × Whole t 1 None (lines input) nothing after output × Appends was now output)
+
+-- the first place of a script
+abbrev pub start : Place
+start = record { number = 1; text = None; line = []; world = nothing }
+
+-- a script failed to be run
+abbrev pub RanShort : Telling → Option (List ℕ) → Option (List ℕ) → Option (List ℕ) → Type 0
+RanShort t r was now = IfSome r (λ input. (part : List ℕ) × Short t start input part × Appends was now part)
 
 -- what is kept of the bytes of a line at most: of one outside module texts a CR and one byte more than it may have
 abbrev pub most : Option (List ℕ) → ℕ
@@ -72,20 +106,21 @@ place r text line = record { number = r.lines + 1; text = text; line = line; wor
 
 -- the run took the bytes in
 pub record Went (old new : Run) (bytes : List ℕ) (was now : Option (List ℕ)) : Type 0 where
+  pub telling : new.telling ≡ old.telling
   pub goes : (text : Option (List ℕ)) (line : List ℕ) → Holds old text line
       → (text' : Option (List ℕ)) × (line' : List ℕ) × (out : List ℕ) × Holds new text' line'
-      × Leads (place old text line) bytes out (place new text' line') × Appends was now out
+      × Leads old.telling (place old text line) bytes out (place new text' line') × Appends was now out
 
 -- the run failed within these bytes
 pub record Stopped (old : Run) (bytes : List ℕ) (was now : Option (List ℕ)) : Type 0 where
   pub so : (text : Option (List ℕ)) (line : List ℕ) → Holds old text line
-      → (part : List ℕ) × ((more : List ℕ) → Short (place old text line) (bytes ++ more) part) × Appends was now part
+      → (part : List ℕ) × ((more : List ℕ) → Short old.telling (place old text line) (bytes ++ more) part) × Appends was now part
 
 -- the run carried out the line that an LF ended, and keeps this of the module text after it
 pub record LineEnded (old : Run) (after : Option (List ℕ)) (v : World) (was now : Option (List ℕ)) : Type 0 where
   pub goes : (text : Option (List ℕ)) (line : List ℕ) → Holds old text line
       → (text' : Option (List ℕ)) × (out : List ℕ) × (after ≡ option_map (take 1048577) text')
-      × Leads (place old text line) (10 ∷ []) out (record { number = old.lines + 1 + 1; text = text'; line = []; world = v })
+      × Leads old.telling (place old text line) (10 ∷ []) out (record { number = old.lines + 1 + 1; text = text'; line = []; world = v })
       × Appends was now out
 
 -- what is written where the script ends, inside a module text or outside
@@ -93,56 +128,61 @@ abbrev pub tail : Bool → List ℕ
 tail true = end_of_text
 tail false = []
 
--- the run carried out its last line, and stands inside a module text or outside
-pub record LastLine (old : Run) (in_text : Bool) (was now : Option (List ℕ)) : Type 0 where
+-- the run carried out its last line, and stands inside a module text or outside, in this world
+pub record LastLine (old : Run) (in_text : Bool) (after : World) (was now : Option (List ℕ)) : Type 0 where
   pub so : (text : Option (List ℕ)) (line : List ℕ) → Holds old text line
-      → (out : List ℕ) × WholeFrom (place old text line) [] (out ++ tail in_text) × Appends was now out
+      → (out : List ℕ) × WholeFrom old.telling (place old text line) [] after (out ++ said old.telling (tail in_text)) × Appends was now out
 
--- the run wrote all of its output
-pub record Ended (old : Run) (was now : Option (List ℕ)) : Type 0 where
+-- the run wrote all of its output, and this is the world after it
+pub record Ended (old : Run) (after : World) (was now : Option (List ℕ)) : Type 0 where
   pub so : (text : Option (List ℕ)) (line : List ℕ) → Holds old text line
-      → (out : List ℕ) × WholeFrom (place old text line) [] out × Appends was now out
+      → (out : List ℕ) × WholeFrom old.telling (place old text line) [] after out × Appends was now out
 
 -- the run failed at its end
 pub record Failed (old : Run) (was now : Option (List ℕ)) : Type 0 where
   pub so : (text : Option (List ℕ)) (line : List ℕ) → Holds old text line
-      → (part : List ℕ) × Short (place old text line) [] part × Appends was now part
+      → (part : List ℕ) × Short old.telling (place old text line) [] part × Appends was now part
 
 -- what a line outside module texts does to the world, what is written for it, and whether a module text begins after it
-abbrev pub Does : ℕ → Line → World → Bool → World → List ℕ → Type 0
-Does n line.Skipped w begins v out = (begins ≡ false) × (v ≡ w) × (out ≡ [])
-Does n line.Put w begins v out = (begins ≡ true) × (v ≡ w) × (out ≡ [])
-Does n (line.Step s) w begins v out = (begins ≡ false) × ((r : Reply) × IsAnswered w unmarked s r v unmarked × (out ≡ reply_line r))
-Does n line.Bad w begins v out = (begins ≡ false) × (v ≡ w) × (out ≡ bad_line n)
+abbrev pub Does : Telling → ℕ → Line → World → Bool → World → List ℕ → Type 0
+Does t n line.Skipped w begins v out = (begins ≡ false) × (v ≡ w) × (out ≡ [])
+Does t n line.Put w begins v out = (begins ≡ true) × (v ≡ w) × (out ≡ [])
+Does t n (line.Step s) w begins v out =
+    (begins ≡ false) × ((r : Reply) × IsAnswered w unmarked s r v unmarked × GoesOn t r × (out ≡ said t (reply_line r)))
+Does t n line.Bad w begins v out = (begins ≡ false) × (v ≡ w) × (out ≡ said t (bad_line n))
 
 -- the line of these bytes was carried out
-pub record CarriedOut (n : ℕ) (bytes : List ℕ) (w : World) (begins : Bool) (v : World) (was now : Option (List ℕ)) : Type 0 where
-  pub said : Line
+pub record CarriedOut (t : Telling) (n : ℕ) (bytes : List ℕ) (w : World) (begins : Bool) (v : World) (was now : Option (List ℕ)) : Type 0 where
+  pub word : Line
   pub out : List ℕ
-  pub says : Says bytes said
-  pub does : Does n said w begins v out
+  pub says : Says bytes word
+  pub does : Does t n word w begins v out
   pub appends : Appends was now out
 
 -- the step was answered, and its reply's line was written
-abbrev pub Answered : World → Step → World → Option (List ℕ) → Option (List ℕ) → Type 0
-Answered w s v was now = (r : Reply) × IsAnswered w unmarked s r v unmarked × Appends was now (reply_line r)
+abbrev pub Answered : Telling → World → Step → World → Option (List ℕ) → Option (List ℕ) → Type 0
+Answered t w s v was now = (r : Reply) × IsAnswered w unmarked s r v unmarked × GoesOn t r × Appends was now (said t (reply_line r))
 
 -- the step was answered, and a beginning of its reply's line was written
-abbrev pub PartAnswered : World → Step → World → Option (List ℕ) → Option (List ℕ) → Type 0
-PartAnswered w s v was now = (r : Reply) × IsAnswered w unmarked s r v unmarked × AppendsPart was now (reply_line r)
+abbrev pub PartAnswered : Telling → World → Step → World → Option (List ℕ) → Option (List ℕ) → Type 0
+PartAnswered t w s v was now = (r : Reply) × IsAnswered w unmarked s r v unmarked × GoesOn t r × AppendsPart was now (said t (reply_line r))
+
+-- the step failed: nothing was written, or a beginning of its reply's line
+abbrev pub PartMade : Telling → World → Step → World → Option (List ℕ) → Option (List ℕ) → Type 0
+PartMade t w s v was now = Appends was now [] ⊎ PartAnswered t w s v was now
 
 -- The line of these bytes failed to be carried out: nothing was written, or a beginning of what is written for it.
-pub data PartCarriedOut (n : ℕ) (bytes : List ℕ) (w : World) (was now : Option (List ℕ)) : Type 0 where
-  unread : Appends was now [] → PartCarriedOut n bytes w was now
-  halfway : (said : Line) (begins : Bool) (v : World) (out : List ℕ) → Says bytes said → Does n said w begins v out → AppendsPart was now out → PartCarriedOut n bytes w was now
+pub data PartCarriedOut (t : Telling) (n : ℕ) (bytes : List ℕ) (w : World) (was now : Option (List ℕ)) : Type 0 where
+  unread : Appends was now [] → PartCarriedOut t n bytes w was now
+  halfway : (word : Line) (begins : Bool) (v : World) (out : List ℕ) → Says bytes word → Does t n word w begins v out → AppendsPart was now out → PartCarriedOut t n bytes w was now
 
 -- The line inside a module text of which so much is kept was carried out: it ended the text, which was put, or the
 -- text goes on with it and its LF.
-abbrev pub CarriedText : List ℕ → List ℕ → World → Option (List ℕ) → World → Option (List ℕ) → Option (List ℕ) → Type 0
-CarriedText kept l w None v was now = (bare (l ++ 10 ∷ []) ≡ text_end) × Answered w (Put kept) v was now
-CarriedText kept l w (Some after) v was now =
+abbrev pub CarriedText : Telling → List ℕ → List ℕ → World → Option (List ℕ) → World → Option (List ℕ) → Option (List ℕ) → Type 0
+CarriedText t kept l w None v was now = (bare (l ++ 10 ∷ []) ≡ text_end) × Answered t w (Put kept) v was now
+CarriedText t kept l w (Some after) v was now =
     (bare (l ++ 10 ∷ []) ≢ text_end) × (length kept ≤ 1048577 → after ≡ take 1048577 (kept ++ (l ++ 10 ∷ []))) × (v ≡ w) × Appends was now []
 
 -- the line inside a module text failed to be carried out
-abbrev pub PartPut : List ℕ → List ℕ → World → World → Option (List ℕ) → Option (List ℕ) → Type 0
-PartPut kept l w v was now = Appends was now [] ⊎ ((bare (l ++ 10 ∷ []) ≡ text_end) × PartAnswered w (Put kept) v was now)
+abbrev pub PartPut : Telling → List ℕ → List ℕ → World → World → Option (List ℕ) → Option (List ℕ) → Type 0
+PartPut t kept l w v was now = Appends was now [] ⊎ ((bare (l ++ 10 ∷ []) ≡ text_end) × PartAnswered t w (Put kept) v was now)

@@ -6,4 +6,5 @@ pub mod fault;
 mod keeping;
 mod run;
 pub mod run_script;
+mod telling;
 mod writing;

@@ -5,7 +5,8 @@ ghost use Rattle.std.specs.Prelude.{◌≤◌};
 use crate::carrying::{carry_out, carry_text, is_text_end, make_step};
 use crate::fault::ScriptFault;
 use crate::keeping::{before_end, keep, next_lf};
-use crate::writing::write_out;
+use crate::telling::Telling;
+use crate::writing::tell;
 use scrib_core::monitor::Core;
 use scrib_core::step::Step;
 use scrib_types::plain::Items;
@@ -29,6 +30,7 @@ const KEPT_LINE_BYTES: usize = 131_074;
 pub struct Run {
     alloc: Global,
     core: Core,
+    telling: Telling,
     // The module text so far, inside one.
     text: Option<Vec<u8>>,
     // The line so far.
@@ -47,7 +49,8 @@ impl Run {
     ghost use Rattle.scrib_cli.specs.Progress.{Holds, Went, Stopped, LineEnded, LastLine, Ended, Failed, NoLf};
 
     /// A run before its first byte.
-    pub fn new(alloc: Global) -> Run
+    pub fn new(alloc: Global, telling: Telling) -> Run
+        ensures telling { result.telling ≡ telling }
         ensures holds { Holds result None [] }
         ensures lines { result.lines ≡ 0 }
         ensures world { world_of result.core ≡ nothing }
@@ -55,11 +58,19 @@ impl Run {
         Run {
             alloc,
             core: Core::new(alloc),
+            telling,
             text: None,
             line: Vec::new(alloc),
             lines: 0,
             bytes: 0,
         }
+    }
+
+    /// The monitor of the steps so far.
+    pub fn into_core(self) -> Core
+        ensures { world_of result ≡ world_of self.core }
+    {
+        self.core
     }
 
     /// Takes the next bytes of the script in, and carries out each line that ends in them.
@@ -78,11 +89,12 @@ impl Run {
 
     /// Carries out the last line, which no LF ended.
     pub fn finish<W: Write>(&mut self, writer: &mut W) -> Result<(), ScriptFault>
-        ensures ok { OnOk result (Ended self.old (W.contents writer.old) (W.contents writer.new)) }
+        ensures ok { OnOk result (Ended self.old (world_of self.new.core) (W.contents writer.old) (W.contents writer.new)) }
         ensures err { OnErr result (Failed self.old (W.contents writer.old) (W.contents writer.new)) }
     {
+        let telling = self.telling;
         if self.last_line(writer)? {
-            write_out(writer, b"refused EndOfText\n")?;
+            tell(telling, writer, b"refused EndOfText\n")?;
         }
         Ok(())
     }
@@ -90,7 +102,7 @@ impl Run {
     // Carries out the last line, which no LF ended. Returns whether the script ends inside a module
     // text.
     fn last_line<W: Write>(&mut self, writer: &mut W) -> Result<bool, ScriptFault>
-        ensures ok { IfOk result (λ in_text. LastLine self.old in_text (W.contents writer.old) (W.contents writer.new)) }
+        ensures ok { IfOk result (λ in_text. LastLine self.old in_text (world_of self.new.core) (W.contents writer.old) (W.contents writer.new)) }
         ensures err { OnErr result (Failed self.old (W.contents writer.old) (W.contents writer.new)) }
     {
         let Some(text) = self.text.take() else {
@@ -98,13 +110,26 @@ impl Run {
                 return Ok(false);
             }
             let line = self.line.as_slice();
-            return carry_out(self.alloc, &mut self.core, self.lines + 1, line, writer);
+            return carry_out(
+                self.alloc,
+                &mut self.core,
+                self.lines + 1,
+                line,
+                self.telling,
+                writer,
+            );
         };
         if !is_text_end(self.line.as_slice()) {
             return Ok(true);
         }
         let text = Items::from_vec(text);
-        make_step(self.alloc, &mut self.core, Step::Put { text }, writer)?;
+        make_step(
+            self.alloc,
+            &mut self.core,
+            Step::Put { text },
+            self.telling,
+            writer,
+        )?;
         Ok(false)
     }
 
@@ -145,10 +170,19 @@ impl Run {
         ensures ok { IfOk result (λ after. LineEnded self.old (option_map (λ v. v.items) after) (world_of self.new.core) (W.contents writer.old) (W.contents writer.new)) }
         ensures err { OnErr result (Stopped self.old (10 ∷ []) (W.contents writer.old) (W.contents writer.new)) }
         ensures lines { OnOk result (self.new.lines ≡ self.old.lines) }
+        ensures telling { OnOk result (self.new.telling ≡ self.old.telling) }
     {
         let Some(text) = self.text.take() else {
             let line = before_end(self.line.as_slice());
-            if carry_out(self.alloc, &mut self.core, self.lines + 1, line, writer)? {
+            let number = self.lines + 1;
+            if carry_out(
+                self.alloc,
+                &mut self.core,
+                number,
+                line,
+                self.telling,
+                writer,
+            )? {
                 return Ok(Some(Vec::new(self.alloc)));
             }
             return Ok(None);
@@ -158,6 +192,7 @@ impl Run {
             &mut self.core,
             text,
             self.line.as_slice(),
+            self.telling,
             writer,
         )
     }

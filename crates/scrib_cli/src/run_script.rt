@@ -1,12 +1,16 @@
 //! Running a script.
 
-ghost use Rattle.std.specs.Prelude.{◌≡◌, ◌<◌, ◌≢◌, ℕ, List, OnOk, OnErr, IfSome, length};
+ghost use Rattle.std.specs.Prelude.{◌≡◌, ◌<◌, ◌≢◌, ℕ, List, IfOk, OnOk, OnErr, IfSome, length};
 ghost use Rattle.std.specs.Io.KnownBytes.{Appends};
+ghost use Rattle.scrib_core.specs.Held.{world_of};
 ghost use Rattle.scrib_cli.specs.Scripts.{IsOutput, AppendsPart};
+ghost use Rattle.scrib_cli.specs.Progress.{Ran, RanShort};
 
 pub use crate::fault::ScriptFault;
 use crate::run::Run;
+use crate::telling::Telling;
 use crate::writing::flush_out;
+use scrib_core::monitor::Core;
 use std::alloc::Global;
 use std::io::{ErrorKind, Read, Write};
 
@@ -33,24 +37,37 @@ pub fn run_script<R: Read, W: Write>(
     ensures err { OnErr result (IfSome (R.remaining reader.old) (λ input. (output : List ℕ) × IsOutput input output
         × AppendsPart (W.contents writer.old) (W.contents writer.new) output)) }
 {
+    let _core = run_whole(alloc, Telling::Printed, reader, writer)?;
+    flush_out(writer)
+}
+
+/// Reads a script and makes its steps over a new monitor, which it returns.
+pub(crate) fn run_whole<R: Read, W: Write>(
+    alloc: Global,
+    telling: Telling,
+    reader: &mut R,
+    writer: &mut W,
+) -> Result<Core, ScriptFault>
+    ensures ok { IfOk result (λ core. Ran telling (R.remaining reader.old) (world_of core) (W.contents writer.old) (W.contents writer.new)) }
+    ensures err { OnErr result (RanShort telling (R.remaining reader.old) (W.contents writer.old) (W.contents writer.new)) }
+{
     let mut piece = vec![in alloc; 0u8; PIECE_BYTES]?;
-    run_by_pieces(alloc, reader, writer, piece.as_mut_slice())
+    run_by_pieces(alloc, telling, reader, writer, piece.as_mut_slice())
 }
 
 // Runs a script that is read by pieces into this buffer.
 fn run_by_pieces<R: Read, W: Write>(
     alloc: Global,
+    telling: Telling,
     reader: &mut R,
     writer: &mut W,
     piece: &mut [u8],
-) -> Result<(), ScriptFault>
+) -> Result<Core, ScriptFault>
     requires { 0 < length piece.old }
-    ensures ok { OnOk result (IfSome (R.remaining reader.old) (λ input. (output : List ℕ) × IsOutput input output
-        × Appends (W.contents writer.old) (W.contents writer.new) output)) }
-    ensures err { OnErr result (IfSome (R.remaining reader.old) (λ input. (output : List ℕ) × IsOutput input output
-        × AppendsPart (W.contents writer.old) (W.contents writer.new) output)) }
+    ensures ok { IfOk result (λ core. Ran telling (R.remaining reader.old) (world_of core) (W.contents writer.old) (W.contents writer.new)) }
+    ensures err { OnErr result (RanShort telling (R.remaining reader.old) (W.contents writer.old) (W.contents writer.new)) }
 {
-    let mut run = Run::new(alloc);
+    let mut run = Run::new(alloc, telling);
     for _ in 0..u64::MAX {
         let n = match reader.read(piece) {
             Ok(n) => n,
@@ -63,7 +80,7 @@ fn run_by_pieces<R: Read, W: Write>(
         };
         if n == 0 {
             run.finish(writer)?;
-            return flush_out(writer);
+            return Ok(run.into_core());
         }
         run.take_piece(writer, &piece[..n])?;
     }

@@ -1,7 +1,6 @@
 use Rattle.std.proofs.Common.{◌≡◌, ◌≤◌, ◌∙◌, ℕ, List, [], ◌∷◌, ◌++◌, length, take, refl, sym, ap, vec_len, arith}
 use Rattle.std.proofs.lemmas.Bool.{false≢true}
 use Rattle.std.proofs.lemmas.List.{append_assoc, length-take}
-use Rattle.scrib_cli.specs.Scripts.{text_end}
 use Rattle.scrib_cli.proofs.Bytes.{take_kept}
 use Rattle.scrib_cli.proofs.Writes.{appends_none}
 use Rattle.scrib_cli.proofs.carrying.carry_text.Goals as goal

@@ -1,20 +1,16 @@
-use Rattle.std.proofs.Common.{◌≡◌, ◌∙◌, ℕ, List, [], ◌∷◌, ◌++◌, sym, ap}
-use Rattle.std.proofs.lemmas.Result.{err_from_is_err_and, on_err_weaker}
-use Rattle.scrib_cli.specs.Scripts.{reply_line}
-use Rattle.scrib_cli.proofs.Writes.{part_none}
+use Rattle.std.proofs.lemmas.Result.{on_err_weaker, on_ok_weaker}
+use Rattle.scrib_core.specs.Held.{world_of}
+use Rattle.scrib_cli.proofs.Tellings.{answered_silently, part_printed}
 use Rattle.scrib_cli.proofs.carrying.make_step.Goals as goal
 
-pub returns-in_err-text-clause-err : goal.returns-in_err-text-clause-err
-returns-in_err-text-clause-err g c =
-    let p = err_from_is_err_and c.from_residual.result c.from_residual.ensures.1 in
-    rw p.1 (c.apply-reply.result, c.apply-reply.ensures.answered, part_none (g.W.Write.contents c.args.writer.now) (reply_line c.apply-reply.result))
+pub returns-in-Printed-clause-err : goal.returns-in-Printed-clause-err
+returns-in-Printed-clause-err g c =
+    on_err_weaker c.write_reply.result
+    (part_printed c.args.telling (world_of c.args.core.now) (world_of c.apply-reply.new.self) c.args.step c.apply-reply.result (g.W.Write.contents c.args.writer.now) (g.W.Write.contents c.write_reply.new.writer) c.apply-reply.ensures.answered c.in-Printed.is)
+    c.write_reply.ensures.err
 
-pub returns-in_err-push-clause-err : goal.returns-in_err-push-clause-err
-returns-in_err-push-clause-err g c =
-    let p = err_from_is_err_and c.from_residual-in_err-push.result c.from_residual-in_err-push.ensures.1 in
-    rw p.1 (c.apply-reply.result, c.apply-reply.ensures.answered, part_none (g.W.Write.contents c.args.writer.now) (reply_line c.apply-reply.result))
-
-pub returns-clause-err : goal.returns-clause-err
-returns-clause-err g c =
-    let bytes : c.as_slice.result.now ≡ reply_line c.apply-reply.result = c.as_slice.ensures.value ∙ c.in_ok-push.ensures.items ∙ ap (λ (t : List ℕ). t ++ 10 ∷ []) c.in_ok-text.ensures in
-    on_err_weaker c.write_out.result (λ p. (c.apply-reply.result, c.apply-reply.ensures.answered, (p.0, p.1, sym bytes ∙ p.2, p.3))) c.write_out.ensures.err
+pub returns-clause-ok : goal.returns-clause-ok
+returns-clause-ok g c =
+    on_ok_weaker c.check_memory.result
+    (answered_silently c.args.telling (world_of c.args.core.now) (world_of c.apply-reply.new.self) c.args.step c.apply-reply.result (g.W.Write.contents c.args.writer.now) (g.W.Write.contents c.args.writer.now) c.apply-reply.ensures.answered c.in-Silent.is)
+    c.check_memory.ensures.ok

@@ -1,4 +1,3 @@
-use Rattle.std.proofs.Common.{◌≡◌}
 use Rattle.scrib_cli.proofs.Bytes.{before_cr, before_other}
 use Rattle.scrib_cli.proofs.keeping.before_end.Goals as goal
 

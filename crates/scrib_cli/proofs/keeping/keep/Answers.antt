@@ -1,4 +1,4 @@
-use Rattle.std.proofs.Common.{◌≡◌, ◌-◌, length, min, arith, ◌∙◌}
+use Rattle.std.proofs.Common.{◌≡◌, ◌-◌, length, min, arith}
 use Rattle.scrib_cli.proofs.Bytes.{kept_more}
 use Rattle.scrib_cli.proofs.keeping.keep.Goals as goal
 

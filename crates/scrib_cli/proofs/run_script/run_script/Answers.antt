@@ -1,8 +1,14 @@
-use Rattle.std.proofs.lemmas.Result.{err_from_is_err_and}
-use Rattle.scrib_cli.proofs.Ending.{never_started}
+use Rattle.scrib_core.specs.Held.{world_of}
+use Rattle.scrib_cli.proofs.Going.{on_ok_any, on_err_any}
+use Rattle.scrib_cli.proofs.Ending.{flushed, flush_failed}
 use Rattle.scrib_cli.proofs.run_script.run_script.Goals as goal
 
-pub returns-in_err-piece-clause-err : goal.returns-in_err-piece-clause-err
-returns-in_err-piece-clause-err g c =
-    let p = err_from_is_err_and c.from_residual.result c.from_residual.ensures.1 in
-    rw p.1 (never_started (g.R.Read.remaining c.args.reader.now) (g.W.Write.contents c.args.writer.now))
+pub returns-clause-ok : goal.returns-clause-ok
+returns-clause-ok g c =
+    on_ok_any c.flush_out.result
+    (flushed (g.R.Read.remaining c.args.reader.now) (world_of c.in_ok-_core._core) (g.W.Write.contents c.args.writer.now) (g.W.Write.contents c.run_whole.new.writer) (g.W.Write.contents c.flush_out.new.writer) c.in_ok-_core.ensures.ok c.flush_out.ensures)
+
+pub returns-clause-err : goal.returns-clause-err
+returns-clause-err g c =
+    on_err_any c.flush_out.result
+    (flush_failed (g.R.Read.remaining c.args.reader.now) (world_of c.in_ok-_core._core) (g.W.Write.contents c.args.writer.now) (g.W.Write.contents c.run_whole.new.writer) (g.W.Write.contents c.flush_out.new.writer) c.in_ok-_core.ensures.ok c.flush_out.ensures)

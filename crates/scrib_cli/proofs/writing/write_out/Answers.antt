@@ -1,4 +1,4 @@
-use Rattle.std.proofs.Common.{◌≡◌, ◌≤◌, ◌+◌, ◌-◌, length, take, arith, sym}
+use Rattle.std.proofs.Common.{◌+◌, take, sym}
 use Rattle.scrib_cli.proofs.Writes.{part_all, part_at, appends_kept, wrote, wrote_within}
 use Rattle.scrib_cli.proofs.writing.write_out.Goals as goal
 use Rattle.scrib_cli.proofs.writing.write_out.Goals.{in-Ok, in-Err+else-ne}

@@ -1,4 +1,4 @@
-use Rattle.std.proofs.Common.{◌≡◌, ◌+◌, ℕ, List, sym, subst}
+use Rattle.std.proofs.Common.{◌+◌, ℕ, List, sym, subst}
 use Rattle.std.proofs.lemmas.Result.{err_from_is_err_and, on_ok_weaker}
 use Rattle.scrib_cli.proofs.Going.{Took, took_none, took_line, took_all, stopped_took, stopped_line, on_err_any, slice_rest}
 use Rattle.scrib_cli.proofs.run.Run.take_piece.Goals as goal

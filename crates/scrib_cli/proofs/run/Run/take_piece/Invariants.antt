@@ -1,4 +1,4 @@
-use Rattle.std.proofs.Common.{ℕ, length}
+use Rattle.std.proofs.Common.{length}
 use Rattle.scrib_cli.proofs.Going.{Took}
 use Rattle.scrib_cli.proofs.run.Run.take_piece.Given as goal
 

@@ -1,0 +1,20 @@
+use Rattle.std.proofs.Common.{◌≡◌, ◌∙◌, ℕ, List, [], ◌∷◌, ◌++◌, sym, ap}
+use Rattle.std.proofs.lemmas.Result.{err_from_is_err_and, on_err_weaker}
+use Rattle.scrib_cli.specs.Scripts.{reply_line}
+use Rattle.scrib_cli.proofs.Writes.{part_none}
+use Rattle.scrib_cli.proofs.carrying.write_reply.Goals as goal
+
+pub returns-in_err-text-clause-err : goal.returns-in_err-text-clause-err
+returns-in_err-text-clause-err g c =
+    let p = err_from_is_err_and c.from_residual.result c.from_residual.ensures.1 in
+    rw p.1 (part_none (g.W.Write.contents c.args.writer.now) (reply_line c.args.reply.now))
+
+pub returns-in_err-push-clause-err : goal.returns-in_err-push-clause-err
+returns-in_err-push-clause-err g c =
+    let p = err_from_is_err_and c.from_residual-in_err-push.result c.from_residual-in_err-push.ensures.1 in
+    rw p.1 (part_none (g.W.Write.contents c.args.writer.now) (reply_line c.args.reply.now))
+
+pub returns-clause-err : goal.returns-clause-err
+returns-clause-err g c =
+    let bytes : c.as_slice.result.now ≡ reply_line c.args.reply.now = c.as_slice.ensures.value ∙ c.in_ok-push.ensures.items ∙ ap (λ (t : List ℕ). t ++ 10 ∷ []) c.in_ok-text.ensures in
+    on_err_weaker c.write_out.result (λ p. (p.0, p.1, sym bytes ∙ p.2, p.3)) c.write_out.ensures.err
