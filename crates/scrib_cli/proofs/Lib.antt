@@ -4,3 +4,4 @@ pub mod Outputs
 pub mod Going
 pub mod Ending
 pub mod Tellings
+pub mod Explained

@@ -2,6 +2,8 @@
 #![tactic(auto)]
 
 mod carrying;
+pub mod explain_script;
+mod explaining;
 pub mod fault;
 mod keeping;
 mod run;

@@ -1,5 +1,5 @@
--- The printed text of replies: verdicts, changes, refusals, and the line of a reply, without its end
--- (this project's own).
+-- The printed text of replies: verdicts, changes, refusals, and the line of a reply, without its end; and that of a
+-- message in flight (this project's own).
 use Rattle.std.specs.Prelude.{ℕ, List, [], ◌∷◌, ◌++◌, codes}
 use Rattle.std.specs.Fmt.{decimal}
 use Rattle.scrib_types.specs.declared.event.Action.{Action}
@@ -8,7 +8,8 @@ use Rattle.scrib_types.specs.declared.event.Verdict.TheVariants.{Permitted, Offe
 use Rattle.scrib_types.specs.declared.event.Told.{Told}
 use Rattle.scrib_types.specs.declared.event.Told.TheVariants.{Stale, Judged}
 use Rattle.scrib_types.specs.declared.spot.Spot.{Spot}
-use Rattle.scrib_types.specs.Texts.{dotted_text, action_text}
+use Rattle.scrib_types.specs.Texts.{dotted_text, message_text, action_text}
+use Rattle.scrib_global.specs.declared.explain.Flight.{Flight}
 use Rattle.scrib_lexer.specs.declared.fault.LexFault.{LexFault}
 use Rattle.scrib_lexer.specs.declared.fault.LexFault.TheVariants as lex
 use Rattle.scrib_parser.specs.declared.fault.ParseFault.{ParseFault}
@@ -122,3 +123,7 @@ line_of (reply.Opened id name) = codes "open " ++ decimal id ++ codes ": " ++ do
 line_of (reply.Noted id place told) = decimal id ++ codes "." ++ decimal place ++ codes " " ++ told_text told
 line_of (reply.Judged id name events told) = decimal id ++ codes " " ++ told_text told
 line_of (reply.Refused f) = codes "refused " ++ refusal_text f
+
+-- `A B hello()`: the sender, the receiver and the message
+unfoldable pub flight_text : Flight → List ℕ
+flight_text f = f.from ++ codes " " ++ f.to ++ codes " " ++ message_text f.message

@@ -1,6 +1,7 @@
-//! The printed text of replies.
+//! The printed text of replies, and of messages in flight.
 #![tactic(auto)]
 
 mod fault;
+pub mod flight;
 pub mod line;
 mod verdict;

@@ -1,0 +1,88 @@
+-- What is printed of a conversation that a monitor shows, and where printing fails.
+use Rattle.std.proofs.Common.{◌≡◌, ◌+◌, ◌⊎◌, inl, inr, ℕ, List, [], ◌∷◌, ◌++◌, ◌∙◌, Option, Some, None, sym, ap, subst, rules}
+use Rattle.std.specs.Prelude.{IfSome, codes, option_map}
+use Rattle.std.specs.Borrow.{Bor}
+use Rattle.std.specs.Fmt.{decimal}
+use Rattle.std.specs.Io.KnownBytes.{Appends, Keeps}
+use Rattle.std.proofs.lemmas.List.{append-nil}
+use Rattle.scrib_types.specs.declared.event.Event.{Event}
+use Rattle.scrib_types.specs.declared.protocol.Protocol.{Protocol}
+use Rattle.scrib_types.specs.Meaning.{agreement_of}
+use Rattle.scrib_library.specs.Modules.{IsMeaning}
+use Rattle.scrib_core.specs.World.{World, conversation, nothing}
+use Rattle.scrib_core.specs.Held.{IsViewed}
+use Rattle.scrib_global.specs.declared.explain.Flight.{Flight}
+use Rattle.scrib_global.specs.Offences.{Offends}
+use Rattle.scrib_global.specs.Explained.{IsExplained}
+use Rattle.scrib_cli.specs.declared.explaining.Explained.{Explained}
+use Rattle.scrib_cli.specs.declared.explaining.Explained.TheVariants.{Flights, Refused}
+use Rattle.scrib_cli.specs.declared.telling.Telling.TheVariants.{Silent}
+use Rattle.scrib_cli.specs.Scripts.{AppendsPart, lines}
+use Rattle.scrib_cli.specs.Progress.{Whole, Ran, RanShort}
+use Rattle.scrib_cli.specs.Explanations.{Explanation, IsExplanation, absent, unknown, offends, flies, flight_lines, refusal_line}
+use Rattle.scrib_cli.proofs.Writes.{appends_more, appends_kept}
+
+-- what a view of the monitor says
+module _ (w : World) (id : ℕ) where
+  pub unknown_viewed : (o : Option (Bor Protocol)) (log : Bor (List Event)) → IsViewed w id (Some (o, log)) → o ≡ None → Explanation w id Refused (refusal_line (codes "UnknownProtocol"))
+  unknown_viewed o log h e = unknown h.0 h.1 (subst (λ (q : Option (Bor Protocol)). IsMeaning w.modules h.0.name (option_map (λ p. agreement_of p.now) q)) e h.2)
+
+  pub offence_viewed : (o : Option (Bor Protocol)) (p : Bor Protocol) (log : Bor (List Event)) (place : ℕ) → IsViewed w id (Some (o, log)) → o ≡ Some p
+      → ((i : ℕ) × (place ≡ i + 1) × Offends (agreement_of p.now) log.now i) → Explanation w id Refused (refusal_line (codes "NotPermitted " ++ decimal place))
+  offence_viewed o p log place h e x =
+      let meaning : IsMeaning w.modules h.0.name (Some (agreement_of p.now)) = subst (λ (q : Option (Bor Protocol)). IsMeaning w.modules h.0.name (option_map (λ r. agreement_of r.now) q)) e h.2 in
+      let here : Offends (agreement_of p.now) h.0.log x.0 = subst (λ (l : List Event). Offends (agreement_of p.now) l x.0) h.3 x.2 in
+      subst (λ (n : ℕ). Explanation w id Refused (refusal_line (codes "NotPermitted " ++ decimal n))) (sym x.1) (offends h.0 (agreement_of p.now) x.0 h.1 meaning here)
+
+  pub flights_viewed : (o : Option (Bor Protocol)) (p : Bor Protocol) (log : Bor (List Event)) (found : List Flight) → IsViewed w id (Some (o, log)) → o ≡ Some p
+      → IsExplained (agreement_of p.now) log.now found → Explanation w id Flights (flight_lines found)
+  flights_viewed o p log found h e x =
+      let meaning : IsMeaning w.modules h.0.name (Some (agreement_of p.now)) = subst (λ (q : Option (Bor Protocol)). IsMeaning w.modules h.0.name (option_map (λ r. agreement_of r.now) q)) e h.2 in
+      let here : IsExplained (agreement_of p.now) h.0.log found = subst (λ (l : List Event). IsExplained (agreement_of p.now) l found) h.3 x in
+      flies h.0 (agreement_of p.now) found h.1 meaning here
+
+-- a silent run writes nothing
+silent_appends : (was now : Option (List ℕ)) (output : List ℕ) → output ≡ [] → Appends was now output → Appends was now []
+silent_appends was now output e a = subst (λ (u : List ℕ). Appends was now u) e a
+
+-- nothing was written, or a beginning of an explanation
+abbrev pub ExplainsPart : Option (List ℕ) → ℕ → Option (List ℕ) → Option (List ℕ) → Type 0
+ExplainsPart r id was now = IfSome r (λ input. Appends was now [] ⊎ ((e : Explained) × (output : List ℕ) × IsExplanation input id e output × AppendsPart was now output))
+
+-- an explanation was written
+abbrev pub ExplainsAll : Option (List ℕ) → ℕ → Explained → Option (List ℕ) → Option (List ℕ) → Type 0
+ExplainsAll r id e was now = IfSome r (λ input. (output : List ℕ) × IsExplanation input id e output × Appends was now output)
+
+-- the run failed
+pub run_stopped : (r : Option (List ℕ)) (id : ℕ) (was now : Option (List ℕ)) → RanShort Silent r was now → ExplainsPart r id was now
+run_stopped None id was now h = search rules
+run_stopped (Some input) id was now h = inl (silent_appends was now h.0 h.1 h.2)
+
+-- no text was made
+pub untold : (r : Option (List ℕ)) (id : ℕ) (w : World) (was now : Option (List ℕ)) → Ran Silent r w was now → ExplainsPart r id was now
+untold None id w was now h = search rules
+untold (Some input) id w was now h = let whole = h.1 in inl (silent_appends was now h.0 whole.is h.2)
+
+-- the text was written in part
+pub told_part : (r : Option (List ℕ)) (id : ℕ) (w : World) (e : Explained) (text : List ℕ) (was mid now : Option (List ℕ)) → Ran Silent r w was mid
+    → Explanation w id e text → AppendsPart mid now text → ExplainsPart r id was now
+told_part None id w e text was mid now h x part = search rules
+told_part (Some input) id w e text was mid now h x part =
+    let whole = h.1 in
+    let all : Appends was now ([] ++ part.0) = appends_more was mid now [] part.0 (silent_appends was mid h.0 whole.is h.2) part.3 in
+    inr (e, text, (whole.items, whole.replies, w, whole.marks, whole.spelled, whole.answered, whole.goes_on, x), (part.0, part.1, part.2, all))
+
+-- the text was written
+pub told_all : (r : Option (List ℕ)) (id : ℕ) (w : World) (e : Explained) (text : List ℕ) (was mid now end : Option (List ℕ)) → Ran Silent r w was mid
+    → Explanation w id e text → Appends mid now text → Keeps now end → ExplainsAll r id e was end
+told_all None id w e text was mid now end h x all keeps = search rules
+told_all (Some input) id w e text was mid now end h x all keeps =
+    let whole = h.1 in
+    let told : Appends was now ([] ++ text) = appends_more was mid now [] text (silent_appends was mid h.0 whole.is h.2) all in
+    (text, (whole.items, whole.replies, w, whole.marks, whole.spelled, whole.answered, whole.goes_on, x), appends_kept was now end text told keeps)
+
+-- the text was written, and then the flush failed
+pub told_unflushed : (r : Option (List ℕ)) (id : ℕ) (w : World) (e : Explained) (text : List ℕ) (was mid now end : Option (List ℕ)) → Ran Silent r w was mid
+    → Explanation w id e text → Appends mid now text → Keeps now end → ExplainsPart r id was end
+told_unflushed r id w e text was mid now end h x all keeps =
+    told_part r id w e text was mid end h x (text, [], sym (append-nil text), appends_kept mid now end text all keeps)

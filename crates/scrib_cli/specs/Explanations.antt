@@ -1,0 +1,45 @@
+-- What is printed of the messages in flight in a conversation (this project's own).
+use Rattle.std.specs.Prelude.{◌≡◌, ◌≢◌, ℕ, ◌+◌, List, [], ◌∷◌, ◌++◌, Some, None, All, codes}
+use Rattle.std.specs.Fmt.{decimal}
+use Rattle.scrib_types.specs.Agreement.{Agreement}
+use Rattle.scrib_library.specs.Modules.{Means, IsMeaning}
+use Rattle.scrib_core.specs.declared.conversation.Conversation.{Conversation}
+use Rattle.scrib_core.specs.declared.reply.Reply.{Reply}
+use Rattle.scrib_core.specs.declared.reply.Reply.TheVariants as reply
+use Rattle.scrib_core.specs.declared.reply.Refusal.TheVariants.{OutOfMemory}
+use Rattle.scrib_core.specs.World.{World, conversation, nothing}
+use Rattle.scrib_core.specs.Marks.{Marks, unmarked}
+use Rattle.scrib_core.specs.Answers.{Answers}
+use Rattle.scrib_global.specs.declared.explain.Flight.{Flight}
+use Rattle.scrib_global.specs.Offences.{Offends}
+use Rattle.scrib_global.specs.Explained.{IsExplained}
+use Rattle.scrib_report.specs.Lines.{flight_text}
+use Rattle.scrib_cli.specs.declared.explaining.Explained.{Explained}
+use Rattle.scrib_cli.specs.declared.explaining.Explained.TheVariants.{Flights, Refused}
+use Rattle.scrib_cli.specs.Scripts.{Item, Spells, lines, steps_of}
+
+-- a line for each message in flight
+abbrev pub flight_lines : List Flight → List ℕ
+flight_lines [] = []
+flight_lines (f ∷ fs) = flight_text f ++ 10 ∷ flight_lines fs
+
+-- a refusal line
+abbrev pub refusal_line : List ℕ → List ℕ
+refusal_line word = codes "refused " ++ word ++ 10 ∷ []
+
+-- The explanation of the conversation of this id in a world, and whether it is a refusal: there is no such
+-- conversation; its protocol means nothing in the library; the place of the first offence of its log, from 1; or
+-- what the log, a run, has in flight, by sender and then receiver in declared order, the oldest first.
+pub data Explanation (w : World) (id : ℕ) : Explained → List ℕ → Type 0 where
+  absent : conversation w id ≡ None → Explanation w id Refused (refusal_line (codes "NoConversation"))
+  unknown : (c : Conversation) → conversation w id ≡ Some c → IsMeaning w.modules c.name None → Explanation w id Refused (refusal_line (codes "UnknownProtocol"))
+  offends : (c : Conversation) (a : Agreement) (i : ℕ) → conversation w id ≡ Some c → Means w.modules c.name a → Offends a c.log i → Explanation w id Refused (refusal_line (codes "NotPermitted " ++ decimal (i + 1)))
+  flies : (c : Conversation) (a : Agreement) (found : List Flight) → conversation w id ≡ Some c → Means w.modules c.name a → IsExplained a c.log found → Explanation w id Flights (flight_lines found)
+
+-- An explanation of a conversation of a script: its steps are made over a new monitor, memory is refused to none of
+-- them, and the conversation is explained in the world after them.
+abbrev pub IsExplanation : List ℕ → ℕ → Explained → List ℕ → Type 0
+IsExplanation input id e output =
+    (items : List Item) × (replies : List Reply) × (w : World) × (marks : Marks)
+    × Spells 1 None (lines input) items × Answers nothing unmarked (steps_of items) replies w marks
+    × All (λ r. r ≢ reply.Refused OutOfMemory) replies × Explanation w id e output
