@@ -20,7 +20,7 @@ use Rattle.scrib_global.proofs.Events.{own_yes}
 use Rattle.scrib_global.proofs.Reading.{own_end}
 
 -- the action is one of these
-abbrev Among : Action → List Action → Type 0
+abbrev pub Among : Action → List Action → Type 0
 Among a [] = ⊥
 Among a (x ∷ xs) = (a ≡ x) ⊎ Among a xs
 
@@ -33,7 +33,7 @@ among_right : (a : Action) (xs ys : List Action) → Among a ys → Among a (xs 
 among_right a [] ys h = h
 among_right a (x ∷ xs) ys h = inr (among_right a xs ys h)
 
-among_cases : (a : Action) (xs ys : List Action) → Among a (xs ++ ys) → Among a xs ⊎ Among a ys
+pub among_cases : (a : Action) (xs ys : List Action) → Among a (xs ++ ys) → Among a xs ⊎ Among a ys
 among_cases a [] ys h = inr h
 among_cases a (x ∷ xs) ys (inl e) = inl (inl e)
 among_cases a (x ∷ xs) ys (inr h) = elim (among_cases a xs ys h) [ inl p ↦ inl (inr p) | inr q ↦ inr q ]
@@ -95,7 +95,7 @@ receptions_named p (Choice n l ls) m k (inr o) =
 unfolding_named : (body : LocalTree) (a : Action) → Among a (named (unfolding_of body)) → Among a (named body)
 unfolding_named body a h = elim (named_put (LocalRec body) body 0 a h) [ inl x ↦ x | inr y ↦ y ]
 
-does_named : {l k : LocalTree} {a : Action} → Does l a k → Among a (named l) × ((b : Action) → Among b (named k) → Among b (named l))
+pub does_named : {l k : LocalTree} {a : Action} → Does l a k → Among a (named l) × ((b : Action) → Among b (named k) → Among b (named l))
 does_named (sends {q} {m} {ls} {l} o) = sends_named q ls m l o
 does_named (receives {p} {m} {ls} {l} o) = receptions_named p ls m l o
 does_named (unfolds {a} {body} d) =

@@ -94,12 +94,6 @@ received_head s p m w x h = sym (append-nil w) ∙ h ∙ ap (λ z. z ++ x) (rece
 pub flights_are : (p q : List ℕ) (log : List Event) (x : List Message) → sent p q log ≡ received p q log ++ x → flights p q log ≡ x
 flights_are p q log x e = ap (λ z. drop (length (received p q log)) z) e ∙ drop-append_seam (received p q log) x
 
--- what is in flight comes after what was received
-pub queued_flights : (log : List Event) → IsQueued log → (p q : List ℕ) → sent p q log ≡ received p q log ++ flights p q log
-queued_flights log h p q =
-    let y = h log [] (sym (append-nil log)) p q in
-    y.1 ∙ ap (λ z. received p q log ++ z) (sym (flights_are p q log y.0 y.1))
-
 -- the first element that passes
 pub any_split : {X : Type 0} (f : X → Bool) (xs : List X) → list_any f xs ≡ true → (ys : List X) × (x : X) × (zs : List X) × (xs ≡ ys ++ x ∷ zs) × (f x ≡ true)
 any_split f [] h = absurd (true≢false (sym h))

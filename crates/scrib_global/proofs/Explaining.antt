@@ -10,6 +10,7 @@ use Rattle.scrib_global.specs.declared.explain.Flight.{Flight}
 use Rattle.scrib_global.specs.Explained.{all_in_flight, IsExplained}
 use Rattle.scrib_global.proofs.Reading.{one_more}
 use Rattle.scrib_global.proofs.Runs.{simulates}
+use Rattle.scrib_global.proofs.Elsewhere.{nothing_elsewhere}
 
 pub flat_more : {X A : Type 0} (f : X → List A) (old cur new : List A) (xs : List X) (i : ℕ) (x : X) → i < length xs → x ≡ get_or xs i x → cur ≡ old ++ flat_map f (take i xs) → new ≡ cur ++ f x → new ≡ old ++ flat_map f (take (i + 1) xs)
 flat_more f old cur new xs i x n is inv pushed =
@@ -25,6 +26,7 @@ explained a v log p found roles e h =
     record {
       run = r;
       exact = h ∙ ap (λ x. all_in_flight x log) e;
+      elsewhere = nothing_elsewhere a v log p;
       carried = s.carries log r.state r.run;
       oldest = s.oldest log p;
     }

@@ -122,15 +122,15 @@ some_from NoBranch h = absurd (true≢false (sym h))
 some_from (Branch m g bs) h = tt
 
 -- the parts of a well-formed communication
-record Parts (roles : List (List ℕ)) (p q : List ℕ) (bs : GlobalBranches) : Type 0 where
-  sender : has_role p roles ≡ true
-  receiver : has_role q roles ≡ true
-  apart : p ≢ q
-  some : NonEmpty bs
-  distinct : Distinct bs
-  branches : branches_well_formed roles bs ≡ true
+pub record Parts (roles : List (List ℕ)) (p q : List ℕ) (bs : GlobalBranches) : Type 0 where
+  pub sender : has_role p roles ≡ true
+  pub receiver : has_role q roles ≡ true
+  pub apart : p ≢ q
+  pub some : NonEmpty bs
+  pub distinct : Distinct bs
+  pub branches : branches_well_formed roles bs ≡ true
 
-parts : (roles : List (List ℕ)) (p q : List ℕ) (bs : GlobalBranches) → well_formed roles (Comm p q bs) ≡ true → Parts roles p q bs
+pub parts : (roles : List (List ℕ)) (p q : List ℕ) (bs : GlobalBranches) → well_formed roles (Comm p q bs) ≡ true → Parts roles p q bs
 parts roles p q bs h =
     let a = and_parts _ (branches_well_formed roles bs) h in
     let b = and_parts _ (distinct_operators bs) a.0 in
@@ -146,7 +146,7 @@ parts roles p q bs h =
       branches = a.1;
     }
 
-rec_body : (roles : List (List ℕ)) (g : GlobalTree) → well_formed roles (GlobalRec g) ≡ true → well_formed roles g ≡ true
+pub rec_body : (roles : List (List ℕ)) (g : GlobalTree) → well_formed roles (GlobalRec g) ≡ true → well_formed roles g ≡ true
 rec_body roles g h = (and_parts _ (well_formed roles g) h).1
 
 mutual
@@ -256,12 +256,12 @@ mutual
       same_one (projects_of r g x (y.one ∙ ap Some (sym (same_local-equal x y.l t.0)))) (same_of r bs y.rest x y.others t.1)
 
 -- a protocol's type
-record Tests (roles : List (List ℕ)) (g : GlobalTree) : Type 0 where
-  closed : is_closed g ≡ true
-  formed : well_formed roles g ≡ true
-  projected : projects g roles ≡ true
+pub record Tests (roles : List (List ℕ)) (g : GlobalTree) : Type 0 where
+  pub closed : is_closed g ≡ true
+  pub formed : well_formed roles g ≡ true
+  pub projected : projects g roles ≡ true
 
-tests : (roles : List (List ℕ)) (g : GlobalTree) → is_protocol roles g ≡ true → Tests roles g
+pub tests : (roles : List (List ℕ)) (g : GlobalTree) → is_protocol roles g ≡ true → Tests roles g
 unfolding is_protocol
 tests roles g h =
     let a = and_parts _ (projects g roles) h in

@@ -59,9 +59,6 @@ pub permitted_traced : (a : Agreement) (log : List Event) (g : GlobalTree) (role
 permitted_traced a log g roles e f p =
     subst (λ x. AllTraced x log roles) (sym e) (subst (AllTraced a.global log) (sym f) p.traces)
 
-pub permitted_joined : (a : Agreement) (log : List Event) (roles : List (List ℕ)) → roles ≡ a.roles → IsPermitted a log → AllJoined roles log
-permitted_joined a log roles f p = subst (λ x. AllJoined x log) (sym f) p.joined
-
 pub permitted_from : {E : Type 0} (a : Agreement) (log : List Event) (g : GlobalTree) (roles : List (List ℕ)) (r : Result Bool E) → g ≡ a.global → roles ≡ a.roles → AllJoined roles log → AllTraced g log roles → IfOk r (λ b. IsTrue b ↔ IsQueued log) → IfOk r (λ b. IsTrue b ↔ IsPermitted a log)
 permitted_from a log g roles (Err x) e f j t q = tt
 permitted_from a log g roles (Ok b) e f j t q =
@@ -87,7 +84,7 @@ trace_front : (w v : List Action) (l : LocalTree) → IsTrace l (w ++ v) → IsT
 trace_front [] v l t = tt
 trace_front (a ∷ w) v l t = (t.0, t.1, trace_front w v t.0 t.2)
 
-own_append : (r : List ℕ) (xs ys : List Event) → own_actions r (xs ++ ys) ≡ own_actions r xs ++ own_actions r ys
+pub own_append : (r : List ℕ) (xs ys : List Event) → own_actions r (xs ++ ys) ≡ own_actions r xs ++ own_actions r ys
 own_append r xs ys = rw (filter-append (is_action_of r) xs ys, map-append action_of (filter (is_action_of r) xs) (filter (is_action_of r) ys)) refl
 
 pub permitted_front : (a : Agreement) (xs ys : List Event) → IsPermitted a (xs ++ ys) → IsPermitted a xs

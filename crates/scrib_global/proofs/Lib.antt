@@ -15,5 +15,6 @@ mod Steps
 mod Order
 mod Candidates
 pub mod Judged
+mod Elsewhere
 mod Explaining
 mod Samples

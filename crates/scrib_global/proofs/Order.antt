@@ -132,9 +132,6 @@ inserted_kept y old new i e act =
       ]),
     )
 
-pub present_kept : (y : Action) (list : List Action) → Contains list y → (act : Action) → Contains list act ↔ (Contains list act ⊎ (y ≡ act))
-present_kept y list h act = (λ a. inl a, λ b. elim b [ inl a ↦ a | inr e ↦ subst (λ z. Contains list z) e h ])
-
 -- the actions that pass, one more
 pub passing_if : {A B E P : Type 0} → P → (A ↔ (B ⊎ E)) → A ↔ (B ⊎ (E × P))
 passing_if p h = (λ a. elim (h.0 a) [ inl b ↦ inl b | inr e ↦ inr (e, p) ], λ x. elim x [ inl b ↦ h.1 (inl b) | inr e ↦ h.1 (inr e.0) ])
@@ -150,12 +147,6 @@ passing_more P xs list new y h g act = (
     | inr e ↦ (g act).1 (inr (e, subst P (sym e) q.1))
   ],
 )
-
-pub passing_none : (P : Action → Type 0) (list : List Action) → list ≡ [] → (act : Action) → Contains list act ↔ (Contains [] act × P act)
-passing_none P list e act = (λ n. let c : Contains [] act = subst (λ z. Contains z act) e n in absurd (omega (arith, c.1)), λ q. absurd (omega (arith, q.0.1)))
-
-pub sorted_none : (list : List Action) → list ≡ [] → AllPairs ComesBefore list
-sorted_none list e i j d lt n = absurd (let z : length list ≡ 0 = ap length e in omega arith)
 
 pub passing_all : (P : Action → Type 0) (xs ys list : List Action) → xs ≡ ys → ((act : Action) → Contains list act ↔ (Contains xs act × P act)) → (act : Action) → Contains list act ↔ (Contains ys act × P act)
 passing_all P xs ys list e h = subst (λ (z : List Action). (act : Action) → Contains list act ↔ (Contains z act × P act)) e h

@@ -1,9 +1,10 @@
 -- What explaining a log answers (this project's own).
-use Rattle.std.specs.Prelude.{◌≡◌, ℕ, ◌+◌, List, map, Result, Ok, Err, Vec}
+use Rattle.std.specs.Prelude.{◌≡◌, ℕ, ◌+◌, false, ◌&&◌, List, [], map, Result, Ok, Err, Vec}
 use Rattle.std.specs.List.{flat_map}
 use Rattle.std.specs.Global.{Global}
 use Rattle.scrib_types.specs.declared.message.Message.{Message}
 use Rattle.scrib_types.specs.declared.event.Event.{Event}
+use Rattle.scrib_types.specs.WellFormed.{has_role}
 use Rattle.scrib_types.specs.Agreement.{Agreement}
 use Rattle.scrib_types.specs.Queues.{flights}
 use Rattle.scrib_global.specs.declared.explain.Flight.{Flight}
@@ -29,10 +30,12 @@ abbrev pub all_in_flight : List (List ℕ) → List Event → List Flight
 all_in_flight roles log = flat_map (λ p. in_flight_from p roles log) roles
 
 -- The log is a run with lawful joins, and these are its messages in flight, as they are in the state that the
--- run reaches; and whoever awaits a message from a role that has some in flight may receive the oldest.
+-- run reaches, and none fly elsewhere than between declared roles; whoever awaits a message from a role that has
+-- some in flight may receive the oldest.
 pub record IsExplained (a : Agreement) (log : List Event) (found : List Flight) : Type 0 where
   pub run : IsJoinedRun a log
   pub exact : found ≡ all_in_flight a.roles log
+  pub elsewhere : (p q : List ℕ) → (has_role p a.roles && has_role q a.roles) ≡ false → flights p q log ≡ []
   pub carried : CarriesFlights log run.state
   pub oldest : MayReceiveOldest a log
 
