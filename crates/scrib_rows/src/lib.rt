@@ -27,3 +27,5 @@ mod tokens;
 mod types;
 #[cfg(test)]
 mod walking;
+#[cfg(test)]
+mod whole_grammar;

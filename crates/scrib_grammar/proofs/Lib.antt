@@ -1,0 +1,15 @@
+pub mod Laws
+pub mod Parts
+pub mod Many
+pub mod Tokens
+pub mod Nonterminals
+pub mod Loop
+pub mod Claims
+pub mod Blocks
+pub mod Modules
+pub mod Declarations
+pub mod Deeper
+pub mod Whole
+pub mod Plain
+pub mod Starts
+pub mod Exclusive

@@ -1,0 +1,3 @@
+pub mod LeftOut
+pub mod Grammar
+pub mod Reading
