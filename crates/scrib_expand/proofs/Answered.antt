@@ -1,0 +1,62 @@
+-- The faults of elaboration, from those of its parts.
+use Rattle.std.proofs.Common.{◌≡◌, ◌⊎◌, ℕ, ◌<◌, true, false, List, length, Some, None, Err, refl, sym, ap, ◌∙◌, subst, ⊎_elim, inl, inr, arith}
+use Rattle.std.specs.List.{slice_get}
+use Rattle.scrib_types.specs.Agreement.{Agreement}
+use Rattle.scrib_grammar.specs.declared.tree.ModuleTree.{ModuleTree}
+use Rattle.scrib_expand.specs.declared.declared.Declared.{Declared}
+use Rattle.scrib_expand.specs.declared.fault.ElaborateFault.{ElaborateFault}
+use Rattle.scrib_expand.specs.declared.fault.ElaborateFault.TheVariants as elaborate
+use Rattle.scrib_expand.specs.declared.fault.FaultKind.{FaultKind}
+use Rattle.scrib_expand.specs.declared.fault.FaultKind.TheVariants as kind
+use Rattle.scrib_expand.specs.Names.{Declaration, has_name, module_names, first_where, declarations, is_called, find_protocol}
+use Rattle.scrib_expand.specs.Elaboration.{Elaborates}
+use Rattle.scrib_expand.specs.Faults.{IsAbsent, FailsAt}
+use Rattle.scrib_expand.specs.Meaning.{Means}
+use Rattle.scrib_expand.specs.Table.{shown, IsFound}
+use Rattle.scrib_expand.specs.Walking.{WalkFails, IsAbsentFault}
+use Rattle.scrib_expand.proofs.Checks.{entry_within}
+use Rattle.scrib_expand.proofs.Refuted.{refuted}
+
+-- the protocol that was asked for isn't there
+
+pub absent_fails : (ms : List ModuleTree) (home : List (List ℕ)) (name : List ℕ) (k : FaultKind) (f : ElaborateFault) → IsAbsent ms home name k → IsAbsentFault home k f → FailsAt ms home name f
+absent_fails ms home name k f away told =
+    ⊎_elim (λ e. subst (FailsAt ms home name) (sym e) (inl (away, refl, refl))) (λ e. subst (FailsAt ms home name) (sym e) tt) told
+
+pub no_module : (ms : List ModuleTree) (home : List (List ℕ)) (name : List ℕ) → has_name home (module_names ms) ≡ false → IsAbsent ms home name kind.NoModule
+no_module ms home name e = inl (refl, e)
+
+pub no_protocol : (ms : List ModuleTree) (home : List (List ℕ)) (name : List ℕ) (ds : List Declaration) → ds ≡ declarations ms → has_name home (module_names ms) ≡ true → first_where (is_called home name) ds ≡ None
+  → IsAbsent ms home name kind.NoProtocol
+no_protocol ms home name ds all e n = inr (refl, e, ap (first_where (is_called home name)) (sym all) ∙ n)
+
+-- a fault of the walk
+
+pub walk_fails : (ms : List ModuleTree) (home : List (List ℕ)) (name : List ℕ) (ds : List Declaration) (at : ℕ) → ds ≡ declarations ms → IsFound ds (is_called home name) at → (f : ElaborateFault) → WalkFails ms ds at f → FailsAt ms home name f
+walk_fails ms home name ds at all found (elaborate.Broken f) h =
+    let w = h found.found found.there in
+    inr (record {
+      root = found.found;
+      there = ap (first_where (is_called home name)) (sym all) ∙ found.first;
+      place = w.0;
+      reached = w.1;
+      named = w.2;
+      fails = w.3;
+    })
+walk_fails ms home name ds at all found elaborate.OutOfMemory h = tt
+
+pub root_within : (ds : List Declared) (home : List (List ℕ)) (name : List ℕ) (k : ℕ) → IsFound (shown ds) (is_called home name) k → k < length ds
+root_within ds home name k found = entry_within ds k found.found found.there
+
+-- where a fault may be told, nothing is missed
+
+pub nothing_missed : (ms : List ModuleTree) (home : List (List ℕ)) (name : List ℕ) (f : ElaborateFault) → FailsAt ms home name f → (a : Agreement) → Elaborates ms home name a → Means (Err f) a
+nothing_missed ms home name (elaborate.Broken f) h a e = refuted ms home name f a h e
+nothing_missed ms home name elaborate.OutOfMemory h a e = tt
+
+pub walk_told : (ms ts : List ModuleTree) (home : List (List ℕ)) (name : List ℕ) (all ds es : List Declared) (at : ℕ) (f : ElaborateFault) → ts ≡ ms → ds ≡ all → es ≡ all → shown all ≡ declarations ts
+  → IsFound (shown ds) (is_called home name) at → WalkFails ts (shown es) at f → FailsAt ms home name f
+walk_told ms ts home name all ds es at f same d e whole found h =
+    let found_all = subst (λ x. IsFound (shown x) (is_called home name) at) d found in
+    let h_all = subst (λ x. WalkFails ts (shown x) at f) e h in
+    subst (λ x. FailsAt x home name f) same (walk_fails ts home name (shown all) at whole found_all f h_all)

@@ -1,0 +1,12 @@
+mod Inversion
+mod Functional
+mod Kept
+mod Typed
+mod Counted
+mod Distinct
+mod Places
+pub mod Spots
+mod Checks
+mod Refuted
+mod Walks
+mod Answered

@@ -1,0 +1,7 @@
+use Rattle.std.proofs.Common.{◌≡◌, ◌++◌, take}
+use Rattle.scrib_expand.specs.Names.{declared_in}
+use Rattle.scrib_expand.specs.Table.{shown}
+use Rattle.scrib_expand.proofs.declared.declare.Given as goal
+
+abbrev pub invariant-loop-protocol : goal.invariant-loop-protocol
+invariant-loop-protocol l = shown l.all.items ≡ shown l.initial.all.items ++ declared_in l.home (take l.protocol-index l.protocol-items)

@@ -1,0 +1,10 @@
+pub mod Source
+pub mod SourceView
+pub mod Names
+pub mod Statements
+pub mod Elaboration
+pub mod Sizes
+pub mod Faults
+pub mod Meaning
+pub mod Table
+pub mod Walking

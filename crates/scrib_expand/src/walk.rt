@@ -1,0 +1,125 @@
+//! The walk over a protocol and all that it calls, which checks their statements: the first pass.
+
+ghost use Rattle.std.specs.Prelude.{◌≡◌, ◌<◌, length, IfOk, IfErr, OnOk, MatchResult};
+ghost use Rattle.scrib_expand.specs.Names.{declarations};
+ghost use Rattle.scrib_expand.specs.Table.{shown};
+ghost use Rattle.scrib_expand.specs.Walking.{AreUnwalked, IsEntered, EnterFails, IsFaultIn, IsReady, TopKeeps, TopStops, WasWalked, WalkFails};
+
+use crate::declared::Declared;
+use crate::fault::{ElaborateFault, Fault};
+use crate::own_names::check_own_names;
+use crate::statements::check_block;
+use crate::stop::{BrokenRule, Place, State, Stop};
+use scrib_grammar::tree::{ModuleTree, ProtocolDeclaration};
+use std::alloc::{AllocError, Global};
+
+/// Walks over the protocol at this place of the table and over each that it calls, once. The protocols in which
+/// the walk is stand on a stack of their own. Where the check of one meets a call of a protocol that wasn't
+/// walked yet, the walk enters that one, and then checks the first again from its beginning. So a protocol is
+/// checked once more for each other that is first entered from it.
+///
+/// # Errors
+/// `Broken` with the first rule that is broken, the module's name and the place; `OutOfMemory` where memory was
+/// refused.
+pub fn walk<'a>(
+    alloc: Global,
+    modules: &'a [ModuleTree],
+    declared: &'a [Declared<'a>],
+    root: usize,
+) -> Result<Vec<State>, ElaborateFault>
+    requires all { shown declared.now ≡ declarations modules.now }
+    requires there { root < length declared.now }
+    ensures ok { IfOk result (λ states. WasWalked modules.now (shown declared.now) root) }
+    ensures fault { IfErr result (WalkFails modules.now (shown declared.now) root) }
+{
+    let mut states = unwalked(alloc, declared.len())?;
+    let mut stack = Vec::new(alloc);
+    let first = declared[root];
+    enter(alloc, first.home, first.protocol, root, &mut states, &mut stack)?;
+    while let Some(top) = stack.pop() {
+        match check(alloc, &*modules, &*declared, &states, top) {
+            Ok(exits) => states[top] = State::Walked(exits),
+            Err(Stop::Call(to)) => {
+                let next = declared[to];
+                stack.push(top)?;
+                enter(alloc, next.home, next.protocol, to, &mut states, &mut stack)?;
+            }
+            Err(Stop::Broken(rule)) => {
+                let at = declared[top];
+                return Err(fault_in(alloc, at.home, rule));
+            }
+            Err(Stop::OutOfMemory) => return Err(ElaborateFault::OutOfMemory),
+        }
+    }
+    Ok(states)
+}
+
+// Checks the statements of the protocol at this place.
+fn check<'a>(
+    alloc: Global,
+    modules: &'a [ModuleTree],
+    declared: &'a [Declared<'a>],
+    states: &'a [State],
+    top: usize,
+) -> Result<bool, Stop>
+    requires ready { IsReady modules.now declared.now states.now top }
+    requires there { top < length declared.now }
+    ensures { MatchResult result
+        (TopKeeps modules.now (shown declared.now) top)
+        (TopStops modules.now (shown declared.now) states.now top) }
+{
+    let at = declared[top];
+    let place = Place {
+        modules,
+        declared,
+        states,
+        at,
+    };
+    let exits = check_block(alloc, &place, &[], at.protocol.body.as_slice())?;
+    Ok(exits)
+}
+
+// Enters a protocol, whose names are checked first.
+fn enter(
+    alloc: Global,
+    home: &ModuleTree,
+    protocol: &ProtocolDeclaration,
+    to: usize,
+    states: &mut Vec<State>,
+    stack: &mut Vec<usize>,
+) -> Result<(), ElaborateFault>
+    requires { to < length states.old.items }
+    ensures ok { OnOk result (IsEntered home.now protocol.now to states.old.items states.new.items stack.old.items stack.new.items) }
+    ensures fault { IfErr result (EnterFails home.now protocol.now) }
+{
+    if let Err(rule) = check_own_names(home, protocol) {
+        return Err(fault_in(alloc, home, rule));
+    }
+    stack.push(to)?;
+    states[to] = State::Walking;
+    Ok(())
+}
+
+// The broken rule as a fault of this module, or `OutOfMemory` where memory for a copy of its name is refused.
+fn fault_in(alloc: Global, home: &ModuleTree, rule: BrokenRule) -> ElaborateFault
+    ensures { IsFaultIn home.now rule result }
+{
+    match home.name.copy(alloc) {
+        Ok(module) => ElaborateFault::Broken(Fault {
+            kind: rule.kind,
+            module,
+            spot: rule.spot,
+        }),
+        Err(error) => ElaborateFault::from(error),
+    }
+}
+
+fn unwalked(alloc: Global, count: usize) -> Result<Vec<State>, AllocError>
+    ensures { IfOk result (λ states. AreUnwalked count states.items) }
+{
+    let mut states = Vec::new(alloc);
+    for _ in 0..count {
+        states.push(State::Unwalked)?;
+    }
+    Ok(states)
+}
