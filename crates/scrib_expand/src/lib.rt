@@ -10,6 +10,4 @@ mod names;
 mod own_names;
 mod statements;
 mod stop;
-#[cfg(test)]
-mod tests;
 mod walk;

@@ -1,8 +1,8 @@
 //! Faults of modules built by hand, each with the place that the rules give, and which of several is told.
 
-use crate::elaborate::elaborate;
-use crate::fault::{ElaborateFault, FaultKind};
-use crate::modules::Modules;
+use scrib_expand::elaborate::elaborate;
+use scrib_expand::fault::{ElaborateFault, FaultKind};
+use scrib_expand::modules::Modules;
 use scrib_grammar::tree::{
     Block, Import, ModuleTree, ProtocolDeclaration, RoleDeclaration, Statement,
 };
