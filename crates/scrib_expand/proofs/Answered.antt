@@ -27,7 +27,7 @@ pub no_module : (ms : List ModuleTree) (home : List (List ℕ)) (name : List ℕ
 no_module ms home name e = inl (refl, e)
 
 pub no_protocol : (ms : List ModuleTree) (home : List (List ℕ)) (name : List ℕ) (ds : List Declaration) → ds ≡ declarations ms → has_name home (module_names ms) ≡ true → first_where (is_called home name) ds ≡ None
-  → IsAbsent ms home name kind.NoProtocol
+    → IsAbsent ms home name kind.NoProtocol
 no_protocol ms home name ds all e n = inr (refl, e, ap (first_where (is_called home name)) (sym all) ∙ n)
 
 -- a fault of the walk
@@ -55,7 +55,7 @@ nothing_missed ms home name (elaborate.Broken f) h a e = refuted ms home name f 
 nothing_missed ms home name elaborate.OutOfMemory h a e = tt
 
 pub walk_told : (ms ts : List ModuleTree) (home : List (List ℕ)) (name : List ℕ) (all ds es : List Declared) (at : ℕ) (f : ElaborateFault) → ts ≡ ms → ds ≡ all → es ≡ all → shown all ≡ declarations ts
-  → IsFound (shown ds) (is_called home name) at → WalkFails ts (shown es) at f → FailsAt ms home name f
+    → IsFound (shown ds) (is_called home name) at → WalkFails ts (shown es) at f → FailsAt ms home name f
 walk_told ms ts home name all ds es at f same d e whole found h =
     let found_all = subst (λ x. IsFound (shown x) (is_called home name) at) d found in
     let h_all = subst (λ x. WalkFails ts (shown x) at f) e h in

@@ -25,7 +25,7 @@ use Rattle.scrib_expand.specs.Table.{declaration_of, shown, protocol_at, IsKnown
 -- the protocol that a call names
 
 pub called-is : (ms : List ModuleTree) (m : ModuleTree) (path : List (List ℕ)) (h : List (List ℕ)) (name : List ℕ) (ds : List Declaration) (r : Option Declaration)
-  → Some h ≡ called_home ms m path → name ≡ last_name path → ds ≡ declarations ms → first_where (is_called h name) ds ≡ r → called ms m path ≡ r
+    → Some h ≡ called_home ms m path → name ≡ last_name path → ds ≡ declarations ms → first_where (is_called h name) ds ≡ r → called ms m path ≡ r
 called-is ms m path h name ds r e n d f =
     ap (option_and_then (λ x. find_protocol ms x (last_name path))) (sym e) ∙ (λ i. first_where (is_called h (sym n i)) (sym d i)) ∙ f
 
@@ -87,7 +87,7 @@ pub begin_left : (ms : List ModuleTree) (d : Declaration) (recs : List (List ℕ
 begin_left ms d recs b p = record { completes = λ f k. k; part = p; none = λ e. absurd (false≢true (sym e)) }
 
 pub step_left : (ms : List ModuleTree) (d : Declaration) (recs : List (List ℕ)) (whole : Body) (e f : Bool) (b c : Body) (s : Step)
-  → b ≡ Then s c → e ≡ true → IsLeft ms d recs whole e b → StepKeeps ms d recs s f → IsLeft ms d recs whole f c
+    → b ≡ Then s c → e ≡ true → IsLeft ms d recs whole e b → StepKeeps ms d recs s f → IsLeft ms d recs whole f c
 step_left ms d recs whole e f b c s is exits l k =
     let part = subst (λ x. IsPart d recs x) is l.part in
     record {
@@ -100,7 +100,7 @@ pub end_left : (ms : List ModuleTree) (d : Declaration) (recs : List (List ℕ))
 end_left ms d recs whole e b is l = l.completes e (subst (λ x. BlockKeeps ms d recs e x e) (sym is) end_keeps)
 
 pub stops_unreachable : (ms : List ModuleTree) (d : Declaration) (recs : List (List ℕ)) (whole : Body) (e : Bool) (b c : Body) (s : Step) (spot : Spot)
-  → b ≡ Then s c → e ≡ false → spot ≡ spot_of s → IsLeft ms d recs whole e b → (root : Declaration) → Fails kind.Unreachable ms root d spot
+    → b ≡ Then s c → e ≡ false → spot ≡ spot_of s → IsLeft ms d recs whole e b → (root : Declaration) → Fails kind.Unreachable ms root d spot
 stops_unreachable ms d recs whole e b c s spot is none at l root =
     let n = l.none none in
     record {
@@ -131,7 +131,7 @@ or_assoc_at true b c = refl
 or_assoc_at false b c = refl
 
 pub step_branches : (ms : List ModuleTree) (d : Declaration) (recs : List (List ℕ)) (whole : Blocks) (e l f : Bool) (bs cs : Blocks) (b : Body) (s : Spot)
-  → bs ≡ OrBlock b s cs → AreLeft ms d recs whole e bs → BlockKeeps ms d recs true b l → f ≡ (e || l) → AreLeft ms d recs whole f cs
+    → bs ≡ OrBlock b s cs → AreLeft ms d recs whole e bs → BlockKeeps ms d recs true b l → f ≡ (e || l) → AreLeft ms d recs whole f cs
 step_branches ms d recs whole e l f bs cs b s is left k o =
     let parts = subst (λ x. AreParts d recs x) is left.parts in
     record {
@@ -177,7 +177,7 @@ choice_parts d recs s p bs spot b part e =
     let parts = subst (λ t. IsPart d recs (Then t b)) e part in λ inner r st. parts inner r (in_choice st)
 
 pub rec_part : (d : Declaration) (recs inner : List (List ℕ)) (s : Step) (x : List ℕ) (c whole : Body) (spot : Spot) (b : Body)
-  → IsPart d recs (Then s b) → s ≡ Repeats x c spot → inner ≡ x ∷ recs → whole ≡ c → IsPart d inner whole
+    → IsPart d recs (Then s b) → s ≡ Repeats x c spot → inner ≡ x ∷ recs → whole ≡ c → IsPart d inner whole
 rec_part d recs inner s x c whole spot b part e i w =
     let parts = subst (λ t. IsPart d recs (Then t b)) e part in
     subst (λ n. IsPart d n whole) (sym i) (subst (λ y. IsPart d (x ∷ recs) y) (sym w) (λ n r st. parts n r (in_rec st)))
@@ -186,12 +186,12 @@ pub keeps_as : (ms : List ModuleTree) (d : Declaration) (recs : List (List ℕ))
 keeps_as ms d recs s t e same k = subst (λ x. StepKeeps ms d recs x e) (sym same) k
 
 pub rec_keeps : (ms : List ModuleTree) (d : Declaration) (recs inner : List (List ℕ)) (s : Step) (x : List ℕ) (c whole : Body) (spot : Spot) (e : Bool)
-  → s ≡ Repeats x c spot → inner ≡ x ∷ recs → whole ≡ c → BlockKeeps ms d inner true whole e → StepKeeps ms d recs s e
+    → s ≡ Repeats x c spot → inner ≡ x ∷ recs → whole ≡ c → BlockKeeps ms d inner true whole e → StepKeeps ms d recs s e
 rec_keeps ms d recs inner s x c whole spot e same i w k =
     keeps_as ms d recs s (Repeats x c spot) e same (repeats_keeps (subst (λ n. BlockKeeps ms d n true c e) i (subst (λ y. BlockKeeps ms d inner true y e) w k)))
 
 pub choice_keeps : (ms : List ModuleTree) (d : Declaration) (recs : List (List ℕ)) (s : Step) (p : List ℕ) (bs whole : Blocks) (spot : Spot) (e : Bool)
-  → s ≡ Chooses p bs spot → whole ≡ bs → has_role p (roles_of d) ≡ true → BlocksKeep ms d recs whole e → StepKeeps ms d recs s e
+    → s ≡ Chooses p bs spot → whole ≡ bs → has_role p (roles_of d) ≡ true → BlocksKeep ms d recs whole e → StepKeeps ms d recs s e
 choice_keeps ms d recs s p bs whole spot e same w h k =
     keeps_as ms d recs s (Chooses p bs spot) e same (chooses_keeps h (subst (λ y. BlocksKeep ms d recs y e) w k))
 

@@ -17,29 +17,29 @@ pub size_of_done : {ms : List ModuleTree} {d : Declaration} {k n : ℕ} → Size
 size_of_done size_done = refl
 
 pub size_of_sends : {ms : List ModuleTree} {d : Declaration} {m : Message} {p : List ℕ} {qs : List (List ℕ)} {s : Spot} {b : Body} {k r : ℕ}
-  → Size ms d (Then (Sends m p qs s) b) k r → (n : ℕ) × Size ms d b k n × (r ≡ length qs + n)
+    → Size ms d (Then (Sends m p qs s) b) k r → (n : ℕ) × Size ms d b k n × (r ≡ length qs + n)
 size_of_sends (size_sends {n = n} t e) = (n, t, e)
 
 pub size_of_chooses : {ms : List ModuleTree} {d : Declaration} {p : List ℕ} {bs : Blocks} {s : Spot} {b : Body} {k r : ℕ}
-  → Size ms d (Then (Chooses p bs s) b) k r → (n t : ℕ) × Size ms d b k n × SizeOfBlocks ms d bs n t × (r ≡ 1 + t)
+    → Size ms d (Then (Chooses p bs s) b) k r → (n t : ℕ) × Size ms d b k n × SizeOfBlocks ms d bs n t × (r ≡ 1 + t)
 size_of_chooses (size_chooses {n = n} {t = t} u v e) = (n, t, u, v, e)
 
 pub size_of_repeats : {ms : List ModuleTree} {d : Declaration} {x : List ℕ} {c : Body} {s : Spot} {b : Body} {k r : ℕ}
-  → Size ms d (Then (Repeats x c s) b) k r → (n t : ℕ) × Size ms d b k n × Size ms d c n t × (r ≡ (if continues_in x c then 1 + t else t))
+    → Size ms d (Then (Repeats x c s) b) k r → (n t : ℕ) × Size ms d b k n × Size ms d c n t × (r ≡ (if continues_in x c then 1 + t else t))
 size_of_repeats (size_repeats {n = n} {t = t} u v e) = (n, t, u, v, e)
 
 pub size_of_continues : {ms : List ModuleTree} {d : Declaration} {x : List ℕ} {s : Spot} {b : Body} {k r : ℕ} → Size ms d (Then (Continues x s) b) k r → r ≡ 1
 size_of_continues size_continues = refl
 
 pub size_of_calls : {ms : List ModuleTree} {d : Declaration} {path roles : List (List ℕ)} {s : Spot} {b : Body} {k r : ℕ}
-  → Size ms d (Then (Calls path roles s) b) k r → (n : ℕ) × (c : Declaration) × Size ms d b k n × (called ms d.home path ≡ Some c) × Size ms c (body_of c.protocol.body) n r
+    → Size ms d (Then (Calls path roles s) b) k r → (n : ℕ) × (c : Declaration) × Size ms d b k n × (called ms d.home path ≡ Some c) × Size ms c (body_of c.protocol.body) n r
 size_of_calls (size_calls {c = c} {n = n} u e v) = (n, c, u, e, v)
 
 pub size_of_none : {ms : List ModuleTree} {d : Declaration} {k r : ℕ} → SizeOfBlocks ms d NoBlock k r → r ≡ 0
 size_of_none size_none = refl
 
 pub size_of_or : {ms : List ModuleTree} {d : Declaration} {b : Body} {s : Spot} {bs : Blocks} {k r : ℕ}
-  → SizeOfBlocks ms d (OrBlock b s bs) k r → (n t : ℕ) × Size ms d b k n × SizeOfBlocks ms d bs k t × (r ≡ (n - 1) + t)
+    → SizeOfBlocks ms d (OrBlock b s bs) k r → (n t : ℕ) × Size ms d b k n × SizeOfBlocks ms d bs k t × (r ≡ (n - 1) + t)
 size_of_or (size_or {n = n} {t = t} u v e) = (n, t, u, v, e)
 
 -- the size of open blocks, one after the other
@@ -86,7 +86,7 @@ mutual
       counted t r (v.0, (s.0, s.1, v.2), subst (λ x. Size ms x (body_of x.protocol.body) v.0 r) same v.4)
 
   joins_counted : {ms : List ModuleTree} {n : ℕ} {sc : Scope} {bs : Blocks} {fs : Frames} {p q : List ℕ} {cs : GlobalBranches}
-    → JoinsTo ms n sc bs fs p q cs → (k t : ℕ) → FramesSize ms fs k → SizeOfBlocks ms sc.within bs k t → branch_nodes cs ≡ t
+      → JoinsTo ms n sc bs fs p q cs → (k t : ℕ) → FramesSize ms fs k → SizeOfBlocks ms sc.within bs k t → branch_nodes cs ≡ t
   joins_counted joins_none k t s u = sym (size_of_none u)
   joins_counted (joins {cs = cs} {ds = ds} ty e j f) k t s u =
       let v = size_of_or u in

@@ -70,7 +70,7 @@ distinct_names-again (s ∷ before) r after h d =
 -- no protocol is found in a module that isn't there
 
 skip_module : (home : List (List ℕ)) (name : List ℕ) (m : ModuleTree) (ps : List ProtocolDeclaration) (rest : List Declaration) → dotted_eq home m.name ≡ false
-  → first_where (is_called home name) (map (λ (p : ProtocolDeclaration). record { home = m; protocol = p }) ps ++ rest) ≡ first_where (is_called home name) rest
+    → first_where (is_called home name) (map (λ (p : ProtocolDeclaration). record { home = m; protocol = p }) ps ++ rest) ≡ first_where (is_called home name) rest
 skip_module home name m [] rest e = refl
 skip_module home name m (p ∷ ps) rest e =
     let d : Declaration = record { home = m; protocol = p } in

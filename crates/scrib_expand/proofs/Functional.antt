@@ -41,7 +41,7 @@ mutual
       types_same t h (subst (λ d. Types ms n (Under (inside_call sc d roles) (body_of d.protocol.body) (Under sc b fs)) h) cs t')
 
   joins_same : {ms : List ModuleTree} {n : ℕ} {sc : Scope} {bs : Blocks} {fs : Frames} {p q : List ℕ} {cs : GlobalBranches}
-    → JoinsTo ms n sc bs fs p q cs → (r : List ℕ) (ds : GlobalBranches) → JoinsTo ms n sc bs fs p r ds → AreSame q r cs ds
+      → JoinsTo ms n sc bs fs p q cs → (r : List ℕ) (ds : GlobalBranches) → JoinsTo ms n sc bs fs p r ds → AreSame q r cs ds
   joins_same joins_none r ds u = record { branches = sym (join_of_none u); receiver = λ h. absurd (false≢true h) }
   joins_same (joins {q = q} {cs = cs} t e j f) r ds u =
       let v = join_of_or u in

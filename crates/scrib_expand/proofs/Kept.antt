@@ -43,11 +43,11 @@ pub of_then : {ms : List ModuleTree} {d : Declaration} {recs : List (List ℕ)} 
 of_then (then_keeps {e = e} s b) = record { before = refl; leads = e; step = s; rest = b; low = omega arith }
 
 pub of_chooses : {ms : List ModuleTree} {d : Declaration} {recs : List (List ℕ)} {p : List ℕ} {bs : Blocks} {s : Spot} {e : Bool} (k : StepKeeps ms d recs (Chooses p bs s) e)
-  → (has_role p (roles_of d) ≡ true) × (c : BlocksKeep ms d recs bs e) × (blocks_height c ≤ step_height k)
+    → (has_role p (roles_of d) ≡ true) × (c : BlocksKeep ms d recs bs e) × (blocks_height c ≤ step_height k)
 of_chooses (chooses_keeps p bs) = (p, bs, omega arith)
 
 pub of_repeats : {ms : List ModuleTree} {d : Declaration} {recs : List (List ℕ)} {x : List ℕ} {b : Body} {s : Spot} {e : Bool} (k : StepKeeps ms d recs (Repeats x b s) e)
-  → (c : BlockKeeps ms d (x ∷ recs) true b e) × (block_height c ≤ step_height k)
+    → (c : BlockKeeps ms d (x ∷ recs) true b e) × (block_height c ≤ step_height k)
 of_repeats (repeats_keeps b) = (b, omega arith)
 
 pub of_done : {ms : List ModuleTree} {d : Declaration} {recs : List (List ℕ)} {e f : Bool} → BlockKeeps ms d recs e Done f → e ≡ f
@@ -68,7 +68,7 @@ pub of_none : {ms : List ModuleTree} {d : Declaration} {recs : List (List ℕ)} 
 of_none none_keeps = refl
 
 pub of_sends : {ms : List ModuleTree} {d : Declaration} {recs : List (List ℕ)} {m : Message} {p : List ℕ} {qs : List (List ℕ)} {s : Spot} {e : Bool} → StepKeeps ms d recs (Sends m p qs s) e
-  → (are_roles (p ∷ qs) (roles_of d) ≡ true) × (has_role p qs ≡ false) × (e ≡ true)
+    → (are_roles (p ∷ qs) (roles_of d) ≡ true) × (has_role p qs ≡ false) × (e ≡ true)
 of_sends (sends_keeps r o) = (r, o, refl)
 
 pub of_continues : {ms : List ModuleTree} {d : Declaration} {recs : List (List ℕ)} {x : List ℕ} {s : Spot} {e : Bool} → StepKeeps ms d recs (Continues x s) e → (has_role x recs ≡ true) × (e ≡ false)

@@ -58,7 +58,7 @@ declarations-more ms i m h e =
     ap declarations (take_more ms i m h ∙ ap (λ x. take i ms ++ x ∷ []) (sym e)) ∙ declarations-push (take i ms) m
 
 pub IsFound-at : (test : Declaration → Bool) (ds : List Declared) (i : ℕ) (d : Declared) → i < length ds → d ≡ get_or ds i d → first_where test (shown (drop i ds)) ≡ first_where test (shown ds)
-  → test (declaration_of d) ≡ true → IsFound (shown ds) test i
+    → test (declaration_of d) ≡ true → IsFound (shown ds) test i
 IsFound-at test ds i d h e same passes =
     let first : first_where test (shown (drop i ds)) ≡ Some (declaration_of d) =
     ap (λ xs. first_where test (shown xs)) (drop_more ds i d h ∙ ap (λ x. x ∷ drop (i + 1) ds) (sym e)) ∙ ap (λ b. if b then Some (declaration_of d) else first_where test (shown (drop (i + 1) ds))) passes in
@@ -94,13 +94,13 @@ looked_in-front m path names h same some e =
     e ∙ ap (looked_in m) (front ∙ ap all_but_last same)
 
 pub called_home-there : (ms : List ModuleTree) (m : ModuleTree) (path names : List (List ℕ)) (h : List (List ℕ)) → names ≡ path → 0 < length path → Some h ≡ looked_in m (take (length names - 1) names)
-  → has_name h (module_names ms) ≡ true → Some h ≡ called_home ms m path
+    → has_name h (module_names ms) ≡ true → Some h ≡ called_home ms m path
 called_home-there ms m path names h same some e there =
     let at = looked_in-front m path names (Some h) same some e in
     sym (ap (λ b. if b then Some h else None) there) ∙ ap (option_and_then (λ n. if has_name n (module_names ms) then Some n else None)) at
 
 pub called_home-away : (ms : List ModuleTree) (m : ModuleTree) (path names : List (List ℕ)) (h : List (List ℕ)) → names ≡ path → 0 < length path → Some h ≡ looked_in m (take (length names - 1) names)
-  → has_name h (module_names ms) ≡ false → None ≡ called_home ms m path
+    → has_name h (module_names ms) ≡ false → None ≡ called_home ms m path
 called_home-away ms m path names h same some e away =
     let at = looked_in-front m path names (Some h) same some e in
     sym (ap (λ b. if b then Some h else None) away) ∙ ap (option_and_then (λ n. if has_name n (module_names ms) then Some n else None)) at

@@ -42,7 +42,7 @@ names_again f spot_of xs spot h d =
 -- the first pass
 
 first_pass : (ms : List ModuleTree) (d : Declaration) (e : _) → KeepsRules ms d e → {path roles : List (List ℕ)} {spot : Spot} → HasStep d (Calls path roles spot)
-  → (c : Declaration) × (are_roles roles (roles_of d) ≡ true) × (distinct_roles roles ≡ true) × (called ms d.home path ≡ Some c) × (length roles ≡ length c.protocol.roles)
+    → (c : Declaration) × (are_roles roles (roles_of d) ≡ true) × (distinct_roles roles ≡ true) × (called ms d.home path ≡ Some c) × (length roles ≡ length c.protocol.roles)
 first_pass ms d e k h = let t = callee k h in (t.to, t.call.declared, t.call.different, t.call.there, t.call.count)
 
 no_role : (ms : List ModuleTree) (d : Declaration) (e : _) → KeepsRules ms d e → (spot : Spot) → HasNoRole d spot → ⊥
@@ -69,7 +69,7 @@ loose ms d e k spot h =
 -- the third pass
 
 needed_type : (ms : List ModuleTree) (root d : Declaration) (g : GlobalTree) → Types ms 0 (start_of root) g → {s : _} {n : ℕ} {sc : Scope} {fs : Frames} (h : IsNeeded ms root d s n sc fs)
-  → (t : GlobalTree) × Types ms n (Under sc (Then s h.after) h.outer) t
+    → (t : GlobalTree) × Types ms n (Under sc (Then s h.after) h.outer) t
 needed_type ms root d g t h = typed_at h.needs g t
 
 unguarded : (ms : List ModuleTree) (root d : Declaration) (g : GlobalTree) → Types ms 0 (start_of root) g → (spot : Spot) → IsUnguarded ms root d spot → ⊥
@@ -86,7 +86,7 @@ pub record IsJoined (ms : List ModuleTree) (n : ℕ) (sc : Scope) (p : List ℕ)
   pub is : type ≡ Comm (role_in sc p) join.receiver branch.here
 
 joined : (ms : List ModuleTree) (root d : Declaration) (g : GlobalTree) → Types ms 0 (start_of root) g → (spot : Spot) (h : IsBranch ms root d spot)
-  → IsJoined ms h.depth h.scope h.chooser h.before h.body spot h.after h.follows h.type
+    → IsJoined ms h.depth h.scope h.chooser h.before h.body spot h.after h.follows h.type
 joined ms root d g t spot h =
     let v = needed_type ms root d g t h.needed in
     let j = subst (λ fs. IsJoin ms h.depth h.scope h.chooser (blocks_before h.before h.body spot h.after) fs v.0) (sym h.needed.same) (type_of_chooses v.1) in

@@ -27,7 +27,7 @@ and_assoc NoBranch bs cs = refl
 and_assoc (Branch m g hs) bs cs = ap (Branch m g) (and_assoc hs bs cs)
 
 pub split_join : {ms : List ModuleTree} {n : ℕ} {sc : Scope} (before : Blocks) {b : Body} {s : Spot} {after : Blocks} {fs : Frames} {p q : List ℕ} {es : GlobalBranches}
-  → JoinsTo ms n sc (blocks_before before b s after) fs p q es → IsSplit ms n sc before b s after fs p q es
+    → JoinsTo ms n sc (blocks_before before b s after) fs p q es → IsSplit ms n sc before b s after fs p q es
 split_join NoBlock {es = es} j = record { earlier = NoBranch; later = es; first = joins_none; second = j; is = refl }
 split_join (OrBlock c t bs) j =
     let v = join_of_or j in
@@ -49,7 +49,7 @@ pub record IsBranchOf (ms : List ModuleTree) (n : ℕ) (sc : Scope) (b : Body) (
   pub is : es ≡ and_branches left (and_branches here right)
 
 pub branch_of_join : {ms : List ModuleTree} {n : ℕ} {sc : Scope} {bs : Blocks} (before : Blocks) (b : Body) (s : Spot) (after : Blocks) {fs : Frames} {p q : List ℕ} {es : GlobalBranches}
-  → JoinsTo ms n sc bs fs p q es → bs ≡ blocks_before before b s after → IsBranchOf ms n sc b fs p q es
+    → JoinsTo ms n sc bs fs p q es → bs ≡ blocks_before before b s after → IsBranchOf ms n sc b fs p q es
 branch_of_join {ms = ms} {n = n} {sc = sc} before b s after {fs = fs} {p = p} {q = q} {es = es} j e =
     let w = split_join before (subst (λ x. JoinsTo ms n sc x fs p q es) e j) in
     let v = join_of_or w.second in

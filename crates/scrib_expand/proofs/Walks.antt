@@ -70,7 +70,7 @@ work states stack = sum_by weight states + length stack
 
 -- those in which it is lead to the last of them
 pub leads_to_last : (ms : List ModuleTree) (ds : List Declaration) (at : ℕ) (root : Declaration) (states : List State) (init : List ℕ) (top : ℕ) (t : Declaration) → slice_get ds top ≡ Some t
-  → IsWalk ms ds at root states (init ++ top ∷ []) → (k : ℕ) (d : Declaration) → slice_get ds k ≡ Some d → slice_get states k ≡ Some Walking → Reaches ms d t
+    → IsWalk ms ds at root states (init ++ top ∷ []) → (k : ℕ) (d : Declaration) → slice_get ds k ≡ Some d → slice_get states k ≡ Some Walking → Reaches ms d t
 leads_to_last ms ds at root states init top t here w k d there walking =
     let p = w.listed k walking in
     let within = slice_get_within (init ++ top ∷ []) p.0 k p.1 in
@@ -80,8 +80,8 @@ leads_to_last ms ds at root states init top t here w k d there walking =
 -- it enters a protocol that the last one calls
 
 pub enters : (ms : List ModuleTree) (ds : List Declaration) (at : ℕ) (root : Declaration) (states : List State) (init : List ℕ) (top to : ℕ) (t c : Declaration)
-  → {path roles : List (List ℕ)} {s : _} → HasStep t (Calls path roles s) → called ms t.home path ≡ Some c → slice_get ds top ≡ Some t → slice_get ds to ≡ Some c → HasOwnNames c
-  → IsWalk ms ds at root states (init ++ top ∷ []) → IsWalk ms ds at root (set states to Walking) ((init ++ top ∷ []) ++ to ∷ [])
+    → {path roles : List (List ℕ)} {s : _} → HasStep t (Calls path roles s) → called ms t.home path ≡ Some c → slice_get ds top ≡ Some t → slice_get ds to ≡ Some c → HasOwnNames c
+    → IsWalk ms ds at root states (init ++ top ∷ []) → IsWalk ms ds at root (set states to Walking) ((init ++ top ∷ []) ++ to ∷ [])
 enters ms ds at root states init top to t c h call here there names w = record {
   states_all = length-set states to Walking ∙ w.states_all;
   walked =
@@ -121,7 +121,7 @@ enters ms ds at root states init top to t c h call here there names w = record {
 -- it leaves the last one, which keeps the rules
 
 pub leaves : (ms : List ModuleTree) (ds : List Declaration) (at : ℕ) (root : Declaration) (states : List State) (init : List ℕ) (top : ℕ) (t : Declaration) (e : Bool)
-  → slice_get ds top ≡ Some t → KeepsRules ms t e → IsWalk ms ds at root states (init ++ top ∷ []) → IsWalk ms ds at root (set states top (Walked e)) init
+    → slice_get ds top ≡ Some t → KeepsRules ms t e → IsWalk ms ds at root states (init ++ top ∷ []) → IsWalk ms ds at root (set states top (Walked e)) init
 leaves ms ds at root states init top t e here kept w = record {
   states_all = length-set states top (Walked e) ∙ w.states_all;
   walked =
@@ -143,7 +143,7 @@ all_unwalked : (n k : ℕ) (s : State) (ss : List State) → ((j : ℕ) (v : Sta
 all_unwalked n k s ss h e = h k s e
 
 pub begins : (ms : List ModuleTree) (ds : List Declaration) (at : ℕ) (root : Declaration) (states : List State) → length states ≡ length ds → ((j : ℕ) (v : State) → slice_get states j ≡ Some v → v ≡ Unwalked)
-  → slice_get ds at ≡ Some root → HasOwnNames root → IsWalk ms ds at root (set states at Walking) (at ∷ [])
+    → slice_get ds at ≡ Some root → HasOwnNames root → IsWalk ms ds at root (set states at Walking) (at ∷ [])
 begins ms ds at root states long fresh here names = record {
   states_all = length-set states at Walking ∙ long;
   walked =
@@ -206,7 +206,7 @@ states_long ms declared at states stack w = w.walk.states_all ∙ length-map dec
 
 -- what the last one's check knows
 pub ready : (ms : List ModuleTree) (declared : List Declared) (at : ℕ) (states : List State) (stack init : List ℕ) (top : ℕ) → shown declared ≡ declarations ms → stack ≡ init ++ top ∷ [] → IsWalkFrom ms declared at states stack
-  → IsReady ms declared states top
+    → IsReady ms declared states top
 ready ms declared at states stack init top all is w =
     let walk = subst (λ s. IsWalk ms (shown declared) at w.root states s) is w.walk in
     record {
@@ -224,7 +224,7 @@ top_within ms declared at states stack init top is w =
     omega arith
 
 pub begins_from : (ms : List ModuleTree) (declared : List Declared) (at : ℕ) (x : Declared) (old states : List State) (none stack : List ℕ) → at < length declared → x ≡ get_or declared at x → AreUnwalked (length declared) old → none ≡ []
-  → IsEntered x.home.now x.protocol.now at old states none stack → IsWalkFrom ms declared at states stack
+    → IsEntered x.home.now x.protocol.now at old states none stack → IsWalkFrom ms declared at states stack
 begins_from ms declared at x old states none stack h is fresh empty e =
     let there : slice_get (shown declared) at ≡ Some (declaration_of x) =
     entry_there declared at x h ∙ ap (λ y. Some (declaration_of y)) (sym is) in
@@ -246,7 +246,7 @@ top_entry ms declared at states stack init top is w = found declared top (top_wi
     found (x ∷ xs) k h = (declaration_of (get_or (x ∷ xs) k x), entry_there (x ∷ xs) k x h)
 
 pub leaves_from : (ms : List ModuleTree) (declared : List Declared) (at : ℕ) (states : List State) (stack init : List ℕ) (top : ℕ) (e : Bool) → stack ≡ init ++ top ∷ [] → IsWalkFrom ms declared at states stack
-  → TopKeeps ms (shown declared) top e → IsWalkFrom ms declared at (set states top (Walked e)) init
+    → TopKeeps ms (shown declared) top e → IsWalkFrom ms declared at (set states top (Walked e)) init
 leaves_from ms declared at states stack init top e is w k =
     let walk = subst (λ s. IsWalk ms (shown declared) at w.root states s) is w.walk in
     let (t, here) = top_entry ms declared at states stack init top is w in
@@ -266,7 +266,7 @@ pub record IsNext (ms : List ModuleTree) (declared : List Declared) (states : Li
   pub stated : to < length states
 
 pub next_of : (ms : List ModuleTree) (declared : List Declared) (at : ℕ) (states seen : List State) (stack init : List ℕ) (top to : ℕ) (s : Stop) → stack ≡ init ++ top ∷ [] → IsWalkFrom ms declared at states stack
-  → seen ≡ states → s ≡ Call to → TopStops ms (shown declared) seen top s → IsNext ms declared states top to
+    → seen ≡ states → s ≡ Call to → TopStops ms (shown declared) seen top s → IsNext ms declared states top to
 next_of ms declared at states seen stack init top to s is w same stop h =
     let (t, here) = top_entry ms declared at states stack init top is w in
     let stops = subst (λ x. TopStops ms (shown declared) seen top x) stop h in
@@ -289,7 +289,7 @@ called_entry ms declared states top to x n is =
     same ∙ ap declaration_of (sym is)
 
 pub enters_from : (ms : List ModuleTree) (declared : List Declared) (at : ℕ) (states after : List State) (stack init pushed last : List ℕ) (top to : ℕ) (x : Declared) → stack ≡ init ++ top ∷ [] → pushed ≡ init ++ top ∷ [] → x ≡ get_or declared to x
-  → IsWalkFrom ms declared at states stack → IsNext ms declared states top to → IsEntered x.home.now x.protocol.now to states after pushed last → IsWalkFrom ms declared at after last
+    → IsWalkFrom ms declared at states stack → IsNext ms declared states top to → IsEntered x.home.now x.protocol.now to states after pushed last → IsWalkFrom ms declared at after last
 enters_from ms declared at states after stack init pushed last top to x is again entry w n e =
     let walk = subst (λ s. IsWalk ms (shown declared) at w.root states s) is w.walk in
     let same = called_entry ms declared states top to x n entry in
@@ -305,7 +305,7 @@ enters_from ms declared at states after stack init pushed last top to x is again
 -- the work grows less
 
 pub less_entering : (ms : List ModuleTree) (declared : List Declared) (states after : List State) (stack init pushed last : List ℕ) (top to : ℕ) (home : _) (protocol : _) → stack ≡ init ++ top ∷ [] → pushed ≡ init ++ top ∷ []
-  → IsNext ms declared states top to → IsEntered home protocol to states after pushed last → work after last < work states stack
+    → IsNext ms declared states top to → IsEntered home protocol to states after pushed last → work after last < work states stack
 less_entering ms declared states after stack init pushed last top to home protocol is again n e =
     let sums = sum_by-set weight states to Walking Unwalked n.stated in
     let was : get_or states to Unwalked ≡ Unwalked = get_or_from_slice_get states to Unwalked Unwalked n.call.unwalked in
@@ -332,7 +332,7 @@ first_fails ms declared at x h is (elaborate.Broken f) e = λ d p.
 first_fails ms declared at x h is elaborate.OutOfMemory e = tt
 
 pub next_fails : (ms : List ModuleTree) (declared : List Declared) (at : ℕ) (states : List State) (stack init : List ℕ) (top to : ℕ) (x : Declared) → stack ≡ init ++ top ∷ [] → x ≡ get_or declared to x
-  → IsWalkFrom ms declared at states stack → IsNext ms declared states top to → (f : ElaborateFault) → EnterFails x.home.now x.protocol.now f → WalkFails ms (shown declared) at f
+    → IsWalkFrom ms declared at states stack → IsNext ms declared states top to → (f : ElaborateFault) → EnterFails x.home.now x.protocol.now f → WalkFails ms (shown declared) at f
 next_fails ms declared at states stack init top to x is entry w n (elaborate.Broken f) e = λ d p.
     let walk = subst (λ s. IsWalk ms (shown declared) at w.root states s) is w.walk in
     let same : w.root ≡ d = cc (w.there, p) in
@@ -342,7 +342,7 @@ next_fails ms declared at states stack init top to x is entry w n (elaborate.Bro
 next_fails ms declared at states stack init top to x is entry w n elaborate.OutOfMemory e = tt
 
 pub broken_fails : (ms : List ModuleTree) (declared : List Declared) (at : ℕ) (states seen : List State) (stack init : List ℕ) (top : ℕ) (x : Declared) (b : BrokenRule) (s : Stop) → stack ≡ init ++ top ∷ [] → x ≡ get_or declared top x
-  → IsWalkFrom ms declared at states stack → s ≡ Broken b → TopStops ms (shown declared) seen top s → (f : ElaborateFault) → IsFaultIn x.home.now b f → WalkFails ms (shown declared) at f
+    → IsWalkFrom ms declared at states stack → s ≡ Broken b → TopStops ms (shown declared) seen top s → (f : ElaborateFault) → IsFaultIn x.home.now b f → WalkFails ms (shown declared) at f
 broken_fails ms declared at states seen stack init top x b s is entry w stop h f told =
     let walk = subst (λ s. IsWalk ms (shown declared) at w.root states s) is w.walk in
     let within = top_within ms declared at states stack init top is w in

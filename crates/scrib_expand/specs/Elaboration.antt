@@ -80,32 +80,32 @@ mutual
     -- a block's end: what follows the block
     closes : {n : ℕ} {sc : Scope} {fs : Frames} {g : GlobalTree} → Types modules n fs g → Types modules n (Under sc Done fs) g
     sends : {n : ℕ} {sc : Scope} {m : Message} {p : List ℕ} {qs : List (List ℕ)} {s : Spot} {b : Body} {fs : Frames} {g h : GlobalTree}
-      → Types modules n (Under sc b fs) g → h ≡ sent m (role_in sc p) (map (role_in sc) qs) g → Types modules n (Under sc (Then (Sends m p qs s) b) fs) h
+        → Types modules n (Under sc b fs) g → h ≡ sent m (role_in sc p) (map (role_in sc) qs) g → Types modules n (Under sc (Then (Sends m p qs s) b) fs) h
     -- a communication with the branches of all, their operators different
     chooses : {n : ℕ} {sc : Scope} {p : List ℕ} {bs : Blocks} {s : Spot} {b : Body} {fs : Frames} {q : List ℕ} {cs : GlobalBranches} {h : GlobalTree}
-      → JoinsTo modules n sc bs (Under sc b fs) (role_in sc p) q cs → has_branches cs ≡ true → distinct_operators cs ≡ true → h ≡ Comm (role_in sc p) q cs
-      → Types modules n (Under sc (Then (Chooses p bs s) b) fs) h
+        → JoinsTo modules n sc bs (Under sc b fs) (role_in sc p) q cs → has_branches cs ≡ true → distinct_operators cs ≡ true → h ≡ Comm (role_in sc p) q cs
+        → Types modules n (Under sc (Then (Chooses p bs s) b) fs) h
     -- a recursion that is continued, and guarded
     repeats : {n : ℕ} {sc : Scope} {x : List ℕ} {c : Body} {s : Spot} {b : Body} {fs : Frames} {g h : GlobalTree}
-      → continues_in x c ≡ true → Types modules (n + 1) (Under (inside sc x n) c (Under sc b fs)) g → leads_to_communication g ≡ true → h ≡ GlobalRec g
-      → Types modules n (Under sc (Then (Repeats x c s) b) fs) h
+        → continues_in x c ≡ true → Types modules (n + 1) (Under (inside sc x n) c (Under sc b fs)) g → leads_to_communication g ≡ true → h ≡ GlobalRec g
+        → Types modules n (Under sc (Then (Repeats x c s) b) fs) h
     -- one that isn't continued leaves no recursion
     passes : {n : ℕ} {sc : Scope} {x : List ℕ} {c : Body} {s : Spot} {b : Body} {fs : Frames} {g : GlobalTree}
-      → continues_in x c ≡ false → Types modules n (Under sc c (Under sc b fs)) g → Types modules n (Under sc (Then (Repeats x c s) b) fs) g
+        → continues_in x c ≡ false → Types modules n (Under sc c (Under sc b fs)) g → Types modules n (Under sc (Then (Repeats x c s) b) fs) g
     -- the recursion's variable: what follows is dropped
     continues : {n : ℕ} {sc : Scope} {x : List ℕ} {s : Spot} {b : Body} {fs : Frames} {k i : ℕ} {h : GlobalTree}
-      → level_of x sc.recs ≡ Some k → n ≡ k + 1 + i → h ≡ GlobalVar i → Types modules n (Under sc (Then (Continues x s) b) fs) h
+        → level_of x sc.recs ≡ Some k → n ≡ k + 1 + i → h ≡ GlobalVar i → Types modules n (Under sc (Then (Continues x s) b) fs) h
     -- the called block, followed by the rest
     calls : {n : ℕ} {sc : Scope} {path roles : List (List ℕ)} {s : Spot} {b : Body} {fs : Frames} {c : Declaration} {g : GlobalTree}
-      → called modules sc.within.home path ≡ Some c → Types modules n (Under (inside_call sc c roles) (body_of c.protocol.body) (Under sc b fs)) g
-      → Types modules n (Under sc (Then (Calls path roles s) b) fs) g
+        → called modules sc.within.home path ≡ Some c → Types modules n (Under (inside_call sc c roles) (body_of c.protocol.body) (Under sc b fs)) g
+        → Types modules n (Under sc (Then (Calls path roles s) b) fs) g
 
   -- each block, followed by the frames, means a communication from p to q, and these are the branches of all
   pub data JoinsTo (modules : List ModuleTree) : ℕ → Scope → Blocks → Frames → (p q : List ℕ) → GlobalBranches → Type 0 where
     joins_none : {n : ℕ} {sc : Scope} {fs : Frames} {p q : List ℕ} → JoinsTo modules n sc NoBlock fs p q NoBranch
     joins : {n : ℕ} {sc : Scope} {b : Body} {s : Spot} {bs : Blocks} {fs : Frames} {p q : List ℕ} {g : GlobalTree} {cs ds es : GlobalBranches}
-      → Types modules n (Under sc b fs) g → g ≡ Comm p q cs → JoinsTo modules n sc bs fs p q ds → es ≡ and_branches cs ds
-      → JoinsTo modules n sc (OrBlock b s bs) fs p q es
+        → Types modules n (Under sc b fs) g → g ≡ Comm p q cs → JoinsTo modules n sc bs fs p q ds → es ≡ and_branches cs ds
+        → JoinsTo modules n sc (OrBlock b s bs) fs p q es
 
 -- an end, a variable, a recursion and a communication are a node each
 abbrev mutual

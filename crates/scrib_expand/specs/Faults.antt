@@ -47,7 +47,7 @@ pub record HasStep (d : Declaration) (s : Step) : Type 0 where
 pub data Reaches (modules : List ModuleTree) : Declaration → Declaration → Type 0 where
   itself : {d : Declaration} → Reaches modules d d
   by_call : {d c e : Declaration} {path roles : List (List ℕ)} {s : Spot} → HasStep d (Calls path roles s) → called modules d.home path ≡ Some c → Reaches modules c e
-    → Reaches modules d e
+      → Reaches modules d e
 
 -- one of the list has a name that one before it has
 pub record IsAgain {X N : Type 0} (name : X → N) (has : N → List N → Bool) (spot_of : X → Spot) (xs : List X) (spot : Spot) : Type 0 where
@@ -117,16 +117,16 @@ pub data Needs (modules : List ModuleTree) : ℕ → Frames → ℕ → Frames �
   needs_itself : {n : ℕ} {fs : Frames} → Needs modules n fs n fs
   needs_close : {n m : ℕ} {sc : Scope} {fs hs : Frames} → Needs modules n fs m hs → Needs modules n (Under sc Done fs) m hs
   needs_sends : {n k : ℕ} {sc : Scope} {m : Message} {p : List ℕ} {qs : List (List ℕ)} {s : Spot} {b : Body} {fs hs : Frames}
-    → Needs modules n (Under sc b fs) k hs → Needs modules n (Under sc (Then (Sends m p qs s) b) fs) k hs
+      → Needs modules n (Under sc b fs) k hs → Needs modules n (Under sc (Then (Sends m p qs s) b) fs) k hs
   needs_branch : {n k : ℕ} {sc : Scope} {p : List ℕ} {bs : Blocks} {s : Spot} {b : Body} {fs hs : Frames} (before : Blocks) (c : Body) (t : Spot) (after : Blocks)
-    → bs ≡ blocks_before before c t after → Needs modules n (Under sc c (Under sc b fs)) k hs → Needs modules n (Under sc (Then (Chooses p bs s) b) fs) k hs
+      → bs ≡ blocks_before before c t after → Needs modules n (Under sc c (Under sc b fs)) k hs → Needs modules n (Under sc (Then (Chooses p bs s) b) fs) k hs
   needs_repeats : {n k : ℕ} {sc : Scope} {x : List ℕ} {c : Body} {s : Spot} {b : Body} {fs hs : Frames}
-    → continues_in x c ≡ true → Needs modules (n + 1) (Under (inside sc x n) c (Under sc b fs)) k hs → Needs modules n (Under sc (Then (Repeats x c s) b) fs) k hs
+      → continues_in x c ≡ true → Needs modules (n + 1) (Under (inside sc x n) c (Under sc b fs)) k hs → Needs modules n (Under sc (Then (Repeats x c s) b) fs) k hs
   needs_passes : {n k : ℕ} {sc : Scope} {x : List ℕ} {c : Body} {s : Spot} {b : Body} {fs hs : Frames}
-    → continues_in x c ≡ false → Needs modules n (Under sc c (Under sc b fs)) k hs → Needs modules n (Under sc (Then (Repeats x c s) b) fs) k hs
+      → continues_in x c ≡ false → Needs modules n (Under sc c (Under sc b fs)) k hs → Needs modules n (Under sc (Then (Repeats x c s) b) fs) k hs
   needs_calls : {n k : ℕ} {sc : Scope} {path roles : List (List ℕ)} {s : Spot} {b : Body} {fs hs : Frames} {c : Declaration}
-    → called modules sc.within.home path ≡ Some c → Needs modules n (Under (inside_call sc c roles) (body_of c.protocol.body) (Under sc b fs)) k hs
-    → Needs modules n (Under sc (Then (Calls path roles s) b) fs) k hs
+      → called modules sc.within.home path ≡ Some c → Needs modules n (Under (inside_call sc c roles) (body_of c.protocol.body) (Under sc b fs)) k hs
+      → Needs modules n (Under sc (Then (Calls path roles s) b) fs) k hs
 
 -- the type of the protocol is made of the type of these frames, at whose head this statement of d stands
 pub record IsNeeded (modules : List ModuleTree) (root d : Declaration) (s : Step) (n : ℕ) (sc : Scope) (fs : Frames) : Type 0 where

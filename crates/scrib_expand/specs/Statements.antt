@@ -31,23 +31,23 @@ mutual
   pub data BlockKeeps (modules : List ModuleTree) : Declaration → (recs : List (List ℕ)) → (before : Bool) → Body → (exits : Bool) → Type 0 where
     end_keeps : {d : Declaration} {recs : List (List ℕ)} {e : Bool} → BlockKeeps modules d recs e Done e
     then_keeps : {d : Declaration} {recs : List (List ℕ)} {s : Step} {b : Body} {e f : Bool} → StepKeeps modules d recs s e → BlockKeeps modules d recs e b f
-      → BlockKeeps modules d recs true (Then s b) f
+        → BlockKeeps modules d recs true (Then s b) f
 
   pub data StepKeeps (modules : List ModuleTree) : Declaration → (recs : List (List ℕ)) → Step → (exits : Bool) → Type 0 where
     -- from a role to others
     sends_keeps : {d : Declaration} {recs : List (List ℕ)} {m : Message} {p : List ℕ} {qs : List (List ℕ)} {s : Spot}
-      → are_roles (p ∷ qs) (roles_of d) ≡ true → has_role p qs ≡ false → StepKeeps modules d recs (Sends m p qs s) true
+        → are_roles (p ∷ qs) (roles_of d) ≡ true → has_role p qs ≡ false → StepKeeps modules d recs (Sends m p qs s) true
     chooses_keeps : {d : Declaration} {recs : List (List ℕ)} {p : List ℕ} {bs : Blocks} {s : Spot} {e : Bool}
-      → has_role p (roles_of d) ≡ true → BlocksKeep modules d recs bs e → StepKeeps modules d recs (Chooses p bs s) e
+        → has_role p (roles_of d) ≡ true → BlocksKeep modules d recs bs e → StepKeeps modules d recs (Chooses p bs s) e
     repeats_keeps : {d : Declaration} {recs : List (List ℕ)} {x : List ℕ} {b : Body} {s : Spot} {e : Bool}
-      → BlockKeeps modules d (x ∷ recs) true b e → StepKeeps modules d recs (Repeats x b s) e
+        → BlockKeeps modules d (x ∷ recs) true b e → StepKeeps modules d recs (Repeats x b s) e
     -- to a recursion round it
     continues_keeps : {d : Declaration} {recs : List (List ℕ)} {x : List ℕ} {s : Spot} → has_role x recs ≡ true → StepKeeps modules d recs (Continues x s) false
     calls_keeps : {d : Declaration} {recs path roles : List (List ℕ)} {s : Spot} {c : Declaration} {e : Bool}
-      → IsCall modules d path roles c → KeepsRules modules c e → StepKeeps modules d recs (Calls path roles s) e
+        → IsCall modules d path roles c → KeepsRules modules c e → StepKeeps modules d recs (Calls path roles s) e
 
   -- a choice has an exit where one of its branches has
   pub data BlocksKeep (modules : List ModuleTree) : Declaration → (recs : List (List ℕ)) → Blocks → (exits : Bool) → Type 0 where
     none_keeps : {d : Declaration} {recs : List (List ℕ)} → BlocksKeep modules d recs NoBlock false
     or_keeps : {d : Declaration} {recs : List (List ℕ)} {b : Body} {s : Spot} {bs : Blocks} {e f g : Bool}
-      → BlockKeeps modules d recs true b e → BlocksKeep modules d recs bs f → g ≡ (e || f) → BlocksKeep modules d recs (OrBlock b s bs) g
+        → BlockKeeps modules d recs true b e → BlocksKeep modules d recs bs f → g ≡ (e || f) → BlocksKeep modules d recs (OrBlock b s bs) g

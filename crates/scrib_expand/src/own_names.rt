@@ -20,10 +20,7 @@ pub const MAX_ROLES: usize = 16;
 ///
 /// # Errors
 /// `TwiceDeclared` at the first name that stands there twice, and `TooManyRoles` at the 17th role.
-pub fn check_own_names(
-    home: &ModuleTree,
-    protocol: &ProtocolDeclaration,
-) -> Result<(), BrokenRule>
+pub fn check_own_names(home: &ModuleTree, protocol: &ProtocolDeclaration) -> Result<(), BrokenRule>
     ensures { MatchResult result
         (λ _. HasOwnNames (record { home = home.now; protocol = protocol.now }))
         (FailsNames (record { home = home.now; protocol = protocol.now })) }

@@ -35,7 +35,14 @@ pub fn walk<'a>(
     let mut states = unwalked(alloc, declared.len())?;
     let mut stack = Vec::new(alloc);
     let first = declared[root];
-    enter(alloc, first.home, first.protocol, root, &mut states, &mut stack)?;
+    enter(
+        alloc,
+        first.home,
+        first.protocol,
+        root,
+        &mut states,
+        &mut stack,
+    )?;
     while let Some(top) = stack.pop() {
         match check(alloc, &*modules, &*declared, &states, top) {
             Ok(exits) => states[top] = State::Walked(exits),

@@ -52,12 +52,7 @@ fn send(alloc: Global, from: &str, to: &str, spot: Spot) -> Result<Statement, Fa
     })
 }
 
-fn call(
-    alloc: Global,
-    path: &[&str],
-    roles: &[&str],
-    spot: Spot,
-) -> Result<Statement, Fail> {
+fn call(alloc: Global, path: &[&str], roles: &[&str], spot: Spot) -> Result<Statement, Fail> {
     let protocol = dotted(alloc, path)?;
     let roles = Items::from_vec(names(alloc, roles)?);
     Ok(Statement::Do {

@@ -32,7 +32,6 @@ check_block-check_statement-requires g c =
     let same = ap size-Statement c.statement-item.is in
     (search (rules, most, same), (c.requires.known, (body_of (drop (c.loop-statement.statement-index + 1) c.args.body.now), subst (λ x. IsPart (protocol_at c.args.place.now) (round_names c.args.recs.now) x) more c.loop-statement.invariant.part)))
 
-
 pub check_block-loop-statement-preserved : goal.check_block-loop-statement-preserved
 check_block-loop-statement-preserved g c =
     let more = body_more c.args.body.now c.loop-statement.statement-index c.statement-item.result c.loop-statement-test.true c.statement-item.is in
@@ -57,7 +56,6 @@ check_branches-check_block-requires g c =
     let size = size_is-Block c.branch-item.result in
     let body = ap (most_of size-Statement) c.as_slice.ensures in
     (search (rules, most, same, size, body), (c.requires.known, subst (λ x. IsPart (protocol_at c.args.place.now) (round_names c.args.recs.now) (body_of x)) (sym c.as_slice.ensures) (branch_part _ _ _ _ c.loop-branch.exits _ _ _ _ more c.loop-branch.invariant)))
-
 
 pub check_branches-loop-branch-preserved : goal.check_branches-loop-branch-preserved
 check_branches-loop-branch-preserved g c =
@@ -92,7 +90,6 @@ check_statement-check_branches-requires g c =
     let same = ap step_of c.in-Choice.is ∙ choice_of c.in-Choice.at c.in-Choice.branches c.in-Choice.spot in
     (search (rules, sized-Choice, sized-Rec), (c.requires.known, subst (λ x. AreParts (protocol_at c.args.place.now) (round_names c.args.recs.now) (blocks_of x)) (sym c.as_slice-in-Choice-2.ensures) (choice_parts (protocol_at c.args.place.now) (round_names c.args.recs.now) _ _ _ _ _ c.requires.part.1 same)))
 
-
 pub check_statement-returns-in_ok-exits-in-Choice : goal.check_statement-returns-in_ok-exits-in-Choice
 check_statement-returns-in_ok-exits-in-Choice g c =
     let same = ap step_of c.in-Choice.is ∙ choice_of c.in-Choice.at c.in-Choice.branches c.in-Choice.spot in
@@ -103,7 +100,6 @@ pub check_statement-check_block-requires : goal.check_statement-check_block-requ
 check_statement-check_block-requires g c =
     let same = ap step_of c.in-Rec.is ∙ rec_of c.in-Rec.name c.in-Rec.body c.in-Rec.spot in
     (search (rules, sized-Choice, sized-Rec), (c.requires.known, rec_part (protocol_at c.args.place.now) (round_names c.args.recs.now) _ _ _ _ _ _ _ c.requires.part.1 same (ap round_names c.deref.ensures.value ∙ c.in_ok-inner-in-Rec.ensures) (ap body_of c.as_slice-in-Rec.ensures)))
-
 
 pub check_statement-returns-in_ok-exits-in-Rec : goal.check_statement-returns-in_ok-exits-in-Rec
 check_statement-returns-in_ok-exits-in-Rec g c =
