@@ -5,6 +5,7 @@ mod carrying;
 pub mod explain_script;
 mod explaining;
 pub mod fault;
+pub mod id;
 mod keeping;
 mod run;
 pub mod run_script;

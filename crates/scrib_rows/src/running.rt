@@ -1,3 +1,5 @@
+mod explaining;
+
 use scrib_cli::run_script::{ScriptFault, run_script};
 use std::alloc::{AllocError, Global};
 use std::io;

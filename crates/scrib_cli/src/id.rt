@@ -1,0 +1,22 @@
+//! The id of a conversation on a command line.
+
+ghost use Rattle.scrib_script.specs.Fields.{Finds, IsNumber};
+
+// The most digits of an id.
+const MAX_DIGITS: usize = 10;
+
+/// The conversation's id that the word says: 1 to 10 decimal digits, at most 4,294,967,295. `None` where the word is
+/// anything else.
+pub fn id_of(word: &str) -> Option<u32>
+    ensures { Finds (IsNumber word.now) result }
+{
+    let bytes = word.as_bytes();
+    if bytes.is_empty() || bytes.len() > MAX_DIGITS {
+        return None;
+    }
+    // `parse` would take the plus.
+    if bytes[0] == b'+' {
+        return None;
+    }
+    word.parse::<u32>().ok()
+}
