@@ -6,8 +6,6 @@ mod edits;
 #[cfg(test)]
 mod elaboration;
 #[cfg(test)]
-mod expansion;
-#[cfg(test)]
 mod grammar;
 #[cfg(test)]
 mod judgement;
