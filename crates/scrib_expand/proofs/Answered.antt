@@ -4,6 +4,9 @@ use Rattle.std.specs.List.{slice_get}
 use Rattle.scrib_types.specs.Agreement.{Agreement}
 use Rattle.scrib_grammar.specs.declared.tree.ModuleTree.{ModuleTree}
 use Rattle.scrib_expand.specs.declared.declared.Declared.{Declared}
+use Rattle.std.proofs.lemmas.Option.{slice_get_within}
+use Rattle.scrib_expand.specs.declared.stop.State.{State}
+use Rattle.scrib_expand.specs.declared.stop.State.TheVariants.{Walked}
 use Rattle.scrib_expand.specs.declared.fault.ElaborateFault.{ElaborateFault}
 use Rattle.scrib_expand.specs.declared.fault.ElaborateFault.TheVariants as elaborate
 use Rattle.scrib_expand.specs.declared.fault.FaultKind.{FaultKind}
@@ -13,7 +16,7 @@ use Rattle.scrib_expand.specs.Elaboration.{Elaborates}
 use Rattle.scrib_expand.specs.Faults.{IsAbsent, FailsAt}
 use Rattle.scrib_expand.specs.Meaning.{Means}
 use Rattle.scrib_expand.specs.Table.{shown, IsFound}
-use Rattle.scrib_expand.specs.Walking.{WalkFails, IsAbsentFault}
+use Rattle.scrib_expand.specs.Walking.{WasWalked, WalkFails, IsAbsentFault}
 use Rattle.scrib_expand.proofs.Checks.{entry_within}
 use Rattle.scrib_expand.proofs.Refuted.{refuted}
 
@@ -60,3 +63,20 @@ walk_told ms ts home name all ds es at f same d e whole found h =
     let found_all = subst (λ x. IsFound (shown x) (is_called home name) at) d found in
     let h_all = subst (λ x. WalkFails ts (shown x) at f) e h in
     subst (λ x. FailsAt x home name f) same (walk_fails ts home name (shown all) at whole found_all f h_all)
+
+-- a fault of the size
+
+pub root_stated : (ts : List ModuleTree) (home : List (List ℕ)) (name : List ℕ) (all ds es : List Declared) (states seen : List State) (at : ℕ) → ds ≡ all → es ≡ all → seen ≡ states → IsFound (shown ds) (is_called home name) at
+    → WasWalked ts (shown es) states at → at < length seen
+root_stated ts home name all ds es states seen at d e same found w =
+    let here = subst (λ x. IsFound (shown x) (is_called home name) at) d found in
+    let walked = subst (λ x. WasWalked ts (shown x) states at) e w in
+    let kept = walked here.found here.there in
+    subst (λ x. at < length x) (sym same) (slice_get_within states at (Walked kept.0) kept.1)
+
+pub size_told : (ms ts : List ModuleTree) (home : List (List ℕ)) (name : List ℕ) (all ds es fs : List Declared) (states seen : List State) (at : ℕ) (f : ElaborateFault) → ts ≡ ms → ds ≡ all → es ≡ all → fs ≡ all → seen ≡ states → shown all ≡ declarations ts
+    → IsFound (shown ds) (is_called home name) at → WasWalked ts (shown es) states at → (WasWalked ts (shown fs) seen at → WalkFails ts (shown fs) at f) → FailsAt ms home name f
+size_told ms ts home name all ds es fs states seen at f same d e g s whole found w h =
+    let walked = subst (λ x. WasWalked ts (shown x) states at) (e ∙ sym g) w in
+    let seen_walked = subst (λ x. WasWalked ts (shown fs) x at) (sym s) walked in
+    walk_told ms ts home name all ds fs at f same d g whole found (h seen_walked)

@@ -44,8 +44,8 @@ entry_is ds k c d e =
     slice_get-map declaration_of ds k ∙ ap (option_map declaration_of) (slice_get-get_or ds k d within) in
     cc
 
-pub state_is : (states : List State) (k : ℕ) (s : State) → k < length states → get_or states k Unwalked ≡ s → slice_get states k ≡ Some s
-state_is states k s h e = slice_get-get_or states k Unwalked h ∙ ap Some e
+pub state_is : (states : List State) (k : ℕ) (d s : State) → k < length states → get_or states k d ≡ s → slice_get states k ≡ Some s
+state_is states k d s h e = slice_get-get_or states k d h ∙ ap Some e
 
 pub entry_of : (p : Place) (path : List (List ℕ)) (k : ℕ) (c : Declaration) → IsKnown p → slice_get (shown p.declared.now) k ≡ Some c → called p.modules.now p.at.home.now path ≡ Some c → IsEntry p path k
 entry_of p path k c known at there =

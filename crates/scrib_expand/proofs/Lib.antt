@@ -10,3 +10,6 @@ mod Checks
 mod Refuted
 mod Walks
 mod Answered
+mod Capped
+mod Grown
+mod Somewhere

@@ -9,16 +9,23 @@ use Rattle.scrib_expand.specs.declared.stop.State.{State}
 use Rattle.scrib_expand.specs.declared.stop.State.TheVariants.{Unwalked, Walking, Walked}
 use Rattle.scrib_expand.specs.Source.{Calls}
 use Rattle.scrib_expand.specs.Names.{Declaration, HasOwnNames, declarations, called}
-use Rattle.scrib_expand.specs.Statements.{KeepsRules, protocol_keeps}
-use Rattle.scrib_expand.specs.Faults.{HasStep, Reaches, itself}
+use Rattle.scrib_expand.specs.Statements.{KeepsRules, protocol_keeps, BlockKeeps}
+use Rattle.scrib_expand.specs.Faults.{HasStep, Reaches, itself, Fails}
 use Rattle.scrib_expand.specs.declared.declared.Declared.{Declared}
 use Rattle.scrib_expand.specs.declared.fault.ElaborateFault.{ElaborateFault}
 use Rattle.scrib_expand.specs.declared.fault.ElaborateFault.TheVariants as elaborate
 use Rattle.scrib_expand.specs.declared.stop.BrokenRule.{BrokenRule}
 use Rattle.scrib_expand.specs.declared.stop.Stop.{Stop}
 use Rattle.scrib_expand.specs.declared.stop.Stop.TheVariants.{Broken, Call, OutOfMemory}
-use Rattle.scrib_expand.specs.Table.{declaration_of, shown}
-use Rattle.scrib_expand.specs.Walking.{AreUnwalked, IsEntered, EnterFails, IsFaultIn, IsReady, IsNextCall, TopKeeps, TopStops, WasWalked, WalkFails}
+use Rattle.scrib_expand.specs.declared.stop.Summary.{Summary}
+use Rattle.scrib_expand.specs.Table.{declaration_of, shown, IsSummary}
+use Rattle.scrib_expand.specs.Walking.{AreUnwalked, IsEntered, EnterFails, IsFaultIn, IsReady, IsNextCall, IsBlockKept, TopKeeps, TopStops, WasWalked, IsSmall, WalkFails}
+use Rattle.scrib_grammar.specs.declared.tree.Statement.{Statement}
+use Rattle.scrib_expand.specs.SourceView.{body_of}
+use Rattle.scrib_expand.specs.declared.fault.FaultKind.TheVariants as kind
+use Rattle.scrib_expand.specs.Sizes.{IsTooLarge}
+use Rattle.scrib_expand.specs.Growth.{BlockGrows}
+use Rattle.scrib_expand.proofs.Checks.{entry_is}
 use Rattle.scrib_expand.proofs.Kept.{reaches_on}
 
 -- the places of a list
@@ -51,7 +58,7 @@ get_set (x ∷ xs) (suc k) v (suc j) w e =
 -- Where a walk stands: the states of all declared protocols, and those in which it is, the outermost first.
 pub record IsWalk (ms : List ModuleTree) (ds : List Declaration) (at : ℕ) (root : Declaration) (states : List State) (stack : List ℕ) : Type 0 where
   pub states_all : length states ≡ length ds
-  pub walked : (k : ℕ) (d : Declaration) (e : Bool) → slice_get ds k ≡ Some d → slice_get states k ≡ Some (Walked e) → KeepsRules ms d e
+  pub walked : (k : ℕ) (d : Declaration) (s : Summary) → slice_get ds k ≡ Some d → slice_get states k ≡ Some (Walked s) → IsSummary ms d s
   pub listed : (k : ℕ) → slice_get states k ≡ Some Walking → (i : ℕ) × (slice_get stack i ≡ Some k)
   pub inside : (i k : ℕ) → slice_get stack i ≡ Some k → k < length ds
   pub named : (i k : ℕ) (d : Declaration) → slice_get stack i ≡ Some k → slice_get ds k ≡ Some d → HasOwnNames d
@@ -63,7 +70,7 @@ pub record IsWalk (ms : List ModuleTree) (ds : List Declaration) (at : ℕ) (roo
 abbrev pub weight : State → ℕ
 weight Unwalked = 2
 weight Walking = 0
-weight (Walked e) = 0
+weight (Walked s) = 0
 
 abbrev pub work : List State → List ℕ → ℕ
 work states stack = sum_by weight states + length stack
@@ -120,12 +127,12 @@ enters ms ds at root states init top to t c h call here there names w = record {
 
 -- it leaves the last one, which keeps the rules
 
-pub leaves : (ms : List ModuleTree) (ds : List Declaration) (at : ℕ) (root : Declaration) (states : List State) (init : List ℕ) (top : ℕ) (t : Declaration) (e : Bool)
-    → slice_get ds top ≡ Some t → KeepsRules ms t e → IsWalk ms ds at root states (init ++ top ∷ []) → IsWalk ms ds at root (set states top (Walked e)) init
+pub leaves : (ms : List ModuleTree) (ds : List Declaration) (at : ℕ) (root : Declaration) (states : List State) (init : List ℕ) (top : ℕ) (t : Declaration) (e : Summary)
+    → slice_get ds top ≡ Some t → IsSummary ms t e → IsWalk ms ds at root states (init ++ top ∷ []) → IsWalk ms ds at root (set states top (Walked e)) init
 leaves ms ds at root states init top t e here kept w = record {
   states_all = length-set states top (Walked e) ∙ w.states_all;
   walked =
-      λ k d f p q. ⊎_elim (λ x. let same : slice_get ds top ≡ Some d = ap (slice_get ds) (sym x.0) ∙ p in let d_is : t ≡ d = cc in let e_is : e ≡ f = cc (x.1) in subst (λ y. KeepsRules ms y f) d_is (subst (KeepsRules ms t) e_is kept)) (λ x. w.walked k d f p x.1) (get_set states top (Walked e) k (Walked f) q);
+      λ k d f p q. ⊎_elim (λ x. let same : slice_get ds top ≡ Some d = ap (slice_get ds) (sym x.0) ∙ p in let d_is : t ≡ d = cc in let e_is : e ≡ f = cc (x.1) in subst (λ y. IsSummary ms y f) d_is (subst (IsSummary ms t) e_is kept)) (λ x. w.walked k d f p x.1) (get_set states top (Walked e) k (Walked f) q);
   listed =
       λ k q. ⊎_elim (λ x. absurd (cc (x.1))) (λ x. let p = w.listed k x.1 in ⊎_elim (λ y. (p.0, y)) (λ y. absurd (x.0 (sym y.1))) (get_either init top k p.0 p.1)) (get_set states top (Walked e) k Walking q);
   inside = λ i k p. w.inside i k (get_front init top k i p);
@@ -168,17 +175,17 @@ begins ms ds at root states long fresh here names = record {
 
 -- it ends
 
-pub ended : (ms : List ModuleTree) (ds : List Declaration) (at : ℕ) (root : Declaration) (states : List State) → slice_get ds at ≡ Some root → IsWalk ms ds at root states [] → (e : Bool) × KeepsRules ms root e
+pub ended : (ms : List ModuleTree) (ds : List Declaration) (at : ℕ) (root : Declaration) (states : List State) → slice_get ds at ≡ Some root → IsWalk ms ds at root states [] → (s : Summary) × (slice_get states at ≡ Some (Walked s)) × IsSummary ms root s
 ended ms ds at root states here w =
     let within = slice_get_within ds at root here in
     let long = w.states_all in
     let below : at < length states = omega arith in
     by (get_or states at Unwalked) (slice_get-get_or states at Unwalked below)
   where
-    by : (s : State) → slice_get states at ≡ Some s → (e : Bool) × KeepsRules ms root e
+    by : (s : State) → slice_get states at ≡ Some s → (f : Summary) × (slice_get states at ≡ Some (Walked f)) × IsSummary ms root f
     by Unwalked e = absurd (w.entered e)
     by Walking e = let p = w.listed at e in absurd (cc (p.1))
-    by (Walked f) e = (f, w.walked at root f here e)
+    by (Walked f) e = (f, e, w.walked at root f here e)
 
 -- the states at the beginning
 
@@ -245,7 +252,7 @@ top_entry ms declared at states stack init top is w = found declared top (top_wi
     found [] k h = absurd (omega arith)
     found (x ∷ xs) k h = (declaration_of (get_or (x ∷ xs) k x), entry_there (x ∷ xs) k x h)
 
-pub leaves_from : (ms : List ModuleTree) (declared : List Declared) (at : ℕ) (states : List State) (stack init : List ℕ) (top : ℕ) (e : Bool) → stack ≡ init ++ top ∷ [] → IsWalkFrom ms declared at states stack
+pub leaves_from : (ms : List ModuleTree) (declared : List Declared) (at : ℕ) (states : List State) (stack init : List ℕ) (top : ℕ) (e : Summary) → stack ≡ init ++ top ∷ [] → IsWalkFrom ms declared at states stack
     → TopKeeps ms (shown declared) top e → IsWalkFrom ms declared at (set states top (Walked e)) init
 leaves_from ms declared at states stack init top e is w k =
     let walk = subst (λ s. IsWalk ms (shown declared) at w.root states s) is w.walk in
@@ -254,7 +261,7 @@ leaves_from ms declared at states stack init top e is w k =
     record {
       root = w.root;
       there = w.there;
-      walk = leaves ms (shown declared) at w.root states init top t e here (protocol_keeps names (k t here)) walk;
+      walk = leaves ms (shown declared) at w.root states init top t e here (record { kept = protocol_keeps names (k t here).keeps; grows = (k t here).grows }) walk;
     }
 
 -- the call at which a check stopped
@@ -315,7 +322,7 @@ less_entering ms declared states after stack init pushed last top to home protoc
     let same : length pushed ≡ length stack = ap length (again ∙ sym is) in
     omega arith
 
-pub less_leaving : (states : List State) (stack init : List ℕ) (top : ℕ) (e : Bool) → stack ≡ init ++ top ∷ [] → top < length states → work (set states top (Walked e)) init < work states stack
+pub less_leaving : (states : List State) (stack init : List ℕ) (top : ℕ) (e : Summary) → stack ≡ init ++ top ∷ [] → top < length states → work (set states top (Walked e)) init < work states stack
 less_leaving states stack init top e is h =
     let sums = sum_by-set weight states top (Walked e) Unwalked h in
     let longer : length stack ≡ length init + 1 = ap length is ∙ length-append init (top ∷ []) in
@@ -352,12 +359,60 @@ broken_fails ms declared at states seen stack init top x b s is entry w stop h f
     let reach = walk.reached (length init) top (declaration_of x) (get_last init top) here in
     ⊎_elim (λ e. subst (WalkFails ms (shown declared) at) (sym e) (λ d p. let same : w.root ≡ d = cc (w.there, p) in (declaration_of x, subst (λ r. Reaches ms r (declaration_of x)) same reach, refl, stops d (declaration_of x) here))) (λ e. subst (WalkFails ms (shown declared) at) (sym e) tt) told
 
-pub ended_from : (ms : List ModuleTree) (declared : List Declared) (at : ℕ) (states : List State) (stack : List ℕ) → stack ≡ [] → IsWalkFrom ms declared at states stack → WasWalked ms (shown declared) at
+pub ended_from : (ms : List ModuleTree) (declared : List Declared) (at : ℕ) (states : List State) (stack : List ℕ) → stack ≡ [] → IsWalkFrom ms declared at states stack → WasWalked ms (shown declared) states at
 ended_from ms declared at states stack none w = λ d p.
     let walk = subst (λ s. IsWalk ms (shown declared) at w.root states s) none w.walk in
     let same : w.root ≡ d = cc (w.there, p) in
-    subst (λ r. (e : Bool) × KeepsRules ms r e) same (ended ms (shown declared) at w.root states w.there walk)
+    subst (λ r. (s : Summary) × (slice_get states at ≡ Some (Walked s)) × IsSummary ms r s) same (ended ms (shown declared) at w.root states w.there walk)
 
 pub no_items : (xs : List ℕ) → length xs ≡ 0 → xs ≡ []
 no_items [] e = refl
 no_items (x ∷ xs) e = absurd (omega arith)
+
+-- what the check of the last one found
+pub block_kept : (ms : List ModuleTree) (declared : List Declared) (k : ℕ) (x : Declared) (d : Declaration) (a b : List Statement) (s : Summary) → slice_get (shown declared) k ≡ Some d → x ≡ get_or declared k x
+    → a ≡ x.protocol.now.body → b ≡ x.protocol.now.body → BlockKeeps ms (declaration_of x) [] true (body_of a) s.exits → BlockGrows ms (declaration_of x) (body_of b) s.size → IsBlockKept ms d s
+block_kept ms declared k x d a b s here is p q keeps grows =
+    let same : declaration_of x ≡ d = sym (entry_is declared k d x here ∙ ap declaration_of (sym is)) in
+    subst (λ y. IsBlockKept ms y s) same (record {
+      keeps = subst (λ y. BlockKeeps ms (declaration_of x) [] true (body_of y) s.exits) p keeps;
+      grows = subst (λ y. BlockGrows ms (declaration_of x) (body_of y) s.size) q grows;
+    })
+
+-- the size of the protocol at which the walk began
+
+pub small_at : (ms : List ModuleTree) (ds : List Declaration) (states : List State) (at : ℕ) (s : Summary) → slice_get states at ≡ Some (Walked s) → s.size.base < 4096 → WasWalked ms ds states at → IsSmall ms ds at
+small_at ms ds states at s walked below w = λ d here.
+    let (t, there, kept) = w d here in
+    let same : t ≡ s = cc (there, walked) in
+    let g = subst (IsSummary ms d) same kept in
+    let (n, counted, agree) = g.grows 0 in
+    (n + 1, counted, omega (arith, agree, below))
+
+pub large_fails : (ms : List ModuleTree) (declared : List Declared) (states : List State) (at : ℕ) (x : Declared) (s : Summary) → at < length declared → x ≡ get_or declared at x → slice_get states at ≡ Some (Walked s) → 4096 ≤ s.size.base
+    → WasWalked ms (shown declared) states at → (f : ElaborateFault) → IsFaultIn x.home.now (record { kind = kind.TooLarge; spot = x.protocol.now.spot }) f → WalkFails ms (shown declared) at f
+large_fails ms declared states at x s h is walked above w f told =
+    ⊎_elim (λ e. subst (WalkFails ms (shown declared) at) (sym e) (λ d p. told_at d p)) (λ e. subst (WalkFails ms (shown declared) at) (sym e) tt) told
+  where
+    there : slice_get (shown declared) at ≡ Some (declaration_of x)
+    there = entry_there declared at x h ∙ ap (λ y. Some (declaration_of y)) (sym is)
+
+    too_large : IsTooLarge ms (declaration_of x)
+    too_large =
+        let (t, found, kept) = w (declaration_of x) there in
+        let same : t ≡ s = cc (found, walked) in
+        let g = subst (IsSummary ms (declaration_of x)) same kept in
+        let (n, counted, agree) = g.grows 0 in
+        record { size = n + 1; counted = counted; large = omega (arith, agree, above) }
+
+    told_at : (d : Declaration) → slice_get (shown declared) at ≡ Some d → (place : Declaration) × Reaches ms d place × (x.home.now.name ≡ place.home.name) × Fails kind.TooLarge ms d place x.protocol.now.spot
+    told_at d p =
+        let same : declaration_of x ≡ d = cc (there, p) in
+        (declaration_of x, subst (λ r. Reaches ms r (declaration_of x)) same itself, refl, (same, too_large, refl))
+
+pub not_walked : (ms : List ModuleTree) (declared : List Declared) (states : List State) (at : ℕ) → at < length declared → ((s : Summary) → slice_get states at ≢ Some (Walked s)) → WasWalked ms (shown declared) states at → ⊥
+not_walked ms declared states at h other w = found declared h w
+  where
+    found : (xs : List Declared) → at < length xs → WasWalked ms (shown xs) states at → ⊥
+    found [] k w = absurd (omega arith)
+    found (x ∷ xs) k w = let (s, e, kept) = w (declaration_of (get_or (x ∷ xs) at x)) (entry_there (x ∷ xs) at x k) in other s e

@@ -6,5 +6,6 @@ pub mod Elaboration
 pub mod Sizes
 pub mod Faults
 pub mod Meaning
+pub mod Growth
 pub mod Table
 pub mod Walking

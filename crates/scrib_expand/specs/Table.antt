@@ -15,9 +15,12 @@ use Rattle.scrib_expand.specs.declared.stop.State.TheVariants.{Unwalked, Walking
 use Rattle.scrib_expand.specs.declared.stop.Stop.{Stop}
 use Rattle.scrib_expand.specs.declared.stop.Stop.TheVariants.{Broken, Call, OutOfMemory}
 use Rattle.scrib_expand.specs.declared.stop.Place.{Place}
-use Rattle.scrib_expand.specs.Source.{Body, Blocks, Calls}
+use Rattle.scrib_expand.specs.declared.stop.Summary.{Summary}
+use Rattle.scrib_expand.specs.SourceView.{body_of}
+use Rattle.scrib_expand.specs.Growth.{BlockGrows}
+use Rattle.scrib_expand.specs.Source.{Body, Then, Step, Blocks, Calls}
 use Rattle.scrib_expand.specs.Names.{Declaration, dotted_eq, has_name, known_by, module_names, first_where, declarations, called}
-use Rattle.scrib_expand.specs.Statements.{KeepsRules}
+use Rattle.scrib_expand.specs.Statements.{KeepsRules, StepKeeps}
 use Rattle.scrib_expand.specs.Faults.{Stands, StandsIn, StandsAt, HasStep, Reaches, IsAgain, Fails}
 
 -- a declared protocol without where it lies in memory
@@ -51,12 +54,17 @@ round_names rs = map (λ (r : Round). r.name.now) rs
 abbrev pub protocol_at : Place → Declaration
 protocol_at p = declaration_of p.at
 
+-- what is kept of a protocol that was walked is so
+pub record IsSummary (modules : List ModuleTree) (d : Declaration) (s : Summary) : Type 0 where
+  pub kept : KeepsRules modules d s.exits
+  pub grows : BlockGrows modules d (body_of d.protocol.body) s.size
+
 -- The table has all protocols of the modules. One that was walked keeps the rules, and one that is being walked
 -- leads to the protocol that is checked.
 pub record IsKnown (p : Place) : Type 0 where
   pub all : shown p.declared.now ≡ declarations p.modules.now
   pub states : length p.states.now ≡ length p.declared.now
-  pub walked : (k : ℕ) (d : Declaration) (e : Bool) → slice_get (shown p.declared.now) k ≡ Some d → slice_get p.states.now k ≡ Some (Walked e) → KeepsRules p.modules.now d e
+  pub walked : (k : ℕ) (d : Declaration) (s : Summary) → slice_get (shown p.declared.now) k ≡ Some d → slice_get p.states.now k ≡ Some (Walked s) → IsSummary p.modules.now d s
   pub walking : (k : ℕ) (d : Declaration) → slice_get (shown p.declared.now) k ≡ Some d → slice_get p.states.now k ≡ Some Walking → Reaches p.modules.now d (protocol_at p)
 
 -- the block, under these recursions, is a part of the protocol
@@ -65,6 +73,24 @@ IsPart d recs b = (inner : List (List ℕ)) (r : Body) → Stands recs b inner r
 
 abbrev pub AreParts : Declaration → (recs : List (List ℕ)) → Blocks → Type 0
 AreParts d recs bs = (inner : List (List ℕ)) (r : Body) → StandsIn recs bs inner r → StandsAt d inner r
+
+-- a block, a statement or the blocks of a choice stand somewhere in the protocol
+
+abbrev pub IsPartSomewhere : Declaration → Body → Type 0
+IsPartSomewhere d b = (recs : List (List ℕ)) × IsPart d recs b
+
+abbrev pub IsStepSomewhere : Declaration → Step → Type 0
+IsStepSomewhere d s = (recs : List (List ℕ)) × (rest : Body) × IsPart d recs (Then s rest)
+
+abbrev pub AreSomewhere : Declaration → Blocks → Type 0
+AreSomewhere d bs = (recs : List (List ℕ)) × AreParts d recs bs
+
+-- the call here keeps the rules, and this is kept of the protocol that it calls
+pub record IsCallKept (p : Place) (path roles : List (List ℕ)) (spot : Spot) (s : Summary) : Type 0 where
+  pub keeps : (recs : List (List ℕ)) → StepKeeps p.modules.now (protocol_at p) recs (Calls path roles spot) s.exits
+  pub to : Declaration
+  pub there : called p.modules.now p.at.home.now path ≡ Some to
+  pub grows : BlockGrows p.modules.now to (body_of to.protocol.body) s.size
 
 -- what a call of this path names stands there in the table
 pub record IsEntry (p : Place) (path : List (List ℕ)) (k : ℕ) : Type 0 where

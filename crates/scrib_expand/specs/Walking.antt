@@ -1,5 +1,5 @@
 -- What the parts of a walk over protocols do.
-use Rattle.std.specs.Prelude.{◌≡◌, ◌⊎◌, ℕ, Bool, true, List, [], ◌∷◌, ◌++◌, length, slice_get, slice_set, Some}
+use Rattle.std.specs.Prelude.{◌≡◌, ◌⊎◌, ℕ, ◌≤◌, Bool, true, List, [], ◌∷◌, ◌++◌, length, slice_get, slice_set, Some}
 use Rattle.scrib_types.specs.declared.spot.Spot.{Spot}
 use Rattle.scrib_grammar.specs.declared.tree.ModuleTree.{ModuleTree}
 use Rattle.scrib_grammar.specs.declared.tree.ProtocolDeclaration.{ProtocolDeclaration}
@@ -17,7 +17,10 @@ use Rattle.scrib_expand.specs.Names.{Declaration, HasOwnNames, declarations, cal
 use Rattle.scrib_expand.specs.Statements.{KeepsRules, BlockKeeps}
 use Rattle.scrib_expand.specs.declared.fault.FaultKind.{FaultKind}
 use Rattle.scrib_expand.specs.Faults.{HasStep, Reaches, Fails, no_spot}
-use Rattle.scrib_expand.specs.Table.{shown}
+use Rattle.scrib_expand.specs.declared.stop.Summary.{Summary}
+use Rattle.scrib_expand.specs.Sizes.{Size}
+use Rattle.scrib_expand.specs.Growth.{BlockGrows}
+use Rattle.scrib_expand.specs.Table.{shown, IsSummary}
 
 pub record AreUnwalked (count : ℕ) (states : List State) : Type 0 where
   pub long : length states ≡ count
@@ -44,13 +47,17 @@ IsFaultIn home b f =
 pub record IsReady (modules : List ModuleTree) (declared : List Declared) (states : List State) (top : ℕ) : Type 0 where
   pub all : shown declared ≡ declarations modules
   pub long : length states ≡ length declared
-  pub walked : (k : ℕ) (d : Declaration) (e : Bool) → slice_get (shown declared) k ≡ Some d → slice_get states k ≡ Some (Walked e) → KeepsRules modules d e
+  pub walked : (k : ℕ) (d : Declaration) (s : Summary) → slice_get (shown declared) k ≡ Some d → slice_get states k ≡ Some (Walked s) → IsSummary modules d s
   pub walking : (k : ℕ) (d t : Declaration) → slice_get (shown declared) k ≡ Some d → slice_get states k ≡ Some Walking → slice_get (shown declared) top ≡ Some t → Reaches modules d t
 
--- the block of the protocol at this place keeps the rules
-abbrev pub TopKeeps : List ModuleTree → List Declaration → ℕ → Bool → Type 0
-TopKeeps modules ds top e =
-    (d : Declaration) → slice_get ds top ≡ Some d → BlockKeeps modules d [] true (body_of d.protocol.body) e
+-- the block of a protocol keeps the rules, and this is kept of it
+pub record IsBlockKept (modules : List ModuleTree) (d : Declaration) (s : Summary) : Type 0 where
+  pub keeps : BlockKeeps modules d [] true (body_of d.protocol.body) s.exits
+  pub grows : BlockGrows modules d (body_of d.protocol.body) s.size
+
+-- so it is of the protocol at this place
+abbrev pub TopKeeps : List ModuleTree → List Declaration → ℕ → Summary → Type 0
+TopKeeps modules ds top s = (d : Declaration) → slice_get ds top ≡ Some d → IsBlockKept modules d s
 
 -- a call of one that wasn't walked stands in the protocol at this place
 pub record IsNextCall (modules : List ModuleTree) (ds : List Declaration) (states : List State) (d : Declaration) (k : ℕ) : Type 0 where
@@ -71,8 +78,9 @@ TopStops modules ds states top (Call k) =
 TopStops modules ds states top OutOfMemory = Unit {0}
 
 -- the protocol at this place keeps the rules, and so does each that it calls
-abbrev pub WasWalked : List ModuleTree → List Declaration → ℕ → Type 0
-WasWalked modules ds root = (d : Declaration) → slice_get ds root ≡ Some d → (e : Bool) × KeepsRules modules d e
+abbrev pub WasWalked : List ModuleTree → List Declaration → List State → ℕ → Type 0
+WasWalked modules ds states root =
+    (d : Declaration) → slice_get ds root ≡ Some d → (s : Summary) × (slice_get states root ≡ Some (Walked s)) × IsSummary modules d s
 
 -- in some protocol that is reached from the one at this place, the rule fails
 abbrev pub WalkFails : List ModuleTree → List Declaration → ℕ → ElaborateFault → Type 0
@@ -84,3 +92,8 @@ WalkFails modules ds root elaborate.OutOfMemory = Unit {0}
 abbrev pub IsAbsentFault : (home : List (List ℕ)) → FaultKind → ElaborateFault → Type 0
 IsAbsentFault home k f =
     (f ≡ elaborate.Broken (record { kind = k; «module» = home; spot = no_spot })) ⊎ (f ≡ elaborate.OutOfMemory)
+
+-- the type of the protocol at this place will have at most 4,096 nodes
+abbrev pub IsSmall : List ModuleTree → List Declaration → ℕ → Type 0
+IsSmall modules ds root =
+    (d : Declaration) → slice_get ds root ≡ Some d → (n : ℕ) × Size modules d (body_of d.protocol.body) 1 n × (n ≤ 4096)

@@ -14,7 +14,7 @@ use crate::elaborated::Elaborated;
 use crate::fault::{ElaborateFault, Fault, FaultKind};
 use crate::modules::Modules;
 use crate::names::has_module;
-use crate::walk::walk;
+use crate::walk::{check_size, walk};
 use scrib_grammar::tree::ModuleTree;
 use scrib_types::name::{Dotted, Name};
 use scrib_types::spot::Spot;
@@ -39,8 +39,9 @@ pub fn elaborate(
     let trees = modules.as_slice();
     let declared = all_declared(alloc, trees)?;
     let root = find_root(alloc, trees, &declared, module, protocol)?;
-    walk(alloc, trees, &declared, root)?;
-    // The size and the type of the protocol aren't computed yet.
+    let states = walk(alloc, trees, &declared, root)?;
+    check_size(alloc, &declared, &states, root)?;
+    // The type of the protocol isn't computed yet.
     Err(ElaborateFault::OutOfMemory)
 }
 

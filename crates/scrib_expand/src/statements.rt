@@ -11,12 +11,12 @@ ghost use Rattle.scrib_expand.specs.SourceView.{step_of, body_of, blocks_of};
 ghost use Rattle.scrib_expand.specs.Names.{Declaration, called};
 ghost use Rattle.scrib_expand.specs.Statements.{BlockKeeps, StepKeeps, BlocksKeep};
 ghost use Rattle.scrib_expand.specs.Faults.{HasStep, spot_of};
-ghost use Rattle.scrib_expand.specs.Table.{shown, round_names, protocol_at, IsKnown, IsPart, AreParts, IsEntry, StopsAt};
+ghost use Rattle.scrib_expand.specs.Table.{shown, round_names, protocol_at, IsKnown, IsPart, AreParts, IsEntry, IsCallKept, StopsAt};
 
 use crate::declared::{called_home, find};
 use crate::fault::FaultKind;
 use crate::names::{are_different, are_roles, has_role, is_among};
-use crate::stop::{BrokenRule, Place, Round, State, Stop};
+use crate::stop::{BrokenRule, Place, Round, State, Stop, Summary};
 use scrib_grammar::tree::{Block, Statement};
 use scrib_types::name::{Dotted, Name, Role};
 use scrib_types::spot::Spot;
@@ -91,8 +91,8 @@ fn check_statement<'a>(
             roles,
             spot,
         } => {
-            let exits = check_call(place, protocol, roles.as_slice(), *spot)?;
-            Ok(exits)
+            let called = check_call(place, protocol, roles.as_slice(), *spot)?;
+            Ok(called.exits)
         }
     }
 }
@@ -138,12 +138,15 @@ fn check_message(place: &Place, from: &Role, to: &[Role], spot: Spot) -> Result<
     Ok(())
 }
 
-// The rules of a call of this path with these roles, and whether what it calls has an exit.
-fn check_call(place: &Place, path: &Dotted, roles: &[Role], spot: Spot) -> Result<bool, Stop>
+/// Checks a call of this path with these roles, and answers what is kept of the protocol that it calls.
+///
+/// # Errors
+/// `Broken` with the first rule that is broken, and `Call` where that protocol wasn't walked yet.
+pub fn check_call(place: &Place, path: &Dotted, roles: &[Role], spot: Spot) -> Result<Summary, Stop>
     requires known { IsKnown place.now }
     requires stands { HasStep (protocol_at place.now) (Calls path.now roles.now spot) }
     ensures { MatchResult result
-        (λ e. (recs : List (List ℕ)) → StepKeeps place.now.modules.now (protocol_at place.now) recs (Calls path.now roles.now spot) e)
+        (IsCallKept place.now path.now roles.now spot)
         (StopsAt place.now) }
 {
     if !are_roles(roles, place.at.protocol.roles.as_slice()) {
@@ -158,7 +161,7 @@ fn check_call(place: &Place, path: &Dotted, roles: &[Role], spot: Spot) -> Resul
         return Err(broken(FaultKind::WrongCount, spot));
     }
     match place.states[to] {
-        State::Walked(exits) => Ok(exits),
+        State::Walked(summary) => Ok(summary),
         State::Walking => Err(broken(FaultKind::DoCycle, spot)),
         State::Unwalked => Err(Stop::Call(to)),
     }

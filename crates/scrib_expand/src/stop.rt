@@ -2,6 +2,7 @@
 
 use crate::declared::Declared;
 use crate::fault::FaultKind;
+use crate::growth::Growth;
 use scrib_grammar::tree::ModuleTree;
 use scrib_types::name::Name;
 use scrib_types::spot::Spot;
@@ -14,8 +15,15 @@ pub enum State {
     Unwalked,
     /// The walk is in it, or in a protocol that it calls.
     Walking,
-    /// It keeps the rules, and so does each that it calls; whether its block has an exit.
-    Walked(bool),
+    /// It keeps the rules, and so does each that it calls.
+    Walked(Summary),
+}
+
+/// What is kept of a protocol that was walked: whether its block has an exit, and how its size grows.
+#[derive(Clone, Copy, Drop)]
+pub struct Summary {
+    pub exits: bool,
+    pub size: Growth,
 }
 
 /// A recursion round a statement.

@@ -1,15 +1,18 @@
 //! The walk over a protocol and all that it calls, which checks their statements: the first pass.
 
-ghost use Rattle.std.specs.Prelude.{◌≡◌, ◌<◌, length, IfOk, IfErr, OnOk, MatchResult};
+ghost use Rattle.std.specs.Prelude.{◌≡◌, ◌<◌, List, length, IfOk, IfErr, OnOk, MatchResult};
 ghost use Rattle.scrib_expand.specs.Names.{declarations};
 ghost use Rattle.scrib_expand.specs.Table.{shown};
-ghost use Rattle.scrib_expand.specs.Walking.{AreUnwalked, IsEntered, EnterFails, IsFaultIn, IsReady, TopKeeps, TopStops, WasWalked, WalkFails};
+ghost use Rattle.scrib_expand.specs.Walking.{AreUnwalked, IsEntered, EnterFails, IsFaultIn, IsReady, TopKeeps, TopStops, WasWalked, IsSmall, WalkFails};
+ghost use Rattle.scrib_grammar.specs.declared.tree.ModuleTree.{ModuleTree};
 
 use crate::declared::Declared;
-use crate::fault::{ElaborateFault, Fault};
+use crate::fault::{ElaborateFault, Fault, FaultKind};
+use crate::growth::MAX_NODES;
 use crate::own_names::check_own_names;
+use crate::size::size_block;
 use crate::statements::check_block;
-use crate::stop::{BrokenRule, Place, State, Stop};
+use crate::stop::{BrokenRule, Place, State, Stop, Summary};
 use scrib_grammar::tree::{ModuleTree, ProtocolDeclaration};
 use std::alloc::{AllocError, Global};
 
@@ -29,7 +32,7 @@ pub fn walk<'a>(
 ) -> Result<Vec<State>, ElaborateFault>
     requires all { shown declared.now ≡ declarations modules.now }
     requires there { root < length declared.now }
-    ensures ok { IfOk result (λ states. WasWalked modules.now (shown declared.now) root) }
+    ensures ok { IfOk result (λ states. WasWalked modules.now (shown declared.now) states.items root) }
     ensures fault { IfErr result (WalkFails modules.now (shown declared.now) root) }
 {
     let mut states = unwalked(alloc, declared.len())?;
@@ -45,7 +48,7 @@ pub fn walk<'a>(
     )?;
     while let Some(top) = stack.pop() {
         match check(alloc, &*modules, &*declared, &states, top) {
-            Ok(exits) => states[top] = State::Walked(exits),
+            Ok(summary) => states[top] = State::Walked(summary),
             Err(Stop::Call(to)) => {
                 let next = declared[to];
                 stack.push(top)?;
@@ -61,14 +64,47 @@ pub fn walk<'a>(
     Ok(states)
 }
 
-// Checks the statements of the protocol at this place.
+/// Checks that the type of the protocol at this place will have at most 4,096 nodes, after a walk over it.
+///
+/// # Errors
+/// `Broken` with `TooLarge` and the place of the protocol; `OutOfMemory` where memory was refused.
+pub fn check_size(
+    alloc: Global,
+    declared: &[Declared],
+    states: &[State],
+    root: usize,
+) -> Result<(), ElaborateFault>
+    requires there { root < length declared.now }
+    requires stated { root < length states.now }
+    ensures ok { (modules : List ModuleTree) → WasWalked modules (shown declared.now) states.now root → OnOk result (IsSmall modules (shown declared.now) root) }
+    ensures fault { (modules : List ModuleTree) → WasWalked modules (shown declared.now) states.now root → IfErr result (WalkFails modules (shown declared.now) root) }
+{
+    match states[root] {
+        State::Walked(summary) => {
+            if summary.size.base < MAX_NODES {
+                return Ok(());
+            }
+            let at = declared[root];
+            let rule = BrokenRule {
+                kind: FaultKind::TooLarge,
+                spot: at.protocol.spot,
+            };
+            Err(fault_in(alloc, at.home, rule))
+        }
+        // A walk leaves no other state here.
+        State::Walking => Ok(()),
+        State::Unwalked => Ok(()),
+    }
+}
+
+// Checks the statements of the protocol at this place, and computes its size.
 fn check<'a>(
     alloc: Global,
     modules: &'a [ModuleTree],
     declared: &'a [Declared<'a>],
     states: &'a [State],
     top: usize,
-) -> Result<bool, Stop>
+) -> Result<Summary, Stop>
     requires ready { IsReady modules.now declared.now states.now top }
     requires there { top < length declared.now }
     ensures { MatchResult result
@@ -83,7 +119,8 @@ fn check<'a>(
         at,
     };
     let exits = check_block(alloc, &place, &[], at.protocol.body.as_slice())?;
-    Ok(exits)
+    let size = size_block(&place, at.protocol.body.as_slice())?;
+    Ok(Summary { exits, size })
 }
 
 // Enters a protocol, whose names are checked first.

@@ -121,7 +121,7 @@ check_statement-check_call-requires-clause-stands g c =
     let same = ap step_of c.in-Do.is ∙ do_of c.in-Do.protocol c.in-Do.roles c.in-Do.spot ∙ ap (λ qs. Calls c.in-Do.protocol qs c.in-Do.spot) (sym c.as_slice-in-Do.ensures) in
     stands_as _ _ _ _ _ c.requires.part.1 same
 
-pub check_statement-returns-in_ok-exits-in-Do : goal.check_statement-returns-in_ok-exits-in-Do
-check_statement-returns-in_ok-exits-in-Do g c =
+pub check_statement-returns-in_ok-called-in-Do : goal.check_statement-returns-in_ok-called-in-Do
+check_statement-returns-in_ok-called-in-Do g c =
     let same = ap step_of c.in-Do.is ∙ do_of c.in-Do.protocol c.in-Do.roles c.in-Do.spot ∙ ap (λ qs. Calls c.in-Do.protocol qs c.in-Do.spot) (sym c.as_slice-in-Do.ensures) in
-    keeps_as _ _ _ _ _ _ same (c.in_ok-exits-in-Do.ensures (round_names c.args.recs.now))
+    keeps_as _ _ _ _ _ _ same (c.in_ok-called-in-Do.ensures.keeps (round_names c.args.recs.now))

@@ -20,19 +20,25 @@ pub returns-in-Walked : goal.returns-in-Walked
 returns-in-Walked c =
     let en = c.in_ok-to.ensures in
     let same = entry_is c.args.place.now.declared.now c.in_ok-to.to en.to c.index-place-to.result en.at in
-    let state = state_is c.args.place.now.states.now c.in_ok-to.to _ en.stated c.in-Walked.is in
+    let state = state_is c.args.place.now.states.now c.in_ok-to.to _ _ en.stated c.in-Walked.is in
     let roles = sym (c.are_roles.ensures ∙ ap (λ rs. are_roles c.args.roles.now (role_names rs)) c.as_slice.ensures) ∙ c.if-not-are_roles.false in
-    λ recs. calls_keeps (record {
-      declared = roles;
-      different = sym c.are_different.ensures ∙ c.if-not-are_different.false;
+    let known = c.requires.known.walked c.in_ok-to.to en.to c.in-Walked.summary en.at state in
+    record {
+      keeps = λ recs. calls_keeps (record {
+        declared = roles;
+        different = sym c.are_different.ensures ∙ c.if-not-are_different.false;
+        there = en.there;
+        count = c.if-roles-len.false ∙ c.len.ensures ∙ ap (λ x. length x.protocol.roles) (sym same);
+      }) known.kept;
+      to = en.to;
       there = en.there;
-      count = c.if-roles-len.false ∙ c.len.ensures ∙ ap (λ x. length x.protocol.roles) (sym same);
-    }) (c.requires.known.walked c.in_ok-to.to en.to c.in-Walked.exits en.at state)
+      grows = known.grows;
+    }
 
 pub returns-in-Walking : goal.returns-in-Walking
 returns-in-Walking c =
     let en = c.in_ok-to.ensures in
-    let state = state_is c.args.place.now.states.now c.in_ok-to.to _ en.stated c.in-Walking.is in
+    let state = state_is c.args.place.now.states.now c.in_ok-to.to _ _ en.stated c.in-Walking.is in
     rw c.broken-in-Walking.ensures (λ root. record {
       path = c.args.path.now;
       roles = c.args.roles.now;
@@ -53,5 +59,5 @@ returns-in-Unwalked c =
       to = en.to;
       there = en.there;
       at = en.at;
-      unwalked = state_is c.args.place.now.states.now c.in_ok-to.to _ en.stated c.in-Unwalked.is;
+      unwalked = state_is c.args.place.now.states.now c.in_ok-to.to _ _ en.stated c.in-Unwalked.is;
     }

@@ -29,13 +29,13 @@ index_mut-requires c =
 
 pub loop-top-preserved-in-Ok : goal.loop-top-preserved-in-Ok
 loop-top-preserved-in-Ok c =
-    leaves_from c.args.modules.now c.args.declared.now c.args.root c.loop-top.states.items c.loop-top.stack.items c.pop.new.self.items c.in-Some.top c.in-Ok.exits c.in-Some.ensures.items c.loop-top.invariant c.in-Ok.ensures
+    leaves_from c.args.modules.now c.args.declared.now c.args.root c.loop-top.states.items c.loop-top.stack.items c.pop.new.self.items c.in-Some.top c.in-Ok.summary c.in-Some.ensures.items c.loop-top.invariant c.in-Ok.ensures
 
 pub loop-top-smaller-in-Ok : goal.loop-top-smaller-in-Ok
 loop-top-smaller-in-Ok c =
     let within = top_within c.args.modules.now c.args.declared.now c.args.root c.loop-top.states.items c.loop-top.stack.items c.pop.new.self.items c.in-Some.top c.in-Some.ensures.items c.loop-top.invariant in
     let long = states_long c.args.modules.now c.args.declared.now c.args.root c.loop-top.states.items c.loop-top.stack.items c.loop-top.invariant in
-    less_leaving c.loop-top.states.items c.loop-top.stack.items c.pop.new.self.items c.in-Some.top c.in-Ok.exits c.in-Some.ensures.items (omega (arith, within, long))
+    less_leaving c.loop-top.states.items c.loop-top.stack.items c.pop.new.self.items c.in-Some.top c.in-Ok.summary c.in-Some.ensures.items (omega (arith, within, long))
 
 pub offset_bounds-declared-to : goal.offset_bounds-declared-to
 offset_bounds-declared-to c =
