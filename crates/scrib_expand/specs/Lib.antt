@@ -5,6 +5,7 @@ pub mod Statements
 pub mod Elaboration
 pub mod Sizes
 pub mod Faults
+pub mod Sound
 pub mod Meaning
 pub mod Growth
 pub mod Table
