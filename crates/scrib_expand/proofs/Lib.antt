@@ -1,9 +1,18 @@
 mod Inversion
-mod Functional
+mod Branches
+pub mod Functional
+pub mod Lifted
+pub mod Needed
+mod Used
+mod GivenRoles
+pub mod Accepted
 mod Kept
 mod Typed
+pub mod Passing
+pub mod Shaped
+mod Skipped
 mod Counted
-mod Distinct
+pub mod Distinct
 mod Places
 pub mod Spots
 mod Checks
@@ -13,3 +22,7 @@ mod Answered
 mod Capped
 mod Grown
 mod Somewhere
+mod Putting
+mod Steps
+mod Joined
+mod Finished

@@ -1,28 +1,25 @@
 -- Where a fault's rule fails, the protocol that was asked for means nothing.
-use Rattle.std.proofs.Common.{◌≡◌, ◌≢◌, ◌⊎◌, ℕ, ◌+◌, ◌≤◌, true, false, List, [], ◌∷◌, ◌++◌, length, map, Some, None, refl, sym, ap, ◌∙◌, subst, ⊎_elim, inl, inr, arith}
-use Rattle.std.proofs.lemmas.Bool.{false≢true, both_ways, and_parts}
+use Rattle.std.proofs.Common.{◌≡◌, ℕ, ◌+◌, ◌≤◌, true, false, List, ◌∷◌, length, map, Some, None, refl, sym, ap, ◌∙◌, subst, ⊎_elim, arith}
+use Rattle.std.proofs.lemmas.Bool.{false≢true, both_ways}
 use Rattle.std.proofs.lemmas.List.{map-append}
 use Rattle.std.proofs.lemmas.Option.{slice_get_within}
 use Rattle.scrib_types.specs.declared.spot.Spot.{Spot}
 use Rattle.scrib_types.specs.Agreement.{Agreement}
-use Rattle.scrib_types.specs.Trees.{GlobalTree, GlobalEnd, GlobalVar, GlobalRec, Comm, GlobalBranches, NoBranch}
+use Rattle.scrib_types.specs.Trees.{GlobalTree, Comm, GlobalBranches}
 use Rattle.scrib_types.specs.WellFormed.{has_role, distinct_roles, leads_to_communication, has_branches, distinct_operators}
 use Rattle.scrib_grammar.specs.declared.tree.ModuleTree.{ModuleTree}
-use Rattle.scrib_grammar.specs.declared.tree.Import.{Import}
-use Rattle.scrib_grammar.specs.declared.tree.ProtocolDeclaration.{ProtocolDeclaration}
-use Rattle.scrib_grammar.specs.declared.tree.RoleDeclaration.{RoleDeclaration}
 use Rattle.scrib_expand.specs.declared.fault.FaultKind.{FaultKind}
 use Rattle.scrib_expand.specs.declared.fault.FaultKind.TheVariants as kind
 use Rattle.scrib_expand.specs.declared.fault.Fault.{Fault}
-use Rattle.scrib_expand.specs.Source.{Body, Then, Sends, Chooses, Repeats, Continues, Calls, Blocks, NoBlock}
-use Rattle.scrib_expand.specs.Names.{Declaration, HasOwnNames, has_name, distinct_names, known_by, roles_of, find_protocol, called_home, called}
+use Rattle.scrib_expand.specs.Source.{Body, Then, Calls, Blocks}
+use Rattle.scrib_expand.specs.Names.{Declaration, has_name, distinct_names, roles_of, called_home, called}
 use Rattle.scrib_expand.specs.Statements.{are_roles, KeepsRules}
-use Rattle.scrib_expand.specs.Elaboration.{continues_in, and_branches, Scope, role_in, inside, Frames, Under, Types, JoinsTo, nodes, start_of, Elaborates}
+use Rattle.scrib_expand.specs.Elaboration.{and_branches, Scope, role_in, inside, Frames, Under, Types, nodes, start_of, Elaborates}
 use Rattle.scrib_expand.specs.Sizes.{IsTooLarge}
-use Rattle.scrib_expand.specs.Faults.{HasStep, Reaches, IsAgain, HasNoRole, message, choice, call, IsUnreachable, IsCycle, IsLoose, blocks_before, Needs, IsNeeded, IsUnguarded, IsBranch, IsWithoutBranch, IsOneOf, IsOfAnother, IsToAnother, IsSameOperator, share_operator, Fails, IsInside, IsBroken}
+use Rattle.scrib_expand.specs.Faults.{HasStep, IsAgain, HasNoRole, message, choice, call, IsUnreachable, IsLoose, blocks_before, IsNeeded, IsUnguarded, IsBranch, IsWithoutBranch, IsOfAnother, IsToAnother, IsSameOperator, share_operator, Fails, IsInside, IsBroken}
 use Rattle.scrib_expand.proofs.Inversion.{type_of_chooses, type_of_repeats, join_of_none, join_of_or, IsJoin}
 use Rattle.scrib_expand.proofs.Functional.{types_same}
-use Rattle.scrib_expand.proofs.Kept.{kept_at, of_then, of_protocol, of_sends, of_chooses, of_continues, of_calls, step_at, callee, no_cycle, kept_along, step_exits_same}
+use Rattle.scrib_expand.proofs.Kept.{kept_at, of_then, of_protocol, of_sends, of_chooses, of_continues, step_at, callee, no_cycle, kept_along, step_exits_same}
 use Rattle.scrib_expand.proofs.Typed.{split_join, branch_of_join, IsBranchOf, typed_at, not_shared}
 use Rattle.scrib_expand.proofs.Counted.{counted}
 use Rattle.scrib_expand.proofs.Distinct.{distinct_roles-again, distinct_names-again, found_nowhere}
@@ -68,11 +65,11 @@ loose ms d e k spot h =
 
 -- the third pass
 
-needed_type : (ms : List ModuleTree) (root d : Declaration) (g : GlobalTree) → Types ms 0 (start_of root) g → {s : _} {n : ℕ} {sc : Scope} {fs : Frames} (h : IsNeeded ms root d s n sc fs)
+needed_type : (ms : List ModuleTree) (root d : Declaration) (g : GlobalTree) → Types ms 0 (start_of root) g → {s : _} {n : ℕ} {sc : Scope} {fs : Frames} (h : IsNeeded ms 0 (start_of root) d s n sc fs)
     → (t : GlobalTree) × Types ms n (Under sc (Then s h.after) h.outer) t
 needed_type ms root d g t h = typed_at h.needs g t
 
-unguarded : (ms : List ModuleTree) (root d : Declaration) (g : GlobalTree) → Types ms 0 (start_of root) g → (spot : Spot) → IsUnguarded ms root d spot → ⊥
+unguarded : (ms : List ModuleTree) (root d : Declaration) (g : GlobalTree) → Types ms 0 (start_of root) g → (spot : Spot) → IsUnguarded ms 0 (start_of root) d spot → ⊥
 unguarded ms root d g t spot h =
     let v = needed_type ms root d g t h.needed in
     let typed = subst (λ fs. Types ms (h.depth + 1) (Under (inside h.scope h.name h.depth) h.body fs) h.inner) h.needed.same h.typed in
@@ -85,7 +82,7 @@ pub record IsJoined (ms : List ModuleTree) (n : ℕ) (sc : Scope) (p : List ℕ)
   pub branch : IsBranchOf ms n sc b fs (role_in sc p) join.receiver join.branches
   pub is : type ≡ Comm (role_in sc p) join.receiver branch.here
 
-joined : (ms : List ModuleTree) (root d : Declaration) (g : GlobalTree) → Types ms 0 (start_of root) g → (spot : Spot) (h : IsBranch ms root d spot)
+joined : (ms : List ModuleTree) (root d : Declaration) (g : GlobalTree) → Types ms 0 (start_of root) g → (spot : Spot) (h : IsBranch ms 0 (start_of root) d spot)
     → IsJoined ms h.depth h.scope h.chooser h.before h.body spot h.after h.follows h.type
 joined ms root d g t spot h =
     let v = needed_type ms root d g t h.needed in
@@ -93,18 +90,18 @@ joined ms root d g t spot h =
     let b = branch_of_join h.before h.body spot h.after j.joined refl in
     record { choice = v.0; join = j; branch = b; is = types_same h.typed _ b.typed }
 
-without_branch : (ms : List ModuleTree) (root d : Declaration) (g : GlobalTree) → Types ms 0 (start_of root) g → (spot : Spot) → IsWithoutBranch ms root d spot → ⊥
+without_branch : (ms : List ModuleTree) (root d : Declaration) (g : GlobalTree) → Types ms 0 (start_of root) g → (spot : Spot) → IsWithoutBranch ms 0 (start_of root) d spot → ⊥
 without_branch ms root d g t spot h =
     let v = needed_type ms root d g t h.needed in
     let j = type_of_chooses v.1 in
     false≢true (sym (ap has_branches (join_of_none j.joined)) ∙ j.some)
 
-of_another : (ms : List ModuleTree) (root d : Declaration) (g : GlobalTree) → Types ms 0 (start_of root) g → (spot : Spot) → IsOfAnother ms root d spot → ⊥
+of_another : (ms : List ModuleTree) (root d : Declaration) (g : GlobalTree) → Types ms 0 (start_of root) g → (spot : Spot) → IsOfAnother ms 0 (start_of root) d spot → ⊥
 of_another ms root d g t spot h =
     let v = joined ms root d g t spot h.branch in
     let same : h.sender ≡ role_in h.branch.scope h.branch.chooser = cc (h.is, v.is) in h.another same
 
-to_another : (ms : List ModuleTree) (root d : Declaration) (g : GlobalTree) → Types ms 0 (start_of root) g → (spot : Spot) → IsToAnother ms root d spot → ⊥
+to_another : (ms : List ModuleTree) (root d : Declaration) (g : GlobalTree) → Types ms 0 (start_of root) g → (spot : Spot) → IsToAnother ms 0 (start_of root) d spot → ⊥
 to_another ms root d g t spot h =
     let v = joined ms root d g t spot h.branch in
     let w = split_join h.branch.before v.join.joined in
@@ -113,7 +110,7 @@ to_another ms root d g t spot h =
     let same : h.receiver ≡ h.first_receiver = cc (h.is, v.is, first) in
     h.another same
 
-same_operator_twice : (ms : List ModuleTree) (root d : Declaration) (g : GlobalTree) → Types ms 0 (start_of root) g → (spot : Spot) → IsSameOperator ms root d spot → ⊥
+same_operator_twice : (ms : List ModuleTree) (root d : Declaration) (g : GlobalTree) → Types ms 0 (start_of root) g → (spot : Spot) → IsSameOperator ms 0 (start_of root) d spot → ⊥
 same_operator_twice ms root d g t spot h =
     let v = joined ms root d g t spot h.branch in
     let w = split_join h.branch.before v.join.joined in

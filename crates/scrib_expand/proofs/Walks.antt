@@ -19,12 +19,13 @@ use Rattle.scrib_expand.specs.declared.stop.Stop.{Stop}
 use Rattle.scrib_expand.specs.declared.stop.Stop.TheVariants.{Broken, Call, OutOfMemory}
 use Rattle.scrib_expand.specs.declared.stop.Summary.{Summary}
 use Rattle.scrib_expand.specs.Table.{declaration_of, shown, IsSummary}
-use Rattle.scrib_expand.specs.Walking.{AreUnwalked, IsEntered, EnterFails, IsFaultIn, IsReady, IsNextCall, IsBlockKept, TopKeeps, TopStops, WasWalked, IsSmall, WalkFails}
+use Rattle.scrib_expand.specs.Walking.{AreUnwalked, IsEntered, EnterFails, IsFaultIn, IsReady, IsNextCall, IsBlockKept, TopKeeps, TopStops, WasWalked, AreSummaries, IsSmall, WalkFails}
 use Rattle.scrib_grammar.specs.declared.tree.Statement.{Statement}
 use Rattle.scrib_expand.specs.SourceView.{body_of}
 use Rattle.scrib_expand.specs.declared.fault.FaultKind.TheVariants as kind
-use Rattle.scrib_expand.specs.Sizes.{IsTooLarge}
+use Rattle.scrib_expand.specs.Sizes.{Size, IsTooLarge}
 use Rattle.scrib_expand.specs.Growth.{BlockGrows}
+use Rattle.scrib_expand.specs.Shape.{HasShape}
 use Rattle.scrib_expand.proofs.Checks.{entry_is}
 use Rattle.scrib_expand.proofs.Kept.{reaches_on}
 
@@ -261,7 +262,7 @@ leaves_from ms declared at states stack init top e is w k =
     record {
       root = w.root;
       there = w.there;
-      walk = leaves ms (shown declared) at w.root states init top t e here (record { kept = protocol_keeps names (k t here).keeps; grows = (k t here).grows }) walk;
+      walk = leaves ms (shown declared) at w.root states init top t e here (record { kept = protocol_keeps names (k t here).keeps; grows = (k t here).grows; shaped = (k t here).shaped }) walk;
     }
 
 -- the call at which a check stopped
@@ -365,29 +366,35 @@ ended_from ms declared at states stack none w = λ d p.
     let same : w.root ≡ d = cc (w.there, p) in
     subst (λ r. (s : Summary) × (slice_get states at ≡ Some (Walked s)) × IsSummary ms r s) same (ended ms (shown declared) at w.root states w.there walk)
 
+pub summaries_from : (ms : List ModuleTree) (declared : List Declared) (at : ℕ) (states : List State) (stack : List ℕ) → IsWalkFrom ms declared at states stack → AreSummaries ms (shown declared) states
+summaries_from ms declared at states stack w = record { all = w.walk.states_all; each = w.walk.walked }
+
 pub no_items : (xs : List ℕ) → length xs ≡ 0 → xs ≡ []
 no_items [] e = refl
 no_items (x ∷ xs) e = absurd (omega arith)
 
 -- what the check of the last one found
-pub block_kept : (ms : List ModuleTree) (declared : List Declared) (k : ℕ) (x : Declared) (d : Declaration) (a b : List Statement) (s : Summary) → slice_get (shown declared) k ≡ Some d → x ≡ get_or declared k x
-    → a ≡ x.protocol.now.body → b ≡ x.protocol.now.body → BlockKeeps ms (declaration_of x) [] true (body_of a) s.exits → BlockGrows ms (declaration_of x) (body_of b) s.size → IsBlockKept ms d s
-block_kept ms declared k x d a b s here is p q keeps grows =
+pub block_kept : (ms : List ModuleTree) (declared : List Declared) (k : ℕ) (x : Declared) (d : Declaration) (a b c : List Statement) (s : Summary) → slice_get (shown declared) k ≡ Some d → x ≡ get_or declared k x
+    → a ≡ x.protocol.now.body → b ≡ x.protocol.now.body → c ≡ x.protocol.now.body → BlockKeeps ms (declaration_of x) [] true (body_of a) s.exits → BlockGrows ms (declaration_of x) (body_of b) s.size
+    → HasShape ms (declaration_of x) (body_of c) s.shape → IsBlockKept ms d s
+block_kept ms declared k x d a b c s here is p q r keeps grows shaped =
     let same : declaration_of x ≡ d = sym (entry_is declared k d x here ∙ ap declaration_of (sym is)) in
     subst (λ y. IsBlockKept ms y s) same (record {
       keeps = subst (λ y. BlockKeeps ms (declaration_of x) [] true (body_of y) s.exits) p keeps;
       grows = subst (λ y. BlockGrows ms (declaration_of x) (body_of y) s.size) q grows;
+      shaped = subst (λ y. HasShape ms (declaration_of x) (body_of y) s.shape) r shaped;
     })
 
 -- the size of the protocol at which the walk began
 
-pub small_at : (ms : List ModuleTree) (ds : List Declaration) (states : List State) (at : ℕ) (s : Summary) → slice_get states at ≡ Some (Walked s) → s.size.base < 4096 → WasWalked ms ds states at → IsSmall ms ds at
+pub small_at : (ms : List ModuleTree) (ds : List Declaration) (states : List State) (at : ℕ) (s : Summary) → slice_get states at ≡ Some (Walked s) → s.size.base < 4096 → WasWalked ms ds states at → IsSmall ms ds at (s.size.base + 1)
 small_at ms ds states at s walked below w = λ d here.
     let (t, there, kept) = w d here in
     let same : t ≡ s = cc (there, walked) in
     let g = subst (IsSummary ms d) same kept in
     let (n, counted, agree) = g.grows 0 in
-    (n + 1, counted, omega (arith, agree, below))
+    let is : n + 1 ≡ s.size.base + 1 = omega (arith, agree, below) in
+    (subst (λ k. Size ms d (body_of d.protocol.body) 1 k) is counted, omega (arith, below))
 
 pub large_fails : (ms : List ModuleTree) (declared : List Declared) (states : List State) (at : ℕ) (x : Declared) (s : Summary) → at < length declared → x ≡ get_or declared at x → slice_get states at ≡ Some (Walked s) → 4096 ≤ s.size.base
     → WasWalked ms (shown declared) states at → (f : ElaborateFault) → IsFaultIn x.home.now (record { kind = kind.TooLarge; spot = x.protocol.now.spot }) f → WalkFails ms (shown declared) at f

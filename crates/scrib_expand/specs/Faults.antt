@@ -1,8 +1,7 @@
 -- When a fault of elaboration may be told: its rule fails at its place (this project's own).
-use Rattle.std.specs.Prelude.{◌≡◌, ◌≢◌, ◌⊎◌, ℕ, ◌+◌, ◌<◌, Bool, true, false, ◌||◌, List, [], ◌∷◌, ◌++◌, length, map, slice_get, Option, Some, None, Result, Ok, Err, Contains}
+use Rattle.std.specs.Prelude.{◌≡◌, ◌≢◌, ◌⊎◌, ℕ, ◌+◌, Bool, true, false, ◌||◌, List, [], ◌∷◌, ◌++◌, length, map, slice_get, Some, None}
 use Rattle.scrib_types.specs.declared.message.Message.{Message}
 use Rattle.scrib_types.specs.declared.spot.Spot.{Spot}
-use Rattle.scrib_types.specs.Agreement.{Agreement}
 use Rattle.scrib_types.specs.Trees.{GlobalTree, GlobalEnd, GlobalVar, GlobalRec, Comm, GlobalBranches, NoBranch, Branch}
 use Rattle.scrib_types.specs.WellFormed.{has_role, distinct_roles, leads_to_communication, has_operator}
 use Rattle.scrib_grammar.specs.declared.tree.ModuleTree.{ModuleTree}
@@ -16,7 +15,7 @@ use Rattle.scrib_expand.specs.declared.fault.ElaborateFault.{ElaborateFault}
 use Rattle.scrib_expand.specs.declared.fault.ElaborateFault.TheVariants.{Broken, OutOfMemory}
 use Rattle.scrib_expand.specs.Source.{Body, Done, Then, Step, Sends, Chooses, Repeats, Continues, Calls, Blocks, NoBlock, OrBlock}
 use Rattle.scrib_expand.specs.SourceView.{body_of}
-use Rattle.scrib_expand.specs.Names.{Declaration, has_name, known_by, import_names, module_names, protocol_names, role_names, roles_of, find_protocol, called_home, called}
+use Rattle.scrib_expand.specs.Names.{Declaration, has_name, known_by, module_names, roles_of, find_protocol, called_home, called}
 use Rattle.scrib_expand.specs.Statements.{are_roles, StepKeeps}
 use Rattle.scrib_expand.specs.Elaboration.{continues_in, Scope, role_in, inside, inside_call, Frames, Under, Types, start_of}
 use Rattle.scrib_expand.specs.Sizes.{IsTooLarge}
@@ -128,29 +127,29 @@ pub data Needs (modules : List ModuleTree) : ℕ → Frames → ℕ → Frames �
       → called modules sc.within.home path ≡ Some c → Needs modules n (Under (inside_call sc c roles) (body_of c.protocol.body) (Under sc b fs)) k hs
       → Needs modules n (Under sc (Then (Calls path roles s) b) fs) k hs
 
--- the type of the protocol is made of the type of these frames, at whose head this statement of d stands
-pub record IsNeeded (modules : List ModuleTree) (root d : Declaration) (s : Step) (n : ℕ) (sc : Scope) (fs : Frames) : Type 0 where
+-- the type of the frames `from`, under k recursions, is made of the type of these, at whose head this statement of d stands
+pub record IsNeeded (modules : List ModuleTree) (k : ℕ) (from : Frames) (d : Declaration) (s : Step) (n : ℕ) (sc : Scope) (fs : Frames) : Type 0 where
   pub after : Body
   pub outer : Frames
   pub same : fs ≡ Under sc after outer
   pub home : sc.within ≡ d
-  pub needs : Needs modules 0 (start_of root) n (Under sc (Then s after) outer)
+  pub needs : Needs modules k from n (Under sc (Then s after) outer)
 
 -- the recursion here stays one, and its body isn't guarded
-pub record IsUnguarded (modules : List ModuleTree) (root d : Declaration) (spot : Spot) : Type 0 where
+pub record IsUnguarded (modules : List ModuleTree) (k : ℕ) (from : Frames) (d : Declaration) (spot : Spot) : Type 0 where
   pub name : List ℕ
   pub body : Body
   pub depth : ℕ
   pub scope : Scope
   pub follows : Frames
-  pub needed : IsNeeded modules root d (Repeats name body spot) depth scope follows
+  pub needed : IsNeeded modules k from d (Repeats name body spot) depth scope follows
   pub continued : continues_in name body ≡ true
   pub inner : GlobalTree
   pub typed : Types modules (depth + 1) (Under (inside scope name depth) body follows) inner
   pub unguarded : leads_to_communication inner ≡ false
 
 -- a choice of d, and its branch whose opening brace is here and whose type is this
-pub record IsBranch (modules : List ModuleTree) (root d : Declaration) (spot : Spot) : Type 0 where
+pub record IsBranch (modules : List ModuleTree) (k : ℕ) (from : Frames) (d : Declaration) (spot : Spot) : Type 0 where
   pub chooser : List ℕ
   pub before : Blocks
   pub body : Body
@@ -159,17 +158,17 @@ pub record IsBranch (modules : List ModuleTree) (root d : Declaration) (spot : S
   pub depth : ℕ
   pub scope : Scope
   pub follows : Frames
-  pub needed : IsNeeded modules root d (Chooses chooser (blocks_before before body spot after) at) depth scope follows
+  pub needed : IsNeeded modules k from d (Chooses chooser (blocks_before before body spot after) at) depth scope follows
   pub type : GlobalTree
   pub typed : Types modules depth (Under scope body follows) type
 
 -- the choice here has no branch
-pub record IsWithoutBranch (modules : List ModuleTree) (root d : Declaration) (spot : Spot) : Type 0 where
+pub record IsWithoutBranch (modules : List ModuleTree) (k : ℕ) (from : Frames) (d : Declaration) (spot : Spot) : Type 0 where
   pub chooser : List ℕ
   pub depth : ℕ
   pub scope : Scope
   pub follows : Frames
-  pub needed : IsNeeded modules root d (Chooses chooser NoBlock spot) depth scope follows
+  pub needed : IsNeeded modules k from d (Chooses chooser NoBlock spot) depth scope follows
 
 -- a block of these means a communication to this receiver with these branches
 pub record IsOneOf (modules : List ModuleTree) (n : ℕ) (sc : Scope) (fs : Frames) (bs : Blocks) (p q : List ℕ) (cs : GlobalBranches) : Type 0 where
@@ -186,8 +185,8 @@ share_operator NoBranch cs = false
 share_operator (Branch m g bs) cs = has_operator m.op cs || share_operator bs cs
 
 -- the branch here begins with another sender than the chooser
-pub record IsOfAnother (modules : List ModuleTree) (root d : Declaration) (spot : Spot) : Type 0 where
-  pub branch : IsBranch modules root d spot
+pub record IsOfAnother (modules : List ModuleTree) (k : ℕ) (from : Frames) (d : Declaration) (spot : Spot) : Type 0 where
+  pub branch : IsBranch modules k from d spot
   pub sender : List ℕ
   pub receiver : List ℕ
   pub branches : GlobalBranches
@@ -195,8 +194,8 @@ pub record IsOfAnother (modules : List ModuleTree) (root d : Declaration) (spot 
   pub another : sender ≢ role_in branch.scope branch.chooser
 
 -- the branch here begins with another receiver than an earlier one
-pub record IsToAnother (modules : List ModuleTree) (root d : Declaration) (spot : Spot) : Type 0 where
-  pub branch : IsBranch modules root d spot
+pub record IsToAnother (modules : List ModuleTree) (k : ℕ) (from : Frames) (d : Declaration) (spot : Spot) : Type 0 where
+  pub branch : IsBranch modules k from d spot
   pub sender : List ℕ
   pub receiver : List ℕ
   pub branches : GlobalBranches
@@ -208,8 +207,8 @@ pub record IsToAnother (modules : List ModuleTree) (root d : Declaration) (spot 
   pub another : receiver ≢ first_receiver
 
 -- the branch here begins with an operator with which an earlier one begins
-pub record IsSameOperator (modules : List ModuleTree) (root d : Declaration) (spot : Spot) : Type 0 where
-  pub branch : IsBranch modules root d spot
+pub record IsSameOperator (modules : List ModuleTree) (k : ℕ) (from : Frames) (d : Declaration) (spot : Spot) : Type 0 where
+  pub branch : IsBranch modules k from d spot
   pub sender : List ℕ
   pub receiver : List ℕ
   pub branches : GlobalBranches
@@ -219,6 +218,20 @@ pub record IsSameOperator (modules : List ModuleTree) (root d : Declaration) (sp
   pub first_branches : GlobalBranches
   pub earlier : IsOneOf modules branch.depth branch.scope branch.follows branch.before first_sender first_receiver first_branches
   pub shared : share_operator first_branches branches ≡ true
+
+-- The rule of this kind, if it is one of types, fails in d at this place, for the type of the frames `from`.
+abbrev pub FailsTyping : FaultKind → (modules : List ModuleTree) (k : ℕ) (from : Frames) (d : Declaration) → Spot → Type 0
+FailsTyping kind.Unguarded modules k from d spot = IsUnguarded modules k from d spot
+FailsTyping kind.EmptyBranch modules k from d spot =
+    ((b : IsBranch modules k from d spot) × (b.type ≡ GlobalEnd)) ⊎ IsWithoutBranch modules k from d spot
+FailsTyping kind.ContinueHead modules k from d spot =
+    (b : IsBranch modules k from d spot) × (n : ℕ) × (b.type ≡ GlobalVar n)
+FailsTyping kind.RecHead modules k from d spot =
+    (b : IsBranch modules k from d spot) × (g : GlobalTree) × (b.type ≡ GlobalRec g)
+FailsTyping kind.NotChooser modules k from d spot = IsOfAnother modules k from d spot
+FailsTyping kind.TwoReceivers modules k from d spot = IsToAnother modules k from d spot
+FailsTyping kind.SameOperator modules k from d spot = IsSameOperator modules k from d spot
+FailsTyping other modules k from d spot = ⊥
 
 -- The rule of this kind fails in this protocol, at this place. The root is the protocol that was asked for.
 abbrev pub Fails : FaultKind → (modules : List ModuleTree) (root d : Declaration) → Spot → Type 0
@@ -236,17 +249,14 @@ Fails kind.SelfMessage modules root d spot =
     (m : Message) × (p : List ℕ) × (qs : List (List ℕ)) × HasStep d (Sends m p qs spot) × (has_role p qs ≡ true)
 Fails kind.DoCycle modules root d spot = IsCycle modules d spot
 Fails kind.NoRec modules root d spot = IsLoose d spot
-Fails kind.Unguarded modules root d spot = IsUnguarded modules root d spot
+Fails kind.Unguarded modules root d spot = FailsTyping kind.Unguarded modules 0 (start_of root) d spot
 Fails kind.Unreachable modules root d spot = IsUnreachable modules d spot
-Fails kind.EmptyBranch modules root d spot =
-    ((b : IsBranch modules root d spot) × (b.type ≡ GlobalEnd)) ⊎ IsWithoutBranch modules root d spot
-Fails kind.ContinueHead modules root d spot =
-    (b : IsBranch modules root d spot) × (n : ℕ) × (b.type ≡ GlobalVar n)
-Fails kind.RecHead modules root d spot =
-    (b : IsBranch modules root d spot) × (g : GlobalTree) × (b.type ≡ GlobalRec g)
-Fails kind.NotChooser modules root d spot = IsOfAnother modules root d spot
-Fails kind.TwoReceivers modules root d spot = IsToAnother modules root d spot
-Fails kind.SameOperator modules root d spot = IsSameOperator modules root d spot
+Fails kind.EmptyBranch modules root d spot = FailsTyping kind.EmptyBranch modules 0 (start_of root) d spot
+Fails kind.ContinueHead modules root d spot = FailsTyping kind.ContinueHead modules 0 (start_of root) d spot
+Fails kind.RecHead modules root d spot = FailsTyping kind.RecHead modules 0 (start_of root) d spot
+Fails kind.NotChooser modules root d spot = FailsTyping kind.NotChooser modules 0 (start_of root) d spot
+Fails kind.TwoReceivers modules root d spot = FailsTyping kind.TwoReceivers modules 0 (start_of root) d spot
+Fails kind.SameOperator modules root d spot = FailsTyping kind.SameOperator modules 0 (start_of root) d spot
 -- the place of the 17th role
 Fails kind.TooManyRoles modules root d spot =
     (r : RoleDeclaration) × (slice_get d.protocol.roles 16 ≡ Some r) × (r.spot ≡ spot)

@@ -18,6 +18,7 @@ use Rattle.scrib_expand.specs.declared.stop.Place.{Place}
 use Rattle.scrib_expand.specs.declared.stop.Summary.{Summary}
 use Rattle.scrib_expand.specs.SourceView.{body_of}
 use Rattle.scrib_expand.specs.Growth.{BlockGrows}
+use Rattle.scrib_expand.specs.Shape.{HasShape}
 use Rattle.scrib_expand.specs.Source.{Body, Then, Step, Blocks, Calls}
 use Rattle.scrib_expand.specs.Names.{Declaration, dotted_eq, has_name, known_by, module_names, first_where, declarations, called}
 use Rattle.scrib_expand.specs.Statements.{KeepsRules, StepKeeps}
@@ -54,10 +55,15 @@ round_names rs = map (λ (r : Round). r.name.now) rs
 abbrev pub protocol_at : Place → Declaration
 protocol_at p = declaration_of p.at
 
+-- the protocol whose statements are checked stands there in the table
+abbrev pub IsOwnPlace : Place → ℕ → Type 0
+IsOwnPlace p k = slice_get (shown p.declared.now) k ≡ Some (protocol_at p)
+
 -- what is kept of a protocol that was walked is so
 pub record IsSummary (modules : List ModuleTree) (d : Declaration) (s : Summary) : Type 0 where
   pub kept : KeepsRules modules d s.exits
   pub grows : BlockGrows modules d (body_of d.protocol.body) s.size
+  pub shaped : HasShape modules d (body_of d.protocol.body) s.shape
 
 -- The table has all protocols of the modules. One that was walked keeps the rules, and one that is being walked
 -- leads to the protocol that is checked.
@@ -91,6 +97,7 @@ pub record IsCallKept (p : Place) (path roles : List (List ℕ)) (spot : Spot) (
   pub to : Declaration
   pub there : called p.modules.now p.at.home.now path ≡ Some to
   pub grows : BlockGrows p.modules.now to (body_of to.protocol.body) s.size
+  pub shaped : HasShape p.modules.now to (body_of to.protocol.body) s.shape
 
 -- what a call of this path names stands there in the table
 pub record IsEntry (p : Place) (path : List (List ℕ)) (k : ℕ) : Type 0 where

@@ -13,13 +13,14 @@ use Rattle.scrib_expand.specs.declared.stop.Stop.{Stop}
 use Rattle.scrib_expand.specs.declared.stop.Stop.TheVariants.{Broken, Call, OutOfMemory}
 use Rattle.scrib_expand.specs.Source.{Calls}
 use Rattle.scrib_expand.specs.SourceView.{body_of}
-use Rattle.scrib_expand.specs.Names.{Declaration, HasOwnNames, declarations, called}
+use Rattle.scrib_expand.specs.Names.{Declaration, HasOwnNames, declarations, find_protocol, called}
 use Rattle.scrib_expand.specs.Statements.{KeepsRules, BlockKeeps}
 use Rattle.scrib_expand.specs.declared.fault.FaultKind.{FaultKind}
 use Rattle.scrib_expand.specs.Faults.{HasStep, Reaches, Fails, no_spot}
 use Rattle.scrib_expand.specs.declared.stop.Summary.{Summary}
 use Rattle.scrib_expand.specs.Sizes.{Size}
 use Rattle.scrib_expand.specs.Growth.{BlockGrows}
+use Rattle.scrib_expand.specs.Shape.{HasShape}
 use Rattle.scrib_expand.specs.Table.{shown, IsSummary}
 
 pub record AreUnwalked (count : ℕ) (states : List State) : Type 0 where
@@ -54,6 +55,7 @@ pub record IsReady (modules : List ModuleTree) (declared : List Declared) (state
 pub record IsBlockKept (modules : List ModuleTree) (d : Declaration) (s : Summary) : Type 0 where
   pub keeps : BlockKeeps modules d [] true (body_of d.protocol.body) s.exits
   pub grows : BlockGrows modules d (body_of d.protocol.body) s.size
+  pub shaped : HasShape modules d (body_of d.protocol.body) s.shape
 
 -- so it is of the protocol at this place
 abbrev pub TopKeeps : List ModuleTree → List Declaration → ℕ → Summary → Type 0
@@ -82,6 +84,11 @@ abbrev pub WasWalked : List ModuleTree → List Declaration → List State → �
 WasWalked modules ds states root =
     (d : Declaration) → slice_get ds root ≡ Some d → (s : Summary) × (slice_get states root ≡ Some (Walked s)) × IsSummary modules d s
 
+-- there is a state of each protocol, and what is kept of one that was walked is so
+pub record AreSummaries (modules : List ModuleTree) (ds : List Declaration) (states : List State) : Type 0 where
+  pub all : length states ≡ length ds
+  pub each : (k : ℕ) (d : Declaration) (s : Summary) → slice_get ds k ≡ Some d → slice_get states k ≡ Some (Walked s) → IsSummary modules d s
+
 -- in some protocol that is reached from the one at this place, the rule fails
 abbrev pub WalkFails : List ModuleTree → List Declaration → ℕ → ElaborateFault → Type 0
 WalkFails modules ds root (elaborate.Broken f) =
@@ -93,7 +100,16 @@ abbrev pub IsAbsentFault : (home : List (List ℕ)) → FaultKind → ElaborateF
 IsAbsentFault home k f =
     (f ≡ elaborate.Broken (record { kind = k; «module» = home; spot = no_spot })) ⊎ (f ≡ elaborate.OutOfMemory)
 
--- the type of the protocol at this place will have at most 4,096 nodes
-abbrev pub IsSmall : List ModuleTree → List Declaration → ℕ → Type 0
-IsSmall modules ds root =
-    (d : Declaration) → slice_get ds root ≡ Some d → (n : ℕ) × Size modules d (body_of d.protocol.body) 1 n × (n ≤ 4096)
+-- the type of the protocol at this place will have so many nodes, at most 4,096
+abbrev pub IsSmall : List ModuleTree → List Declaration → ℕ → (count : ℕ) → Type 0
+IsSmall modules ds root count =
+    (d : Declaration) → slice_get ds root ≡ Some d → Size modules d (body_of d.protocol.body) 1 count × (count ≤ 4096)
+
+-- the protocol of this name in the module of this name was found, keeps the rules, and was counted
+pub record IsCounted (modules : List ModuleTree) (ds : List Declaration) (root : Declaration) (count : ℕ) (home : List (List ℕ)) (name : List ℕ) : Type 0 where
+  pub all : ds ≡ declarations modules
+  pub there : find_protocol modules home name ≡ Some root
+  pub exits : Bool
+  pub kept : KeepsRules modules root exits
+  pub counted : Size modules root (body_of root.protocol.body) 1 count
+  pub small : count ≤ 4096

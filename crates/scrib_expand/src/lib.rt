@@ -1,17 +1,24 @@
 //! Elaboration: from protocols as they are declared to the global types that they mean.
 #![tactic(auto)]
 
+mod built;
+mod choices;
 mod declared;
 pub mod elaborate;
 pub mod elaborated;
 pub mod fault;
 mod growth;
+mod lift;
 pub mod modules;
 mod names;
 mod own_names;
+mod shape;
+mod shapes;
 mod size;
+mod standing;
 mod statements;
 mod stop;
-#[cfg(test)]
-mod tests;
+mod tasks;
+mod typing;
+mod untyped;
 mod walk;

@@ -1,14 +1,23 @@
 //! The modules among which protocols call one another.
 
-ghost use Rattle.std.specs.Prelude.{◌≡◌, [], false, MatchOption, OnOk, OnErr};
+ghost use Rattle.std.specs.Prelude.{◌≡◌, ◌<◌, [], false, length, MatchOption, IfOk, OnOk, OnErr};
 ghost use Rattle.scrib_expand.specs.Names.{has_name, module_names, with_module};
 ghost use Rattle.scrib_expand.specs.Table.{IsPlace};
+ghost use Rattle.scrib_expand.specs.Placed.{IsPlaced, undone};
 
 use crate::names::same_name;
 use scrib_grammar::tree::ModuleTree;
 use scrib_types::name::Dotted;
 use std::alloc::{AllocError, Global};
 use std::marker::Model;
+use std::mem::replace;
+
+/// Where a module was put, and the one that stood there.
+#[derive(Drop)]
+pub struct Placed {
+    pub at: usize,
+    pub replaced: Option<ModuleTree>,
+}
 
 /// Modules, of which no two have one name where they were added one by one. Contracts see their list.
 #[derive(Drop)]
@@ -52,6 +61,42 @@ impl Modules {
             None => self.trees.push(tree)?,
         }
         Ok(())
+    }
+
+    /// Puts the module in place of the one of its name, or last, and tells where it stands now.
+    ///
+    /// # Errors
+    /// `AllocError` where memory for one more was refused. The modules are the same then.
+    pub fn put(&mut self, tree: ModuleTree) -> Result<Placed, AllocError>
+        ensures ok { IfOk result (IsPlaced tree self.old self.new) }
+        ensures err { OnErr result (self.new ≡ self.old) }
+    {
+        match place_of(&self.trees, &tree.name) {
+            Some(at) => {
+                let replaced = replace(&mut self.trees[at], tree);
+                Ok(Placed {
+                    at,
+                    replaced: Some(replaced),
+                })
+            }
+            None => {
+                let at = self.trees.len();
+                self.trees.push(tree)?;
+                Ok(Placed { at, replaced: None })
+            }
+        }
+    }
+
+    /// Takes back what was put there last.
+    pub fn undo(&mut self, placed: Placed)
+        requires { placed.at < length self.old }
+        ensures { self.new ≡ undone placed self.old }
+    {
+        let Placed { at, replaced } = placed;
+        match replaced {
+            Some(tree) => self.trees[at] = tree,
+            None => self.trees.truncate(at),
+        }
     }
 
     /// The modules, in order.

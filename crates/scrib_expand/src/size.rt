@@ -100,10 +100,10 @@ fn sum(one: Growth, other: Growth) -> Growth
     Growth::new(one.base + other.base, one.times + other.times)
 }
 
-// Whether a `continue` of the recursion of this name stands in the block.
+/// Whether a `continue` of the recursion of this name stands in the block.
 #[cycle(continues)]
 #[tactic(auto, using(crate::specs::SourceView::statement_views))]
-fn continues_in(name: &Name, body: &[Statement]) -> bool
+pub fn continues_in(name: &Name, body: &[Statement]) -> bool
     ensures { result ≡ continues_in name.now (body_of body.now) }
 {
     for statement in body {

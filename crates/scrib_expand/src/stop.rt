@@ -3,6 +3,7 @@
 use crate::declared::Declared;
 use crate::fault::FaultKind;
 use crate::growth::Growth;
+use crate::shape::Shape;
 use scrib_grammar::tree::ModuleTree;
 use scrib_types::name::Name;
 use scrib_types::spot::Spot;
@@ -19,11 +20,13 @@ pub enum State {
     Walked(Summary),
 }
 
-/// What is kept of a protocol that was walked: whether its block has an exit, and how its size grows.
+/// What is kept of a protocol that was walked: whether its block has an exit, how its size grows, and what its
+/// block adds to a type.
 #[derive(Clone, Copy, Drop)]
 pub struct Summary {
     pub exits: bool,
     pub size: Growth,
+    pub shape: Shape,
 }
 
 /// A recursion round a statement.

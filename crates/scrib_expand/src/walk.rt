@@ -3,13 +3,14 @@
 ghost use Rattle.std.specs.Prelude.{◌≡◌, ◌<◌, List, length, IfOk, IfErr, OnOk, MatchResult};
 ghost use Rattle.scrib_expand.specs.Names.{declarations};
 ghost use Rattle.scrib_expand.specs.Table.{shown};
-ghost use Rattle.scrib_expand.specs.Walking.{AreUnwalked, IsEntered, EnterFails, IsFaultIn, IsReady, TopKeeps, TopStops, WasWalked, IsSmall, WalkFails};
+ghost use Rattle.scrib_expand.specs.Walking.{AreUnwalked, IsEntered, EnterFails, IsFaultIn, IsReady, TopKeeps, TopStops, WasWalked, AreSummaries, IsSmall, WalkFails};
 ghost use Rattle.scrib_grammar.specs.declared.tree.ModuleTree.{ModuleTree};
 
 use crate::declared::Declared;
 use crate::fault::{ElaborateFault, Fault, FaultKind};
 use crate::growth::MAX_NODES;
 use crate::own_names::check_own_names;
+use crate::shapes::shape_block;
 use crate::size::size_block;
 use crate::statements::check_block;
 use crate::stop::{BrokenRule, Place, State, Stop, Summary};
@@ -33,6 +34,7 @@ pub fn walk<'a>(
     requires all { shown declared.now ≡ declarations modules.now }
     requires there { root < length declared.now }
     ensures ok { IfOk result (λ states. WasWalked modules.now (shown declared.now) states.items root) }
+    ensures each { IfOk result (λ states. AreSummaries modules.now (shown declared.now) states.items) }
     ensures fault { IfErr result (WalkFails modules.now (shown declared.now) root) }
 {
     let mut states = unwalked(alloc, declared.len())?;
@@ -64,7 +66,7 @@ pub fn walk<'a>(
     Ok(states)
 }
 
-/// Checks that the type of the protocol at this place will have at most 4,096 nodes, after a walk over it.
+/// How many nodes the type of the protocol at this place will have, after a walk over it: at most 4,096.
 ///
 /// # Errors
 /// `Broken` with `TooLarge` and the place of the protocol; `OutOfMemory` where memory was refused.
@@ -73,16 +75,16 @@ pub fn check_size(
     declared: &[Declared],
     states: &[State],
     root: usize,
-) -> Result<(), ElaborateFault>
+) -> Result<usize, ElaborateFault>
     requires there { root < length declared.now }
     requires stated { root < length states.now }
-    ensures ok { (modules : List ModuleTree) → WasWalked modules (shown declared.now) states.now root → OnOk result (IsSmall modules (shown declared.now) root) }
+    ensures ok { (modules : List ModuleTree) → WasWalked modules (shown declared.now) states.now root → IfOk result (IsSmall modules (shown declared.now) root) }
     ensures fault { (modules : List ModuleTree) → WasWalked modules (shown declared.now) states.now root → IfErr result (WalkFails modules (shown declared.now) root) }
 {
     match states[root] {
         State::Walked(summary) => {
             if summary.size.base < MAX_NODES {
-                return Ok(());
+                return Ok(summary.size.base + 1);
             }
             let at = declared[root];
             let rule = BrokenRule {
@@ -92,12 +94,12 @@ pub fn check_size(
             Err(fault_in(alloc, at.home, rule))
         }
         // A walk leaves no other state here.
-        State::Walking => Ok(()),
-        State::Unwalked => Ok(()),
+        State::Walking => Ok(0),
+        State::Unwalked => Ok(0),
     }
 }
 
-// Checks the statements of the protocol at this place, and computes its size.
+// Checks the statements of the protocol at this place, and computes its size and its shape.
 fn check<'a>(
     alloc: Global,
     modules: &'a [ModuleTree],
@@ -120,7 +122,8 @@ fn check<'a>(
     };
     let exits = check_block(alloc, &place, &[], at.protocol.body.as_slice())?;
     let size = size_block(&place, at.protocol.body.as_slice())?;
-    Ok(Summary { exits, size })
+    let shape = shape_block(&place, top, at.protocol.body.as_slice())?;
+    Ok(Summary { exits, size, shape })
 }
 
 // Enters a protocol, whose names are checked first.
@@ -144,8 +147,8 @@ fn enter(
     Ok(())
 }
 
-// The broken rule as a fault of this module, or `OutOfMemory` where memory for a copy of its name is refused.
-fn fault_in(alloc: Global, home: &ModuleTree, rule: BrokenRule) -> ElaborateFault
+/// The broken rule as a fault of this module, or `OutOfMemory` where memory for a copy of its name is refused.
+pub fn fault_in(alloc: Global, home: &ModuleTree, rule: BrokenRule) -> ElaborateFault
     ensures { IsFaultIn home.now rule result }
 {
     match home.name.copy(alloc) {

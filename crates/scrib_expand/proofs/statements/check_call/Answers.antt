@@ -33,6 +33,7 @@ returns-in-Walked c =
       to = en.to;
       there = en.there;
       grows = known.grows;
+      shaped = known.shaped;
     }
 
 pub returns-in-Walking : goal.returns-in-Walking

@@ -1,7 +1,7 @@
 use Rattle.std.proofs.Common.{◌≡◌, ◌<◌, length, refl, sym, ap, ◌∙◌, subst, rules, arith}
 use Rattle.std.proofs.lemmas.Result.{err_from_is_err_and}
 use Rattle.scrib_expand.specs.Walking.{IsReady}
-use Rattle.scrib_expand.proofs.Walks.{IsNext, states_long, ready, top_within, begins_from, leaves_from, next_of, enters_from, less_entering, less_leaving, first_fails, next_fails, broken_fails, ended_from, no_items}
+use Rattle.scrib_expand.proofs.Walks.{IsNext, states_long, ready, top_within, begins_from, leaves_from, next_of, enters_from, less_entering, less_leaving, first_fails, next_fails, broken_fails, ended_from, summaries_from, no_items}
 use Rattle.scrib_expand.proofs.walk.walk.Goals as goal
 
 pub returns-in_err-enter-clause-fault : goal.returns-in_err-enter-clause-fault
@@ -85,3 +85,7 @@ returns-in-Err-Broken-clause-fault c =
 pub returns-clause-ok : goal.returns-clause-ok
 returns-clause-ok c =
     ended_from c.args.modules.now c.args.declared.now c.args.root c.loop-top.states.items c.loop-top.stack.items (no_items c.loop-top.stack.items (let none = c.in_default.ensures.cases.0 in omega (arith, none, c.loop-top.stack.ok.0))) c.loop-top.invariant
+
+pub returns-clause-each : goal.returns-clause-each
+returns-clause-each c =
+    summaries_from c.args.modules.now c.args.declared.now c.args.root c.loop-top.states.items c.loop-top.stack.items c.loop-top.invariant

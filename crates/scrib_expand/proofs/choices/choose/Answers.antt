@@ -1,0 +1,27 @@
+use Rattle.std.proofs.Common.{[], reverse, refl, sym, ap, ◌∙◌, subst}
+use Rattle.scrib_expand.specs.declared.tasks.Task.TheVariants.{Front, Join}
+use Rattle.scrib_expand.specs.declared.tasks.Choosing.{Choosing}
+use Rattle.scrib_expand.specs.Standing.{scope_of}
+use Rattle.scrib_expand.specs.Typing.{type_of, TypingFails}
+use Rattle.scrib_expand.proofs.Steps.{pushed_twice}
+use Rattle.scrib_expand.proofs.Joined.{choosing_begins, no_block, next_block, no_item, first_item}
+use Rattle.scrib_expand.proofs.choices.choose.Goals as goal
+
+pub returns-in_default : goal.returns-in_default
+returns-in_default c = λ modules root b.
+    subst (λ e. TypingFails modules root e) (sym c.broken.ensures) (no_block modules root (reverse c.args.tasks.now.items) c.args.standing c.args.chooser.now c.args.branches.now c.args.spot (type_of c.args.typed) (no_item c.args.branches.now c.in_default.ensures.value) b)
+
+pub returns : goal.returns
+returns c = λ modules root b.
+    let g = type_of c.in_ok-again.again in
+    let standing = c.args.standing in
+    let old = c.args.tasks.now.items in
+    let choosing : Choosing = record {
+      standing = standing;
+      chooser = c.args.chooser;
+      branches = c.args.branches;
+      spot = c.args.spot;
+      follows = c.args.typed;
+      types = c.new.result;
+    } in
+    pushed_twice modules root old c.push.new.self.items c.push-2.new.self.items (Join choosing) (Front c.in_ok-inner.inner c.as_slice.result) g g c.in_ok-push.ensures.items c.in_ok-push-2.ensures.items refl (next_block modules root (reverse old) choosing c.in_ok-inner.inner c.as_slice.result c.in-Some.first.now g (first_item c.args.branches.now c.new.result.items c.in-Some.first.now c.new.ensures.items (sym c.in-Some.ensures.value)) c.in_ok-inner.ensures c.as_slice.ensures c.in_ok-again.ensures (choosing_begins modules root (reverse old) (scope_of standing) standing.depth c.args.chooser.now c.args.branches.now c.args.spot (type_of c.args.typed) c.new.result.items c.new.ensures.items b))
