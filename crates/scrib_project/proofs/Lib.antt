@@ -1,3 +1,6 @@
-pub mod Front
-pub mod Step
+pub mod Parts
+pub mod Protocols
+pub mod Samples
+pub mod Seen
 pub mod Texts
+pub mod Undefined

@@ -1,2 +1,5 @@
-pub mod Gives
+pub mod Differences
+pub mod Merging
+pub mod Surveys
+pub mod Faults
 pub mod Text

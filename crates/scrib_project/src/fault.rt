@@ -1,16 +1,24 @@
 //! Why there is no projection.
 
+use scrib_types::name::{Dotted, Role};
+use scrib_types::spot::Spot;
 use std::alloc::{AllocError, AllocFailed};
-use thiserror::Error;
+
+/// A choice whose branches differ for a role that has no part in it: the role, the module, and the place of the
+/// choice in the module's text.
+#[derive(Drop)]
+pub struct Unmergeable {
+    pub role: Role,
+    pub module: Dotted,
+    pub spot: Spot,
+}
 
 /// Why there is no projection.
-#[derive(Debug, Drop, Error)]
+#[derive(Drop)]
 pub enum ProjectFault {
-    /// The branches of a communication between others differ for the role.
-    #[error("the branches do not merge")]
-    Unmergeable,
+    /// The branches of a choice between others differ for the role.
+    Unmergeable(Unmergeable),
     /// Memory was refused.
-    #[error("out of memory")]
     OutOfMemory,
 }
 

@@ -1,6 +1,10 @@
-//! The projection of global types on roles.
+//! The projection of protocols on roles.
 #![tactic(auto)]
 
 pub mod fault;
+mod look;
+mod merge;
 pub mod project;
+pub mod protocol;
+mod survey;
 pub mod text;

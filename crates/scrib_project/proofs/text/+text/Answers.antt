@@ -1,4 +1,4 @@
-use Rattle.std.proofs.Common.{◌≡◌, ◌∙◌, ◌++◌, ◌∷◌, ◌+◌, ◌-◌, ap, sym, codes}
+use Rattle.std.proofs.Common.{◌∙◌, ◌++◌, ◌∷◌, ◌+◌, ◌-◌, ap, sym, codes}
 use Rattle.std.specs.Fmt.{decimal}
 use Rattle.scrib_types.specs.Texts.{joined_by}
 use Rattle.scrib_types.specs.LocalView.{local_of, local_branches, var_of, rec_of, send_of, recv_of}

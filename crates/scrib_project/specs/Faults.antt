@@ -1,0 +1,53 @@
+-- What the answers of projection say.
+use Rattle.std.specs.Prelude.{◌≡◌, ℕ, List, [], ◌∷◌, slice_get, Option, Some, None, is_some, Result, Ok, Err, if◌then◌else◌}
+use Rattle.scrib_types.specs.declared.local.Local.{Local}
+use Rattle.scrib_types.specs.declared.protocol.Protocol.{Protocol}
+use Rattle.scrib_types.specs.Agreement.{Agreement}
+use Rattle.scrib_types.specs.Meaning.{agreement_of}
+use Rattle.scrib_types.specs.Trees.{GlobalTree}
+use Rattle.scrib_types.specs.LocalView.{local_of}
+use Rattle.scrib_types.specs.Projection.{projection}
+use Rattle.scrib_expand.specs.declared.elaborated.Join.{Join}
+use Rattle.scrib_project.specs.declared.fault.Unmergeable.{Unmergeable}
+use Rattle.scrib_project.specs.declared.fault.ProjectFault.{ProjectFault}
+use Rattle.scrib_project.specs.declared.fault.ProjectFault.TheVariants as fault
+use Rattle.scrib_project.specs.Differences.{first_difference}
+
+-- there is no projection on the role, and some choice differs for it
+pub record IsUnmergeable (g : GlobalTree) (r : List ℕ) (u : Unmergeable) : Type 0 where
+  pub role : u.role ≡ r
+  pub undefined : projection r g ≡ None
+  pub first : ℕ
+  pub differs : first_difference r g ≡ Some first
+
+-- the place is the join's that has the number of the first difference, if there is such a join
+abbrev pub IsAtJoin : List Join → GlobalTree → Unmergeable → Type 0
+IsAtJoin joins g u =
+    (k : ℕ) (j : Join) → first_difference u.role g ≡ Some k → slice_get joins k ≡ Some j → (u.module ≡ j.module) × (u.spot ≡ j.spot)
+
+-- the projection, or that there is none, unless memory was refused
+abbrev pub Projects : GlobalTree → List ℕ → Result Local ProjectFault → Type 0
+Projects g r (Ok l) = projection r g ≡ Some (local_of l)
+Projects g r (Err (fault.Unmergeable u)) = IsUnmergeable g r u
+Projects g r (Err fault.OutOfMemory) = Unit {0}
+
+-- so it is of the place
+abbrev pub IsPlaced : List Join → GlobalTree → ProjectFault → Type 0
+IsPlaced joins g (fault.Unmergeable u) = IsAtJoin joins g u
+IsPlaced joins g fault.OutOfMemory = Unit {0}
+
+-- the first of these roles that has no projection
+abbrev pub first_without : GlobalTree → List (List ℕ) → Option (List ℕ)
+first_without g [] = None
+first_without g (r ∷ rs) = if is_some (projection r g) then first_without g rs else Some r
+
+-- the protocol that means this, or the first role without a projection, unless memory was refused
+abbrev pub Agrees : Agreement → Result Protocol ProjectFault → Type 0
+Agrees a (Ok p) = (agreement_of p ≡ a) × (first_without a.global a.roles ≡ None)
+Agrees a (Err (fault.Unmergeable u)) = (first_without a.global a.roles ≡ Some u.role) × IsUnmergeable a.global u.role u
+Agrees a (Err fault.OutOfMemory) = Unit {0}
+
+-- the fault is the role's, at the join's place, if there is a join
+pub record IsFaultOf (r : List ℕ) (join : Option Join) (u : Unmergeable) : Type 0 where
+  pub role : u.role ≡ r
+  pub place : (j : Join) → join ≡ Some j → (u.module ≡ j.module) × (u.spot ≡ j.spot)

@@ -1,0 +1,26 @@
+//! Protocols from what is elaborated.
+
+ghost use Rattle.scrib_expand.specs.Meaning.{meaning_of};
+ghost use Rattle.scrib_project.specs.Faults.{Agrees};
+
+use crate::fault::ProjectFault;
+use crate::project::project;
+use scrib_expand::elaborated::Elaborated;
+use scrib_types::protocol::Protocol;
+use std::alloc::Global;
+
+/// The protocol, once its type has a projection on each of its roles. They are tried in the order in which they
+/// are declared.
+///
+/// # Errors
+/// `Unmergeable` exactly where some role has no projection, with the first such role; `OutOfMemory` where memory
+/// was refused.
+pub fn protocol(alloc: Global, elaborated: Elaborated) -> Result<Protocol, ProjectFault>
+    ensures { Agrees (meaning_of elaborated) result }
+{
+    for role in elaborated.roles() {
+        project(alloc, &elaborated, role)?;
+    }
+    let (roles, global) = elaborated.into_parts();
+    Ok(Protocol::new(roles, global))
+}
