@@ -15,8 +15,7 @@ ghost use Rattle.scrib_global.specs.Named as spec;
 use crate::logs::event_of;
 use crate::permitted::is_permitted;
 use crate::sorted::insert;
-use scrib_project::fault::ProjectFault;
-use scrib_project::project::project;
+use scrib_project::project::project_type;
 use scrib_types::event::{Action, Event};
 use scrib_types::global::GlobalType;
 use scrib_types::local::Local;
@@ -100,10 +99,8 @@ fn candidates(alloc: Global, global: &GlobalType, role: &Role) -> Result<Vec<Act
 {
     let mut list = Vec::new(alloc);
     list.push(Action::Join)?;
-    match project(alloc, global, role) {
-        Ok(local) => push_named(alloc, &local, &mut list)?,
-        Err(ProjectFault::Unmergeable) => {}
-        Err(ProjectFault::OutOfMemory) => return Err(AllocError),
+    if let Some(local) = project_type(alloc, global, role)? {
+        push_named(alloc, &local, &mut list)?;
     }
     Ok(list)
 }

@@ -11,7 +11,5 @@ mod logs;
 mod permitted;
 mod queues;
 mod sorted;
-#[cfg(test)]
-mod tests;
 mod trace;
 mod unfold;

@@ -11,8 +11,7 @@ ghost use Rattle.scrib_global.specs.Traced.{IsTraced, AllTraced};
 use crate::logs::{all_joined, own_actions};
 use crate::queues::is_queued;
 use crate::trace::is_trace;
-use scrib_project::fault::ProjectFault;
-use scrib_project::project::project;
+use scrib_project::project::project_type;
 use scrib_types::event::Event;
 use scrib_types::global::GlobalType;
 use scrib_types::name::Role;
@@ -79,9 +78,8 @@ fn is_traced(
     ensures { IfOk result (λ is. IsTrue is ↔ IsTraced (global_of global.now) log.now role.now) }
 {
     let own = own_actions(alloc, role, log)?;
-    match project(alloc, global, role) {
-        Ok(local) => is_trace(alloc, local, &own),
-        Err(ProjectFault::Unmergeable) => Ok(false),
-        Err(ProjectFault::OutOfMemory) => Err(AllocError),
+    match project_type(alloc, global, role)? {
+        Some(local) => is_trace(alloc, local, &own),
+        None => Ok(false),
     }
 }

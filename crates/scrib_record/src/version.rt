@@ -5,8 +5,7 @@ ghost use Rattle.scrib_types.specs.Meaning.{agreement_of};
 ghost use Rattle.scrib_types.specs.GlobalView.{global_of};
 ghost use Rattle.scrib_record.specs.Projected.{are_projections};
 
-use scrib_project::fault::ProjectFault;
-use scrib_project::project::project;
+use scrib_project::project::project_type;
 use scrib_types::local::Local;
 use scrib_types::plain::Items;
 use scrib_types::protocol::Protocol;
@@ -62,10 +61,8 @@ fn projections(alloc: Global, protocol: &Protocol) -> Result<Vec<Local>, AllocEr
     let global = protocol.global();
     let mut locals = Vec::with_capacity(alloc, roles.len())?;
     for role in roles {
-        let local = match project(alloc, global, role) {
-            Ok(local) => local,
-            Err(ProjectFault::OutOfMemory) => return Err(AllocError),
-            Err(ProjectFault::Unmergeable) => unreachable!(),
+        let Some(local) = project_type(alloc, global, role)? else {
+            unreachable!()
         };
         locals.push(local)?;
     }
