@@ -1,5 +1,5 @@
 -- What an edit does to the modules, when it is refused, and what it changes (this project's own).
-use Rattle.std.specs.Prelude.{◌≡◌, ◌≢◌, ℕ, ◌<◌, ◌≤◌, List, [], ◌∷◌, length, Contains, AllPairs, ◌↔◌}
+use Rattle.std.specs.Prelude.{◌≡◌, ◌≢◌, ℕ, ◌<◌, ◌≤◌, List, length, Some, None, Contains, AllPairs, ◌↔◌}
 use Rattle.std.specs.Ordering.{nat_cmp}
 use Rattle.std.specs.declared.cmp.Ordering.TheVariants.{Less}
 use Rattle.std.specs.Cmp.Lexicographic.{slice_cmp}
@@ -10,19 +10,22 @@ use Rattle.scrib_lexer.specs.declared.fault.LexFault.TheVariants as lex
 use Rattle.scrib_lexer.specs.Lexeme.{Lexeme}
 use Rattle.scrib_lexer.specs.Tokens as tokens
 use Rattle.scrib_lexer.specs.Tokens.{IsTokens}
-use Rattle.scrib_parser.specs.declared.fault.ParseFault.{ParseFault}
-use Rattle.scrib_parser.specs.declared.fault.ParseFault.TheVariants as parse
-use Rattle.scrib_parser.specs.declared.tree.ModuleTree.{ModuleTree}
-use Rattle.scrib_parser.specs.declared.tree.ProtocolDeclaration.{ProtocolDeclaration}
-use Rattle.scrib_parser.specs.Grammar.{IsModule, IsFaultOf}
-use Rattle.scrib_elaborate.specs.declared.fault.Fault.{Fault}
-use Rattle.scrib_elaborate.specs.Faults.{IsBroken}
+use Rattle.scrib_grammar.specs.declared.fault.ParseFault.{ParseFault}
+use Rattle.scrib_grammar.specs.declared.fault.ParseFault.TheVariants as parse
+use Rattle.scrib_grammar.specs.declared.tree.ModuleTree.{ModuleTree}
+use Rattle.scrib_grammar.specs.declared.tree.Import.{Import}
+use Rattle.scrib_grammar.specs.Grammar.{IsModule, IsFaultOf}
+use Rattle.scrib_expand.specs.declared.fault.Fault.{Fault}
+use Rattle.scrib_expand.specs.Names.{Declaration, declarations, with_module}
+use Rattle.scrib_expand.specs.Faults.{IsBroken}
+use Rattle.scrib_project.specs.declared.fault.Unmergeable.{Unmergeable}
+use Rattle.scrib_project.specs.Faults.{first_without}
 use Rattle.scrib_library.specs.declared.changes.ChangeKind.{ChangeKind}
 use Rattle.scrib_library.specs.declared.changes.ChangeKind.TheVariants.{Added, Replaced, Withdrawn}
 use Rattle.scrib_library.specs.declared.changes.Change.{Change}
 use Rattle.scrib_library.specs.declared.fault.EditFault.{EditFault}
 use Rattle.scrib_library.specs.declared.fault.EditFault.TheVariants as edit
-use Rattle.scrib_library.specs.Modules.{Means, AreWellFormed, with_module, protocol_count}
+use Rattle.scrib_library.specs.Modules.{Means, DeclaredMeans, AreMeant, AreWellFormed, missing_import, protocol_count}
 
 -- the text's tokens are the module
 abbrev pub Reads : List ℕ → ModuleTree → Type 0
@@ -37,18 +40,23 @@ Changes before after Replaced name = (a b : Agreement) × Means before name a ×
 abbrev pub NamedBefore : Change → Change → Type 0
 NamedBefore x y = slice_cmp nat_cmp (dotted_text x.name) (dotted_text y.name) ≡ Less
 
--- exactly the names whose meaning differs, by their texts, each once
+-- exactly the names whose meaning differs, of all modules, by their texts, each once
 pub record IsChanges (before after : List ModuleTree) (list : List Change) : Type 0 where
   pub sorted : AllPairs NamedBefore list
   pub exact : (x : Change) → Contains list x ↔ Changes before after x.kind x.name
 
--- The put is accepted: the text is a module, which takes the place of the one of its name. There are at most
--- 256 modules and 1,024 protocols then, and each protocol means something.
+-- with the module there are at most 256 modules, each that it imports is there, and there are at most 1,024 protocols
+pub record HasRoom (m : ModuleTree) (after : List ModuleTree) : Type 0 where
+  pub modules : length after ≤ 256
+  pub imports : missing_import after m.imports ≡ None
+  pub protocols : protocol_count after ≤ 1024
+
+-- The put is accepted: the text is a module, which takes the place of the one of its name. There is room for it,
+-- and the modules are well formed then.
 pub record IsPut (before : List ModuleTree) (text : List ℕ) (m : ModuleTree) (after : List ModuleTree) : Type 0 where
   pub read : Reads text m
   pub placed : after ≡ with_module m before
-  pub modules : length after ≤ 256
-  pub protocols : protocol_count after ≤ 1024
+  pub room : HasRoom m after
   pub meant : AreWellFormed after
 
 -- the text has no tokens for this reason; want of memory is told as the edit's own fault
@@ -64,17 +72,46 @@ TellsLex text lex.OutOfMemory = ⊥
 abbrev pub TellsParse : List Lexeme → ParseFault → Type 0
 TellsParse ts (parse.Unexpected at) = IsFaultOf ts (parse.Unexpected at)
 TellsParse ts parse.EndOfText = IsFaultOf ts parse.EndOfText
+TellsParse ts (parse.LeftOut word at) = IsFaultOf ts (parse.LeftOut word at)
+TellsParse ts (parse.TooDeep at) = IsFaultOf ts (parse.TooDeep at)
 TellsParse ts parse.OutOfMemory = ⊥
+
+-- a declared protocol breaks a rule there
+abbrev pub IsBrokenIn : List ModuleTree → Fault → Type 0
+IsBrokenIn modules f =
+    (d : Declaration) × Contains (declarations modules) d × IsBroken modules d.home.name d.protocol.name f
+
+-- what a declared protocol means has no projection on the role, which is the first such role of it
+abbrev pub IsUnmergeableIn : List ModuleTree → Unmergeable → Type 0
+IsUnmergeableIn modules u =
+    (d : Declaration) × (a : Agreement) × Contains (declarations modules) d × DeclaredMeans modules d a
+    × (first_without a.global a.roles ≡ Some u.role)
+
+-- there is no room for the module, or the modules aren't well formed, for this and nothing that comes before it
+abbrev pub ModuleFails : ModuleTree → (after : List ModuleTree) → EditFault → Type 0
+ModuleFails m after edit.TooManyModules = 256 < length after
+ModuleFails m after (edit.ImportMissing name) =
+    (length after ≤ 256) × ((i : Import) × (missing_import after m.imports ≡ Some i) × (name ≡ i.module))
+ModuleFails m after edit.TooManyProtocols =
+    (length after ≤ 256) × (missing_import after m.imports ≡ None) × (1024 < protocol_count after)
+ModuleFails m after (edit.Elaborate f) = HasRoom m after × IsBrokenIn after f
+ModuleFails m after (edit.Project u) = HasRoom m after × AreMeant after × IsUnmergeableIn after u
+ModuleFails m after edit.OutOfMemory = Unit {0}
+ModuleFails m after (edit.Lex f) = ⊥
+ModuleFails m after (edit.Parse f) = ⊥
 
 -- the put is refused for this, and for nothing that comes before it in this list
 abbrev pub PutFails : List ModuleTree → List ℕ → EditFault → Type 0
 PutFails before text (edit.Lex f) = TellsLex text f
 PutFails before text (edit.Parse f) = (ts : List Lexeme) × IsTokens text ts × TellsParse ts f
-PutFails before text edit.TooManyModules = (m : ModuleTree) × Reads text m × (256 < length (with_module m before))
+PutFails before text edit.TooManyModules =
+    (m : ModuleTree) × Reads text m × ModuleFails m (with_module m before) edit.TooManyModules
+PutFails before text (edit.ImportMissing name) =
+    (m : ModuleTree) × Reads text m × ModuleFails m (with_module m before) (edit.ImportMissing name)
 PutFails before text edit.TooManyProtocols =
-    (m : ModuleTree) × Reads text m × (length (with_module m before) ≤ 256) × (1024 < protocol_count (with_module m before))
--- a protocol of the resulting library breaks a rule
+    (m : ModuleTree) × Reads text m × ModuleFails m (with_module m before) edit.TooManyProtocols
 PutFails before text (edit.Elaborate f) =
-    (m : ModuleTree) × (tree : ModuleTree) × (d : ProtocolDeclaration) × Reads text m × (length (with_module m before) ≤ 256) × (protocol_count (with_module m before) ≤ 1024)
-    × Contains (with_module m before) tree × Contains tree.protocols d × IsBroken tree d f
+    (m : ModuleTree) × Reads text m × ModuleFails m (with_module m before) (edit.Elaborate f)
+PutFails before text (edit.Project u) =
+    (m : ModuleTree) × Reads text m × ModuleFails m (with_module m before) (edit.Project u)
 PutFails before text edit.OutOfMemory = Unit {0}

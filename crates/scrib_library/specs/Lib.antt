@@ -1,6 +1,9 @@
 pub mod Made
 pub mod Modules
 pub mod Edits
+pub mod Listed
+pub mod Entries
 pub mod Stored
+pub mod Elaborated
 pub mod Differences
 pub mod Plans

@@ -1,44 +1,61 @@
 -- What the accepted modules mean (this project's own).
-use Rattle.std.specs.Prelude.{◌≡◌, ℕ, ◌+◌, Bool, true, List, [], ◌∷◌, ◌++◌, length, Option, Some, None, if◌then◌else◌, Contains}
+use Rattle.std.specs.Prelude.{◌≡◌, ℕ, Bool, true, not, List, [], ◌∷◌, ◌++◌, length, Option, Some, None, Contains}
 use Rattle.std.specs.List.{sum_by}
-use Rattle.std.specs.Cmp.Lexicographic.{pointwise}
-use Rattle.std.specs.Str.{bytes_eq}
 use Rattle.scrib_types.specs.Agreement.{Agreement}
-use Rattle.scrib_parser.specs.declared.tree.ModuleTree.{ModuleTree}
-use Rattle.scrib_parser.specs.declared.tree.ProtocolDeclaration.{ProtocolDeclaration}
-use Rattle.scrib_elaborate.specs.Elaboration.{Elaborates}
+use Rattle.scrib_types.specs.WellFormed.{projects, is_protocol}
+use Rattle.scrib_grammar.specs.declared.tree.ModuleTree.{ModuleTree}
+use Rattle.scrib_grammar.specs.declared.tree.Import.{Import}
+use Rattle.scrib_expand.specs.Names.{Declaration, has_name, first_where, module_names, declarations}
+use Rattle.scrib_expand.specs.Elaboration.{Elaborates}
 
 -- the protocol's name behind that of its module
-abbrev pub full_name : ModuleTree → ProtocolDeclaration → List (List ℕ)
-full_name m d = m.name ++ d.name ∷ []
+abbrev pub full_name : (home : List (List ℕ)) (name : List ℕ) → List (List ℕ)
+full_name home name = home ++ name ∷ []
 
--- some protocol of the modules has this full name and means this
+abbrev pub name_of : Declaration → List (List ℕ)
+name_of d = full_name d.home.name d.protocol.name
+
+-- the name is that of a module and of a protocol of it, which means this
 pub record Means (modules : List ModuleTree) (name : List (List ℕ)) (a : Agreement) : Type 0 where
-  pub tree : ModuleTree
-  pub declaration : ProtocolDeclaration
-  pub accepted : Contains modules tree
-  pub declared : Contains tree.protocols declaration
-  pub named : name ≡ full_name tree declaration
-  pub elaborated : Elaborates tree declaration a
+  pub home : List (List ℕ)
+  pub protocol : List ℕ
+  pub named : name ≡ full_name home protocol
+  pub elaborated : Elaborates modules home protocol a
 
 -- what the modules mean by the name, if anything
 abbrev pub IsMeaning : List ModuleTree → List (List ℕ) → Option Agreement → Type 0
 IsMeaning modules name None = (a : Agreement) → Means modules name a → ⊥
 IsMeaning modules name (Some a) = Means modules name a
 
+-- the declared protocol means this
+abbrev pub DeclaredMeans : List ModuleTree → Declaration → Agreement → Type 0
+DeclaredMeans modules d a = Elaborates modules d.home.name d.protocol.name a
+
+abbrev pub is_missing : List ModuleTree → Import → Bool
+is_missing modules i = not (has_name i.module (module_names modules))
+
+-- the first import whose module isn't there
+abbrev pub missing_import : List ModuleTree → List Import → Option Import
+missing_import modules is = first_where (is_missing modules) is
+
+-- each import's module is there
+abbrev pub AreImportsThere : List ModuleTree → Type 0
+AreImportsThere modules = (m : ModuleTree) → Contains modules m → missing_import modules m.imports ≡ None
+
 -- each declared protocol means something
-abbrev pub AreWellFormed : List ModuleTree → Type 0
-AreWellFormed modules =
-    (tree : ModuleTree) → Contains modules tree → (d : ProtocolDeclaration) → Contains tree.protocols d → (a : Agreement) × Elaborates tree d a
+abbrev pub AreMeant : List ModuleTree → Type 0
+AreMeant modules = (d : Declaration) → Contains (declarations modules) d → (a : Agreement) × DeclaredMeans modules d a
 
--- the two names are the same
-abbrev pub name_eq : List (List ℕ) → List (List ℕ) → Bool
-name_eq = pointwise bytes_eq
+-- each import's module is there, each declared protocol means something, and that projects on each of its roles
+pub record AreWellFormed (modules : List ModuleTree) : Type 0 where
+  pub imports : AreImportsThere modules
+  pub meant : AreMeant modules
+  pub projected : (d : Declaration) (a : Agreement) → Contains (declarations modules) d → DeclaredMeans modules d a → projects a.global a.roles ≡ true
 
--- the modules with this one in place of the one of its name, or last
-abbrev pub with_module : ModuleTree → List ModuleTree → List ModuleTree
-with_module m [] = m ∷ []
-with_module m (n ∷ ns) = if name_eq m.name n.name then m ∷ ns else n ∷ with_module m ns
+-- what the modules mean by a name is a protocol
+abbrev pub MeansProtocols : List ModuleTree → Type 0
+MeansProtocols modules =
+    (name : List (List ℕ)) (a : Agreement) → Means modules name a → is_protocol a.roles a.global ≡ true
 
 -- how many protocols the modules declare
 abbrev pub protocol_count : List ModuleTree → ℕ

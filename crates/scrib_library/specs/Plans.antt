@@ -1,34 +1,16 @@
 -- What a put will do.
 -- Only contracts of private functions cite this file.
-use Rattle.std.specs.Prelude.{◌≡◌, ℕ, ◌<◌, ◌≤◌, List, length, IfSome}
-use Rattle.scrib_parser.specs.declared.tree.ModuleTree.{ModuleTree}
-use Rattle.scrib_library.specs.declared.accepted.Accepted.{Accepted}
-use Rattle.scrib_library.specs.declared.fault.EditFault.{EditFault}
-use Rattle.scrib_library.specs.declared.fault.EditFault.TheVariants as edit
+use Rattle.std.specs.Prelude.{◌≡◌, ℕ, List, slice_index_or}
+use Rattle.scrib_grammar.specs.declared.tree.ModuleTree.{ModuleTree}
 use Rattle.scrib_library.specs.declared.plan.Plan.{Plan}
-use Rattle.scrib_library.specs.Modules.{protocol_count}
-use Rattle.scrib_library.specs.Edits.{IsPut, IsChanges}
-use Rattle.scrib_library.specs.Stored.{trees_of, IsLibrary, put_at}
+use Rattle.scrib_library.specs.declared.versions.NamedVersion.{NamedVersion}
+use Rattle.scrib_library.specs.Edits.{HasRoom}
+use Rattle.scrib_library.specs.Stored.{AreVersions}
+use Rattle.scrib_library.specs.Differences.{AreDifferences}
 
--- there are few enough modules, and so many protocols, which is few enough
-pub record IsRoom (after : List ModuleTree) (protocols : ℕ) : Type 0 where
-  pub few : length after ≤ 256
-  pub counted : protocols ≡ protocol_count after
-  pub bounded : protocols ≤ 1024
-
--- there are too many modules, or too many protocols
-abbrev pub IsNoRoom : List ModuleTree → EditFault → Type 0
-IsNoRoom after edit.TooManyModules = 256 < length after
-IsNoRoom after edit.TooManyProtocols = (length after ≤ 256) × (1024 < protocol_count after)
-IsNoRoom after (edit.Elaborate f) = ⊥
-IsNoRoom after (edit.Lex f) = ⊥
-IsNoRoom after (edit.Parse f) = ⊥
-IsNoRoom after edit.OutOfMemory = ⊥
-
--- what the put of the text does to these modules
-pub record IsPlan (xs : List Accepted) (text : List ℕ) (p : Plan) : Type 0 where
-  pub within : IfSome p.place (λ i. i < length xs)
-  pub library : IsLibrary (put_at xs p.place p.accepted) p.protocols
-  pub placed : IsPut (trees_of xs) text p.accepted.tree (trees_of (put_at xs p.place p.accepted))
-  pub module_name : p.changes.module ≡ p.accepted.tree.name
-  pub changes : IsChanges (trees_of xs) (trees_of (put_at xs p.place p.accepted)) p.changes.list
+-- There is room for the module, the modules have these versions, and this differs.
+pub record IsPlan (m : ModuleTree) (modules : List ModuleTree) (versions : List NamedVersion) (p : Plan) : Type 0 where
+  pub room : HasRoom m modules
+  pub stored : AreVersions modules p.versions
+  pub module_name : p.changes.module ≡ m.name
+  pub changes : AreDifferences versions p.versions p.changes.list

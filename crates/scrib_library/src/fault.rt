@@ -1,8 +1,10 @@
 //! Why an edit was refused.
 
-use scrib_elaborate::fault::{ElaborateFault, Fault};
+use scrib_expand::fault::{ElaborateFault, Fault};
+use scrib_grammar::fault::ParseFault;
 use scrib_lexer::fault::LexFault;
-use scrib_parser::fault::ParseFault;
+use scrib_project::fault::{ProjectFault, Unmergeable};
+use scrib_types::name::Dotted;
 use std::alloc::{AllocError, AllocFailed};
 
 /// Why an edit was refused. Nothing changes then.
@@ -14,10 +16,14 @@ pub enum EditFault {
     Parse(ParseFault),
     /// There would be more than 256 modules.
     TooManyModules,
+    /// The module imports this one, which isn't there. It is the first such import.
+    ImportMissing { module: Dotted },
     /// There would be more than 1,024 protocols.
     TooManyProtocols,
-    /// A declared protocol means nothing.
+    /// A declared protocol means nothing: the first by name, in the order of bytes.
     Elaborate(Fault),
+    /// What a declared protocol means has no projection on a role: the first such protocol by name.
+    Project(Unmergeable),
     /// Memory was refused.
     OutOfMemory,
 }
@@ -60,6 +66,20 @@ impl From<ElaborateFault> for EditFault {
         match fault {
             ElaborateFault::OutOfMemory => EditFault::OutOfMemory,
             ElaborateFault::Broken(fault) => EditFault::Elaborate(fault),
+        }
+    }
+}
+
+impl From<ProjectFault> for EditFault {
+    ghost use Rattle.std.specs.Prelude.{◌≡◌};
+    ghost use Rattle.scrib_library.specs.Made.{edit_fault_of_project};
+
+    ghost from_gives = { λ f e. e ≡ edit_fault_of_project f };
+
+    fn from(fault: ProjectFault) -> EditFault {
+        match fault {
+            ProjectFault::OutOfMemory => EditFault::OutOfMemory,
+            ProjectFault::Unmergeable(fault) => EditFault::Project(fault),
         }
     }
 }

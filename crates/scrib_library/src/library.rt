@@ -2,17 +2,20 @@
 
 ghost use Rattle.std.specs.Prelude.{◌≡◌, [], IfOk, IfErr, OnErr};
 ghost use Rattle.std.specs.Option.{option_map};
+ghost use Rattle.scrib_grammar.specs.declared.tree.ModuleTree as parsed;
 ghost use Rattle.scrib_record.specs.Versions.{meaning_of};
-ghost use Rattle.scrib_library.specs.Modules.{IsMeaning};
+ghost use Rattle.scrib_library.specs.Modules.{IsMeaning, MeansProtocols};
 ghost use Rattle.scrib_library.specs.Edits.{IsPut, IsChanges, PutFails};
 
-use crate::accepted::{Accepted, module_place, store, version_of};
 use crate::changes::Changes;
 use crate::fault::EditFault;
-use crate::plan::{Plan, plan_put};
-use scrib_parser::tree::ModuleTree;
+use crate::plan::plan_put;
+use crate::read::read;
+use crate::versions::{NamedVersion, version_of};
+use scrib_expand::modules::Modules;
 use scrib_record::version::Version;
 use scrib_types::name::Dotted;
+use scrib_types::plain::Items;
 use std::alloc::Global;
 use std::marker::Model;
 
@@ -22,24 +25,29 @@ pub const MAX_MODULES: usize = 256;
 /// The most protocols of all modules together.
 pub const MAX_PROTOCOLS: usize = 1024;
 
-/// The accepted modules, with a version of each protocol that they declare. Contracts see the modules.
+/// The accepted modules, with a version of each protocol that they declare, in the order of the protocols' full
+/// names. Contracts see the modules.
 #[derive(Drop)]
 pub struct Library {
     alloc: Global,
-    modules: Vec<Accepted>,
-    protocols: usize,
+    modules: Modules,
+    versions: Items<NamedVersion>,
 }
 
 impl Model for Library {
     ghost use Rattle.std.specs.Prelude.{List};
-    ghost use Rattle.scrib_parser.specs.declared.tree.ModuleTree.{ModuleTree};
-    ghost use Rattle.scrib_library.specs.Stored.{trees_of, IsLibrary};
+    ghost use Rattle.std.specs.Coded.{codes};
+    ghost use Rattle.scrib_grammar.specs.declared.tree.ModuleTree as parsed;
+    ghost use Rattle.scrib_grammar.specs.contracts.tree.Statement as statement;
+    ghost use Rattle.scrib_library.specs.Stored.{IsLibrary};
 
-    ghost Value = { List ModuleTree };
+    ghost Value = { List parsed.ModuleTree };
 
-    ghost view = { λ l. trees_of l.modules.items };
+    ghost coded = { Prim.hlevel (codes, statement.the_row.coded) };
 
-    ghost invariant = { λ l. IsLibrary l.modules.items l.protocols };
+    ghost view = { λ l. l.modules };
+
+    ghost invariant = { λ l. IsLibrary l.modules l.versions };
 }
 
 impl Library {
@@ -49,8 +57,8 @@ impl Library {
     {
         Library {
             alloc,
-            modules: Vec::new(alloc),
-            protocols: 0,
+            modules: Modules::new(alloc),
+            versions: Items::from_vec(Vec::new(alloc)),
         }
     }
 
@@ -60,30 +68,37 @@ impl Library {
     /// # Errors
     /// The first fault of `EditFault`'s list that the put has; `OutOfMemory` where memory was refused.
     pub fn put(&mut self, text: &[u8]) -> Result<Changes, EditFault>
-        ensures ok { IfOk result (λ changes. (m : ModuleTree) × IsPut self.old text.now m self.new
+        ensures ok { IfOk result (λ changes. (m : parsed.ModuleTree) × IsPut self.old text.now m self.new
             × (changes.module ≡ m.name) × IsChanges self.old self.new changes.list) }
         ensures fault { IfErr result (PutFails self.old text.now) }
         ensures err { OnErr result (self.new ≡ self.old) }
     {
-        let Plan {
-            accepted,
-            place,
-            protocols,
-            changes,
-        } = plan_put(self.alloc, &self.modules, self.protocols, text)?;
-        store(&mut self.modules, place, accepted)?;
-        self.protocols = protocols;
-        Ok(changes)
+        let tree = read(self.alloc, text)?;
+        let placed = self.modules.put(tree)?;
+        let new = &self.modules.as_slice()[placed.at];
+        match plan_put(self.alloc, &self.modules, new, self.versions.as_slice()) {
+            Ok(plan) => {
+                self.versions = plan.versions;
+                Ok(plan.changes)
+            }
+            Err(fault) => {
+                self.modules.undo(placed);
+                Err(fault)
+            }
+        }
     }
 
     /// The version of a protocol that is there, by its full name.
     pub fn present(&self, name: &Dotted) -> Option<&Version>
         ensures { IsMeaning self.now name.now (option_map (λ v. meaning_of v.now) result) }
     {
-        let [module @ .., protocol] = name.as_slice() else {
-            return None;
-        };
-        let at = module_place(&self.modules, module)?;
-        version_of(self.modules[at].versions.as_slice(), protocol)
+        version_of(self.versions.as_slice(), name)
+    }
+
+    /// A law: what the modules mean by a name is a protocol.
+    pub fn means_protocols(&self)
+        ensures { MeansProtocols self.now }
+    {
+        let _versions = self.versions.as_slice();
     }
 }

@@ -1,0 +1,6 @@
+use Rattle.std.proofs.Common.{take}
+use Rattle.scrib_library.specs.Entries.{AreEntries}
+use Rattle.scrib_library.proofs.declared.entries_of.Given as goal
+
+abbrev pub invariant-loop-tree : goal.invariant-loop-tree
+invariant-loop-tree l = AreEntries (take l.tree-index l.modules) l.entries.items

@@ -1,0 +1,25 @@
+//! From a text to the module that it is.
+
+ghost use Rattle.std.specs.Prelude.{List, IfOk, IfErr};
+ghost use Rattle.scrib_grammar.specs.declared.tree.ModuleTree.{ModuleTree};
+ghost use Rattle.scrib_library.specs.Edits.{Reads, PutFails};
+
+use crate::fault::EditFault;
+use scrib_grammar::parse::parse;
+use scrib_grammar::tree::ModuleTree;
+use scrib_lexer::lex::lex;
+use std::alloc::Global;
+
+/// The module that the text is.
+///
+/// # Errors
+/// `Lex` where the text has no tokens, `Parse` where its tokens are no module, `OutOfMemory` where memory was
+/// refused.
+pub fn read(alloc: Global, text: &[u8]) -> Result<ModuleTree, EditFault>
+    ensures ok { IfOk result (Reads text.now) }
+    ensures fault { IfErr result (λ f. (before : List ModuleTree) → PutFails before text.now f) }
+{
+    let tokens = lex(alloc, text)?;
+    let tree = parse(alloc, tokens.as_slice())?;
+    Ok(tree)
+}
