@@ -9,22 +9,14 @@ use Rattle.scrib_types.specs.Agreement.{Agreement}
 use Rattle.scrib_types.specs.Judgement.{Judges, IsOffence}
 use Rattle.scrib_types.specs.Permitted.{IsPermitted}
 use Rattle.scrib_types.specs.WellFormed.{is_protocol}
-use Rattle.scrib_parser.specs.declared.tree.ModuleTree.{ModuleTree}
-use Rattle.scrib_elaborate.proofs.Sequence.{is_protocol-declared}
+use Rattle.scrib_grammar.specs.declared.tree.ModuleTree.{ModuleTree}
 use Rattle.scrib_global.specs.Simulation.{IsJoinedRun}
 use Rattle.scrib_global.proofs.Runs.{simulates}
 use Rattle.scrib_global.proofs.Judged.{permitted_front}
-use Rattle.scrib_library.specs.Modules.{Means, IsMeaning}
+use Rattle.scrib_library.specs.Modules.{IsMeaning, MeansProtocols}
 use Rattle.scrib_core.specs.declared.conversation.Conversation.{Conversation}
 use Rattle.scrib_core.specs.World.{World, conversation}
 use Rattle.scrib_core.specs.Runs.{IsPermittedRun, PermitsRuns}
-
--- what modules mean is a protocol
-meant : (modules : List ModuleTree) (name : List (List ℕ)) (a : Agreement) → Means modules name a → is_protocol a.roles a.global ≡ true
-meant modules name a h =
-    let e = h.elaborated in
-    is_protocol-declared h.declaration a.roles a.global e.roles e.global
-    (record { roles = record { few = e.few; distinct = e.distinct }; between = e.between; small = e.small })
 
 -- a log that offends isn't permitted
 not_offending : (a : Agreement) (log : List Event) (place : ℕ) (role : List ℕ) (allowed : List Action) → IsOffence a log place role allowed → IsPermitted a log → ⊥
@@ -52,10 +44,10 @@ without log Permitted h = absurd h
 without log (Offence place role allowed) h = absurd h
 without log Withdrawn h = (λ e. absurd cc, λ r. let e : None ≡ Some r.0 = r.1 in cc)
 
-of_conversation : (w : World) (c : Conversation) → IsPermittedRun w c
-of_conversation w c None v m h = without c.log v h
-of_conversation w c (Some a) v m h = by_verdict a (meant w.modules c.name a m) c.log v h
+of_conversation : (w : World) (c : Conversation) → MeansProtocols w.modules → IsPermittedRun w c
+of_conversation w c valid None v m h = without c.log v h
+of_conversation w c valid (Some a) v m h = by_verdict a (valid c.name a m) c.log v h
 
-pub permits_runs : (w : World) → PermitsRuns w
+pub permits_runs : (w : World) → MeansProtocols w.modules → PermitsRuns w
 unfolding PermitsRuns
-permits_runs w id c there = of_conversation w c
+permits_runs w valid id c there = of_conversation w c valid

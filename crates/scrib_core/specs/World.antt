@@ -4,7 +4,7 @@ use Rattle.std.specs.Prelude.{◌≡◌, ℕ, ◌<◌, ◌≤◌, List, [], ◌�
 use Rattle.std.specs.Map.{lookup, set_value}
 use Rattle.scrib_types.specs.declared.event.Event.{Event}
 use Rattle.scrib_types.specs.Agreement.{Agreement}
-use Rattle.scrib_parser.specs.declared.tree.ModuleTree.{ModuleTree}
+use Rattle.scrib_grammar.specs.declared.tree.ModuleTree.{ModuleTree}
 use Rattle.scrib_library.specs.declared.fault.EditFault.{EditFault}
 use Rattle.scrib_library.specs.declared.fault.EditFault.TheVariants as edit
 use Rattle.scrib_library.specs.Modules.{Means}
@@ -75,8 +75,10 @@ Refuses w (Put text) NoConversation = ⊥
 Refuses w (Put text) (Edit (edit.Lex f)) = PutFails w.modules text (edit.Lex f)
 Refuses w (Put text) (Edit (edit.Parse f)) = PutFails w.modules text (edit.Parse f)
 Refuses w (Put text) (Edit edit.TooManyModules) = PutFails w.modules text edit.TooManyModules
+Refuses w (Put text) (Edit (edit.ImportMissing name)) = PutFails w.modules text (edit.ImportMissing name)
 Refuses w (Put text) (Edit edit.TooManyProtocols) = PutFails w.modules text edit.TooManyProtocols
 Refuses w (Put text) (Edit (edit.Elaborate f)) = PutFails w.modules text (edit.Elaborate f)
+Refuses w (Put text) (Edit (edit.Project u)) = PutFails w.modules text (edit.Project u)
 Refuses w (Put text) (Edit edit.OutOfMemory) = ⊥
 Refuses w (Put text) LogFull = ⊥
 Refuses w (Put text) OutOfMemory = Unit {0}

@@ -49,12 +49,14 @@ impl Core {
         ensures memory { IsDue (world_of self.old) step result }
         ensures runs { PermitsRuns (world_of self.new) }
     {
-        match step {
+        let reply = match step {
             Step::Put { text } => self.put(text.as_slice()),
             Step::Open { id, name } => self.open(id, name),
             Step::Note { id, event } => self.note(id, event),
             Step::Ask { id } => self.ask(id),
-        }
+        };
+        self.library.means_protocols();
+        reply
     }
 
     /// Makes the steps one after another and answers each. After them each conversation is permitted
@@ -70,11 +72,13 @@ impl Core {
         ensures err { OnErr result (world_of self.new ≡ world_of self.old) }
         ensures runs { PermitsRuns (world_of self.new) }
     {
+        self.library.means_protocols();
         let mut replies = Vec::with_capacity(self.alloc, steps.len())?;
         for step in steps {
             let reply = self.apply_lent(step);
             replies.push_reserved(reply);
         }
+        self.library.means_protocols();
         Ok(replies)
     }
 

@@ -12,11 +12,13 @@ use Rattle.scrib_types.specs.Texts.{dotted_text, message_text, action_text}
 use Rattle.scrib_global.specs.declared.explain.Flight.{Flight}
 use Rattle.scrib_lexer.specs.declared.fault.LexFault.{LexFault}
 use Rattle.scrib_lexer.specs.declared.fault.LexFault.TheVariants as lex
-use Rattle.scrib_parser.specs.declared.fault.ParseFault.{ParseFault}
-use Rattle.scrib_parser.specs.declared.fault.ParseFault.TheVariants as parse
-use Rattle.scrib_elaborate.specs.declared.fault.FaultKind.{FaultKind}
-use Rattle.scrib_elaborate.specs.declared.fault.FaultKind.TheVariants.{TwiceDeclared, NoRole, SelfMessage, TooManyRoles, TooLarge}
-use Rattle.scrib_elaborate.specs.declared.fault.Fault.{Fault}
+use Rattle.scrib_grammar.specs.LeftOut.{spelling}
+use Rattle.scrib_grammar.specs.declared.fault.ParseFault.{ParseFault}
+use Rattle.scrib_grammar.specs.declared.fault.ParseFault.TheVariants as parse
+use Rattle.scrib_expand.specs.declared.fault.FaultKind.{FaultKind}
+use Rattle.scrib_expand.specs.declared.fault.FaultKind.TheVariants as kind
+use Rattle.scrib_expand.specs.declared.fault.Fault.{Fault}
+use Rattle.scrib_project.specs.declared.fault.Unmergeable.{Unmergeable}
 use Rattle.scrib_library.specs.declared.changes.ChangeKind.{ChangeKind}
 use Rattle.scrib_library.specs.declared.changes.ChangeKind.TheVariants as change
 use Rattle.scrib_library.specs.declared.changes.Change.{Change}
@@ -82,25 +84,47 @@ lex_fault_text lex.OutOfMemory = codes "OutOfMemory"
 unfoldable pub parse_fault_text : ParseFault → List ℕ
 parse_fault_text (parse.Unexpected at) = codes "Unexpected" ++ spot_text at
 parse_fault_text parse.EndOfText = codes "EndOfText"
+parse_fault_text (parse.LeftOut word at) = codes "LeftOut " ++ spelling word ++ spot_text at
+parse_fault_text (parse.TooDeep at) = codes "TooDeep" ++ spot_text at
 parse_fault_text parse.OutOfMemory = codes "OutOfMemory"
 
 abbrev pub kind_text : FaultKind → List ℕ
-kind_text TwiceDeclared = codes "TwiceDeclared"
-kind_text NoRole = codes "NoRole"
-kind_text SelfMessage = codes "SelfMessage"
-kind_text TooManyRoles = codes "TooManyRoles"
-kind_text TooLarge = codes "TooLarge"
+kind_text kind.NoModule = codes "NoModule"
+kind_text kind.NoProtocol = codes "NoProtocol"
+kind_text kind.TwiceDeclared = codes "TwiceDeclared"
+kind_text kind.NoRole = codes "NoRole"
+kind_text kind.RepeatedRole = codes "RepeatedRole"
+kind_text kind.WrongCount = codes "WrongCount"
+kind_text kind.SelfMessage = codes "SelfMessage"
+kind_text kind.DoCycle = codes "DoCycle"
+kind_text kind.NoRec = codes "NoRec"
+kind_text kind.Unguarded = codes "Unguarded"
+kind_text kind.Unreachable = codes "Unreachable"
+kind_text kind.EmptyBranch = codes "EmptyBranch"
+kind_text kind.ContinueHead = codes "ContinueHead"
+kind_text kind.RecHead = codes "RecHead"
+kind_text kind.NotChooser = codes "NotChooser"
+kind_text kind.TwoReceivers = codes "TwoReceivers"
+kind_text kind.SameOperator = codes "SameOperator"
+kind_text kind.TooManyRoles = codes "TooManyRoles"
+kind_text kind.TooLarge = codes "TooLarge"
 
 -- `NoRole demo 3:14`, with the module and the place
 unfoldable pub fault_text : Fault → List ℕ
 fault_text f = kind_text f.kind ++ codes " " ++ dotted_text f.module ++ spot_text f.spot
 
+-- `Unmergeable C demo 3:14`, with the role, the module and the place
+unfoldable pub unmergeable_text : Unmergeable → List ℕ
+unmergeable_text u = codes "Unmergeable " ++ u.role ++ codes " " ++ dotted_text u.module ++ spot_text u.spot
+
 unfoldable pub edit_fault_text : EditFault → List ℕ
 edit_fault_text (edit.Lex f) = lex_fault_text f
 edit_fault_text (edit.Parse f) = parse_fault_text f
 edit_fault_text edit.TooManyModules = codes "TooManyModules"
+edit_fault_text (edit.ImportMissing m) = codes "ImportMissing " ++ dotted_text m
 edit_fault_text edit.TooManyProtocols = codes "TooManyProtocols"
 edit_fault_text (edit.Elaborate f) = fault_text f
+edit_fault_text (edit.Project u) = unmergeable_text u
 edit_fault_text edit.OutOfMemory = codes "OutOfMemory"
 
 unfoldable pub refusal_text : Refusal → List ℕ

@@ -1,13 +1,17 @@
 //! The text of refusals.
 
-ghost use Rattle.std.specs.Prelude.{◌≡◌, ◌++◌, OnOk};
+ghost use Rattle.std.specs.Prelude.{◌≡◌, ◌++◌, OnOk, codes};
+ghost use Rattle.scrib_grammar.specs.LeftOut.{spelling};
+ghost use Rattle.scrib_types.specs.Texts.{dotted_text};
 ghost use Rattle.scrib_report.specs.Lines as lines;
 
 use scrib_core::reply::Refusal;
-use scrib_elaborate::fault::{Fault, FaultKind};
+use scrib_expand::fault::{Fault, FaultKind};
+use scrib_grammar::fault::{LeftOutWord, ParseFault};
 use scrib_lexer::fault::LexFault;
 use scrib_library::fault::EditFault;
-use scrib_parser::fault::ParseFault;
+use scrib_project::fault::Unmergeable;
+use scrib_types::name::Dotted;
 use scrib_types::spot::Spot;
 use scrib_types::text::{push_bytes, push_dotted, push_number};
 use std::alloc::AllocError;
@@ -44,6 +48,13 @@ fn push_lex_fault(out: &mut Vec<u8>, fault: &LexFault) -> Result<(), AllocError>
     }
 }
 
+fn push_left_out(out: &mut Vec<u8>, word: LeftOutWord, spot: &Spot) -> Result<(), AllocError>
+    ensures { OnOk result (out.new.items ≡ out.old.items ++ (codes "LeftOut " ++ spelling word ++ lines.spot_text spot.now)) }
+{
+    push_bytes(out, b"LeftOut ")?;
+    push_placed(out, word.text().as_bytes(), spot)
+}
+
 #[tactic(auto, unfolding(crate::specs::Lines::parse_fault_text))]
 fn push_parse_fault(out: &mut Vec<u8>, fault: &ParseFault) -> Result<(), AllocError>
     ensures { OnOk result (out.new.items ≡ out.old.items ++ lines.parse_fault_text fault.now) }
@@ -51,6 +62,8 @@ fn push_parse_fault(out: &mut Vec<u8>, fault: &ParseFault) -> Result<(), AllocEr
     match fault {
         ParseFault::Unexpected { at } => push_placed(out, b"Unexpected", at),
         ParseFault::EndOfText => push_bytes(out, b"EndOfText"),
+        ParseFault::LeftOut { word, at } => push_left_out(out, *word, at),
+        ParseFault::TooDeep { at } => push_placed(out, b"TooDeep", at),
         ParseFault::OutOfMemory => push_bytes(out, b"OutOfMemory"),
     }
 }
@@ -59,9 +72,23 @@ fn push_kind(out: &mut Vec<u8>, kind: FaultKind) -> Result<(), AllocError>
     ensures { OnOk result (out.new.items ≡ out.old.items ++ lines.kind_text kind) }
 {
     match kind {
+        FaultKind::NoModule => push_bytes(out, b"NoModule"),
+        FaultKind::NoProtocol => push_bytes(out, b"NoProtocol"),
         FaultKind::TwiceDeclared => push_bytes(out, b"TwiceDeclared"),
         FaultKind::NoRole => push_bytes(out, b"NoRole"),
+        FaultKind::RepeatedRole => push_bytes(out, b"RepeatedRole"),
+        FaultKind::WrongCount => push_bytes(out, b"WrongCount"),
         FaultKind::SelfMessage => push_bytes(out, b"SelfMessage"),
+        FaultKind::DoCycle => push_bytes(out, b"DoCycle"),
+        FaultKind::NoRec => push_bytes(out, b"NoRec"),
+        FaultKind::Unguarded => push_bytes(out, b"Unguarded"),
+        FaultKind::Unreachable => push_bytes(out, b"Unreachable"),
+        FaultKind::EmptyBranch => push_bytes(out, b"EmptyBranch"),
+        FaultKind::ContinueHead => push_bytes(out, b"ContinueHead"),
+        FaultKind::RecHead => push_bytes(out, b"RecHead"),
+        FaultKind::NotChooser => push_bytes(out, b"NotChooser"),
+        FaultKind::TwoReceivers => push_bytes(out, b"TwoReceivers"),
+        FaultKind::SameOperator => push_bytes(out, b"SameOperator"),
         FaultKind::TooManyRoles => push_bytes(out, b"TooManyRoles"),
         FaultKind::TooLarge => push_bytes(out, b"TooLarge"),
     }
@@ -77,6 +104,24 @@ fn push_fault(out: &mut Vec<u8>, fault: &Fault) -> Result<(), AllocError>
     push_spot(out, &fault.spot)
 }
 
+#[tactic(auto, unfolding(crate::specs::Lines::unmergeable_text))]
+fn push_unmergeable(out: &mut Vec<u8>, fault: &Unmergeable) -> Result<(), AllocError>
+    ensures { OnOk result (out.new.items ≡ out.old.items ++ lines.unmergeable_text fault.now) }
+{
+    push_bytes(out, b"Unmergeable ")?;
+    push_bytes(out, fault.role.as_bytes())?;
+    push_bytes(out, b" ")?;
+    push_dotted(out, &fault.module)?;
+    push_spot(out, &fault.spot)
+}
+
+fn push_missing(out: &mut Vec<u8>, name: &Dotted) -> Result<(), AllocError>
+    ensures { OnOk result (out.new.items ≡ out.old.items ++ (codes "ImportMissing " ++ dotted_text name.now)) }
+{
+    push_bytes(out, b"ImportMissing ")?;
+    push_dotted(out, name)
+}
+
 #[tactic(auto, unfolding(crate::specs::Lines::edit_fault_text))]
 fn push_edit_fault(out: &mut Vec<u8>, fault: &EditFault) -> Result<(), AllocError>
     ensures { OnOk result (out.new.items ≡ out.old.items ++ lines.edit_fault_text fault.now) }
@@ -85,8 +130,10 @@ fn push_edit_fault(out: &mut Vec<u8>, fault: &EditFault) -> Result<(), AllocErro
         EditFault::Lex(fault) => push_lex_fault(out, fault),
         EditFault::Parse(fault) => push_parse_fault(out, fault),
         EditFault::TooManyModules => push_bytes(out, b"TooManyModules"),
+        EditFault::ImportMissing { module } => push_missing(out, module),
         EditFault::TooManyProtocols => push_bytes(out, b"TooManyProtocols"),
         EditFault::Elaborate(fault) => push_fault(out, fault),
+        EditFault::Project(fault) => push_unmergeable(out, fault),
         EditFault::OutOfMemory => push_bytes(out, b"OutOfMemory"),
     }
 }
