@@ -1,5 +1,5 @@
 -- What is printed of a conversation that a monitor shows, and where printing fails.
-use Rattle.std.proofs.Common.{◌≡◌, ◌+◌, ◌⊎◌, inl, inr, ℕ, List, [], ◌∷◌, ◌++◌, ◌∙◌, Option, Some, None, sym, ap, subst, rules}
+use Rattle.std.proofs.Common.{◌≡◌, ◌+◌, ◌⊎◌, inl, inr, ℕ, List, [], ◌++◌, Option, Some, None, sym, subst, rules}
 use Rattle.std.specs.Prelude.{IfSome, codes, option_map}
 use Rattle.std.specs.Borrow.{Bor}
 use Rattle.std.specs.Fmt.{decimal}
@@ -9,7 +9,7 @@ use Rattle.scrib_types.specs.declared.event.Event.{Event}
 use Rattle.scrib_types.specs.declared.protocol.Protocol.{Protocol}
 use Rattle.scrib_types.specs.Meaning.{agreement_of}
 use Rattle.scrib_library.specs.Modules.{IsMeaning}
-use Rattle.scrib_core.specs.World.{World, conversation, nothing}
+use Rattle.scrib_core.specs.World.{World}
 use Rattle.scrib_core.specs.Held.{IsViewed}
 use Rattle.scrib_global.specs.declared.explain.Flight.{Flight}
 use Rattle.scrib_global.specs.Offences.{Offends}
@@ -17,9 +17,9 @@ use Rattle.scrib_global.specs.Explained.{IsExplained}
 use Rattle.scrib_cli.specs.declared.explaining.Explained.{Explained}
 use Rattle.scrib_cli.specs.declared.explaining.Explained.TheVariants.{Flights, Refused}
 use Rattle.scrib_cli.specs.declared.telling.Telling.TheVariants.{Silent}
-use Rattle.scrib_cli.specs.Scripts.{AppendsPart, lines}
-use Rattle.scrib_cli.specs.Progress.{Whole, Ran, RanShort}
-use Rattle.scrib_cli.specs.Explanations.{Explanation, IsExplanation, absent, unknown, offends, flies, flight_lines, refusal_line}
+use Rattle.scrib_cli.specs.Scripts.{AppendsPart}
+use Rattle.scrib_cli.specs.Progress.{Ran, RanShort}
+use Rattle.scrib_cli.specs.Explanations.{Explanation, IsExplanation, unknown, offends, flies, flight_lines, refusal_line}
 use Rattle.scrib_cli.proofs.Writes.{appends_more, appends_kept}
 
 -- what a view of the monitor says

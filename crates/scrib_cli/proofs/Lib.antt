@@ -5,3 +5,6 @@ pub mod Going
 pub mod Ending
 pub mod Tellings
 pub mod Explained
+pub mod KeptTexts
+pub mod Checked
+pub mod Projected

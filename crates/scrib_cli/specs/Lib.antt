@@ -1,3 +1,6 @@
 pub mod Scripts
 pub mod Progress
 pub mod Explanations
+pub mod Checks
+pub mod Projections
+pub mod ProjectionSteps

@@ -21,8 +21,8 @@ use scrib_types::plain::Items;
 use std::alloc::Global;
 use std::io::Write;
 
-// What is kept of a module text: one byte more than it may have.
-const KEPT_TEXT_BYTES: usize = 1_048_577;
+/// What is kept of a module text: one byte more than it may have.
+pub const KEPT_TEXT_BYTES: usize = 1_048_577;
 
 /// Whether this is the line that ends a module text.
 pub fn is_text_end(bytes: &[u8]) -> bool
@@ -50,7 +50,11 @@ pub fn make_step<W: Write>(
 }
 
 /// Writes the reply's line.
-fn write_reply<W: Write>(alloc: Global, reply: &Reply, writer: &mut W) -> Result<(), ScriptFault>
+pub fn write_reply<W: Write>(
+    alloc: Global,
+    reply: &Reply,
+    writer: &mut W,
+) -> Result<(), ScriptFault>
     ensures ok { OnOk result (Appends (W.contents writer.old) (W.contents writer.new) (reply_line reply.now)) }
     ensures err { OnErr result (AppendsPart (W.contents writer.old) (W.contents writer.new) (reply_line reply.now)) }
 {

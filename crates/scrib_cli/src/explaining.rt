@@ -47,8 +47,8 @@ pub(crate) fn explanation(
     }
 }
 
-// The refusal line of this word.
-fn refusal(alloc: Global, word: &[u8]) -> Result<Vec<u8>, AllocError>
+/// The refusal line of this word.
+pub(crate) fn refusal(alloc: Global, word: &[u8]) -> Result<Vec<u8>, AllocError>
     ensures { IfOk result (λ text. text.items ≡ refusal_line word.now) }
 {
     let mut text = Vec::new(alloc);

@@ -2,11 +2,17 @@
 #![tactic(auto)]
 
 mod carrying;
+pub mod check;
 pub mod explain_script;
 mod explaining;
 pub mod fault;
+mod full_name;
 pub mod id;
 mod keeping;
+mod modules;
+pub mod project;
+mod projection;
+pub mod reading;
 mod run;
 pub mod run_script;
 mod telling;

@@ -7,15 +7,13 @@ ghost use Rattle.scrib_cli.specs.Scripts.{IsOutput, AppendsPart};
 ghost use Rattle.scrib_cli.specs.Progress.{Ran, RanShort};
 
 pub use crate::fault::ScriptFault;
+use crate::reading::PIECE_BYTES;
 use crate::run::Run;
 use crate::telling::Telling;
 use crate::writing::flush_out;
 use scrib_core::monitor::Core;
 use std::alloc::Global;
 use std::io::{ErrorKind, Read, Write};
-
-// How many bytes are read at once.
-const PIECE_BYTES: usize = 8192;
 
 /// Reads a script, makes its steps over a new monitor, and writes the line of each reply, however
 /// the reads and writes are cut. At the end the writer is flushed.

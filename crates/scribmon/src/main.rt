@@ -2,9 +2,12 @@
 #![tactic(auto)]
 
 use clap::error::ErrorKind;
-use clap::{Arg, ArgMatches, Command, Error};
+use clap::{Arg, ArgAction, ArgMatches, Command, Error};
+use scrib_cli::check::{Core, check_module};
 use scrib_cli::explain_script::{Explained, explain_script};
 use scrib_cli::id::id_of;
+use scrib_cli::project::project_text;
+use scrib_cli::reading::{Items, read_text};
 use scrib_cli::run_script::{ScriptFault, run_script};
 use std::alloc::{AllocError, Global};
 use std::io::{BufWriter, Read};
@@ -14,6 +17,34 @@ use std::{env, fs, io};
 
 fn file_arg<'a>(alloc: Global) -> Arg<'a> {
     Arg::new(alloc, "FILE").help("The script; standard input where none is named")
+}
+
+fn files_arg<'a>(alloc: Global) -> Arg<'a> {
+    Arg::new(alloc, "FILE")
+        .help("The modules' texts, in the order in which they are read")
+        .required(true)
+        .num_args(1..)
+        .action(ArgAction::Append)
+}
+
+fn check_command<'a>(alloc: Global) -> Result<Command<'a>, AllocError> {
+    Command::new(alloc, "check")
+        .about("Puts modules into one library, and prints a line for each put")
+        .arg(files_arg(alloc))
+}
+
+fn project_command<'a>(alloc: Global) -> Result<Command<'a>, AllocError> {
+    let protocol = Arg::new(alloc, "PROTOCOL")
+        .help("The protocol's full name, as demo.Hello")
+        .required(true);
+    let role = Arg::new(alloc, "ROLE")
+        .help("A role of the protocol")
+        .required(true);
+    Command::new(alloc, "project")
+        .about("Prints what a role does in a protocol of some modules")
+        .arg(protocol)?
+        .arg(role)?
+        .arg(files_arg(alloc))
 }
 
 fn command<'a>(alloc: Global) -> Result<Command<'a>, AllocError> {
@@ -32,8 +63,76 @@ fn command<'a>(alloc: Global) -> Result<Command<'a>, AllocError> {
         .about("Judges running conversations against Scribble protocols")
         .subcommand_required(true)
         .arg_required_else_help(true)
+        .subcommand(check_command(alloc)?)?
+        .subcommand(project_command(alloc)?)?
         .subcommand(watch)?
         .subcommand(explain)
+}
+
+// Puts the files' modules in order, until one can't be read. Returns whether all of them were accepted.
+fn check(
+    rt: &(impl Print + Files + AllocGlobal),
+    matches: &ArgMatches,
+) -> Result<bool, ScriptFault> {
+    let alloc = rt.alloc();
+    let Ok(mut writer) = BufWriter::new(alloc, io::writer(rt)) else {
+        return Err(ScriptFault::OutOfMemory);
+    };
+    let mut core = Core::new(alloc);
+    let mut accepted = true;
+    for path in matches.get_strs("FILE").unwrap_or(&[]) {
+        let Ok(mut file) = fs::open(rt, path) else {
+            return Err(ScriptFault::Read);
+        };
+        if !check_module(alloc, &mut core, &mut file, &mut writer)? {
+            accepted = false;
+        }
+    }
+    Ok(accepted)
+}
+
+// The file's module text, or `None` where it can't be opened or read.
+fn text_of(rt: &(impl Files + AllocGlobal), path: &str) -> Result<Option<Items<u8>>, ScriptFault> {
+    let Ok(mut file) = fs::open(rt, path) else {
+        return Ok(None);
+    };
+    match read_text(rt.alloc(), &mut file) {
+        Ok(text) => Ok(Some(text)),
+        Err(ScriptFault::Read) => Ok(None),
+        Err(fault) => Err(fault),
+    }
+}
+
+// The files' module texts in order, up to the first that can't be read.
+fn texts_of(
+    rt: &(impl Files + AllocGlobal),
+    matches: &ArgMatches,
+) -> Result<Vec<Option<Items<u8>>>, ScriptFault> {
+    let mut texts = Vec::new(rt.alloc());
+    for path in matches.get_strs("FILE").unwrap_or(&[]) {
+        let text = text_of(rt, path)?;
+        let is_last = text.is_none();
+        texts.push(text)?;
+        if is_last {
+            return Ok(texts);
+        }
+    }
+    Ok(texts)
+}
+
+// Returns whether the role's local type was printed.
+fn project(
+    rt: &(impl Print + Files + AllocGlobal),
+    matches: &ArgMatches,
+) -> Result<bool, ScriptFault> {
+    let alloc = rt.alloc();
+    let texts = texts_of(rt, matches)?;
+    let Ok(mut writer) = BufWriter::new(alloc, io::writer(rt)) else {
+        return Err(ScriptFault::OutOfMemory);
+    };
+    let protocol = matches.get_str("PROTOCOL").unwrap_or("");
+    let role = matches.get_str("ROLE").unwrap_or("");
+    project_text(alloc, protocol, role, texts.as_slice(), &mut writer)
 }
 
 fn watch_reader<R: Read>(
@@ -113,6 +212,15 @@ fn refused_id(rt: &(impl Print + Eprint + AllocGlobal)) -> io::Result<ExitCode> 
     Ok(told_usage(rt, &error))
 }
 
+// A refusal that was printed is a status of 1.
+fn told_answer(rt: &impl Eprint, answer: Result<bool, ScriptFault>) -> ExitCode {
+    match answer {
+        Ok(true) => ExitCode::SUCCESS,
+        Ok(false) => ExitCode::from(1),
+        Err(fault) => told_fault(rt, &fault),
+    }
+}
+
 fn run_watch(
     rt: &(impl Print + Eprint + Input + Files + AllocGlobal),
     matches: &ArgMatches,
@@ -149,6 +257,8 @@ fn run(rt: &(impl Print + Eprint + Input + Files + Env + AllocGlobal)) -> io::Re
         Err(error) => return Ok(told_usage(rt, &error)),
     };
     match matches.subcommand() {
+        Some(("check", matches)) => Ok(told_answer(rt, check(rt, matches))),
+        Some(("project", matches)) => Ok(told_answer(rt, project(rt, matches))),
         Some(("watch", matches)) => Ok(run_watch(rt, matches)),
         Some(("explain", matches)) => run_explain(rt, matches),
         _ => Ok(ExitCode::from(2)),

@@ -1,0 +1,90 @@
+-- What the steps of `project` come to.
+use Rattle.std.proofs.Common.{◌≡◌, ◌+◌, ◌||◌, inl, inr, ℕ, ◌<◌, Bool, true, false, List, [], ◌∷◌, ◌++◌, ◌∙◌, length, drop, get_or, Option, sym, ap, refl, arith}
+use Rattle.std.specs.Str.{bytes_eq}
+use Rattle.std.proofs.lemmas.Bool.{false_from_ne_true}
+use Rattle.std.proofs.lemmas.Slice.Eq.{bytes_eq-Decides}
+use Rattle.std.proofs.lemmas.List.{length-append, at_drop_more}
+use Rattle.scrib_types.specs.Agreement.{Agreement}
+use Rattle.scrib_types.specs.WellFormed.{has_role}
+use Rattle.scrib_lexer.specs.declared.fault.LexFault.{LexFault}
+use Rattle.scrib_lexer.specs.declared.fault.LexFault.TheVariants as lex
+use Rattle.scrib_lexer.specs.Lexeme.{Lexeme}
+use Rattle.scrib_lexer.specs.Tokens as tokens
+use Rattle.scrib_lexer.specs.Tokens.{IsTokens}
+use Rattle.scrib_grammar.specs.declared.fault.ParseFault.{ParseFault}
+use Rattle.scrib_grammar.specs.declared.fault.ParseFault.TheVariants as parse
+use Rattle.scrib_grammar.specs.declared.tree.ModuleTree.{ModuleTree}
+use Rattle.scrib_grammar.specs.Grammar.{IsFaultOf}
+use Rattle.scrib_expand.specs.Elaboration.{Elaborates}
+use Rattle.scrib_library.specs.declared.fault.EditFault.{EditFault}
+use Rattle.scrib_library.specs.declared.fault.EditFault.TheVariants as edit
+use Rattle.scrib_library.specs.Made.{edit_fault_of_lex, edit_fault_of_parse}
+use Rattle.scrib_script.specs.Fields.{IsDottedText}
+use Rattle.scrib_script.proofs.Pieces.{dotted-pieces}
+use Rattle.scrib_cli.specs.declared.full_name.FullName.{FullName}
+use Rattle.scrib_cli.specs.declared.projection.Projection.{Projection}
+use Rattle.scrib_cli.specs.declared.projection.Projection.TheVariants.{Projects, NoProtocol, NoRole, Refused}
+use Rattle.scrib_cli.specs.Projections.{IsFullName, AreAdded, IsNoModule, IsProjection, undeclared, unmerged, does}
+use Rattle.scrib_cli.specs.ProjectionSteps.{IsUnreadOrRefused, IsRoleProjection}
+
+-- why the text has no tokens
+pub lex_refused : (text : List ℕ) (f : LexFault) → tokens.FailsAt text f → IsUnreadOrRefused text (edit_fault_of_lex f)
+lex_refused text lex.OutOfMemory h = inl refl
+lex_refused text lex.TextTooLong h = inr h
+lex_refused text (lex.BadByte at) h = inr h
+lex_refused text (lex.OpenComment at) h = inr h
+lex_refused text (lex.OpenString at) h = inr h
+lex_refused text (lex.LongName at) h = inr h
+
+pub parse_refused : (text : List ℕ) (ts : List Lexeme) (f : ParseFault) → IsTokens text ts → IsFaultOf ts f → IsUnreadOrRefused text (edit_fault_of_parse f)
+parse_refused text ts parse.OutOfMemory t h = inl refl
+parse_refused text ts parse.EndOfText t h = inr (ts, t, h)
+parse_refused text ts (parse.Unexpected at) t h = inr (ts, t, h)
+parse_refused text ts (parse.LeftOut word at) t h = inr (ts, t, h)
+parse_refused text ts (parse.TooDeep at) t h = inr (ts, t, h)
+
+pub unread_for : (text : List ℕ) (f : EditFault) → IsUnreadOrRefused text f → (f ≡ edit.OutOfMemory → ⊥) → IsNoModule text f
+unread_for text f (inl e) ne = absurd (ne e)
+unread_for text f (inr h) ne = h
+
+no_names : (xs : List (List ℕ)) → length xs ≡ 0 → xs ≡ []
+no_names [] e = refl
+no_names (x ∷ xs) e = absurd (omega arith)
+
+-- a dotted text joins one list of names
+same_names : (bytes : List ℕ) (a b : List (List ℕ)) → IsDottedText bytes a → IsDottedText bytes b → a ≡ b
+same_names bytes a b h k = sym (dotted-pieces bytes a h).0 ∙ (dotted-pieces bytes b k).0
+
+-- one name alone is no full name
+pub alone : (bytes : List ℕ) (names : List (List ℕ)) (last : List ℕ) → IsDottedText bytes (names ++ last ∷ []) → length names ≡ 0 → (name : FullName) → IsFullName bytes name → ⊥
+alone bytes names last h e name k =
+    let same : names ++ last ∷ [] ≡ name.home ++ name.protocol ∷ [] = same_names bytes (names ++ last ∷ []) (name.home ++ name.protocol ∷ []) h k.0 in
+    omega (arith, ap length same, length-append names (last ∷ []), length-append name.home (name.protocol ∷ []), k.1)
+
+-- no protocol has the name, and the answer is what the role does
+pub on_role : (texts : List (Option (List ℕ))) (protocol role : List ℕ) (name : FullName) (modules : List ModuleTree) (a : Agreement) (p : Projection)
+    → IsFullName protocol name → AreAdded [] texts modules → Elaborates modules name.home name.protocol a → IsRoleProjection a role p → IsProjection texts protocol role p
+on_role texts protocol role name modules a (Projects l) n m e h = does name modules a l n m e h.0 h.1
+on_role texts protocol role name modules a NoProtocol n m e h = absurd h
+on_role texts protocol role name modules a NoRole n m e h = undeclared name modules a n m e h
+on_role texts protocol role name modules a (Refused (edit.Project u)) n m e h = unmerged name modules a u n m e h.0 h.1
+on_role texts protocol role name modules a (Refused edit.TooManyModules) n m e h = absurd h
+on_role texts protocol role name modules a (Refused (edit.ImportMissing other)) n m e h = absurd h
+on_role texts protocol role name modules a (Refused edit.TooManyProtocols) n m e h = absurd h
+on_role texts protocol role name modules a (Refused (edit.Elaborate f)) n m e h = absurd h
+on_role texts protocol role name modules a (Refused (edit.Lex f)) n m e h = absurd h
+on_role texts protocol role name modules a (Refused (edit.Parse f)) n m e h = absurd h
+on_role texts protocol role name modules a (Refused edit.OutOfMemory) n m e h = absurd h
+
+-- the role is the one here
+pub declared_here : (roles : List (List ℕ)) (i : ℕ) (name role : List ℕ) → i < length roles → role ≡ get_or roles i role → role ≡ name → has_role name (drop i roles) ≡ has_role name roles → has_role name roles ≡ true
+declared_here roles i name role h here same after =
+    let is_here : bytes_eq name (get_or roles i role) ≡ true = (bytes_eq-Decides name (get_or roles i role)).1 (sym same ∙ here) in
+    sym after ∙ at_drop_more (has_role name) roles i role h ∙ ap (λ (b : Bool). b || has_role name (drop (i + 1) roles)) is_here
+
+-- another role is here
+pub declared_later : (roles : List (List ℕ)) (i : ℕ) (name role : List ℕ) → i < length roles → role ≡ get_or roles i role → (role ≡ name → ⊥) → has_role name (drop i roles) ≡ has_role name roles
+    → has_role name (drop (i + 1) roles) ≡ has_role name roles
+declared_later roles i name role h here other after =
+    let not_here : bytes_eq name (get_or roles i role) ≡ false = false_from_ne_true (bytes_eq name (get_or roles i role)) (λ e. other (here ∙ sym ((bytes_eq-Decides name (get_or roles i role)).0 e))) in
+    sym (ap (λ (b : Bool). b || has_role name (drop (i + 1) roles)) not_here) ∙ sym (at_drop_more (has_role name) roles i role h) ∙ after

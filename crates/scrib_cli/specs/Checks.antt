@@ -1,0 +1,33 @@
+-- What is written of a module text that is checked (this project's own).
+use Rattle.std.specs.Prelude.{◌≡◌, ◌⊎◌, ℕ, Bool, true, false, List, [], take, Option}
+use Rattle.std.specs.Io.KnownBytes.{Appends}
+use Rattle.scrib_core.specs.declared.step.Step.TheVariants.{Put}
+use Rattle.scrib_core.specs.declared.reply.Reply.{Reply}
+use Rattle.scrib_core.specs.declared.reply.Reply.TheVariants.{Edited, Opened, Noted, Judged, Refused}
+use Rattle.scrib_core.specs.World.{World}
+use Rattle.scrib_core.specs.Marks.{unmarked}
+use Rattle.scrib_core.specs.Answers.{IsAnswered}
+use Rattle.scrib_cli.specs.Scripts.{AppendsPart, reply_line}
+
+-- whether an edit was accepted
+abbrev pub is_accepted : Reply → Bool
+is_accepted (Edited edit changes) = true
+is_accepted (Opened id name) = false
+is_accepted (Noted id place told) = false
+is_accepted (Judged id name events told) = false
+is_accepted (Refused refusal) = false
+
+-- The put of a module text is answered so, and this is the world after it. Of the text the first 1,048,577 bytes are
+-- put.
+abbrev pub IsPutAnswered : List ℕ → World → Reply → World → Type 0
+IsPutAnswered input w r after = IsAnswered w unmarked (Put (take 1_048_577 input)) r after unmarked
+
+-- the module text was put, and the line of the reply written
+abbrev pub IsChecked : List ℕ → World → Bool → World → (was now : Option (List ℕ)) → Type 0
+IsChecked input w accepted after was now =
+    (r : Reply) × IsPutAnswered input w r after × (accepted ≡ is_accepted r) × Appends was now (reply_line r)
+
+-- nothing was put or written, or the module text was put and a beginning of the reply's line written
+abbrev pub IsPartChecked : List ℕ → World → World → (was now : Option (List ℕ)) → Type 0
+IsPartChecked input w after was now =
+    ((after ≡ w) × Appends was now []) ⊎ ((r : Reply) × IsPutAnswered input w r after × AppendsPart was now (reply_line r))

@@ -1,0 +1,47 @@
+-- What the steps of `project` promise one another.
+-- Only contracts of private functions cite this file.
+use Rattle.std.specs.Prelude.{◌≡◌, ◌⊎◌, ℕ, true, false, List, Option, Some, None}
+use Rattle.scrib_types.specs.Agreement.{Agreement}
+use Rattle.scrib_types.specs.LocalView.{local_of}
+use Rattle.scrib_types.specs.Projection.{projection}
+use Rattle.scrib_types.specs.WellFormed.{has_role}
+use Rattle.scrib_grammar.specs.declared.tree.ModuleTree.{ModuleTree}
+use Rattle.scrib_project.specs.Faults.{IsUnmergeable}
+use Rattle.scrib_library.specs.declared.fault.EditFault.{EditFault}
+use Rattle.scrib_library.specs.declared.fault.EditFault.TheVariants as edit
+use Rattle.scrib_script.specs.Fields.{IsDottedText}
+use Rattle.scrib_cli.specs.declared.projection.Projection.{Projection}
+use Rattle.scrib_cli.specs.declared.projection.Projection.TheVariants.{Projects, NoProtocol, NoRole, Refused}
+use Rattle.scrib_cli.specs.Projections.{IsNoModule, AreAdded, FailsAmong}
+
+-- the names that the bytes join by dots, if they do
+abbrev pub AreNamesOf : List ℕ → Option (List (List ℕ)) → Type 0
+AreNamesOf bytes None = (names : List (List ℕ)) → IsDottedText bytes names → ⊥
+AreNamesOf bytes (Some names) = IsDottedText bytes names
+
+-- the text is no module, for this reason, or memory was refused
+abbrev pub IsUnreadOrRefused : List ℕ → EditFault → Type 0
+IsUnreadOrRefused t f = (f ≡ edit.OutOfMemory) ⊎ IsNoModule t f
+
+-- all texts were added, or one of them is no module for this reason
+abbrev pub AreAddedOrFail : (before : List ModuleTree) → List (Option (List ℕ)) → (after : List ModuleTree) → Option EditFault → Type 0
+AreAddedOrFail before texts after None = AreAdded before texts after
+AreAddedOrFail before texts after (Some f) = FailsAmong texts f
+
+-- the name is one of the roles
+abbrev pub IsDeclared : List (List ℕ) → (name role : List ℕ) → Type 0
+IsDeclared roles name role = (role ≡ name) × (has_role name roles ≡ true)
+
+-- what the role does in what the protocol means
+abbrev pub IsRoleProjection : Agreement → List ℕ → Projection → Type 0
+IsRoleProjection a role (Projects l) = (has_role role a.roles ≡ true) × (projection role a.global ≡ Some (local_of l))
+IsRoleProjection a role NoProtocol = ⊥
+IsRoleProjection a role NoRole = has_role role a.roles ≡ false
+IsRoleProjection a role (Refused (edit.Project u)) = (has_role role a.roles ≡ true) × IsUnmergeable a.global role u
+IsRoleProjection a role (Refused edit.TooManyModules) = ⊥
+IsRoleProjection a role (Refused (edit.ImportMissing name)) = ⊥
+IsRoleProjection a role (Refused edit.TooManyProtocols) = ⊥
+IsRoleProjection a role (Refused (edit.Elaborate f)) = ⊥
+IsRoleProjection a role (Refused (edit.Lex f)) = ⊥
+IsRoleProjection a role (Refused (edit.Parse f)) = ⊥
+IsRoleProjection a role (Refused edit.OutOfMemory) = ⊥

@@ -1,0 +1,90 @@
+-- What `project` answers (this project's own).
+use Rattle.std.specs.Prelude.{◌≡◌, ◌⊎◌, ℕ, ◌<◌, Bool, true, false, List, [], ◌∷◌, ◌++◌, length, Option, Some, None, codes}
+use Rattle.scrib_types.specs.Agreement.{Agreement}
+use Rattle.scrib_types.specs.LocalView.{local_of}
+use Rattle.scrib_types.specs.Projection.{projection}
+use Rattle.scrib_types.specs.WellFormed.{has_role}
+use Rattle.scrib_types.specs.declared.local.Local.{Local}
+use Rattle.scrib_lexer.specs.Lexeme.{Lexeme}
+use Rattle.scrib_lexer.specs.Tokens.{IsTokens}
+use Rattle.scrib_grammar.specs.declared.tree.ModuleTree.{ModuleTree}
+use Rattle.scrib_expand.specs.declared.fault.Fault.{Fault}
+use Rattle.scrib_expand.specs.Names.{with_module}
+use Rattle.scrib_expand.specs.Elaboration.{Elaborates}
+use Rattle.scrib_expand.specs.Faults.{IsBroken}
+use Rattle.scrib_project.specs.declared.fault.Unmergeable.{Unmergeable}
+use Rattle.scrib_project.specs.Faults.{IsUnmergeable}
+use Rattle.scrib_project.specs.Text.{local_text}
+use Rattle.scrib_library.specs.declared.fault.EditFault.{EditFault}
+use Rattle.scrib_library.specs.declared.fault.EditFault.TheVariants as edit
+use Rattle.scrib_library.specs.Edits.{Reads, TellsLex, TellsParse}
+use Rattle.scrib_core.specs.declared.reply.Reply.TheVariants as reply
+use Rattle.scrib_core.specs.declared.reply.Refusal.TheVariants as refusal
+use Rattle.scrib_script.specs.Fields.{IsDottedText}
+use Rattle.scrib_cli.specs.Scripts.{reply_line}
+use Rattle.scrib_cli.specs.Explanations.{refusal_line}
+use Rattle.scrib_cli.specs.declared.full_name.FullName.{FullName}
+use Rattle.scrib_cli.specs.declared.projection.Projection.{Projection}
+use Rattle.scrib_cli.specs.declared.projection.Projection.TheVariants.{Projects, NoProtocol, NoRole, Refused}
+
+-- the bytes are two or more names joined by dots, the last of which is the protocol's
+abbrev pub IsFullName : List ℕ → FullName → Type 0
+IsFullName bytes name = IsDottedText bytes (name.home ++ name.protocol ∷ []) × (0 < length name.home)
+
+-- The texts are modules, each of which took the place of the one of its name, or came last. A text that can't be
+-- read is none.
+abbrev pub AreAdded : (before : List ModuleTree) → List (Option (List ℕ)) → (after : List ModuleTree) → Type 0
+AreAdded before [] after = after ≡ before
+AreAdded before (None ∷ ts) after = ⊥
+AreAdded before (Some t ∷ ts) after = (m : ModuleTree) × Reads t m × AreAdded (with_module m before) ts after
+
+-- the text is no module, for this reason
+abbrev pub IsNoModule : List ℕ → EditFault → Type 0
+IsNoModule t (edit.Lex f) = TellsLex t f
+IsNoModule t (edit.Parse f) = (ts : List Lexeme) × IsTokens t ts × TellsParse ts f
+IsNoModule t edit.TooManyModules = ⊥
+IsNoModule t (edit.ImportMissing name) = ⊥
+IsNoModule t edit.TooManyProtocols = ⊥
+IsNoModule t (edit.Elaborate f) = ⊥
+IsNoModule t (edit.Project u) = ⊥
+IsNoModule t edit.OutOfMemory = ⊥
+
+-- the first of the texts that is no module is none for this reason; those before it can be read
+abbrev pub FailsAmong : List (Option (List ℕ)) → EditFault → Type 0
+FailsAmong [] f = ⊥
+FailsAmong (None ∷ ts) f = ⊥
+FailsAmong (Some t ∷ ts) f = IsNoModule t f ⊎ ((m : ModuleTree) × Reads t m × FailsAmong ts f)
+
+-- The answer for the protocol of this full name and this role, over module texts, by the first of these cases that
+-- it falls under: it is no full name; a text is no module; the protocol means nothing; it declares no such role; it
+-- has no projection on the role; the role does this.
+pub data IsProjection (texts : List (Option (List ℕ))) (protocol role : List ℕ) : Projection → Type 0 where
+  unnamed : ((name : FullName) → IsFullName protocol name → ⊥) → IsProjection texts protocol role NoProtocol
+  unread : (name : FullName) (f : EditFault) → IsFullName protocol name → FailsAmong texts f → IsProjection texts protocol role (Refused f)
+  meaningless : (name : FullName) (modules : List ModuleTree) (f : Fault) → IsFullName protocol name → AreAdded [] texts modules
+      → IsBroken modules name.home name.protocol f → IsProjection texts protocol role (Refused (edit.Elaborate f))
+  undeclared : (name : FullName) (modules : List ModuleTree) (a : Agreement) → IsFullName protocol name → AreAdded [] texts modules
+      → Elaborates modules name.home name.protocol a → has_role role a.roles ≡ false → IsProjection texts protocol role NoRole
+  unmerged : (name : FullName) (modules : List ModuleTree) (a : Agreement) (u : Unmergeable) → IsFullName protocol name → AreAdded [] texts modules
+      → Elaborates modules name.home name.protocol a → has_role role a.roles ≡ true → IsUnmergeable a.global role u → IsProjection texts protocol role (Refused (edit.Project u))
+  does : (name : FullName) (modules : List ModuleTree) (a : Agreement) (l : Local) → IsFullName protocol name → AreAdded [] texts modules
+      → Elaborates modules name.home name.protocol a → has_role role a.roles ≡ true → projection role a.global ≡ Some (local_of l) → IsProjection texts protocol role (Projects l)
+
+-- whether the answer is what the role does
+abbrev pub projects : Projection → Bool
+projects (Projects l) = true
+projects NoProtocol = false
+projects NoRole = false
+projects (Refused f) = false
+
+-- the line of the answer: the local type's text, or a refusal line
+abbrev pub projection_line : Projection → List ℕ
+projection_line (Projects l) = local_text 0 (local_of l) ++ 10 ∷ []
+projection_line NoProtocol = refusal_line (codes "NoProtocol")
+projection_line NoRole = refusal_line (codes "NoRole")
+projection_line (Refused f) = reply_line (reply.Refused (refusal.Edit f))
+
+-- the line of an answer, and whether it is what the role does
+abbrev pub IsProjecting : (texts : List (Option (List ℕ))) (protocol role : List ℕ) → Bool → List ℕ → Type 0
+IsProjecting texts protocol role does_so line =
+    (p : Projection) × IsProjection texts protocol role p × (does_so ≡ projects p) × (line ≡ projection_line p)

@@ -1,0 +1,89 @@
+//! From module texts to what a role does in a protocol.
+
+ghost use Rattle.std.specs.Prelude.{◌≡◌, false, IfOk, MatchOption};
+ghost use Rattle.scrib_types.specs.WellFormed.{has_role};
+ghost use Rattle.scrib_expand.specs.Meaning.{meaning_of};
+ghost use Rattle.scrib_cli.specs.Projections.{IsProjection};
+ghost use Rattle.scrib_cli.specs.ProjectionSteps.{IsRoleProjection, IsDeclared};
+
+use crate::fault::ScriptFault;
+use crate::full_name::full_name_of;
+use crate::modules::add_texts;
+use scrib_expand::elaborate::elaborate;
+use scrib_expand::elaborated::Elaborated;
+use scrib_expand::fault::ElaborateFault;
+use scrib_expand::modules::Modules;
+use scrib_library::fault::EditFault;
+use scrib_project::fault::ProjectFault;
+use scrib_project::project::project;
+use scrib_types::local::Local;
+use scrib_types::name::Role;
+use scrib_types::plain::Items;
+use std::alloc::Global;
+
+/// What a role does in a protocol, or why there is no answer.
+#[derive(Drop)]
+pub enum Projection {
+    /// The role does this.
+    Projects(Local),
+    /// The protocol's name isn't two or more names joined by dots.
+    NoProtocol,
+    /// The protocol declares no such role.
+    NoRole,
+    /// A text is no module, the protocol means nothing, or it has no projection on the role.
+    Refused(EditFault),
+}
+
+/// What the role does in the protocol of this full name, among the modules that the texts are. `None` stands for a
+/// text that can't be read.
+pub fn projection_of(
+    alloc: Global,
+    protocol: &str,
+    role: &str,
+    texts: &[Option<Items<u8>>],
+) -> Result<Projection, ScriptFault>
+    ensures { IfOk result (IsProjection texts.now protocol.now role.now) }
+{
+    let Some(name) = full_name_of(alloc, protocol)? else {
+        return Ok(Projection::NoProtocol);
+    };
+    let mut modules = Modules::new(alloc);
+    if let Some(fault) = add_texts(alloc, &mut modules, texts)? {
+        return Ok(Projection::Refused(fault));
+    }
+    match elaborate(alloc, &modules, &name.home, &name.protocol) {
+        Ok(elaborated) => projection_on(alloc, &elaborated, role),
+        Err(ElaborateFault::Broken(fault)) => Ok(Projection::Refused(EditFault::Elaborate(fault))),
+        Err(ElaborateFault::OutOfMemory) => Err(ScriptFault::OutOfMemory),
+    }
+}
+
+/// What the role does in the protocol.
+fn projection_on(
+    alloc: Global,
+    elaborated: &Elaborated,
+    role: &str,
+) -> Result<Projection, ScriptFault>
+    ensures { IfOk result (IsRoleProjection (meaning_of elaborated.now) role.now) }
+{
+    let Some(role) = declared_role(elaborated.roles(), role.as_bytes()) else {
+        return Ok(Projection::NoRole);
+    };
+    match project(alloc, elaborated, role) {
+        Ok(local) => Ok(Projection::Projects(local)),
+        Err(ProjectFault::Unmergeable(fault)) => Ok(Projection::Refused(EditFault::Project(fault))),
+        Err(ProjectFault::OutOfMemory) => Err(ScriptFault::OutOfMemory),
+    }
+}
+
+/// The role of this name.
+fn declared_role<'a>(roles: &'a [Role], name: &[u8]) -> Option<&'a Role>
+    ensures { MatchOption result (has_role name.now roles.now ≡ false) (λ role. IsDeclared roles.now name.now role.now) }
+{
+    for role in roles {
+        if role.as_bytes() == name {
+            return Some(role);
+        }
+    }
+    None
+}

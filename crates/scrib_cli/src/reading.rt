@@ -1,0 +1,53 @@
+//! Reading module texts.
+
+ghost use Rattle.std.specs.Prelude.{◌≡◌, ◌<◌, IfOk, IfSome, length, take};
+
+use crate::carrying::KEPT_TEXT_BYTES;
+use crate::fault::ScriptFault;
+use crate::keeping::keep;
+pub use scrib_types::plain::Items;
+use std::alloc::Global;
+use std::io::{ErrorKind, Read};
+
+/// How many bytes are read at once.
+pub(crate) const PIECE_BYTES: usize = 8192;
+
+/// Reads a module text to its end, and returns its first 1,048,577 bytes: a longer one is refused whatever it holds.
+///
+/// # Errors
+/// `Read` where the reader fails, and `OutOfMemory` where memory was refused.
+pub fn read_text<R: Read>(alloc: Global, reader: &mut R) -> Result<Items<u8>, ScriptFault>
+    ensures { IfOk result (λ text. IfSome (R.remaining reader.old) (λ input. text ≡ take 1_048_577 input)) }
+{
+    let mut piece = vec![in alloc; 0u8; PIECE_BYTES]?;
+    let text = read_by_pieces(alloc, reader, piece.as_mut_slice())?;
+    Ok(Items::from_vec(text))
+}
+
+/// Reads to the end by pieces into this buffer.
+fn read_by_pieces<R: Read>(
+    alloc: Global,
+    reader: &mut R,
+    piece: &mut [u8],
+) -> Result<Vec<u8>, ScriptFault>
+    requires { 0 < length piece.old }
+    ensures { IfOk result (λ text. IfSome (R.remaining reader.old) (λ input. text.items ≡ take 1_048_577 input)) }
+{
+    let mut text = Vec::new(alloc);
+    for _ in 0..u64::MAX {
+        let n = match reader.read(piece) {
+            Ok(n) => n,
+            Err(e) => {
+                if e.kind() == ErrorKind::Interrupted {
+                    continue;
+                }
+                return Err(ScriptFault::Read);
+            }
+        };
+        if n == 0 {
+            return Ok(text);
+        }
+        keep(&mut text, &piece[..n], KEPT_TEXT_BYTES)?;
+    }
+    Err(ScriptFault::Read)
+}
