@@ -1,5 +1,0 @@
-pub mod Branches
-pub mod Names
-pub mod Places
-pub mod Refuted
-pub mod Sequence

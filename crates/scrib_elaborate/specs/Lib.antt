@@ -1,3 +1,0 @@
-pub mod Elaboration
-pub mod Faults
-pub mod Rules

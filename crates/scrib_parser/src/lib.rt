@@ -1,7 +1,0 @@
-//! Module trees: the grammar of module texts, over their tokens.
-#![tactic(auto)]
-
-mod cursor;
-pub mod fault;
-pub mod parse;
-pub mod tree;
