@@ -1,9 +1,9 @@
 //! Libraries of small modules, with what their texts change or why they are refused.
 
-use scrib_elaborate::fault::FaultKind;
+use scrib_core::reply::{Refusal, Reply};
 use scrib_library::changes::{ChangeKind, Changes};
-use scrib_library::fault::EditFault;
 use scrib_library::library::Library;
+use scrib_report::line::line;
 use scrib_types::name::{Dotted, Name};
 use std::alloc::Global;
 use std::test::Fail;
@@ -38,24 +38,12 @@ fn told(alloc: Global, changes: &Changes) -> Result<Vec<u8>, Fail> {
     Ok(text)
 }
 
-// What a put changes, or the name of its fault.
+// What a put changes, or the line of its refusal.
 fn outcome(alloc: Global, library: &mut Library, text: &str) -> Result<Vec<u8>, Fail> {
-    let fault = match library.put(text.as_bytes()) {
-        Ok(changes) => return told(alloc, &changes),
-        Err(EditFault::Lex(_)) => "lex",
-        Err(EditFault::Parse(_)) => "parse",
-        Err(EditFault::TooManyModules) => "too many modules",
-        Err(EditFault::TooManyProtocols) => "too many protocols",
-        Err(EditFault::Elaborate(fault)) => match fault.kind {
-            FaultKind::TwiceDeclared => "twice declared",
-            FaultKind::NoRole => "no role",
-            FaultKind::SelfMessage => "self message",
-            FaultKind::TooManyRoles => "too many roles",
-            FaultKind::TooLarge => "too large",
-        },
-        Err(EditFault::OutOfMemory) => "out of memory",
-    };
-    Ok(Vec::from_slice(alloc, fault.as_bytes())?)
+    match library.put(text.as_bytes()) {
+        Ok(changes) => told(alloc, &changes),
+        Err(fault) => Ok(line(alloc, &Reply::Refused(Refusal::Edit(fault)))?),
+    }
 }
 
 // A module `big` with so many protocols.
@@ -89,8 +77,8 @@ fn tells_what_changed(rt: HostRuntime) -> Result<(), Fail> {
         (HELLO, ""),
         (HELLO_INT, "~demo.Hello"),
         (AGAIN, "+demo.Again -demo.Hello"),
-        ("module demo", "parse"),
-        ("module demo; #", "lex"),
+        ("module demo", "refused EndOfText"),
+        ("module demo; #", "refused BadByte 1:14"),
         (AGAIN, ""),
     ] {
         let got = outcome(alloc, &mut library, text)?;
@@ -127,7 +115,11 @@ fn takes_256_modules(rt: HostRuntime) -> Result<(), Fail> {
     for i in 0..257u32 {
         let text = format!(in alloc; "module m{i};")?;
         let got = outcome(alloc, &mut library, text.as_str())?;
-        let want = if i < 256 { "" } else { "too many modules" };
+        let want = if i < 256 {
+            ""
+        } else {
+            "refused TooManyModules"
+        };
         assert_eq!(rt; got.as_slice(), want.as_bytes(), "{text}");
     }
     let got = outcome(alloc, &mut library, "module m0;")?;
@@ -141,7 +133,7 @@ fn takes_1024_protocols(rt: HostRuntime) -> Result<(), Fail> {
     let mut library = Library::new(alloc);
     let text = big(alloc, 1025)?;
     let got = outcome(alloc, &mut library, text.as_str())?;
-    assert_eq!(rt; got.as_slice(), b"too many protocols".as_slice());
+    assert_eq!(rt; got.as_slice(), b"refused TooManyProtocols".as_slice());
     let text = big(alloc, 1024)?;
     let got = outcome(alloc, &mut library, text.as_str())?;
     assert!(rt; got.starts_with(b"+big.P0 +big.P1 +big.P10 +big.P100 +big.P1000 "));
@@ -155,6 +147,9 @@ fn tells_the_fault_of_the_first_name(rt: HostRuntime) -> Result<(), Fail> {
     let text =
         "module demo; global protocol Zed(role A, role B) { a() from A to C; } global protocol Abel(role A, role B) { a() from A to A; }";
     let got = outcome(alloc, &mut library, text)?;
-    assert_eq!(rt; got.as_slice(), b"self message".as_slice());
+    assert_eq!(rt;
+        got.as_slice(),
+        b"refused SelfMessage demo 1:110".as_slice()
+    );
     Ok(())
 }

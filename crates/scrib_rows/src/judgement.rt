@@ -1,31 +1,63 @@
-//! Judgements of short logs of one conversation: A sends hello() to B, and B sends bye() to A.
+//! Judgements of logs, each by the program's way and by the plain definitions, and the messages in flight.
 
-use crate::making::{dotted, event, library};
+use crate::making::{event, protocol, step};
+use scrib_core::monitor::Core;
+use scrib_core::reply::Reply;
+use scrib_core::step::Step;
+use scrib_global::explain::{Flight, explain};
+use scrib_global::fault::ExplainFault;
 use scrib_global::judge::judge_whole;
 use scrib_record::judge::judge;
-use scrib_types::event::{Event, Verdict};
+use scrib_record::version::Version;
+use scrib_report::flight::push_flight;
+use scrib_types::event::{Event, Told, Verdict};
+use scrib_types::plain::Items;
 use scrib_types::text::{push_action, push_bytes, push_number};
 use std::alloc::Global;
 use std::test::Fail;
 
-const WHOLE: [&str; 6] = [
-    "join 1 A",
-    "join 1 B",
-    "send 1 A B hello()",
-    "recv 1 A B hello()",
-    "send 1 B A bye()",
-    "recv 1 B A bye()",
-];
+const HELLO: &str =
+    "module m; global protocol P(role A, role B) { hello() from A to B; bye() from B to A; }";
 
-// Logs, with the place, the role and what was allowed where they offend.
-const OFFENCES: [(&[&str], &str); 7] = [
+// C and D go on without A and B.
+const APART: &str =
+    "module m; global protocol P(role A, role B, role C, role D) { rec X { a() from A to B; c() from C to D; continue X; } }";
+
+const CHOOSING: &str =
+    "module m; global protocol P(role A, role B) { rec X { choice at A { a(Int) from A to B; continue X; } or { b() from A to B; continue X; } } }";
+
+// C sends to B in either case.
+const THIRD_PARTY: &str =
+    "module m; global protocol P(role A, role B, role C) { choice at A { l() from A to B; z() from C to B; } or { r() from A to B; z() from C to B; } }";
+
+const WITHOUT_C: &str =
+    "module m; global protocol P(role A, role B, role C) { rec X { a() from A to B; continue X; } }";
+
+const EMPTY: &str = "module m; global protocol P(role A, role B) { }";
+
+// A protocol, a log, and its verdict: with the place, the role and what was allowed where it offends.
+const VERDICTS: [(&str, &[&str], &str); 14] = [
+    (
+        HELLO,
+        &[
+            "join 1 A",
+            "join 1 B",
+            "send 1 A B hello()",
+            "recv 1 A B hello()",
+            "send 1 B A bye()",
+            "recv 1 B A bye()",
+        ],
+        "permitted",
+    ),
     // the queue is empty
     (
+        HELLO,
         &["join 1 A", "join 1 B", "recv 1 A B hello()"],
         "offence at 3 by B:",
     ),
     // only the message in flight may be received
     (
+        HELLO,
         &[
             "join 1 A",
             "join 1 B",
@@ -34,15 +66,16 @@ const OFFENCES: [(&[&str], &str); 7] = [
         ],
         "offence at 4 by B: A?hello()",
     ),
-    (&["send 1 A B hello()"], "offence at 1 by A: join"),
-    (&["join 1 A", "join 1 A"], "offence at 2 by A: B!hello()"),
-    (&["join 1 Z"], "offence at 1 by Z:"),
+    (HELLO, &["send 1 A B hello()"], "offence at 1 by A: join"),
     (
-        &["join 1 A", "join 1 B", "send 1 A B bye()"],
-        "offence at 3 by A: B!hello()",
+        HELLO,
+        &["join 1 A", "join 1 A"],
+        "offence at 2 by A: B!hello()",
     ),
+    (HELLO, &["join 1 Z"], "offence at 1 by Z:"),
     // the first offence is named
     (
+        HELLO,
         &[
             "join 1 A",
             "join 1 B",
@@ -50,6 +83,93 @@ const OFFENCES: [(&[&str], &str); 7] = [
             "send 1 A B hello()",
         ],
         "offence at 3 by A: B!hello()",
+    ),
+    // nobody else has acted
+    (
+        APART,
+        &["join 1 C", "send 1 C D c()", "send 1 C D c()"],
+        "permitted",
+    ),
+    // the oldest message comes first
+    (
+        CHOOSING,
+        &[
+            "join 1 A",
+            "join 1 B",
+            "send 1 A B a(Int)",
+            "send 1 A B b()",
+            "recv 1 A B b()",
+        ],
+        "offence at 5 by B: A?a(Int)",
+    ),
+    (
+        THIRD_PARTY,
+        &[
+            "join 1 C",
+            "send 1 C B z()",
+            "join 1 A",
+            "send 1 A B r()",
+            "join 1 B",
+            "recv 1 A B r()",
+            "recv 1 C B z()",
+        ],
+        "permitted",
+    ),
+    (
+        THIRD_PARTY,
+        &[
+            "join 1 C",
+            "send 1 C B z()",
+            "join 1 A",
+            "send 1 A B r()",
+            "join 1 B",
+            "recv 1 C B z()",
+        ],
+        "offence at 6 by B: A?r()",
+    ),
+    (WITHOUT_C, &["join 1 C"], "permitted"),
+    (
+        WITHOUT_C,
+        &["join 1 C", "send 1 C A a()"],
+        "offence at 2 by C:",
+    ),
+    (EMPTY, &["join 1 A", "send 1 A B x()"], "offence at 2 by A:"),
+];
+
+// A protocol, a log, and the messages in flight: by sender and receiver in declared order, the oldest first.
+const FLIGHTS: [(&str, &[&str], &str); 4] = [
+    (
+        HELLO,
+        &["join 1 A", "join 1 B", "send 1 A B hello()"],
+        "A B hello()\n",
+    ),
+    (
+        HELLO,
+        &[
+            "join 1 A",
+            "join 1 B",
+            "send 1 A B hello()",
+            "recv 1 A B hello()",
+            "send 1 B A bye()",
+            "recv 1 B A bye()",
+        ],
+        "",
+    ),
+    (
+        APART,
+        &["join 1 C", "send 1 C D c()", "send 1 C D c()"],
+        "C D c()\nC D c()\n",
+    ),
+    (
+        THIRD_PARTY,
+        &[
+            "join 1 C",
+            "send 1 C B z()",
+            "join 1 A",
+            "send 1 A B r()",
+            "join 1 B",
+        ],
+        "A B r()\nC B z()\n",
     ),
 ];
 
@@ -59,23 +179,6 @@ fn log(alloc: Global, lines: &[&str]) -> Result<Vec<Event>, Fail> {
         log.push(event(alloc, line)?)?;
     }
     Ok(log)
-}
-
-fn judged(alloc: Global, log: &[Event]) -> Result<Verdict, Fail> {
-    let library = library(alloc)?;
-    let version = library
-        .present(&dotted(alloc, "demo", "Hello")?)
-        .ok_or("demo.Hello is there")?;
-    Ok(judge(alloc, version, log)?)
-}
-
-// The same verdict, by the definitions.
-fn judged_whole(alloc: Global, log: &[Event]) -> Result<Verdict, Fail> {
-    let library = library(alloc)?;
-    let version = library
-        .present(&dotted(alloc, "demo", "Hello")?)
-        .ok_or("demo.Hello is there")?;
-    Ok(judge_whole(alloc, version.protocol(), log)?)
 }
 
 fn told(alloc: Global, verdict: &Verdict) -> Result<Vec<u8>, Fail> {
@@ -102,39 +205,101 @@ fn told(alloc: Global, verdict: &Verdict) -> Result<Vec<u8>, Fail> {
     Ok(text)
 }
 
-#[test]
-fn every_part_of_a_whole_conversation_is_permitted(rt: HostRuntime) -> Result<(), Fail> {
-    let log = log(rt.alloc(), &WHOLE)?;
-    for n in 0..log.len() {
-        let verdict = judged(rt.alloc(), &log[..n + 1])?;
-        assert!(rt; matches!(verdict, Verdict::Permitted), "{n}");
+fn judged(alloc: Global, text: &str, log: &[Event]) -> Result<Vec<u8>, Fail> {
+    let version = Version::new(alloc, protocol(alloc, text, "m", "P")?)?;
+    let verdict = judge(alloc, &version, log)?;
+    told(alloc, &verdict)
+}
+
+// The same, by the definitions.
+fn judged_whole(alloc: Global, text: &str, log: &[Event]) -> Result<Vec<u8>, Fail> {
+    let protocol = protocol(alloc, text, "m", "P")?;
+    let verdict = judge_whole(alloc, &protocol, log)?;
+    told(alloc, &verdict)
+}
+
+fn written(alloc: Global, flights: &[Flight]) -> Result<Vec<u8>, Fail> {
+    let mut lines = Vec::new(alloc);
+    for flight in flights {
+        push_flight(&mut lines, flight)?;
+        lines.push(b'\n')?;
     }
-    Ok(())
+    Ok(lines)
 }
 
 #[test]
-fn the_first_offence_is_named(rt: HostRuntime) -> Result<(), Fail> {
-    for (lines, want) in &OFFENCES {
+fn logs_are_permitted_or_offend(rt: HostRuntime) -> Result<(), Fail> {
+    for (text, lines, want) in &VERDICTS {
         let log = log(rt.alloc(), lines)?;
-        let verdict = judged(rt.alloc(), log.as_slice())?;
-        let text = told(rt.alloc(), &verdict)?;
-        assert_eq!(rt; text.as_slice(), want.as_bytes());
+        let verdict = judged(rt.alloc(), text, &log)?;
+        assert_eq!(rt; verdict.as_slice(), want.as_bytes());
     }
     Ok(())
 }
 
 #[test]
 fn by_the_definitions_verdicts_are_the_same(rt: HostRuntime) -> Result<(), Fail> {
-    for (lines, want) in &OFFENCES {
+    for (text, lines, _) in &VERDICTS {
         let log = log(rt.alloc(), lines)?;
-        let verdict = judged_whole(rt.alloc(), log.as_slice())?;
-        let text = told(rt.alloc(), &verdict)?;
-        assert_eq!(rt; text.as_slice(), want.as_bytes());
+        for n in 0..log.len() + 1 {
+            let verdict = judged(rt.alloc(), text, &log[..n])?;
+            let whole = judged_whole(rt.alloc(), text, &log[..n])?;
+            assert_eq!(rt; verdict.as_slice(), whole.as_slice(), "of {n} events");
+        }
     }
-    let log = log(rt.alloc(), &WHOLE)?;
-    for n in 0..log.len() {
-        let verdict = judged_whole(rt.alloc(), &log[..n + 1])?;
-        assert!(rt; matches!(verdict, Verdict::Permitted), "{n}");
+    Ok(())
+}
+
+// The core with the module, in which conversation 1 of its protocol is open.
+fn opened(alloc: Global, text: &str) -> Result<Core, Fail> {
+    let mut core = Core::new(alloc);
+    let text = Items::from_slice(alloc, text.as_bytes())?;
+    core.apply(Step::Put { text });
+    core.apply(step(alloc, "open 1 m.P")?);
+    Ok(core)
+}
+
+// What the core tells of the conversation after the step.
+fn noted(alloc: Global, core: &mut Core, line: &str) -> Result<Vec<u8>, Fail> {
+    match core.apply(step(alloc, line)?) {
+        Reply::Noted {
+            told: Told::Judged(verdict),
+            ..
+        } => told(alloc, &verdict),
+        _ => Err(Fail::new("not noted")),
     }
+}
+
+#[test]
+fn after_each_event_the_core_tells_the_same(rt: HostRuntime) -> Result<(), Fail> {
+    for (text, lines, _) in &VERDICTS {
+        let log = log(rt.alloc(), lines)?;
+        let mut core = opened(rt.alloc(), text)?;
+        for (n, line) in lines.iter().enumerate() {
+            let verdict = noted(rt.alloc(), &mut core, line)?;
+            let whole = judged_whole(rt.alloc(), text, &log[..n + 1])?;
+            assert_eq!(rt; verdict.as_slice(), whole.as_slice(), "after {line}");
+        }
+    }
+    Ok(())
+}
+
+#[test]
+fn messages_are_in_flight(rt: HostRuntime) -> Result<(), Fail> {
+    for (text, lines, want) in &FLIGHTS {
+        let protocol = protocol(rt.alloc(), text, "m", "P")?;
+        let flights = explain(rt.alloc(), &protocol, &log(rt.alloc(), lines)?)?;
+        let lines = written(rt.alloc(), &flights)?;
+        assert_eq!(rt; lines.as_slice(), want.as_bytes());
+    }
+    Ok(())
+}
+
+#[test]
+fn flights_of_an_offending_log_are_refused(rt: HostRuntime) -> Result<(), Fail> {
+    let protocol = protocol(rt.alloc(), HELLO, "m", "P")?;
+    let log = log(rt.alloc(), &["join 1 A", "join 1 B", "recv 1 A B hello()"])?;
+    let explained = explain(rt.alloc(), &protocol, &log);
+    assert!(rt; matches!(explained, Err(ExplainFault::NotPermitted { place: 3 })));
     Ok(())
 }

@@ -4,17 +4,17 @@
 #[cfg(test)]
 mod edits;
 #[cfg(test)]
-mod elaboration;
+mod elaborating;
 #[cfg(test)]
 mod grammar;
 #[cfg(test)]
 mod judgement;
 #[cfg(test)]
+mod language;
+#[cfg(test)]
 mod making;
 #[cfg(test)]
 mod monitor;
-#[cfg(test)]
-mod projection;
 #[cfg(test)]
 mod running;
 #[cfg(test)]
@@ -27,5 +27,3 @@ mod tokens;
 mod types;
 #[cfg(test)]
 mod walking;
-#[cfg(test)]
-mod whole_grammar;

@@ -1,10 +1,16 @@
 //! What tests are made of: the demonstration module, and steps and events from lines of scripts.
 
 use scrib_core::step::Step;
+use scrib_expand::elaborate::elaborate;
+use scrib_expand::modules::Modules;
+use scrib_grammar::parse::parse;
+use scrib_lexer::lex::lex;
 use scrib_library::library::Library;
+use scrib_project::protocol as projected;
 use scrib_script::line::{Line, line_of};
 use scrib_types::event::Event;
 use scrib_types::name::{Dotted, Name};
+use scrib_types::protocol::Protocol;
 use std::alloc::Global;
 use std::test::Fail;
 
@@ -20,6 +26,32 @@ pub fn dotted(alloc: Global, first: &str, second: &str) -> Result<Dotted, Fail> 
     names.push(name(alloc, first)?)?;
     names.push(name(alloc, second)?)?;
     Ok(Dotted::from_vec(names))
+}
+
+/// The modules of these texts.
+pub fn modules(alloc: Global, texts: &[&str]) -> Result<Modules, Fail> {
+    let mut modules = Modules::new(alloc);
+    for text in texts {
+        let tokens = lex(alloc, text.as_bytes())?;
+        let tree = parse(alloc, &tokens)?;
+        modules.add(tree)?;
+    }
+    Ok(modules)
+}
+
+/// The protocol of this name in the module of this text and name.
+pub fn protocol(alloc: Global, text: &str, module: &str, protocol: &str) -> Result<Protocol, Fail> {
+    let mut names = Vec::new(alloc);
+    names.push(name(alloc, module)?)?;
+    let module = Dotted::from_vec(names);
+    let modules = modules(alloc, &[text])?;
+    let Ok(elaborated) = elaborate(alloc, &modules, &module, &name(alloc, protocol)?) else {
+        return Err(Fail::new("the protocol means nothing"));
+    };
+    match projected::protocol(alloc, elaborated) {
+        Ok(protocol) => Ok(protocol),
+        Err(_) => Err(Fail::new("the protocol doesn't project")),
+    }
 }
 
 /// A library with the demonstration module.
