@@ -273,11 +273,12 @@ fn noted(alloc: Global, core: &mut Core, line: &str) -> Result<Vec<u8>, Fail> {
 #[test]
 fn after_each_event_the_core_tells_the_same(rt: HostRuntime) -> Result<(), Fail> {
     for (text, lines, _) in &VERDICTS {
-        let log = log(rt.alloc(), lines)?;
+        let mut log = Vec::new(rt.alloc());
         let mut core = opened(rt.alloc(), text)?;
-        for (n, line) in lines.iter().enumerate() {
+        for line in *lines {
             let verdict = noted(rt.alloc(), &mut core, line)?;
-            let whole = judged_whole(rt.alloc(), text, &log[..n + 1])?;
+            log.push(event(rt.alloc(), line)?)?;
+            let whole = judged_whole(rt.alloc(), text, &log)?;
             assert_eq!(rt; verdict.as_slice(), whole.as_slice(), "after {line}");
         }
     }

@@ -175,10 +175,10 @@ fn nested(alloc: Global, levels: u32) -> Result<String, Fail> {
         script.push_str("rec X {\n")?;
     }
     script.push_str("a() from A to B;\n")?;
-    for _ in 0..levels + 1 {
+    for _ in 0..levels {
         script.push_str("}")?;
     }
-    script.push_str("\n%%\n")?;
+    script.push_str("}\n%%\n")?;
     Ok(script)
 }
 
