@@ -309,9 +309,10 @@ fn calls_that_double(rt: HostRuntime) -> Result<(), Fail> {
         ("a() from A to B;", "TooLarge t 202:1"),
         ("choice at A { }", "EmptyBranch t 2:13"),
         ("choice at A { } or { }", "EmptyBranch t 2:13"),
+        // each recursion that is continued is a node
         (
             "rec X { choice at A { continue X; } or { } }",
-            "ContinueHead t 2:21",
+            "TooLarge t 202:1",
         ),
     ];
     for (first, want) in rows {
