@@ -14,7 +14,7 @@ use Rattle.scrib_expand.specs.Elaboration.{Elaborates}
 use Rattle.scrib_expand.specs.Faults.{IsBroken}
 use Rattle.scrib_project.specs.declared.fault.Unmergeable.{Unmergeable}
 use Rattle.scrib_project.specs.Faults.{IsUnmergeable}
-use Rattle.scrib_project.specs.Text.{local_text}
+use Rattle.scrib_local.specs.Text.{local_text}
 use Rattle.scrib_library.specs.declared.fault.EditFault.{EditFault}
 use Rattle.scrib_library.specs.declared.fault.EditFault.TheVariants as edit
 use Rattle.scrib_library.specs.Edits.{Reads, TellsLex, TellsParse}

@@ -3,7 +3,7 @@
 ghost use Rattle.std.specs.Prelude.{◌≡◌, ◌⊎◌, ◌++◌, ◌∷◌, [], ℕ, List, Bool, IfOk, OnErr};
 ghost use Rattle.std.specs.Io.KnownBytes.{Appends};
 ghost use Rattle.scrib_types.specs.LocalView.{local_of};
-ghost use Rattle.scrib_project.specs.Text.{local_text};
+ghost use Rattle.scrib_local.specs.Text.{local_text};
 ghost use Rattle.scrib_core.specs.declared.reply.Reply.TheVariants.{Refused};
 ghost use Rattle.scrib_core.specs.declared.reply.Refusal.TheVariants.{Edit};
 ghost use Rattle.scrib_cli.specs.Scripts.{AppendsPart, reply_line};
@@ -15,7 +15,7 @@ use crate::projection::{Projection, projection_of};
 use crate::writing::{flush_out, write_out};
 use scrib_core::reply::{Refusal, Reply};
 use scrib_library::fault::EditFault;
-use scrib_project::text::text;
+use scrib_local::text::text;
 use scrib_report::line::line;
 use scrib_types::local::Local;
 use scrib_types::plain::Items;

@@ -11,7 +11,7 @@ use Rattle.scrib_expand.specs.declared.elaborated.Join.{Join}
 use Rattle.scrib_project.specs.declared.fault.Unmergeable.{Unmergeable}
 use Rattle.scrib_project.specs.declared.fault.ProjectFault.{ProjectFault}
 use Rattle.scrib_project.specs.declared.fault.ProjectFault.TheVariants as fault
-use Rattle.scrib_project.specs.Differences.{first_difference}
+use Rattle.scrib_local.specs.Differences.{first_difference}
 
 -- there is no projection on the role, and some choice differs for it
 pub record IsUnmergeable (g : GlobalTree) (r : List ℕ) (u : Unmergeable) : Type 0 where

@@ -1,10 +1,6 @@
-//! The projection of protocols on roles.
+//! The projections of an elaborated protocol on its roles.
 #![tactic(auto)]
 
 pub mod fault;
-mod look;
-mod merge;
 pub mod project;
 pub mod protocol;
-mod survey;
-pub mod text;

@@ -1,37 +1,18 @@
-//! Projection.
+//! The projection of an elaborated protocol.
 
 ghost use Rattle.std.specs.Prelude.{◌≡◌, ℕ, Option, slice_get, IfOk, IfErr, option_map, option_and_then};
 ghost use Rattle.std.specs.Option.{option_copied};
-ghost use Rattle.scrib_types.specs.GlobalView.{global_of};
-ghost use Rattle.scrib_types.specs.LocalView.{local_of};
-ghost use Rattle.scrib_types.specs.Projection.{projection};
 ghost use Rattle.scrib_expand.specs.Meaning.{meaning_of};
-ghost use Rattle.scrib_project.specs.Surveys.{capped};
+ghost use Rattle.scrib_local.specs.Surveys.{capped};
 ghost use Rattle.scrib_project.specs.Faults.{Projects, IsPlaced, IsFaultOf};
 
 use crate::fault::{ProjectFault, Unmergeable};
-use crate::look::look;
 use scrib_expand::elaborated::{Elaborated, Join};
-use scrib_types::global::GlobalType;
+use scrib_local::look::look;
 use scrib_types::local::Local;
 use scrib_types::name::{Dotted, Role};
 use scrib_types::spot::Spot;
 use std::alloc::{AllocError, Global};
-
-/// What the role does in the global type, or `None` where its projection is undefined.
-///
-/// # Errors
-/// `AllocError` where memory was refused.
-pub fn project_type(
-    alloc: Global,
-    global: &GlobalType,
-    role: &Role,
-) -> Result<Option<Local>, AllocError>
-    ensures { IfOk result (λ o. option_map local_of o ≡ projection role.now (global_of global.now)) }
-{
-    let sight = look(alloc, global, role)?;
-    Ok(sight.local)
-}
 
 /// What the role does in the protocol.
 ///

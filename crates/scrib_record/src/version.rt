@@ -5,7 +5,7 @@ ghost use Rattle.scrib_types.specs.Meaning.{agreement_of};
 ghost use Rattle.scrib_types.specs.GlobalView.{global_of};
 ghost use Rattle.scrib_record.specs.Projected.{are_projections};
 
-use scrib_project::project::project_type;
+use scrib_local::projection::project_type;
 use scrib_types::local::Local;
 use scrib_types::plain::Items;
 use scrib_types::protocol::Protocol;

@@ -1,0 +1,3 @@
+pub mod Parts
+pub mod Seen
+pub mod Texts

@@ -1,0 +1,24 @@
+use Rattle.std.proofs.Common.{◌≡◌, drop, option_and_then}
+use Rattle.scrib_types.specs.GlobalView.{global_branches}
+use Rattle.scrib_types.specs.Projection.{branch_projections, merged}
+use Rattle.scrib_local.specs.Differences.{differ}
+use Rattle.scrib_local.specs.Merging.{merged_after, differ_after}
+use Rattle.scrib_local.proofs.Seen.{IsSoFar, offered_before}
+use Rattle.scrib_local.proofs.look.+look.Given as goal
+
+abbrev pub invariant-look_branches-loop-message : goal.invariant-look_branches-loop-message
+invariant-look_branches-loop-message l =
+    let rest = global_branches (drop l.message-index l.branches) in
+    record {
+      surveyed : IsSoFar l.role (global_branches l.branches) rest l.survey;
+      offered : offered_before l.locals (branch_projections l.role rest) ≡ branch_projections l.role (global_branches l.branches);
+    }
+
+abbrev pub invariant-merge_branches-loop-global : goal.invariant-merge_branches-loop-global
+invariant-merge_branches-loop-global l =
+    let rest = global_branches (drop l.global-index l.branches) in
+    record {
+      surveyed : IsSoFar l.role (global_branches l.branches) rest l.survey;
+      merging : merged_after l.merge (branch_projections l.role rest) ≡ option_and_then merged (branch_projections l.role (global_branches l.branches));
+      differing : differ_after l.merge (branch_projections l.role rest) ≡ differ (branch_projections l.role (global_branches l.branches));
+    }

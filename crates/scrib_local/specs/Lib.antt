@@ -1,0 +1,4 @@
+pub mod Differences
+pub mod Merging
+pub mod Surveys
+pub mod Text

@@ -1,0 +1,8 @@
+//! Local types: the projection of a global type on a role, and the printed text.
+#![tactic(auto)]
+
+pub mod look;
+mod merge;
+pub mod projection;
+pub mod survey;
+pub mod text;

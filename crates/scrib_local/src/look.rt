@@ -1,0 +1,203 @@
+//! Projection, by one pass from the leaves up.
+
+ghost use Rattle.std.specs.Prelude.{◌≡◌, ℕ, List, IfOk, false, Some, None, option_map};
+ghost use Rattle.scrib_types.specs.Trees.{GlobalTree, GlobalRec, Send, Recv};
+ghost use Rattle.scrib_types.specs.GlobalView.{global_of, global_branches};
+ghost use Rattle.scrib_types.specs.LocalView.{local_of};
+ghost use Rattle.scrib_local.specs.Surveys.{IsSight, IsOffer, AreOthers, offered, with_branch};
+
+use crate::merge::Merge;
+use crate::survey::Survey;
+use scrib_types::global::GlobalType;
+use scrib_types::local::Local;
+use scrib_types::message::Message;
+use scrib_types::name::Role;
+use scrib_types::plain::{Boxed, Items};
+use std::alloc::{AllocError, Global};
+
+/// A global type as a role sees it.
+#[derive(Drop)]
+pub struct Sight {
+    /// What is found in it.
+    pub survey: Survey,
+    /// The projection, if there is one.
+    pub local: Option<Local>,
+}
+
+/// The branches of a communication as a role sees them that has a part in it.
+#[derive(Drop)]
+struct Offer {
+    survey: Survey,
+    locals: Option<Items<(Message, Local)>>,
+}
+
+/// The branches of a communication as another role sees them.
+#[derive(Drop)]
+struct Others {
+    survey: Survey,
+    merge: Merge,
+}
+
+/// The global type as the role sees it.
+///
+/// # Errors
+/// `AllocError` where memory was refused.
+#[cycle(look)]
+#[tactic(auto, using(scrib_types::specs::GlobalView::global_views, scrib_types::specs::LocalView::local_views))]
+pub fn look(alloc: Global, global: &GlobalType, role: &Role) -> Result<Sight, AllocError>
+    ensures { IfOk result (IsSight role.now (global_of global.now)) }
+{
+    match global {
+        GlobalType::End => Ok(leaf(0, Local::End)),
+        GlobalType::Var(i) => Ok(leaf(u64::from(*i) + 1, Local::Var(*i))),
+        GlobalType::Rec(body) => {
+            let body = look(alloc, body.get(), role)?;
+            let sight = recursion(alloc, body)?;
+            Ok(sight)
+        }
+        GlobalType::Comm { from, to, branches } => {
+            let several = branches.len() > 1;
+            if role.equal(from) {
+                let offer = look_branches(alloc, branches.as_slice(), role)?;
+                let survey = offer.survey.communication(true, several, false);
+                let local = send(alloc, to, offer.locals)?;
+                return Ok(Sight { survey, local });
+            }
+            if role.equal(to) {
+                let offer = look_branches(alloc, branches.as_slice(), role)?;
+                let survey = offer.survey.communication(true, several, false);
+                let local = receive(alloc, from, offer.locals)?;
+                return Ok(Sight { survey, local });
+            }
+            let others = merge_branches(alloc, branches.as_slice(), role)?;
+            let differ = others.merge.differs();
+            let survey = others.survey.communication(false, several, differ);
+            let local = others.merge.into_local();
+            Ok(Sight { survey, local })
+        }
+    }
+}
+
+/// The branches as the role sees them, which has a part in their communication.
+#[cycle(look)]
+fn look_branches(
+    alloc: Global,
+    branches: &[(Message, GlobalType)],
+    role: &Role,
+) -> Result<Offer, AllocError>
+    ensures { IfOk result (IsOffer role.now (global_branches branches.now)) }
+{
+    let mut survey = Survey::leaf(0);
+    let mut locals = Some(Items::new(alloc));
+    for (message, global) in branches {
+        let sight = look(alloc, global, role)?;
+        survey = survey.with_branch(sight.survey);
+        locals = with_branch(alloc, locals, message, sight.local)?;
+    }
+    Ok(Offer { survey, locals })
+}
+
+/// The branches as the role sees them, which has no part in their communication.
+#[cycle(look)]
+fn merge_branches(
+    alloc: Global,
+    branches: &[(Message, GlobalType)],
+    role: &Role,
+) -> Result<Others, AllocError>
+    ensures { IfOk result (AreOthers role.now (global_branches branches.now)) }
+{
+    let mut survey = Survey::leaf(0);
+    let mut merge = Merge::Empty;
+    for (_, global) in branches {
+        let sight = look(alloc, global, role)?;
+        survey = survey.with_branch(sight.survey);
+        merge = merge.with(sight.local);
+    }
+    Ok(Others { survey, merge })
+}
+
+/// One more branch, where all have projections.
+fn with_branch(
+    alloc: Global,
+    locals: Option<Items<(Message, Local)>>,
+    message: &Message,
+    local: Option<Local>,
+) -> Result<Option<Items<(Message, Local)>>, AllocError>
+    ensures { IfOk result (λ o. o ≡ with_branch locals message.now local) }
+{
+    match (locals, local) {
+        (Some(mut locals), Some(local)) => {
+            let message = message.copy(alloc)?;
+            locals.push((message, local))?;
+            Ok(Some(locals))
+        }
+        _ => Ok(None),
+    }
+}
+
+/// An end or a variable, as each role sees it.
+fn leaf(depth: u64, local: Local) -> Sight
+    ensures depth { result.survey.depth ≡ depth }
+    ensures occurs { result.survey.occurs ≡ false }
+    ensures joins { result.survey.joins ≡ 0 }
+    ensures first { result.survey.first ≡ None }
+    ensures local { result.local ≡ Some local }
+{
+    Sight {
+        survey: Survey::leaf(depth),
+        local: Some(local),
+    }
+}
+
+/// A recursion as the role sees it that sees its body so. A closed one without the role is the end.
+#[tactic(auto, using(scrib_types::specs::LocalView::local_views))]
+fn recursion(alloc: Global, body: Sight) -> Result<Sight, AllocError>
+    ensures { IfOk result (λ s. (r : List ℕ) (g : GlobalTree) → IsSight r g body → IsSight r (GlobalRec g) s) }
+{
+    let survey = body.survey.recursion();
+    if survey.depth == 0 && !survey.occurs {
+        let local = Some(Local::End);
+        return Ok(Sight { survey, local });
+    }
+    let local = match body.local {
+        Some(local) => Some(Local::Rec(Boxed::new(alloc, local)?)),
+        None => None,
+    };
+    Ok(Sight { survey, local })
+}
+
+/// The sends to this role that begin the branches.
+#[tactic(auto, using(scrib_types::specs::LocalView::local_views))]
+fn send(
+    alloc: Global,
+    to: &Role,
+    locals: Option<Items<(Message, Local)>>,
+) -> Result<Option<Local>, AllocError>
+    ensures { IfOk result (λ o. option_map local_of o ≡ option_map (Send to.now) (offered locals)) }
+{
+    match locals {
+        Some(branches) => {
+            let to = to.copy(alloc)?;
+            Ok(Some(Local::Send { to, branches }))
+        }
+        None => Ok(None),
+    }
+}
+
+/// The receptions from this role that begin the branches.
+#[tactic(auto, using(scrib_types::specs::LocalView::local_views))]
+fn receive(
+    alloc: Global,
+    from: &Role,
+    locals: Option<Items<(Message, Local)>>,
+) -> Result<Option<Local>, AllocError>
+    ensures { IfOk result (λ o. option_map local_of o ≡ option_map (Recv from.now) (offered locals)) }
+{
+    match locals {
+        Some(branches) => {
+            let from = from.copy(alloc)?;
+            Ok(Some(Local::Recv { from, branches }))
+        }
+        None => Ok(None),
+    }
+}
