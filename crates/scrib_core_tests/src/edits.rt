@@ -5,6 +5,7 @@ use scrib_core::reply::{Refusal, Reply};
 use scrib_library::changes::{ChangeKind, Changes};
 use scrib_library::library::Library;
 use scrib_report::line::line;
+use scrib_types::global::GlobalType;
 use std::alloc::Global;
 use std::test::Fail;
 
@@ -140,5 +141,55 @@ fn tells_the_fault_of_the_first_name(rt: HostRuntime) -> Result<(), Fail> {
         got.as_slice(),
         b"refused SelfMessage demo 1:110".as_slice()
     );
+    Ok(())
+}
+
+// The answer to a put of the first bytes of the demonstration module into an empty library.
+fn told_of_prefix(len: usize) -> &'static str {
+    match len {
+        1..=5 => "refused Unexpected 1:1",
+        12 | 13 => "",
+        14..=18 => "refused Unexpected 1:14",
+        21..=27 => "refused Unexpected 1:21",
+        36..=38 => "refused Unexpected 1:36",
+        44..=46 => "refused Unexpected 1:44",
+        62..=64 => "refused Unexpected 1:62",
+        69 => "refused Unexpected 1:69",
+        81..=83 => "refused Unexpected 1:81",
+        88 => "refused Unexpected 1:88",
+        94 => "+demo.Hello",
+        _ => "refused EndOfText",
+    }
+}
+
+#[test]
+fn puts_cut_texts(rt: HostRuntime) -> Result<(), Fail> {
+    assert_eq!(rt; HELLO.len(), 94);
+    for len in 0..95 {
+        let mut library = Library::new(rt.alloc());
+        let text = HELLO.get(..len).ok_or("the text is longer")?;
+        let got = outcome(rt.alloc(), &mut library, text)?;
+        assert_eq!(rt;
+            got.as_slice(),
+            told_of_prefix(len).as_bytes(),
+            "of {len} bytes"
+        );
+    }
+    Ok(())
+}
+
+#[test]
+fn copies_of_a_protocols_type_are_equal(rt: HostRuntime) -> Result<(), Fail> {
+    let text =
+        "module v; global protocol V(role A, role B, role C) { rec X { a() from A to B; continue X; } }";
+    let mut library = Library::new(rt.alloc());
+    let got = outcome(rt.alloc(), &mut library, text)?;
+    assert_eq!(rt; got.as_slice(), b"+v.V".as_slice());
+    let name = dotted(rt.alloc(), &["v", "V"])?;
+    let version = library.present(&name).ok_or("v.V is there")?;
+    let global = version.protocol().global();
+    let copy = GlobalType::copy(rt.alloc(), global)?;
+    assert!(rt; GlobalType::equal(&copy, global));
+    assert!(rt; !GlobalType::equal(&copy, &GlobalType::End));
     Ok(())
 }

@@ -1,5 +1,5 @@
 -- The judgement of a log, event by event.
-use Rattle.std.proofs.Common.{◌≡◌, ◌↔◌, Bool, true, false, ℕ, zero, suc, ◌+◌, ◌<◌, ◌≤◌, List, [], ◌∷◌, ◌++◌, Contains, length, get_or, take, drop, refl, sym, ap, subst, ◌∙◌, inl, inr, arith}
+use Rattle.std.proofs.Common.{◌≡◌, ℕ, suc, ◌+◌, ◌<◌, ◌≤◌, List, [], ◌∷◌, ◌++◌, length, get_or, take, drop, sym, ap, subst, ◌∙◌, inl, inr, arith}
 use Rattle.std.proofs.lemmas.Bool.{cases_lt}
 use Rattle.std.proofs.lemmas.List.{take_more, take_all, length-take-le}
 use Rattle.scrib_types.specs.declared.event.Action.{Action}
@@ -9,8 +9,6 @@ use Rattle.scrib_types.specs.Permitted.{IsPermitted}
 use Rattle.scrib_types.specs.Judgement.{AreAllowed, IsOffence}
 use Rattle.scrib_types.specs.Logs.{subject_of, event_of}
 use Rattle.scrib_types.specs.Queues.{sent, received}
-use Rattle.scrib_record.specs.declared.course.Seat.{Seat}
-use Rattle.scrib_record.specs.declared.course.Flight.{Flight}
 use Rattle.scrib_record.specs.declared.course.Course.{Course}
 use Rattle.scrib_record.specs.Courses.{seat_of, pending, IsKept, MayHappen, Happens, IsStill, Tracks, MayDo}
 use Rattle.scrib_record.proofs.Moves.{permitted_next, may_happen, happens_may, tracks_next}

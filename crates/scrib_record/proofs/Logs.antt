@@ -1,14 +1,12 @@
 -- One event more at the end of a log.
-use Rattle.std.proofs.Common.{◌≡◌, ◌⊎◌, ◌&&◌, ◌||◌, Bool, true, false, ℕ, List, [], ◌∷◌, ◌++◌, map, filter, filter_map, cond, refl, sym, ap, subst, ◌∙◌, inl, inr, append_assoc}
-use Rattle.std.specs.List.{AllByRecursion, list_any}
-use Rattle.std.proofs.lemmas.List.{append-nil, map-append, append_cancel_left}
-use Rattle.std.proofs.lemmas.List.Elements.{filter-append, filter_map-append}
+use Rattle.std.proofs.Common.{◌≡◌, ◌⊎◌, ◌||◌, Bool, true, false, ℕ, List, [], ◌∷◌, ◌++◌, filter, refl, sym, ap, subst, ◌∙◌, inl, inr}
+use Rattle.std.specs.List.{AllByRecursion}
+use Rattle.std.proofs.lemmas.List.{append-nil, map-append}
+use Rattle.std.proofs.lemmas.List.Elements.{filter-append}
 use Rattle.std.proofs.lemmas.List.Folds.{list_any-append}
-use Rattle.scrib_types.specs.declared.message.Message.{Message}
-use Rattle.scrib_types.specs.declared.event.Action.{Action}
 use Rattle.scrib_types.specs.declared.event.Event.{Event}
 use Rattle.scrib_types.specs.Logs.{is_action_of, action_of, is_join_of, own_actions, has_joined, IsJoined, AllJoined}
-use Rattle.scrib_types.specs.Queues.{sent_message, received_message, sent, received, IsPrefix, IsQueued}
+use Rattle.scrib_types.specs.Queues.{sent, received, IsPrefix, IsQueued}
 
 -- a part of xs ++ y ∷ [] is all of it, or a part of xs
 pub front_cases : {X : Type 0} (xs fs gs : List X) (y : X) → xs ++ y ∷ [] ≡ fs ++ gs → (fs ≡ xs ++ y ∷ []) ⊎ ((hs : List X) × (xs ≡ fs ++ hs))

@@ -1,12 +1,10 @@
 -- One event more: when it is permitted, and where the course stands then.
-use Rattle.std.proofs.Common.{◌≡◌, ◌≢◌, ◌⊎◌, ◌&&◌, ◌||◌, Bool, true, false, ℕ, List, [], ◌∷◌, ◌++◌, Option, Some, None, if◌then◌else◌, filter_map, refl, sym, ap, subst, ◌∙◌, inl, inr, append_assoc}
-use Rattle.std.proofs.lemmas.Bool.{and_parts, and_from, and_right, or_left, cases_Bool, true≢false, or_right, or_from}
+use Rattle.std.proofs.Common.{◌≡◌, ◌&&◌, ◌||◌, true, false, ℕ, List, [], ◌∷◌, ◌++◌, Option, Some, None, if◌then◌else◌, filter_map, refl, sym, ap, subst, ◌∙◌, inl, inr}
+use Rattle.std.proofs.lemmas.Bool.{and_parts, and_from, and_right, cases_Bool, true≢false, or_right}
 use Rattle.std.proofs.lemmas.List.{append-nil}
 use Rattle.std.proofs.lemmas.Slice.Eq.{bytes_eq-Decides}
 use Rattle.std.specs.Str.{bytes_eq}
 use Rattle.scrib_types.specs.declared.message.Message.{Message}
-use Rattle.scrib_types.specs.declared.event.Action.{Action}
-use Rattle.scrib_types.specs.declared.event.Action.TheVariants.{Sends, Receives}
 use Rattle.scrib_types.specs.declared.event.Event.{Event}
 use Rattle.scrib_types.specs.declared.event.Event.TheVariants.{Join, Sent, Received}
 use Rattle.scrib_types.specs.declared.local.Local.{Local}
@@ -17,15 +15,14 @@ use Rattle.scrib_types.specs.Projection.{projection}
 use Rattle.scrib_types.specs.WellFormed.{has_role}
 use Rattle.scrib_types.specs.Agreement.{Agreement}
 use Rattle.scrib_types.specs.Permitted.{IsPermitted}
-use Rattle.scrib_types.specs.Logs.{subject_of, action_of, is_action, is_action_of, is_join_of, own_actions, has_joined, IsJoined, AllJoined}
-use Rattle.scrib_types.specs.Queues.{sent_message, received_message, sent, received, IsPrefix, IsQueued}
+use Rattle.scrib_types.specs.Logs.{subject_of, action_of, is_action, is_action_of, is_join_of, own_actions, has_joined, IsJoined}
+use Rattle.scrib_types.specs.Queues.{sent_message, received_message, sent, received, IsPrefix}
 use Rattle.scrib_record.specs.declared.course.Seat.{Seat}
-use Rattle.scrib_record.specs.declared.course.Flight.{Flight}
 use Rattle.scrib_record.specs.declared.course.Course.{Course}
-use Rattle.scrib_record.specs.Courses.{seat_of, pending, IsSeated, CanJoin, CanAct, IsFront, MayHappen, Joins, Acts, IsFlown, IsTaken, Happens, Leads, IsSeat, IsKept, Tracks}
+use Rattle.scrib_record.specs.Courses.{seat_of, pending, IsSeated, CanAct, IsFront, MayHappen, Happens, Leads, IsSeat, IsKept, Tracks}
 use Rattle.scrib_record.proofs.Traces.{leads_on, trace_from, trace_next}
 use Rattle.scrib_record.proofs.Logs.{all_more, all_last, joined_more, queued_more, own_more, own_same, joined_on, or_false}
-use Rattle.scrib_record.proofs.Queues.{sent_on, received_on, given, listed, grown, led, fly_still, fly_sent, fly_taken, prefix_grown, prefix_taken, front_from, listed_is}
+use Rattle.scrib_record.proofs.Queues.{sent_on, received_on, listed, led, fly_still, fly_sent, fly_taken, prefix_grown, prefix_taken, front_from, listed_is}
 
 same_some : (l k : LocalTree) → ◌≡◌ {A = Option LocalTree} (Some l) (Some k) → l ≡ k
 same_some l k e = cc

@@ -1,8 +1,6 @@
 -- What a role may do next, from its seat and the flights.
-use Rattle.std.proofs.Common.{◌≡◌, ◌↔◌, ◌⊎◌, Bool, true, false, ℕ, zero, suc, ◌<◌, List, [], ◌∷◌, ◌++◌, Option, Some, None, AllPairs, Contains, length, get_or, refl, sym, ap, subst, ◌∙◌, inl, inr, arith}
-use Rattle.std.proofs.lemmas.Bool.{true≢false}
+use Rattle.std.proofs.Common.{◌≡◌, ◌↔◌, true, false, ℕ, List, [], ◌∷◌, ◌++◌, Option, Some, None, AllPairs, Contains, length, get_or, refl, sym, ap, subst, ◌∙◌, inl, inr, arith}
 use Rattle.std.proofs.lemmas.List.Elements.{Contains-push, Contains-push_cases}
-use Rattle.scrib_types.specs.declared.message.Message.{Message}
 use Rattle.scrib_types.specs.declared.event.Action.{Action}
 use Rattle.scrib_types.specs.declared.event.Action.TheVariants.{Join, Sends, Receives}
 use Rattle.scrib_types.specs.Judgement.{ComesBefore}
@@ -12,9 +10,8 @@ use Rattle.scrib_types.specs.Trees.{LocalTree}
 use Rattle.scrib_types.specs.Traces.{Does, sends, receives, unfolds}
 use Rattle.scrib_walk.specs.Steps.{AreOffers}
 use Rattle.scrib_record.specs.declared.course.Seat.{Seat}
-use Rattle.scrib_record.specs.declared.course.Flight.{Flight}
 use Rattle.scrib_record.specs.declared.course.Course.{Course}
-use Rattle.scrib_record.specs.Courses.{seat_of, IsPlaceOf, CanJoin, CanAct, IsFront, IsDue, MayHappen, MayDo}
+use Rattle.scrib_record.specs.Courses.{seat_of, IsPlaceOf, CanJoin, CanAct, IsDue, MayHappen, MayDo}
 use Rattle.scrib_record.proofs.Places.{place_seat}
 use Rattle.scrib_record.proofs.Seats.{seat_is, joins_no_more, acts_not_yet}
 

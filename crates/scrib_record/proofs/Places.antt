@@ -1,5 +1,5 @@
 -- Places of seats and of flights.
-use Rattle.std.proofs.Common.{◌≡◌, ◌≢◌, ◌&&◌, Bool, true, false, ℕ, zero, suc, ◌+◌, ◌<◌, ◌≤◌, List, [], ◌∷◌, ◌++◌, Option, Some, None, is_some, MatchOption, if◌then◌else◌, filter_map, length, get_or, take, drop, set, refl, sym, ap, subst, ◌∙◌, inl, inr, arith}
+use Rattle.std.proofs.Common.{◌≡◌, ◌&&◌, Bool, true, false, ℕ, suc, ◌+◌, ◌<◌, ◌≤◌, List, [], ◌∷◌, ◌++◌, Option, Some, None, is_some, MatchOption, if◌then◌else◌, length, get_or, take, drop, set, refl, sym, ap, subst, ◌∙◌, inl, inr}
 use Rattle.std.specs.Str.{bytes_eq}
 use Rattle.std.specs.List.{remove, cons_option}
 use Rattle.std.proofs.Math.Seq.{drop-cons}
@@ -10,7 +10,7 @@ use Rattle.std.proofs.lemmas.Slice.Eq.{bytes_eq-Decides}
 use Rattle.scrib_types.specs.declared.message.Message.{Message}
 use Rattle.scrib_record.specs.declared.course.Seat.{Seat}
 use Rattle.scrib_record.specs.declared.course.Flight.{Flight}
-use Rattle.scrib_record.specs.Courses.{seat_of, flown, pending, IsSeated, IsPlaceOf, IsFront, IsFrontAt, IsTaken}
+use Rattle.scrib_record.specs.Courses.{seat_of, flown, pending, IsSeated, IsPlaceOf, IsFront, IsFrontAt}
 
 -- a list about the place i
 pub split_at : {X : Type 0} (xs : List X) (i : ℕ) (d : X) → i < length xs → xs ≡ take i xs ++ get_or xs i d ∷ drop (suc i) xs

@@ -1,12 +1,12 @@
 -- The projections of a protocol, role by role.
-use Rattle.std.proofs.Common.{◌≡◌, ◌≢◌, Bool, true, false, ℕ, zero, suc, ◌+◌, ◌<◌, List, [], ◌∷◌, ◌++◌, Option, Some, None, is_some, length, get_or, take, refl, sym, ap, subst, ◌∙◌, arith}
+use Rattle.std.proofs.Common.{◌≡◌, ◌≢◌, true, ℕ, zero, suc, ◌+◌, ◌<◌, List, [], ◌∷◌, ◌++◌, Option, Some, None, is_some, length, get_or, take, refl, sym, ap, subst, ◌∙◌, arith}
 use Rattle.std.proofs.lemmas.Bool.{and_parts, and_from, true≢false}
 use Rattle.std.proofs.lemmas.List.{take_more}
 use Rattle.scrib_types.specs.declared.local.Local.{Local}
 use Rattle.scrib_types.specs.LocalView.{local_of}
 use Rattle.scrib_types.specs.Trees.{GlobalTree, LocalTree}
 use Rattle.scrib_types.specs.Projection.{projection}
-use Rattle.scrib_types.specs.Same.{same_local, same_local-equal, same_local-refl}
+use Rattle.scrib_types.specs.Same.{same_local-equal, same_local-refl}
 use Rattle.scrib_types.specs.WellFormed.{projects, is_protocol}
 use Rattle.scrib_record.specs.Projected.{is_this, are_projections}
 

@@ -1,5 +1,5 @@
 -- What a seat at its place may do, and what the seats are then.
-use Rattle.std.proofs.Common.{◌≡◌, Bool, true, false, ℕ, List, Option, Some, None, get_or, set, refl, sym, ap, subst, ◌∙◌}
+use Rattle.std.proofs.Common.{◌≡◌, true, false, ℕ, List, Option, Some, get_or, set, sym, ap, subst, ◌∙◌}
 use Rattle.std.proofs.lemmas.Bool.{true≢false}
 use Rattle.std.proofs.lemmas.List.{set-get_or, get_or_default}
 use Rattle.scrib_types.specs.declared.event.Action.{Action}

@@ -1,28 +1,26 @@
 -- The course before any event.
-use Rattle.std.proofs.Common.{◌≡◌, ◌||◌, Bool, true, false, ℕ, suc, ◌+◌, ◌<◌, ◌≤◌, List, [], ◌∷◌, ◌++◌, Option, Some, None, if◌then◌else◌, map, length, get_or, take, refl, sym, ap, subst, ◌∙◌, inl, inr, arith}
+use Rattle.std.proofs.Common.{◌≡◌, ◌||◌, true, false, ℕ, ◌+◌, ◌<◌, ◌≤◌, List, [], ◌∷◌, ◌++◌, Some, if◌then◌else◌, map, length, get_or, take, refl, sym, ap, subst, ◌∙◌, inl, inr}
 use Rattle.std.specs.List.{AllByRecursion, list_any}
 use Rattle.std.specs.Str.{bytes_eq}
-use Rattle.std.proofs.lemmas.Bool.{cases_Bool, true≢false}
+use Rattle.std.proofs.lemmas.Bool.{cases_Bool}
 use Rattle.std.proofs.lemmas.Slice.Eq.{bytes_eq-Decides}
 use Rattle.std.proofs.lemmas.List.{take_more, take_all, map_push}
 use Rattle.scrib_types.specs.declared.event.Event.{Event}
 use Rattle.scrib_types.specs.declared.local.Local.{Local}
 use Rattle.scrib_types.specs.LocalView.{local_of}
-use Rattle.scrib_types.specs.Trees.{GlobalTree, LocalTree}
+use Rattle.scrib_types.specs.Trees.{GlobalTree}
 use Rattle.scrib_types.specs.Projection.{projection}
 use Rattle.scrib_types.specs.WellFormed.{has_role}
 use Rattle.scrib_types.specs.Agreement.{Agreement}
 use Rattle.scrib_types.specs.Permitted.{IsPermitted}
-use Rattle.scrib_types.specs.Logs.{IsJoined, AllJoined}
-use Rattle.scrib_types.specs.Queues.{sent, received, IsPrefix, IsQueued}
-use Rattle.scrib_types.specs.Traces.{IsTrace}
+use Rattle.scrib_types.specs.Queues.{sent, received, IsPrefix}
 use Rattle.scrib_record.specs.declared.course.Seat.{Seat}
 use Rattle.scrib_record.specs.declared.course.Course.{Course}
 use Rattle.scrib_record.specs.Courses.{seat_of, pending, IsSeat, IsKept, Tracks}
 use Rattle.scrib_record.specs.Projected.{are_projections}
 use Rattle.scrib_record.proofs.Logs.{all_more}
 use Rattle.scrib_record.proofs.Moves.{seat_for}
-use Rattle.scrib_record.proofs.Projections.{projections_length, projection_at}
+use Rattle.scrib_record.proofs.Projections.{projection_at}
 
 abbrev pub seat_role : Seat → List ℕ
 seat_role s = s.role

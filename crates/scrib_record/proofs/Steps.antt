@@ -1,15 +1,14 @@
 -- An event's answer from the answers of its seats and its flights.
-use Rattle.std.proofs.Common.{◌≡◌, Bool, true, false, ℕ, List, [], ◌∷◌, ◌++◌, refl, sym, ap, subst, ◌∙◌}
+use Rattle.std.proofs.Common.{◌≡◌, Bool, true, false, ℕ, List, [], ◌∷◌, ◌++◌, sym, subst, ◌∙◌}
 use Rattle.std.specs.List.{remove}
 use Rattle.scrib_types.specs.declared.message.Message.{Message}
 use Rattle.scrib_types.specs.declared.event.Action.{Action}
 use Rattle.scrib_types.specs.declared.event.Action.TheVariants.{Sends, Receives}
-use Rattle.scrib_types.specs.declared.event.Event.{Event}
 use Rattle.scrib_types.specs.declared.event.Event.TheVariants.{Join, Sent, Received}
 use Rattle.scrib_record.specs.declared.course.Seat.{Seat}
 use Rattle.scrib_record.specs.declared.course.Flight.{Flight}
 use Rattle.scrib_record.specs.declared.course.Course.{Course}
-use Rattle.scrib_record.specs.Courses.{Joins, Joined, Acts, Acted, IsFront, IsFrontAt, IsFlown, IsTaken, Accepts, CanJoin, CanAct}
+use Rattle.scrib_record.specs.Courses.{Joins, Joined, Acts, Acted, IsFrontAt, IsFlown, IsTaken, Accepts}
 use Rattle.scrib_record.proofs.Places.{flown_more}
 
 pub join_accepts : (c d : Course) (r : List ℕ) (new : List Seat) (b : Bool) → d.seats.items ≡ new → d.flights.items ≡ c.flights.items → Joined r c.seats.items new b → Accepts (Join r) c d b

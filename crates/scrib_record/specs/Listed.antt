@@ -1,6 +1,6 @@
 -- Places in a list of actions that is in order.
 -- Only contracts of private functions cite this file.
-use Rattle.std.specs.Prelude.{◌≡◌, ℕ, ◌≤◌, List, length, take, drop, Option, Some, None, Contains}
+use Rattle.std.specs.Prelude.{ℕ, ◌≤◌, List, length, take, drop, Option, Some, None, Contains}
 use Rattle.std.specs.List.{AllByRecursion}
 use Rattle.scrib_types.specs.declared.event.Action.{Action}
 use Rattle.scrib_types.specs.Judgement.{ComesBefore}

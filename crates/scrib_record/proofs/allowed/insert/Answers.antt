@@ -1,4 +1,4 @@
-use Rattle.std.proofs.Common.{◌≡◌, Some, AllPairs, sym, subst, List}
+use Rattle.std.proofs.Common.{Some, AllPairs, sym, subst, List}
 use Rattle.scrib_types.specs.declared.event.Action.{Action}
 use Rattle.scrib_types.specs.Judgement.{ComesBefore}
 use Rattle.scrib_record.specs.Listed.{BelongsAt, IsPlaceFor}

@@ -1,4 +1,4 @@
-use Rattle.std.proofs.Common.{◌≡◌, subst, Some, None, get_or}
+use Rattle.std.proofs.Common.{◌≡◌, subst, None, get_or}
 use Rattle.scrib_types.specs.declared.local.Local.{Local}
 use Rattle.scrib_types.specs.LocalView.{local_of}
 use Rattle.scrib_types.specs.Traces.{Does}

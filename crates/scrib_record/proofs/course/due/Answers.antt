@@ -1,10 +1,9 @@
-use Rattle.std.proofs.Common.{◌≡◌, ◌∙◌, sym, List, length, rules}
+use Rattle.std.proofs.Common.{◌≡◌, ◌∙◌, sym, length, rules}
 use Rattle.std.proofs.lemmas.Iterator.Consumers.{YieldsList-end}
 use Rattle.std.proofs.lemmas.Iterator.Adapters.{YieldsList-from_vec}
 use Rattle.std.proofs.lemmas.List.{map-id}
-use Rattle.scrib_types.specs.declared.event.Action.{Action}
 use Rattle.scrib_record.specs.Courses.{IsDue}
-use Rattle.scrib_record.proofs.Listed.{passing_more, passing_all, sorted_none, passing_none}
+use Rattle.scrib_record.proofs.Listed.{passing_more, passing_all}
 use Rattle.scrib_record.proofs.course.due.Goals as goal
 
 pub loop-action-preserved : goal.loop-action-preserved

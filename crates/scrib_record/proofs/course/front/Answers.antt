@@ -1,7 +1,7 @@
 use Rattle.std.proofs.Common.{refl, sym}
 use Rattle.std.proofs.lemmas.Bool.{and_parts, true≢false}
 use Rattle.std.specs.Str.{bytes_eq}
-use Rattle.scrib_record.proofs.Places.{none_flown_more, front_found, other_front, no_front}
+use Rattle.scrib_record.proofs.Places.{none_flown_more, front_found, other_front}
 use Rattle.scrib_record.proofs.course.front.Goals as goal
 
 pub loop-i-preserved : goal.loop-i-preserved

@@ -1,5 +1,3 @@
-use Rattle.std.proofs.Common.{◌≡◌, is_some, IsTrue}
-use Rattle.scrib_record.specs.Courses.{IsDue}
 use Rattle.scrib_record.proofs.Places.{due_front}
 use Rattle.scrib_record.proofs.course.is_due.Goals as goal
 

@@ -1,8 +1,5 @@
-use Rattle.std.proofs.Common.{◌≡◌, ◌∙◌, sym, subst, Bool, true, false, List, ℕ}
-use Rattle.scrib_types.specs.declared.event.Event.{Event}
-use Rattle.scrib_types.specs.Logs.{subject_of}
-use Rattle.scrib_record.specs.declared.course.Course.{Course}
-use Rattle.scrib_record.specs.Courses.{Accepts, MayDo}
+use Rattle.std.proofs.Common.{◌∙◌, subst, Bool, true, false}
+use Rattle.scrib_record.specs.Courses.{Accepts}
 use Rattle.scrib_record.specs.Versions.{meaning_of}
 use Rattle.scrib_record.proofs.Judged.{judged_start, judged_more, judged_offence, judged_all}
 use Rattle.scrib_record.proofs.judge.judge.Goals as goal

@@ -1,4 +1,4 @@
-use Rattle.std.proofs.Common.{◌≡◌, None, Some, ◌∙◌, ap, subst, sym}
+use Rattle.std.proofs.Common.{◌≡◌, None, Some, ◌∙◌, ap, sym}
 use Rattle.std.specs.Prelude.{option_map}
 use Rattle.scrib_types.specs.GlobalView.{global_of}
 use Rattle.scrib_types.specs.LocalView.{local_of}

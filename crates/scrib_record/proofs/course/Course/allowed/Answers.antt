@@ -1,13 +1,12 @@
-use Rattle.std.proofs.Common.{◌≡◌, ◌↔◌, ◌∷◌, ◌++◌, [], Contains, ◌∙◌, sym, ap, subst, List, true, false, get_or, length, AllPairs}
+use Rattle.std.proofs.Common.{◌≡◌, ◌↔◌, ◌∷◌, ◌++◌, [], Contains, ◌∙◌, sym, ap, subst, List, true, false, get_or}
 use Rattle.scrib_types.specs.declared.event.Action.{Action}
 use Rattle.scrib_types.specs.declared.event.Action.TheVariants.{Join}
-use Rattle.scrib_types.specs.Judgement.{ComesBefore}
 use Rattle.scrib_types.specs.LocalView.{local_of}
 use Rattle.scrib_walk.specs.Steps.{AreOffers}
 use Rattle.scrib_record.specs.declared.course.Seat.{Seat}
 use Rattle.scrib_record.specs.declared.course.Flight.{Flight}
 use Rattle.scrib_record.specs.Courses.{IsPlaceOf, MayDo, IsDue}
-use Rattle.scrib_record.proofs.Offered.{nobody_may, absent_may, present_may}
+use Rattle.scrib_record.proofs.Offered.{absent_may, present_may}
 use Rattle.scrib_record.proofs.course.Course.allowed.Goals as goal
 
 pub returns-then-not-own : goal.returns-then-not-own

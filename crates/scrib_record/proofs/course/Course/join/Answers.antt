@@ -1,4 +1,4 @@
-use Rattle.std.proofs.Common.{◌≡◌, ◌∙◌, List, length, refl, subst, arith}
+use Rattle.std.proofs.Common.{◌≡◌, List, length, refl, subst, arith}
 use Rattle.std.specs.Vec.{with_items}
 use Rattle.std.proofs.lemmas.List.{with_items_is}
 use Rattle.scrib_record.specs.declared.course.Course.{Course}

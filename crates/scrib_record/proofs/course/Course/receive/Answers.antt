@@ -1,12 +1,10 @@
-use Rattle.std.proofs.Common.{◌≡◌, ◌∙◌, List, length, refl, subst, sym, true, false, arith}
+use Rattle.std.proofs.Common.{◌≡◌, List, length, refl, subst, true, false, arith}
 use Rattle.std.specs.Vec.{with_items}
 use Rattle.std.proofs.lemmas.List.{with_items_is}
-use Rattle.scrib_types.specs.declared.event.Action.{Action}
 use Rattle.scrib_types.specs.declared.event.Action.TheVariants.{Receives}
 use Rattle.scrib_record.specs.declared.course.Course.{Course}
-use Rattle.scrib_record.specs.declared.course.Seat.{Seat}
 use Rattle.scrib_record.specs.declared.course.Flight.{Flight}
-use Rattle.scrib_record.specs.Courses.{Acted, IsFrontAt}
+use Rattle.scrib_record.specs.Courses.{IsFrontAt}
 use Rattle.scrib_record.proofs.Steps.{receive_accepts, receive_refuses, acted_is, same_receives}
 use Rattle.scrib_record.proofs.course.Course.receive.Goals as goal
 

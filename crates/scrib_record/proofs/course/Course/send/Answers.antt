@@ -1,12 +1,9 @@
-use Rattle.std.proofs.Common.{◌≡◌, ◌∙◌, List, length, refl, subst, sym, true, false, arith}
+use Rattle.std.proofs.Common.{◌≡◌, length, refl, true, false, arith}
 use Rattle.std.specs.Vec.{with_items}
 use Rattle.std.proofs.lemmas.List.{with_items_is}
-use Rattle.scrib_types.specs.declared.event.Action.{Action}
 use Rattle.scrib_types.specs.declared.event.Action.TheVariants.{Sends}
 use Rattle.scrib_record.specs.declared.course.Course.{Course}
-use Rattle.scrib_record.specs.declared.course.Seat.{Seat}
 use Rattle.scrib_record.specs.declared.course.Flight.{Flight}
-use Rattle.scrib_record.specs.Courses.{Acted}
 use Rattle.scrib_record.proofs.Steps.{send_accepts, send_refuses, acted_is, same_sends}
 use Rattle.scrib_record.proofs.course.Course.send.Goals as goal
 

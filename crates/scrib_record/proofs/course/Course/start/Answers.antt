@@ -1,11 +1,9 @@
-use Rattle.std.proofs.Common.{◌≡◌, ◌<◌, ◌∙◌, List, length, get_or, ap, refl, sym, subst, true, false, arith, ℕ}
+use Rattle.std.proofs.Common.{◌≡◌, ◌∙◌, length, get_or, ap, refl, sym, false, arith}
 use Rattle.scrib_types.specs.Agreement.{Agreement}
-use Rattle.scrib_types.specs.Meaning.{agreement_of}
 use Rattle.scrib_record.specs.declared.course.Course.{Course}
 use Rattle.scrib_record.specs.declared.course.Seat.{Seat}
-use Rattle.scrib_record.specs.Projected.{are_projections}
 use Rattle.scrib_record.specs.Versions.{meaning_of}
-use Rattle.scrib_record.proofs.Start.{AreFresh, fresh_more, tracks_start}
+use Rattle.scrib_record.proofs.Start.{fresh_more, tracks_start}
 use Rattle.scrib_record.proofs.Projections.{projections_length}
 use Rattle.scrib_record.proofs.course.Course.start.Goals as goal
 
