@@ -1,4 +1,4 @@
-//! Tests of what the program writes: worked examples as tables, cut readers and failing writers.
+//! Tests of what the program writes: cut readers and failing writers, and inputs that are too large to be written down.
 #![tactic(auto)]
 
 #[cfg(test)]
@@ -6,8 +6,6 @@ mod commands;
 #[cfg(test)]
 mod demonstration;
 #[cfg(test)]
-mod language;
+mod large;
 #[cfg(test)]
 mod running;
-#[cfg(test)]
-mod scripts;

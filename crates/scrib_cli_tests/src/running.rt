@@ -155,36 +155,6 @@ fn stops_at_a_failing_write(rt: HostRuntime) -> Result<(), Fail> {
     Ok(())
 }
 
-#[test]
-fn counts_all_lines(rt: HostRuntime) -> Result<(), Fail> {
-    let script = b"put\nmodule m;\n\n\n%%\n\n\n\n\n\n\njion 1 A\n";
-    let output = output_of(rt.alloc(), script)?;
-    assert_eq!(rt;
-        output.as_slice(),
-        b"put m: no change\nrefused BadLine 12\n".as_slice()
-    );
-    Ok(())
-}
-
-#[test]
-fn refuses_an_open_text(rt: HostRuntime) -> Result<(), Fail> {
-    let output = output_of(rt.alloc(), b"put\nmodule m;\n")?;
-    assert_eq!(rt; output.as_slice(), b"refused EndOfText\n".as_slice());
-    let output = output_of(rt.alloc(), b"put\nmodule m;\n%%\r")?;
-    assert_eq!(rt; output.as_slice(), b"refused EndOfText\n".as_slice());
-    let output = output_of(rt.alloc(), b"put\nmodule m;\n%%")?;
-    assert_eq!(rt; output.as_slice(), b"put m: no change\n".as_slice());
-    Ok(())
-}
-
-#[test]
-fn drops_a_return_before_a_line_feed(rt: HostRuntime) -> Result<(), Fail> {
-    let output = output_of(rt.alloc(), b"ask 1\r\nput\r\nmodule m;\r\n%%\r\nask 1\r")?;
-    let want = b"refused NoConversation\nput m: no change\nrefused BadLine 5\n";
-    assert_eq!(rt; output.as_slice(), want.as_slice());
-    Ok(())
-}
-
 // A comment of this many bytes, and a line that asks.
 fn long_script(alloc: Global, length: usize) -> Result<Vec<u8>, AllocError> {
     let mut script = vec![in alloc; b'#'; length]?;

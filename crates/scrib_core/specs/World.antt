@@ -4,6 +4,7 @@ use Rattle.std.specs.Prelude.{◌≡◌, ℕ, ◌<◌, ◌≤◌, List, [], ◌�
 use Rattle.std.specs.Map.{lookup, set_value}
 use Rattle.scrib_types.specs.declared.event.Event.{Event}
 use Rattle.scrib_types.specs.Agreement.{Agreement}
+use Rattle.scrib_lexer.specs.Tokens.{max_text_bytes}
 use Rattle.scrib_grammar.specs.declared.tree.ModuleTree.{ModuleTree}
 use Rattle.scrib_library.specs.declared.fault.EditFault.{EditFault}
 use Rattle.scrib_library.specs.declared.fault.EditFault.TheVariants as edit
@@ -60,7 +61,7 @@ Follows w (Ask id) v = IsSome (conversation w id) × (v ≡ w)
 -- no other refusal is due, so that the step needs memory; a put needs it to find any refusal but that its text
 -- is too long
 abbrev pub NeedsMemory : World → Step → Type 0
-NeedsMemory w (Put text) = Unit {0}
+NeedsMemory w (Put text) = length text ≤ max_text_bytes
 NeedsMemory w (Open id name) = (conversation w id ≡ None) × ((a : Agreement) × Means w.modules name a) × (length w.conversations < 65536)
 NeedsMemory w (Note id e) = (c : Conversation) × (conversation w id ≡ Some c) × (length c.log < 65536)
 NeedsMemory w (Ask id) = IsSome (conversation w id)

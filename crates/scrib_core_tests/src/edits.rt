@@ -59,25 +59,6 @@ fn big(alloc: Global, protocols: u32) -> Result<String, Fail> {
 }
 
 #[test]
-fn tells_what_changed(rt: HostRuntime) -> Result<(), Fail> {
-    let alloc = rt.alloc();
-    let mut library = Library::new(alloc);
-    for (text, want) in [
-        (HELLO, "+demo.Hello"),
-        (HELLO, ""),
-        (HELLO_INT, "~demo.Hello"),
-        (AGAIN, "+demo.Again -demo.Hello"),
-        ("module demo", "refused EndOfText"),
-        ("module demo; #", "refused BadByte 1:14"),
-        (AGAIN, ""),
-    ] {
-        let got = outcome(alloc, &mut library, text)?;
-        assert_eq!(rt; got.as_slice(), want.as_bytes(), "{text}");
-    }
-    Ok(())
-}
-
-#[test]
 fn finds_what_is_present(rt: HostRuntime) -> Result<(), Fail> {
     let alloc = rt.alloc();
     let mut library = Library::new(alloc);
@@ -127,20 +108,6 @@ fn takes_1024_protocols(rt: HostRuntime) -> Result<(), Fail> {
     let text = big(alloc, 1024)?;
     let got = outcome(alloc, &mut library, text.as_str())?;
     assert!(rt; got.starts_with(b"+big.P0 +big.P1 +big.P10 +big.P100 +big.P1000 "));
-    Ok(())
-}
-
-#[test]
-fn tells_the_fault_of_the_first_name(rt: HostRuntime) -> Result<(), Fail> {
-    let alloc = rt.alloc();
-    let mut library = Library::new(alloc);
-    let text =
-        "module demo; global protocol Zed(role A, role B) { a() from A to C; } global protocol Abel(role A, role B) { a() from A to A; }";
-    let got = outcome(alloc, &mut library, text)?;
-    assert_eq!(rt;
-        got.as_slice(),
-        b"refused SelfMessage demo 1:110".as_slice()
-    );
     Ok(())
 }
 

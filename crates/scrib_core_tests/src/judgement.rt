@@ -1,14 +1,11 @@
-//! Judgements of logs, each by the program's way and by the plain definitions, and the messages in flight.
+//! Judgements of logs, each by the program's way and by the plain definitions.
 
 use crate::making::{event, library, step, version};
 use scrib_core::monitor::Core;
 use scrib_core::reply::Reply;
 use scrib_core::step::Step;
-use scrib_global::explain::{Flight, explain};
-use scrib_global::fault::ExplainFault;
 use scrib_global::judge::judge_whole;
 use scrib_record::judge::judge;
-use scrib_report::flight::push_flight;
 use scrib_types::event::{Event, Told, Verdict};
 use scrib_types::plain::Items;
 use scrib_types::text::{push_action, push_bytes, push_number};
@@ -135,43 +132,6 @@ const VERDICTS: [(&str, &[&str], &str); 14] = [
     (EMPTY, &["join 1 A", "send 1 A B x()"], "offence at 2 by A:"),
 ];
 
-// A protocol, a log, and the messages in flight: by sender and receiver in declared order, the oldest first.
-const FLIGHTS: [(&str, &[&str], &str); 4] = [
-    (
-        HELLO,
-        &["join 1 A", "join 1 B", "send 1 A B hello()"],
-        "A B hello()\n",
-    ),
-    (
-        HELLO,
-        &[
-            "join 1 A",
-            "join 1 B",
-            "send 1 A B hello()",
-            "recv 1 A B hello()",
-            "send 1 B A bye()",
-            "recv 1 B A bye()",
-        ],
-        "",
-    ),
-    (
-        APART,
-        &["join 1 C", "send 1 C D c()", "send 1 C D c()"],
-        "C D c()\nC D c()\n",
-    ),
-    (
-        THIRD_PARTY,
-        &[
-            "join 1 C",
-            "send 1 C B z()",
-            "join 1 A",
-            "send 1 A B r()",
-            "join 1 B",
-        ],
-        "A B r()\nC B z()\n",
-    ),
-];
-
 fn log(alloc: Global, lines: &[&str]) -> Result<Vec<Event>, Fail> {
     let mut log = Vec::new(alloc);
     for line in lines {
@@ -215,15 +175,6 @@ fn judged_whole(alloc: Global, text: &str, log: &[Event]) -> Result<Vec<u8>, Fai
     let library = library(alloc, text)?;
     let verdict = judge_whole(alloc, version(alloc, &library)?.protocol(), log)?;
     told(alloc, &verdict)
-}
-
-fn written(alloc: Global, flights: &[Flight]) -> Result<Vec<u8>, Fail> {
-    let mut lines = Vec::new(alloc);
-    for flight in flights {
-        push_flight(&mut lines, flight)?;
-        lines.push(b'\n')?;
-    }
-    Ok(lines)
 }
 
 #[test]
@@ -281,27 +232,5 @@ fn after_each_event_the_core_tells_the_same(rt: HostRuntime) -> Result<(), Fail>
             assert_eq!(rt; verdict.as_slice(), whole.as_slice(), "after {line}");
         }
     }
-    Ok(())
-}
-
-#[test]
-fn messages_are_in_flight(rt: HostRuntime) -> Result<(), Fail> {
-    for (text, lines, want) in &FLIGHTS {
-        let library = library(rt.alloc(), text)?;
-        let protocol = version(rt.alloc(), &library)?.protocol();
-        let flights = explain(rt.alloc(), protocol, &log(rt.alloc(), lines)?)?;
-        let lines = written(rt.alloc(), &flights)?;
-        assert_eq!(rt; lines.as_slice(), want.as_bytes());
-    }
-    Ok(())
-}
-
-#[test]
-fn flights_of_an_offending_log_are_refused(rt: HostRuntime) -> Result<(), Fail> {
-    let library = library(rt.alloc(), HELLO)?;
-    let protocol = version(rt.alloc(), &library)?.protocol();
-    let log = log(rt.alloc(), &["join 1 A", "join 1 B", "recv 1 A B hello()"])?;
-    let explained = explain(rt.alloc(), protocol, &log);
-    assert!(rt; matches!(explained, Err(ExplainFault::NotPermitted { place: 3 })));
     Ok(())
 }

@@ -1,5 +1,5 @@
-//! Tests of the core with its library, its record, its scripts and its reply lines: worked examples as tables, with
-//! what they must give.
+//! Tests of the core with its library, its record and its reply lines: both ways of judging, and the calls that the
+//! program doesn't make.
 #![tactic(auto)]
 
 #[cfg(test)]
@@ -10,5 +10,3 @@ mod judgement;
 mod making;
 #[cfg(test)]
 mod monitor;
-#[cfg(test)]
-mod script_lines;

@@ -9,7 +9,7 @@ use Rattle.scrib_types.specs.declared.event.Event.{Event}
 use Rattle.scrib_types.specs.declared.event.Event.TheVariants.{Join, Sent, Received}
 use Rattle.scrib_types.specs.WellFormed.{has_role}
 use Rattle.scrib_types.specs.Logs.{subject_of, action_of, is_action, is_join_of, own_actions, has_joined, IsJoined, AllJoined}
-use Rattle.scrib_types.specs.Queues.{sent, received, IsQueued, flights}
+use Rattle.scrib_types.specs.Queues.{sent, received, flights}
 use Rattle.scrib_global.proofs.Names.{same_name, name_is, name_not, NotPair, pair_cases}
 use Rattle.scrib_global.proofs.Carries.{Effect}
 

@@ -1,5 +1,5 @@
 -- The protocols of the tests.
-use Rattle.std.proofs.Common.{◌≡◌, true, ℕ, List, [], ◌∷◌, ◌++◌, Some, codes, refl, sym, ap, ◌∙◌}
+use Rattle.std.proofs.Common.{◌≡◌, true, ℕ, List, [], ◌∷◌, ◌++◌, Some, codes, refl, ap, ◌∙◌}
 use Rattle.scrib_types.specs.declared.message.Message.{Message}
 use Rattle.scrib_types.specs.declared.global.GlobalType as global
 use Rattle.scrib_types.specs.declared.global.GlobalType.{GlobalType}

@@ -1,4 +1,5 @@
 -- Queues, reception by reception (this project's own).
+-- Only contracts of private functions cite this file.
 use Rattle.std.specs.Prelude.{List}
 use Rattle.scrib_types.specs.declared.event.Event.{Event}
 use Rattle.scrib_types.specs.declared.event.Event.TheVariants.{Join, Sent, Received}

@@ -1,4 +1,5 @@
 -- The sends and receptions that stand in a local type (this project's own).
+-- Only contracts of private functions cite this file.
 use Rattle.std.specs.Prelude.{ℕ, List, [], ◌∷◌, ◌++◌, Option, Some, None}
 use Rattle.scrib_types.specs.declared.event.Action.{Action}
 use Rattle.scrib_types.specs.declared.event.Action.TheVariants.{Sends, Receives}

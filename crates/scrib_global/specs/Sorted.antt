@@ -1,4 +1,5 @@
 -- Places in a sorted list of actions (this project's own).
+-- Only contracts of private functions cite this file.
 use Rattle.std.specs.Prelude.{ℕ, ◌≤◌, List, length, take, drop, Option, Some, None, Contains}
 use Rattle.std.specs.List.{AllByRecursion}
 use Rattle.scrib_types.specs.declared.event.Action.{Action}

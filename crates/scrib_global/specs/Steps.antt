@@ -1,4 +1,5 @@
 -- What one action leaves of a local type (this project's own).
+-- Only contracts of private functions cite this file.
 use Rattle.std.specs.Prelude.{Option, Some, None}
 use Rattle.scrib_types.specs.declared.event.Action.{Action}
 use Rattle.scrib_types.specs.declared.local.Local.{Local}

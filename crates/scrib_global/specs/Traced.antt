@@ -1,4 +1,5 @@
 -- What roles did, beside their projections (this project's own).
+-- Only contracts of private functions cite this file.
 use Rattle.std.specs.Prelude.{◌≡◌, ℕ, true, List, Some}
 use Rattle.scrib_types.specs.declared.event.Event.{Event}
 use Rattle.scrib_types.specs.Trees.{GlobalTree, LocalTree}

@@ -1,5 +1,6 @@
 -- A recursion put in place of its variable, where variables and depths are counted in machine numbers, and
 -- where a type acts at once (this project's own).
+-- Only contracts of private functions cite this file.
 use Rattle.std.specs.Prelude.{◌≡◌, ℕ, ◌^◌, min, Bool, true, false}
 use Rattle.scrib_types.specs.Trees.{LocalTree, LocalEnd, LocalVar, LocalRec, Send, Recv, LocalBranches}
 use Rattle.scrib_types.specs.Traces.{put, put_all}

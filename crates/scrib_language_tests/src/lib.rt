@@ -1,4 +1,4 @@
-//! Tests of the language: tokens, trees, types, elaboration and projection, with worked examples as tables.
+//! Tests of the language: tokens, trees, types, and elaboration of large modules.
 #![tactic(auto)]
 
 #[cfg(test)]
@@ -9,5 +9,3 @@ mod grammar;
 mod tokens;
 #[cfg(test)]
 mod types;
-#[cfg(test)]
-mod walking;

@@ -15,36 +15,6 @@ fn bad_byte(alloc: Global, text: &[u8]) -> Option<Spot> {
     }
 }
 
-fn long_name(alloc: Global, text: &[u8]) -> Option<Spot> {
-    match lex(alloc, text) {
-        Err(LexFault::LongName { at }) => Some(at),
-        _ => None,
-    }
-}
-
-fn open_comment(alloc: Global, text: &[u8]) -> Option<Spot> {
-    match lex(alloc, text) {
-        Err(LexFault::OpenComment { at }) => Some(at),
-        _ => None,
-    }
-}
-
-fn open_string(alloc: Global, text: &[u8]) -> Option<Spot> {
-    match lex(alloc, text) {
-        Err(LexFault::OpenString { at }) => Some(at),
-        _ => None,
-    }
-}
-
-// `module `, and then a word of so many letters.
-fn module_of(alloc: Global, letters: usize) -> Result<Vec<u8>, AllocError> {
-    let mut text = Vec::from_slice(alloc, b"module ".as_slice())?;
-    for _ in 0..letters {
-        text.push(b'a')?;
-    }
-    Ok(text)
-}
-
 fn spot(line: u32, column: u32) -> Spot {
     Spot { line, column }
 }
@@ -108,66 +78,6 @@ fn reserved_words_and_marks(rt: HostRuntime) -> Result<(), Fail> {
 }
 
 #[test]
-fn longest_names(rt: HostRuntime) -> Result<(), Fail> {
-    let too_long = module_of(rt.alloc(), 129)?;
-    assert_eq!(rt; long_name(rt.alloc(), &too_long), Some(spot(1, 8)));
-    let fits = module_of(rt.alloc(), 128)?;
-    assert_eq!(rt; lex(rt.alloc(), &fits)?.len(), 2);
-    Ok(())
-}
-
-#[test]
-fn bad_bytes(rt: HostRuntime) {
-    let alloc = rt.alloc();
-    assert_eq!(rt; bad_byte(alloc, b"module p; %"), Some(spot(1, 11)));
-    assert_eq!(rt; bad_byte(alloc, b"module d;/"), Some(spot(1, 10)));
-    assert_eq!(rt; bad_byte(alloc, b"a / b"), Some(spot(1, 3)));
-    assert_eq!(rt; bad_byte(alloc, b"ab1;\n 2a 3"), Some(spot(2, 2)));
-    assert_eq!(rt; bad_byte(alloc, b"a\xc3\xa9"), Some(spot(1, 2)));
-}
-
-#[test]
-fn comments_between_tokens(rt: HostRuntime) -> Result<(), Fail> {
-    let tokens = lex(rt.alloc(), b"a// \xc3\nb/* \xff\n*/c//")?;
-    assert_eq!(rt; tokens.len(), 3);
-    assert_eq!(rt; tokens[1].spot, spot(2, 1));
-    assert_eq!(rt; tokens[2].bytes, b"c".as_slice());
-    assert_eq!(rt; tokens[2].start, 14);
-    assert_eq!(rt; tokens[2].spot, spot(3, 3));
-    Ok(())
-}
-
-#[test]
-fn comments_without_an_end(rt: HostRuntime) {
-    let alloc = rt.alloc();
-    assert_eq!(rt; open_comment(alloc, b"module c; /* x"), Some(spot(1, 11)));
-    assert_eq!(rt; open_comment(alloc, b"/*/"), Some(spot(1, 1)));
-    assert_eq!(rt; open_comment(alloc, b"a\n/* \xff % \""), Some(spot(2, 1)));
-    assert_eq!(rt; bad_byte(alloc, b"/* /* */ */"), Some(spot(1, 10)));
-}
-
-#[test]
-fn string_literals(rt: HostRuntime) -> Result<(), Fail> {
-    let tokens = lex(rt.alloc(), b"type \"/* \xc3\xa9\\\";")?;
-    assert_eq!(rt; tokens.len(), 3);
-    assert_eq!(rt; tokens[1].kind, TokenKind::StringLiteral);
-    assert_eq!(rt; tokens[1].bytes, b"\"/* \xc3\xa9\\\"".as_slice());
-    assert_eq!(rt; tokens[2].spot, spot(1, 14));
-    Ok(())
-}
-
-#[test]
-fn strings_without_an_end(rt: HostRuntime) {
-    let alloc = rt.alloc();
-    assert_eq!(rt;
-        open_string(alloc, b"module c; type <t> \"a"),
-        Some(spot(1, 20))
-    );
-    assert_eq!(rt; open_string(alloc, b" \"a\nb\""), Some(spot(1, 2)));
-    assert_eq!(rt; open_string(alloc, b"\"\xff"), Some(spot(1, 1)));
-}
-
-#[test]
 fn strings_of_wrong_bytes(rt: HostRuntime) {
     let alloc = rt.alloc();
     assert_eq!(rt; bad_byte(alloc, b"\"a\xff\""), Some(spot(1, 3)));
@@ -182,16 +92,6 @@ fn longest_text(rt: HostRuntime) -> Result<(), Fail> {
     assert!(rt; matches!(lex(rt.alloc(), &too_long), Err(LexFault::TextTooLong)));
     let fits = vec![in rt.alloc(); b' '; MAX_TEXT_BYTES]?;
     assert_eq!(rt; lex(rt.alloc(), &fits)?.len(), 0);
-    Ok(())
-}
-
-#[test]
-fn places_over_lines(rt: HostRuntime) -> Result<(), Fail> {
-    let tokens = lex(rt.alloc(), b"a\r\n b")?;
-    assert_eq!(rt; tokens.len(), 2);
-    assert_eq!(rt; tokens[1].bytes, b"b".as_slice());
-    assert_eq!(rt; tokens[1].start, 4);
-    assert_eq!(rt; tokens[1].spot, spot(2, 2));
     Ok(())
 }
 

@@ -1,5 +1,5 @@
 -- From the declared protocols to what they mean, and to their versions.
-use Rattle.std.proofs.Common.{◌≡◌, ℕ, ◌<◌, List, ◌∷◌, [], ◌++◌, length, get_or, map, Err, ◌⊎◌, inl, inr, refl, sym, ap, ◌∙◌, subst}
+use Rattle.std.proofs.Common.{◌≡◌, ℕ, List, ◌∷◌, [], ◌++◌, Err, inl, inr, sym, ap, ◌∙◌, subst}
 use Rattle.std.specs.List.{Contains}
 use Rattle.std.proofs.lemmas.List.{map-append}
 use Rattle.std.proofs.lemmas.List.Elements.{Contains-push_cases}
@@ -8,7 +8,6 @@ use Rattle.scrib_grammar.specs.declared.tree.ModuleTree.{ModuleTree}
 use Rattle.scrib_expand.specs.declared.elaborated.Elaborated.{Elaborated}
 use Rattle.scrib_expand.specs.declared.fault.ElaborateFault.{ElaborateFault}
 use Rattle.scrib_expand.specs.declared.fault.ElaborateFault.TheVariants as elaborate
-use Rattle.scrib_expand.specs.Names.{Declaration, declarations}
 use Rattle.scrib_expand.specs.Elaboration.{Elaborates}
 use Rattle.scrib_expand.specs.Faults.{FailsAt, IsBroken}
 use Rattle.scrib_expand.specs.Meaning.{meaning_of}
@@ -24,7 +23,7 @@ use Rattle.scrib_library.specs.declared.fault.EditFault.TheVariants as edit
 use Rattle.scrib_library.specs.Made.{edit_fault_of_elaborate, edit_fault_of_project}
 use Rattle.scrib_library.specs.Modules.{Means, AreMeant, name_of}
 use Rattle.scrib_library.specs.Listed.{AreDeclaredNames}
-use Rattle.scrib_library.specs.Entries.{entry_names, IsEntryOf, AreEntries}
+use Rattle.scrib_library.specs.Entries.{entry_names, AreEntries}
 use Rattle.scrib_library.specs.Stored.{version_names, AreVersions}
 use Rattle.scrib_library.specs.Elaborated.{elaborated_names, AreElaborated, AreVersionsOf, IsUnprojected, IsRefusal}
 use Rattle.scrib_library.proofs.Lists.{Contains-map_back}

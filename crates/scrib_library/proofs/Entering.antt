@@ -1,14 +1,13 @@
 -- The declared protocols, put in their places one after another.
-use Rattle.std.proofs.Common.{◌≡◌, ℕ, ◌+◌, ◌<◌, List, [], ◌∷◌, ◌++◌, length, get_or, take, map, ◌⊎◌, inl, inr, refl, sym, ap, ◌∙◌, subst, arith}
+use Rattle.std.proofs.Common.{◌≡◌, ℕ, ◌+◌, ◌<◌, List, [], ◌∷◌, ◌++◌, length, get_or, take, ◌⊎◌, inl, inr, sym, ap, ◌∙◌, subst, arith}
 use Rattle.std.specs.List.{Contains, insert}
 use Rattle.std.proofs.lemmas.List.{take_more}
 use Rattle.std.proofs.lemmas.List.Elements.{Contains-push, Contains-push_cases, Contains-append_left}
 use Rattle.scrib_grammar.specs.declared.tree.ModuleTree.{ModuleTree}
 use Rattle.scrib_grammar.specs.declared.tree.ProtocolDeclaration.{ProtocolDeclaration}
-use Rattle.scrib_expand.specs.Names.{Declaration, declarations}
 use Rattle.scrib_library.specs.declared.declared.Entry.{Entry}
 use Rattle.scrib_library.specs.Modules.{full_name, name_of}
-use Rattle.scrib_library.specs.Listed.{AreInOrder, IsAt, IsGap, AreDeclaredNames}
+use Rattle.scrib_library.specs.Listed.{AreInOrder, IsAt, IsGap}
 use Rattle.scrib_library.specs.Entries.{entry_names, IsEntryOf, AreEntries, AreEntered}
 use Rattle.scrib_library.proofs.Lists.{Contains-nil}
 use Rattle.scrib_library.proofs.Places.{declared-back, declared-there}

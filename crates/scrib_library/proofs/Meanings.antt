@@ -1,8 +1,7 @@
 -- What names mean, in modules and in the versions that are stored of them.
-use Rattle.std.proofs.Common.{◌≡◌, ◌≢◌, ℕ, ◌<◌, Bool, true, ◌&&◌, List, [], ◌∷◌, ◌++◌, length, get_or, map, Option, Some, None, refl, sym, ap, ◌∙◌, subst, arith}
-use Rattle.std.specs.List.{Contains, AllPairs}
+use Rattle.std.proofs.Common.{◌≡◌, ℕ, ◌<◌, true, List, length, get_or, Option, Some, None, refl, sym, ap, ◌∙◌, subst, arith}
+use Rattle.std.specs.List.{Contains}
 use Rattle.std.specs.Str.{bytes_eq}
-use Rattle.std.specs.Option.{option_map}
 use Rattle.std.proofs.lemmas.Bool.{and_parts}
 use Rattle.std.proofs.lemmas.List.{same_from_push, length-map, get_or-map}
 use Rattle.std.proofs.lemmas.Slice.Eq.{bytes_eq-Decides}
@@ -19,10 +18,10 @@ use Rattle.scrib_library.specs.declared.versions.NamedVersion.{NamedVersion}
 use Rattle.scrib_library.specs.declared.changes.ChangeKind.{ChangeKind}
 use Rattle.scrib_library.specs.declared.changes.ChangeKind.TheVariants.{Added, Replaced, Withdrawn}
 use Rattle.scrib_library.specs.declared.changes.Change.{Change}
-use Rattle.scrib_library.specs.Modules.{full_name, name_of, Means, IsMeaning, DeclaredMeans, AreMeant, AreWellFormed, AreImportsThere}
+use Rattle.scrib_library.specs.Modules.{full_name, name_of, Means, IsMeaning, DeclaredMeans, AreWellFormed, AreImportsThere}
 use Rattle.scrib_library.specs.Listed.{name_cmp}
-use Rattle.scrib_library.specs.Edits.{Changes, NamedBefore, IsChanges}
-use Rattle.scrib_library.specs.Stored.{version_names, HasMeaning, IsVersion, AreVersions, AreNames, IsSpelled}
+use Rattle.scrib_library.specs.Edits.{Changes, IsChanges}
+use Rattle.scrib_library.specs.Stored.{HasMeaning, IsVersion, AreVersions, AreNames, IsSpelled}
 use Rattle.scrib_library.specs.Differences.{change_names, Differs, AreDifferences}
 use Rattle.scrib_library.proofs.Lists.{Contains-map_back}
 use Rattle.scrib_library.proofs.Orders.{get_or_any}

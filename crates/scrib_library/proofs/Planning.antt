@@ -1,5 +1,5 @@
 -- What a put does to the library.
-use Rattle.std.proofs.Common.{◌≡◌, ℕ, ◌<◌, List, [], length, get_or, None, ◌⊎◌, inl, inr, refl, sym, ap, ◌∙◌, subst}
+use Rattle.std.proofs.Common.{◌≡◌, ℕ, List, get_or, None, inl, inr, refl, sym, ◌∙◌, subst}
 use Rattle.std.specs.List.{Contains}
 use Rattle.scrib_grammar.specs.declared.tree.ModuleTree.{ModuleTree}
 use Rattle.scrib_expand.specs.Names.{with_module}
@@ -10,7 +10,7 @@ use Rattle.scrib_library.specs.declared.plan.Plan.{Plan}
 use Rattle.scrib_library.specs.declared.fault.EditFault.{EditFault}
 use Rattle.scrib_library.specs.Modules.{AreImportsThere, missing_import}
 use Rattle.scrib_library.specs.Edits.{Reads, ModuleFails, PutFails, IsPut, IsChanges}
-use Rattle.scrib_library.specs.Stored.{AreVersions, IsSpelled, IsLibrary}
+use Rattle.scrib_library.specs.Stored.{IsSpelled, IsLibrary}
 use Rattle.scrib_library.specs.Plans.{IsPlan}
 use Rattle.scrib_library.proofs.Places.{with_module-cases, imports_kept}
 use Rattle.scrib_library.proofs.Meanings.{well_formed, changed}

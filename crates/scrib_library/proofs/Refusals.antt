@@ -1,5 +1,5 @@
 -- Why a put is refused.
-use Rattle.std.proofs.Common.{◌≡◌, ℕ, ◌<◌, ◌≤◌, List, length, sym, subst}
+use Rattle.std.proofs.Common.{◌≡◌, ℕ, List, subst}
 use Rattle.scrib_lexer.specs.declared.fault.LexFault.{LexFault}
 use Rattle.scrib_lexer.specs.declared.fault.LexFault.TheVariants as lex
 use Rattle.scrib_lexer.specs.Lexeme.{Lexeme}
@@ -18,7 +18,7 @@ use Rattle.scrib_library.specs.Elaborated.{IsRefusal}
 
 -- why the text has no tokens is why it is refused
 pub lex_refused : (text : List ℕ) (f : LexFault) → tokens.FailsAt text f → (before : List ModuleTree) → PutFails before text (edit_fault_of_lex f)
-lex_refused text lex.OutOfMemory h before = tt
+lex_refused text lex.OutOfMemory h before = h
 lex_refused text lex.TextTooLong h before = h
 lex_refused text (lex.BadByte at) h before = h
 lex_refused text (lex.OpenComment at) h before = h
@@ -26,7 +26,7 @@ lex_refused text (lex.OpenString at) h before = h
 lex_refused text (lex.LongName at) h before = h
 
 pub parse_refused : (text : List ℕ) (ts : List Lexeme) (f : ParseFault) → IsTokens text ts → IsFaultOf ts f → (before : List ModuleTree) → PutFails before text (edit_fault_of_parse f)
-parse_refused text ts parse.OutOfMemory t h before = tt
+parse_refused text ts parse.OutOfMemory t h before = t.0
 parse_refused text ts parse.EndOfText t h before = (ts, t, h)
 parse_refused text ts (parse.Unexpected at) t h before = (ts, t, h)
 parse_refused text ts (parse.LeftOut word at) t h before = (ts, t, h)
@@ -53,6 +53,6 @@ put_refused before text m after f read same h = told f (subst (λ l. ModuleFails
     told edit.TooManyProtocols k = (m, read, k)
     told (edit.Elaborate g) k = (m, read, k)
     told (edit.Project u) k = (m, read, k)
-    told edit.OutOfMemory k = tt
+    told edit.OutOfMemory k = read.1.0
     told (edit.Lex g) k = absurd k
     told (edit.Parse g) k = absurd k

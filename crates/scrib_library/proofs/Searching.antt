@@ -1,5 +1,5 @@
 -- A binary search by full name, and what is put in its place.
-use Rattle.std.proofs.Common.{◌≡◌, ◌≢◌, ℕ, ◌+◌, ◌-◌, ◌<◌, ◌≤◌, Bool, true, false, List, [], ◌∷◌, ◌++◌, length, get_or, take, drop, map, Result, Ok, Err, IfOk, IfErr, ◌⊎◌, inl, inr, refl, sym, ap, ◌∙◌, subst, arith}
+use Rattle.std.proofs.Common.{◌≡◌, ℕ, ◌+◌, ◌-◌, ◌<◌, ◌≤◌, false, List, [], ◌∷◌, ◌++◌, length, get_or, take, drop, map, Result, Ok, Err, IfOk, IfErr, ◌⊎◌, inl, inr, refl, sym, ap, ◌∙◌, subst, arith}
 use Rattle.std.specs.List.{Contains, AllPairs, insert}
 use Rattle.std.specs.List.Sorted.{IsSortedBy, IsSearchInRange, IsBinarySearchResult}
 use Rattle.std.specs.Ordering.{is_lt, ordering_reverse}
@@ -11,7 +11,7 @@ use Rattle.std.proofs.lemmas.List.Edits.{length-insert, get_or-insert_below, get
 use Rattle.std.proofs.lemmas.List.Elements.{Contains-append_left, Contains-append_right, Contains-append_cases}
 use Rattle.std.proofs.lemmas.List.Sorted.{searchable_from_sorted}
 use Rattle.scrib_library.specs.Listed.{name_cmp, AreInOrder, IsAt, IsGap}
-use Rattle.scrib_library.proofs.Lists.{Contains-nil, Contains-head_at, Contains-tail, Contains-cases, Contains-map_back}
+use Rattle.scrib_library.proofs.Lists.{Contains-head_at, Contains-tail, Contains-cases}
 use Rattle.scrib_library.proofs.Orders.{name_cmp_total, name_exact, not_before}
 
 module _ {X : Type 0} where

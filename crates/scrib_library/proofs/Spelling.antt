@@ -1,5 +1,5 @@
 -- What is read is spelled by names.
-use Rattle.std.proofs.Common.{◌≡◌, ℕ, List, [], ◌∷◌, ◌++◌, Option, Some, None, ◌⊎◌, inl, inr, refl, sym, ap, ◌∙◌, subst}
+use Rattle.std.proofs.Common.{ℕ, List, [], ◌∷◌, Option, Some, None, inl, inr, subst}
 use Rattle.std.specs.List.{Contains}
 use Rattle.std.specs.Bool.{IsTrue}
 use Rattle.scrib_types.specs.Names.{is_name}

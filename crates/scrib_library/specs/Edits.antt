@@ -9,7 +9,7 @@ use Rattle.scrib_lexer.specs.declared.fault.LexFault.{LexFault}
 use Rattle.scrib_lexer.specs.declared.fault.LexFault.TheVariants as lex
 use Rattle.scrib_lexer.specs.Lexeme.{Lexeme}
 use Rattle.scrib_lexer.specs.Tokens as tokens
-use Rattle.scrib_lexer.specs.Tokens.{IsTokens}
+use Rattle.scrib_lexer.specs.Tokens.{max_text_bytes, IsTokens}
 use Rattle.scrib_grammar.specs.declared.fault.ParseFault.{ParseFault}
 use Rattle.scrib_grammar.specs.declared.fault.ParseFault.TheVariants as parse
 use Rattle.scrib_grammar.specs.declared.tree.ModuleTree.{ModuleTree}
@@ -100,7 +100,8 @@ ModuleFails m after edit.OutOfMemory = Unit {0}
 ModuleFails m after (edit.Lex f) = ⊥
 ModuleFails m after (edit.Parse f) = ⊥
 
--- the put is refused for this, and for nothing that comes before it in this list
+-- The put is refused for this, and for nothing that comes before it in this list. Memory may lack for any text that
+-- isn't too long.
 abbrev pub PutFails : List ModuleTree → List ℕ → EditFault → Type 0
 PutFails before text (edit.Lex f) = TellsLex text f
 PutFails before text (edit.Parse f) = (ts : List Lexeme) × IsTokens text ts × TellsParse ts f
@@ -114,4 +115,4 @@ PutFails before text (edit.Elaborate f) =
     (m : ModuleTree) × Reads text m × ModuleFails m (with_module m before) (edit.Elaborate f)
 PutFails before text (edit.Project u) =
     (m : ModuleTree) × Reads text m × ModuleFails m (with_module m before) (edit.Project u)
-PutFails before text edit.OutOfMemory = Unit {0}
+PutFails before text edit.OutOfMemory = length text ≤ max_text_bytes

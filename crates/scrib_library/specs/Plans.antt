@@ -1,6 +1,6 @@
 -- What a put will do.
 -- Only contracts of private functions cite this file.
-use Rattle.std.specs.Prelude.{◌≡◌, ℕ, List, slice_index_or}
+use Rattle.std.specs.Prelude.{◌≡◌, List}
 use Rattle.scrib_grammar.specs.declared.tree.ModuleTree.{ModuleTree}
 use Rattle.scrib_library.specs.declared.plan.Plan.{Plan}
 use Rattle.scrib_library.specs.declared.versions.NamedVersion.{NamedVersion}

@@ -1,4 +1,5 @@
 -- Branches merged one after the other.
+-- Only contracts of private functions cite this file.
 use Rattle.std.specs.Prelude.{Bool, false, not, Option, Some, None, is_some, option_and_then, if◌then◌else◌}
 use Rattle.scrib_types.specs.Trees.{LocalTree, LocalBranches}
 use Rattle.scrib_types.specs.LocalView.{local_of}

@@ -53,36 +53,6 @@ fn tells_what_is_in_flight(rt: HostRuntime) -> Result<(), Fail> {
     Ok(())
 }
 
-// Each script puts the demonstration's module and opens conversation 1, and goes on with these lines.
-#[test]
-fn refuses_in_one_line(rt: HostRuntime) -> Result<(), Fail> {
-    let rows = [
-        (
-            "join 1 A\njoin 1 B\nrecv 1 A B hello()\n",
-            1,
-            "refused NotPermitted 3\n",
-        ),
-        ("join 1 A\n", 9, "refused NoConversation\n"),
-        // the module stays, and has no protocol now
-        (
-            "join 1 A\nput\nmodule demo;\n%%\n",
-            1,
-            "refused UnknownProtocol\n",
-        ),
-        // nothing is told of these
-        ("jion 1 A\nput\nmodule m;\n", 2, "refused NoConversation\n"),
-    ];
-    for (lines, id, want) in rows {
-        let script = format!(in rt.alloc();
-            "put\nmodule demo; global protocol Hello(role A, role B) {{ hello() from A to B; bye() from B to A; }}\n%%\nopen 1 demo.Hello\n{lines}"
-        )?;
-        let (result, output) = outcome(rt.alloc(), script.as_bytes(), id, 8192, 0, 0);
-        assert_eq!(rt; result?, Explained::Refused, "after {lines}");
-        assert_eq!(rt; output.as_slice(), want.as_bytes(), "after {lines}");
-    }
-    Ok(())
-}
-
 #[test]
 fn writes_nothing_after_a_failing_read(rt: HostRuntime) -> Result<(), Fail> {
     for size in [1usize, 7] {

@@ -1,6 +1,4 @@
-use Rattle.std.proofs.Common.{◌≡◌, ℕ, ◌+◌, List, refl, sym, ap, ◌∙◌, subst, take}
-use Rattle.std.specs.List.{insert}
-use Rattle.scrib_grammar.specs.declared.tree.ProtocolDeclaration.{ProtocolDeclaration}
+use Rattle.std.proofs.Common.{◌+◌, List, refl, sym, ap, ◌∙◌, subst, take}
 use Rattle.scrib_library.specs.declared.declared.Entry.{Entry}
 use Rattle.scrib_library.specs.Listed.{IsAt, IsGap}
 use Rattle.scrib_library.specs.Entries.{entry_names, AreEntered}

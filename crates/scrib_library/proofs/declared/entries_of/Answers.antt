@@ -1,6 +1,4 @@
-use Rattle.std.proofs.Common.{◌≡◌, List, subst}
-use Rattle.scrib_grammar.specs.declared.tree.ProtocolDeclaration.{ProtocolDeclaration}
-use Rattle.scrib_library.proofs.Entering.{entries_none, entries_more}
+use Rattle.scrib_library.proofs.Entering.{entries_more}
 use Rattle.scrib_library.proofs.declared.entries_of.Goals as goal
 
 pub loop-tree-preserved : goal.loop-tree-preserved

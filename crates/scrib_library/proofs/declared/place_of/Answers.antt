@@ -3,8 +3,6 @@ use Rattle.std.proofs.lemmas.Fn.{always_returns_same}
 use Rattle.scrib_library.specs.declared.declared.Entry.{Entry}
 use Rattle.scrib_library.specs.Listed.{name_cmp}
 use Rattle.scrib_library.proofs.Searching.{searched}
-use Rattle.scrib_library.proofs.Meanings.{changed}
-use Rattle.scrib_library.proofs.Noting.{all_noted}
 use Rattle.scrib_library.proofs.declared.place_of.Goals as goal
 
 pub returns : goal.returns

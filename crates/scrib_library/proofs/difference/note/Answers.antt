@@ -1,9 +1,8 @@
-use Rattle.std.proofs.Common.{◌≡◌, ℕ, List, sym, refl, ap, ◌∙◌, subst}
+use Rattle.std.proofs.Common.{◌≡◌, ℕ, List, sym, ap, ◌∙◌, subst}
 use Rattle.std.specs.List.{insert}
 use Rattle.std.specs.Option.{option_map}
 use Rattle.scrib_record.specs.Versions.{meaning_of}
 use Rattle.scrib_library.specs.declared.changes.Change.{Change}
-use Rattle.scrib_library.specs.declared.difference.Difference.{Difference}
 use Rattle.scrib_library.specs.Listed.{AreInOrder, IsAt, IsGap}
 use Rattle.scrib_library.specs.Differences.{shown, difference_names, change_names, IsNext}
 use Rattle.scrib_library.proofs.Noting.{change_at, kind_none, kind_some, next_same, next_found, next_inserted, names_shown, shown-insert}

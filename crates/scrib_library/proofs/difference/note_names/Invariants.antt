@@ -1,4 +1,4 @@
-use Rattle.std.proofs.Common.{◌≡◌, take}
+use Rattle.std.proofs.Common.{take}
 use Rattle.scrib_library.specs.Differences.{shown, HaveBeenNoted}
 use Rattle.scrib_library.proofs.difference.note_names.Given as goal
 

@@ -1,7 +1,5 @@
-use Rattle.std.proofs.Common.{◌≡◌, ◌+◌, length, [], sym, ap, ◌∙◌, arith, refl}
-use Rattle.std.specs.Ordering.{ordering_then}
-use Rattle.scrib_library.specs.Listed.{name_cmp}
-use Rattle.scrib_library.proofs.Orders.{cmp_step, cmp_longer, cmp_shorter, cmp_alike, decided}
+use Rattle.std.proofs.Common.{[], arith}
+use Rattle.scrib_library.proofs.Orders.{cmp_longer, cmp_shorter}
 use Rattle.scrib_library.proofs.names.compare_all.Goals as goal
 
 pub returns-then-i-b : goal.returns-then-i-b

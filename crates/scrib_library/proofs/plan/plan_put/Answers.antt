@@ -1,11 +1,7 @@
-use Rattle.std.proofs.Common.{List, subst, ap, sym}
+use Rattle.std.proofs.Common.{List, subst}
 use Rattle.std.proofs.lemmas.Result.{err_from_is_err_and}
 use Rattle.scrib_grammar.specs.declared.tree.ModuleTree.{ModuleTree}
-use Rattle.scrib_library.specs.declared.versions.NamedVersion.{NamedVersion}
-use Rattle.scrib_library.specs.Edits.{HasRoom, ModuleFails}
-use Rattle.scrib_library.specs.Differences.{AreDifferences}
-use Rattle.scrib_library.proofs.Refusals.{refused}
-use Rattle.scrib_library.proofs.Planning.{put_then}
+use Rattle.scrib_library.specs.Edits.{ModuleFails}
 use Rattle.scrib_library.proofs.plan.plan_put.Goals as goal
 
 pub returns-in_err-check_room-clause-fault : goal.returns-in_err-check_room-clause-fault

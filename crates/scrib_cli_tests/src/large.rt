@@ -1,0 +1,156 @@
+//! Scripts that are too large to be written down, and the lines that they give.
+
+use crate::demonstration::DEMO;
+use scrib_cli::run_script::run_script;
+use std::alloc::Global;
+use std::process::Abort;
+use std::test::Fail;
+
+// What a script writes.
+fn output_of(rt: &impl Abort, alloc: Global, script: &[u8]) -> Result<Vec<u8>, Fail> {
+    let mut reader = script;
+    let mut written = Vec::new(alloc);
+    assert!(rt; run_script(alloc, &mut reader, &mut written).is_ok());
+    Ok(written)
+}
+
+// The demonstration module, then so many conversations on it.
+fn opens(alloc: Global, conversations: u32) -> Result<String, Fail> {
+    let mut script = format!(in alloc; "put\n{DEMO}\n%%\n")?;
+    for id in 0..conversations {
+        let line = format!(in alloc; "open {id} demo.Hello\n")?;
+        script.push_str(line.as_str())?;
+    }
+    Ok(script)
+}
+
+// What so many conversations are told.
+fn opened(alloc: Global, conversations: u32) -> Result<String, Fail> {
+    let mut lines = String::from_str(alloc, "put demo: +demo.Hello\n")?;
+    for id in 0..conversations {
+        let line = format!(in alloc; "open {id}: demo.Hello\n")?;
+        lines.push_str(line.as_str())?;
+    }
+    Ok(lines)
+}
+
+#[test]
+fn one_conversation_too_many(rt: HostRuntime) -> Result<(), Fail> {
+    let mut script = opens(rt.alloc(), 65_536)?;
+    script.push_str("open 65536 demo.Hello\nopen 0 demo.Hello\n")?;
+    let mut want = opened(rt.alloc(), 65_536)?;
+    want.push_str("refused TooManyConversations\nrefused AlreadyOpen\n")?;
+    let written = output_of(&rt, rt.alloc(), script.as_bytes())?;
+    assert!(rt; written.as_slice() == want.as_bytes());
+    Ok(())
+}
+
+// `module b;`, and on line i+2 a protocol Pi that calls the one before it twice; the first has this body.
+fn chain(alloc: Global, first: &str) -> Result<String, Fail> {
+    let mut script = format!(in alloc;
+        "put\nmodule b;\nglobal protocol P0(role A, role B) {{ {first} }}\n"
+    )?;
+    for i in 0..200u32 {
+        let next = i + 1;
+        let line = format!(in alloc;
+            "global protocol P{next}(role A, role B) {{ do P{i}(A, B); do P{i}(A, B); }}\n"
+        )?;
+        script.push_str(line.as_str())?;
+    }
+    script.push_str("%%\n")?;
+    Ok(script)
+}
+
+#[test]
+fn chains_of_calls(rt: HostRuntime) -> Result<(), Fail> {
+    let script = chain(rt.alloc(), "a() from A to B;")?;
+    let written = output_of(&rt, rt.alloc(), script.as_bytes())?;
+    assert_eq!(rt;
+        written.as_slice(),
+        b"refused TooLarge b 102:1\n".as_slice()
+    );
+    let script = chain(rt.alloc(), "")?;
+    let written = output_of(&rt, rt.alloc(), script.as_bytes())?;
+    assert!(rt; written.starts_with(b"put b: +b.P0 +b.P1 +b.P10 +b.P100 +b.P101 "));
+    assert!(rt; written.ends_with(b" +b.P98 +b.P99\n"));
+    let names = written.iter().filter(|byte| **byte == b'+').count();
+    assert_eq!(rt; names, 201);
+    Ok(())
+}
+
+// The module `n` of so many recursions, one in the other, each on a line of its own.
+fn nested(alloc: Global, levels: u32) -> Result<String, Fail> {
+    let mut script = String::from_str(
+        alloc,
+        "put\nmodule n; global protocol N(role A, role B) {\n",
+    )?;
+    for _ in 0..levels {
+        script.push_str("rec X {\n")?;
+    }
+    script.push_str("a() from A to B;\n")?;
+    for _ in 0..levels {
+        script.push_str("}")?;
+    }
+    script.push_str("}\n%%\n")?;
+    Ok(script)
+}
+
+#[test]
+fn nested_recursions(rt: HostRuntime) -> Result<(), Fail> {
+    for (levels, want) in [(63u32, "put n: +n.N\n"), (64u32, "refused TooDeep 65:7\n")] {
+        let script = nested(rt.alloc(), levels)?;
+        let written = output_of(&rt, rt.alloc(), script.as_bytes())?;
+        assert_eq!(rt; written.as_slice(), want.as_bytes());
+    }
+    Ok(())
+}
+
+// One message after so many choices that add nothing.
+fn silent(alloc: Global, choices: u32) -> Result<String, Fail> {
+    let mut script = String::from_str(
+        alloc,
+        "put\nmodule s; global protocol S(role A, role B) {\n",
+    )?;
+    for _ in 0..choices {
+        script.push_str("choice at A { }\n")?;
+    }
+    script.push_str("a() from A to B; }\n%%\n")?;
+    Ok(script)
+}
+
+#[test]
+fn many_choices_that_add_nothing(rt: HostRuntime) -> Result<(), Fail> {
+    let script = silent(rt.alloc(), 60_000)?;
+    let written = output_of(&rt, rt.alloc(), script.as_bytes())?;
+    assert_eq!(rt; written.as_slice(), b"put s: +s.S\n".as_slice());
+    Ok(())
+}
+
+// A put of a module that has so many bytes with spaces after it, and a line that asks.
+fn long_text(alloc: Global, bytes: usize) -> Result<Vec<u8>, Fail> {
+    let mut script = Vec::from_slice(alloc, b"put\nmodule m;".as_slice())?;
+    for _ in 9..bytes {
+        script.push(b' ')?;
+    }
+    script.extend_from_slice(b"\n%%\nask 9\n")?;
+    Ok(script)
+}
+
+// The text has the line feed before `%%` too.
+#[test]
+fn longest_texts(rt: HostRuntime) -> Result<(), Fail> {
+    let rows = [
+        (1_048_575, "put m: no change\nrefused NoConversation\n"),
+        (1_048_576, "refused TextTooLong\nrefused NoConversation\n"),
+    ];
+    for (bytes, want) in rows {
+        let script = long_text(rt.alloc(), bytes)?;
+        let written = output_of(&rt, rt.alloc(), &script)?;
+        assert_eq!(rt;
+            written.as_slice(),
+            want.as_bytes(),
+            "of {bytes} bytes and a line feed"
+        );
+    }
+    Ok(())
+}

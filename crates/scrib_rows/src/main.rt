@@ -1,0 +1,101 @@
+//! Runs worked examples. Each has a title line that begins with `== `, a line with a command of `scribmon` and
+//! its words (`watch`, `explain 1`, `project demo.Hello A`), and the script or the module text of the command. The
+//! output is each title with what the command writes.
+#![tactic(auto)]
+
+use scrib_cli::explain_script::explain_script;
+use scrib_cli::id::id_of;
+use scrib_cli::project::project_text;
+use scrib_cli::run_script::{ScriptFault, run_script};
+use scrib_types::plain::Items;
+use std::alloc::Global;
+use std::io;
+use std::io::{BufWriter, Write};
+use std::process::ExitCode;
+
+// Why the examples end early.
+#[derive(Drop)]
+enum RowsFault {
+    // An example without a command that is known.
+    NoCommand,
+    // A command failed.
+    Script,
+    // Memory, the reader or the writer failed.
+    Io,
+}
+
+impl From<ScriptFault> for RowsFault {
+    fn from(_e: ScriptFault) -> RowsFault {
+        RowsFault::Script
+    }
+}
+
+impl From<io::Error> for RowsFault {
+    fn from(_e: io::Error) -> RowsFault {
+        RowsFault::Io
+    }
+}
+
+fn project_one<W: Write>(
+    alloc: Global,
+    protocol: &str,
+    role: &str,
+    text: &str,
+    writer: &mut W,
+) -> Result<(), RowsFault> {
+    let text = Items::from_slice(alloc, text.as_bytes()).map_err(|_| RowsFault::Io)?;
+    let texts = [Some(text)];
+    project_text(alloc, protocol, role, &texts, writer)?;
+    Ok(())
+}
+
+// Runs the command over what follows its line.
+fn obey<W: Write>(
+    alloc: Global,
+    command: &str,
+    body: &str,
+    writer: &mut W,
+) -> Result<(), RowsFault> {
+    let mut words = command.split_whitespace();
+    let mut reader = body.as_bytes();
+    match (words.next(), words.next(), words.next()) {
+        (Some("watch"), None, None) => run_script(alloc, &mut reader, writer)?,
+        (Some("explain"), Some(id), None) => {
+            let id = id_of(id).ok_or(RowsFault::NoCommand)?;
+            explain_script(alloc, &mut reader, id, writer)?;
+        }
+        (Some("project"), Some(protocol), Some(role)) => {
+            project_one(alloc, protocol, role, body, writer)?
+        }
+        _ => return Err(RowsFault::NoCommand),
+    }
+    Ok(())
+}
+
+// Runs one example, from its title on.
+fn tell<W: Write>(alloc: Global, example: &str, writer: &mut W) -> Result<(), RowsFault> {
+    let (title, rest) = example.split_once('\n').ok_or(RowsFault::NoCommand)?;
+    let (command, body) = rest.split_once('\n').ok_or(RowsFault::NoCommand)?;
+    writer.write_all(b"== ")?;
+    writer.write_all(title.as_bytes())?;
+    writer.write_all(b"\n")?;
+    obey(alloc, command, body, writer)
+}
+
+fn run(rt: &(impl Print + Input + AllocGlobal)) -> Result<(), RowsFault> {
+    let alloc = rt.alloc();
+    let text = io::read_to_string(alloc, rt.reader())?;
+    let mut writer = BufWriter::new(alloc, io::writer(rt)).map_err(|_| RowsFault::Io)?;
+    for example in text.as_str().split("== ").skip(1) {
+        tell(alloc, example, &mut writer)?;
+    }
+    writer.flush()?;
+    Ok(())
+}
+
+fn main(rt: HostRuntime) -> ExitCode {
+    match run(&rt) {
+        Ok(()) => ExitCode::SUCCESS,
+        Err(_) => ExitCode::from(1),
+    }
+}
