@@ -10,6 +10,7 @@ mod Kept
 mod Typed
 pub mod Passing
 pub mod Shaped
+mod Settled
 mod Skipped
 mod Counted
 pub mod Distinct
