@@ -24,6 +24,7 @@ mod Capped
 mod Grown
 mod Somewhere
 mod Putting
+mod Zipped
 mod Steps
 mod Joined
 mod Finished
