@@ -7,6 +7,7 @@ use scrib_expand::modules::Modules;
 use scrib_grammar::parse::parse;
 use scrib_lexer::lex::lex;
 use scrib_local::text::text;
+use scrib_project::fault::ProjectFault;
 use scrib_project::project::project;
 use scrib_types::name::{Dotted, Name};
 use scrib_types::text::push_dotted;
@@ -249,6 +250,51 @@ fn calls_give_roles_by_position(rt: HostRuntime) -> Result<(), Fail> {
     let line = told(rt.alloc(), &[library, user], "t", "T")?;
     let want = "4\nB?a().B!q().B!c().end\nA!a().A?q().A?c().end";
     assert_eq!(rt; line.as_slice(), want.as_bytes());
+    Ok(())
+}
+
+// The module and the place of the choice without a projection on C, in the protocol `t.T` of these texts.
+fn unmergeable(alloc: Global, texts: &[&str]) -> Result<Vec<u8>, Fail> {
+    let modules = modules(alloc, texts)?;
+    let mut names = Vec::new(alloc);
+    names.push(name(alloc, "t")?)?;
+    let protocol = name(alloc, "T")?;
+    let Ok(elaborated) = elaborate(alloc, &modules, &Dotted::from_vec(names), &protocol) else {
+        return Err(Fail::new("the protocol means nothing"));
+    };
+    let Err(ProjectFault::Unmergeable(fault)) = project(alloc, &elaborated, &name(alloc, "C")?) else {
+        return Err(Fail::new("the protocol projects on C"));
+    };
+    let mut line = Vec::new(alloc);
+    push_dotted(&mut line, &fault.module)?;
+    let spot = format!(in alloc; " {}:{}", fault.spot.line, fault.spot.column)?;
+    line.extend_from_slice(spot.as_bytes())?;
+    Ok(line)
+}
+
+// A join stands at the outermost choice that it comes from, where calls stand for the bodies that they name.
+#[test]
+fn places_of_joins(rt: HostRuntime) -> Result<(), Fail> {
+    let library =
+        "module lib; global protocol Q(role X) {\nchoice at X { }\nchoice at X { } } global protocol R(role Y) { do Q(Y); }";
+    let rows = [
+        ("", "t 3:1"),
+        ("choice at A { }", "t 2:1"),
+        // the first choice of the called protocol
+        ("do L.Q(A);", "lib 2:1"),
+        // that of one that the called protocol calls
+        ("do L.R(A);", "lib 2:1"),
+        ("choice at A { } do L.Q(A);", "t 2:1"),
+        ("do L.Q(A); choice at A { }", "lib 2:1"),
+        ("do U(A); do L.Q(A);", "t 5:1"),
+    ];
+    for (before, want) in rows {
+        let user = format!(in rt.alloc();
+            "module t; import lib as L; global protocol T(role A, role B, role C) {{\n{before}\nchoice at A {{ a() from A to B; c() from A to C; }} or {{ b() from A to B; d() from A to C; }} }}\nglobal protocol U(role Z) {{\nchoice at Z {{ do L.Q(Z); }} }}"
+        )?;
+        let line = unmergeable(rt.alloc(), &[library, user.as_str()])?;
+        assert_eq!(rt; line.as_slice(), want.as_bytes(), "{before}");
+    }
     Ok(())
 }
 
