@@ -1,9 +1,10 @@
 -- The steps of the third pass at a choice.
-use Rattle.std.proofs.Common.{◌≡◌, ◌≢◌, ◌⊎◌, ℕ, zero, suc, ◌+◌, ◌<◌, Bool, true, false, ◌&&◌, ◌||◌, not, List, [], ◌∷◌, ◌++◌, length, map, get_or, take, drop, reverse, Option, Some, None, MatchOption, refl, sym, ap, ◌∙◌, subst, ⊎_elim, inl, inr, arith}
+use Rattle.std.proofs.Common.{◌≡◌, ◌≢◌, ◌⊎◌, ℕ, zero, suc, ◌+◌, ◌<◌, ◌≤◌, Bool, true, false, ◌&&◌, ◌||◌, not, List, [], ◌∷◌, ◌++◌, length, map, take, drop, reverse, Option, Some, None, option_map, MatchOption, refl, sym, ap, ◌∙◌, subst, ⊎_elim, inl, inr, arith}
 use Rattle.std.specs.Borrow.{Bor}
 use Rattle.std.specs.List.{slice_get}
-use Rattle.std.proofs.lemmas.Option.{slice_get_within, slice_get-get_or}
-use Rattle.std.proofs.lemmas.List.{take_more}
+use Rattle.std.proofs.lemmas.Option.{slice_get_within, get_or_from_slice_get}
+use Rattle.std.specs.Option.{option_copied, option_zip}
+use Rattle.std.proofs.lemmas.List.{take_more, length_push}
 use Rattle.std.proofs.lemmas.Bool.{false≢true, both_ways, and_parts, and_from, or_parts, or_from, or_cases, or_left, or_right, not-true, not_from_false}
 use Rattle.scrib_types.specs.declared.message.Message.{Message}
 use Rattle.scrib_types.specs.declared.spot.Spot.{Spot}
@@ -48,12 +49,13 @@ in_before s after (OrBlock c t cs) st = in_other (in_before s after cs st)
 none_typed : (ms : List ModuleTree) (n : ℕ) (sc : Scope) (fs : Frames) (bs : List Block) (types : List Typed) → types ≡ [] → AreTyped ms n sc fs bs types
 none_typed ms n sc fs bs types none k b t e f = absurd (omega (arith, slice_get_within types k t f, ap length none))
 
-pub choosing_begins : (ms : List ModuleTree) (root : Declaration) (ts : List Task) (sc : Scope) (n : ℕ) (p : List ℕ) (bs : List Block) (spot : Spot) (follows : GlobalTree) (types : List Typed)
-    → types ≡ [] → IsBefore ms root ts sc n (Chooses p (blocks_of bs) spot) follows → IsChoosing ms root ts sc n p bs spot follows types
-choosing_begins ms root ts sc n p bs spot follows types none b = record {
+pub choosing_begins : (ms : List ModuleTree) (root : Declaration) (ts : List Task) (sc : Scope) (n : ℕ) (p : List ℕ) (bs : List Block) (spot : Spot) (t : Typed) (types : List Typed)
+    → types ≡ [] → IsBefore ms root ts sc n (Chooses p (blocks_of bs) spot) (type_of t) → IsChoosing ms root ts sc n p bs spot (Some t) types
+choosing_begins ms root ts sc n p bs spot t types none b = record {
   rest = b.rest;
   outer = b.outer;
   typed = none_typed ms n sc (Under sc b.rest b.outer) bs types none;
+  few = omega (arith, ap length none);
   after = b.typed;
   up = b.up;
   recs = b.recs;
@@ -63,11 +65,16 @@ choosing_begins ms root ts sc n p bs spot follows types none b = record {
   path = b.path;
 }
 
+-- what follows the choice is kept once more, if blocks are left
+kept_on : (o : Option Typed) (P Q : Type 0) (R : GlobalTree → Type 0) (g : GlobalTree) → (P → Q) → MatchOption o P (λ t. type_of t ≡ g) → R g → MatchOption o Q (λ t. R (type_of t))
+kept_on None P Q R g f h r = f h
+kept_on (Some t) P Q R g f h r = subst R (sym h) r
+
 -- the next block is entered
-pub next_block : (ms : List ModuleTree) (root : Declaration) (ts : List Task) (c : Choosing) (inner : Standing) (ss : Bor (List Statement)) (b : Block) (g : GlobalTree)
-    → slice_get c.branches.now (length c.types.items) ≡ Some b → IsSame c.standing inner → ss.now ≡ b.body → g ≡ type_of c.follows
-    → IsChoosing ms root ts (scope_of c.standing) c.standing.depth c.chooser.now c.branches.now c.spot (type_of c.follows) c.types.items → IsState ms root (Front inner ss ∷ Join c ∷ ts) g
-next_block ms root ts c inner ss b g at same body is x =
+pub next_block : (ms : List ModuleTree) (root : Declaration) (ts : List Task) (c : Choosing) (inner : Standing) (ss : Bor (List Statement)) (b : Block) (t : Typed) (left : ℕ) (g : GlobalTree)
+    → slice_get c.branches.now (length c.types.items) ≡ Some b → length c.types.items + 1 + left ≡ length c.branches.now → IsSame c.standing inner → ss.now ≡ b.body → g ≡ type_of t → MatchOption c.follows (left ≡ 0) (λ u. type_of u ≡ type_of t)
+    → IsChoosing ms root ts (scope_of c.standing) c.standing.depth c.chooser.now c.branches.now c.spot (Some t) c.types.items → IsState ms root (Front inner ss ∷ Join c ∷ ts) g
+next_block ms root ts c inner ss b t left g at count same body is kept x =
     let sc = scope_of c.standing in
     let n = c.standing.depth in
     let bs = c.branches.now in
@@ -97,7 +104,8 @@ next_block ms root ts c inner ss b g at same body is x =
         goes = refl;
         up = x.up;
         typed = x.typed;
-        after = x.after;
+        after =
+            kept_on c.follows (left ≡ 0) (k + 1 ≡ length bs) (λ y. Types ms n after y) (type_of t) (λ none. omega (arith, count, none)) kept x.after;
         recs = x.recs;
         parts = x.parts;
         reached = x.reached;
@@ -316,7 +324,7 @@ head_fails kind.SameOperator ms n sc at bs i b spot rest outer receiver cs g the
     }
 head_fails other ms n sc at bs i b spot rest outer receiver cs g there a t h = absurd h
 
-pub head_fault : (ms : List ModuleTree) (root : Declaration) (ts : List Task) (sc : Scope) (n : ℕ) (at : List ℕ) (bs : List Block) (i : ℕ) (b : Block) (spot : Spot) (follows : GlobalTree) (types : List Typed) (receiver : Option (List ℕ)) (cs : GlobalBranches) (g : GlobalTree) (x : IsChoosing ms root ts sc n at bs spot follows types)
+pub head_fault : (ms : List ModuleTree) (root : Declaration) (ts : List Task) (sc : Scope) (n : ℕ) (at : List ℕ) (bs : List Block) (i : ℕ) (b : Block) (spot : Spot) (follows : Option Typed) (types : List Typed) (receiver : Option (List ℕ)) (cs : GlobalBranches) (g : GlobalTree) (x : IsChoosing ms root ts sc n at bs spot follows types)
     → slice_get bs i ≡ Some b → AreJoined ms n sc (Under sc x.rest x.outer) (role_in sc at) (blocks_of (take i bs)) receiver cs → Types ms n (Under sc (body_of b.body) (Under sc x.rest x.outer)) g → (e : Untyped) → IsHeadFault sc.within.home b.spot (role_in sc at) receiver cs g e
     → TypingFails ms root e
 head_fault ms root ts sc n at bs i b spot follows types receiver cs g x there a t (untyped.Broken h f) k =
@@ -326,13 +334,13 @@ head_fault ms root ts sc n at bs i b spot follows types receiver cs g x there a 
 
 -- all blocks have joined
 
-pub joined_put : (ms : List ModuleTree) (root : Declaration) (ts : List Task) (sc : Scope) (n : ℕ) (at : List ℕ) (bs : List Block) (spot : Spot) (follows : GlobalTree) (types : List Typed) (receiver : Option (List ℕ)) (cs : GlobalBranches) (q : List ℕ) (h : GlobalTree) (x : IsChoosing ms root ts sc n at bs spot follows types)
+pub joined_put : (ms : List ModuleTree) (root : Declaration) (ts : List Task) (sc : Scope) (n : ℕ) (at : List ℕ) (bs : List Block) (spot : Spot) (follows : Option Typed) (types : List Typed) (receiver : Option (List ℕ)) (cs : GlobalBranches) (q : List ℕ) (h : GlobalTree) (x : IsChoosing ms root ts sc n at bs spot follows types)
     → AreJoined ms n sc (Under sc x.rest x.outer) (role_in sc at) (blocks_of bs) receiver cs → receiver ≡ Some q → h ≡ Comm (role_in sc at) q cs → IsState ms root ts h
 joined_put ms root ts sc n at bs spot follows types receiver cs q h x a told is =
     let j = a.some q told in
     record { depth = n; frames = Under sc (Then (Chooses at (blocks_of bs) spot) x.rest) x.outer; typed = chooses j.0 j.1 a.different is; path = x.path }
 
-pub joined_none : (ms : List ModuleTree) (root : Declaration) (ts : List Task) (sc : Scope) (n : ℕ) (at : List ℕ) (bs : List Block) (spot : Spot) (follows : GlobalTree) (types : List Typed) (receiver : Option (List ℕ)) (cs : GlobalBranches) (x : IsChoosing ms root ts sc n at bs spot follows types)
+pub joined_none : (ms : List ModuleTree) (root : Declaration) (ts : List Task) (sc : Scope) (n : ℕ) (at : List ℕ) (bs : List Block) (spot : Spot) (follows : Option Typed) (types : List Typed) (receiver : Option (List ℕ)) (cs : GlobalBranches) (x : IsChoosing ms root ts sc n at bs spot follows types)
     → AreJoined ms n sc (Under sc x.rest x.outer) (role_in sc at) (blocks_of bs) receiver cs → receiver ≡ None → (place : Declaration) × Reaches ms root place × (sc.within.home ≡ place.home) × FailsTyping kind.EmptyBranch ms 0 (start_of root) place spot
 joined_none ms root ts sc n at bs spot follows types receiver cs x a none =
     let empty = (a.none none).0 in
@@ -368,27 +376,23 @@ blocks_push : (bs : List Block) (b : Block) → blocks_of (bs ++ b ∷ []) ≡ b
 blocks_push [] b = refl
 blocks_push (c ∷ bs) b = ap (OrBlock (body_of c.body) c.spot) (blocks_push bs b)
 
-block_there : (bs : List Block) (i : ℕ) (b : Block) → i < length bs → b ≡ get_or bs i b → slice_get bs i ≡ Some b
-block_there bs i b h is = slice_get-get_or bs i b h ∙ ap Some (sym is)
-
-pub next_joined : (ms : List ModuleTree) (root : Declaration) (ts : List Task) (sc : Scope) (n : ℕ) (at : List ℕ) (bs : List Block) (i : ℕ) (b : Block) (spot : Spot) (follows : GlobalTree) (types : List Typed) (t : Typed) (g : GlobalTree) (chooser : List ℕ) (old new : Option (List ℕ)) (cs ds : GlobalBranches) (x : IsChoosing ms root ts sc n at bs spot follows types)
-    → i < length bs → b ≡ get_or bs i b → slice_get types i ≡ Some t → g ≡ type_of t → chooser ≡ role_in sc at → AreJoined ms n sc (Under sc x.rest x.outer) (role_in sc at) (blocks_of (take i bs)) old cs → IsAdded chooser old new cs ds g
-    → AreJoined ms n sc (Under sc x.rest x.outer) (role_in sc at) (blocks_of (take (i + 1) bs)) new ds
-next_joined ms root ts sc n at bs i b spot follows types t g chooser old new cs ds x within is there same given a d =
-    let typed = x.typed i b t (block_there bs i b within is) there in
-    let added = subst (λ p. IsAdded p old new cs ds g) given d in
-    let more : blocks_of (take (i + 1) bs) ≡ blocks_before (blocks_of (take i bs)) (body_of b.body) b.spot NoBlock =
-    ap blocks_of (take_more bs i b within ∙ ap (λ y. take i bs ++ y ∷ []) (sym is)) ∙ blocks_push (take i bs) b in
-    let u = one_joined ms n sc (Under sc x.rest x.outer) (role_in sc at) (blocks_of (take i bs)) old new cs ds (body_of b.body) b.spot g a added (subst (λ y. Types ms n (Under sc (body_of b.body) (Under sc x.rest x.outer)) y) (sym same) typed) in
+pub next_joined : (ms : List ModuleTree) (root : Declaration) (ts : List Task) (sc : Scope) (n : ℕ) (at : List ℕ) (bs : List Block) (i j : ℕ) (b : Block) (spot : Spot) (follows : Option Typed) (types : List Typed) (t : Typed) (chooser : List ℕ) (old new : Option (List ℕ)) (cs ds : GlobalBranches) (x : IsChoosing ms root ts sc n at bs spot follows types)
+    → j ≡ i + 1 → slice_get bs i ≡ Some b → slice_get types i ≡ Some t → chooser ≡ role_in sc at → AreJoined ms n sc (Under sc x.rest x.outer) (role_in sc at) (blocks_of (take i bs)) old cs → IsAdded chooser old new cs ds (type_of t)
+    → AreJoined ms n sc (Under sc x.rest x.outer) (role_in sc at) (blocks_of (take j bs)) new ds
+next_joined ms root ts sc n at bs i j b spot follows types t chooser old new cs ds x next found there given a d =
+    let typed = x.typed i b t found there in
+    let added = subst (λ p. IsAdded p old new cs ds (type_of t)) given d in
+    let more : blocks_of (take j bs) ≡ blocks_before (blocks_of (take i bs)) (body_of b.body) b.spot NoBlock =
+    ap (λ k. blocks_of (take k bs)) next ∙ ap blocks_of (take_more bs i b (slice_get_within bs i b found) ∙ ap (λ y. take i bs ++ y ∷ []) (get_or_from_slice_get bs i b b found)) ∙ blocks_push (take i bs) b in
+    let u = one_joined ms n sc (Under sc x.rest x.outer) (role_in sc at) (blocks_of (take i bs)) old new cs ds (body_of b.body) b.spot (type_of t) a added typed in
     subst (λ y. AreJoined ms n sc (Under sc x.rest x.outer) (role_in sc at) y new ds) (sym more) u
 
-pub next_fails : (ms : List ModuleTree) (root : Declaration) (ts : List Task) (sc : Scope) (n : ℕ) (at : List ℕ) (bs : List Block) (i : ℕ) (b : Block) (spot : Spot) (follows : GlobalTree) (types : List Typed) (t : Typed) (g : GlobalTree) (chooser : List ℕ) (old : Option (List ℕ)) (cs : GlobalBranches) (x : IsChoosing ms root ts sc n at bs spot follows types)
-    → i < length bs → b ≡ get_or bs i b → slice_get types i ≡ Some t → g ≡ type_of t → chooser ≡ role_in sc at → AreJoined ms n sc (Under sc x.rest x.outer) (role_in sc at) (blocks_of (take i bs)) old cs → (e : Untyped) → IsHeadFault sc.within.home b.spot chooser old cs g e
+pub next_fails : (ms : List ModuleTree) (root : Declaration) (ts : List Task) (sc : Scope) (n : ℕ) (at : List ℕ) (bs : List Block) (i : ℕ) (b : Block) (spot : Spot) (follows : Option Typed) (types : List Typed) (t : Typed) (chooser : List ℕ) (old : Option (List ℕ)) (cs : GlobalBranches) (x : IsChoosing ms root ts sc n at bs spot follows types)
+    → slice_get bs i ≡ Some b → slice_get types i ≡ Some t → chooser ≡ role_in sc at → AreJoined ms n sc (Under sc x.rest x.outer) (role_in sc at) (blocks_of (take i bs)) old cs → (e : Untyped) → IsHeadFault sc.within.home b.spot chooser old cs (type_of t) e
     → TypingFails ms root e
-next_fails ms root ts sc n at bs i b spot follows types t g chooser old cs x within is there same given a e f =
-    let found = block_there bs i b within is in
+next_fails ms root ts sc n at bs i b spot follows types t chooser old cs x found there given a e f =
     let typed = x.typed i b t found there in
-    head_fault ms root ts sc n at bs i b spot follows types old cs g x found a (subst (λ y. Types ms n (Under sc (body_of b.body) (Under sc x.rest x.outer)) y) (sym same) typed) e (subst (λ p. IsHeadFault sc.within.home b.spot p old cs g e) given f)
+    head_fault ms root ts sc n at bs i b spot follows types old cs (type_of t) x found a typed e (subst (λ p. IsHeadFault sc.within.home b.spot p old cs (type_of t) e) given f)
 
 -- the next block's type is there
 
@@ -404,8 +408,30 @@ typed_push ms n sc fs (c ∷ bs) (s ∷ types) t b at all here zero d u e f = al
 typed_push ms n sc fs (c ∷ bs) (s ∷ types) t b at all here (suc k) d u e f =
     typed_push ms n sc fs bs types t b at (λ j x y p q. all (suc j) x y p q) here k d u e f
 
+none_there : (bs : List Block) (n : ℕ) → slice_get bs n ≡ None → length bs ≤ n
+none_there [] n e = omega arith
+none_there (b ∷ bs) zero e = absurd (cc e)
+none_there (b ∷ bs) (suc n) e = omega (arith, none_there bs n e)
+
+longer : (o : Option Typed) (Q : Typed → Type 0) (i j k : ℕ) → i ≡ j → MatchOption o (j ≡ k) Q → MatchOption o (i ≡ k) Q
+longer None Q i j k e h = e ∙ h
+longer (Some t) Q i j k e h = h
+
+-- no block is left, or what follows the choice isn't kept
+pub none_left : (bs : List Block) (types : List Typed) (next : Option (Bor Block)) (follows : Option Typed) (Q : Typed → Type 0) (n : ℕ) → option_zip next follows ≡ None → option_copied next ≡ slice_get bs n → n ≡ length types → length types ≤ length bs → MatchOption follows (length types ≡ length bs) Q → length types ≡ length bs
+none_left bs types None follows Q n none there long few after =
+    let past : length bs ≤ n = none_there bs n (sym there) in omega (arith, past)
+none_left bs types (Some b) None Q n none there long few after = after
+none_left bs types (Some b) (Some t) Q n none there long few after = absurd (cc none)
+
+-- a block is left, and what follows the choice is kept
+pub one_left : (next : Option (Bor Block)) (follows : Option Typed) (b : Bor Block) (t : Typed) → option_zip next follows ≡ Some (b, t) → (next ≡ Some b) × (follows ≡ Some t)
+one_left None follows b t e = absurd (cc e)
+one_left (Some c) None b t e = absurd (cc e)
+one_left (Some c) (Some u) b t e = (ap (option_map (λ x. x.0)) e, ap (option_map (λ x. x.1)) e)
+
 pub block_typed : (ms : List ModuleTree) (root : Declaration) (ts : List Task) (c : Choosing) (types : List Typed) (t : Typed) → types ≡ c.types.items ++ t ∷ [] → IsState ms root (Join c ∷ ts) (type_of t)
-    → IsChoosing ms root ts (scope_of c.standing) c.standing.depth c.chooser.now c.branches.now c.spot (type_of c.follows) types
+    → IsChoosing ms root ts (scope_of c.standing) c.standing.depth c.chooser.now c.branches.now c.spot c.follows types
 block_typed ms root ts c types t more s =
     let sc = scope_of c.standing in
     let hs = s.path.0 in
@@ -414,11 +440,13 @@ block_typed ms root ts c types t more s =
     let whole = Under sc (Then (Chooses c.chooser.now (blocks_of c.branches.now) c.spot) f.rest) f.outer in
     let here : Types ms s.depth (Under sc (body_of f.block.body) after) (type_of t) = subst (λ fs. Types ms s.depth fs (type_of t)) f.is s.typed in
     let all : AreTyped ms s.depth sc after c.branches.now types = subst (λ ts. AreTyped ms s.depth sc after c.branches.now ts) (sym more) (typed_push ms s.depth sc after c.branches.now c.types.items t f.block f.here f.typed here) in
-    subst (λ n. IsChoosing ms root ts sc n c.chooser.now c.branches.now c.spot (type_of c.follows) types) f.deep (record {
+    let long : length types ≡ length c.types.items + 1 = ap length more ∙ length_push c.types.items t in
+    subst (λ n. IsChoosing ms root ts sc n c.chooser.now c.branches.now c.spot c.follows types) f.deep (record {
       rest = f.rest;
       outer = f.outer;
       typed = all;
-      after = f.after;
+      few = omega (arith, long, slice_get_within c.branches.now (length c.types.items) f.block f.here);
+      after = longer c.follows (λ u. Types ms s.depth after (type_of u)) (length types) (length c.types.items + 1) (length c.branches.now) long f.after;
       up = subst (λ fs. FailsUp ms root s.depth fs) f.goes f.up;
       recs = f.recs;
       parts = f.parts;

@@ -10,6 +10,7 @@ mod Kept
 mod Typed
 pub mod Passing
 pub mod Shaped
+mod Settled
 mod Skipped
 mod Counted
 pub mod Distinct
@@ -23,6 +24,7 @@ mod Capped
 mod Grown
 mod Somewhere
 mod Putting
+mod Zipped
 mod Steps
 mod Joined
 mod Finished

@@ -1,5 +1,5 @@
 -- Which protocol a call names (this project's own, after the Scribble Language Reference 0.3).
-use Rattle.std.specs.Prelude.{◌≡◌, ℕ, ◌≤◌, Bool, true, false, ◌&&◌, ◌||◌, not, List, [], ◌∷◌, ◌++◌, length, map, Option, Some, None, option_and_then, if◌then◌else◌}
+use Rattle.std.specs.Prelude.{◌≡◌, ℕ, ◌≤◌, Bool, true, false, ◌&&◌, ◌||◌, not, nat_le, List, [], ◌∷◌, ◌++◌, length, map, Option, Some, None, option_and_then, if◌then◌else◌}
 use Rattle.std.specs.List.{list_any}
 use Rattle.std.specs.Cmp.Lexicographic.{pointwise}
 use Rattle.std.specs.Str.{bytes_eq}
@@ -113,3 +113,9 @@ pub record HasOwnNames (d : Declaration) : Type 0 where
   pub protocols : distinct_roles (protocol_names d.home.protocols) ≡ true
   pub few : length d.protocol.roles ≤ 16
   pub roles : distinct_roles (roles_of d) ≡ true
+
+-- A module of at most 1,024 imports and as many protocols, whose imports are known by different names, and whose
+-- protocols have different names: these needn't be looked at again.
+abbrev pub is_settled : ModuleTree → Bool
+is_settled m =
+    nat_le (length m.imports) 1024 && nat_le (length m.protocols) 1024 && distinct_names (import_names m.imports) && distinct_roles (protocol_names m.protocols)

@@ -20,13 +20,17 @@ use Rattle.scrib_expand.specs.SourceView.{body_of}
 use Rattle.scrib_expand.specs.Growth.{BlockGrows}
 use Rattle.scrib_expand.specs.Shape.{HasShape}
 use Rattle.scrib_expand.specs.Source.{Body, Then, Step, Blocks, Calls}
-use Rattle.scrib_expand.specs.Names.{Declaration, dotted_eq, has_name, known_by, module_names, first_where, declarations, called}
+use Rattle.scrib_expand.specs.Names.{Declaration, dotted_eq, has_name, is_settled, known_by, module_names, first_where, declarations, called}
 use Rattle.scrib_expand.specs.Statements.{KeepsRules, StepKeeps}
 use Rattle.scrib_expand.specs.Faults.{Stands, StandsIn, StandsAt, HasStep, Reaches, IsAgain, Fails}
 
 -- a declared protocol without where it lies in memory
 abbrev pub declaration_of : Declared → Declaration
 declaration_of d = record { home = d.home.now; protocol = d.protocol.now }
+
+-- it is noted of a declared protocol whether its module's names are settled
+abbrev pub IsSettledSo : Declared → Type 0
+IsSettledSo d = d.settled ≡ is_settled d.home.now
 
 abbrev pub shown : List Declared → List Declaration
 shown ds = map declaration_of ds

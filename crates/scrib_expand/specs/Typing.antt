@@ -1,5 +1,5 @@
 -- What the parts of the third pass stand for (this project's own).
-use Rattle.std.specs.Prelude.{◌≡◌, ◌≢◌, ℕ, ◌+◌, true, false, List, [], ◌∷◌, length, slice_get, Option, Some, None, MatchOption}
+use Rattle.std.specs.Prelude.{◌≡◌, ◌≢◌, ℕ, ◌+◌, ◌≤◌, true, false, List, [], ◌∷◌, length, slice_get, Option, Some, None, MatchOption}
 use Rattle.scrib_types.specs.declared.spot.Spot.{Spot}
 use Rattle.scrib_types.specs.GlobalView.{global_of}
 use Rattle.scrib_types.specs.Trees.{GlobalTree, GlobalEnd, GlobalVar, GlobalRec, Comm, GlobalBranches}
@@ -61,7 +61,7 @@ AreTyped modules n sc fs blocks types =
     (k : ℕ) (b : Block) (t : Typed) → slice_get blocks k ≡ Some b → slice_get types k ≡ Some t → Types modules n (Under sc (body_of b.body) fs) (type_of t)
 
 -- the frames are those of the next block of a choice, and the others begin with that choice
-pub record IsJoin (modules : List ModuleTree) (root : Declaration) (sc : Scope) (depth : ℕ) (chooser : List ℕ) (blocks : List Block) (spot : Spot) (follows : GlobalTree) (types : List Typed) (n : ℕ) (fs hs : Frames) : Type 0 where
+pub record IsJoin (modules : List ModuleTree) (root : Declaration) (sc : Scope) (depth : ℕ) (chooser : List ℕ) (blocks : List Block) (spot : Spot) (follows : Option Typed) (types : List Typed) (n : ℕ) (fs hs : Frames) : Type 0 where
   pub rest : Body
   pub outer : Frames
   pub deep : n ≡ depth
@@ -71,7 +71,7 @@ pub record IsJoin (modules : List ModuleTree) (root : Declaration) (sc : Scope) 
   pub goes : hs ≡ Under sc (Then (Chooses chooser (blocks_of blocks) spot) rest) outer
   pub up : FailsUp modules root n hs
   pub typed : AreTyped modules n sc (Under sc rest outer) blocks types
-  pub after : Types modules n (Under sc rest outer) follows
+  pub after : MatchOption follows (length types + 1 ≡ length blocks) (λ t. Types modules n (Under sc rest outer) (type_of t))
   pub recs : List (List ℕ)
   pub parts : AreParts sc.within recs (blocks_of blocks)
   pub reached : Reaches modules root sc.within
@@ -98,7 +98,7 @@ Path modules root [] n fs = (n ≡ 0) × (fs ≡ start_of root)
 Path modules root (Front standing statements ∷ tasks) n fs =
     (hs : Frames) × IsFront modules root (scope_of standing) standing.depth statements.now n fs hs × Path modules root tasks n hs
 Path modules root (Join c ∷ tasks) n fs =
-    (hs : Frames) × IsJoin modules root (scope_of c.standing) c.standing.depth c.chooser.now c.branches.now c.spot (type_of c.follows) c.types.items n fs hs × Path modules root tasks n hs
+    (hs : Frames) × IsJoin modules root (scope_of c.standing) c.standing.depth c.chooser.now c.branches.now c.spot c.follows c.types.items n fs hs × Path modules root tasks n hs
 Path modules root (Close home spot ∷ tasks) n fs =
     (m : ℕ) × (hs : Frames) × IsClose modules root home.now spot n fs m hs × Path modules root tasks m hs
 
@@ -127,12 +127,13 @@ TypingFails modules root (Broken home b) =
     (place : Declaration) × Reaches modules root place × (home.now ≡ place.home) × FailsTyping b.kind modules 0 (start_of root) place b.spot
 TypingFails modules root OutOfMemory = Unit {0}
 
--- a choice in whose place the tasks lead on: the types of its first blocks, and of what follows it
-pub record IsChoosing (modules : List ModuleTree) (root : Declaration) (tasks : List Task) (sc : Scope) (n : ℕ) (chooser : List ℕ) (blocks : List Block) (spot : Spot) (follows : GlobalTree) (types : List Typed) : Type 0 where
+-- a choice in whose place the tasks lead on: the types of its first blocks, and while some are left of what follows it
+pub record IsChoosing (modules : List ModuleTree) (root : Declaration) (tasks : List Task) (sc : Scope) (n : ℕ) (chooser : List ℕ) (blocks : List Block) (spot : Spot) (follows : Option Typed) (types : List Typed) : Type 0 where
   pub rest : Body
   pub outer : Frames
   pub typed : AreTyped modules n sc (Under sc rest outer) blocks types
-  pub after : Types modules n (Under sc rest outer) follows
+  pub few : length types ≤ length blocks
+  pub after : MatchOption follows (length types ≡ length blocks) (λ t. Types modules n (Under sc rest outer) (type_of t))
   pub up : FailsUp modules root n (Under sc (Then (Chooses chooser (blocks_of blocks) spot) rest) outer)
   pub recs : List (List ℕ)
   pub parts : AreParts sc.within recs (blocks_of blocks)

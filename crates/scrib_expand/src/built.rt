@@ -93,6 +93,17 @@ impl<'a> Typed<'a> {
         Ok(Typed { global, joins })
     }
 
+    /// The same type, of which the communication in front, if it has several branches, comes from this choice.
+    pub fn joined_at(self, origin: Origin<'a>) -> Typed<'a>
+        ensures { type_of result ≡ type_of self.entry }
+    {
+        let Typed { global, mut joins } = self;
+        if let Some(Some(last)) = joins.last_mut() {
+            *last = origin;
+        }
+        Typed { global, joins }
+    }
+
     /// One message to each of the receivers in turn, and then what has this type.
     ///
     /// # Errors

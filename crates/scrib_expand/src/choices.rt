@@ -1,9 +1,9 @@
 //! The types of choices.
 
-ghost use Rattle.std.specs.Prelude.{◌≡◌, ◌↔◌, List, ◌∷◌, length, IsTrue, IfOk, IfErr, OnOk, MatchResult, reverse};
+ghost use Rattle.std.specs.Prelude.{◌≡◌, ◌↔◌, List, ◌∷◌, length, Option, IsTrue, IfOk, IfErr, OnOk, MatchOption, MatchResult, reverse};
 ghost use Rattle.scrib_types.specs.GlobalView.{global_of, global_branches};
-ghost use Rattle.scrib_types.specs.Trees.{GlobalTree};
 ghost use Rattle.scrib_types.specs.WellFormed.{has_operator, same_operator};
+ghost use Rattle.scrib_expand.specs.declared.built.Typed.{Typed};
 ghost use Rattle.scrib_expand.specs.declared.tasks.Task.{Task};
 ghost use Rattle.scrib_expand.specs.declared.tasks.Task.TheVariants.{Join};
 ghost use Rattle.scrib_expand.specs.declared.untyped.Untyped.TheVariants.{Broken};
@@ -27,7 +27,7 @@ use scrib_types::message::Message;
 use scrib_types::name::{Name, Role};
 use scrib_types::plain::{Items, at};
 use scrib_types::spot::Spot;
-use std::alloc::Global;
+use std::alloc::{AllocError, Global};
 
 // What the first blocks of a choice begin with: a communication to this receiver with these branches.
 #[derive(Drop)]
@@ -57,19 +57,19 @@ pub fn choose<'a>(
     let Some(first) = branches.first() else {
         return Err(broken(standing.within.home, FaultKind::EmptyBranch, spot));
     };
-    let again = typed.copy(alloc)?;
+    let (begun, follows) = share(alloc, typed, branches.len() - 1)?;
     let inner = standing.copy(alloc)?;
     let choosing = Choosing {
         standing,
         chooser,
         branches,
         spot,
-        follows: typed,
+        follows,
         types: Vec::new(alloc),
     };
     tasks.push(Task::Join(choosing))?;
     tasks.push(Task::Front(inner, first.body.as_slice()))?;
-    Ok(again)
+    Ok(begun)
 }
 
 /// The type of the choice's next block is this. After the last block it is the choice's turn.
@@ -95,10 +95,12 @@ pub fn join<'a>(
         mut types,
     } = choosing;
     types.push(typed)?;
-    let Some(next) = at(branches, types.len()) else {
-        return joined(alloc, &standing, chooser, branches, spot, &types);
+    let next = at(branches, types.len());
+    let Some((next, follows)) = next.zip(follows) else {
+        return joined(alloc, &standing, chooser, branches, spot, types);
     };
-    let again = follows.copy(alloc)?;
+    let left = branches.len() - types.len() - 1;
+    let (begun, follows) = share(alloc, follows, left)?;
     let inner = standing.copy(alloc)?;
     let choosing = Choosing {
         standing,
@@ -110,7 +112,23 @@ pub fn join<'a>(
     };
     tasks.push(Task::Join(choosing))?;
     tasks.push(Task::Front(inner, next.body.as_slice()))?;
-    Ok(again)
+    Ok(begun)
+}
+
+// The type of what follows a choice, for the block that is next, and once more if blocks are left after that one.
+fn share<'a>(
+    alloc: Global,
+    follows: Typed<'a>,
+    left: usize,
+) -> Result<(Typed<'a>, Option<Typed<'a>>), AllocError>
+    ensures next { IfOk result (λ t. type_of t.0 ≡ type_of follows.entry) }
+    ensures others { IfOk result (λ t. MatchOption t.1 (left ≡ 0) (λ u. type_of u ≡ type_of follows.entry)) }
+{
+    if left == 0 {
+        return Ok((follows, None));
+    }
+    let again = follows.copy(alloc)?;
+    Ok((again, Some(follows)))
 }
 
 // The choice whose blocks have these types.
@@ -120,10 +138,11 @@ fn joined<'a>(
     given: &'a Role,
     blocks: &'a [Block],
     spot: Spot,
-    types: &[Typed<'a>],
+    types: Vec<Typed<'a>>,
 ) -> Result<Typed<'a>, Untyped<'a>>
-    ensures { (modules : List ModuleTree) (root : Declaration) (tasks : List Task) (follows : GlobalTree)
-        → IsChoosing modules root tasks (scope_of standing.now) standing.now.depth given.now blocks.now spot follows types.now
+    ensures { (modules : List ModuleTree) (root : Declaration) (tasks : List Task) (follows : Option Typed)
+        → IsChoosing modules root tasks (scope_of standing.now) standing.now.depth given.now blocks.now spot follows types.entry.items
+        → length types.entry.items ≡ length blocks.now
         → MatchResult result (λ t. IsState modules root tasks (type_of t)) (TypingFails modules root) }
 {
     let home = standing.within.home;
@@ -133,12 +152,7 @@ fn joined<'a>(
         branches: Items::new(alloc),
         joins: Vec::new(alloc),
     };
-    for (i, block) in blocks.iter().enumerate() {
-        // Each block has its type.
-        let Some(typed) = at(types, i) else {
-            return Err(Untyped::OutOfMemory);
-        };
-        let typed = typed.copy(alloc)?;
+    for (block, typed) in blocks.iter().zip(types) {
         add(home, chooser, block.spot, &mut so_far, typed)?;
     }
     let Heads {

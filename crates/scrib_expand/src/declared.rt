@@ -1,20 +1,23 @@
 //! The declared protocols of modules, and which of them a call names.
 
 ghost use Rattle.std.specs.Prelude.{◌≡◌, ◌++◌, IfOk, OnOk, MatchOption, None};
+ghost use Rattle.std.specs.List.{All};
 ghost use Rattle.std.specs.Option.{option_copied};
-ghost use Rattle.scrib_expand.specs.Names.{dotted_eq, known_by, imported, looked_in, called_home, declarations, declared_in, is_called, first_where};
-ghost use Rattle.scrib_expand.specs.Table.{shown, IsFound};
+ghost use Rattle.scrib_expand.specs.Names.{is_settled, dotted_eq, known_by, imported, looked_in, called_home, declarations, declared_in, is_called, first_where};
+ghost use Rattle.scrib_expand.specs.Table.{shown, IsSettledSo, IsFound};
 
+use crate::modules::Modules;
 use crate::names::{has_module, same_name, same_names};
 use scrib_grammar::tree::{Import, ModuleTree, ProtocolDeclaration};
 use scrib_types::name::{Dotted, Name};
 use std::alloc::{AllocError, Global};
 
-/// A declared protocol, and its module.
+/// A declared protocol, its module, and whether that module's names are settled.
 #[derive(Clone, Copy, Drop)]
 pub struct Declared<'a> {
     pub home: &'a ModuleTree,
     pub protocol: &'a ProtocolDeclaration,
+    pub settled: bool,
 }
 
 /// All protocols that the modules declare, in order.
@@ -23,22 +26,35 @@ pub struct Declared<'a> {
 /// `AllocError` where memory was refused.
 pub fn all_declared<'a>(
     alloc: Global,
-    modules: &'a [ModuleTree],
+    modules: &'a Modules,
 ) -> Result<Vec<Declared<'a>>, AllocError>
-    ensures { IfOk result (λ ds. shown ds.items ≡ declarations modules.now) }
+    ensures all { IfOk result (λ ds. shown ds.items ≡ declarations modules.now) }
+    ensures settled { IfOk result (λ ds. All IsSettledSo ds.items) }
 {
     let mut all = Vec::new(alloc);
-    for home in modules {
-        declare(&mut all, home)?;
+    let settled = modules.settled();
+    for (i, home) in modules.as_slice().iter().enumerate() {
+        declare(&mut all, home, settled[i])?;
     }
     Ok(all)
 }
 
-fn declare<'a>(all: &mut Vec<Declared<'a>>, home: &'a ModuleTree) -> Result<(), AllocError>
-    ensures { OnOk result (shown all.new.items ≡ shown all.old.items ++ declared_in home.now home.now.protocols) }
+fn declare<'a>(
+    all: &mut Vec<Declared<'a>>,
+    home: &'a ModuleTree,
+    settled: bool,
+) -> Result<(), AllocError>
+    requires so { settled ≡ is_settled home.now }
+    requires others { All IsSettledSo all.old.items }
+    ensures all { OnOk result (shown all.new.items ≡ shown all.old.items ++ declared_in home.now home.now.protocols) }
+    ensures settled { OnOk result (All IsSettledSo all.new.items) }
 {
     for protocol in home.protocols.as_slice() {
-        all.push(Declared { home, protocol })?;
+        all.push(Declared {
+            home,
+            protocol,
+            settled,
+        })?;
     }
     Ok(())
 }

@@ -43,7 +43,7 @@ pub fn elaborate(
     ensures fault { IfErr result (FailsAt modules.now «module».now protocol.now) }
 {
     let trees = modules.as_slice();
-    let declared = all_declared(alloc, trees)?;
+    let declared = all_declared(alloc, modules)?;
     let root = find_root(alloc, trees, &declared, module, protocol)?;
     let states = walk(alloc, trees, &declared, root)?;
     let count = check_size(alloc, &declared, &states, root)?;

@@ -35,7 +35,7 @@ impl Elaborated {
     ghost use Rattle.scrib_types.specs.GlobalView.{global_of};
     ghost use Rattle.scrib_expand.specs.Elaboration.{nodes};
     ghost use Rattle.scrib_expand.specs.Sound.{is_sound};
-    ghost use Rattle.scrib_expand.specs.Meaning.{meaning_of};
+    ghost use Rattle.scrib_expand.specs.Meaning.{meaning_of, joins_of};
 
     /// The protocol of these roles and this type, which has so many nodes. The joins are those of the type's
     /// communications with several branches, in post-order.
@@ -82,7 +82,9 @@ impl Elaborated {
 
     /// Where the communications with several branches come from, in post-order: those in a communication's
     /// branches, the first branch first, and then its own.
-    pub fn joins(&self) -> &[Join] {
+    pub fn joins(&self) -> &[Join]
+        ensures { result.now ≡ joins_of self.now }
+    {
         self.joins.as_slice()
     }
 

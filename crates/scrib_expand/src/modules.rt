@@ -1,11 +1,13 @@
 //! The modules among which protocols call one another.
 
-ghost use Rattle.std.specs.Prelude.{◌≡◌, ◌<◌, [], false, length, MatchOption, IfOk, OnOk, OnErr};
-ghost use Rattle.scrib_expand.specs.Names.{has_name, module_names, with_module};
+ghost use Rattle.std.specs.Prelude.{◌≡◌, ◌∷◌, ◌++◌, ◌<◌, [], false, length, map, slice_set, slice_index_or, MatchOption, IfOk, OnOk, OnErr};
+ghost use Rattle.scrib_grammar.specs.declared.tree.ModuleTree as parsed;
+ghost use Rattle.scrib_expand.specs.Names.{has_name, module_names, with_module, is_settled};
 ghost use Rattle.scrib_expand.specs.Table.{IsPlace};
 ghost use Rattle.scrib_expand.specs.Placed.{IsPlaced, undone};
 
 use crate::names::same_name;
+use crate::own_names::is_settled;
 use scrib_grammar::tree::ModuleTree;
 use scrib_types::name::Dotted;
 use std::alloc::{AllocError, Global};
@@ -23,19 +25,24 @@ pub struct Placed {
 #[derive(Drop)]
 pub struct Modules {
     trees: Vec<ModuleTree>,
+    // Of each whether its names are settled, so that elaboration needn't look at them again.
+    settled: Vec<bool>,
 }
 
 impl Model for Modules {
-    ghost use Rattle.std.specs.Prelude.{List};
+    ghost use Rattle.std.specs.Prelude.{◌≡◌, List, map};
     ghost use Rattle.std.specs.Coded.{codes};
     ghost use Rattle.scrib_grammar.specs.declared.tree.ModuleTree as parsed;
     ghost use Rattle.scrib_grammar.specs.contracts.tree.Statement as statement;
+    ghost use Rattle.scrib_expand.specs.Names.{is_settled};
 
     ghost Value = { List parsed.ModuleTree };
 
     ghost coded = { Prim.hlevel (codes, statement.the_row.coded) };
 
     ghost view = { λ m. m.trees.items };
+
+    ghost invariant = { λ m. m.settled.items ≡ map is_settled m.trees.items };
 }
 
 impl Modules {
@@ -45,6 +52,7 @@ impl Modules {
     {
         Modules {
             trees: Vec::new(alloc),
+            settled: Vec::new(alloc),
         }
     }
 
@@ -56,10 +64,7 @@ impl Modules {
         ensures ok { OnOk result (self.new ≡ with_module tree self.old) }
         ensures err { OnErr result (self.new ≡ self.old) }
     {
-        match place_of(&self.trees, &tree.name) {
-            Some(at) => self.trees[at] = tree,
-            None => self.trees.push(tree)?,
-        }
+        self.put(tree)?;
         Ok(())
     }
 
@@ -73,7 +78,7 @@ impl Modules {
     {
         match place_of(&self.trees, &tree.name) {
             Some(at) => {
-                let replaced = replace(&mut self.trees[at], tree);
+                let replaced = self.exchange(at, tree);
                 Ok(Placed {
                     at,
                     replaced: Some(replaced),
@@ -81,7 +86,7 @@ impl Modules {
             }
             None => {
                 let at = self.trees.len();
-                self.trees.push(tree)?;
+                self.push(tree)?;
                 Ok(Placed { at, replaced: None })
             }
         }
@@ -94,8 +99,13 @@ impl Modules {
     {
         let Placed { at, replaced } = placed;
         match replaced {
-            Some(tree) => self.trees[at] = tree,
-            None => self.trees.truncate(at),
+            Some(tree) => {
+                self.exchange(at, tree);
+            }
+            None => {
+                self.trees.truncate(at);
+                self.settled.truncate(at);
+            }
         }
     }
 
@@ -104,6 +114,36 @@ impl Modules {
         ensures { result.now ≡ self.now }
     {
         self.trees.as_slice()
+    }
+
+    /// Of each module, in order, whether its names are settled.
+    pub fn settled(&self) -> &[bool]
+        ensures { result.now ≡ map is_settled self.now }
+    {
+        self.settled.as_slice()
+    }
+
+    // Puts the module there, in place of the one that is given back.
+    fn exchange(&mut self, at: usize, tree: ModuleTree) -> ModuleTree
+        requires { at < length self.old }
+        ensures now { self.new ≡ slice_set self.old at tree }
+        ensures before { (d : parsed.ModuleTree) → result ≡ slice_index_or self.old at d }
+    {
+        self.settled[at] = is_settled(&tree);
+        replace(&mut self.trees[at], tree)
+    }
+
+    // Puts the module last.
+    fn push(&mut self, tree: ModuleTree) -> Result<(), AllocError>
+        ensures ok { OnOk result (self.new ≡ self.old ++ tree ∷ []) }
+        ensures err { OnErr result (self.new ≡ self.old) }
+    {
+        self.settled.push(is_settled(&tree))?;
+        if let Err(refused) = self.trees.push(tree) {
+            self.settled.pop();
+            return Err(AllocError::from(refused));
+        }
+        Ok(())
     }
 }
 

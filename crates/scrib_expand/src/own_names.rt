@@ -3,7 +3,7 @@
 ghost use Rattle.std.specs.Prelude.{◌≡◌, ◌≤◌, true, length, MatchResult};
 ghost use Rattle.scrib_expand.specs.declared.fault.FaultKind.TheVariants.{TwiceDeclared};
 ghost use Rattle.scrib_types.specs.WellFormed.{has_role, distinct_roles};
-ghost use Rattle.scrib_expand.specs.Names.{HasOwnNames, has_name, distinct_names, known_by, import_names, protocol_names, role_names};
+ghost use Rattle.scrib_expand.specs.Names.{HasOwnNames, has_name, distinct_names, is_settled, known_by, import_names, protocol_names, role_names};
 ghost use Rattle.scrib_expand.specs.Table.{IsImportAgain, IsProtocolAgain, FailsRoles, FailsNames};
 
 use crate::fault::FaultKind;
@@ -16,15 +16,38 @@ use scrib_types::spot::Spot;
 /// The most roles of a protocol.
 pub const MAX_ROLES: usize = 16;
 
-/// Checks the names of the module's imports and protocols and of the protocol's roles, in this order.
+/// The most imports, and the most protocols, of a module whose names are compared before it is elaborated.
+pub const MAX_SETTLED: usize = 1024;
+
+/// Whether the module's imports are known by different names, and its protocols have different names. In a
+/// module with many they aren't compared here, so that it costs little to refuse it for another reason.
+pub fn is_settled(home: &ModuleTree) -> bool
+    ensures { result ≡ is_settled home.now }
+{
+    if home.imports.len() > MAX_SETTLED || home.protocols.len() > MAX_SETTLED {
+        return false;
+    }
+    check_imports(home).is_ok() && check_protocols(home).is_ok()
+}
+
+/// Checks the names of the module's imports and protocols and of the protocol's roles, in this order; where the
+/// module's names are settled, only those of the roles.
 ///
 /// # Errors
 /// `TwiceDeclared` at the first name that stands there twice, and `TooManyRoles` at the 17th role.
-pub fn check_own_names(home: &ModuleTree, protocol: &ProtocolDeclaration) -> Result<(), BrokenRule>
+pub fn check_own_names(
+    home: &ModuleTree,
+    protocol: &ProtocolDeclaration,
+    settled: bool,
+) -> Result<(), BrokenRule>
+    requires { settled ≡ is_settled home.now }
     ensures { MatchResult result
         (λ _. HasOwnNames (record { home = home.now; protocol = protocol.now }))
         (FailsNames (record { home = home.now; protocol = protocol.now })) }
 {
+    if settled {
+        return check_roles(protocol);
+    }
     if let Err(spot) = check_imports(home) {
         return Err(twice(spot));
     }

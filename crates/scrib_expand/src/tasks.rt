@@ -25,15 +25,15 @@ pub struct Callee<'a> {
     pub shape: Shape,
 }
 
-/// A choice of which some blocks have their types: those in `types`, from the first. What follows it has a type
-/// too.
+/// A choice of which some blocks have their types: those in `types`, from the first. While blocks after the next
+/// one are left, the type of what follows the choice is kept for them.
 #[derive(Drop)]
 pub struct Choosing<'a> {
     pub standing: Standing<'a>,
     pub chooser: &'a Role,
     pub branches: &'a [Block],
     pub spot: Spot,
-    pub follows: Typed<'a>,
+    pub follows: Option<Typed<'a>>,
     pub types: Vec<Typed<'a>>,
 }
 

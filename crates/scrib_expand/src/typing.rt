@@ -17,7 +17,7 @@ ghost use Rattle.scrib_expand.specs.Shape.{IsShapeOf};
 ghost use Rattle.scrib_expand.specs.Standing.{scope_of};
 ghost use Rattle.scrib_expand.specs.Typing.{type_of, IsBefore, IsState, IsTable, IsVariable, TypingFails};
 
-use crate::built::Typed;
+use crate::built::{Origin, Typed};
 use crate::choices::{choose, join};
 use crate::declared::{Declared, called_home, find};
 use crate::fault::FaultKind;
@@ -76,29 +76,44 @@ fn repeat<'a>(
     Ok(typed)
 }
 
-// Enters a called protocol of this shape, where what follows the call has this type, unless the call adds nothing
-// to it.
+// Enters a called protocol, where what follows the call has this type, unless the call adds nothing to it.
 fn call<'a>(
     alloc: Global,
     tasks: &mut Vec<Task<'a>>,
+    table: &'a [Declared<'a>],
     standing: &Standing<'a>,
-    callee: Declared<'a>,
-    shape: Shape,
+    callee: Callee<'a>,
     roles: &'a [Role],
     typed: Typed<'a>,
 ) -> Result<Typed<'a>, Refused>
     ensures { (modules : List ModuleTree) (root : Declaration) (path : List (List ℕ)) (spot : Spot)
-        → called modules standing.now.within.home.now path ≡ Some (declaration_of callee.entry)
-        → IsShapeOf modules (declaration_of callee.entry) shape
+        → called modules standing.now.within.home.now path ≡ Some (declaration_of callee.entry.declared)
+        → IsShapeOf modules (declaration_of callee.entry.declared) callee.entry.shape
         → IsBefore modules root (reverse tasks.old.items) (scope_of standing.now) standing.now.depth (Calls path roles.now spot) (type_of typed.entry)
         → IfOk result (λ t. IsState modules root (reverse tasks.new.items) (type_of t)) }
 {
-    let inside = standing.inside_call(alloc, callee, roles)?;
+    let Callee { declared, shape } = callee;
+    let inside = standing.inside_call(alloc, declared, roles)?;
     if shape.passes(&inside.given, &typed.global) {
-        return Ok(typed);
+        return Ok(passed(table, shape, typed));
     }
-    tasks.push(Task::Front(inside, callee.protocol.body.as_slice()))?;
+    tasks.push(Task::Front(inside, declared.protocol.body.as_slice()))?;
     Ok(typed)
+}
+
+// What follows a call that adds nothing to its type. Where the called protocol joins, its first choice is the
+// outermost one that the communication in front comes from.
+fn passed<'a>(table: &'a [Declared<'a>], shape: Shape, typed: Typed<'a>) -> Typed<'a>
+    ensures { type_of result ≡ type_of typed.entry }
+{
+    if let Shape::Joining { at, spot, .. } = shape {
+        // The first pass found the choice there.
+        if let Some(first) = table.get(at) {
+            let home = first.home;
+            return typed.joined_at(Origin { home, spot });
+        }
+    }
+    typed
 }
 
 // The recursion whose body has this type.
@@ -183,9 +198,9 @@ fn put<'a>(
             let entered = call(
                 alloc,
                 tasks,
+                program.declared,
                 &standing,
-                callee.declared,
-                callee.shape,
+                callee,
                 roles.as_slice(),
                 typed,
             )?;

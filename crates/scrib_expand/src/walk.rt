@@ -1,8 +1,9 @@
 //! The walk over a protocol and all that it calls, which checks their statements: the first pass.
 
 ghost use Rattle.std.specs.Prelude.{◌≡◌, ◌<◌, List, length, IfOk, IfErr, OnOk, MatchResult};
+ghost use Rattle.std.specs.List.{All};
 ghost use Rattle.scrib_expand.specs.Names.{declarations};
-ghost use Rattle.scrib_expand.specs.Table.{shown};
+ghost use Rattle.scrib_expand.specs.Table.{shown, IsSettledSo};
 ghost use Rattle.scrib_expand.specs.Walking.{AreUnwalked, IsEntered, EnterFails, IsFaultIn, IsReady, TopKeeps, TopStops, WasWalked, AreSummaries, IsSmall, WalkFails};
 ghost use Rattle.scrib_grammar.specs.declared.tree.ModuleTree.{ModuleTree};
 
@@ -14,7 +15,7 @@ use crate::shapes::shape_block;
 use crate::size::size_block;
 use crate::statements::check_block;
 use crate::stop::{BrokenRule, Place, State, Stop, Summary};
-use scrib_grammar::tree::{ModuleTree, ProtocolDeclaration};
+use scrib_grammar::tree::ModuleTree;
 use std::alloc::{AllocError, Global};
 
 /// Walks over the protocol at this place of the table and over each that it calls, once. The protocols in which
@@ -32,6 +33,7 @@ pub fn walk<'a>(
     root: usize,
 ) -> Result<Vec<State>, ElaborateFault>
     requires all { shown declared.now ≡ declarations modules.now }
+    requires settled { All IsSettledSo declared.now }
     requires there { root < length declared.now }
     ensures ok { IfOk result (λ states. WasWalked modules.now (shown declared.now) states.items root) }
     ensures each { IfOk result (λ states. AreSummaries modules.now (shown declared.now) states.items) }
@@ -40,21 +42,14 @@ pub fn walk<'a>(
     let mut states = unwalked(alloc, declared.len())?;
     let mut stack = Vec::new(alloc);
     let first = declared[root];
-    enter(
-        alloc,
-        first.home,
-        first.protocol,
-        root,
-        &mut states,
-        &mut stack,
-    )?;
+    enter(alloc, first, root, &mut states, &mut stack)?;
     while let Some(top) = stack.pop() {
         match check(alloc, &*modules, &*declared, &states, top) {
             Ok(summary) => states[top] = State::Walked(summary),
             Err(Stop::Call(to)) => {
                 let next = declared[to];
                 stack.push(top)?;
-                enter(alloc, next.home, next.protocol, to, &mut states, &mut stack)?;
+                enter(alloc, next, to, &mut states, &mut stack)?;
             }
             Err(Stop::Broken(rule)) => {
                 let at = declared[top];
@@ -129,17 +124,22 @@ fn check<'a>(
 // Enters a protocol, whose names are checked first.
 fn enter(
     alloc: Global,
-    home: &ModuleTree,
-    protocol: &ProtocolDeclaration,
+    declared: Declared,
     to: usize,
     states: &mut Vec<State>,
     stack: &mut Vec<usize>,
 ) -> Result<(), ElaborateFault>
-    requires { to < length states.old.items }
-    ensures ok { OnOk result (IsEntered home.now protocol.now to states.old.items states.new.items stack.old.items stack.new.items) }
-    ensures fault { IfErr result (EnterFails home.now protocol.now) }
+    requires within { to < length states.old.items }
+    requires settled { IsSettledSo declared }
+    ensures ok { OnOk result (IsEntered declared.entry.home.now declared.entry.protocol.now to states.old.items states.new.items stack.old.items stack.new.items) }
+    ensures fault { IfErr result (EnterFails declared.entry.home.now declared.entry.protocol.now) }
 {
-    if let Err(rule) = check_own_names(home, protocol) {
+    let Declared {
+        home,
+        protocol,
+        settled,
+    } = declared;
+    if let Err(rule) = check_own_names(home, protocol, settled) {
         return Err(fault_in(alloc, home, rule));
     }
     stack.push(to)?;

@@ -19,7 +19,7 @@ pub struct Survey {
 
 impl Survey {
     /// What is found where there is no communication.
-    pub fn leaf(depth: u64) -> Survey
+    pub(crate) fn leaf(depth: u64) -> Survey
         ensures depth { result.depth ≡ depth }
         ensures occurs { result.occurs ≡ false }
         ensures joins { result.joins ≡ 0 }
@@ -34,7 +34,7 @@ impl Survey {
     }
 
     /// What is found in these branches and one more, after them.
-    pub fn with_branch(self, branch: Survey) -> Survey
+    pub(crate) fn with_branch(self, branch: Survey) -> Survey
         ensures depth { result.depth ≡ max self.depth branch.depth }
         ensures occurs { result.occurs ≡ (self.occurs || branch.occurs) }
         ensures joins { result.joins ≡ capped (self.joins + branch.joins) }
@@ -54,7 +54,7 @@ impl Survey {
 
     /// What is found in the recursion of a type with this survey. Where it is closed and the role doesn't
     /// occur in it, it isn't visited.
-    pub fn recursion(self) -> Survey
+    pub(crate) fn recursion(self) -> Survey
         ensures depth { result.depth ≡ self.depth - 1 }
         ensures occurs { result.occurs ≡ self.occurs }
         ensures joins { result.joins ≡ self.joins }
@@ -76,7 +76,7 @@ impl Survey {
 
     /// What is found in a communication whose branches have this survey: whether the role is a part of it,
     /// whether there are several branches, and whether they differ for the role.
-    pub fn communication(self, is_part: bool, several: bool, differ: bool) -> Survey
+    pub(crate) fn communication(self, is_part: bool, several: bool, differ: bool) -> Survey
         ensures depth { result.depth ≡ self.depth }
         ensures occurs { result.occurs ≡ (is_part || self.occurs) }
         ensures joins { result.joins ≡ capped (self.joins + (if several then 1 else 0)) }

@@ -2,7 +2,7 @@
 
 ghost use Rattle.std.specs.Prelude.{◌≡◌, ℕ, Option, slice_get, IfOk, IfErr, option_map, option_and_then};
 ghost use Rattle.std.specs.Option.{option_copied};
-ghost use Rattle.scrib_expand.specs.Meaning.{meaning_of};
+ghost use Rattle.scrib_expand.specs.Meaning.{meaning_of, joins_of};
 ghost use Rattle.scrib_local.specs.Surveys.{capped};
 ghost use Rattle.scrib_project.specs.Faults.{Projects, IsPlaced, IsFaultOf};
 
@@ -20,7 +20,8 @@ use std::alloc::{AllocError, Global};
 /// `Unmergeable` exactly where the projection is undefined, with the place of the first choice, in post-order,
 /// that is visited and whose branches differ for the role; `OutOfMemory` where memory was refused.
 pub fn project(alloc: Global, elaborated: &Elaborated, role: &Role) -> Result<Local, ProjectFault>
-    ensures { Projects (meaning_of elaborated.now).global role.now result }
+    ensures value { Projects (meaning_of elaborated.now).global role.now result }
+    ensures place { IfErr result (IsPlaced (joins_of elaborated.now) (meaning_of elaborated.now).global) }
 {
     project_among(alloc, elaborated, elaborated.joins(), role)
 }

@@ -1,7 +1,8 @@
 //! Protocols from what is elaborated.
 
-ghost use Rattle.scrib_expand.specs.Meaning.{meaning_of};
-ghost use Rattle.scrib_project.specs.Faults.{Agrees};
+ghost use Rattle.std.specs.Prelude.{IfErr};
+ghost use Rattle.scrib_expand.specs.Meaning.{meaning_of, joins_of};
+ghost use Rattle.scrib_project.specs.Faults.{Agrees, IsPlaced};
 
 use crate::fault::ProjectFault;
 use crate::project::project;
@@ -13,10 +14,11 @@ use std::alloc::Global;
 /// are declared.
 ///
 /// # Errors
-/// `Unmergeable` exactly where some role has no projection, with the first such role; `OutOfMemory` where memory
-/// was refused.
+/// `Unmergeable` exactly where some role has no projection, with the first such role and the place that `project`
+/// tells for it; `OutOfMemory` where memory was refused.
 pub fn protocol(alloc: Global, elaborated: Elaborated) -> Result<Protocol, ProjectFault>
-    ensures { Agrees (meaning_of elaborated) result }
+    ensures value { Agrees (meaning_of elaborated) result }
+    ensures place { IfErr result (IsPlaced (joins_of elaborated) (meaning_of elaborated).global) }
 {
     for role in elaborated.roles() {
         project(alloc, &elaborated, role)?;

@@ -1,4 +1,5 @@
-use Rattle.std.proofs.Common.{[], reverse, refl, sym, ap, ◌∙◌, subst}
+use Rattle.std.proofs.Common.{◌≡◌, ◌+◌, ◌-◌, length, reverse, refl, sym, ap, subst, arith}
+use Rattle.std.proofs.lemmas.Option.{slice_get_within}
 use Rattle.scrib_expand.specs.declared.tasks.Task.TheVariants.{Front, Join}
 use Rattle.scrib_expand.specs.declared.tasks.Choosing.{Choosing}
 use Rattle.scrib_expand.specs.Standing.{scope_of}
@@ -13,15 +14,18 @@ returns-in_default c = λ modules root b.
 
 pub returns : goal.returns
 returns c = λ modules root b.
-    let g = type_of c.in_ok-again.again in
     let standing = c.args.standing in
     let old = c.args.tasks.now.items in
+    let left = length c.args.branches.now - 1 in
     let choosing : Choosing = record {
       standing = standing;
       chooser = c.args.chooser;
       branches = c.args.branches;
       spot = c.args.spot;
-      follows = c.args.typed;
+      follows = c.in_ok-begun.follows;
       types = c.new.result;
     } in
-    pushed_twice modules root old c.push.new.self.items c.push-2.new.self.items (Join choosing) (Front c.in_ok-inner.inner c.as_slice.result) g g c.in_ok-push.ensures.items c.in_ok-push-2.ensures.items refl (next_block modules root (reverse old) choosing c.in_ok-inner.inner c.as_slice.result c.in-Some.first.now g (first_item c.args.branches.now c.new.result.items c.in-Some.first.now c.new.ensures.items (sym c.in-Some.ensures.value)) c.in_ok-inner.ensures c.as_slice.ensures c.in_ok-again.ensures (choosing_begins modules root (reverse old) (scope_of standing) standing.depth c.args.chooser.now c.args.branches.now c.args.spot (type_of c.args.typed) c.new.result.items c.new.ensures.items b))
+    let g = type_of c.in_ok-begun.begun in
+    let there = first_item c.args.branches.now c.new.result.items c.in-Some.first.now c.new.ensures.items (sym c.in-Some.ensures.value) in
+    let count : length c.new.result.items + 1 + left ≡ length c.args.branches.now = omega (arith, ap length c.new.ensures.items, slice_get_within c.args.branches.now (length c.new.result.items) c.in-Some.first.now there) in
+    pushed_twice modules root old c.push.new.self.items c.push-2.new.self.items (Join choosing) (Front c.in_ok-inner.inner c.as_slice.result) g g c.in_ok-push.ensures.items c.in_ok-push-2.ensures.items refl (next_block modules root (reverse old) choosing c.in_ok-inner.inner c.as_slice.result c.in-Some.first.now c.args.typed left g there count c.in_ok-inner.ensures c.as_slice.ensures c.in_ok-begun.ensures.next c.in_ok-begun.ensures.others (choosing_begins modules root (reverse old) (scope_of standing) standing.depth c.args.chooser.now c.args.branches.now c.args.spot c.args.typed c.new.result.items c.new.ensures.items b))

@@ -1,8 +1,14 @@
-use Rattle.std.proofs.Common.{◌++◌, ap, sym, ◌∙◌}
+use Rattle.std.proofs.Common.{◌≡◌, ◌<◌, ◌++◌, length, get_or, refl, ap, sym, ◌∙◌, subst}
 use Rattle.scrib_expand.specs.Names.{declared_in}
 use Rattle.scrib_expand.proofs.Places.{declarations-more}
 use Rattle.scrib_expand.proofs.declared.all_declared.Goals as goal
 
-pub loop-home-preserved : goal.loop-home-preserved
-loop-home-preserved c =
-    c.in_ok-declare.ensures ∙ ap (λ xs. xs ++ declared_in c.home-item.result c.home-item.result.protocols) c.loop-home.invariant ∙ sym (declarations-more c.args.modules.now c.loop-home.home-index c.home-item.result c.loop-home-test.true c.home-item.is)
+pub loop-i-preserved : goal.loop-i-preserved
+loop-i-preserved c =
+    let home = c.home-item.result in
+    let same = c.as_slice-home-items.ensures in
+    record {
+      shown =
+          c.in_ok-declare.ensures.all ∙ ap (λ xs. xs ++ declared_in home home.protocols) c.loop-i.invariant.shown ∙ sym (declarations-more c.args.modules.now c.loop-i.i home (subst (λ ms. c.loop-i.i < length ms) same c.loop-i-test.true) (c.home-item.is ∙ ap (λ ms. get_or ms c.loop-i.i home) same));
+      settled = c.in_ok-declare.ensures.settled;
+    }

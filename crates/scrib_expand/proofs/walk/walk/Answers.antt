@@ -1,5 +1,6 @@
 use Rattle.std.proofs.Common.{◌≡◌, ◌<◌, length, refl, sym, ap, ◌∙◌, subst, rules, arith}
 use Rattle.std.proofs.lemmas.Result.{err_from_is_err_and}
+use Rattle.scrib_expand.specs.Table.{IsSettledSo}
 use Rattle.scrib_expand.specs.Walking.{IsReady}
 use Rattle.scrib_expand.proofs.Walks.{IsNext, states_long, ready, top_within, begins_from, leaves_from, next_of, enters_from, less_entering, less_leaving, first_fails, next_fails, broken_fails, ended_from, summaries_from, no_items}
 use Rattle.scrib_expand.proofs.walk.walk.Goals as goal
@@ -48,10 +49,15 @@ bounds-declared-to c =
     let n = next_of c.args.modules.now c.args.declared.now c.args.root c.loop-top.states.items c.deref.result.now c.loop-top.stack.items c.pop.new.self.items c.in-Some.top c.in-Err-Call.to c.in-Err-Call.field-0 c.in-Some.ensures.items c.loop-top.invariant c.deref.ensures.value c.in-Err-Call.field-0-is c.in-Err-Call.ensures in
     n.within
 
-pub enter-requires-in-Err-Call : goal.enter-requires-in-Err-Call
-enter-requires-in-Err-Call c =
+pub enter-requires-in-Err-Call-clause-within : goal.enter-requires-in-Err-Call-clause-within
+enter-requires-in-Err-Call-clause-within c =
     let n = next_of c.args.modules.now c.args.declared.now c.args.root c.loop-top.states.items c.deref.result.now c.loop-top.stack.items c.pop.new.self.items c.in-Some.top c.in-Err-Call.to c.in-Err-Call.field-0 c.in-Some.ensures.items c.loop-top.invariant c.deref.ensures.value c.in-Err-Call.field-0-is c.in-Err-Call.ensures in
     n.stated
+
+pub enter-requires-in-Err-Call-clause-settled : goal.enter-requires-in-Err-Call-clause-settled
+enter-requires-in-Err-Call-clause-settled c =
+    let n = next_of c.args.modules.now c.args.declared.now c.args.root c.loop-top.states.items c.deref.result.now c.loop-top.stack.items c.pop.new.self.items c.in-Some.top c.in-Err-Call.to c.in-Err-Call.field-0 c.in-Some.ensures.items c.loop-top.invariant c.deref.ensures.value c.in-Err-Call.field-0-is c.in-Err-Call.ensures in
+    subst IsSettledSo (sym c.index-declared-to.is) (c.requires.settled c.in-Err-Call.to c.index-declared-to.result n.within)
 
 pub loop-top-smaller : goal.loop-top-smaller
 loop-top-smaller c =
