@@ -1,5 +1,5 @@
 //! Runs worked examples. Each has a title line that begins with `== `, a line with a command of `scribmon` and
-//! its words (`watch`, `explain 1`, `project demo.Hello A`), and the script or the module text of the command. The
+//! its words (`watch`, `explain 1`, `project demo.Hello A`), and the script or the module texts of the command. The
 //! output is each title with what the command writes.
 #![tactic(auto)]
 
@@ -8,7 +8,7 @@ use scrib_cli::id::id_of;
 use scrib_cli::project::project_text;
 use scrib_cli::run_script::{ScriptFault, run_script};
 use scrib_types::plain::Items;
-use std::alloc::Global;
+use std::alloc::{AllocError, AllocFailed, Global};
 use std::io;
 use std::io::{BufWriter, Write};
 use std::process::ExitCode;
@@ -20,7 +20,9 @@ enum RowsFault {
     NoCommand,
     // A command failed.
     Script,
-    // Memory, the reader or the writer failed.
+    // Memory was refused.
+    Memory,
+    // The reader or the writer failed.
     Io,
 }
 
@@ -30,23 +32,31 @@ impl From<ScriptFault> for RowsFault {
     }
 }
 
+impl From<AllocError> for RowsFault {
+    fn from(_e: AllocError) -> RowsFault {
+        RowsFault::Memory
+    }
+}
+
+impl<T: Drop> From<AllocFailed<T>> for RowsFault {
+    fn from(_e: AllocFailed<T>) -> RowsFault {
+        RowsFault::Memory
+    }
+}
+
 impl From<io::Error> for RowsFault {
     fn from(_e: io::Error) -> RowsFault {
         RowsFault::Io
     }
 }
 
-fn project_one<W: Write>(
-    alloc: Global,
-    protocol: &str,
-    role: &str,
-    text: &str,
-    writer: &mut W,
-) -> Result<(), RowsFault> {
-    let text = Items::from_slice(alloc, text.as_bytes()).map_err(|_| RowsFault::Io)?;
-    let texts = [Some(text)];
-    project_text(alloc, protocol, role, &texts, writer)?;
-    Ok(())
+// The module texts, which are parted by lines `%%`.
+fn texts_of(alloc: Global, body: &str) -> Result<Vec<Option<Items<u8>>>, AllocError> {
+    let mut texts = Vec::new(alloc);
+    for text in body.split("\n%%\n") {
+        texts.push(Some(Items::from_slice(alloc, text.as_bytes())?))?;
+    }
+    Ok(texts)
 }
 
 // Runs the command over what follows its line.
@@ -65,7 +75,8 @@ fn obey<W: Write>(
             explain_script(alloc, &mut reader, id, writer)?;
         }
         (Some("project"), Some(protocol), Some(role)) => {
-            project_one(alloc, protocol, role, body, writer)?
+            let texts = texts_of(alloc, body)?;
+            project_text(alloc, protocol, role, &texts, writer)?;
         }
         _ => return Err(RowsFault::NoCommand),
     }
@@ -85,7 +96,7 @@ fn tell<W: Write>(alloc: Global, example: &str, writer: &mut W) -> Result<(), Ro
 fn run(rt: &(impl Print + Input + AllocGlobal)) -> Result<(), RowsFault> {
     let alloc = rt.alloc();
     let text = io::read_to_string(alloc, rt.reader())?;
-    let mut writer = BufWriter::new(alloc, io::writer(rt)).map_err(|_| RowsFault::Io)?;
+    let mut writer = BufWriter::new(alloc, io::writer(rt))?;
     for example in text.as_str().split("== ").skip(1) {
         tell(alloc, example, &mut writer)?;
     }
