@@ -1,11 +1,11 @@
 -- The steps of the third pass at a choice.
-use Rattle.std.proofs.Common.{◌≡◌, ◌≢◌, ◌⊎◌, ℕ, zero, suc, ◌+◌, ◌<◌, ◌≤◌, Bool, true, false, ◌&&◌, ◌||◌, not, List, [], ◌∷◌, ◌++◌, length, map, take, drop, reverse, Option, Some, None, option_map, MatchOption, refl, sym, ap, ◌∙◌, subst, ⊎_elim, inl, inr, arith}
+use Rattle.std.proofs.Common.{◌≡◌, ◌≢◌, ◌⊎◌, ℕ, zero, suc, ◌+◌, ◌≤◌, true, false, not, List, [], ◌∷◌, ◌++◌, length, map, take, drop, Option, Some, None, option_map, MatchOption, refl, sym, ap, ◌∙◌, subst, ⊎_elim, inl, inr, arith}
 use Rattle.std.specs.Borrow.{Bor}
 use Rattle.std.specs.List.{slice_get}
 use Rattle.std.proofs.lemmas.Option.{slice_get_within, get_or_from_slice_get}
 use Rattle.std.specs.Option.{option_copied, option_zip}
 use Rattle.std.proofs.lemmas.List.{take_more, length_push}
-use Rattle.std.proofs.lemmas.Bool.{false≢true, both_ways, and_parts, and_from, or_parts, or_from, or_cases, or_left, or_right, not-true, not_from_false}
+use Rattle.std.proofs.lemmas.Bool.{false≢true, and_parts, and_from, or_parts, or_from, or_cases, or_left, or_right, not-true, not_from_false}
 use Rattle.scrib_types.specs.declared.message.Message.{Message}
 use Rattle.scrib_types.specs.declared.spot.Spot.{Spot}
 use Rattle.scrib_types.specs.Trees.{GlobalTree, GlobalEnd, GlobalVar, GlobalRec, Comm, Flight, GlobalBranches, NoBranch, Branch}
@@ -16,21 +16,19 @@ use Rattle.scrib_grammar.specs.declared.tree.Block.{Block}
 use Rattle.scrib_expand.specs.declared.fault.FaultKind.{FaultKind}
 use Rattle.scrib_expand.specs.declared.fault.FaultKind.TheVariants as kind
 use Rattle.scrib_expand.specs.declared.tasks.Task.{Task}
-use Rattle.scrib_expand.specs.declared.tasks.Task.TheVariants.{Front, Join, Close}
+use Rattle.scrib_expand.specs.declared.tasks.Task.TheVariants.{Front, Join}
 use Rattle.scrib_expand.specs.declared.tasks.Choosing.{Choosing}
 use Rattle.scrib_expand.specs.declared.standing.Standing.{Standing}
 use Rattle.scrib_expand.specs.declared.built.Typed.{Typed}
 use Rattle.scrib_expand.specs.declared.untyped.Untyped.{Untyped}
 use Rattle.scrib_expand.specs.declared.untyped.Untyped.TheVariants as untyped
-use Rattle.scrib_expand.specs.Source.{Body, Done, Then, Step, Chooses, Blocks, NoBlock, OrBlock}
+use Rattle.scrib_expand.specs.Source.{Body, Then, Chooses, Blocks, NoBlock, OrBlock}
 use Rattle.scrib_expand.specs.SourceView.{body_of, blocks_of}
 use Rattle.scrib_expand.specs.Names.{Declaration}
 use Rattle.scrib_expand.specs.Elaboration.{Scope, role_in, Frames, Under, and_branches, sent, Types, ends, closes, sends, chooses, repeats, passes, continues, calls, JoinsTo, joins_none, joins, start_of}
-use Rattle.scrib_expand.specs.Faults.{Stands, StandsIn, in_this, in_other, in_choice, Reaches, blocks_before, Needs, needs_itself, needs_branch, IsNeeded, IsBranch, IsOneOf, IsOfAnother, IsToAnother, IsSameOperator, share_operator, FailsTyping}
-use Rattle.scrib_expand.specs.Lifting.{AreBelow}
-use Rattle.scrib_expand.specs.Table.{IsPart, AreParts}
+use Rattle.scrib_expand.specs.Faults.{Stands, StandsIn, in_this, in_other, in_choice, Reaches, blocks_before, Needs, needs_itself, needs_branch, IsBranch, IsOneOf, share_operator, FailsTyping}
 use Rattle.scrib_expand.specs.Standing.{scope_of, IsSame}
-use Rattle.scrib_expand.specs.Typing.{type_of, FailsUp, AreTyped, IsJoin, Path, IsState, IsBefore, IsChoosing, IsFirst, IsAdded, HeadFails, IsHeadFault, TypingFails}
+use Rattle.scrib_expand.specs.Typing.{type_of, FailsUp, AreTyped, Path, IsState, IsBefore, IsChoosing, IsFirst, IsAdded, HeadFails, IsHeadFault, TypingFails}
 use Rattle.scrib_expand.proofs.Needed.{fails_through}
 use Rattle.scrib_expand.proofs.Steps.{opened}
 

@@ -47,9 +47,12 @@ zip_end {A} {B} {Z} ks vs xs s t u r first second y e step long =
   where
     k : (iter_rest (zip_first t) ≡ drop (length xs) (iter_rest (zip_first s))) × (into_iter_items (zip_second t) ≡ drop (length xs) (into_iter_items (zip_second s)))
     k = so_far xs s t y
+
     left : iter_rest (zip_first t) ≡ drop (length xs) ks
     left = k.0 ∙ ap (drop (length xs)) first
+
     right : into_iter_items (zip_second t) ≡ drop (length xs) vs
     right = k.1 ∙ ap (drop (length xs)) second
+
     h : ((v : Iter A) × fronts (zip_first t) None v) ⊎ ((v : IntoIter B Z) × into_iter_steps (zip_second t) None v)
     h = subst (λ o. zips fronts into_iter_steps t o u) e step

@@ -1,15 +1,15 @@
-use Rattle.std.proofs.Common.{◌≡◌, length, take, sym, ap, ◌∙◌, subst}
+use Rattle.std.proofs.Common.{◌≡◌, length, sym, ap, ◌∙◌, subst}
 use Rattle.std.specs.Iterator.Adapters.{zip_first, zip_second}
 use Rattle.std.specs.Slice.Iter.{iter_rest}
 use Rattle.std.specs.Vec.Iter.{into_iter_items}
 use Rattle.std.proofs.lemmas.Result.{err_from_is_err_and}
 use Rattle.std.proofs.lemmas.List.{take_all, length_push}
-use Rattle.scrib_types.specs.GlobalView.{global_of, global_branches, comm_of}
+use Rattle.scrib_types.specs.GlobalView.{global_branches, comm_of}
 use Rattle.scrib_types.specs.Trees.{Comm}
 use Rattle.scrib_expand.specs.SourceView.{blocks_of}
 use Rattle.scrib_expand.specs.Elaboration.{role_in, Under}
 use Rattle.scrib_expand.specs.Standing.{scope_of}
-use Rattle.scrib_expand.specs.Typing.{type_of, TypingFails}
+use Rattle.scrib_expand.specs.Typing.{TypingFails}
 use Rattle.scrib_expand.proofs.Joined.{AreJoined, next_joined, next_fails, joined_put, joined_none}
 use Rattle.scrib_expand.proofs.Zipped.{zip_turn, zip_end}
 use Rattle.scrib_expand.proofs.choices.joined.Goals as goal

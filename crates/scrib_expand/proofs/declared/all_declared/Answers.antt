@@ -1,4 +1,4 @@
-use Rattle.std.proofs.Common.{◌≡◌, ◌<◌, ◌++◌, length, get_or, refl, ap, sym, ◌∙◌, subst}
+use Rattle.std.proofs.Common.{◌<◌, ◌++◌, length, get_or, ap, sym, ◌∙◌, subst}
 use Rattle.scrib_expand.specs.Names.{declared_in}
 use Rattle.scrib_expand.proofs.Places.{declarations-more}
 use Rattle.scrib_expand.proofs.declared.all_declared.Goals as goal

@@ -1,4 +1,4 @@
-use Rattle.std.proofs.Common.{◌≡◌, List, Some, None, length, refl, ap, sym, ◌∙◌, subst}
+use Rattle.std.proofs.Common.{List, Some, None, length, refl, ap, sym, ◌∙◌, subst}
 use Rattle.scrib_grammar.specs.declared.tree.ModuleTree.{ModuleTree}
 use Rattle.scrib_expand.specs.Names.{has_name, module_names}
 use Rattle.scrib_expand.specs.Table.{IsPlace}
