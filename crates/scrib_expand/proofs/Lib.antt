@@ -26,3 +26,6 @@ mod Putting
 mod Steps
 mod Joined
 mod Finished
+mod Staying
+mod Alone
+mod Ahead

@@ -1,10 +1,15 @@
 use Rattle.std.proofs.Common.{◌≡◌, length, reverse, refl, sym, ap, ◌∙◌, subst, arith}
 use Rattle.std.specs.List.{slice_get}
+use Rattle.std.proofs.lemmas.Result.{MatchResult-weaker}
 use Rattle.scrib_expand.specs.declared.tasks.Task.TheVariants.{Front, Join}
 use Rattle.scrib_expand.specs.declared.tasks.Choosing.{Choosing}
+use Rattle.scrib_expand.specs.Source.{Then, Chooses}
+use Rattle.scrib_expand.specs.SourceView.{blocks_of}
+use Rattle.scrib_expand.specs.Elaboration.{Under}
 use Rattle.scrib_expand.specs.Standing.{scope_of}
 use Rattle.scrib_expand.specs.Typing.{type_of, IsChoosing}
 use Rattle.scrib_expand.proofs.Steps.{pushed_twice}
+use Rattle.scrib_expand.proofs.Ahead.{stack_ahead, stops_ahead}
 use Rattle.scrib_expand.proofs.Joined.{block_typed, next_block}
 use Rattle.scrib_expand.proofs.choices.join.Goals as goal
 
@@ -14,7 +19,9 @@ returns-in_default c = λ modules root s.
     let choosing = c.args.choosing in
     let x = block_typed modules root (reverse old) choosing c.push.new.self.items c.args.typed c.in_ok-push.ensures.items s in
     let y = subst (λ ts. IsChoosing modules root (reverse old) (scope_of choosing.standing) choosing.standing.depth choosing.chooser.now choosing.branches.now choosing.spot (type_of choosing.follows) ts) (sym c.deref.ensures.value) x in
-    c.joined.ensures modules root (reverse old) (type_of choosing.follows) y
+    let sc = scope_of choosing.standing in
+    let ahead = stack_ahead modules root old choosing.standing.depth (Under sc (Then (Chooses choosing.chooser.now (blocks_of choosing.branches.now) choosing.spot) x.rest) x.outer) x.path in
+    MatchResult-weaker c.joined.result (c.joined.ensures modules root (reverse old) (type_of choosing.follows) y) (λ t v. v) (λ e f. stops_ahead modules root old e f ahead)
 
 pub returns : goal.returns
 returns c = λ modules root s.
