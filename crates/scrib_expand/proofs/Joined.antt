@@ -39,7 +39,7 @@ block_at [] k b e = absurd (omega (arith, slice_get_within [] k b e))
 block_at (c ∷ bs) zero b e = let same : c ≡ b = cc in ap (λ x. OrBlock (body_of x.body) x.spot (blocks_of bs)) same
 block_at (c ∷ bs) (suc k) b e = ap (OrBlock (body_of c.body) c.spot) (block_at bs k b e)
 
-in_before : {recs inner : List (List ℕ)} {b r : Body} (s : Spot) (after before : Blocks) → Stands recs b inner r → StandsIn recs (blocks_before before b s after) inner r
+pub in_before : {recs inner : List (List ℕ)} {b r : Body} (s : Spot) (after before : Blocks) → Stands recs b inner r → StandsIn recs (blocks_before before b s after) inner r
 in_before s after NoBlock st = in_this st
 in_before s after (OrBlock c t cs) st = in_other (in_before s after cs st)
 

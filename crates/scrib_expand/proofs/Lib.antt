@@ -28,3 +28,6 @@ mod Zipped
 mod Steps
 mod Joined
 mod Finished
+mod Staying
+mod Alone
+mod Ahead

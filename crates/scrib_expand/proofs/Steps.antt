@@ -58,7 +58,7 @@ fails_in_front k d spot ms recs n sc (t ∷ ss) s b outer e f keeps low h =
     let leads = subst (λ x. StepKeeps ms sc.within recs (step_of t) x) (starts s b ss v.rest) v.step in
     fails_rest k ms recs n sc (step_of t) (before ss (Then s b)) outer d spot leads low (fails_in_front k d spot ms recs n sc ss s b outer v.leads f v.rest low h)
 
-block_kept : {ms : List ModuleTree} {root d : Declaration} (recs : List (List ℕ)) (b : Body) → Reaches ms root d → (e : Bool) → KeepsRules ms root e → IsPart d recs b → (a f : Bool) × BlockKeeps ms d recs a b f
+pub block_kept : {ms : List ModuleTree} {root d : Declaration} (recs : List (List ℕ)) (b : Body) → Reaches ms root d → (e : Bool) → KeepsRules ms root e → IsPart d recs b → (a f : Bool) × BlockKeeps ms d recs a b f
 block_kept {ms = ms} {d = d} recs b reached e kept part =
     let k = kept_along reached e kept in
     let r = kept_at (part recs b here) ms d true k.0 (of_protocol k.1).block in

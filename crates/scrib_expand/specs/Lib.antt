@@ -15,4 +15,5 @@ pub mod Shape
 pub mod Table
 pub mod Walking
 pub mod Standing
+pub mod Staying
 pub mod Typing

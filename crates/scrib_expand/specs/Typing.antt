@@ -1,5 +1,6 @@
 -- What the parts of the third pass stand for (this project's own).
 use Rattle.std.specs.Prelude.{◌≡◌, ◌≢◌, ℕ, ◌+◌, ◌≤◌, true, false, List, [], ◌∷◌, length, slice_get, Option, Some, None, MatchOption}
+use Rattle.std.specs.List.{All}
 use Rattle.scrib_types.specs.declared.spot.Spot.{Spot}
 use Rattle.scrib_types.specs.GlobalView.{global_of}
 use Rattle.scrib_types.specs.Trees.{GlobalTree, GlobalEnd, GlobalVar, GlobalRec, Comm, GlobalBranches}
@@ -9,7 +10,7 @@ use Rattle.scrib_grammar.specs.declared.tree.Block.{Block}
 use Rattle.scrib_expand.specs.declared.built.Typed.{Typed}
 use Rattle.scrib_expand.specs.declared.tasks.Program.{Program}
 use Rattle.scrib_expand.specs.declared.tasks.Task.{Task}
-use Rattle.scrib_expand.specs.declared.tasks.Task.TheVariants.{Front, Join, Close}
+use Rattle.scrib_expand.specs.declared.tasks.Task.TheVariants.{Front, Join, Close, Trial}
 use Rattle.scrib_expand.specs.declared.fault.FaultKind.{FaultKind}
 use Rattle.scrib_expand.specs.declared.fault.FaultKind.TheVariants as kind
 use Rattle.scrib_expand.specs.declared.untyped.Untyped.{Untyped}
@@ -101,6 +102,8 @@ Path modules root (Join c ∷ tasks) n fs =
     (hs : Frames) × IsJoin modules root (scope_of c.standing) c.standing.depth c.chooser.now c.branches.now c.spot c.follows c.types.items n fs hs × Path modules root tasks n hs
 Path modules root (Close home spot ∷ tasks) n fs =
     (m : ℕ) × (hs : Frames) × IsClose modules root home.now spot n fs m hs × Path modules root tasks m hs
+-- a trial leads to none: its task is the last
+Path modules root (Trial ∷ tasks) n fs = tasks ≡ []
 
 -- the type that was made last is that of the frames from which the tasks lead on
 pub record IsState (modules : List ModuleTree) (root : Declaration) (tasks : List Task) (g : GlobalTree) : Type 0 where
@@ -126,6 +129,33 @@ abbrev pub TypingFails : List ModuleTree → Declaration → Untyped → Type 0
 TypingFails modules root (Broken home b) =
     (place : Declaration) × Reaches modules root place × (home.now ≡ place.home) × FailsTyping b.kind modules 0 (start_of root) place b.spot
 TypingFails modules root OutOfMemory = Unit {0}
+
+-- The statements stand in a protocol that is reached from the one that was asked for, and a fault of their type,
+-- with some frames after them, is one of the type of that one.
+pub record IsAhead (modules : List ModuleTree) (root : Declaration) (sc : Scope) (n : ℕ) (b : Body) : Type 0 where
+  pub outer : Frames
+  pub up : FailsUp modules root n (Under sc b outer)
+  pub recs : List (List ℕ)
+  pub part : IsPart sc.within recs b
+  pub reached : Reaches modules root sc.within
+  pub below : AreBelow n (Under sc b outer)
+
+-- so do the statements of this task, with more of their block after them
+abbrev pub IsTaskAhead : List ModuleTree → Declaration → Task → Type 0
+IsTaskAhead modules root (Front standing statements) =
+    (rest : Body) × IsAhead modules root (scope_of standing) standing.depth (before statements.now rest)
+IsTaskAhead modules root (Join c) = Unit {0}
+IsTaskAhead modules root (Close home spot) = Unit {0}
+IsTaskAhead modules root Trial = Unit {0}
+
+abbrev pub AreAhead : List ModuleTree → Declaration → List Task → Type 0
+AreAhead modules root tasks = All (IsTaskAhead modules root) tasks
+
+-- a rule on types fails, and the statements of these tasks stand in front of the fault, unless memory was refused
+abbrev pub StopsAhead : List ModuleTree → Declaration → List Task → Untyped → Type 0
+StopsAhead modules root tasks (Broken home b) =
+    TypingFails modules root (Broken home b) × AreAhead modules root tasks
+StopsAhead modules root tasks OutOfMemory = Unit {0}
 
 -- a choice in whose place the tasks lead on: the types of its first blocks, and while some are left of what follows it
 pub record IsChoosing (modules : List ModuleTree) (root : Declaration) (tasks : List Task) (sc : Scope) (n : ℕ) (chooser : List ℕ) (blocks : List Block) (spot : Spot) (follows : Option Typed) (types : List Typed) : Type 0 where

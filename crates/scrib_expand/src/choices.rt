@@ -13,7 +13,7 @@ ghost use Rattle.scrib_expand.specs.Source.{Chooses};
 ghost use Rattle.scrib_expand.specs.SourceView.{blocks_of};
 ghost use Rattle.scrib_expand.specs.Names.{Declaration};
 ghost use Rattle.scrib_expand.specs.Standing.{scope_of};
-ghost use Rattle.scrib_expand.specs.Typing.{type_of, IsBefore, IsState, TypingFails, IsChoosing, IsFirst, IsAdded, IsHeadFault};
+ghost use Rattle.scrib_expand.specs.Typing.{type_of, IsBefore, IsState, TypingFails, StopsAhead, IsChoosing, IsFirst, IsAdded, IsHeadFault};
 
 use crate::built::{Origin, Typed};
 use crate::fault::FaultKind;
@@ -52,7 +52,7 @@ pub fn choose<'a>(
 ) -> Result<Typed<'a>, Untyped<'a>>
     ensures { (modules : List ModuleTree) (root : Declaration)
         → IsBefore modules root (reverse tasks.old.items) (scope_of standing.entry) standing.entry.depth (Chooses chooser.now (blocks_of branches.now) spot) (type_of typed.entry)
-        → MatchResult result (λ t. IsState modules root (reverse tasks.new.items) (type_of t)) (TypingFails modules root) }
+        → MatchResult result (λ t. IsState modules root (reverse tasks.new.items) (type_of t)) (StopsAhead modules root tasks.new.items) }
 {
     let Some(first) = branches.first() else {
         return Err(broken(standing.within.home, FaultKind::EmptyBranch, spot));
@@ -84,7 +84,7 @@ pub fn join<'a>(
 ) -> Result<Typed<'a>, Untyped<'a>>
     ensures { (modules : List ModuleTree) (root : Declaration)
         → IsState modules root (Join choosing.entry ∷ reverse tasks.old.items) (type_of typed.entry)
-        → MatchResult result (λ t. IsState modules root (reverse tasks.new.items) (type_of t)) (TypingFails modules root) }
+        → MatchResult result (λ t. IsState modules root (reverse tasks.new.items) (type_of t)) (StopsAhead modules root tasks.new.items) }
 {
     let Choosing {
         standing,

@@ -4,8 +4,10 @@
 mod built;
 mod choices;
 mod declared;
+mod earlier;
 pub mod elaborate;
 pub mod elaborated;
+mod exits;
 pub mod fault;
 mod growth;
 mod lift;

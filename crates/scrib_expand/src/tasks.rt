@@ -18,9 +18,10 @@ pub struct Program<'a> {
     pub root: Declared<'a>,
 }
 
-/// A called protocol, and its shape.
+/// A called protocol, its place in the table, and its shape.
 #[derive(Clone, Copy, Drop)]
 pub struct Callee<'a> {
+    pub place: usize,
     pub declared: Declared<'a>,
     pub shape: Shape,
 }
@@ -46,4 +47,6 @@ pub enum Task<'a> {
     Join(Choosing<'a>),
     /// It is the type of the body of the recursion here.
     Close(&'a ModuleTree, Spot),
+    /// It is the type of a block that was tried alone.
+    Trial,
 }

@@ -1,8 +1,9 @@
 //! The global type of a protocol: the third pass.
 
-ghost use Rattle.std.specs.Prelude.{◌≡◌, ℕ, Bool, List, ◌∷◌, map, Some, IfOk, IfErr, IfSome, MatchResult, reverse};
+ghost use Rattle.std.specs.Prelude.{◌≡◌, ℕ, Bool, List, ◌∷◌, map, slice_get, Some, IfOk, IfErr, IfSome, MatchResult, reverse};
 ghost use Rattle.scrib_types.specs.declared.spot.Spot.{Spot};
 ghost use Rattle.scrib_types.specs.GlobalView.{global_of};
+ghost use Rattle.scrib_types.specs.Trees.{GlobalEnd};
 ghost use Rattle.scrib_types.specs.WellFormed.{leads_to_communication};
 ghost use Rattle.scrib_grammar.specs.declared.tree.ModuleTree.{ModuleTree};
 ghost use Rattle.scrib_expand.specs.declared.tasks.Task.TheVariants.{Front, Join, Close};
@@ -15,11 +16,12 @@ ghost use Rattle.scrib_expand.specs.Elaboration.{role_in, sent, Types, start_of}
 ghost use Rattle.scrib_expand.specs.Table.{shown, declaration_of};
 ghost use Rattle.scrib_expand.specs.Shape.{IsShapeOf};
 ghost use Rattle.scrib_expand.specs.Standing.{scope_of};
-ghost use Rattle.scrib_expand.specs.Typing.{type_of, IsBefore, IsState, IsTable, IsVariable, TypingFails};
+ghost use Rattle.scrib_expand.specs.Typing.{type_of, IsBefore, IsState, IsTable, IsVariable, TypingFails, StopsAhead};
 
 use crate::built::{Origin, Typed};
 use crate::choices::{choose, join};
 use crate::declared::{Declared, called_home, find};
+use crate::earlier::first_fault;
 use crate::fault::FaultKind;
 use crate::shape::Shape;
 use crate::shapes::shape_at;
@@ -92,7 +94,7 @@ fn call<'a>(
         → IsBefore modules root (reverse tasks.old.items) (scope_of standing.now) standing.now.depth (Calls path roles.now spot) (type_of typed.entry)
         → IfOk result (λ t. IsState modules root (reverse tasks.new.items) (type_of t)) }
 {
-    let Callee { declared, shape } = callee;
+    let Callee { declared, shape, .. } = callee;
     let inside = standing.inside_call(alloc, declared, roles)?;
     if shape.passes(&inside.given, &typed.global) {
         return Ok(passed(table, shape, typed));
@@ -160,7 +162,7 @@ fn put<'a>(
     requires { IsTable program.now }
     ensures { (root : Declaration)
         → IsBefore program.now.modules.now root (reverse tasks.old.items) (scope_of standing.entry) standing.entry.depth (step_of statement.now) (type_of typed.entry)
-        → MatchResult result (λ t. IsState program.now.modules.now root (reverse tasks.new.items) (type_of t)) (TypingFails program.now.modules.now root) }
+        → MatchResult result (λ t. IsState program.now.modules.now root (reverse tasks.new.items) (type_of t)) (StopsAhead program.now.modules.now root tasks.new.items) }
 {
     match statement {
         Statement::Message {
@@ -223,18 +225,23 @@ fn again<'a>(alloc: Global, standing: &Standing<'a>, name: &Name) -> Result<Type
     Ok(Typed::variable(alloc, standing.depth - 1 - level))
 }
 
-// The protocol that a call of this path names, and its shape.
-fn callee<'a>(program: &Program<'a>, at: &'a ModuleTree, path: &'a Dotted) -> Option<Callee<'a>>
+/// The protocol that a call of this path names.
+pub fn callee<'a>(program: &Program<'a>, at: &'a ModuleTree, path: &'a Dotted) -> Option<Callee<'a>>
     requires { IsTable program.now }
+    ensures place { IfSome result (λ c. slice_get (shown program.now.declared.now) c.place ≡ Some (declaration_of c.declared)) }
     ensures called { IfSome result (λ c. called program.now.modules.now at.now path.now ≡ Some (declaration_of c.declared)) }
     ensures shape { IfSome result (λ c. IsShapeOf program.now.modules.now (declaration_of c.declared) c.shape) }
 {
     let home = called_home(program.modules, at, path)?;
     let names = path.as_slice();
-    let k = find(program.declared, home, &names[names.len() - 1])?;
-    let declared = program.declared[k];
-    let shape = shape_at(program.states, k);
-    Some(Callee { declared, shape })
+    let place = find(program.declared, home, &names[names.len() - 1])?;
+    let declared = program.declared[place];
+    let shape = shape_at(program.states, place);
+    Some(Callee {
+        place,
+        declared,
+        shape,
+    })
 }
 
 // The next statement of these, or the task is done.
@@ -249,7 +256,7 @@ fn front<'a>(
     requires { IsTable program.now }
     ensures { (root : Declaration) (e : Bool) → KeepsRules program.now.modules.now root e
         → IsState program.now.modules.now root (Front standing.entry statements.entry ∷ reverse tasks.old.items) (type_of typed.entry)
-        → MatchResult result (λ t. IsState program.now.modules.now root (reverse tasks.new.items) (type_of t)) (TypingFails program.now.modules.now root) }
+        → MatchResult result (λ t. IsState program.now.modules.now root (reverse tasks.new.items) (type_of t)) (StopsAhead program.now.modules.now root tasks.new.items) }
 {
     let Some((last, rest)) = statements.split_last() else {
         return Ok(typed);
@@ -270,7 +277,7 @@ fn step<'a>(
     requires { IsTable program.now }
     ensures { (root : Declaration) (e : Bool) → KeepsRules program.now.modules.now root e
         → IsState program.now.modules.now root (task.entry ∷ reverse tasks.old.items) (type_of typed.entry)
-        → MatchResult result (λ t. IsState program.now.modules.now root (reverse tasks.new.items) (type_of t)) (TypingFails program.now.modules.now root) }
+        → MatchResult result (λ t. IsState program.now.modules.now root (reverse tasks.new.items) (type_of t)) (StopsAhead program.now.modules.now root tasks.new.items) }
 {
     match task {
         Task::Front(standing, statements) => {
@@ -278,7 +285,39 @@ fn step<'a>(
         }
         Task::Join(choosing) => join(alloc, tasks, choosing, typed),
         Task::Close(home, spot) => close(alloc, home, spot, typed),
+        // A run ends before it.
+        Task::Trial => Err(Untyped::OutOfMemory),
     }
+}
+
+/// Does these tasks, the last one first, from the end: nothing follows the first type that is made. At the end it is
+/// the type of the protocol that was asked for. There is none where a block was tried alone.
+///
+/// # Errors
+/// `Broken` with the first rule on types that is broken, from the end, its module and its place: what is left of
+/// the tasks has the statements in front of it; `OutOfMemory` where memory was refused.
+pub fn run<'a>(
+    alloc: Global,
+    program: &Program<'a>,
+    tasks: &mut Vec<Task<'a>>,
+) -> Result<Option<Typed<'a>>, Untyped<'a>>
+    requires { IsTable program.now }
+    ensures { (root : Declaration) (e : Bool) → KeepsRules program.now.modules.now root e
+        → IsState program.now.modules.now root (reverse tasks.old.items) GlobalEnd
+        → MatchResult result (λ o. IfSome o (λ t. Types program.now.modules.now 0 (start_of root) (type_of t))) (StopsAhead program.now.modules.now root tasks.new.items) }
+{
+    let mut typed = Typed::end(alloc);
+    // Memory ends long before this many tasks.
+    for _ in 0..u64::MAX {
+        let Some(task) = tasks.pop() else {
+            return Ok(Some(typed));
+        };
+        if let Task::Trial = task {
+            return Ok(None);
+        }
+        typed = step(alloc, program, tasks, task, typed)?;
+    }
+    Err(Untyped::OutOfMemory)
 }
 
 /// The type of the protocol that was asked for, after the first pass. Types are built from the end: what follows
@@ -286,8 +325,8 @@ fn step<'a>(
 /// protocol to the next.
 ///
 /// # Errors
-/// `Broken` with the first rule on types that is broken, its module and its place; `OutOfMemory` where memory was
-/// refused.
+/// `Broken` with the rule on types that is broken, its module and its place, of several the one that a reader who
+/// goes forward meets first; `OutOfMemory` where memory was refused.
 pub fn type_of_root<'a>(alloc: Global, program: &Program<'a>) -> Result<Typed<'a>, Untyped<'a>>
     requires table { IsTable program.now }
     requires kept { (e : Bool) × KeepsRules program.now.modules.now (declaration_of program.now.root) e }
@@ -298,13 +337,10 @@ pub fn type_of_root<'a>(alloc: Global, program: &Program<'a>) -> Result<Typed<'a
     let statements = program.root.protocol.body.as_slice();
     let mut tasks = Vec::new(alloc);
     tasks.push(Task::Front(standing, statements))?;
-    let mut typed = Typed::end(alloc);
-    // Memory ends long before this many tasks.
-    for _ in 0..u64::MAX {
-        let Some(task) = tasks.pop() else {
-            return Ok(typed);
-        };
-        typed = step(alloc, program, &mut tasks, task, typed)?;
+    match run(alloc, program, &mut tasks) {
+        Ok(Some(typed)) => Ok(typed),
+        // No block is tried yet.
+        Ok(None) => Err(Untyped::OutOfMemory),
+        Err(found) => Err(first_fault(alloc, program, tasks, found)),
     }
-    Err(Untyped::OutOfMemory)
 }

@@ -2,15 +2,23 @@ use Rattle.std.proofs.Common.{◌≡◌, ◌+◌, ◌-◌, length, reverse, refl
 use Rattle.std.proofs.lemmas.Option.{slice_get_within}
 use Rattle.scrib_expand.specs.declared.tasks.Task.TheVariants.{Front, Join}
 use Rattle.scrib_expand.specs.declared.tasks.Choosing.{Choosing}
+use Rattle.scrib_expand.specs.Source.{Then, Chooses}
+use Rattle.scrib_expand.specs.SourceView.{blocks_of}
+use Rattle.scrib_expand.specs.Elaboration.{Under}
 use Rattle.scrib_expand.specs.Standing.{scope_of}
-use Rattle.scrib_expand.specs.Typing.{type_of, TypingFails}
+use Rattle.scrib_expand.specs.Typing.{type_of, StopsAhead}
 use Rattle.scrib_expand.proofs.Steps.{pushed_twice}
+use Rattle.scrib_expand.proofs.Ahead.{stack_ahead}
 use Rattle.scrib_expand.proofs.Joined.{choosing_begins, no_block, next_block, no_item, first_item}
 use Rattle.scrib_expand.proofs.choices.choose.Goals as goal
 
 pub returns-in_default : goal.returns-in_default
 returns-in_default c = λ modules root b.
-    subst (λ e. TypingFails modules root e) (sym c.broken.ensures) (no_block modules root (reverse c.args.tasks.now.items) c.args.standing c.args.chooser.now c.args.branches.now c.args.spot (type_of c.args.typed) (no_item c.args.branches.now c.in_default.ensures.value) b)
+    let old = c.args.tasks.now.items in
+    let standing = c.args.standing in
+    let fails = no_block modules root (reverse c.args.tasks.now.items) c.args.standing c.args.chooser.now c.args.branches.now c.args.spot (type_of c.args.typed) (no_item c.args.branches.now c.in_default.ensures.value) b in
+    let ahead = stack_ahead modules root old standing.depth (Under (scope_of standing) (Then (Chooses c.args.chooser.now (blocks_of c.args.branches.now) c.args.spot) b.rest) b.outer) b.path in
+    subst (λ e. StopsAhead modules root old e) (sym c.broken.ensures) (fails, ahead)
 
 pub returns : goal.returns
 returns c = λ modules root b.

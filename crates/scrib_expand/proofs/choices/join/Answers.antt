@@ -3,11 +3,16 @@ use Rattle.std.specs.List.{slice_get}
 use Rattle.std.specs.Option.{option_copied}
 use Rattle.std.proofs.lemmas.Option.{slice_get_within}
 use Rattle.scrib_expand.specs.declared.built.Typed.{Typed}
+use Rattle.std.proofs.lemmas.Result.{MatchResult-weaker}
 use Rattle.scrib_expand.specs.declared.tasks.Task.TheVariants.{Front, Join}
 use Rattle.scrib_expand.specs.declared.tasks.Choosing.{Choosing}
+use Rattle.scrib_expand.specs.Source.{Then, Chooses}
+use Rattle.scrib_expand.specs.SourceView.{blocks_of}
+use Rattle.scrib_expand.specs.Elaboration.{Under}
 use Rattle.scrib_expand.specs.Standing.{scope_of}
 use Rattle.scrib_expand.specs.Typing.{type_of, IsChoosing}
 use Rattle.scrib_expand.proofs.Steps.{pushed_twice}
+use Rattle.scrib_expand.proofs.Ahead.{stack_ahead, stops_ahead}
 use Rattle.scrib_expand.proofs.Joined.{block_typed, next_block, none_left, one_left}
 use Rattle.scrib_expand.proofs.choices.join.Goals as goal
 
@@ -25,7 +30,10 @@ returns-in_default c = λ modules root s.
     let types = c.push.new.self.items in
     let x = block_typed modules root (reverse old) choosing types c.args.typed c.in_ok-push.ensures.items s in
     let long : c.len.result ≡ length types = omega (arith, c.push.new.self.ok.0) in
-    c.joined.ensures modules root (reverse old) choosing.follows x (none_left choosing.branches.now types c.at-next.result choosing.follows _ c.len.result (sym c.zip.ensures ∙ c.in_default.is) c.at-next.ensures long x.few x.after)
+    let y = c.joined.ensures modules root (reverse old) choosing.follows x (none_left choosing.branches.now types c.at-next.result choosing.follows _ c.len.result (sym c.zip.ensures ∙ c.in_default.is) c.at-next.ensures long x.few x.after) in
+    let sc = scope_of choosing.standing in
+    let ahead = stack_ahead modules root old choosing.standing.depth (Under sc (Then (Chooses choosing.chooser.now (blocks_of choosing.branches.now) choosing.spot) x.rest) x.outer) x.path in
+    MatchResult-weaker c.joined.result y (λ t v. v) (λ e f. stops_ahead modules root old e f ahead)
 
 pub returns : goal.returns
 returns c = λ modules root s.

@@ -4,7 +4,7 @@ use Rattle.scrib_expand.specs.Source.{Chooses, Repeats, Calls}
 use Rattle.scrib_expand.specs.SourceView.{step_of, body_of, blocks_of, message_of, choice_of, rec_of, continue_of, do_of}
 use Rattle.scrib_expand.specs.Elaboration.{role_in, sent}
 use Rattle.scrib_expand.specs.Standing.{scope_of}
-use Rattle.scrib_expand.specs.Typing.{type_of, IsBefore, TypingFails}
+use Rattle.scrib_expand.specs.Typing.{type_of, IsBefore, StopsAhead}
 use Rattle.scrib_expand.proofs.Steps.{message_put, variable_put}
 use Rattle.scrib_expand.proofs.typing.put.Goals as goal
 
@@ -52,7 +52,7 @@ returns-in-Continue c = λ root b.
     let m = c.in-Continue in
     let same = ap step_of m.is ∙ continue_of m.name m.spot in
     let at = subst (λ s. IsBefore ms root ts sc n s g) same b in
-    MatchResult-weaker c.again.result c.again.ensures (λ t v. variable_put ms root ts sc n v.level v.index m.name m.spot g (type_of t) v.there v.deep v.is at) (λ e f. subst (λ x. TypingFails ms root x) (sym f) tt)
+    MatchResult-weaker c.again.result c.again.ensures (λ t v. variable_put ms root ts sc n v.level v.index m.name m.spot g (type_of t) v.there v.deep v.is at) (λ e f. subst (λ x. StopsAhead ms root c.args.tasks.now.items x) (sym f) tt)
 
 pub returns : goal.returns
 returns c = λ root b.
