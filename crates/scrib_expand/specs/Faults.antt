@@ -106,7 +106,7 @@ pub record IsLoose (d : Declaration) (spot : Spot) : Type 0 where
 abbrev pub CallsAt : Declaration → Spot → (path roles : List (List ℕ)) → Type 0
 CallsAt d spot path roles = HasStep d (Calls path roles spot)
 
--- the block is one of these, after those
+-- the first blocks, then this block, then the others
 abbrev pub blocks_before : Blocks → Body → Spot → Blocks → Blocks
 blocks_before NoBlock b s bs = OrBlock b s bs
 blocks_before (OrBlock c t cs) b s bs = OrBlock c t (blocks_before cs b s bs)

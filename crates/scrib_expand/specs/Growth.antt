@@ -1,5 +1,6 @@
 -- How the size of statements grows with what follows them (this project's own). Sizes are counted less one here,
 -- and are told apart below 4,096 alone, where the numbers of the code stay.
+-- Only contracts of private functions cite this file.
 use Rattle.std.specs.Prelude.{◌≡◌, ℕ, ◌+◌, ◌*◌, min, List}
 use Rattle.scrib_grammar.specs.declared.tree.ModuleTree.{ModuleTree}
 use Rattle.scrib_expand.specs.declared.growth.Growth.{Growth}

@@ -1,4 +1,5 @@
 -- A global type, and frames, under one recursion more (this project's own).
+-- Only contracts of private functions cite this file.
 use Rattle.std.specs.Prelude.{ℕ, ◌+◌, ◌<◌, nat_le, List, [], ◌∷◌, if◌then◌else◌}
 use Rattle.scrib_types.specs.Trees.{GlobalTree, GlobalEnd, GlobalVar, GlobalRec, Comm, Flight, GlobalBranches, NoBranch, Branch}
 use Rattle.scrib_expand.specs.Elaboration.{Frames, NoFrame, Under}

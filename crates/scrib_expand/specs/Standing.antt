@@ -1,4 +1,5 @@
 -- What is known of where statements stand (this project's own).
+-- Only contracts of private functions cite this file.
 use Rattle.std.specs.Prelude.{◌≡◌, ℕ, ◌+◌, List, [], map}
 use Rattle.std.specs.Borrow.{Bor}
 use Rattle.scrib_expand.specs.declared.standing.Level.{Level}

@@ -1,4 +1,5 @@
--- Blocks that no way leads through (this project's own). Cited by contracts of private functions alone.
+-- Blocks that no way leads through (this project's own).
+-- Only contracts of private functions cite this file.
 use Rattle.std.specs.Prelude.{◌≡◌, ℕ, List, Some}
 use Rattle.scrib_types.specs.declared.spot.Spot.{Spot}
 use Rattle.scrib_grammar.specs.declared.tree.ModuleTree.{ModuleTree}

@@ -1,4 +1,5 @@
 -- What the tables of a walk stand for.
+-- Only contracts of private functions cite this file.
 use Rattle.std.specs.Prelude.{◌≡◌, ◌⊎◌, ℕ, ◌<◌, Bool, true, false, List, ◌∷◌, ◌++◌, length, map, slice_get, Option, Some}
 use Rattle.scrib_expand.specs.declared.declared.Declared.{Declared}
 use Rattle.scrib_types.specs.declared.spot.Spot.{Spot}

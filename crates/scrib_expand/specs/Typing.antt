@@ -1,4 +1,5 @@
 -- What the parts of the third pass stand for (this project's own).
+-- Only contracts of private functions cite this file.
 use Rattle.std.specs.Prelude.{◌≡◌, ◌≢◌, ℕ, ◌+◌, ◌≤◌, true, false, List, [], ◌∷◌, length, slice_get, Option, Some, None, MatchOption}
 use Rattle.std.specs.List.{All}
 use Rattle.scrib_types.specs.declared.spot.Spot.{Spot}

@@ -1,4 +1,5 @@
 -- What the parts of a walk over protocols do.
+-- Only contracts of private functions cite this file.
 use Rattle.std.specs.Prelude.{◌≡◌, ◌⊎◌, ℕ, ◌≤◌, Bool, true, List, [], ◌∷◌, ◌++◌, length, slice_get, slice_set, Some}
 use Rattle.scrib_types.specs.declared.spot.Spot.{Spot}
 use Rattle.scrib_grammar.specs.declared.tree.ModuleTree.{ModuleTree}
