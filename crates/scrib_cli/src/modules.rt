@@ -5,11 +5,11 @@ ghost use Rattle.scrib_library.specs.Edits.{Reads};
 ghost use Rattle.scrib_cli.specs.ProjectionSteps.{IsUnreadOrRefused, AreAddedOrFail};
 
 use crate::fault::ScriptFault;
-use scrib_expand::modules::Modules;
-use scrib_grammar::parse::parse;
-use scrib_grammar::tree::ModuleTree;
+use scrib_elaborate::modules::Modules;
 use scrib_lexer::lex::lex;
 use scrib_library::fault::EditFault;
+use scrib_parser::parse::parse;
+use scrib_parser::tree::ModuleTree;
 use scrib_types::plain::Items;
 use std::alloc::Global;
 

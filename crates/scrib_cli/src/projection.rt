@@ -2,17 +2,17 @@
 
 ghost use Rattle.std.specs.Prelude.{◌≡◌, false, IfOk, MatchOption};
 ghost use Rattle.scrib_types.specs.WellFormed.{has_role};
-ghost use Rattle.scrib_expand.specs.Meaning.{meaning_of};
+ghost use Rattle.scrib_elaborate.specs.Meaning.{meaning_of};
 ghost use Rattle.scrib_cli.specs.Projections.{IsProjection};
 ghost use Rattle.scrib_cli.specs.ProjectionSteps.{IsRoleProjection, IsDeclared};
 
 use crate::fault::ScriptFault;
 use crate::full_name::full_name_of;
 use crate::modules::add_texts;
-use scrib_expand::elaborate::elaborate;
-use scrib_expand::elaborated::Elaborated;
-use scrib_expand::fault::ElaborateFault;
-use scrib_expand::modules::Modules;
+use scrib_elaborate::elaborate::elaborate;
+use scrib_elaborate::elaborated::Elaborated;
+use scrib_elaborate::fault::ElaborateFault;
+use scrib_elaborate::modules::Modules;
 use scrib_library::fault::EditFault;
 use scrib_project::fault::ProjectFault;
 use scrib_project::project::project;

@@ -9,7 +9,7 @@ use Rattle.scrib_types.specs.Agreement.{Agreement}
 use Rattle.scrib_types.specs.Judgement.{Judges, IsOffence}
 use Rattle.scrib_types.specs.Permitted.{IsPermitted}
 use Rattle.scrib_types.specs.WellFormed.{is_protocol}
-use Rattle.scrib_grammar.specs.declared.tree.ModuleTree.{ModuleTree}
+use Rattle.scrib_parser.specs.declared.tree.ModuleTree.{ModuleTree}
 use Rattle.scrib_global.specs.Simulation.{IsJoinedRun}
 use Rattle.scrib_global.proofs.Runs.{simulates}
 use Rattle.scrib_global.proofs.Judged.{permitted_front}

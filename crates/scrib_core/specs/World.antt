@@ -5,7 +5,7 @@ use Rattle.std.specs.Map.{lookup, set_value}
 use Rattle.scrib_types.specs.declared.event.Event.{Event}
 use Rattle.scrib_types.specs.Agreement.{Agreement}
 use Rattle.scrib_lexer.specs.Tokens.{max_text_bytes}
-use Rattle.scrib_grammar.specs.declared.tree.ModuleTree.{ModuleTree}
+use Rattle.scrib_parser.specs.declared.tree.ModuleTree.{ModuleTree}
 use Rattle.scrib_library.specs.declared.fault.EditFault.{EditFault}
 use Rattle.scrib_library.specs.declared.fault.EditFault.TheVariants as edit
 use Rattle.scrib_library.specs.Modules.{Means}

@@ -1,10 +1,10 @@
 //! Elaboration of module texts that are too large to be written down: how many nodes a protocol has, or the fault.
 
-use scrib_expand::elaborate::elaborate;
-use scrib_expand::fault::{ElaborateFault, Fault};
-use scrib_expand::modules::Modules;
-use scrib_grammar::parse::parse;
+use scrib_elaborate::elaborate::elaborate;
+use scrib_elaborate::fault::{ElaborateFault, Fault};
+use scrib_elaborate::modules::Modules;
 use scrib_lexer::lex::lex;
+use scrib_parser::parse::parse;
 use scrib_types::name::{Dotted, Name};
 use scrib_types::text::push_dotted;
 use std::alloc::Global;

@@ -1,7 +1,7 @@
-use scrib_grammar::fault::{LeftOutWord, ParseFault};
-use scrib_grammar::parse::parse;
-use scrib_grammar::tree::{Import, ModuleTree, Statement};
 use scrib_lexer::lex::lex;
+use scrib_parser::fault::{LeftOutWord, ParseFault};
+use scrib_parser::parse::parse;
+use scrib_parser::tree::{Import, ModuleTree, Statement};
 use scrib_types::message::Message;
 use scrib_types::name::{Dotted, Name};
 use scrib_types::spot::Spot;

@@ -4,13 +4,13 @@ use Rattle.std.specs.List.{Contains}
 use Rattle.std.proofs.lemmas.List.{map-append}
 use Rattle.std.proofs.lemmas.List.Elements.{Contains-push_cases}
 use Rattle.scrib_types.specs.Agreement.{Agreement}
-use Rattle.scrib_grammar.specs.declared.tree.ModuleTree.{ModuleTree}
-use Rattle.scrib_expand.specs.declared.elaborated.Elaborated.{Elaborated}
-use Rattle.scrib_expand.specs.declared.fault.ElaborateFault.{ElaborateFault}
-use Rattle.scrib_expand.specs.declared.fault.ElaborateFault.TheVariants as elaborate
-use Rattle.scrib_expand.specs.Elaboration.{Elaborates}
-use Rattle.scrib_expand.specs.Faults.{FailsAt, IsBroken}
-use Rattle.scrib_expand.specs.Meaning.{meaning_of}
+use Rattle.scrib_parser.specs.declared.tree.ModuleTree.{ModuleTree}
+use Rattle.scrib_elaborate.specs.declared.elaborated.Elaborated.{Elaborated}
+use Rattle.scrib_elaborate.specs.declared.fault.ElaborateFault.{ElaborateFault}
+use Rattle.scrib_elaborate.specs.declared.fault.ElaborateFault.TheVariants as elaborate
+use Rattle.scrib_elaborate.specs.Elaboration.{Elaborates}
+use Rattle.scrib_elaborate.specs.Faults.{FailsAt, IsBroken}
+use Rattle.scrib_elaborate.specs.Meaning.{meaning_of}
 use Rattle.scrib_project.specs.declared.fault.ProjectFault.{ProjectFault}
 use Rattle.scrib_project.specs.declared.fault.ProjectFault.TheVariants as project
 use Rattle.scrib_project.specs.Faults.{Agrees}

@@ -9,11 +9,11 @@ use Rattle.scrib_types.specs.Agreement.{Agreement}
 use Rattle.scrib_types.specs.WellFormed.{is_protocol, projects}
 use Rattle.scrib_record.specs.declared.version.Version.{Version}
 use Rattle.scrib_record.specs.Versions.{meaning_of}
-use Rattle.scrib_grammar.specs.declared.tree.ModuleTree.{ModuleTree}
-use Rattle.scrib_expand.specs.Names.{Declaration, dotted_eq, declarations, is_called, roles_of}
-use Rattle.scrib_expand.specs.Elaboration.{Elaborates, Types, start_of}
-use Rattle.scrib_expand.proofs.Distinct.{dotted_eq-Decides}
-use Rattle.scrib_expand.proofs.Functional.{types_same}
+use Rattle.scrib_parser.specs.declared.tree.ModuleTree.{ModuleTree}
+use Rattle.scrib_elaborate.specs.Names.{Declaration, dotted_eq, declarations, is_called, roles_of}
+use Rattle.scrib_elaborate.specs.Elaboration.{Elaborates, Types, start_of}
+use Rattle.scrib_elaborate.proofs.Distinct.{dotted_eq-Decides}
+use Rattle.scrib_elaborate.proofs.Functional.{types_same}
 use Rattle.scrib_library.specs.declared.versions.NamedVersion.{NamedVersion}
 use Rattle.scrib_library.specs.declared.changes.ChangeKind.{ChangeKind}
 use Rattle.scrib_library.specs.declared.changes.ChangeKind.TheVariants.{Added, Replaced, Withdrawn}

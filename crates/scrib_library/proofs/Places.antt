@@ -5,11 +5,11 @@ use Rattle.std.proofs.lemmas.Bool.{false≢true}
 use Rattle.std.proofs.lemmas.List.{take_more, drop_more, take_all}
 use Rattle.std.proofs.lemmas.List.Elements.{Contains-append_left, Contains-append_right, Contains-append_cases}
 use Rattle.std.proofs.lemmas.List.Sums.{sum_by-take-le, sum_by_push}
-use Rattle.scrib_grammar.specs.declared.tree.ModuleTree.{ModuleTree}
-use Rattle.scrib_grammar.specs.declared.tree.Import.{Import}
-use Rattle.scrib_grammar.specs.declared.tree.ProtocolDeclaration.{ProtocolDeclaration}
-use Rattle.scrib_expand.specs.Names.{Declaration, dotted_eq, has_name, first_where, module_names, with_module, declared_in, declarations}
-use Rattle.scrib_expand.proofs.Distinct.{dotted_eq-Decides}
+use Rattle.scrib_parser.specs.declared.tree.ModuleTree.{ModuleTree}
+use Rattle.scrib_parser.specs.declared.tree.Import.{Import}
+use Rattle.scrib_parser.specs.declared.tree.ProtocolDeclaration.{ProtocolDeclaration}
+use Rattle.scrib_elaborate.specs.Names.{Declaration, dotted_eq, has_name, first_where, module_names, with_module, declared_in, declarations}
+use Rattle.scrib_elaborate.proofs.Distinct.{dotted_eq-Decides}
 use Rattle.scrib_library.specs.Modules.{is_missing, missing_import, protocol_count}
 use Rattle.scrib_library.proofs.Lists.{Contains-nil, Contains-head, Contains-head_at, Contains-tail, Contains-cases, Contains-map, Contains-map_back}
 

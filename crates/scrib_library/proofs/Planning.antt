@@ -1,10 +1,10 @@
 -- What a put does to the library.
 use Rattle.std.proofs.Common.{◌≡◌, ℕ, List, get_or, None, inl, inr, refl, sym, ◌∙◌, subst}
 use Rattle.std.specs.List.{Contains}
-use Rattle.scrib_grammar.specs.declared.tree.ModuleTree.{ModuleTree}
-use Rattle.scrib_expand.specs.Names.{with_module}
-use Rattle.scrib_expand.specs.declared.modules.Placed.{Placed}
-use Rattle.scrib_expand.specs.Placed.{IsPlaced}
+use Rattle.scrib_parser.specs.declared.tree.ModuleTree.{ModuleTree}
+use Rattle.scrib_elaborate.specs.Names.{with_module}
+use Rattle.scrib_elaborate.specs.declared.modules.Placed.{Placed}
+use Rattle.scrib_elaborate.specs.Placed.{IsPlaced}
 use Rattle.scrib_library.specs.declared.versions.NamedVersion.{NamedVersion}
 use Rattle.scrib_library.specs.declared.plan.Plan.{Plan}
 use Rattle.scrib_library.specs.declared.fault.EditFault.{EditFault}

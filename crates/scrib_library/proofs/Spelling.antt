@@ -5,10 +5,10 @@ use Rattle.std.specs.Bool.{IsTrue}
 use Rattle.scrib_types.specs.Names.{is_name}
 use Rattle.scrib_lexer.specs.declared.token.TokenKind.TheVariants.{Dot}
 use Rattle.scrib_lexer.specs.Lexeme.{Lexeme}
-use Rattle.scrib_grammar.specs.declared.tree.ModuleTree.{ModuleTree}
-use Rattle.scrib_grammar.specs.declared.tree.ProtocolDeclaration.{ProtocolDeclaration}
-use Rattle.scrib_grammar.specs.Grammar as grammar
-use Rattle.scrib_grammar.specs.Grammar.{Language, many, joined, token, dotted, kept, declaration, max_levels, ◌·◌}
+use Rattle.scrib_parser.specs.declared.tree.ModuleTree.{ModuleTree}
+use Rattle.scrib_parser.specs.declared.tree.ProtocolDeclaration.{ProtocolDeclaration}
+use Rattle.scrib_parser.specs.Grammar as grammar
+use Rattle.scrib_parser.specs.Grammar.{Language, many, joined, token, dotted, kept, declaration, max_levels, ◌·◌}
 use Rattle.scrib_library.specs.Edits.{Reads}
 use Rattle.scrib_library.specs.Stored.{AreNames, IsSpelled}
 use Rattle.scrib_library.proofs.Lists.{Contains-nil, Contains-head, Contains-tail, Contains-cases}

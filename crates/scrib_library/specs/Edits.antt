@@ -10,14 +10,14 @@ use Rattle.scrib_lexer.specs.declared.fault.LexFault.TheVariants as lex
 use Rattle.scrib_lexer.specs.Lexeme.{Lexeme}
 use Rattle.scrib_lexer.specs.Tokens as tokens
 use Rattle.scrib_lexer.specs.Tokens.{max_text_bytes, IsTokens}
-use Rattle.scrib_grammar.specs.declared.fault.ParseFault.{ParseFault}
-use Rattle.scrib_grammar.specs.declared.fault.ParseFault.TheVariants as parse
-use Rattle.scrib_grammar.specs.declared.tree.ModuleTree.{ModuleTree}
-use Rattle.scrib_grammar.specs.declared.tree.Import.{Import}
-use Rattle.scrib_grammar.specs.Grammar.{IsModule, IsFaultOf}
-use Rattle.scrib_expand.specs.declared.fault.Fault.{Fault}
-use Rattle.scrib_expand.specs.Names.{Declaration, declarations, with_module}
-use Rattle.scrib_expand.specs.Faults.{IsBroken}
+use Rattle.scrib_parser.specs.declared.fault.ParseFault.{ParseFault}
+use Rattle.scrib_parser.specs.declared.fault.ParseFault.TheVariants as parse
+use Rattle.scrib_parser.specs.declared.tree.ModuleTree.{ModuleTree}
+use Rattle.scrib_parser.specs.declared.tree.Import.{Import}
+use Rattle.scrib_parser.specs.Grammar.{IsModule, IsFaultOf}
+use Rattle.scrib_elaborate.specs.declared.fault.Fault.{Fault}
+use Rattle.scrib_elaborate.specs.Names.{Declaration, declarations, with_module}
+use Rattle.scrib_elaborate.specs.Faults.{IsBroken}
 use Rattle.scrib_project.specs.declared.fault.Unmergeable.{Unmergeable}
 use Rattle.scrib_project.specs.Faults.{first_without}
 use Rattle.scrib_library.specs.declared.changes.ChangeKind.{ChangeKind}

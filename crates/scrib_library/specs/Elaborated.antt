@@ -1,8 +1,8 @@
 -- The declared protocols, elaborated, and their versions.
 -- Only contracts of private functions cite this file.
 use Rattle.std.specs.Prelude.{◌≡◌, ℕ, List, map, Some, Contains}
-use Rattle.scrib_grammar.specs.declared.tree.ModuleTree.{ModuleTree}
-use Rattle.scrib_expand.specs.Meaning.{meaning_of}
+use Rattle.scrib_parser.specs.declared.tree.ModuleTree.{ModuleTree}
+use Rattle.scrib_elaborate.specs.Meaning.{meaning_of}
 use Rattle.scrib_project.specs.Faults.{first_without}
 use Rattle.scrib_record.specs.Versions as record_versions
 use Rattle.scrib_library.specs.declared.versions.NamedElaborated.{NamedElaborated}

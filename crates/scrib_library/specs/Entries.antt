@@ -1,9 +1,9 @@
 -- The declared protocols by full name.
 -- Only contracts of private functions cite this file.
 use Rattle.std.specs.Prelude.{◌≡◌, ◌⊎◌, ℕ, List, map, Contains}
-use Rattle.scrib_grammar.specs.declared.tree.ModuleTree.{ModuleTree}
-use Rattle.scrib_grammar.specs.declared.tree.ProtocolDeclaration.{ProtocolDeclaration}
-use Rattle.scrib_expand.specs.Names.{Declaration, declarations}
+use Rattle.scrib_parser.specs.declared.tree.ModuleTree.{ModuleTree}
+use Rattle.scrib_parser.specs.declared.tree.ProtocolDeclaration.{ProtocolDeclaration}
+use Rattle.scrib_elaborate.specs.Names.{Declaration, declarations}
 use Rattle.scrib_library.specs.declared.declared.Entry.{Entry}
 use Rattle.scrib_library.specs.Modules.{full_name, name_of}
 use Rattle.scrib_library.specs.Listed.{AreInOrder, AreDeclaredNames}

@@ -3,10 +3,10 @@ use Rattle.std.specs.Prelude.{◌≡◌, ℕ, Bool, true, not, List, [], ◌∷�
 use Rattle.std.specs.List.{sum_by}
 use Rattle.scrib_types.specs.Agreement.{Agreement}
 use Rattle.scrib_types.specs.WellFormed.{projects, is_protocol}
-use Rattle.scrib_grammar.specs.declared.tree.ModuleTree.{ModuleTree}
-use Rattle.scrib_grammar.specs.declared.tree.Import.{Import}
-use Rattle.scrib_expand.specs.Names.{Declaration, has_name, first_where, module_names, declarations}
-use Rattle.scrib_expand.specs.Elaboration.{Elaborates}
+use Rattle.scrib_parser.specs.declared.tree.ModuleTree.{ModuleTree}
+use Rattle.scrib_parser.specs.declared.tree.Import.{Import}
+use Rattle.scrib_elaborate.specs.Names.{Declaration, has_name, first_where, module_names, declarations}
+use Rattle.scrib_elaborate.specs.Elaboration.{Elaborates}
 
 -- the protocol's name behind that of its module
 abbrev pub full_name : (home : List (List ℕ)) (name : List ℕ) → List (List ℕ)

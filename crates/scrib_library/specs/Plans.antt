@@ -1,7 +1,7 @@
 -- What a put will do.
 -- Only contracts of private functions cite this file.
 use Rattle.std.specs.Prelude.{◌≡◌, List}
-use Rattle.scrib_grammar.specs.declared.tree.ModuleTree.{ModuleTree}
+use Rattle.scrib_parser.specs.declared.tree.ModuleTree.{ModuleTree}
 use Rattle.scrib_library.specs.declared.plan.Plan.{Plan}
 use Rattle.scrib_library.specs.declared.versions.NamedVersion.{NamedVersion}
 use Rattle.scrib_library.specs.Edits.{HasRoom}

@@ -2,8 +2,8 @@
 use Rattle.std.specs.Prelude.{◌≡◌, ℕ, IsTrue, List, map, Option, Some, None, Contains}
 use Rattle.scrib_types.specs.Names.{is_name}
 use Rattle.scrib_types.specs.Agreement.{Agreement}
-use Rattle.scrib_grammar.specs.declared.tree.ModuleTree.{ModuleTree}
-use Rattle.scrib_grammar.specs.declared.tree.ProtocolDeclaration.{ProtocolDeclaration}
+use Rattle.scrib_parser.specs.declared.tree.ModuleTree.{ModuleTree}
+use Rattle.scrib_parser.specs.declared.tree.ProtocolDeclaration.{ProtocolDeclaration}
 use Rattle.scrib_record.specs.Versions.{meaning_of}
 use Rattle.scrib_library.specs.declared.versions.NamedVersion.{NamedVersion}
 use Rattle.scrib_library.specs.Modules.{Means, AreImportsThere}

@@ -5,7 +5,7 @@ ghost use Rattle.scrib_library.specs.Listed.{AreInOrder, IsAt, IsGap};
 ghost use Rattle.scrib_library.specs.Entries.{entry_names, AreEntries, AreEntered};
 
 use crate::names::{compare, full_name};
-use scrib_grammar::tree::ModuleTree;
+use scrib_parser::tree::ModuleTree;
 use scrib_types::name::{Dotted, Name};
 use std::alloc::{AllocError, Global};
 

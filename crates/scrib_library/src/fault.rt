@@ -1,8 +1,8 @@
 //! Why an edit was refused.
 
-use scrib_expand::fault::{ElaborateFault, Fault};
-use scrib_grammar::fault::ParseFault;
+use scrib_elaborate::fault::{ElaborateFault, Fault};
 use scrib_lexer::fault::LexFault;
+use scrib_parser::fault::ParseFault;
 use scrib_project::fault::{ProjectFault, Unmergeable};
 use scrib_types::name::Dotted;
 use std::alloc::{AllocError, AllocFailed};

@@ -2,7 +2,7 @@
 
 ghost use Rattle.std.specs.Prelude.{◌≡◌, [], IfOk, IfErr, OnErr};
 ghost use Rattle.std.specs.Option.{option_map};
-ghost use Rattle.scrib_grammar.specs.declared.tree.ModuleTree as parsed;
+ghost use Rattle.scrib_parser.specs.declared.tree.ModuleTree as parsed;
 ghost use Rattle.scrib_record.specs.Versions.{meaning_of};
 ghost use Rattle.scrib_library.specs.Modules.{IsMeaning, MeansProtocols};
 ghost use Rattle.scrib_library.specs.Edits.{IsPut, IsChanges, PutFails};
@@ -12,7 +12,7 @@ use crate::fault::EditFault;
 use crate::plan::plan_put;
 use crate::read::read;
 use crate::versions::{NamedVersion, version_of};
-use scrib_expand::modules::Modules;
+use scrib_elaborate::modules::Modules;
 use scrib_record::version::Version;
 use scrib_types::name::Dotted;
 use scrib_types::plain::Items;
@@ -37,8 +37,8 @@ pub struct Library {
 impl Model for Library {
     ghost use Rattle.std.specs.Prelude.{List};
     ghost use Rattle.std.specs.Coded.{codes};
-    ghost use Rattle.scrib_grammar.specs.declared.tree.ModuleTree as parsed;
-    ghost use Rattle.scrib_grammar.specs.contracts.tree.Statement as statement;
+    ghost use Rattle.scrib_parser.specs.declared.tree.ModuleTree as parsed;
+    ghost use Rattle.scrib_parser.specs.contracts.tree.Statement as statement;
     ghost use Rattle.scrib_library.specs.Stored.{IsLibrary};
 
     ghost Value = { List parsed.ModuleTree };

@@ -11,8 +11,8 @@ use crate::difference::changes_between;
 use crate::fault::EditFault;
 use crate::room::check_room;
 use crate::versions::{NamedVersion, versions_of};
-use scrib_expand::modules::Modules;
-use scrib_grammar::tree::ModuleTree;
+use scrib_elaborate::modules::Modules;
+use scrib_parser::tree::ModuleTree;
 use scrib_types::plain::Items;
 use std::alloc::Global;
 

@@ -1,13 +1,13 @@
 //! From a text to the module that it is.
 
 ghost use Rattle.std.specs.Prelude.{List, IfOk, IfErr};
-ghost use Rattle.scrib_grammar.specs.declared.tree.ModuleTree.{ModuleTree};
+ghost use Rattle.scrib_parser.specs.declared.tree.ModuleTree.{ModuleTree};
 ghost use Rattle.scrib_library.specs.Edits.{Reads, PutFails};
 
 use crate::fault::EditFault;
-use scrib_grammar::parse::parse;
-use scrib_grammar::tree::ModuleTree;
 use scrib_lexer::lex::lex;
+use scrib_parser::parse::parse;
+use scrib_parser::tree::ModuleTree;
 use std::alloc::Global;
 
 /// The module that the text is.

@@ -2,13 +2,13 @@
 
 ghost use Rattle.std.specs.Prelude.{◌≡◌, ◌<◌, nat_lt, IfErr, OnOk};
 ghost use Rattle.std.specs.Option.{option_map};
-ghost use Rattle.scrib_expand.specs.Names.{has_name, module_names};
+ghost use Rattle.scrib_elaborate.specs.Names.{has_name, module_names};
 ghost use Rattle.scrib_library.specs.Modules as spec;
 ghost use Rattle.scrib_library.specs.Edits.{HasRoom, ModuleFails};
 
 use crate::fault::EditFault;
 use crate::library::{MAX_MODULES, MAX_PROTOCOLS};
-use scrib_grammar::tree::{Import, ModuleTree};
+use scrib_parser::tree::{Import, ModuleTree};
 use scrib_types::name::Dotted;
 use std::alloc::Global;
 

@@ -11,9 +11,9 @@ ghost use Rattle.scrib_library.specs.Elaborated.{AreElaborated, AreVersionsOf, I
 use crate::declared::{Entry, entries_of};
 use crate::fault::EditFault;
 use crate::names::compare;
-use scrib_expand::elaborate::elaborate;
-use scrib_expand::elaborated::Elaborated;
-use scrib_expand::modules::Modules;
+use scrib_elaborate::elaborate::elaborate;
+use scrib_elaborate::elaborated::Elaborated;
+use scrib_elaborate::modules::Modules;
 use scrib_project::protocol::protocol;
 use scrib_record::version::Version;
 use scrib_types::name::Dotted;

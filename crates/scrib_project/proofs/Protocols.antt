@@ -4,7 +4,7 @@ use Rattle.std.proofs.lemmas.Bool.{and_parts}
 use Rattle.scrib_types.specs.Trees.{GlobalTree, LocalTree}
 use Rattle.scrib_types.specs.Projection.{projection}
 use Rattle.scrib_types.specs.WellFormed.{well_formed, projects, is_protocol}
-use Rattle.scrib_expand.specs.Sound.{is_sound}
+use Rattle.scrib_elaborate.specs.Sound.{is_sound}
 use Rattle.scrib_project.specs.Faults.{first_without}
 
 some_projects : (g : GlobalTree) (o : Option LocalTree) (r : List ℕ) (rs : List (List ℕ)) → ((first_without g rs ≡ None) → projects g rs ≡ true) → (if is_some o then first_without g rs else Some r) ≡ None → (is_some o && projects g rs) ≡ true

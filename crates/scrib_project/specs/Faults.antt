@@ -7,7 +7,7 @@ use Rattle.scrib_types.specs.Meaning.{agreement_of}
 use Rattle.scrib_types.specs.Trees.{GlobalTree}
 use Rattle.scrib_types.specs.LocalView.{local_of}
 use Rattle.scrib_types.specs.Projection.{projection}
-use Rattle.scrib_expand.specs.declared.elaborated.Join.{Join}
+use Rattle.scrib_elaborate.specs.declared.elaborated.Join.{Join}
 use Rattle.scrib_project.specs.declared.fault.Unmergeable.{Unmergeable}
 use Rattle.scrib_project.specs.declared.fault.ProjectFault.{ProjectFault}
 use Rattle.scrib_project.specs.declared.fault.ProjectFault.TheVariants as fault

@@ -2,12 +2,12 @@
 
 ghost use Rattle.std.specs.Prelude.{◌≡◌, ℕ, Option, slice_get, IfOk, IfErr, option_map, option_and_then};
 ghost use Rattle.std.specs.Option.{option_copied};
-ghost use Rattle.scrib_expand.specs.Meaning.{meaning_of, joins_of};
+ghost use Rattle.scrib_elaborate.specs.Meaning.{meaning_of, joins_of};
 ghost use Rattle.scrib_local.specs.Surveys.{capped};
 ghost use Rattle.scrib_project.specs.Faults.{Projects, IsPlaced, IsFaultOf};
 
 use crate::fault::{ProjectFault, Unmergeable};
-use scrib_expand::elaborated::{Elaborated, Join};
+use scrib_elaborate::elaborated::{Elaborated, Join};
 use scrib_local::look::look;
 use scrib_types::local::Local;
 use scrib_types::name::{Dotted, Role};

@@ -1,12 +1,12 @@
 //! Protocols from what is elaborated.
 
 ghost use Rattle.std.specs.Prelude.{IfErr};
-ghost use Rattle.scrib_expand.specs.Meaning.{meaning_of, joins_of};
+ghost use Rattle.scrib_elaborate.specs.Meaning.{meaning_of, joins_of};
 ghost use Rattle.scrib_project.specs.Faults.{Agrees, IsPlaced};
 
 use crate::fault::ProjectFault;
 use crate::project::project;
-use scrib_expand::elaborated::Elaborated;
+use scrib_elaborate::elaborated::Elaborated;
 use scrib_types::protocol::Protocol;
 use std::alloc::Global;
 

@@ -12,12 +12,12 @@ use Rattle.scrib_types.specs.Texts.{dotted_text, message_text, action_text}
 use Rattle.scrib_global.specs.declared.explain.Flight.{Flight}
 use Rattle.scrib_lexer.specs.declared.fault.LexFault.{LexFault}
 use Rattle.scrib_lexer.specs.declared.fault.LexFault.TheVariants as lex
-use Rattle.scrib_grammar.specs.LeftOut.{spelling}
-use Rattle.scrib_grammar.specs.declared.fault.ParseFault.{ParseFault}
-use Rattle.scrib_grammar.specs.declared.fault.ParseFault.TheVariants as parse
-use Rattle.scrib_expand.specs.declared.fault.FaultKind.{FaultKind}
-use Rattle.scrib_expand.specs.declared.fault.FaultKind.TheVariants as kind
-use Rattle.scrib_expand.specs.declared.fault.Fault.{Fault}
+use Rattle.scrib_parser.specs.LeftOut.{spelling}
+use Rattle.scrib_parser.specs.declared.fault.ParseFault.{ParseFault}
+use Rattle.scrib_parser.specs.declared.fault.ParseFault.TheVariants as parse
+use Rattle.scrib_elaborate.specs.declared.fault.FaultKind.{FaultKind}
+use Rattle.scrib_elaborate.specs.declared.fault.FaultKind.TheVariants as kind
+use Rattle.scrib_elaborate.specs.declared.fault.Fault.{Fault}
 use Rattle.scrib_project.specs.declared.fault.Unmergeable.{Unmergeable}
 use Rattle.scrib_library.specs.declared.changes.ChangeKind.{ChangeKind}
 use Rattle.scrib_library.specs.declared.changes.ChangeKind.TheVariants as change

@@ -1,15 +1,15 @@
 //! The text of refusals.
 
 ghost use Rattle.std.specs.Prelude.{◌≡◌, ◌++◌, OnOk, codes};
-ghost use Rattle.scrib_grammar.specs.LeftOut.{spelling};
+ghost use Rattle.scrib_parser.specs.LeftOut.{spelling};
 ghost use Rattle.scrib_types.specs.Texts.{dotted_text};
 ghost use Rattle.scrib_report.specs.Lines as lines;
 
 use scrib_core::reply::Refusal;
-use scrib_expand::fault::{Fault, FaultKind};
-use scrib_grammar::fault::{LeftOutWord, ParseFault};
+use scrib_elaborate::fault::{Fault, FaultKind};
 use scrib_lexer::fault::LexFault;
 use scrib_library::fault::EditFault;
+use scrib_parser::fault::{LeftOutWord, ParseFault};
 use scrib_project::fault::Unmergeable;
 use scrib_types::name::Dotted;
 use scrib_types::spot::Spot;

@@ -1,9 +1,9 @@
 use Rattle.std.proofs.Common.{[], sym, subst}
 use Rattle.std.proofs.lemmas.Result.{IfOk-weaker}
-use Rattle.scrib_expand.specs.declared.fault.Fault.{Fault}
-use Rattle.scrib_expand.specs.Meaning.{meaning_of}
-use Rattle.scrib_expand.specs.Elaboration.{Elaborates}
-use Rattle.scrib_expand.specs.Faults.{IsBroken}
+use Rattle.scrib_elaborate.specs.declared.fault.Fault.{Fault}
+use Rattle.scrib_elaborate.specs.Meaning.{meaning_of}
+use Rattle.scrib_elaborate.specs.Elaboration.{Elaborates}
+use Rattle.scrib_elaborate.specs.Faults.{IsBroken}
 use Rattle.scrib_library.specs.declared.fault.EditFault.TheVariants as edit
 use Rattle.scrib_cli.specs.declared.projection.Projection.TheVariants.{Refused}
 use Rattle.scrib_cli.specs.Projections.{IsFullName, AreAdded, IsProjection, FailsAmong, unnamed, unread, meaningless}

@@ -1,6 +1,6 @@
 use Rattle.std.proofs.Common.{◌≡◌}
 use Rattle.std.specs.List.{Contains}
-use Rattle.scrib_expand.specs.Meaning.{meaning_of}
+use Rattle.scrib_elaborate.specs.Meaning.{meaning_of}
 use Rattle.scrib_record.specs.Versions as record_versions
 use Rattle.scrib_library.specs.declared.versions.NamedElaborated.{NamedElaborated}
 use Rattle.scrib_library.specs.declared.versions.NamedVersion.{NamedVersion}

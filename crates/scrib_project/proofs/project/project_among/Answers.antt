@@ -1,5 +1,5 @@
 use Rattle.scrib_types.specs.GlobalView.{global_of}
-use Rattle.scrib_expand.specs.Meaning.{meaning_of}
+use Rattle.scrib_elaborate.specs.Meaning.{meaning_of}
 use Rattle.scrib_project.proofs.Protocols.{is_well_formed}
 use Rattle.scrib_project.proofs.Undefined.{told}
 use Rattle.scrib_project.proofs.project.project_among.Goals as goal

@@ -2,7 +2,7 @@ use Rattle.std.proofs.Common.{IsTrue, sym, ap, ◌∙◌, subst}
 use Rattle.std.proofs.lemmas.List.{drop_all}
 use Rattle.scrib_types.specs.Agreement.{Agreement}
 use Rattle.scrib_types.specs.WellFormed.{is_protocol}
-use Rattle.scrib_expand.specs.Meaning.{meaning_of}
+use Rattle.scrib_elaborate.specs.Meaning.{meaning_of}
 use Rattle.scrib_project.specs.Faults.{first_without}
 use Rattle.scrib_project.proofs.Protocols.{makes_protocol}
 use Rattle.scrib_project.proofs.protocol.protocol.Goals as goal

@@ -1,5 +1,5 @@
 use Rattle.std.proofs.Common.{◌≡◌, drop}
-use Rattle.scrib_expand.specs.Meaning.{meaning_of}
+use Rattle.scrib_elaborate.specs.Meaning.{meaning_of}
 use Rattle.scrib_project.specs.Faults.{first_without}
 use Rattle.scrib_project.proofs.protocol.protocol.Given as goal
 

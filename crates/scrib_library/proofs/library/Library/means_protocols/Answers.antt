@@ -1,5 +1,5 @@
 use Rattle.std.proofs.Common.{List, subst}
-use Rattle.scrib_grammar.specs.declared.tree.ModuleTree.{ModuleTree}
+use Rattle.scrib_parser.specs.declared.tree.ModuleTree.{ModuleTree}
 use Rattle.scrib_library.specs.Modules.{MeansProtocols}
 use Rattle.scrib_library.proofs.Meanings.{protocols}
 use Rattle.scrib_library.proofs.library.Library.means_protocols.Goals as goal

@@ -1,6 +1,6 @@
 use Rattle.std.proofs.Common.{◌≡◌, List, get_or, sym, ap, ◌∙◌, subst}
 use Rattle.std.proofs.lemmas.Result.{err_from_is_err_and}
-use Rattle.scrib_grammar.specs.declared.tree.ModuleTree.{ModuleTree}
+use Rattle.scrib_parser.specs.declared.tree.ModuleTree.{ModuleTree}
 use Rattle.scrib_library.specs.declared.versions.NamedVersion.{NamedVersion}
 use Rattle.scrib_library.specs.Edits.{IsPut, IsChanges, PutFails}
 use Rattle.scrib_library.specs.Plans.{IsPlan}

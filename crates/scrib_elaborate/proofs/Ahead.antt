@@ -1,0 +1,216 @@
+-- What stands in front of a fault of types, and what comes there before it.
+use Rattle.std.proofs.Common.{◌≡◌, ℕ, suc, ◌+◌, ◌<◌, Bool, true, false, List, [], ◌∷◌, ◌++◌, length, map, get_or, take, drop, reverse, Some, refl, sym, ap, ◌∙◌, subst, arith}
+use Rattle.std.specs.Borrow.{Bor}
+use Rattle.std.specs.List.{All, slice_get}
+use Rattle.std.specs.List.Sorted.{IsPermutation}
+use Rattle.std.proofs.lemmas.List.Elements.{All-nil, All-cons, All-push, All-pop}
+use Rattle.std.proofs.lemmas.List.Sorted.{All-permutation, IsPermutation-reverse, IsPermutation-sym}
+use Rattle.std.proofs.lemmas.Option.{slice_get-get_or}
+use Rattle.scrib_types.specs.declared.spot.Spot.{Spot}
+use Rattle.scrib_types.specs.Trees.{GlobalTree, GlobalEnd}
+use Rattle.scrib_parser.specs.declared.tree.ModuleTree.{ModuleTree}
+use Rattle.scrib_parser.specs.declared.tree.Statement.{Statement}
+use Rattle.scrib_parser.specs.declared.tree.Block.{Block}
+use Rattle.scrib_elaborate.specs.declared.tasks.Task.{Task}
+use Rattle.scrib_elaborate.specs.declared.tasks.Task.TheVariants.{Front, Join, Close, Trial}
+use Rattle.scrib_elaborate.specs.declared.standing.Standing.{Standing}
+use Rattle.scrib_elaborate.specs.declared.untyped.Untyped.{Untyped}
+use Rattle.scrib_elaborate.specs.declared.untyped.Untyped.TheVariants.{Broken, OutOfMemory}
+use Rattle.scrib_elaborate.specs.Source.{Body, Done, Then, Step, Chooses, Repeats, Calls, Blocks}
+use Rattle.scrib_elaborate.specs.SourceView.{step_of, body_of, blocks_of}
+use Rattle.scrib_elaborate.specs.Names.{Declaration, called}
+use Rattle.scrib_elaborate.specs.Statements.{KeepsRules, StepKeeps}
+use Rattle.scrib_elaborate.specs.Elaboration.{continues_in, Scope, inside, inside_call, Frames, NoFrame, Under, ends}
+use Rattle.scrib_elaborate.specs.Faults.{later, in_choice, in_rec, StandsIn, blocks_before, needs_itself, needs_branch, needs_repeats, needs_passes, needs_calls}
+use Rattle.scrib_elaborate.specs.Staying.{Stays}
+use Rattle.scrib_elaborate.specs.Standing.{scope_of, IsSame, IsInside, IsInsideCall}
+use Rattle.scrib_elaborate.specs.Typing.{before, FailsUp, IsFront, Path, IsState, TypingFails, IsAhead, IsTaskAhead, AreAhead, StopsAhead}
+use Rattle.scrib_elaborate.proofs.Kept.{of_then, reaches_on}
+use Rattle.scrib_elaborate.proofs.Checks.{stands_here}
+use Rattle.scrib_elaborate.proofs.Lifted.{below_more, levels_more}
+use Rattle.scrib_elaborate.proofs.Needed.{fails_through, fails_rest}
+use Rattle.scrib_elaborate.proofs.Steps.{before_done, block_kept, pushed_twice, opened}
+use Rattle.scrib_elaborate.proofs.Joined.{block_at, in_before}
+use Rattle.scrib_elaborate.proofs.Alone.{never_here, fails_onto}
+
+-- the tasks of a run
+
+front_ahead : (ms : List ModuleTree) (root : Declaration) (sc : Scope) (depth : ℕ) (ss : List Statement) (n : ℕ) (fs hs : Frames) → IsFront ms root sc depth ss n fs hs → (rest : Body) × IsAhead ms root sc depth (before ss rest)
+front_ahead ms root sc depth ss n fs hs f =
+    (f.rest, subst (λ d. IsAhead ms root sc d (before ss f.rest)) f.deep (record { outer = f.outer; up = f.up; recs = f.recs; part = f.part; reached = f.reached; below = f.below }))
+
+path_ahead : (ms : List ModuleTree) (root : Declaration) (ts : List Task) (n : ℕ) (fs : Frames) → Path ms root ts n fs → AreAhead ms root ts
+path_ahead ms root [] n fs p = All-nil (IsTaskAhead ms root)
+path_ahead ms root (Front st ss ∷ ts) n fs p =
+    All-cons (IsTaskAhead ms root) (Front st ss) ts (front_ahead ms root (scope_of st) st.depth ss.now n fs p.0 p.1) (path_ahead ms root ts n p.0 p.2)
+path_ahead ms root (Join c ∷ ts) n fs p =
+    All-cons (IsTaskAhead ms root) (Join c) ts tt (path_ahead ms root ts n p.0 p.2)
+path_ahead ms root (Close home spot ∷ ts) n fs p =
+    All-cons (IsTaskAhead ms root) (Close home spot) ts tt (path_ahead ms root ts p.0 p.1 p.3)
+path_ahead ms root (Trial ∷ ts) n fs p =
+    All-cons (IsTaskAhead ms root) Trial ts tt (subst (λ x. AreAhead ms root x) (sym p) (All-nil (IsTaskAhead ms root)))
+
+-- those of a stack, whose last one is next
+pub stack_ahead : (ms : List ModuleTree) (root : Declaration) (ts : List Task) (n : ℕ) (fs : Frames) → Path ms root (reverse ts) n fs → AreAhead ms root ts
+stack_ahead ms root ts n fs p =
+    All-permutation (IsTaskAhead ms root) (reverse ts) ts (IsPermutation-sym ts (reverse ts) (IsPermutation-reverse ts)) (path_ahead ms root (reverse ts) n fs p)
+
+pub closing_ahead : (ms : List ModuleTree) (root : Declaration) (ts : List Task) (home : Bor ModuleTree) (spot : Spot) (g : GlobalTree) → IsState ms root (Close home spot ∷ reverse ts) g → AreAhead ms root ts
+closing_ahead ms root ts home spot g s = stack_ahead ms root ts s.path.0 s.path.1 s.path.3
+
+turned_ahead : (ms : List ModuleTree) (root : Declaration) (old new : List Task) → IsPermutation old new → AreAhead ms root old → AreAhead ms root new
+turned_ahead ms root old new p h = All-permutation (IsTaskAhead ms root) old new p h
+
+pub more_ahead : (ms : List ModuleTree) (root : Declaration) (old new : List Task) (t : Task) → new ≡ old ++ t ∷ [] → AreAhead ms root old → IsTaskAhead ms root t → AreAhead ms root new
+more_ahead ms root old new t e h k =
+    subst (λ x. AreAhead ms root x) (sym e) (All-push (IsTaskAhead ms root) old t h k)
+
+pub less_ahead : (ms : List ModuleTree) (root : Declaration) (old new : List Task) (t : Task) → old ≡ new ++ t ∷ [] → AreAhead ms root old → AreAhead ms root new × IsTaskAhead ms root t
+less_ahead ms root old new t e h = All-pop (IsTaskAhead ms root) old new (Some t) e h
+
+pub stops_ahead : (ms : List ModuleTree) (root : Declaration) (ts : List Task) (e : Untyped) → TypingFails ms root e → AreAhead ms root ts → StopsAhead ms root ts e
+stops_ahead ms root ts (Broken home b) fails ahead = (fails, ahead)
+stops_ahead ms root ts OutOfMemory fails ahead = tt
+
+pub broken_ahead : (ms : List ModuleTree) (root : Declaration) (ts : List Task) (e : Untyped) → (e ≡ OutOfMemory → ⊥) → StopsAhead ms root ts e → TypingFails ms root e × AreAhead ms root ts
+broken_ahead ms root ts (Broken home b) not h = h
+broken_ahead ms root ts OutOfMemory not h = absurd (not refl)
+
+-- the statements after the first one, where there are some
+pub ahead_rest : (ms : List ModuleTree) (root : Declaration) (e : Bool) (sc : Scope) (n : ℕ) (s t : Step) (b : Body) → KeepsRules ms root e → IsAhead ms root sc n (Then s (Then t b)) → IsAhead ms root sc n (Then t b)
+ahead_rest ms root e sc n s t b kept a =
+    let k = block_kept a.recs (Then s (Then t b)) a.reached e kept a.part in
+    let v = of_then k.2 in
+    let leads = subst (λ x. StepKeeps ms sc.within a.recs s x) (of_then v.rest).before v.step in
+    record {
+      outer = a.outer;
+      up = λ f d spot h. a.up f d spot (fails_rest f ms a.recs n sc s (Then t b) a.outer d spot leads a.below h);
+      recs = a.recs;
+      part = λ inner r q. a.part inner r (later q);
+      reached = a.reached;
+      below = a.below;
+    }
+
+-- a block that stands in the first statement
+
+abbrev whole : (ms : List ModuleTree) (root : Declaration) (st : Standing) (ss : Bor (List Statement)) (sc : Scope) (n : ℕ) (b : Body) → scope_of st ≡ sc → st.depth ≡ n → body_of ss.now ≡ b → IsAhead ms root sc n b → IsTaskAhead ms root (Front st ss)
+whole ms root st ss sc n b scope depth body a =
+    let list : b ≡ before ss.now Done = sym body ∙ sym (before_done ss.now) in
+    (Done, subst (λ d. IsAhead ms root (scope_of st) d (before ss.now Done)) (sym depth) (subst (λ c. IsAhead ms root c n (before ss.now Done)) (sym scope) (subst (λ x. IsAhead ms root sc n x) list a)))
+
+pub ahead_in_choice : (ms : List ModuleTree) (root : Declaration) (sc : Scope) (n : ℕ) (p : List ℕ) (bs : List Block) (spot : Spot) (rest : Body) (k : ℕ) (b : Block) → k < length bs → b ≡ get_or bs k b
+    → IsAhead ms root sc n (Then (Chooses p (blocks_of bs) spot) rest) → IsAhead ms root sc n (body_of b.body)
+ahead_in_choice ms root sc n p bs spot rest k b within here a =
+    let split = block_at bs k b (slice_get-get_or bs k b within ∙ ap Some (sym here)) in
+    let first = blocks_of (take k bs) in
+    let last = blocks_of (drop (suc k) bs) in
+    record {
+      outer = Under sc rest a.outer;
+      up = λ f d s h. a.up f d s (fails_through f d s (needs_branch first (body_of b.body) b.spot last split needs_itself) h);
+      recs = a.recs;
+      part = λ i r q. a.part i r (in_choice (subst (λ y. StandsIn a.recs y i r) (sym split) (in_before b.spot last first q)));
+      reached = a.reached;
+      below = (a.below.0, a.below);
+    }
+
+pub ahead_passes : (ms : List ModuleTree) (root : Declaration) (sc : Scope) (n : ℕ) (x : List ℕ) (c : Body) (spot : Spot) (rest : Body) → continues_in x c ≡ false → IsAhead ms root sc n (Then (Repeats x c spot) rest) → IsAhead ms root sc n c
+ahead_passes ms root sc n x c spot rest none a = record {
+  outer = Under sc rest a.outer;
+  up = λ f d s h. a.up f d s (fails_through f d s (needs_passes none needs_itself) h);
+  recs = x ∷ a.recs;
+  part = λ i r q. a.part i r (in_rec q);
+  reached = a.reached;
+  below = (a.below.0, a.below);
+}
+
+pub ahead_repeats : (ms : List ModuleTree) (root : Declaration) (sc : Scope) (n : ℕ) (x : List ℕ) (c : Body) (spot : Spot) (rest : Body) → continues_in x c ≡ true → IsAhead ms root sc n (Then (Repeats x c spot) rest) → IsAhead ms root (inside sc x n) (n + 1) c
+ahead_repeats ms root sc n x c spot rest loops a = record {
+  outer = Under sc rest a.outer;
+  up = λ f d s h. a.up f d s (fails_through f d s (needs_repeats loops needs_itself) h);
+  recs = x ∷ a.recs;
+  part = λ i r q. a.part i r (in_rec q);
+  reached = a.reached;
+  below =
+      ((omega arith, levels_more n (n + 1) sc.recs (omega arith) a.below.0), below_more n (n + 1) (Under sc rest a.outer) (omega arith) a.below);
+}
+
+pub ahead_calls : (ms : List ModuleTree) (root : Declaration) (sc : Scope) (n : ℕ) (path roles : List (List ℕ)) (spot : Spot) (rest : Body) (c : Declaration) → called ms sc.within.home path ≡ Some c → IsAhead ms root sc n (Then (Calls path roles spot) rest)
+    → IsAhead ms root (inside_call sc c roles) n (body_of c.protocol.body)
+ahead_calls ms root sc n path roles spot rest c there a = record {
+  outer = Under sc rest a.outer;
+  up = λ f d s h. a.up f d s (fails_through f d s (needs_calls there needs_itself) h);
+  recs = [];
+  part = λ inner r q. q;
+  reached = reaches_on a.reached (stands_here sc.within a.recs (Calls path roles spot) rest a.part) there;
+  below = (tt, a.below);
+}
+
+-- the tasks of such blocks
+
+pub choice_ahead : (ms : List ModuleTree) (root : Declaration) (st inner : Standing) (ss : Bor (List Statement)) (p : List ℕ) (bs : List Block) (spot : Spot) (rest : Body) (k : ℕ) (b : Block) → k < length bs → b ≡ get_or bs k b → IsSame st inner → ss.now ≡ b.body
+    → IsAhead ms root (scope_of st) st.depth (Then (Chooses p (blocks_of bs) spot) rest) → IsTaskAhead ms root (Front inner ss)
+choice_ahead ms root st inner ss p bs spot rest k b within here same body a =
+    whole ms root inner ss (scope_of st) st.depth (body_of b.body) same.scope same.depth (ap body_of body) (ahead_in_choice ms root (scope_of st) st.depth p bs spot rest k b within here a)
+
+pub choice_block : (ms : List ModuleTree) (root : Declaration) (st inner : Standing) (ss : List Statement) (p : List ℕ) (bs : List Block) (spot : Spot) (rest : Body) (k : ℕ) (b : Block) → k < length bs → b ≡ get_or bs k b → IsSame st inner → ss ≡ b.body
+    → IsAhead ms root (scope_of st) st.depth (Then (Chooses p (blocks_of bs) spot) rest) → IsAhead ms root (scope_of inner) inner.depth (body_of ss)
+choice_block ms root st inner ss p bs spot rest k b within here same body a =
+    let block = subst (λ x. IsAhead ms root (scope_of st) st.depth (body_of x)) (sym body) (ahead_in_choice ms root (scope_of st) st.depth p bs spot rest k b within here a) in
+    subst (λ n. IsAhead ms root (scope_of inner) n (body_of ss)) (sym same.depth) (subst (λ c. IsAhead ms root c st.depth (body_of ss)) (sym same.scope) block)
+
+pub passes_ahead : (ms : List ModuleTree) (root : Declaration) (st : Standing) (ss : Bor (List Statement)) (x : List ℕ) (spot : Spot) (rest : Body) → continues_in x (body_of ss.now) ≡ false → IsAhead ms root (scope_of st) st.depth (Then (Repeats x (body_of ss.now) spot) rest) → IsTaskAhead ms root (Front st ss)
+passes_ahead ms root st ss x spot rest none a =
+    whole ms root st ss (scope_of st) st.depth (body_of ss.now) refl refl refl (ahead_passes ms root (scope_of st) st.depth x (body_of ss.now) spot rest none a)
+
+pub repeats_ahead : (ms : List ModuleTree) (root : Declaration) (st inner : Standing) (ss : Bor (List Statement)) (x : List ℕ) (spot : Spot) (rest : Body) → continues_in x (body_of ss.now) ≡ true → IsInside st x inner
+    → IsAhead ms root (scope_of st) st.depth (Then (Repeats x (body_of ss.now) spot) rest) → IsTaskAhead ms root (Front inner ss)
+repeats_ahead ms root st inner ss x spot rest loops same a =
+    whole ms root inner ss (inside (scope_of st) x st.depth) (st.depth + 1) (body_of ss.now) same.scope same.depth refl (ahead_repeats ms root (scope_of st) st.depth x (body_of ss.now) spot rest loops a)
+
+pub call_ahead : (ms : List ModuleTree) (root : Declaration) (st inner : Standing) (ss : Bor (List Statement)) (path roles : List (List ℕ)) (spot : Spot) (rest : Body) (c : Declaration) → called ms st.within.home.now path ≡ Some c → IsInsideCall st c roles inner → ss.now ≡ c.protocol.body
+    → IsAhead ms root (scope_of st) st.depth (Then (Calls path roles spot) rest) → IsTaskAhead ms root (Front inner ss)
+call_ahead ms root st inner ss path roles spot rest c there same body a =
+    whole ms root inner ss (inside_call (scope_of st) c roles) st.depth (body_of c.protocol.body) same.scope same.depth (ap body_of body) (ahead_calls ms root (scope_of st) st.depth path roles spot rest c there a)
+
+-- the statements of a task after its first one
+pub rest_ahead : (ms : List ModuleTree) (root : Declaration) (e : Bool) (st again : Standing) (ss rest : Bor (List Statement)) (s : Statement) → KeepsRules ms root e → ss.now ≡ s ∷ rest.now → 0 < length rest.now → IsSame st again → IsTaskAhead ms root (Front st ss) → IsTaskAhead ms root (Front again rest)
+rest_ahead ms root e st again ss rest s kept is some same a =
+    let sc = scope_of st in
+    let n = st.depth in
+    let more = subst (λ x. IsAhead ms root sc n (before x a.0)) is a.1 in
+    (a.0, subst (λ d. IsAhead ms root (scope_of again) d (before rest.now a.0)) (sym same.depth) (subst (λ c. IsAhead ms root c n (before rest.now a.0)) (sym same.scope) (at rest.now some more)))
+  where
+    at : (ts : List Statement) → 0 < length ts → IsAhead ms root (scope_of st) st.depth (Then (step_of s) (before ts a.0)) → IsAhead ms root (scope_of st) st.depth (before ts a.0)
+    at [] none x = absurd (omega arith)
+    at (t ∷ ts) none x = ahead_rest ms root e (scope_of st) st.depth (step_of s) (step_of t) (before ts a.0) kept x
+
+pub first_ahead : (ms : List ModuleTree) (root : Declaration) (st : Standing) (ss rest : Bor (List Statement)) (s : Statement) → ss.now ≡ s ∷ rest.now → IsTaskAhead ms root (Front st ss) → (b : Body) × IsAhead ms root (scope_of st) st.depth (Then (step_of s) b)
+first_ahead ms root st ss rest s is a =
+    (before rest.now a.0, subst (λ x. IsAhead ms root (scope_of st) st.depth (before x a.0)) is a.1)
+
+-- a block without exit is tried alone
+
+trial_begins : (ms : List ModuleTree) (root : Declaration) (st : Standing) (ss : Bor (List Statement)) → IsAhead ms root (scope_of st) st.depth (body_of ss.now) → Stays ms st.within.home.now (body_of ss.now)
+    → IsState ms root (Front st ss ∷ Trial ∷ []) GlobalEnd
+trial_begins ms root st ss a stays =
+    let sc = scope_of st in
+    let n = st.depth in
+    let b = body_of ss.now in
+    opened ms root (Trial ∷ []) st ss sc n b NoFrame (Under sc b NoFrame) GlobalEnd refl refl refl (record {
+      typed = ends;
+      leads = λ h t. t;
+      up = λ f d spot h. a.up f d spot (fails_onto f n a.outer d spot (never_here stays) h);
+      recs = a.recs;
+      part = a.part;
+      reached = a.reached;
+      below = (a.below.0, tt);
+    }) refl
+
+pub trial_state : (ms : List ModuleTree) (root : Declaration) (old mid new : List Task) (st : Standing) (ss : Bor (List Statement)) → old ≡ [] → mid ≡ old ++ Trial ∷ [] → new ≡ mid ++ Front st ss ∷ [] → IsAhead ms root (scope_of st) st.depth (body_of ss.now) → Stays ms st.within.home.now (body_of ss.now)
+    → IsState ms root (reverse new) GlobalEnd
+trial_state ms root old mid new st ss none first second a stays =
+    pushed_twice ms root old mid new Trial (Front st ss) GlobalEnd GlobalEnd first second refl (subst (λ x. IsState ms root (Front st ss ∷ Trial ∷ reverse x) GlobalEnd) (sym none) (trial_begins ms root st ss a stays))
+
+pub turned_stops : (ms : List ModuleTree) (root : Declaration) (old new : List Task) (e : Untyped) → IsPermutation old new → StopsAhead ms root old e → StopsAhead ms root new e
+turned_stops ms root old new (Broken home b) p h = (h.0, turned_ahead ms root old new p h.1)
+turned_stops ms root old new OutOfMemory p h = tt

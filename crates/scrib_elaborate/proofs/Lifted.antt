@@ -1,0 +1,154 @@
+-- Frames and their types under one recursion more.
+use Rattle.std.proofs.Common.{◌≡◌, ℕ, ◌+◌, ◌<◌, ◌≤◌, Bool, true, false, leb, List, [], ◌∷◌, map, Option, Some, if◌then◌else◌, refl, ap, ◌∙◌, subst, arith}
+use Rattle.std.proofs.lemmas.Bool.{leb-true, leb-false, le-leb}
+use Rattle.std.specs.Str.{bytes_eq}
+use Rattle.scrib_types.specs.declared.message.Message.{Message}
+use Rattle.scrib_types.specs.Trees.{GlobalTree, GlobalEnd, GlobalVar, GlobalRec, Comm, Flight, GlobalBranches, NoBranch, Branch}
+use Rattle.scrib_types.specs.WellFormed.{leads_to_communication, has_operator, distinct_operators, has_branches}
+use Rattle.scrib_parser.specs.declared.tree.ModuleTree.{ModuleTree}
+use Rattle.scrib_elaborate.specs.Source.{Blocks}
+use Rattle.scrib_elaborate.specs.Elaboration.{Scope, role_in, level_of, inside, Frames, NoFrame, Under, sent, and_branches, Types, ends, closes, sends, chooses, repeats, passes, continues, calls, JoinsTo, joins_none, joins}
+use Rattle.scrib_elaborate.specs.Faults.{share_operator}
+use Rattle.scrib_elaborate.specs.Lifting.{lifted, branches_lifted, LevelsBelow, AreBelow}
+
+-- levels from c on are one more
+
+abbrev pub raised_level : (c level : ℕ) → ℕ
+raised_level c k = if leb c k then k + 1 else k
+
+abbrev pub raised_levels : (c : ℕ) → List (List ℕ × ℕ) → List (List ℕ × ℕ)
+raised_levels c [] = []
+raised_levels c (r ∷ rs) = (r.0, raised_level c r.1) ∷ raised_levels c rs
+
+abbrev pub raised_scope : (c : ℕ) → Scope → Scope
+raised_scope c sc = record { within = sc.within; given = sc.given; recs = raised_levels c sc.recs }
+
+abbrev pub raised : (c : ℕ) → Frames → Frames
+raised c NoFrame = NoFrame
+raised c (Under sc b fs) = Under (raised_scope c sc) b (raised c fs)
+
+-- a level, and a variable, above or below
+
+raised_up : (c k : ℕ) → c ≤ k → raised_level c k ≡ k + 1
+raised_up c k h = rw (le-leb c k h) refl
+
+raised_not : (c k : ℕ) → k < c → raised_level c k ≡ k
+raised_not c k h = case (leb c k) refl
+  where
+    case : (t : Bool) → leb c k ≡ t → (if t then k + 1 else k) ≡ k
+    case true e = absurd (omega (arith, leb-true c k e))
+    case false e = refl
+
+var_up : (under n : ℕ) → under ≤ n → lifted under (GlobalVar n) ≡ GlobalVar (n + 1)
+var_up under n h = ap GlobalVar (raised_up under n h)
+
+var_not : (under n : ℕ) → n < under → lifted under (GlobalVar n) ≡ GlobalVar n
+var_not under n h = ap GlobalVar (raised_not under n h)
+
+-- what stays as it is
+
+pub leads_lifted : (under : ℕ) (g : GlobalTree) → leads_to_communication (lifted under g) ≡ leads_to_communication g
+leads_lifted under GlobalEnd = refl
+leads_lifted under (GlobalVar n) = refl
+leads_lifted under (GlobalRec g) = leads_lifted (under + 1) g
+leads_lifted under (Comm p q bs) = refl
+leads_lifted under (Flight p q j bs) = refl
+
+pub has_branches_lifted : (under : ℕ) (bs : GlobalBranches) → has_branches (branches_lifted under bs) ≡ has_branches bs
+has_branches_lifted under NoBranch = refl
+has_branches_lifted under (Branch m g bs) = refl
+
+has_operator_lifted : (o : Option (List ℕ)) (under : ℕ) (bs : GlobalBranches) → has_operator o (branches_lifted under bs) ≡ has_operator o bs
+has_operator_lifted o under NoBranch = refl
+has_operator_lifted o under (Branch m g bs) = rw (has_operator_lifted o under bs) refl
+
+pub distinct_lifted : (under : ℕ) (bs : GlobalBranches) → distinct_operators (branches_lifted under bs) ≡ distinct_operators bs
+distinct_lifted under NoBranch = refl
+distinct_lifted under (Branch m g bs) = rw (has_operator_lifted m.op under bs, distinct_lifted under bs) refl
+
+pub share_lifted : (under : ℕ) (bs cs : GlobalBranches) → share_operator (branches_lifted under bs) (branches_lifted under cs) ≡ share_operator bs cs
+share_lifted under NoBranch cs = refl
+share_lifted under (Branch m g bs) cs = rw (has_operator_lifted m.op under cs, share_lifted under bs cs) refl
+
+sent_lifted : (under : ℕ) (m : Message) (p : List ℕ) (qs : List (List ℕ)) (g : GlobalTree) → lifted under (sent m p qs g) ≡ sent m p qs (lifted under g)
+sent_lifted under m p [] g = refl
+sent_lifted under m p (q ∷ qs) g = rw (sent_lifted under m p qs g) refl
+
+and_lifted : (under : ℕ) (bs cs : GlobalBranches) → branches_lifted under (and_branches bs cs) ≡ and_branches (branches_lifted under bs) (branches_lifted under cs)
+and_lifted under NoBranch cs = refl
+and_lifted under (Branch m g bs) cs = rw (and_lifted under bs cs) refl
+
+-- scopes
+
+level_raised : (c : ℕ) (x : List ℕ) (rs : List (List ℕ × ℕ)) (k : ℕ) → level_of x rs ≡ Some k → level_of x (raised_levels c rs) ≡ Some (raised_level c k)
+level_raised c x [] k h = absurd (cc)
+level_raised c x (r ∷ rs) k h = case (bytes_eq x r.0) (level_raised c x rs k) h
+  where
+    case : (t : Bool) → (level_of x rs ≡ Some k → level_of x (raised_levels c rs) ≡ Some (raised_level c k)) → (if t then Some r.1 else level_of x rs) ≡ Some k
+        → (if t then Some (raised_level c r.1) else level_of x (raised_levels c rs)) ≡ Some (raised_level c k)
+    case true more e = let l : r.1 ≡ k = cc in ap (λ l. Some (raised_level c l)) l
+    case false more e = more e
+
+variable_raised : (c k n level i : ℕ) → n ≡ c + k → n ≡ level + 1 + i → (j : ℕ) × (n + 1 ≡ raised_level c level + 1 + j) × (lifted k (GlobalVar i) ≡ GlobalVar j)
+variable_raised c k n level i e m = case (leb c level) refl
+  where
+    case : (t : Bool) → leb c level ≡ t → (j : ℕ) × (n + 1 ≡ raised_level c level + 1 + j) × (lifted k (GlobalVar i) ≡ GlobalVar j)
+    case true h =
+        let low : c ≤ level = leb-true c level h in
+        let up = raised_up c level low in
+        (i, omega (arith, up), var_not k i (omega arith))
+    case false h =
+        let high : level < c = leb-false c level h in
+        let not = raised_not c level high in
+        (i + 1, omega (arith, not), var_up k i (omega arith))
+
+pub inside_raised : (c n : ℕ) (sc : Scope) (x : List ℕ) → c ≤ n → raised_scope c (inside sc x n) ≡ inside (raised_scope c sc) x (n + 1)
+inside_raised c n sc x h = ap (λ l. inside (raised_scope c sc) x l) (raised_up c n h)
+
+mutual
+  -- under a recursion more, below which c recursions stand and in which k do
+  pub lift_types : {ms : List ModuleTree} {n : ℕ} {fs : Frames} {g : GlobalTree} → Types ms n fs g → (c k : ℕ) → n ≡ c + k → Types ms (n + 1) (raised c fs) (lifted k g)
+  lift_types ends c k e = ends
+  lift_types (closes t) c k e = closes (lift_types t c k e)
+  lift_types (sends {sc = sc} {m = m} {p = p} {qs = qs} {g = g} t f) c k e =
+      sends (lift_types t c k e) (ap (lifted k) f ∙ sent_lifted k m (role_in sc p) (map (role_in sc) qs) g)
+  lift_types (chooses {cs = cs} j some d f) c k e =
+      chooses (lift_joins j c k e) (has_branches_lifted k cs ∙ some) (distinct_lifted k cs ∙ d) (ap (lifted k) f)
+  lift_types {ms = ms} (repeats {n = n} {sc = sc} {x = x} {c = body} {b = b} {fs = fs} {g = g} i t l f) c k e =
+      let t' : Types ms (n + 1 + 1) (Under (raised_scope c (inside sc x n)) body (Under (raised_scope c sc) b (raised c fs))) (lifted (k + 1) g) = lift_types t c (k + 1) (omega arith) in
+      repeats i (subst (λ s. Types ms (n + 1 + 1) (Under s body (Under (raised_scope c sc) b (raised c fs))) (lifted (k + 1) g)) (inside_raised c n sc x (omega arith)) t') (leads_lifted (k + 1) g ∙ l) (ap (lifted k) f)
+  lift_types (passes i t) c k e = passes i (lift_types t c k e)
+  lift_types (continues {n = n} {sc = sc} {x = x} {k = level} {i = i} l m f) c k e =
+      let v = variable_raised c k n level i e m in
+      continues (level_raised c x sc.recs level l) v.1 (ap (lifted k) f ∙ v.2)
+  lift_types (calls i t) c k e = calls i (lift_types t c k e)
+
+  pub lift_joins : {ms : List ModuleTree} {n : ℕ} {sc : Scope} {bs : Blocks} {fs : Frames} {p q : List ℕ} {cs : GlobalBranches}
+      → JoinsTo ms n sc bs fs p q cs → (c k : ℕ) → n ≡ c + k → JoinsTo ms (n + 1) (raised_scope c sc) bs (raised c fs) p q (branches_lifted k cs)
+  lift_joins joins_none c k e = joins_none
+  lift_joins (joins {cs = cs} {ds = ds} t f j g) c k e =
+      joins (lift_types t c k e) (ap (lifted k) f) (lift_joins j c k e) (ap (branches_lifted k) g ∙ and_lifted k cs ds)
+
+-- levels below c stay
+
+levels_stay : (c : ℕ) (rs : List (List ℕ × ℕ)) → LevelsBelow c rs → raised_levels c rs ≡ rs
+levels_stay c [] h = refl
+levels_stay c (r ∷ rs) h = λ i. (r.0, raised_not c r.1 h.0 i) ∷ levels_stay c rs h.1 i
+
+pub raised_stay : (c : ℕ) (fs : Frames) → AreBelow c fs → raised c fs ≡ fs
+raised_stay c NoFrame h = refl
+raised_stay c (Under sc b fs) h =
+    λ i. Under (record { within = sc.within; given = sc.given; recs = levels_stay c sc.recs h.0 i }) b (raised_stay c fs h.1 i)
+
+pub lift_below : {ms : List ModuleTree} {n : ℕ} {fs : Frames} {g : GlobalTree} → AreBelow n fs → Types ms n fs g → Types ms (n + 1) fs (lifted 0 g)
+lift_below {ms = ms} {n = n} {fs = fs} {g = g} low t = subst (λ x. Types ms (n + 1) x (lifted 0 g)) (raised_stay n fs low) (lift_types t n 0 (omega arith))
+
+-- below a larger depth too
+
+pub levels_more : (n m : ℕ) (rs : List (List ℕ × ℕ)) → n ≤ m → LevelsBelow n rs → LevelsBelow m rs
+levels_more n m [] l h = tt
+levels_more n m (r ∷ rs) l h = (omega (arith, h.0), levels_more n m rs l h.1)
+
+pub below_more : (n m : ℕ) (fs : Frames) → n ≤ m → AreBelow n fs → AreBelow m fs
+below_more n m NoFrame l h = tt
+below_more n m (Under sc b fs) l h = (levels_more n m sc.recs l h.0, below_more n m fs l h.1)

@@ -1,0 +1,381 @@
+-- The steps of the third pass.
+use Rattle.std.proofs.Common.{◌≡◌, ℕ, zero, suc, ◌+◌, Bool, true, false, List, [], ◌∷◌, ◌++◌, length, map, take, drop, reverse, Some, refl, sym, ap, ◌∙◌, subst, inl, inr, arith}
+use Rattle.std.specs.Borrow.{Bor}
+use Rattle.std.specs.List.{slice_get}
+use Rattle.std.proofs.lemmas.List.{reverse-append}
+use Rattle.scrib_types.specs.declared.message.Message.{Message}
+use Rattle.scrib_types.specs.declared.spot.Spot.{Spot}
+use Rattle.scrib_types.specs.Trees.{GlobalTree, GlobalEnd, GlobalVar, GlobalRec}
+use Rattle.scrib_types.specs.WellFormed.{leads_to_communication}
+use Rattle.scrib_parser.specs.declared.tree.ModuleTree.{ModuleTree}
+use Rattle.scrib_parser.specs.declared.tree.Statement.{Statement}
+use Rattle.scrib_parser.specs.declared.tree.Block.{Block}
+use Rattle.scrib_elaborate.specs.declared.fault.FaultKind.{FaultKind}
+use Rattle.scrib_elaborate.specs.declared.fault.FaultKind.TheVariants as kind
+use Rattle.scrib_elaborate.specs.declared.tasks.Task.{Task}
+use Rattle.scrib_elaborate.specs.declared.tasks.Task.TheVariants.{Front, Join, Close}
+use Rattle.scrib_elaborate.specs.declared.tasks.Choosing.{Choosing}
+use Rattle.scrib_elaborate.specs.declared.standing.Standing.{Standing}
+use Rattle.scrib_elaborate.specs.declared.built.Typed.{Typed}
+use Rattle.scrib_elaborate.specs.Source.{Body, Done, Then, Step, Sends, Chooses, Repeats, Continues, Calls, Blocks, NoBlock, OrBlock}
+use Rattle.scrib_elaborate.specs.SourceView.{step_of, body_of, blocks_of}
+use Rattle.scrib_elaborate.specs.Names.{Declaration, called}
+use Rattle.scrib_elaborate.specs.Statements.{KeepsRules, BlockKeeps, StepKeeps}
+use Rattle.scrib_elaborate.specs.Elaboration.{continues_in, Scope, role_in, level_of, inside, inside_call, Frames, NoFrame, Under, sent, Types, ends, closes, sends, chooses, repeats, passes, continues, calls, start_of}
+use Rattle.scrib_elaborate.specs.Faults.{Stands, here, later, in_choice, in_rec, StandsIn, in_this, in_other, Reaches, itself, blocks_before, Needs, needs_itself, needs_branch, needs_repeats, needs_passes, needs_calls, FailsTyping}
+use Rattle.scrib_elaborate.specs.Lifting.{lifted, LevelsBelow, AreBelow}
+use Rattle.scrib_elaborate.specs.Table.{IsPart, AreParts}
+use Rattle.scrib_elaborate.specs.Standing.{scope_of, start_scope, IsStart, IsSame, IsInside, IsInsideCall}
+use Rattle.scrib_elaborate.specs.Typing.{type_of, before, FailsUp, IsFront, AreTyped, IsJoin, IsClose, Path, IsState, IsBefore, TypingFails}
+use Rattle.scrib_elaborate.proofs.Kept.{of_then, of_protocol, kept_at, kept_along, reaches_on}
+use Rattle.scrib_elaborate.proofs.Checks.{stands_here}
+use Rattle.scrib_elaborate.proofs.Lifted.{lift_below, below_more, levels_more}
+use Rattle.scrib_elaborate.proofs.Needed.{fails_through, fails_rest}
+
+-- statements in front of others
+
+pub before_done : (ss : List Statement) → before ss Done ≡ body_of ss
+before_done [] = refl
+before_done (s ∷ ss) = ap (Then (step_of s)) (before_done ss)
+
+pub before_push : (ss : List Statement) (s : Statement) (b : Body) → before (ss ++ s ∷ []) b ≡ before ss (Then (step_of s) b)
+before_push [] s b = refl
+before_push (t ∷ ss) s b = ap (Then (step_of t)) (before_push ss s b)
+
+later_all : {recs inner : List (List ℕ)} {b r : Body} (ss : List Statement) → Stands recs b inner r → Stands recs (before ss b) inner r
+later_all [] st = st
+later_all (s ∷ ss) st = later (later_all ss st)
+
+starts : {ms : List ModuleTree} {d : Declaration} {recs : List (List ℕ)} {e f : Bool} (s : Step) (b : Body) (ss : List Statement) → BlockKeeps ms d recs e (before ss (Then s b)) f → e ≡ true
+starts s b [] k = (of_then k).before
+starts s b (t ∷ ss) k = (of_then k).before
+
+fails_in_front : (k : FaultKind) (d : Declaration) (spot : Spot) (ms : List ModuleTree) (recs : List (List ℕ)) (n : ℕ) (sc : Scope) (ss : List Statement) (s : Step) (b : Body) (outer : Frames) (e f : Bool)
+    → BlockKeeps ms sc.within recs e (before ss (Then s b)) f → AreBelow n (Under sc b outer) → FailsTyping k ms n (Under sc (Then s b) outer) d spot → FailsTyping k ms n (Under sc (before ss (Then s b)) outer) d spot
+fails_in_front k d spot ms recs n sc [] s b outer e f keeps low h = h
+fails_in_front k d spot ms recs n sc (t ∷ ss) s b outer e f keeps low h =
+    let v = of_then keeps in
+    let leads = subst (λ x. StepKeeps ms sc.within recs (step_of t) x) (starts s b ss v.rest) v.step in
+    fails_rest k ms recs n sc (step_of t) (before ss (Then s b)) outer d spot leads low (fails_in_front k d spot ms recs n sc ss s b outer v.leads f v.rest low h)
+
+pub block_kept : {ms : List ModuleTree} {root d : Declaration} (recs : List (List ℕ)) (b : Body) → Reaches ms root d → (e : Bool) → KeepsRules ms root e → IsPart d recs b → (a f : Bool) × BlockKeeps ms d recs a b f
+block_kept {ms = ms} {d = d} recs b reached e kept part =
+    let k = kept_along reached e kept in
+    let r = kept_at (part recs b here) ms d true k.0 (of_protocol k.1).block in
+    (r.before, r.exits, r.kept)
+
+-- a task more, on the stack
+
+pub pushed : (ms : List ModuleTree) (root : Declaration) (old new : List Task) (t : Task) (g h : GlobalTree) → new ≡ old ++ t ∷ [] → h ≡ g → IsState ms root (t ∷ reverse old) g → IsState ms root (reverse new) h
+pushed ms root old new t g h e same st =
+    let list : reverse new ≡ t ∷ reverse old = ap reverse e ∙ reverse-append old (t ∷ []) in
+    subst (λ x. IsState ms root (reverse new) x) (sym same) (subst (λ ts. IsState ms root ts g) (sym list) st)
+
+pub pushed_twice : (ms : List ModuleTree) (root : Declaration) (old mid new : List Task) (t u : Task) (g h : GlobalTree) → mid ≡ old ++ t ∷ [] → new ≡ mid ++ u ∷ [] → h ≡ g → IsState ms root (u ∷ t ∷ reverse old) g → IsState ms root (reverse new) h
+pushed_twice ms root old mid new t u g h e f same st =
+    let list : reverse mid ≡ t ∷ reverse old = ap reverse e ∙ reverse-append old (t ∷ []) in
+    pushed ms root mid new u g h f same (subst (λ ts. IsState ms root (u ∷ ts) g) (sym list) st)
+
+-- the state at statements in front
+
+pub record IsAt (ms : List ModuleTree) (root : Declaration) (ts : List Task) (sc : Scope) (n : ℕ) (ss : List Statement) (g : GlobalTree) : Type 0 where
+  pub rest : Body
+  pub outer : Frames
+  pub next : Frames
+  pub typed : Types ms n (Under sc rest outer) g
+  pub leads : (h : GlobalTree) → Types ms n (Under sc (before ss rest) outer) h → Types ms n next h
+  pub up : FailsUp ms root n (Under sc (before ss rest) outer)
+  pub recs : List (List ℕ)
+  pub part : IsPart sc.within recs (before ss rest)
+  pub reached : Reaches ms root sc.within
+  pub below : AreBelow n (Under sc rest outer)
+  pub path : Path ms root ts n next
+
+pub front_at : (ms : List ModuleTree) (root : Declaration) (ts : List Task) (st : Standing) (ss : Bor (List Statement)) (g : GlobalTree) → IsState ms root (Front st ss ∷ ts) g → IsAt ms root ts (scope_of st) st.depth ss.now g
+front_at ms root ts st ss g s =
+    let hs = s.path.0 in
+    let f = s.path.1 in
+    let sc = scope_of st in
+    subst (λ n. IsAt ms root ts sc n ss.now g) f.deep (record {
+      rest = f.rest;
+      outer = f.outer;
+      next = hs;
+      typed = subst (λ fs. Types ms s.depth fs g) f.is s.typed;
+      leads = f.leads;
+      up = f.up;
+      recs = f.recs;
+      part = f.part;
+      reached = f.reached;
+      below = f.below;
+      path = s.path.2;
+    })
+
+-- no statement is left
+pub front_done : (ms : List ModuleTree) (root : Declaration) (ts : List Task) (st : Standing) (ss : Bor (List Statement)) (g : GlobalTree) → ss.now ≡ [] → IsState ms root (Front st ss ∷ ts) g → IsState ms root ts g
+front_done ms root ts st ss g none s =
+    let a = subst (λ x. IsAt ms root ts (scope_of st) st.depth x g) none (front_at ms root ts st ss g s) in
+    record { depth = st.depth; frames = a.next; typed = a.leads g a.typed; path = a.path }
+
+-- the last statement is next
+pub front_step : (ms : List ModuleTree) (root : Declaration) (ts : List Task) (st again : Standing) (ss front : Bor (List Statement)) (s : Statement) (g : GlobalTree) (e : Bool) → KeepsRules ms root e → ss.now ≡ front.now ++ s ∷ [] → IsSame st again
+    → IsState ms root (Front st ss ∷ ts) g → IsBefore ms root (Front again front ∷ ts) (scope_of st) st.depth (step_of s) g
+front_step ms root ts st again ss front s g e kept is same x =
+    let sc = scope_of st in
+    let n = st.depth in
+    let a = front_at ms root ts st ss g x in
+    let list : before ss.now a.rest ≡ before front.now (Then (step_of s) a.rest) =
+    ap (λ y. before y a.rest) is ∙ before_push front.now s a.rest in
+    let up = subst (λ b. FailsUp ms root n (Under sc b a.outer)) list a.up in
+    let part = subst (λ b. IsPart sc.within a.recs b) list a.part in
+    let leads = subst (λ b. (h : GlobalTree) → Types ms n (Under sc b a.outer) h → Types ms n a.next h) list a.leads in
+    let k = block_kept a.recs (before front.now (Then (step_of s) a.rest)) a.reached e kept part in
+    let this : IsFront ms root sc n front.now n (Under sc (Then (step_of s) a.rest) a.outer) a.next = record {
+      rest = Then (step_of s) a.rest;
+      outer = a.outer;
+      deep = refl;
+      is = refl;
+      leads = leads;
+      up = up;
+      recs = a.recs;
+      part = part;
+      reached = a.reached;
+      below = a.below;
+    } in
+    record {
+      rest = a.rest;
+      outer = a.outer;
+      typed = a.typed;
+      path =
+          (a.next, subst (λ d. IsFront ms root (scope_of again) d front.now n (Under sc (Then (step_of s) a.rest) a.outer) a.next) (sym same.depth) (subst (λ c. IsFront ms root c n front.now n (Under sc (Then (step_of s) a.rest) a.outer) a.next) (sym same.scope) this), a.path);
+      up =
+          λ f d spot h. up f d spot (fails_in_front f d spot ms a.recs n sc front.now (step_of s) a.rest a.outer k.0 k.1 k.2 a.below h);
+      recs = a.recs;
+      part = λ inner r q. part inner r (later_all front.now q);
+      reached = a.reached;
+      below = a.below;
+    }
+
+-- a block is entered
+
+pub record IsOpened (ms : List ModuleTree) (root : Declaration) (sc : Scope) (n : ℕ) (b : Body) (outer next : Frames) (g : GlobalTree) : Type 0 where
+  pub typed : Types ms n outer g
+  pub leads : (h : GlobalTree) → Types ms n (Under sc b outer) h → Types ms n next h
+  pub up : FailsUp ms root n (Under sc b outer)
+  pub recs : List (List ℕ)
+  pub part : IsPart sc.within recs b
+  pub reached : Reaches ms root sc.within
+  pub below : AreBelow n (Under sc Done outer)
+
+pub opened : (ms : List ModuleTree) (root : Declaration) (ts : List Task) (st : Standing) (ss : Bor (List Statement)) (sc : Scope) (n : ℕ) (b : Body) (outer next : Frames) (g : GlobalTree)
+    → scope_of st ≡ sc → st.depth ≡ n → body_of ss.now ≡ b → IsOpened ms root sc n b outer next g → Path ms root ts n next → IsState ms root (Front st ss ∷ ts) g
+opened ms root ts st ss sc n b outer next g scope depth body o path =
+    let list : b ≡ before ss.now Done = sym body ∙ sym (before_done ss.now) in
+    let p = subst (λ x. IsOpened ms root sc n x outer next g) list o in
+    let this : IsFront ms root sc n ss.now n (Under sc Done outer) next = record {
+      rest = Done;
+      outer = outer;
+      deep = refl;
+      is = refl;
+      leads = p.leads;
+      up = p.up;
+      recs = p.recs;
+      part = p.part;
+      reached = p.reached;
+      below = p.below;
+    } in
+    record {
+      depth = n;
+      frames = Under sc Done outer;
+      typed = closes p.typed;
+      path =
+          (next, subst (λ d. IsFront ms root (scope_of st) d ss.now n (Under sc Done outer) next) (sym depth) (subst (λ c. IsFront ms root c n ss.now n (Under sc Done outer) next) (sym scope) this), path);
+    }
+
+-- a message is sent
+
+pub message_put : (ms : List ModuleTree) (root : Declaration) (ts : List Task) (sc : Scope) (n : ℕ) (m : Message) (p : List ℕ) (qs : List (List ℕ)) (spot : Spot) (g h : GlobalTree)
+    → h ≡ sent m (role_in sc p) (map (role_in sc) qs) g → IsBefore ms root ts sc n (Sends m p qs spot) g → IsState ms root ts h
+message_put ms root ts sc n m p qs spot g h is b = record {
+  depth = n;
+  frames = Under sc (Then (Sends m p qs spot) b.rest) b.outer;
+  typed = sends b.typed is;
+  path = b.path;
+}
+
+-- a recursion is continued
+
+pub variable_put : (ms : List ModuleTree) (root : Declaration) (ts : List Task) (sc : Scope) (n k i : ℕ) (x : List ℕ) (spot : Spot) (g h : GlobalTree)
+    → level_of x sc.recs ≡ Some k → n ≡ k + 1 + i → h ≡ GlobalVar i → IsBefore ms root ts sc n (Continues x spot) g → IsState ms root ts h
+variable_put ms root ts sc n k i x spot g h level deep is b = record {
+  depth = n;
+  frames = Under sc (Then (Continues x spot) b.rest) b.outer;
+  typed = continues level deep is;
+  path = b.path;
+}
+
+-- a protocol is called
+
+pub call_put : (ms : List ModuleTree) (root : Declaration) (ts : List Task) (st : Standing) (ss : Bor (List Statement)) (sc : Scope) (n : ℕ) (path roles : List (List ℕ)) (spot : Spot) (c : Declaration) (g : GlobalTree)
+    → called ms sc.within.home path ≡ Some c → scope_of st ≡ inside_call sc c roles → st.depth ≡ n → ss.now ≡ c.protocol.body → IsBefore ms root ts sc n (Calls path roles spot) g → IsState ms root (Front st ss ∷ ts) g
+call_put ms root ts st ss sc n path roles spot c g there scope depth body b =
+    opened ms root ts st ss (inside_call sc c roles) n (body_of c.protocol.body) (Under sc b.rest b.outer) (Under sc (Then (Calls path roles spot) b.rest) b.outer) g scope depth (ap body_of body) (record {
+      typed = b.typed;
+      leads = λ h t. calls there t;
+      up = λ f d s h. b.up f d s (fails_through f d s (needs_calls there needs_itself) h);
+      recs = [];
+      part = λ inner r q. q;
+      reached = reaches_on b.reached (stands_here sc.within b.recs (Calls path roles spot) b.rest b.part) there;
+      below = (tt, b.below);
+    }) b.path
+
+-- a recursion that isn't continued
+
+pub passes_put : (ms : List ModuleTree) (root : Declaration) (ts : List Task) (st : Standing) (ss : Bor (List Statement)) (x : List ℕ) (spot : Spot) (g : GlobalTree)
+    → continues_in x (body_of ss.now) ≡ false → IsBefore ms root ts (scope_of st) st.depth (Repeats x (body_of ss.now) spot) g → IsState ms root (Front st ss ∷ ts) g
+passes_put ms root ts st ss x spot g none b =
+    let sc = scope_of st in
+    let n = st.depth in
+    let c = body_of ss.now in
+    opened ms root ts st ss sc n c (Under sc b.rest b.outer) (Under sc (Then (Repeats x c spot) b.rest) b.outer) g refl refl refl (record {
+      typed = b.typed;
+      leads = λ h t. passes none t;
+      up = λ f d s h. b.up f d s (fails_through f d s (needs_passes none needs_itself) h);
+      recs = x ∷ b.recs;
+      part = λ inner r q. b.part inner r (in_rec q);
+      reached = b.reached;
+      below = (b.below.0, b.below);
+    }) b.path
+
+-- one that is
+
+pub repeats_put : (ms : List ModuleTree) (root : Declaration) (ts : List Task) (st inner : Standing) (ss : Bor (List Statement)) (home : Bor ModuleTree) (x : List ℕ) (spot : Spot) (g h : GlobalTree) → home.now ≡ (scope_of st).within.home
+    → continues_in x (body_of ss.now) ≡ true → IsInside st x inner → h ≡ lifted 0 g → IsBefore ms root ts (scope_of st) st.depth (Repeats x (body_of ss.now) spot) g → IsState ms root (Front inner ss ∷ Close home spot ∷ ts) h
+repeats_put ms root ts st inner ss home x spot g h at loops same is b =
+    let sc = scope_of st in
+    let n = st.depth in
+    let c = body_of ss.now in
+    let after = Under sc b.rest b.outer in
+    let whole = Under sc (Then (Repeats x c spot) b.rest) b.outer in
+    opened ms root (Close home spot ∷ ts) inner ss (inside sc x n) (n + 1) c after (Under (inside sc x n) c after) h same.scope same.depth refl (record {
+      typed = subst (λ y. Types ms (n + 1) after y) (sym is) (lift_below b.below b.typed);
+      leads = λ k t. t;
+      up = λ f d s k. b.up f d s (fails_through f d s (needs_repeats loops needs_itself) k);
+      recs = x ∷ b.recs;
+      part = λ i r q. b.part i r (in_rec q);
+      reached = b.reached;
+      below =
+          ((omega arith, levels_more n (n + 1) sc.recs (omega arith) b.below.0), below_more n (n + 1) after (omega arith) b.below);
+    }) (
+      n,
+      whole,
+      record {
+        scope = sc;
+        name = x;
+        body = c;
+        rest = b.rest;
+        outer = b.outer;
+        deep = refl;
+        is = refl;
+        goes = refl;
+        continued = loops;
+        up = b.up;
+        reached = b.reached;
+        at = at;
+      },
+      b.path,
+    )
+
+-- the recursion's body has its type
+
+pub record IsClosing (ms : List ModuleTree) (root : Declaration) (ts : List Task) (home : ModuleTree) (spot : Spot) (g : GlobalTree) : Type 0 where
+  pub scope : Scope
+  pub depth : ℕ
+  pub name : List ℕ
+  pub body : Body
+  pub rest : Body
+  pub outer : Frames
+  pub typed : Types ms (depth + 1) (Under (inside scope name depth) body (Under scope rest outer)) g
+  pub continued : continues_in name body ≡ true
+  pub up : FailsUp ms root depth (Under scope (Then (Repeats name body spot) rest) outer)
+  pub reached : Reaches ms root scope.within
+  pub at : home ≡ scope.within.home
+  pub path : Path ms root ts depth (Under scope (Then (Repeats name body spot) rest) outer)
+
+closing : (ms : List ModuleTree) (root : Declaration) (ts : List Task) (home : Bor ModuleTree) (spot : Spot) (g : GlobalTree) → IsState ms root (Close home spot ∷ ts) g → IsClosing ms root ts home.now spot g
+closing ms root ts home spot g s =
+    let m = s.path.0 in
+    let hs = s.path.1 in
+    let f = s.path.2 in
+    record {
+      scope = f.scope;
+      depth = m;
+      name = f.name;
+      body = f.body;
+      rest = f.rest;
+      outer = f.outer;
+      typed = subst (λ n. Types ms n (Under (inside f.scope f.name m) f.body (Under f.scope f.rest f.outer)) g) f.deep (subst (λ fs. Types ms s.depth fs g) f.is s.typed);
+      continued = f.continued;
+      up = subst (λ fs. FailsUp ms root m fs) f.goes f.up;
+      reached = f.reached;
+      at = f.at;
+      path = subst (λ fs. Path ms root ts m fs) f.goes s.path.3;
+    }
+
+pub close_put : (ms : List ModuleTree) (root : Declaration) (ts : List Task) (home : Bor ModuleTree) (spot : Spot) (g h : GlobalTree) → leads_to_communication g ≡ true → h ≡ GlobalRec g → IsState ms root (Close home spot ∷ ts) g → IsState ms root ts h
+close_put ms root ts home spot g h guarded is s =
+    let c = closing ms root ts home spot g s in
+    record {
+      depth = c.depth;
+      frames = Under c.scope (Then (Repeats c.name c.body spot) c.rest) c.outer;
+      typed = repeats c.continued c.typed guarded is;
+      path = c.path;
+    }
+
+pub close_fails : (ms : List ModuleTree) (root : Declaration) (ts : List Task) (home : Bor ModuleTree) (spot : Spot) (g : GlobalTree) → leads_to_communication g ≡ false → IsState ms root (Close home spot ∷ ts) g
+    → (place : Declaration) × Reaches ms root place × (home.now ≡ place.home) × FailsTyping kind.Unguarded ms 0 (start_of root) place spot
+close_fails ms root ts home spot g unguarded s =
+    let c = closing ms root ts home spot g s in (
+      c.scope.within,
+      c.reached,
+      c.at,
+      c.up kind.Unguarded c.scope.within spot (record {
+        name = c.name;
+        body = c.body;
+        depth = c.depth;
+        scope = c.scope;
+        follows = Under c.scope c.rest c.outer;
+        needed = record { after = c.rest; outer = c.outer; same = refl; home = refl; needs = needs_itself };
+        continued = c.continued;
+        inner = g;
+        typed = c.typed;
+        unguarded = unguarded;
+      }),
+    )
+
+-- the stack at the beginning and at the end, and the task on its top
+
+pub begins : (ms : List ModuleTree) (root : Declaration) (old new : List Task) (st : Standing) (ss : Bor (List Statement)) (g : GlobalTree) → old ≡ [] → new ≡ old ++ Front st ss ∷ [] → IsStart root st → ss.now ≡ root.protocol.body → g ≡ GlobalEnd → IsState ms root (reverse new) g
+begins ms root old new st ss g none push start body is =
+    let state : IsState ms root (Front st ss ∷ []) g = opened ms root [] st ss (start_scope root) 0 (body_of root.protocol.body) NoFrame (start_of root) g start.scope start.depth (ap body_of body) (record {
+      typed = subst (λ x. Types ms 0 NoFrame x) (sym is) ends;
+      leads = λ h t. t;
+      up = λ f d s h. h;
+      recs = [];
+      part = λ i r q. q;
+      reached = itself;
+      below = (tt, tt);
+    }) (refl, refl) in
+    pushed ms root old new (Front st ss) g g push refl (subst (λ o. IsState ms root (Front st ss ∷ reverse o) g) (sym none) state)
+
+pub popped : (ms : List ModuleTree) (root : Declaration) (old new : List Task) (t : Task) (g : GlobalTree) → old ≡ new ++ t ∷ [] → IsState ms root (reverse old) g → IsState ms root (t ∷ reverse new) g
+popped ms root old new t g is s =
+    subst (λ ts. IsState ms root ts g) (ap reverse is ∙ reverse-append new (t ∷ [])) s
+
+pub ended : (ms : List ModuleTree) (root : Declaration) (ts : List Task) (g : GlobalTree) → ts ≡ [] → IsState ms root (reverse ts) g → Types ms 0 (start_of root) g
+ended ms root ts g none s =
+    let e = subst (λ x. IsState ms root (reverse x) g) none s in
+    subst (λ fs. Types ms 0 fs g) e.path.1 (subst (λ n. Types ms n e.frames g) e.path.0 e.typed)
+
+pub pushed_before : (ms : List ModuleTree) (root : Declaration) (old new : List Task) (t : Task) (sc : Scope) (n : ℕ) (s : Step) (g : GlobalTree) → new ≡ old ++ t ∷ [] → IsBefore ms root (t ∷ reverse old) sc n s g → IsBefore ms root (reverse new) sc n s g
+pushed_before ms root old new t sc n s g e b =
+    subst (λ ts. IsBefore ms root ts sc n s g) (sym (ap reverse e ∙ reverse-append old (t ∷ []))) b

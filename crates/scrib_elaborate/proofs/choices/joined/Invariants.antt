@@ -1,0 +1,17 @@
+use Rattle.std.proofs.Common.{List, length, take, Option}
+use Rattle.scrib_types.specs.GlobalView.{global_branches}
+use Rattle.scrib_parser.specs.declared.tree.ModuleTree.{ModuleTree}
+use Rattle.scrib_elaborate.specs.declared.built.Typed.{Typed}
+use Rattle.scrib_elaborate.specs.declared.tasks.Task.{Task}
+use Rattle.scrib_elaborate.specs.SourceView.{blocks_of}
+use Rattle.scrib_elaborate.specs.Names.{Declaration}
+use Rattle.scrib_elaborate.specs.Elaboration.{role_in, Under}
+use Rattle.scrib_elaborate.specs.Standing.{scope_of}
+use Rattle.scrib_elaborate.specs.Typing.{IsChoosing}
+use Rattle.scrib_elaborate.proofs.Joined.{AreJoined}
+use Rattle.scrib_elaborate.proofs.choices.joined.Given as goal
+
+abbrev pub invariant-loop-block : goal.invariant-loop-block
+invariant-loop-block l =
+    (modules : List ModuleTree) (root : Declaration) (tasks : List Task) (follows : Option Typed) (x : IsChoosing modules root tasks (scope_of l.standing) l.standing.depth l.given l.blocks l.spot follows l.fn.types.items)
+    → AreJoined modules l.standing.depth (scope_of l.standing) (Under (scope_of l.standing) x.rest x.outer) (role_in (scope_of l.standing) l.given) (blocks_of (take (length l.yielded) l.blocks)) l.so_far.receiver (global_branches l.so_far.branches)

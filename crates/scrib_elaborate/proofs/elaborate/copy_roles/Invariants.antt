@@ -1,0 +1,6 @@
+use Rattle.std.proofs.Common.{◌≡◌, take}
+use Rattle.scrib_elaborate.specs.Names.{role_names}
+use Rattle.scrib_elaborate.proofs.elaborate.copy_roles.Given as goal
+
+abbrev pub invariant-loop-role : goal.invariant-loop-role
+invariant-loop-role l = l.names.items ≡ role_names (take l.role-index l.roles)

@@ -1,0 +1,21 @@
+-- What an elaborated protocol means, and what an answer says of it.
+use Rattle.std.specs.Prelude.{◌≡◌, List, Result, Ok, Err}
+use Rattle.scrib_types.specs.Agreement.{Agreement}
+use Rattle.scrib_types.specs.GlobalView.{global_of}
+use Rattle.scrib_elaborate.specs.declared.elaborated.Elaborated.{Elaborated}
+use Rattle.scrib_elaborate.specs.declared.elaborated.Join.{Join}
+use Rattle.scrib_elaborate.specs.declared.fault.ElaborateFault.{ElaborateFault}
+use Rattle.scrib_elaborate.specs.declared.fault.ElaborateFault.TheVariants.{Broken, OutOfMemory}
+
+abbrev pub meaning_of : Elaborated → Agreement
+meaning_of e = record { roles = e.roles; global = global_of e.global }
+
+-- the choices that its communications with several branches come from
+abbrev pub joins_of : Elaborated → List Join
+joins_of e = e.joins
+
+-- what was returned means this, unless memory was refused
+abbrev pub Means : Result Elaborated ElaborateFault → Agreement → Type 0
+Means (Ok e) a = meaning_of e ≡ a
+Means (Err (Broken f)) a = ⊥
+Means (Err OutOfMemory) a = Unit {0}

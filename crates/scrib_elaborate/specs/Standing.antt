@@ -1,0 +1,41 @@
+-- What is known of where statements stand (this project's own).
+-- Only contracts of private functions cite this file.
+use Rattle.std.specs.Prelude.{◌≡◌, ℕ, ◌+◌, List, [], map}
+use Rattle.std.specs.Borrow.{Bor}
+use Rattle.scrib_elaborate.specs.declared.standing.Level.{Level}
+use Rattle.scrib_elaborate.specs.declared.standing.Standing.{Standing}
+use Rattle.scrib_elaborate.specs.Names.{Declaration, roles_of}
+use Rattle.scrib_elaborate.specs.Elaboration.{Scope, inside, inside_call}
+use Rattle.scrib_elaborate.specs.Table.{declaration_of}
+
+-- names without where they lie in memory
+abbrev pub named : List (Bor (List ℕ)) → List (List ℕ)
+named rs = map (λ (r : Bor (List ℕ)). r.now) rs
+
+-- the recursions' names and levels
+abbrev pub levels_of : List Level → List (List ℕ × ℕ)
+levels_of ls = map (λ (l : Level). (l.name.now, l.level)) ls
+
+-- the scope without where it lies in memory
+abbrev pub scope_of : Standing → Scope
+scope_of s = record { within = declaration_of s.within; given = named s.given.items; recs = levels_of s.recs.items }
+
+-- the scope with which a protocol begins
+abbrev pub start_scope : Declaration → Scope
+start_scope d = record { within = d; given = roles_of d; recs = [] }
+
+pub record IsStart (root : Declaration) (s : Standing) : Type 0 where
+  pub scope : scope_of s ≡ start_scope root
+  pub depth : s.depth ≡ 0
+
+pub record IsSame (old : Standing) (s : Standing) : Type 0 where
+  pub scope : scope_of s ≡ scope_of old
+  pub depth : s.depth ≡ old.depth
+
+pub record IsInside (old : Standing) (name : List ℕ) (s : Standing) : Type 0 where
+  pub scope : scope_of s ≡ inside (scope_of old) name old.depth
+  pub depth : s.depth ≡ old.depth + 1
+
+pub record IsInsideCall (old : Standing) (callee : Declaration) (roles : List (List ℕ)) (s : Standing) : Type 0 where
+  pub scope : scope_of s ≡ inside_call (scope_of old) callee roles
+  pub depth : s.depth ≡ old.depth

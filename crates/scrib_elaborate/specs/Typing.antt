@@ -1,0 +1,215 @@
+-- What the parts of the third pass stand for (this project's own).
+-- Only contracts of private functions cite this file.
+use Rattle.std.specs.Prelude.{◌≡◌, ◌≢◌, ℕ, ◌+◌, ◌≤◌, true, false, List, [], ◌∷◌, length, slice_get, Option, Some, None, MatchOption}
+use Rattle.std.specs.List.{All}
+use Rattle.scrib_types.specs.declared.spot.Spot.{Spot}
+use Rattle.scrib_types.specs.GlobalView.{global_of}
+use Rattle.scrib_types.specs.Trees.{GlobalTree, GlobalEnd, GlobalVar, GlobalRec, Comm, GlobalBranches}
+use Rattle.scrib_parser.specs.declared.tree.ModuleTree.{ModuleTree}
+use Rattle.scrib_parser.specs.declared.tree.Statement.{Statement}
+use Rattle.scrib_parser.specs.declared.tree.Block.{Block}
+use Rattle.scrib_elaborate.specs.declared.built.Typed.{Typed}
+use Rattle.scrib_elaborate.specs.declared.tasks.Program.{Program}
+use Rattle.scrib_elaborate.specs.declared.tasks.Task.{Task}
+use Rattle.scrib_elaborate.specs.declared.tasks.Task.TheVariants.{Front, Join, Close, Trial}
+use Rattle.scrib_elaborate.specs.declared.fault.FaultKind.{FaultKind}
+use Rattle.scrib_elaborate.specs.declared.fault.FaultKind.TheVariants as kind
+use Rattle.scrib_elaborate.specs.declared.untyped.Untyped.{Untyped}
+use Rattle.scrib_elaborate.specs.declared.untyped.Untyped.TheVariants.{Broken, OutOfMemory}
+use Rattle.scrib_elaborate.specs.Source.{Body, Then, Step, Chooses, Repeats}
+use Rattle.scrib_elaborate.specs.SourceView.{step_of, body_of, blocks_of}
+use Rattle.scrib_elaborate.specs.Names.{Declaration, declarations}
+use Rattle.scrib_elaborate.specs.Elaboration.{continues_in, Scope, level_of, inside, Frames, Under, and_branches, Types, start_of}
+use Rattle.scrib_elaborate.specs.Faults.{Reaches, share_operator, FailsTyping}
+use Rattle.scrib_elaborate.specs.Table.{shown, IsPart, AreParts}
+use Rattle.scrib_elaborate.specs.Walking.{AreSummaries}
+use Rattle.scrib_elaborate.specs.Lifting.{AreBelow}
+use Rattle.scrib_elaborate.specs.Standing.{scope_of}
+
+-- the table has all protocols of the modules, and what is kept of one that was walked is so
+pub record IsTable (p : Program) : Type 0 where
+  pub all : shown p.declared.now ≡ declarations p.modules.now
+  pub kept : AreSummaries p.modules.now (shown p.declared.now) p.states.now
+
+abbrev pub type_of : Typed → GlobalTree
+type_of t = global_of t.global
+
+-- these statements stand in front of the rest of their block
+abbrev pub before : List Statement → Body → Body
+before [] b = b
+before (s ∷ ss) b = Then (step_of s) (before ss b)
+
+-- a fault of the type of these frames is one of the type of the protocol that was asked for
+abbrev pub FailsUp : List ModuleTree → Declaration → ℕ → Frames → Type 0
+FailsUp modules root n fs =
+    (k : FaultKind) (d : Declaration) (spot : Spot) → FailsTyping k modules n fs d spot → FailsTyping k modules 0 (start_of root) d spot
+
+-- where the statements are in front of these frames, their type is that of the others
+pub record IsFront (modules : List ModuleTree) (root : Declaration) (sc : Scope) (depth : ℕ) (statements : List Statement) (n : ℕ) (fs hs : Frames) : Type 0 where
+  pub rest : Body
+  pub outer : Frames
+  pub deep : n ≡ depth
+  pub is : fs ≡ Under sc rest outer
+  pub leads : (g : GlobalTree) → Types modules n (Under sc (before statements rest) outer) g → Types modules n hs g
+  pub up : FailsUp modules root n (Under sc (before statements rest) outer)
+  pub recs : List (List ℕ)
+  pub part : IsPart sc.within recs (before statements rest)
+  pub reached : Reaches modules root sc.within
+  pub below : AreBelow n (Under sc rest outer)
+
+-- these are the types of the first blocks
+abbrev pub AreTyped : List ModuleTree → ℕ → Scope → Frames → List Block → List Typed → Type 0
+AreTyped modules n sc fs blocks types =
+    (k : ℕ) (b : Block) (t : Typed) → slice_get blocks k ≡ Some b → slice_get types k ≡ Some t → Types modules n (Under sc (body_of b.body) fs) (type_of t)
+
+-- the frames are those of the next block of a choice, and the others begin with that choice
+pub record IsJoin (modules : List ModuleTree) (root : Declaration) (sc : Scope) (depth : ℕ) (chooser : List ℕ) (blocks : List Block) (spot : Spot) (follows : Option Typed) (types : List Typed) (n : ℕ) (fs hs : Frames) : Type 0 where
+  pub rest : Body
+  pub outer : Frames
+  pub deep : n ≡ depth
+  pub block : Block
+  pub here : slice_get blocks (length types) ≡ Some block
+  pub is : fs ≡ Under sc (body_of block.body) (Under sc rest outer)
+  pub goes : hs ≡ Under sc (Then (Chooses chooser (blocks_of blocks) spot) rest) outer
+  pub up : FailsUp modules root n hs
+  pub typed : AreTyped modules n sc (Under sc rest outer) blocks types
+  pub after : MatchOption follows (length types + 1 ≡ length blocks) (λ t. Types modules n (Under sc rest outer) (type_of t))
+  pub recs : List (List ℕ)
+  pub parts : AreParts sc.within recs (blocks_of blocks)
+  pub reached : Reaches modules root sc.within
+  pub below : AreBelow n (Under sc rest outer)
+
+-- the frames are those of the body of a recursion, and the others begin with it
+pub record IsClose (modules : List ModuleTree) (root : Declaration) (home : ModuleTree) (spot : Spot) (n : ℕ) (fs : Frames) (m : ℕ) (hs : Frames) : Type 0 where
+  pub scope : Scope
+  pub name : List ℕ
+  pub body : Body
+  pub rest : Body
+  pub outer : Frames
+  pub deep : n ≡ m + 1
+  pub is : fs ≡ Under (inside scope name m) body (Under scope rest outer)
+  pub goes : hs ≡ Under scope (Then (Repeats name body spot) rest) outer
+  pub continued : continues_in name body ≡ true
+  pub up : FailsUp modules root m hs
+  pub reached : Reaches modules root scope.within
+  pub at : home ≡ scope.within.home
+
+-- the tasks, the next one first, lead from these frames to those of the protocol that was asked for
+abbrev pub Path : List ModuleTree → Declaration → List Task → ℕ → Frames → Type 0
+Path modules root [] n fs = (n ≡ 0) × (fs ≡ start_of root)
+Path modules root (Front standing statements ∷ tasks) n fs =
+    (hs : Frames) × IsFront modules root (scope_of standing) standing.depth statements.now n fs hs × Path modules root tasks n hs
+Path modules root (Join c ∷ tasks) n fs =
+    (hs : Frames) × IsJoin modules root (scope_of c.standing) c.standing.depth c.chooser.now c.branches.now c.spot c.follows c.types.items n fs hs × Path modules root tasks n hs
+Path modules root (Close home spot ∷ tasks) n fs =
+    (m : ℕ) × (hs : Frames) × IsClose modules root home.now spot n fs m hs × Path modules root tasks m hs
+-- a trial leads to none: its task is the last
+Path modules root (Trial ∷ tasks) n fs = tasks ≡ []
+
+-- the type that was made last is that of the frames from which the tasks lead on
+pub record IsState (modules : List ModuleTree) (root : Declaration) (tasks : List Task) (g : GlobalTree) : Type 0 where
+  pub depth : ℕ
+  pub frames : Frames
+  pub typed : Types modules depth frames g
+  pub path : Path modules root tasks depth frames
+
+-- it is that of what follows this statement, and the tasks lead on from the statement
+pub record IsBefore (modules : List ModuleTree) (root : Declaration) (tasks : List Task) (sc : Scope) (n : ℕ) (s : Step) (g : GlobalTree) : Type 0 where
+  pub rest : Body
+  pub outer : Frames
+  pub typed : Types modules n (Under sc rest outer) g
+  pub path : Path modules root tasks n (Under sc (Then s rest) outer)
+  pub up : FailsUp modules root n (Under sc (Then s rest) outer)
+  pub recs : List (List ℕ)
+  pub part : IsPart sc.within recs (Then s rest)
+  pub reached : Reaches modules root sc.within
+  pub below : AreBelow n (Under sc rest outer)
+
+-- a rule on types fails in a protocol that is reached from the one that was asked for, unless memory was refused
+abbrev pub TypingFails : List ModuleTree → Declaration → Untyped → Type 0
+TypingFails modules root (Broken home b) =
+    (place : Declaration) × Reaches modules root place × (home.now ≡ place.home) × FailsTyping b.kind modules 0 (start_of root) place b.spot
+TypingFails modules root OutOfMemory = Unit {0}
+
+-- The statements stand in a protocol that is reached from the one that was asked for, and a fault of their type,
+-- with some frames after them, is one of the type of that one.
+pub record IsAhead (modules : List ModuleTree) (root : Declaration) (sc : Scope) (n : ℕ) (b : Body) : Type 0 where
+  pub outer : Frames
+  pub up : FailsUp modules root n (Under sc b outer)
+  pub recs : List (List ℕ)
+  pub part : IsPart sc.within recs b
+  pub reached : Reaches modules root sc.within
+  pub below : AreBelow n (Under sc b outer)
+
+-- so do the statements of this task, with more of their block after them
+abbrev pub IsTaskAhead : List ModuleTree → Declaration → Task → Type 0
+IsTaskAhead modules root (Front standing statements) =
+    (rest : Body) × IsAhead modules root (scope_of standing) standing.depth (before statements.now rest)
+IsTaskAhead modules root (Join c) = Unit {0}
+IsTaskAhead modules root (Close home spot) = Unit {0}
+IsTaskAhead modules root Trial = Unit {0}
+
+abbrev pub AreAhead : List ModuleTree → Declaration → List Task → Type 0
+AreAhead modules root tasks = All (IsTaskAhead modules root) tasks
+
+-- a rule on types fails, and the statements of these tasks stand in front of the fault, unless memory was refused
+abbrev pub StopsAhead : List ModuleTree → Declaration → List Task → Untyped → Type 0
+StopsAhead modules root tasks (Broken home b) =
+    TypingFails modules root (Broken home b) × AreAhead modules root tasks
+StopsAhead modules root tasks OutOfMemory = Unit {0}
+
+-- a choice in whose place the tasks lead on: the types of its first blocks, and while some are left of what follows it
+pub record IsChoosing (modules : List ModuleTree) (root : Declaration) (tasks : List Task) (sc : Scope) (n : ℕ) (chooser : List ℕ) (blocks : List Block) (spot : Spot) (follows : Option Typed) (types : List Typed) : Type 0 where
+  pub rest : Body
+  pub outer : Frames
+  pub typed : AreTyped modules n sc (Under sc rest outer) blocks types
+  pub few : length types ≤ length blocks
+  pub after : MatchOption follows (length types ≡ length blocks) (λ t. Types modules n (Under sc rest outer) (type_of t))
+  pub up : FailsUp modules root n (Under sc (Then (Chooses chooser (blocks_of blocks) spot) rest) outer)
+  pub recs : List (List ℕ)
+  pub parts : AreParts sc.within recs (blocks_of blocks)
+  pub reached : Reaches modules root sc.within
+  pub below : AreBelow n (Under sc rest outer)
+  pub path : Path modules root tasks n (Under sc (Then (Chooses chooser (blocks_of blocks) spot) rest) outer)
+
+-- no receiver is known yet, or it is this one
+abbrev pub IsFirst : Option (List ℕ) → List ℕ → Type 0
+IsFirst None q = Unit {0}
+IsFirst (Some r) q = r ≡ q
+
+-- the block's type was joined to those of the blocks before it
+pub record IsAdded (chooser : List ℕ) (before after : Option (List ℕ)) (old new : GlobalBranches) (g : GlobalTree) : Type 0 where
+  pub receiver : List ℕ
+  pub branches : GlobalBranches
+  pub is : g ≡ Comm chooser receiver branches
+  pub first : IsFirst before receiver
+  pub told : after ≡ Some receiver
+  pub apart : share_operator old branches ≡ false
+  pub joined : new ≡ and_branches old branches
+
+-- the block's type doesn't fit the chooser, or the blocks before it
+abbrev pub HeadFails : FaultKind → (chooser : List ℕ) → (receiver : Option (List ℕ)) → (earlier : GlobalBranches) → GlobalTree → Type 0
+HeadFails kind.EmptyBranch chooser receiver earlier g = g ≡ GlobalEnd
+HeadFails kind.ContinueHead chooser receiver earlier g = (n : ℕ) × (g ≡ GlobalVar n)
+HeadFails kind.RecHead chooser receiver earlier g = (h : GlobalTree) × (g ≡ GlobalRec h)
+HeadFails kind.NotChooser chooser receiver earlier g =
+    (p q : List ℕ) × (cs : GlobalBranches) × (g ≡ Comm p q cs) × (p ≢ chooser)
+HeadFails kind.TwoReceivers chooser receiver earlier g =
+    (q r : List ℕ) × (cs : GlobalBranches) × (g ≡ Comm chooser q cs) × (receiver ≡ Some r) × (r ≢ q)
+HeadFails kind.SameOperator chooser receiver earlier g =
+    (q : List ℕ) × (cs : GlobalBranches) × (g ≡ Comm chooser q cs) × IsFirst receiver q × (share_operator earlier cs ≡ true)
+HeadFails other chooser receiver earlier g = ⊥
+
+-- the fault is told at this place, unless memory was refused
+abbrev pub IsHeadFault : ModuleTree → Spot → (chooser : List ℕ) → (receiver : Option (List ℕ)) → (earlier : GlobalBranches) → GlobalTree → Untyped → Type 0
+IsHeadFault home spot chooser receiver earlier g (Broken h b) =
+    (h.now ≡ home) × (b.spot ≡ spot) × HeadFails b.kind chooser receiver earlier g
+IsHeadFault home spot chooser receiver earlier g OutOfMemory = Unit {0}
+
+-- the type is the variable of the recursion of this name
+pub record IsVariable (sc : Scope) (n : ℕ) (name : List ℕ) (g : GlobalTree) : Type 0 where
+  pub level : ℕ
+  pub index : ℕ
+  pub there : level_of name sc.recs ≡ Some level
+  pub deep : n ≡ level + 1 + index
+  pub is : g ≡ GlobalVar index

@@ -1,0 +1,148 @@
+//! The types of statements, built from the end.
+
+ghost use Rattle.std.specs.Prelude.{◌≡◌, ◌-◌, IfOk};
+ghost use Rattle.scrib_types.specs.GlobalView.{global_of};
+ghost use Rattle.scrib_types.specs.Trees.{GlobalEnd, GlobalVar, GlobalRec, Comm, Branch, NoBranch};
+ghost use Rattle.scrib_elaborate.specs.Elaboration.{sent};
+ghost use Rattle.scrib_elaborate.specs.Lifting.{lifted};
+ghost use Rattle.scrib_elaborate.specs.Standing.{named};
+ghost use Rattle.scrib_elaborate.specs.Typing.{type_of};
+
+use crate::lift::lifted;
+use crate::untyped::Refused;
+use scrib_parser::tree::ModuleTree;
+use scrib_types::global::GlobalType;
+use scrib_types::message::Message;
+use scrib_types::name::Role;
+use scrib_types::plain::{Boxed, Items};
+use scrib_types::spot::Spot;
+use std::alloc::{AllocError, Global};
+
+/// Where a choice stands: its module, and its place in the module's text.
+#[derive(Clone, Copy, Drop)]
+pub struct Origin<'a> {
+    pub home: &'a ModuleTree,
+    pub spot: Spot,
+}
+
+/// The type of statements, and for each of its communications, in post-order, the outermost choice that it comes
+/// from if it has several branches.
+#[derive(Drop)]
+pub struct Typed<'a> {
+    pub global: GlobalType,
+    pub joins: Vec<Option<Origin<'a>>>,
+}
+
+impl<'a> Typed<'a> {
+    /// The type of no statement.
+    #[tactic(auto, using(scrib_types::specs::GlobalView::global_views))]
+    pub fn end(alloc: Global) -> Typed<'a>
+        ensures { type_of result ≡ GlobalEnd }
+    {
+        Typed {
+            global: GlobalType::End,
+            joins: Vec::new(alloc),
+        }
+    }
+
+    /// The type of a `continue`.
+    #[tactic(auto, using(scrib_types::specs::GlobalView::global_views))]
+    pub fn variable(alloc: Global, index: u32) -> Typed<'a>
+        ensures { type_of result ≡ GlobalVar index }
+    {
+        Typed {
+            global: GlobalType::Var(index),
+            joins: Vec::new(alloc),
+        }
+    }
+
+    /// The same once more.
+    ///
+    /// # Errors
+    /// `AllocError` where memory was refused.
+    pub fn copy(&self, alloc: Global) -> Result<Typed<'a>, AllocError>
+        ensures { IfOk result (λ t. type_of t ≡ type_of self.now) }
+    {
+        let global = GlobalType::copy(alloc, &self.global)?;
+        let joins = Vec::from_slice(alloc, &self.joins)?;
+        Ok(Typed { global, joins })
+    }
+
+    /// The type under one recursion more.
+    ///
+    /// # Errors
+    /// `Refused` where memory was refused.
+    pub fn lifted(&self, alloc: Global) -> Result<Typed<'a>, Refused>
+        ensures { IfOk result (λ t. type_of t ≡ lifted 0 (type_of self.now)) }
+    {
+        let global = lifted(alloc, &self.global, 0)?;
+        let joins = Vec::from_slice(alloc, &self.joins)?;
+        Ok(Typed { global, joins })
+    }
+
+    /// The recursion whose body has this type.
+    ///
+    /// # Errors
+    /// `AllocError` where memory was refused.
+    #[tactic(auto, using(scrib_types::specs::GlobalView::global_views))]
+    pub fn closed(self, alloc: Global) -> Result<Typed<'a>, AllocError>
+        ensures { IfOk result (λ t. type_of t ≡ GlobalRec (type_of self.entry)) }
+    {
+        let Typed { global, joins } = self;
+        let global = GlobalType::Rec(Boxed::new(alloc, global)?);
+        Ok(Typed { global, joins })
+    }
+
+    /// The same type, of which the communication in front, if it has several branches, comes from this choice.
+    pub fn joined_at(self, origin: Origin<'a>) -> Typed<'a>
+        ensures { type_of result ≡ type_of self.entry }
+    {
+        let Typed { global, mut joins } = self;
+        if let Some(Some(last)) = joins.last_mut() {
+            *last = origin;
+        }
+        Typed { global, joins }
+    }
+
+    /// One message to each of the receivers in turn, and then what has this type.
+    ///
+    /// # Errors
+    /// `AllocError` where memory was refused.
+    pub fn sent(
+        self,
+        alloc: Global,
+        message: &Message,
+        from: &Role,
+        to: &[&Role],
+    ) -> Result<Typed<'a>, AllocError>
+        ensures { IfOk result (λ t. type_of t ≡ sent message.now from.now (named to.now) (type_of self.entry)) }
+    {
+        let Typed {
+            mut global,
+            mut joins,
+        } = self;
+        for i in (0..to.len()).rev() {
+            global = communication(alloc, message, from, to[i], global)?;
+            joins.push(None)?;
+        }
+        Ok(Typed { global, joins })
+    }
+}
+
+fn communication(
+    alloc: Global,
+    message: &Message,
+    from: &Role,
+    to: &Role,
+    follows: GlobalType,
+) -> Result<GlobalType, AllocError>
+    ensures { IfOk result (λ g. global_of g ≡ Comm from.now to.now (Branch message.now (global_of follows) NoBranch)) }
+{
+    let from = from.copy(alloc)?;
+    let to = to.copy(alloc)?;
+    let message = message.copy(alloc)?;
+    let mut branches = Vec::with_capacity(alloc, 1)?;
+    branches.push((message, follows))?;
+    let branches = Items::from_vec(branches);
+    Ok(GlobalType::Comm { from, to, branches })
+}

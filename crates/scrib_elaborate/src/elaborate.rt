@@ -1,0 +1,139 @@
+//! Elaboration of a protocol among modules.
+
+ghost use Rattle.std.specs.Prelude.{◌≡◌, IfOk, IfErr, MatchResult};
+ghost use Rattle.scrib_types.specs.Agreement.{Agreement};
+ghost use Rattle.scrib_elaborate.specs.Names.{declarations, is_called, role_names};
+ghost use Rattle.scrib_elaborate.specs.Elaboration.{Elaborates};
+ghost use Rattle.scrib_elaborate.specs.Faults.{FailsAt};
+ghost use Rattle.scrib_elaborate.specs.Meaning.{meaning_of, Means};
+ghost use Rattle.scrib_elaborate.specs.Table.{shown, declaration_of, IsFound};
+ghost use Rattle.scrib_elaborate.specs.Typing.{IsTable};
+ghost use Rattle.scrib_elaborate.specs.Walking.{IsAbsentFault, IsCounted};
+
+use crate::built::{Origin, Typed};
+use crate::declared::{Declared, all_declared, find};
+use crate::elaborated::{Elaborated, Join};
+use crate::fault::{ElaborateFault, Fault, FaultKind};
+use crate::modules::Modules;
+use crate::names::has_module;
+use crate::tasks::Program;
+use crate::typing::type_of_root;
+use crate::untyped::Untyped;
+use crate::walk::{check_size, fault_in, walk};
+use scrib_parser::tree::{ModuleTree, RoleDeclaration};
+use scrib_types::name::{Dotted, Name, Role};
+use scrib_types::plain::Items;
+use scrib_types::spot::Spot;
+use std::alloc::{AllocError, Global};
+
+/// What the protocol of this name, in the module of this name, means among the modules.
+///
+/// # Errors
+/// `Broken` with a rule that fails and its place, exactly where the protocol means nothing: `NoModule` or
+/// `NoProtocol`, with the module's name and the place 0:0, where it isn't there; `OutOfMemory` where memory
+/// was refused.
+pub fn elaborate(
+    alloc: Global,
+    modules: &Modules,
+    module: &Dotted,
+    protocol: &Name,
+) -> Result<Elaborated, ElaborateFault>
+    ensures ok { IfOk result (λ e. Elaborates modules.now «module».now protocol.now (meaning_of e)) }
+    ensures only { (a : Agreement) → Elaborates modules.now «module».now protocol.now a → Means result a }
+    ensures fault { IfErr result (FailsAt modules.now «module».now protocol.now) }
+{
+    let trees = modules.as_slice();
+    let declared = all_declared(alloc, modules)?;
+    let root = find_root(alloc, trees, &declared, module, protocol)?;
+    let states = walk(alloc, trees, &declared, root)?;
+    let count = check_size(alloc, &declared, &states, root)?;
+    let at = declared[root];
+    let program = Program {
+        modules: trees,
+        declared: &declared,
+        states: &states,
+        root: at,
+    };
+    finish(alloc, &program, count, module, protocol)
+}
+
+// What the protocol means, after the first two passes.
+fn finish(
+    alloc: Global,
+    program: &Program,
+    count: usize,
+    module: &Dotted,
+    protocol: &Name,
+) -> Result<Elaborated, ElaborateFault>
+    requires table { IsTable program.now }
+    requires ready { IsCounted program.now.modules.now (shown program.now.declared.now) (declaration_of program.now.root) count «module».now protocol.now }
+    ensures ok { IfOk result (λ e. Elaborates program.now.modules.now «module».now protocol.now (meaning_of e)) }
+    ensures fault { IfErr result (FailsAt program.now.modules.now «module».now protocol.now) }
+{
+    match type_of_root(alloc, program) {
+        Ok(typed) => {
+            let Typed { global, joins } = typed;
+            let roles = copy_roles(alloc, program.root.protocol.roles.as_slice())?;
+            let joins = told(alloc, &joins)?;
+            Ok(Elaborated::new(roles, global, count, joins))
+        }
+        Err(Untyped::Broken(home, rule)) => Err(fault_in(alloc, home, rule)),
+        Err(Untyped::OutOfMemory) => Err(ElaborateFault::OutOfMemory),
+    }
+}
+
+fn copy_roles(alloc: Global, roles: &[RoleDeclaration]) -> Result<Items<Role>, AllocError>
+    ensures { IfOk result (λ names. names ≡ role_names roles.now) }
+{
+    let mut names = Vec::with_capacity(alloc, roles.len())?;
+    for role in roles {
+        names.push(role.name.copy(alloc)?)?;
+    }
+    Ok(Items::from_vec(names))
+}
+
+// The choices that communications with several branches come from.
+fn told(alloc: Global, joins: &[Option<Origin>]) -> Result<Items<Join>, AllocError> {
+    let mut told = Vec::new(alloc);
+    for join in joins {
+        if let Some(origin) = join {
+            let module = origin.home.name.copy(alloc)?;
+            let spot = origin.spot;
+            told.push(Join { module, spot })?;
+        }
+    }
+    Ok(Items::from_vec(told))
+}
+
+// Where the protocol that is asked for stands in the table.
+fn find_root(
+    alloc: Global,
+    modules: &[ModuleTree],
+    declared: &[Declared],
+    module: &Dotted,
+    protocol: &Name,
+) -> Result<usize, ElaborateFault>
+    requires { shown declared.now ≡ declarations modules.now }
+    ensures { MatchResult result
+        (IsFound (shown declared.now) (is_called «module».now protocol.now))
+        (FailsAt modules.now «module».now protocol.now) }
+{
+    if !has_module(modules, module) {
+        return Err(absent(alloc, module, FaultKind::NoModule));
+    }
+    match find(declared, module, protocol) {
+        Some(root) => Ok(root),
+        None => Err(absent(alloc, module, FaultKind::NoProtocol)),
+    }
+}
+
+// The fault that the protocol isn't there, or `OutOfMemory` where memory for a copy of the name is refused.
+fn absent(alloc: Global, name: &Dotted, kind: FaultKind) -> ElaborateFault
+    ensures { IsAbsentFault name.now kind result }
+{
+    let spot = Spot { line: 0, column: 0 };
+    match name.copy(alloc) {
+        Ok(module) => ElaborateFault::Broken(Fault { kind, module, spot }),
+        Err(error) => ElaborateFault::from(error),
+    }
+}

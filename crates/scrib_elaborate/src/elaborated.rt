@@ -1,0 +1,98 @@
+//! Elaborated protocols.
+
+ghost use Rattle.std.specs.Prelude.{◌≡◌, IsTrue};
+ghost use Rattle.scrib_types.specs.GlobalView.{global_of};
+ghost use Rattle.scrib_elaborate.specs.Elaboration.{nodes};
+ghost use Rattle.scrib_elaborate.specs.Sound.{is_sound};
+
+use scrib_types::global::GlobalType;
+use scrib_types::name::{Dotted, Role};
+use scrib_types::plain::Items;
+use scrib_types::spot::Spot;
+
+/// Where the choice stands that a communication with several branches comes from: its module, and the place of
+/// its word `choice`, of the outermost one where several were joined.
+#[derive(Drop)]
+pub struct Join {
+    pub module: Dotted,
+    pub spot: Spot,
+}
+
+/// What a protocol means: its roles in the order in which they are declared, and its global type, which is closed
+/// and well formed.
+#[derive(Drop)]
+pub struct Elaborated {
+    roles: Items<Role>,
+    global: GlobalType,
+    count: usize,
+    joins: Items<Join>,
+    pub ghost counted: { count ≡ nodes (global_of global) },
+    pub ghost sound: { IsTrue (is_sound roles (global_of global)) },
+}
+
+impl Elaborated {
+    ghost use Rattle.std.specs.Prelude.{◌≡◌, IsTrue};
+    ghost use Rattle.scrib_types.specs.GlobalView.{global_of};
+    ghost use Rattle.scrib_elaborate.specs.Elaboration.{nodes};
+    ghost use Rattle.scrib_elaborate.specs.Sound.{is_sound};
+    ghost use Rattle.scrib_elaborate.specs.Meaning.{meaning_of, joins_of};
+
+    /// The protocol of these roles and this type, which has so many nodes. The joins are those of the type's
+    /// communications with several branches, in post-order.
+    pub fn new(
+        roles: Items<Role>,
+        global: GlobalType,
+        count: usize,
+        joins: Items<Join>,
+    ) -> Elaborated
+        requires counted { count ≡ nodes (global_of global) }
+        requires sound { IsTrue (is_sound roles (global_of global)) }
+        ensures { meaning_of result ≡ record { roles = roles; global = global_of global } }
+    {
+        Elaborated {
+            roles,
+            global,
+            count,
+            joins,
+        }
+    }
+
+    /// The roles, in the order in which they are declared.
+    pub fn roles(&self) -> &[Role]
+        ensures roles { result.now ≡ (meaning_of self.now).roles }
+        ensures sound { IsTrue (is_sound (meaning_of self.now).roles (meaning_of self.now).global) }
+    {
+        self.roles.as_slice()
+    }
+
+    /// The global type.
+    pub fn global(&self) -> &GlobalType
+        ensures global { global_of result.now ≡ (meaning_of self.now).global }
+        ensures sound { IsTrue (is_sound (meaning_of self.now).roles (meaning_of self.now).global) }
+    {
+        &self.global
+    }
+
+    /// How many ends, variables, recursions and communications the global type has.
+    pub fn nodes(&self) -> usize
+        ensures { result ≡ nodes (meaning_of self.now).global }
+    {
+        self.count
+    }
+
+    /// Where the communications with several branches come from, in post-order: those in a communication's
+    /// branches, the first branch first, and then its own.
+    pub fn joins(&self) -> &[Join]
+        ensures { result.now ≡ joins_of self.now }
+    {
+        self.joins.as_slice()
+    }
+
+    /// The roles and the global type.
+    pub fn into_parts(self) -> (Items<Role>, GlobalType)
+        ensures { record { roles = result.0; global = global_of result.1 } ≡ meaning_of self }
+    {
+        let Elaborated { roles, global, .. } = self;
+        (roles, global)
+    }
+}

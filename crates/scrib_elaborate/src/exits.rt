@@ -1,0 +1,75 @@
+//! Whether blocks have an exit, after the first pass.
+
+ghost use Rattle.std.specs.Prelude.{◌≡◌, ◌<◌, List, length, slice_get, Some, false};
+ghost use Rattle.scrib_parser.specs.declared.tree.ModuleTree.{ModuleTree};
+ghost use Rattle.scrib_elaborate.specs.SourceView.{step_of, body_of, blocks_of};
+ghost use Rattle.scrib_elaborate.specs.Names.{Declaration};
+ghost use Rattle.scrib_elaborate.specs.Statements.{KeepsRules};
+ghost use Rattle.scrib_elaborate.specs.Staying.{Stays, StepStays, AllStay};
+ghost use Rattle.scrib_elaborate.specs.Typing.{IsTable};
+ghost use Rattle.scrib_elaborate.specs.Walking.{AreSummaries};
+
+use crate::stop::State;
+use crate::tasks::Program;
+use crate::typing::callee;
+use scrib_parser::tree::{Block, ModuleTree, Statement};
+
+/// Whether a way through the block, in this module, leads to its end.
+#[cycle(exits)]
+pub fn has_exit<'a>(program: &Program<'a>, home: &'a ModuleTree, body: &'a [Statement]) -> bool
+    requires { IsTable program.now }
+    ensures { result ≡ false → Stays program.now.modules.now home.now (body_of body.now) }
+{
+    for statement in body {
+        if !leads_on(program, home, statement) {
+            return false;
+        }
+    }
+    true
+}
+
+#[cycle(exits)]
+fn leads_on<'a>(program: &Program<'a>, home: &'a ModuleTree, statement: &'a Statement) -> bool
+    requires { IsTable program.now }
+    ensures { result ≡ false → StepStays program.now.modules.now home.now (step_of statement.now) }
+{
+    match statement {
+        Statement::Message { .. } => true,
+        Statement::Choice { branches, .. } => some_exit(program, home, branches.as_slice()),
+        Statement::Rec { body, .. } => has_exit(program, home, body.as_slice()),
+        Statement::Continue { .. } => false,
+        Statement::Do { protocol, .. } => match callee(program, home, protocol) {
+            Some(callee) => exits_at(program.states, callee.place),
+            None => true,
+        },
+    }
+}
+
+#[cycle(exits)]
+fn some_exit<'a>(program: &Program<'a>, home: &'a ModuleTree, branches: &'a [Block]) -> bool
+    requires { IsTable program.now }
+    ensures { result ≡ false → AllStay program.now.modules.now home.now (blocks_of branches.now) }
+{
+    for branch in branches {
+        if has_exit(program, home, branch.body.as_slice()) {
+            return true;
+        }
+    }
+    false
+}
+
+// Whether the protocol at this place of the table has an exit, if a walk has left it.
+fn exits_at(states: &[State], place: usize) -> bool
+    requires { place < length states.now }
+    ensures { (modules : List ModuleTree) (ds : List Declaration) (d : Declaration)
+        → AreSummaries modules ds states.now
+        → slice_get ds place ≡ Some d
+        → result ≡ false
+        → KeepsRules modules d false }
+{
+    match states[place] {
+        State::Walked(summary) => summary.exits,
+        State::Walking => true,
+        State::Unwalked => true,
+    }
+}

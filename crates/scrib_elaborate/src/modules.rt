@@ -1,0 +1,160 @@
+//! The modules among which protocols call one another.
+
+ghost use Rattle.std.specs.Prelude.{◌≡◌, ◌∷◌, ◌++◌, ◌<◌, [], false, length, map, slice_set, slice_index_or, MatchOption, IfOk, OnOk, OnErr};
+ghost use Rattle.scrib_parser.specs.declared.tree.ModuleTree as parsed;
+ghost use Rattle.scrib_elaborate.specs.Names.{has_name, module_names, with_module, is_settled};
+ghost use Rattle.scrib_elaborate.specs.Table.{IsPlace};
+ghost use Rattle.scrib_elaborate.specs.Placed.{IsPlaced, undone};
+
+use crate::names::same_name;
+use crate::own_names::is_settled;
+use scrib_parser::tree::ModuleTree;
+use scrib_types::name::Dotted;
+use std::alloc::{AllocError, Global};
+use std::marker::Model;
+use std::mem::replace;
+
+/// Where a module was put, and the one that stood there.
+#[derive(Drop)]
+pub struct Placed {
+    pub at: usize,
+    pub replaced: Option<ModuleTree>,
+}
+
+/// Modules, of which no two have one name where they were added one by one. Contracts see their list.
+#[derive(Drop)]
+pub struct Modules {
+    trees: Vec<ModuleTree>,
+    // Of each whether its names are settled, so that elaboration needn't look at them again.
+    settled: Vec<bool>,
+}
+
+impl Model for Modules {
+    ghost use Rattle.std.specs.Prelude.{◌≡◌, List, map};
+    ghost use Rattle.std.specs.Coded.{codes};
+    ghost use Rattle.scrib_parser.specs.declared.tree.ModuleTree as parsed;
+    ghost use Rattle.scrib_parser.specs.contracts.tree.Statement as statement;
+    ghost use Rattle.scrib_elaborate.specs.Names.{is_settled};
+
+    ghost Value = { List parsed.ModuleTree };
+
+    ghost coded = { Prim.hlevel (codes, statement.the_row.coded) };
+
+    ghost view = { λ m. m.trees.items };
+
+    ghost invariant = { λ m. m.settled.items ≡ map is_settled m.trees.items };
+}
+
+impl Modules {
+    /// No module.
+    pub fn new(alloc: Global) -> Modules
+        ensures { result ≡ [] }
+    {
+        Modules {
+            trees: Vec::new(alloc),
+            settled: Vec::new(alloc),
+        }
+    }
+
+    /// Puts the module in place of the one of its name, or last.
+    ///
+    /// # Errors
+    /// `AllocError` where memory for one more was refused. The modules are the same then.
+    pub fn add(&mut self, tree: ModuleTree) -> Result<(), AllocError>
+        ensures ok { OnOk result (self.new ≡ with_module tree self.old) }
+        ensures err { OnErr result (self.new ≡ self.old) }
+    {
+        self.put(tree)?;
+        Ok(())
+    }
+
+    /// Puts the module in place of the one of its name, or last, and tells where it stands now.
+    ///
+    /// # Errors
+    /// `AllocError` where memory for one more was refused. The modules are the same then.
+    pub fn put(&mut self, tree: ModuleTree) -> Result<Placed, AllocError>
+        ensures ok { IfOk result (IsPlaced tree self.old self.new) }
+        ensures err { OnErr result (self.new ≡ self.old) }
+    {
+        match place_of(&self.trees, &tree.name) {
+            Some(at) => {
+                let replaced = self.exchange(at, tree);
+                Ok(Placed {
+                    at,
+                    replaced: Some(replaced),
+                })
+            }
+            None => {
+                let at = self.trees.len();
+                self.push(tree)?;
+                Ok(Placed { at, replaced: None })
+            }
+        }
+    }
+
+    /// Takes back what was put there last.
+    pub fn undo(&mut self, placed: Placed)
+        requires { placed.at < length self.old }
+        ensures { self.new ≡ undone placed self.old }
+    {
+        let Placed { at, replaced } = placed;
+        match replaced {
+            Some(tree) => {
+                self.exchange(at, tree);
+            }
+            None => {
+                self.trees.truncate(at);
+                self.settled.truncate(at);
+            }
+        }
+    }
+
+    /// The modules, in order.
+    pub fn as_slice(&self) -> &[ModuleTree]
+        ensures { result.now ≡ self.now }
+    {
+        self.trees.as_slice()
+    }
+
+    /// Of each module, in order, whether its names are settled.
+    pub fn settled(&self) -> &[bool]
+        ensures { result.now ≡ map is_settled self.now }
+    {
+        self.settled.as_slice()
+    }
+
+    // Puts the module there, in place of the one that is given back.
+    fn exchange(&mut self, at: usize, tree: ModuleTree) -> ModuleTree
+        requires { at < length self.old }
+        ensures now { self.new ≡ slice_set self.old at tree }
+        ensures before { (d : parsed.ModuleTree) → result ≡ slice_index_or self.old at d }
+    {
+        self.settled[at] = is_settled(&tree);
+        replace(&mut self.trees[at], tree)
+    }
+
+    // Puts the module last.
+    fn push(&mut self, tree: ModuleTree) -> Result<(), AllocError>
+        ensures ok { OnOk result (self.new ≡ self.old ++ tree ∷ []) }
+        ensures err { OnErr result (self.new ≡ self.old) }
+    {
+        self.settled.push(is_settled(&tree))?;
+        if let Err(refused) = self.trees.push(tree) {
+            self.settled.pop();
+            return Err(AllocError::from(refused));
+        }
+        Ok(())
+    }
+}
+
+// The place of the first module of this name.
+fn place_of(trees: &[ModuleTree], name: &Dotted) -> Option<usize>
+    ensures { MatchOption result (has_name name.now (module_names trees.now) ≡ false) (IsPlace trees.now name.now) }
+{
+    for (i, tree) in trees.iter().enumerate() {
+        if same_name(name, &tree.name) {
+            return Some(i);
+        }
+    }
+    None
+}

@@ -1,0 +1,151 @@
+//! How many nodes a protocol's type will have: the second pass.
+
+ghost use Rattle.std.specs.Prelude.{◌≡◌, ◌||◌, MatchResult};
+ghost use Rattle.scrib_elaborate.specs.Source.{Body};
+ghost use Rattle.scrib_elaborate.specs.SourceView.{step_of, body_of, blocks_of};
+ghost use Rattle.scrib_elaborate.specs.Elaboration.{continues_in, continues_at, continues_some};
+ghost use Rattle.scrib_elaborate.specs.Table.{protocol_at, IsKnown, IsPartSomewhere, IsStepSomewhere, AreSomewhere, StopsAt};
+ghost use Rattle.scrib_elaborate.specs.Growth.{IsPut, IsSum, StepGrows, BlockGrows, BlocksGrow};
+
+use crate::growth::Growth;
+use crate::statements::check_call;
+use crate::stop::{Place, Stop};
+use scrib_parser::tree::{Block, Statement};
+use scrib_types::name::Name;
+
+/// The size of a block.
+///
+/// # Errors
+/// Those of the check of a call in it.
+#[cycle(sizes)]
+pub fn size_block(place: &Place, body: &[Statement]) -> Result<Growth, Stop>
+    requires known { IsKnown place.now }
+    requires part { IsPartSomewhere (protocol_at place.now) (body_of body.now) }
+    ensures { MatchResult result
+        (BlockGrows place.now.modules.now (protocol_at place.now) (body_of body.now))
+        (StopsAt place.now) }
+{
+    let mut size = Growth::new(0, 1);
+    for statement in body {
+        let step = size_statement(place, statement)?;
+        size = put(size, step);
+    }
+    Ok(size)
+}
+
+#[cycle(sizes)]
+fn size_statement(place: &Place, statement: &Statement) -> Result<Growth, Stop>
+    requires known { IsKnown place.now }
+    requires part { IsStepSomewhere (protocol_at place.now) (step_of statement.now) }
+    ensures { MatchResult result
+        (StepGrows place.now.modules.now (protocol_at place.now) (step_of statement.now))
+        (StopsAt place.now) }
+{
+    match statement {
+        Statement::Message { to, .. } => Ok(Growth::new(to.len(), 1)),
+        Statement::Choice { branches, .. } => {
+            let size = size_branches(place, branches.as_slice())?;
+            Ok(size)
+        }
+        Statement::Rec { name, body, .. } => {
+            let size = size_block(place, body.as_slice())?;
+            if continues_in(name, body.as_slice()) {
+                Ok(sum(Growth::new(1, 0), size))
+            } else {
+                Ok(size)
+            }
+        }
+        Statement::Continue { .. } => Ok(Growth::new(0, 0)),
+        Statement::Do {
+            protocol,
+            roles,
+            spot,
+        } => {
+            let called = check_call(place, protocol, roles.as_slice(), *spot)?;
+            Ok(called.size)
+        }
+    }
+}
+
+#[cycle(sizes)]
+fn size_branches(place: &Place, branches: &[Block]) -> Result<Growth, Stop>
+    requires known { IsKnown place.now }
+    requires part { AreSomewhere (protocol_at place.now) (blocks_of branches.now) }
+    ensures { MatchResult result
+        (BlocksGrow place.now.modules.now (protocol_at place.now) (blocks_of branches.now))
+        (StopsAt place.now) }
+{
+    let mut size = Growth::new(0, 0);
+    for branch in branches {
+        let more = size_block(place, branch.body.as_slice())?;
+        size = sum(size, more);
+    }
+    Ok(size)
+}
+
+// The growth of what has `outer`, where what follows it has `inner`.
+fn put(outer: Growth, inner: Growth) -> Growth
+    ensures { IsPut outer inner result }
+{
+    Growth::new(
+        outer.base + outer.times * inner.base,
+        outer.times * inner.times,
+    )
+}
+
+// The growth of the two side by side.
+fn sum(one: Growth, other: Growth) -> Growth
+    ensures { IsSum one other result }
+{
+    Growth::new(one.base + other.base, one.times + other.times)
+}
+
+/// Whether a `continue` of the recursion of this name stands in the block.
+#[cycle(continues)]
+#[tactic(auto, using(crate::specs::SourceView::statement_views))]
+pub fn continues_in(name: &Name, body: &[Statement]) -> bool
+    ensures { result ≡ continues_in name.now (body_of body.now) }
+{
+    for statement in body {
+        if continues_at(name, statement) {
+            return true;
+        }
+    }
+    false
+}
+
+#[cycle(continues)]
+#[tactic(auto, using(crate::specs::SourceView::statement_views))]
+fn continues_at(name: &Name, statement: &Statement) -> bool
+    ensures { result ≡ continues_at name.now (step_of statement.now) }
+{
+    match statement {
+        Statement::Message { .. } => false,
+        Statement::Choice { branches, .. } => continues_some(name, branches.as_slice()),
+        Statement::Rec {
+            name: other,
+            body,
+            ..
+        } => {
+            if name.equal(other) {
+                return false;
+            }
+            continues_in(name, body.as_slice())
+        }
+        Statement::Continue { name: other, .. } => name.equal(other),
+        Statement::Do { .. } => false,
+    }
+}
+
+#[cycle(continues)]
+#[tactic(auto, using(crate::specs::SourceView::statement_views))]
+fn continues_some(name: &Name, branches: &[Block]) -> bool
+    ensures { result ≡ continues_some name.now (blocks_of branches.now) }
+{
+    for branch in branches {
+        if continues_in(name, branch.body.as_slice()) {
+            return true;
+        }
+    }
+    false
+}

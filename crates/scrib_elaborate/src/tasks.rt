@@ -1,0 +1,52 @@
+//! What is left to do for the type of a protocol.
+
+use crate::built::Typed;
+use crate::declared::Declared;
+use crate::shape::Shape;
+use crate::standing::Standing;
+use crate::stop::State;
+use scrib_parser::tree::{Block, ModuleTree, Statement};
+use scrib_types::name::Role;
+use scrib_types::spot::Spot;
+
+/// The protocol that is asked for, among all declared protocols of the modules, and how far a walk was with each.
+#[derive(Clone, Copy, Drop)]
+pub struct Program<'a> {
+    pub modules: &'a [ModuleTree],
+    pub declared: &'a [Declared<'a>],
+    pub states: &'a [State],
+    pub root: Declared<'a>,
+}
+
+/// A called protocol, its place in the table, and its shape.
+#[derive(Clone, Copy, Drop)]
+pub struct Callee<'a> {
+    pub place: usize,
+    pub declared: Declared<'a>,
+    pub shape: Shape,
+}
+
+/// A choice of which some blocks have their types: those in `types`, from the first. While blocks after the next
+/// one are left, the type of what follows the choice is kept for them.
+#[derive(Drop)]
+pub struct Choosing<'a> {
+    pub standing: Standing<'a>,
+    pub chooser: &'a Role,
+    pub branches: &'a [Block],
+    pub spot: Spot,
+    pub follows: Option<Typed<'a>>,
+    pub types: Vec<Typed<'a>>,
+}
+
+/// What is done next with the type that was made last.
+#[derive(Drop)]
+pub enum Task<'a> {
+    /// These statements stand in front of what has the type. The last of them is next.
+    Front(Standing<'a>, &'a [Statement]),
+    /// It is the type of the choice's next block.
+    Join(Choosing<'a>),
+    /// It is the type of the body of the recursion here.
+    Close(&'a ModuleTree, Spot),
+    /// It is the type of a block that was tried alone.
+    Trial,
+}

@@ -1,0 +1,350 @@
+//! The global type of a protocol: the third pass.
+
+ghost use Rattle.std.specs.Prelude.{◌≡◌, ℕ, Bool, List, ◌∷◌, map, slice_get, Some, IfOk, IfErr, IfSome, MatchResult, reverse};
+ghost use Rattle.scrib_types.specs.declared.spot.Spot.{Spot};
+ghost use Rattle.scrib_types.specs.GlobalView.{global_of};
+ghost use Rattle.scrib_types.specs.Trees.{GlobalEnd};
+ghost use Rattle.scrib_types.specs.WellFormed.{leads_to_communication};
+ghost use Rattle.scrib_parser.specs.declared.tree.ModuleTree.{ModuleTree};
+ghost use Rattle.scrib_elaborate.specs.declared.tasks.Task.TheVariants.{Front, Join, Close};
+ghost use Rattle.scrib_elaborate.specs.declared.untyped.Untyped.TheVariants.{OutOfMemory};
+ghost use Rattle.scrib_elaborate.specs.Source.{Sends, Chooses, Repeats, Continues, Calls};
+ghost use Rattle.scrib_elaborate.specs.SourceView.{step_of, body_of};
+ghost use Rattle.scrib_elaborate.specs.Names.{Declaration, declarations, called};
+ghost use Rattle.scrib_elaborate.specs.Statements.{KeepsRules};
+ghost use Rattle.scrib_elaborate.specs.Elaboration.{role_in, sent, Types, start_of};
+ghost use Rattle.scrib_elaborate.specs.Table.{shown, declaration_of};
+ghost use Rattle.scrib_elaborate.specs.Shape.{IsShapeOf};
+ghost use Rattle.scrib_elaborate.specs.Standing.{scope_of};
+ghost use Rattle.scrib_elaborate.specs.Typing.{type_of, IsBefore, IsState, IsTable, IsVariable, TypingFails, StopsAhead};
+
+use crate::built::{Origin, Typed};
+use crate::choices::{choose, join};
+use crate::declared::{Declared, called_home, find};
+use crate::earlier::first_fault;
+use crate::fault::FaultKind;
+use crate::shape::Shape;
+use crate::shapes::shape_at;
+use crate::size::continues_in;
+use crate::standing::Standing;
+use crate::stop::BrokenRule;
+use crate::tasks::{Callee, Program, Task};
+use crate::untyped::{Refused, Untyped};
+use scrib_parser::tree::{ModuleTree, Statement};
+use scrib_types::global::GlobalType;
+use scrib_types::message::Message;
+use scrib_types::name::{Dotted, Name, Role};
+use scrib_types::spot::Spot;
+use std::alloc::{AllocError, Global};
+
+// One message to each of the receivers in turn, in front of what has this type.
+fn send<'a>(
+    alloc: Global,
+    standing: &Standing<'a>,
+    message: &Message,
+    from: &'a Role,
+    to: &'a [Role],
+    typed: Typed<'a>,
+) -> Result<Typed<'a>, AllocError>
+    ensures { IfOk result (λ t. type_of t ≡ sent message.now (role_in (scope_of standing.now) from.now) (map (role_in (scope_of standing.now)) to.now) (type_of typed.entry)) }
+{
+    let sender = standing.role(from);
+    let receivers = standing.roles(alloc, to)?;
+    typed.sent(alloc, message, sender, &receivers)
+}
+
+// Begins a recursion, of which what follows has this type.
+fn repeat<'a>(
+    alloc: Global,
+    tasks: &mut Vec<Task<'a>>,
+    standing: Standing<'a>,
+    name: &'a Name,
+    body: &'a [Statement],
+    spot: Spot,
+    typed: Typed<'a>,
+) -> Result<Typed<'a>, Refused>
+    ensures { (modules : List ModuleTree) (root : Declaration)
+        → IsBefore modules root (reverse tasks.old.items) (scope_of standing.entry) standing.entry.depth (Repeats name.now (body_of body.now) spot) (type_of typed.entry)
+        → IfOk result (λ t. IsState modules root (reverse tasks.new.items) (type_of t)) }
+{
+    if continues_in(name, body) {
+        let inside = standing.inside(alloc, name)?;
+        let follows = typed.lifted(alloc)?;
+        tasks.push(Task::Close(standing.within.home, spot))?;
+        tasks.push(Task::Front(inside, body))?;
+        return Ok(follows);
+    }
+    tasks.push(Task::Front(standing, body))?;
+    Ok(typed)
+}
+
+// Enters a called protocol, where what follows the call has this type, unless the call adds nothing to it.
+fn call<'a>(
+    alloc: Global,
+    tasks: &mut Vec<Task<'a>>,
+    table: &'a [Declared<'a>],
+    standing: &Standing<'a>,
+    callee: Callee<'a>,
+    roles: &'a [Role],
+    typed: Typed<'a>,
+) -> Result<Typed<'a>, Refused>
+    ensures { (modules : List ModuleTree) (root : Declaration) (path : List (List ℕ)) (spot : Spot)
+        → called modules standing.now.within.home.now path ≡ Some (declaration_of callee.entry.declared)
+        → IsShapeOf modules (declaration_of callee.entry.declared) callee.entry.shape
+        → IsBefore modules root (reverse tasks.old.items) (scope_of standing.now) standing.now.depth (Calls path roles.now spot) (type_of typed.entry)
+        → IfOk result (λ t. IsState modules root (reverse tasks.new.items) (type_of t)) }
+{
+    let Callee {
+        declared,
+        shape,
+        ..
+    } = callee;
+    let inside = standing.inside_call(alloc, declared, roles)?;
+    if shape.passes(&inside.given, &typed.global) {
+        return Ok(passed(table, shape, typed));
+    }
+    tasks.push(Task::Front(inside, declared.protocol.body.as_slice()))?;
+    Ok(typed)
+}
+
+// What follows a call that adds nothing to its type. Where the called protocol joins, its first choice is the
+// outermost one that the communication in front comes from.
+fn passed<'a>(table: &'a [Declared<'a>], shape: Shape, typed: Typed<'a>) -> Typed<'a>
+    ensures { type_of result ≡ type_of typed.entry }
+{
+    if let Shape::Joining { at, spot, .. } = shape {
+        // The first pass found the choice there.
+        if let Some(first) = table.get(at) {
+            let home = first.home;
+            return typed.joined_at(Origin { home, spot });
+        }
+    }
+    typed
+}
+
+// The recursion whose body has this type.
+fn close<'a>(
+    alloc: Global,
+    home: &'a ModuleTree,
+    spot: Spot,
+    typed: Typed<'a>,
+) -> Result<Typed<'a>, Untyped<'a>>
+    ensures { (modules : List ModuleTree) (root : Declaration) (tasks : List Task)
+        → IsState modules root (Close home.entry spot ∷ tasks) (type_of typed.entry)
+        → MatchResult result (λ t. IsState modules root tasks (type_of t)) (TypingFails modules root) }
+{
+    if !leads_to_communication(&typed.global) {
+        let kind = FaultKind::Unguarded;
+        return Err(Untyped::Broken(home, BrokenRule { kind, spot }));
+    }
+    let closed = typed.closed(alloc)?;
+    Ok(closed)
+}
+
+// Whether the type begins with a communication, after recursions.
+#[tactic(auto, using(scrib_types::specs::GlobalView::global_views))]
+fn leads_to_communication(global: &GlobalType) -> bool
+    ensures { result ≡ leads_to_communication (global_of global.now) }
+{
+    match global {
+        GlobalType::End => false,
+        GlobalType::Var(_) => false,
+        GlobalType::Rec(body) => leads_to_communication(body.get()),
+        GlobalType::Comm { .. } => true,
+    }
+}
+
+// Puts a statement in front of what has this type, or begins to.
+fn put<'a>(
+    alloc: Global,
+    program: &Program<'a>,
+    tasks: &mut Vec<Task<'a>>,
+    standing: Standing<'a>,
+    statement: &'a Statement,
+    typed: Typed<'a>,
+) -> Result<Typed<'a>, Untyped<'a>>
+    requires { IsTable program.now }
+    ensures { (root : Declaration)
+        → IsBefore program.now.modules.now root (reverse tasks.old.items) (scope_of standing.entry) standing.entry.depth (step_of statement.now) (type_of typed.entry)
+        → MatchResult result (λ t. IsState program.now.modules.now root (reverse tasks.new.items) (type_of t)) (StopsAhead program.now.modules.now root tasks.new.items) }
+{
+    match statement {
+        Statement::Message {
+            message,
+            from,
+            to,
+            ..
+        } => {
+            let sent = send(alloc, &standing, message, from, to.as_slice(), typed)?;
+            Ok(sent)
+        }
+        Statement::Choice { at, branches, spot } => choose(
+            alloc,
+            tasks,
+            standing,
+            at,
+            branches.as_slice(),
+            *spot,
+            typed,
+        ),
+        Statement::Rec { name, body, spot } => {
+            let begun = repeat(alloc, tasks, standing, name, body.as_slice(), *spot, typed)?;
+            Ok(begun)
+        }
+        Statement::Continue { name, .. } => again(alloc, &standing, name),
+        Statement::Do {
+            protocol,
+            roles,
+            ..
+        } => {
+            // The first pass found it.
+            let Some(callee) = callee(program, standing.within.home, protocol) else {
+                return Err(Untyped::OutOfMemory);
+            };
+            let entered = call(
+                alloc,
+                tasks,
+                program.declared,
+                &standing,
+                callee,
+                roles.as_slice(),
+                typed,
+            )?;
+            Ok(entered)
+        }
+    }
+}
+
+// The variable of the recursion of this name.
+fn again<'a>(alloc: Global, standing: &Standing<'a>, name: &Name) -> Result<Typed<'a>, Untyped<'a>>
+    ensures { MatchResult result (λ t. IsVariable (scope_of standing.now) standing.now.depth name.now (type_of t)) (λ e. e ≡ OutOfMemory) }
+{
+    // The first pass found it, and it stands round the statement.
+    let Some(level) = standing.level_of(name) else {
+        return Err(Untyped::OutOfMemory);
+    };
+    if level >= standing.depth {
+        return Err(Untyped::OutOfMemory);
+    }
+    Ok(Typed::variable(alloc, standing.depth - 1 - level))
+}
+
+/// The protocol that a call of this path names.
+pub fn callee<'a>(program: &Program<'a>, at: &'a ModuleTree, path: &'a Dotted) -> Option<Callee<'a>>
+    requires { IsTable program.now }
+    ensures place { IfSome result (λ c. slice_get (shown program.now.declared.now) c.place ≡ Some (declaration_of c.declared)) }
+    ensures called { IfSome result (λ c. called program.now.modules.now at.now path.now ≡ Some (declaration_of c.declared)) }
+    ensures shape { IfSome result (λ c. IsShapeOf program.now.modules.now (declaration_of c.declared) c.shape) }
+{
+    let home = called_home(program.modules, at, path)?;
+    let names = path.as_slice();
+    let place = find(program.declared, home, &names[names.len() - 1])?;
+    let declared = program.declared[place];
+    let shape = shape_at(program.states, place);
+    Some(Callee {
+        place,
+        declared,
+        shape,
+    })
+}
+
+// The next statement of these, or the task is done.
+fn front<'a>(
+    alloc: Global,
+    program: &Program<'a>,
+    tasks: &mut Vec<Task<'a>>,
+    standing: Standing<'a>,
+    statements: &'a [Statement],
+    typed: Typed<'a>,
+) -> Result<Typed<'a>, Untyped<'a>>
+    requires { IsTable program.now }
+    ensures { (root : Declaration) (e : Bool) → KeepsRules program.now.modules.now root e
+        → IsState program.now.modules.now root (Front standing.entry statements.entry ∷ reverse tasks.old.items) (type_of typed.entry)
+        → MatchResult result (λ t. IsState program.now.modules.now root (reverse tasks.new.items) (type_of t)) (StopsAhead program.now.modules.now root tasks.new.items) }
+{
+    let Some((last, rest)) = statements.split_last() else {
+        return Ok(typed);
+    };
+    let again = standing.copy(alloc)?;
+    tasks.push(Task::Front(again, rest))?;
+    put(alloc, program, tasks, standing, last, typed)
+}
+
+// One task.
+fn step<'a>(
+    alloc: Global,
+    program: &Program<'a>,
+    tasks: &mut Vec<Task<'a>>,
+    task: Task<'a>,
+    typed: Typed<'a>,
+) -> Result<Typed<'a>, Untyped<'a>>
+    requires { IsTable program.now }
+    ensures { (root : Declaration) (e : Bool) → KeepsRules program.now.modules.now root e
+        → IsState program.now.modules.now root (task.entry ∷ reverse tasks.old.items) (type_of typed.entry)
+        → MatchResult result (λ t. IsState program.now.modules.now root (reverse tasks.new.items) (type_of t)) (StopsAhead program.now.modules.now root tasks.new.items) }
+{
+    match task {
+        Task::Front(standing, statements) => {
+            front(alloc, program, tasks, standing, statements, typed)
+        }
+        Task::Join(choosing) => join(alloc, tasks, choosing, typed),
+        Task::Close(home, spot) => close(alloc, home, spot, typed),
+        // A run ends before it.
+        Task::Trial => Err(Untyped::OutOfMemory),
+    }
+}
+
+/// Does these tasks, the last one first, from the end: nothing follows the first type that is made. At the end it is
+/// the type of the protocol that was asked for. There is none where a block was tried alone.
+///
+/// # Errors
+/// `Broken` with the first rule on types that is broken, from the end, its module and its place: what is left of
+/// the tasks has the statements in front of it; `OutOfMemory` where memory was refused.
+pub fn run<'a>(
+    alloc: Global,
+    program: &Program<'a>,
+    tasks: &mut Vec<Task<'a>>,
+) -> Result<Option<Typed<'a>>, Untyped<'a>>
+    requires { IsTable program.now }
+    ensures { (root : Declaration) (e : Bool) → KeepsRules program.now.modules.now root e
+        → IsState program.now.modules.now root (reverse tasks.old.items) GlobalEnd
+        → MatchResult result (λ o. IfSome o (λ t. Types program.now.modules.now 0 (start_of root) (type_of t))) (StopsAhead program.now.modules.now root tasks.new.items) }
+{
+    let mut typed = Typed::end(alloc);
+    // Memory ends long before this many tasks.
+    for _ in 0..u64::MAX {
+        let Some(task) = tasks.pop() else {
+            return Ok(Some(typed));
+        };
+        if let Task::Trial = task {
+            return Ok(None);
+        }
+        typed = step(alloc, program, tasks, task, typed)?;
+    }
+    Err(Untyped::OutOfMemory)
+}
+
+/// The type of the protocol that was asked for, after the first pass. Types are built from the end: what follows
+/// a statement first. What is left to do stands on a stack, so that nothing recurs where calls lead from one
+/// protocol to the next.
+///
+/// # Errors
+/// `Broken` with the rule on types that is broken, its module and its place, of several the one that a reader who
+/// goes forward meets first; `OutOfMemory` where memory was refused.
+pub fn type_of_root<'a>(alloc: Global, program: &Program<'a>) -> Result<Typed<'a>, Untyped<'a>>
+    requires table { IsTable program.now }
+    requires kept { (e : Bool) × KeepsRules program.now.modules.now (declaration_of program.now.root) e }
+    ensures ok { IfOk result (λ t. Types program.now.modules.now 0 (start_of (declaration_of program.now.root)) (type_of t)) }
+    ensures fault { IfErr result (TypingFails program.now.modules.now (declaration_of program.now.root)) }
+{
+    let standing = Standing::start(alloc, program.root)?;
+    let statements = program.root.protocol.body.as_slice();
+    let mut tasks = Vec::new(alloc);
+    tasks.push(Task::Front(standing, statements))?;
+    match run(alloc, program, &mut tasks) {
+        Ok(Some(typed)) => Ok(typed),
+        // No block is tried yet.
+        Ok(None) => Err(Untyped::OutOfMemory),
+        Err(found) => Err(first_fault(alloc, program, tasks, found)),
+    }
+}

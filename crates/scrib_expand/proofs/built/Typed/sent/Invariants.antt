@@ -1,9 +1,0 @@
-use Rattle.std.proofs.Common.{◌≡◌, drop}
-use Rattle.scrib_types.specs.GlobalView.{global_of}
-use Rattle.scrib_expand.specs.Elaboration.{sent}
-use Rattle.scrib_expand.specs.Standing.{named}
-use Rattle.scrib_expand.proofs.built.Typed.sent.Given as goal
-
-abbrev pub invariant-loop-i : goal.invariant-loop-i
-invariant-loop-i l =
-    global_of l.global ≡ sent l.message l.from (named (drop l.i l.to)) (global_of l.initial.global)

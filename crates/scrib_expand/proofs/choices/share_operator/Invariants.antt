@@ -1,8 +1,0 @@
-use Rattle.std.proofs.Common.{◌≡◌, drop}
-use Rattle.scrib_types.specs.GlobalView.{global_branches}
-use Rattle.scrib_expand.specs.Faults.{share_operator}
-use Rattle.scrib_expand.proofs.choices.share_operator.Given as goal
-
-abbrev pub invariant-loop-message : goal.invariant-loop-message
-invariant-loop-message l =
-    share_operator (global_branches (drop l.message-index l.first)) (global_branches l.other) ≡ share_operator (global_branches l.first) (global_branches l.other)

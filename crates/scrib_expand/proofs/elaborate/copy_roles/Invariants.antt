@@ -1,6 +1,0 @@
-use Rattle.std.proofs.Common.{◌≡◌, take}
-use Rattle.scrib_expand.specs.Names.{role_names}
-use Rattle.scrib_expand.proofs.elaborate.copy_roles.Given as goal
-
-abbrev pub invariant-loop-role : goal.invariant-loop-role
-invariant-loop-role l = l.names.items ≡ role_names (take l.role-index l.roles)

@@ -1,5 +1,0 @@
-use Rattle.scrib_expand.specs.Walking.{AreUnwalked}
-use Rattle.scrib_expand.proofs.walk.unwalked.Given as goal
-
-abbrev pub invariant-loop : goal.invariant-loop
-invariant-loop l = AreUnwalked l.counter l.states.items
