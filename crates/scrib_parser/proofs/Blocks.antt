@@ -17,7 +17,8 @@ use Rattle.scrib_parser.proofs.Laws.{free, follows_free, Claim, never, Sends, se
 use Rattle.scrib_parser.proofs.Parts.{respelled_up, seen, mapped_up, either, branch_up}
 use Rattle.scrib_parser.proofs.Many.{Takes, takes, begins_front, past, many_up}
 use Rattle.scrib_parser.proofs.Tokens.{kind_is, token_reads, name_reads}
-use Rattle.scrib_parser.proofs.Nonterminals.{begins_token, begins_token_at, behind_token_at, at_first, message_reads, begins_with_message, jump_reads, call_reads}
+use Rattle.scrib_parser.proofs.FirstTokens.{begins_token, begins_token_at, behind_token_at}
+use Rattle.scrib_parser.proofs.Statements.{at_first, message_reads, begins_with_message, jump_reads, call_reads}
 use Rattle.scrib_parser.proofs.Claims.{claim_of, begun_on, both_claimed, after_claimed, before_claimed, mapped_claimed, respelled_claimed}
 
 -- ---- tests of a first token

@@ -8,7 +8,7 @@ use Rattle.scrib_parser.specs.Grammar.{Language, ◌·◌, any}
 use Rattle.scrib_parser.specs.Reading.{Reader, mapped, both, after, before}
 use Rattle.scrib_parser.proofs.Laws.{Follows, Begun, Claim, never, Sends, sends_never, Reads, Leaf, reclaimed}
 use Rattle.scrib_parser.proofs.Parts.{seen, respelled_up, mapped_up, both_up, after_up, before_up}
-use Rattle.scrib_parser.proofs.Nonterminals.{IsLeftWord}
+use Rattle.scrib_parser.proofs.Statements.{IsLeftWord}
 
 -- behind these tokens a statement may begin
 abbrev pub MayGo : {A : Type 0} → (A → Language) → List Lexeme → Type 0

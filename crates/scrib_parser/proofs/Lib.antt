@@ -2,7 +2,11 @@ pub mod Laws
 pub mod Parts
 pub mod Many
 pub mod Tokens
-pub mod Nonterminals
+pub mod FirstTokens
+pub mod Sequences
+pub mod Elements
+pub mod Statements
+pub mod Headers
 pub mod Loop
 pub mod Claims
 pub mod Blocks

@@ -17,7 +17,9 @@ use Rattle.scrib_parser.proofs.Laws.{Follows, free, follows_free, never, sends_n
 use Rattle.scrib_parser.proofs.Parts.{seen, mapped_reads, either, branch_up, respelled_up}
 use Rattle.scrib_parser.proofs.Many.{Takes, takes, begins_front, past, many_up}
 use Rattle.scrib_parser.proofs.Tokens.{kind_is, token_reads, name_reads}
-use Rattle.scrib_parser.proofs.Nonterminals.{begins_token, begins_token_at, behind_token, no_dot, dotted_reads, roles_reads, imports_reads, typed, type_declaration_reads}
+use Rattle.scrib_parser.proofs.FirstTokens.{begins_token, begins_token_at, behind_token}
+use Rattle.scrib_parser.proofs.Elements.{no_dot, dotted_reads}
+use Rattle.scrib_parser.proofs.Headers.{roles_reads, imports_reads, typed, type_declaration_reads}
 use Rattle.scrib_parser.proofs.Claims.{claim_of, begun_on, both_claimed, after_claimed, mapped_claimed, respelled_claimed, out, into}
 use Rattle.scrib_parser.proofs.Blocks.{block_reads, apart, other, along}
 

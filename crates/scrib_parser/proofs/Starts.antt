@@ -19,7 +19,9 @@ use Rattle.scrib_parser.proofs.Laws.{Follows, free, follows_free, Claim, never, 
 use Rattle.scrib_parser.proofs.Parts.{seen}
 use Rattle.scrib_parser.proofs.Many.{Takes, takes, begins_front, past, repeated_goes, follows_items}
 use Rattle.scrib_parser.proofs.Tokens.{kind_is, token_reads, name_reads}
-use Rattle.scrib_parser.proofs.Nonterminals.{no_dot, dotted_reads, roles_reads, imports_reads, behind_token}
+use Rattle.scrib_parser.proofs.FirstTokens.{behind_token}
+use Rattle.scrib_parser.proofs.Elements.{no_dot, dotted_reads}
+use Rattle.scrib_parser.proofs.Headers.{roles_reads, imports_reads}
 use Rattle.scrib_parser.proofs.Claims.{claim_of}
 use Rattle.scrib_parser.proofs.Blocks.{other, past_choice, begins_choice, begins_recursion, begins_a_statement, statement_no_or, or_reads, begins_or, block_reads, statement_reads}
 use Rattle.scrib_parser.proofs.Modules.{declaration_reads, begins_a_declaration, begins_protocol, behind_imports, past_imports, in_module, module_from, module_made}

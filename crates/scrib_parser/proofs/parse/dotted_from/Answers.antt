@@ -5,7 +5,7 @@ use Rattle.scrib_lexer.specs.declared.token.TokenKind.TheVariants.{Dot}
 use Rattle.scrib_lexer.specs.Lexeme.{lexemes_of}
 use Rattle.scrib_parser.specs.Reading.{same_kind, token_of, after, name_of, dotted_from}
 use Rattle.scrib_parser.proofs.Loop.{goes_on, fails, is_done, behind_mark, no_mark, none_behind_mark}
-use Rattle.scrib_parser.proofs.Nonterminals.{dot_takes}
+use Rattle.scrib_parser.proofs.Headers.{dot_takes}
 use Rattle.scrib_parser.proofs.parse.dotted_from.Goals as goal
 
 pub returns-in_err-take : goal.returns-in_err-take

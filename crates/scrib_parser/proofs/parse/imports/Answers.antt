@@ -5,7 +5,7 @@ use Rattle.scrib_lexer.specs.declared.token.TokenKind.TheVariants.{Keyword}
 use Rattle.scrib_lexer.specs.Lexeme.{lexemes_of}
 use Rattle.scrib_parser.specs.Reading.{same_kind, import_of, imports_of}
 use Rattle.scrib_parser.proofs.Loop.{goes_on, fails, is_done}
-use Rattle.scrib_parser.proofs.Nonterminals.{import_takes}
+use Rattle.scrib_parser.proofs.Headers.{import_takes}
 use Rattle.scrib_parser.proofs.parse.imports.Goals as goal
 
 pub returns-in_err-import : goal.returns-in_err-import

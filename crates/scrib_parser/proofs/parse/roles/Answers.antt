@@ -4,7 +4,7 @@ use Rattle.scrib_lexer.specs.declared.token.TokenKind.TheVariants.{Comma}
 use Rattle.scrib_lexer.specs.Lexeme.{lexemes_of}
 use Rattle.scrib_parser.specs.Reading.{same_kind, token_of, after, role_of, roles_of}
 use Rattle.scrib_parser.proofs.Loop.{goes_on, fails, is_done, behind_mark, no_mark, none_behind_mark}
-use Rattle.scrib_parser.proofs.Nonterminals.{role_takes}
+use Rattle.scrib_parser.proofs.Headers.{role_takes}
 use Rattle.scrib_parser.proofs.parse.roles.Goals as goal
 
 pub returns-in_err-take : goal.returns-in_err-take
