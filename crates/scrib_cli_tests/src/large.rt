@@ -154,3 +154,59 @@ fn longest_texts(rt: HostRuntime) -> Result<(), Fail> {
     }
     Ok(())
 }
+
+// Puts of so many modules without protocols.
+fn puts(alloc: Global, modules: u32) -> Result<String, Fail> {
+    let mut script = String::new(alloc);
+    for i in 0..modules {
+        let put = format!(in alloc; "put\nmodule m{i};\n%%\n")?;
+        script.push_str(put.as_str())?;
+    }
+    Ok(script)
+}
+
+// What they are told.
+fn accepted(alloc: Global, modules: u32) -> Result<String, Fail> {
+    let mut lines = String::new(alloc);
+    for i in 0..modules {
+        let line = format!(in alloc; "put m{i}: no change\n")?;
+        lines.push_str(line.as_str())?;
+    }
+    Ok(lines)
+}
+
+#[test]
+fn one_module_too_many(rt: HostRuntime) -> Result<(), Fail> {
+    let mut script = puts(rt.alloc(), 257)?;
+    script.push_str("put\nmodule m0;\n%%\n")?;
+    let mut want = accepted(rt.alloc(), 256)?;
+    want.push_str("refused TooManyModules\nput m0: no change\n")?;
+    let written = output_of(&rt, rt.alloc(), script.as_bytes())?;
+    assert!(rt; written.as_slice() == want.as_bytes());
+    Ok(())
+}
+
+// A put of the module `big` with so many protocols.
+fn big(alloc: Global, protocols: u32) -> Result<String, Fail> {
+    let mut script = String::from_str(alloc, "put\nmodule big;\n")?;
+    for i in 0..protocols {
+        let line = format!(in alloc; "global protocol P{i}(role A) {{ }}\n")?;
+        script.push_str(line.as_str())?;
+    }
+    script.push_str("%%\n")?;
+    Ok(script)
+}
+
+#[test]
+fn one_protocol_too_many(rt: HostRuntime) -> Result<(), Fail> {
+    let script = big(rt.alloc(), 1025)?;
+    let written = output_of(&rt, rt.alloc(), script.as_bytes())?;
+    assert_eq!(rt;
+        written.as_slice(),
+        b"refused TooManyProtocols\n".as_slice()
+    );
+    let script = big(rt.alloc(), 1024)?;
+    let written = output_of(&rt, rt.alloc(), script.as_bytes())?;
+    assert!(rt; written.starts_with(b"put big: +big.P0 +big.P1 +big.P10 +big.P100 +big.P1000 "));
+    Ok(())
+}

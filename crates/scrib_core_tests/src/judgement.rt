@@ -1,13 +1,11 @@
 //! Judgements of logs, each by the program's way and by the plain definitions.
 
-use crate::making::{event, library, step, version};
+use crate::making::{event, library, put, step, version};
 use scrib_core::monitor::Core;
 use scrib_core::reply::Reply;
-use scrib_core::step::Step;
 use scrib_global::judge::judge_whole;
 use scrib_record::judge::judge;
 use scrib_types::event::{Event, Told, Verdict};
-use scrib_types::plain::Items;
 use scrib_types::text::{push_action, push_bytes, push_number};
 use std::alloc::Global;
 use std::test::Fail;
@@ -203,8 +201,7 @@ fn by_the_definitions_verdicts_are_the_same(rt: HostRuntime) -> Result<(), Fail>
 // The core with the module, in which conversation 1 of its protocol is open.
 fn opened(alloc: Global, text: &str) -> Result<Core, Fail> {
     let mut core = Core::new(alloc);
-    let text = Items::from_slice(alloc, text.as_bytes())?;
-    core.apply(Step::Put { text });
+    core.apply(put(alloc, text)?);
     core.apply(step(alloc, "open 1 m.P")?);
     Ok(core)
 }

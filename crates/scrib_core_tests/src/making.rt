@@ -6,6 +6,7 @@ use scrib_record::version::Version;
 use scrib_script::line::{Line, line_of};
 use scrib_types::event::Event;
 use scrib_types::name::{Dotted, Name};
+use scrib_types::plain::Items;
 use std::alloc::Global;
 use std::test::Fail;
 
@@ -24,10 +25,11 @@ pub(crate) fn dotted(alloc: Global, parts: &[&str]) -> Result<Dotted, Fail> {
 /// A library with the module of this text.
 pub(crate) fn library(alloc: Global, text: &str) -> Result<Library, Fail> {
     let mut library = Library::new(alloc);
-    match library.put(text.as_bytes()) {
-        Ok(_) => Ok(library),
-        Err(_) => Err(Fail::from("the module is refused")),
+    let is_put = library.put(text.as_bytes()).is_ok();
+    if !is_put {
+        return Err(Fail::new("the module is refused"));
     }
+    Ok(library)
 }
 
 /// What the library has for `m.P`.
@@ -36,18 +38,26 @@ pub(crate) fn version(alloc: Global, library: &Library) -> Result<&Version, Fail
     Ok(library.present(&name).ok_or("no protocol")?)
 }
 
+/// The put of a module of this text.
+pub(crate) fn put(alloc: Global, text: &str) -> Result<Step, Fail> {
+    let text = Items::from_slice(alloc, text.as_bytes())?;
+    Ok(Step::Put { text })
+}
+
 /// The step that the line of a script says.
 pub(crate) fn step(alloc: Global, line: &str) -> Result<Step, Fail> {
-    match line_of(alloc, line.as_bytes())? {
-        Line::Step(step) => Ok(step),
-        _ => Err(Fail::from("no step")),
-    }
+    let line = line_of(alloc, line.as_bytes())?;
+    let Line::Step(step) = line else {
+        return Err(Fail::new("no step"));
+    };
+    Ok(step)
 }
 
 /// The event that the line of a script notes.
 pub(crate) fn event(alloc: Global, line: &str) -> Result<Event, Fail> {
-    match step(alloc, line)? {
-        Step::Note { id: _, event } => Ok(event),
-        _ => Err(Fail::from("no event")),
-    }
+    let line = line_of(alloc, line.as_bytes())?;
+    let Line::Step(Step::Note { id: _, event }) = line else {
+        return Err(Fail::new("no event"));
+    };
+    Ok(event)
 }
