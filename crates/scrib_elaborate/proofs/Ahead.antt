@@ -1,7 +1,6 @@
 -- What stands in front of a fault of types, and what comes there before it.
-use Rattle.std.proofs.Common.{◌≡◌, ℕ, suc, ◌+◌, ◌<◌, Bool, true, false, List, [], ◌∷◌, ◌++◌, length, map, get_or, take, drop, reverse, Some, refl, sym, ap, ◌∙◌, subst, arith}
+use Rattle.std.proofs.Common.{◌≡◌, ℕ, suc, ◌+◌, ◌<◌, Bool, true, false, List, [], ◌∷◌, ◌++◌, length, get_or, take, drop, reverse, Some, refl, sym, ap, ◌∙◌, subst, arith}
 use Rattle.std.specs.Borrow.{Bor}
-use Rattle.std.specs.List.{All, slice_get}
 use Rattle.std.specs.List.Sorted.{IsPermutation}
 use Rattle.std.proofs.lemmas.List.Elements.{All-nil, All-cons, All-push, All-pop}
 use Rattle.std.proofs.lemmas.List.Sorted.{All-permutation, IsPermutation-reverse, IsPermutation-sym}
@@ -16,15 +15,15 @@ use Rattle.scrib_elaborate.specs.declared.tasks.Task.TheVariants.{Front, Join, C
 use Rattle.scrib_elaborate.specs.declared.standing.Standing.{Standing}
 use Rattle.scrib_elaborate.specs.declared.untyped.Untyped.{Untyped}
 use Rattle.scrib_elaborate.specs.declared.untyped.Untyped.TheVariants.{Broken, OutOfMemory}
-use Rattle.scrib_elaborate.specs.Source.{Body, Done, Then, Step, Chooses, Repeats, Calls, Blocks}
+use Rattle.scrib_elaborate.specs.Source.{Body, Done, Then, Step, Chooses, Repeats, Calls}
 use Rattle.scrib_elaborate.specs.SourceView.{step_of, body_of, blocks_of}
 use Rattle.scrib_elaborate.specs.Names.{Declaration, called}
 use Rattle.scrib_elaborate.specs.Statements.{KeepsRules, StepKeeps}
 use Rattle.scrib_elaborate.specs.Elaboration.{continues_in, Scope, inside, inside_call, Frames, NoFrame, Under, ends}
-use Rattle.scrib_elaborate.specs.Faults.{later, in_choice, in_rec, StandsIn, blocks_before, needs_itself, needs_branch, needs_repeats, needs_passes, needs_calls}
+use Rattle.scrib_elaborate.specs.Faults.{later, in_choice, in_rec, StandsIn, needs_itself, needs_branch, needs_repeats, needs_passes, needs_calls}
 use Rattle.scrib_elaborate.specs.Staying.{Stays}
 use Rattle.scrib_elaborate.specs.Standing.{scope_of, IsSame, IsInside, IsInsideCall}
-use Rattle.scrib_elaborate.specs.Typing.{before, FailsUp, IsFront, Path, IsState, TypingFails, IsAhead, IsTaskAhead, AreAhead, StopsAhead}
+use Rattle.scrib_elaborate.specs.Typing.{before, IsFront, Path, IsState, TypingFails, IsAhead, IsTaskAhead, AreAhead, StopsAhead}
 use Rattle.scrib_elaborate.proofs.Kept.{of_then, reaches_on}
 use Rattle.scrib_elaborate.proofs.Checks.{stands_here}
 use Rattle.scrib_elaborate.proofs.Lifted.{below_more, levels_more}

@@ -1,6 +1,5 @@
 -- The faults of elaboration, from those of its parts.
-use Rattle.std.proofs.Common.{◌≡◌, ◌⊎◌, ℕ, ◌<◌, true, false, List, length, Some, None, Err, refl, sym, ap, ◌∙◌, subst, ⊎_elim, inl, inr, arith}
-use Rattle.std.specs.List.{slice_get}
+use Rattle.std.proofs.Common.{◌≡◌, ℕ, ◌<◌, true, false, List, length, None, Err, refl, sym, ap, ◌∙◌, subst, ⊎_elim, inl, inr}
 use Rattle.scrib_types.specs.Agreement.{Agreement}
 use Rattle.scrib_parser.specs.declared.tree.ModuleTree.{ModuleTree}
 use Rattle.scrib_elaborate.specs.declared.declared.Declared.{Declared}
@@ -11,7 +10,7 @@ use Rattle.scrib_elaborate.specs.declared.fault.ElaborateFault.{ElaborateFault}
 use Rattle.scrib_elaborate.specs.declared.fault.ElaborateFault.TheVariants as elaborate
 use Rattle.scrib_elaborate.specs.declared.fault.FaultKind.{FaultKind}
 use Rattle.scrib_elaborate.specs.declared.fault.FaultKind.TheVariants as kind
-use Rattle.scrib_elaborate.specs.Names.{Declaration, has_name, module_names, first_where, declarations, is_called, find_protocol}
+use Rattle.scrib_elaborate.specs.Names.{Declaration, has_name, module_names, first_where, declarations, is_called}
 use Rattle.scrib_elaborate.specs.Elaboration.{Elaborates}
 use Rattle.scrib_elaborate.specs.Faults.{IsAbsent, FailsAt}
 use Rattle.scrib_elaborate.specs.Meaning.{Means}

@@ -1,9 +1,9 @@
 -- Numbers that agree below 4,096.
-use Rattle.std.proofs.Common.{◌≡◌, ◌⊎◌, ℕ, zero, suc, ◌+◌, ◌*◌, ◌<◌, ◌≤◌, min, refl, sym, ap, ◌∙◌, subst, ⊎_elim, inl, inr, arith}
+use Rattle.std.proofs.Common.{◌≡◌, ℕ, zero, suc, ◌+◌, ◌*◌, ◌<◌, ◌≤◌, min, sym, ap, ◌∙◌, subst, ⊎_elim, arith}
 use Rattle.std.proofs.Math.Nat.{mul-suc, mul-add, add-mul, mul_assoc, mul_comm}
 use Rattle.std.proofs.lemmas.Bool.{cases_lt}
 use Rattle.scrib_elaborate.specs.declared.growth.Growth.{Growth}
-use Rattle.scrib_elaborate.specs.Growth.{Agree, grown, IsPut, IsSum}
+use Rattle.scrib_elaborate.specs.Growth.{grown, IsPut, IsSum}
 
 at_least : (m j : ℕ) → m ≤ m * suc j
 at_least m j = let grows = mul-suc m j in omega arith

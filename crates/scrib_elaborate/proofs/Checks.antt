@@ -1,26 +1,24 @@
 -- What the checks of a statement find.
-use Rattle.std.proofs.Common.{◌≡◌, ◌≢◌, ℕ, ◌+◌, ◌<◌, Bool, true, false, ◌&&◌, ◌||◌, List, [], ◌∷◌, length, map, get_or, drop, Option, Some, None, option_map, option_and_then, refl, ap, sym, ◌∙◌, subst, arith}
+use Rattle.std.proofs.Common.{◌≡◌, ℕ, ◌+◌, ◌<◌, Bool, true, false, ◌||◌, List, ◌∷◌, length, get_or, drop, Option, Some, option_map, option_and_then, refl, ap, sym, ◌∙◌, subst, arith}
 use Rattle.std.specs.List.{slice_get}
 use Rattle.std.proofs.lemmas.Bool.{false≢true}
 use Rattle.std.proofs.lemmas.List.{drop_more, length-map}
 use Rattle.std.proofs.lemmas.Option.{slice_get-map, slice_get-get_or, slice_get_within}
-use Rattle.scrib_types.specs.declared.message.Message.{Message}
 use Rattle.scrib_types.specs.declared.spot.Spot.{Spot}
-use Rattle.scrib_types.specs.WellFormed.{has_role, distinct_roles}
+use Rattle.scrib_types.specs.WellFormed.{has_role}
 use Rattle.scrib_parser.specs.declared.tree.ModuleTree.{ModuleTree}
 use Rattle.scrib_parser.specs.declared.tree.Statement.{Statement}
 use Rattle.scrib_parser.specs.declared.tree.Block.{Block}
 use Rattle.scrib_elaborate.specs.declared.declared.Declared.{Declared}
 use Rattle.scrib_elaborate.specs.declared.fault.FaultKind.TheVariants as kind
 use Rattle.scrib_elaborate.specs.declared.stop.State.{State}
-use Rattle.scrib_elaborate.specs.declared.stop.State.TheVariants.{Unwalked, Walking, Walked}
 use Rattle.scrib_elaborate.specs.declared.stop.Place.{Place}
-use Rattle.scrib_elaborate.specs.Source.{Body, Done, Then, Step, Sends, Chooses, Repeats, Continues, Calls, Blocks, NoBlock, OrBlock}
+use Rattle.scrib_elaborate.specs.Source.{Body, Done, Then, Step, Chooses, Repeats, Continues, Blocks, NoBlock, OrBlock}
 use Rattle.scrib_elaborate.specs.SourceView.{step_of, body_of, blocks_of}
 use Rattle.scrib_elaborate.specs.Names.{Declaration, roles_of, declarations, is_called, first_where, last_name, find_protocol, called_home, called}
-use Rattle.scrib_elaborate.specs.Statements.{are_roles, IsCall, KeepsRules, BlockKeeps, end_keeps, then_keeps, StepKeeps, sends_keeps, calls_keeps, BlocksKeep, none_keeps, or_keeps, chooses_keeps, repeats_keeps, continues_keeps}
-use Rattle.scrib_elaborate.specs.Faults.{Stands, here, later, in_choice, in_rec, StandsIn, in_this, in_other, StandsAt, IsLoose, HasStep, HasNoRole, message, choice, call, IsUnreachable, Fails, spot_of}
-use Rattle.scrib_elaborate.specs.Table.{declaration_of, shown, protocol_at, IsKnown, IsPart, AreParts, IsEntry, StopsAt, IsUnwalkedCall}
+use Rattle.scrib_elaborate.specs.Statements.{are_roles, BlockKeeps, end_keeps, then_keeps, StepKeeps, BlocksKeep, none_keeps, or_keeps, chooses_keeps, repeats_keeps, continues_keeps}
+use Rattle.scrib_elaborate.specs.Faults.{here, later, in_choice, in_rec, in_this, in_other, StandsAt, IsLoose, HasStep, Fails, spot_of}
+use Rattle.scrib_elaborate.specs.Table.{declaration_of, shown, IsKnown, IsPart, AreParts, IsEntry}
 
 -- the protocol that a call names
 

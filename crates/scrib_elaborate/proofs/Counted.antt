@@ -1,14 +1,14 @@
 -- A type has as many nodes as its statements say.
-use Rattle.std.proofs.Common.{◌≡◌, ◌⊎◌, ℕ, ◌+◌, ◌-◌, true, false, List, [], ◌∷◌, length, map, Some, if◌then◌else◌, refl, sym, ap, ◌∙◌, subst, ⊎_elim, arith}
+use Rattle.std.proofs.Common.{◌≡◌, ℕ, ◌+◌, ◌-◌, List, [], ◌∷◌, length, map, Some, if◌then◌else◌, refl, sym, ap, ◌∙◌, subst, arith}
 use Rattle.std.proofs.lemmas.List.{length-map}
 use Rattle.scrib_types.specs.declared.message.Message.{Message}
 use Rattle.scrib_types.specs.declared.spot.Spot.{Spot}
-use Rattle.scrib_types.specs.Trees.{GlobalTree, GlobalEnd, GlobalVar, GlobalRec, Comm, GlobalBranches, NoBranch, Branch}
+use Rattle.scrib_types.specs.Trees.{GlobalTree, GlobalBranches, NoBranch, Branch}
 use Rattle.scrib_parser.specs.declared.tree.ModuleTree.{ModuleTree}
 use Rattle.scrib_elaborate.specs.Source.{Body, Done, Then, Sends, Chooses, Repeats, Continues, Calls, Blocks, NoBlock, OrBlock}
 use Rattle.scrib_elaborate.specs.SourceView.{body_of}
 use Rattle.scrib_elaborate.specs.Names.{Declaration, called}
-use Rattle.scrib_elaborate.specs.Elaboration.{continues_in, Scope, role_in, inside_call, Frames, NoFrame, Under, sent, and_branches, Types, ends, closes, sends, chooses, repeats, passes, continues, calls, JoinsTo, joins_none, joins, nodes, branch_nodes}
+use Rattle.scrib_elaborate.specs.Elaboration.{continues_in, Scope, role_in, Frames, NoFrame, Under, sent, and_branches, Types, ends, closes, sends, chooses, repeats, passes, continues, calls, JoinsTo, joins_none, joins, nodes, branch_nodes}
 use Rattle.scrib_elaborate.specs.Sizes.{Size, size_done, size_sends, size_chooses, size_repeats, size_continues, size_calls, SizeOfBlocks, size_none, size_or}
 
 -- by the first statement

@@ -1,6 +1,5 @@
 -- What the three passes give together.
-use Rattle.std.proofs.Common.{◌≡◌, ◌⊎◌, ℕ, ◌≤◌, List, length, get_or, Option, Some, Result, Ok, Err, IfOk, IfErr, refl, sym, ap, ◌∙◌, subst, ⊎_elim, inl, inr, arith}
-use Rattle.std.specs.List.{slice_get}
+use Rattle.std.proofs.Common.{◌≡◌, ℕ, List, get_or, Result, Ok, Err, IfOk, IfErr, sym, ap, ◌∙◌, subst, ⊎_elim, inr}
 use Rattle.std.specs.Borrow.{Bor}
 use Rattle.scrib_types.specs.declared.spot.Spot.{Spot}
 use Rattle.scrib_types.specs.Agreement.{Agreement}
@@ -11,7 +10,6 @@ use Rattle.scrib_elaborate.specs.declared.elaborated.Elaborated.{Elaborated}
 use Rattle.scrib_elaborate.specs.declared.fault.FaultKind.{FaultKind}
 use Rattle.scrib_elaborate.specs.declared.fault.FaultKind.TheVariants as kind
 use Rattle.scrib_elaborate.specs.declared.fault.ElaborateFault.{ElaborateFault}
-use Rattle.scrib_elaborate.specs.declared.fault.ElaborateFault.TheVariants as elaborate
 use Rattle.scrib_elaborate.specs.declared.stop.BrokenRule.{BrokenRule}
 use Rattle.scrib_elaborate.specs.declared.stop.State.{State}
 use Rattle.scrib_elaborate.specs.declared.untyped.Untyped.TheVariants as untyped

@@ -1,12 +1,11 @@
 -- A protocol means at most one type.
-use Rattle.std.proofs.Common.{◌≡◌, ◌⊎◌, inl, inr, ℕ, ◌+◌, suc, true, false, List, map, Some, refl, sym, ap, ◌∙◌, subst, ⊎_elim, arith}
-use Rattle.std.proofs.lemmas.Bool.{false≢true, both_ways}
-use Rattle.scrib_types.specs.Trees.{GlobalTree, GlobalEnd, GlobalVar, GlobalRec, Comm, GlobalBranches, NoBranch}
+use Rattle.std.proofs.Common.{◌≡◌, ℕ, true, List, map, sym, ap, ◌∙◌, subst, ⊎_elim, arith}
+use Rattle.std.proofs.lemmas.Bool.{false≢true}
+use Rattle.scrib_types.specs.Trees.{GlobalTree, GlobalVar, GlobalRec, Comm, GlobalBranches}
 use Rattle.scrib_types.specs.WellFormed.{has_branches}
 use Rattle.scrib_parser.specs.declared.tree.ModuleTree.{ModuleTree}
-use Rattle.scrib_elaborate.specs.Source.{Body, Blocks}
+use Rattle.scrib_elaborate.specs.Source.{Blocks}
 use Rattle.scrib_elaborate.specs.SourceView.{body_of}
-use Rattle.scrib_elaborate.specs.Names.{Declaration}
 use Rattle.scrib_elaborate.specs.Elaboration.{Scope, role_in, inside_call, Frames, Under, sent, and_branches, Types, ends, closes, sends, chooses, repeats, passes, continues, calls, JoinsTo, joins_none, joins}
 use Rattle.scrib_elaborate.proofs.Inversion.{type_of_none, type_of_done, type_of_sends, type_of_chooses, type_of_repeats, type_of_continues, type_of_calls, join_of_none, join_of_or}
 

@@ -1,5 +1,5 @@
 -- How the size of statements grows, statement by statement.
-use Rattle.std.proofs.Common.{◌≡◌, ℕ, ◌+◌, ◌*◌, ◌-◌, min, true, false, List, [], ◌∷◌, length, drop, Some, if◌then◌else◌, refl, sym, ap, ◌∙◌, subst, arith}
+use Rattle.std.proofs.Common.{◌≡◌, ℕ, ◌+◌, ◌*◌, ◌-◌, min, true, false, List, length, Some, if◌then◌else◌, refl, sym, ◌∙◌, subst, arith}
 use Rattle.scrib_types.specs.declared.message.Message.{Message}
 use Rattle.scrib_types.specs.declared.spot.Spot.{Spot}
 use Rattle.scrib_parser.specs.declared.tree.ModuleTree.{ModuleTree}

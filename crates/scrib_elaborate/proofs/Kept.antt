@@ -1,5 +1,5 @@
 -- A protocol that keeps the rules keeps them at each statement, and never leads back to itself.
-use Rattle.std.proofs.Common.{◌≡◌, ℕ, zero, suc, ◌+◌, ◌<◌, ◌≤◌, Bool, true, false, ◌||◌, List, [], ◌∷◌, Some, refl, sym, ap, ◌∙◌, subst, arith}
+use Rattle.std.proofs.Common.{◌≡◌, ℕ, zero, suc, ◌+◌, ◌<◌, ◌≤◌, Bool, true, false, ◌||◌, List, [], ◌∷◌, Some, refl, sym, ◌∙◌, subst, arith}
 use Rattle.scrib_types.specs.declared.message.Message.{Message}
 use Rattle.scrib_types.specs.declared.spot.Spot.{Spot}
 use Rattle.scrib_types.specs.WellFormed.{has_role}

@@ -1,15 +1,12 @@
 -- Which blocks no way leads through.
-use Rattle.std.proofs.Common.{◌≡◌, ◌⊎◌, ℕ, ◌+◌, ◌<◌, Bool, true, false, ◌||◌, List, length, get_or, drop, Some, refl, sym, ◌∙◌, subst, ⊎_elim, inl, inr}
+use Rattle.std.proofs.Common.{◌≡◌, ◌⊎◌, ℕ, ◌+◌, ◌<◌, Bool, true, false, List, length, get_or, drop, Some, refl, sym, ◌∙◌, subst, ⊎_elim, inl, inr}
 use Rattle.std.proofs.lemmas.Bool.{false≢true, or_parts}
 use Rattle.scrib_types.specs.declared.message.Message.{Message}
 use Rattle.scrib_types.specs.declared.spot.Spot.{Spot}
 use Rattle.scrib_parser.specs.declared.tree.ModuleTree.{ModuleTree}
 use Rattle.scrib_parser.specs.declared.tree.Statement.{Statement}
 use Rattle.scrib_parser.specs.declared.tree.Block.{Block}
-use Rattle.scrib_elaborate.specs.declared.stop.State.{State}
-use Rattle.scrib_elaborate.specs.declared.stop.State.TheVariants.{Walked}
-use Rattle.scrib_elaborate.specs.declared.stop.Summary.{Summary}
-use Rattle.scrib_elaborate.specs.Source.{Body, Done, Then, Step, Sends, Chooses, Repeats, Continues, Calls, Blocks, NoBlock, OrBlock}
+use Rattle.scrib_elaborate.specs.Source.{Body, Done, Then, Step, Sends, Chooses, Repeats, Calls, Blocks, OrBlock}
 use Rattle.scrib_elaborate.specs.SourceView.{step_of, body_of, blocks_of}
 use Rattle.scrib_elaborate.specs.Names.{Declaration, called}
 use Rattle.scrib_elaborate.specs.Statements.{KeepsRules, protocol_keeps, BlockKeeps, end_keeps, then_keeps, StepKeeps, sends_keeps, chooses_keeps, repeats_keeps, continues_keeps, calls_keeps, BlocksKeep, none_keeps, or_keeps}

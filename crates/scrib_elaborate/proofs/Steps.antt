@@ -1,7 +1,6 @@
 -- The steps of the third pass.
-use Rattle.std.proofs.Common.{◌≡◌, ℕ, zero, suc, ◌+◌, Bool, true, false, List, [], ◌∷◌, ◌++◌, length, map, take, drop, reverse, Some, refl, sym, ap, ◌∙◌, subst, inl, inr, arith}
+use Rattle.std.proofs.Common.{◌≡◌, ℕ, ◌+◌, Bool, true, false, List, [], ◌∷◌, ◌++◌, map, reverse, Some, refl, sym, ap, ◌∙◌, subst, arith}
 use Rattle.std.specs.Borrow.{Bor}
-use Rattle.std.specs.List.{slice_get}
 use Rattle.std.proofs.lemmas.List.{reverse-append}
 use Rattle.scrib_types.specs.declared.message.Message.{Message}
 use Rattle.scrib_types.specs.declared.spot.Spot.{Spot}
@@ -9,24 +8,21 @@ use Rattle.scrib_types.specs.Trees.{GlobalTree, GlobalEnd, GlobalVar, GlobalRec}
 use Rattle.scrib_types.specs.WellFormed.{leads_to_communication}
 use Rattle.scrib_parser.specs.declared.tree.ModuleTree.{ModuleTree}
 use Rattle.scrib_parser.specs.declared.tree.Statement.{Statement}
-use Rattle.scrib_parser.specs.declared.tree.Block.{Block}
 use Rattle.scrib_elaborate.specs.declared.fault.FaultKind.{FaultKind}
 use Rattle.scrib_elaborate.specs.declared.fault.FaultKind.TheVariants as kind
 use Rattle.scrib_elaborate.specs.declared.tasks.Task.{Task}
-use Rattle.scrib_elaborate.specs.declared.tasks.Task.TheVariants.{Front, Join, Close}
-use Rattle.scrib_elaborate.specs.declared.tasks.Choosing.{Choosing}
+use Rattle.scrib_elaborate.specs.declared.tasks.Task.TheVariants.{Front, Close}
 use Rattle.scrib_elaborate.specs.declared.standing.Standing.{Standing}
-use Rattle.scrib_elaborate.specs.declared.built.Typed.{Typed}
-use Rattle.scrib_elaborate.specs.Source.{Body, Done, Then, Step, Sends, Chooses, Repeats, Continues, Calls, Blocks, NoBlock, OrBlock}
-use Rattle.scrib_elaborate.specs.SourceView.{step_of, body_of, blocks_of}
+use Rattle.scrib_elaborate.specs.Source.{Body, Done, Then, Step, Sends, Repeats, Continues, Calls}
+use Rattle.scrib_elaborate.specs.SourceView.{step_of, body_of}
 use Rattle.scrib_elaborate.specs.Names.{Declaration, called}
 use Rattle.scrib_elaborate.specs.Statements.{KeepsRules, BlockKeeps, StepKeeps}
-use Rattle.scrib_elaborate.specs.Elaboration.{continues_in, Scope, role_in, level_of, inside, inside_call, Frames, NoFrame, Under, sent, Types, ends, closes, sends, chooses, repeats, passes, continues, calls, start_of}
-use Rattle.scrib_elaborate.specs.Faults.{Stands, here, later, in_choice, in_rec, StandsIn, in_this, in_other, Reaches, itself, blocks_before, Needs, needs_itself, needs_branch, needs_repeats, needs_passes, needs_calls, FailsTyping}
-use Rattle.scrib_elaborate.specs.Lifting.{lifted, LevelsBelow, AreBelow}
-use Rattle.scrib_elaborate.specs.Table.{IsPart, AreParts}
-use Rattle.scrib_elaborate.specs.Standing.{scope_of, start_scope, IsStart, IsSame, IsInside, IsInsideCall}
-use Rattle.scrib_elaborate.specs.Typing.{type_of, before, FailsUp, IsFront, AreTyped, IsJoin, IsClose, Path, IsState, IsBefore, TypingFails}
+use Rattle.scrib_elaborate.specs.Elaboration.{continues_in, Scope, role_in, level_of, inside, inside_call, Frames, NoFrame, Under, sent, Types, ends, closes, sends, repeats, passes, continues, calls, start_of}
+use Rattle.scrib_elaborate.specs.Faults.{Stands, here, later, in_rec, Reaches, itself, needs_itself, needs_repeats, needs_passes, needs_calls, FailsTyping}
+use Rattle.scrib_elaborate.specs.Lifting.{lifted, AreBelow}
+use Rattle.scrib_elaborate.specs.Table.{IsPart}
+use Rattle.scrib_elaborate.specs.Standing.{scope_of, start_scope, IsStart, IsSame, IsInside}
+use Rattle.scrib_elaborate.specs.Typing.{before, FailsUp, IsFront, Path, IsState, IsBefore}
 use Rattle.scrib_elaborate.proofs.Kept.{of_then, of_protocol, kept_at, kept_along, reaches_on}
 use Rattle.scrib_elaborate.proofs.Checks.{stands_here}
 use Rattle.scrib_elaborate.proofs.Lifted.{lift_below, below_more, levels_more}

@@ -1,18 +1,15 @@
 -- What a protocol's type is made of has a type, and the branches of a choice join.
-use Rattle.std.proofs.Common.{◌≡◌, ◌≢◌, ◌⊎◌, ℕ, ◌+◌, Bool, true, false, ◌&&◌, ◌||◌, not, List, Some, refl, sym, ap, ◌∙◌, subst, ⊎_elim, inl, inr}
+use Rattle.std.proofs.Common.{◌≡◌, ◌⊎◌, ℕ, true, not, List, refl, sym, ap, ◌∙◌, subst, ⊎_elim, inl, inr}
 use Rattle.std.proofs.lemmas.Bool.{false≢true, both_ways, and_parts, or_cases, or_left, or_right, not-true}
-use Rattle.scrib_types.specs.declared.message.Message.{Message}
 use Rattle.scrib_types.specs.declared.spot.Spot.{Spot}
 use Rattle.scrib_types.specs.Trees.{GlobalTree, Comm, GlobalBranches, NoBranch, Branch}
 use Rattle.scrib_types.specs.WellFormed.{same_operator, has_operator, distinct_operators}
 use Rattle.scrib_parser.specs.declared.tree.ModuleTree.{ModuleTree}
-use Rattle.scrib_elaborate.specs.Source.{Body, Then, Chooses, Calls, Blocks, NoBlock, OrBlock}
+use Rattle.scrib_elaborate.specs.Source.{Body, Blocks, NoBlock, OrBlock}
 use Rattle.scrib_elaborate.specs.SourceView.{body_of}
-use Rattle.scrib_elaborate.specs.Names.{Declaration}
-use Rattle.scrib_elaborate.specs.Elaboration.{Scope, role_in, inside_call, Frames, Under, and_branches, Types, JoinsTo, joins_none, joins}
-use Rattle.scrib_elaborate.specs.Faults.{blocks_before, Needs, needs_itself, needs_close, needs_sends, needs_branch, needs_repeats, needs_passes, needs_calls, IsOneOf, share_operator}
+use Rattle.scrib_elaborate.specs.Elaboration.{Scope, inside_call, Frames, Under, and_branches, Types, JoinsTo, joins_none, joins}
+use Rattle.scrib_elaborate.specs.Faults.{blocks_before, Needs, needs_itself, needs_close, needs_sends, needs_branch, needs_repeats, needs_passes, needs_calls, share_operator}
 use Rattle.scrib_elaborate.proofs.Inversion.{type_of_done, type_of_sends, type_of_chooses, type_of_repeats, type_of_calls, join_of_or}
-use Rattle.scrib_elaborate.proofs.Functional.{types_same}
 
 -- the branches of the blocks before one, and those of it and the later ones
 pub record IsSplit (ms : List ModuleTree) (n : ℕ) (sc : Scope) (before : Blocks) (b : Body) (s : Spot) (after : Blocks) (fs : Frames) (p q : List ℕ) (es : GlobalBranches) : Type 0 where

@@ -1,5 +1,5 @@
 -- How a walk over protocols goes on.
-use Rattle.std.proofs.Common.{◌≡◌, ◌≢◌, ◌⊎◌, ℕ, zero, suc, ◌+◌, ◌*◌, ◌<◌, ◌≤◌, Bool, true, false, List, [], ◌∷◌, ◌++◌, length, get_or, set, Option, Some, None, option_map, refl, sym, ap, ◌∙◌, subst, ⊎_elim, inl, inr, arith}
+use Rattle.std.proofs.Common.{◌≡◌, ◌≢◌, ◌⊎◌, ℕ, zero, suc, ◌+◌, ◌<◌, ◌≤◌, true, List, [], ◌∷◌, ◌++◌, length, get_or, set, Some, option_map, refl, sym, ap, ◌∙◌, subst, ⊎_elim, inl, inr, arith}
 use Rattle.std.specs.List.{slice_get, sum_by}
 use Rattle.std.proofs.lemmas.List.{length-append, length-set, length-map}
 use Rattle.std.proofs.lemmas.List.Sums.{sum_by-set}
@@ -9,14 +9,14 @@ use Rattle.scrib_elaborate.specs.declared.stop.State.{State}
 use Rattle.scrib_elaborate.specs.declared.stop.State.TheVariants.{Unwalked, Walking, Walked}
 use Rattle.scrib_elaborate.specs.Source.{Calls}
 use Rattle.scrib_elaborate.specs.Names.{Declaration, HasOwnNames, declarations, called}
-use Rattle.scrib_elaborate.specs.Statements.{KeepsRules, protocol_keeps, BlockKeeps}
+use Rattle.scrib_elaborate.specs.Statements.{protocol_keeps, BlockKeeps}
 use Rattle.scrib_elaborate.specs.Faults.{HasStep, Reaches, itself, Fails}
 use Rattle.scrib_elaborate.specs.declared.declared.Declared.{Declared}
 use Rattle.scrib_elaborate.specs.declared.fault.ElaborateFault.{ElaborateFault}
 use Rattle.scrib_elaborate.specs.declared.fault.ElaborateFault.TheVariants as elaborate
 use Rattle.scrib_elaborate.specs.declared.stop.BrokenRule.{BrokenRule}
 use Rattle.scrib_elaborate.specs.declared.stop.Stop.{Stop}
-use Rattle.scrib_elaborate.specs.declared.stop.Stop.TheVariants.{Broken, Call, OutOfMemory}
+use Rattle.scrib_elaborate.specs.declared.stop.Stop.TheVariants.{Broken, Call}
 use Rattle.scrib_elaborate.specs.declared.stop.Summary.{Summary}
 use Rattle.scrib_elaborate.specs.Table.{declaration_of, shown, IsSummary}
 use Rattle.scrib_elaborate.specs.Walking.{AreUnwalked, IsEntered, EnterFails, IsFaultIn, IsReady, IsNextCall, IsBlockKept, TopKeeps, TopStops, WasWalked, AreSummaries, IsSmall, WalkFails}

@@ -1,6 +1,6 @@
 -- What the tables of a walk stand for.
 -- Only contracts of private functions cite this file.
-use Rattle.std.specs.Prelude.{◌≡◌, ◌⊎◌, ℕ, ◌<◌, Bool, true, false, List, ◌∷◌, ◌++◌, length, map, slice_get, Option, Some}
+use Rattle.std.specs.Prelude.{◌≡◌, ◌⊎◌, ℕ, ◌<◌, Bool, true, false, List, ◌∷◌, ◌++◌, length, map, slice_get, Some}
 use Rattle.scrib_elaborate.specs.declared.declared.Declared.{Declared}
 use Rattle.scrib_types.specs.declared.spot.Spot.{Spot}
 use Rattle.scrib_types.specs.WellFormed.{has_role}
@@ -11,7 +11,6 @@ use Rattle.scrib_parser.specs.declared.tree.RoleDeclaration.{RoleDeclaration}
 use Rattle.scrib_elaborate.specs.declared.fault.FaultKind.TheVariants as kind
 use Rattle.scrib_elaborate.specs.declared.stop.BrokenRule.{BrokenRule}
 use Rattle.scrib_elaborate.specs.declared.stop.Round.{Round}
-use Rattle.scrib_elaborate.specs.declared.stop.State.{State}
 use Rattle.scrib_elaborate.specs.declared.stop.State.TheVariants.{Unwalked, Walking, Walked}
 use Rattle.scrib_elaborate.specs.declared.stop.Stop.{Stop}
 use Rattle.scrib_elaborate.specs.declared.stop.Stop.TheVariants.{Broken, Call, OutOfMemory}

@@ -1,9 +1,8 @@
-use Rattle.std.proofs.Common.{◌≡◌, ℕ, List, true, false, refl, sym, ap, ◌∙◌, subst}
+use Rattle.std.proofs.Common.{◌≡◌, true, false, refl, sym, ap, ◌∙◌}
 use Rattle.std.proofs.lemmas.Bool.{false≢true}
 use Rattle.scrib_types.specs.GlobalView.{global_of, global_branches, end_of, var_of, rec_of, comm_of}
 use Rattle.scrib_types.specs.Trees.{Comm}
 use Rattle.scrib_elaborate.specs.Faults.{share_operator}
-use Rattle.scrib_elaborate.specs.Typing.{type_of}
 use Rattle.scrib_elaborate.proofs.Branches.{branches_append}
 use Rattle.scrib_elaborate.proofs.Joined.{not_first}
 use Rattle.scrib_elaborate.proofs.choices.add.Goals as goal

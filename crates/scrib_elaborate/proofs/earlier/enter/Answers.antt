@@ -1,4 +1,4 @@
-use Rattle.std.proofs.Common.{◌++◌, ◌∷◌, [], sym, ◌∙◌}
+use Rattle.std.proofs.Common.{sym, ◌∙◌}
 use Rattle.scrib_elaborate.specs.declared.tasks.Task.TheVariants.{Front}
 use Rattle.scrib_elaborate.proofs.Ahead.{more_ahead, passes_ahead, repeats_ahead}
 use Rattle.scrib_elaborate.proofs.earlier.enter.Goals as goal

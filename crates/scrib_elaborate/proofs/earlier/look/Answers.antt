@@ -1,4 +1,4 @@
-use Rattle.std.proofs.Common.{◌<◌, length, sym, subst, arith}
+use Rattle.std.proofs.Common.{◌<◌, length, subst, arith}
 use Rattle.std.proofs.lemmas.Bool.Decides.{nat_tests}
 use Rattle.scrib_elaborate.specs.declared.tasks.Task.TheVariants.{Front}
 use Rattle.scrib_elaborate.specs.Typing.{IsTaskAhead, AreAhead}

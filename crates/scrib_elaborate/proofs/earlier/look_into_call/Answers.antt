@@ -1,4 +1,3 @@
-use Rattle.std.proofs.Common.{refl}
 use Rattle.scrib_elaborate.specs.declared.tasks.Task.TheVariants.{Front}
 use Rattle.scrib_elaborate.specs.Table.{declaration_of}
 use Rattle.scrib_elaborate.proofs.Ahead.{call_ahead, more_ahead}

@@ -1,8 +1,5 @@
-use Rattle.std.proofs.Common.{drop, ◌+◌, refl, sym, ap, ◌∙◌, subst}
-use Rattle.std.proofs.lemmas.Bool.{false≢true}
+use Rattle.std.proofs.Common.{refl, sym, ap, ◌∙◌, subst}
 use Rattle.std.proofs.lemmas.List.{drop_all}
-use Rattle.std.proofs.lemmas.Option.{slice_get_within}
-use Rattle.scrib_parser.specs.declared.tree.Block.{Block}
 use Rattle.scrib_elaborate.specs.SourceView.{step_of, body_of, blocks_of, choice_of, rec_of, continue_of, do_of}
 use Rattle.scrib_elaborate.specs.Table.{shown, declaration_of}
 use Rattle.scrib_elaborate.specs.Staying.{Stays, StepStays, chooses_stays, repeats_stays, continues_stays, calls_stays, AllStay, none_stays}

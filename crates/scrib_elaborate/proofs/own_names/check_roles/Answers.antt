@@ -1,4 +1,4 @@
-use Rattle.std.proofs.Common.{sym, ◌∙◌, inl, inr, refl, arith}
+use Rattle.std.proofs.Common.{sym, ◌∙◌, inl, refl, arith}
 use Rattle.scrib_types.specs.WellFormed.{has_role}
 use Rattle.scrib_parser.specs.declared.tree.RoleDeclaration.{RoleDeclaration}
 use Rattle.scrib_elaborate.proofs.Places.{roles-more, again-at}

@@ -1,12 +1,12 @@
 use denote.Param.Weighed.{at_most, most as most_of}
 use Rattle.scrib_parser.specs.declared.tree.Statement.TheViews.{size-Statement, size-Block, size_is-Block, sized-Choice, sized-Rec}
-use Rattle.std.proofs.Common.{rules, drop, min, ◌+◌, true, refl, sym, ap, ◌∙◌, subst}
+use Rattle.std.proofs.Common.{rules, min, sym, ap, ◌∙◌, subst}
 use Rattle.std.proofs.lemmas.List.{drop_all}
-use Rattle.scrib_elaborate.specs.Source.{Sends, Calls}
+use Rattle.scrib_elaborate.specs.Source.{Calls}
 use Rattle.scrib_elaborate.specs.SourceView.{step_of, body_of, blocks_of, message_of, choice_of, rec_of, continue_of, do_of}
 use Rattle.scrib_elaborate.specs.Elaboration.{continues_in}
 use Rattle.scrib_elaborate.specs.Growth.{BlockGrows}
-use Rattle.scrib_elaborate.specs.Table.{protocol_at, IsPartSomewhere, IsStepSomewhere, AreSomewhere}
+use Rattle.scrib_elaborate.specs.Table.{protocol_at, IsPartSomewhere}
 use Rattle.scrib_elaborate.proofs.Checks.{body_more, blocks_more}
 use Rattle.scrib_elaborate.proofs.Grown.{begin_growing, step_growing, end_growing, begin_blocks, step_blocks, end_blocks, message_grows, continue_grows, choice_grows, loop_grows, pass_grows, call_grows}
 use Rattle.scrib_elaborate.proofs.Somewhere.{first_somewhere, rest_somewhere, block_somewhere, others_somewhere, choice_somewhere, rec_somewhere, step_stands}

@@ -1,8 +1,6 @@
 use denote.Param.Weighed.{at_most, most as most_of}
 use Rattle.scrib_parser.specs.declared.tree.Statement.TheViews.{size-Statement, size-Block, size_is-Block, sized-Choice, sized-Rec}
-use Rattle.scrib_parser.specs.declared.tree.Statement.{Statement}
-use Rattle.scrib_parser.specs.declared.tree.Block.{Block}
-use Rattle.std.proofs.Common.{rules, arith, drop, ◌+◌, true, refl, sym, ap, ◌∙◌, subst}
+use Rattle.std.proofs.Common.{rules, drop, ◌+◌, true, refl, sym, ap, ◌∙◌, subst}
 use Rattle.std.proofs.lemmas.List.{drop_all}
 use Rattle.scrib_types.specs.WellFormed.{has_role}
 use Rattle.scrib_elaborate.specs.Source.{Sends, Calls}

@@ -1,4 +1,4 @@
-use Rattle.std.proofs.Common.{Some, None, sym, ◌∙◌}
+use Rattle.std.proofs.Common.{Some, None}
 use Rattle.scrib_elaborate.proofs.Places.{name_last}
 use Rattle.scrib_elaborate.proofs.Checks.{called-is, entry_of}
 use Rattle.scrib_elaborate.proofs.statements.called.Goals as goal

@@ -1,4 +1,4 @@
-use Rattle.std.proofs.Common.{map, reverse, refl, sym, ap, ◌∙◌, subst}
+use Rattle.std.proofs.Common.{map, reverse, sym, ap, ◌∙◌, subst}
 use Rattle.std.proofs.lemmas.Result.{MatchResult-weaker}
 use Rattle.scrib_elaborate.specs.Source.{Chooses, Repeats, Calls}
 use Rattle.scrib_elaborate.specs.SourceView.{step_of, body_of, blocks_of, message_of, choice_of, rec_of, continue_of, do_of}

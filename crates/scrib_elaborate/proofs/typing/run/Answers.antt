@@ -1,6 +1,5 @@
 use Rattle.std.proofs.Common.{◌≡◌, [], length, reverse, sym, subst, arith}
 use Rattle.std.proofs.lemmas.List.{nil_from_length}
-use Rattle.scrib_elaborate.specs.declared.tasks.Task.{Task}
 use Rattle.scrib_elaborate.specs.Typing.{type_of, IsState}
 use Rattle.scrib_elaborate.proofs.Steps.{popped, ended}
 use Rattle.scrib_elaborate.proofs.typing.run.Goals as goal

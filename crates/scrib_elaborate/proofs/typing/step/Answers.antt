@@ -1,6 +1,5 @@
 use Rattle.std.proofs.Common.{◌∷◌, reverse, subst}
 use Rattle.std.proofs.lemmas.Result.{MatchResult-weaker}
-use Rattle.scrib_elaborate.specs.declared.tasks.Task.TheVariants.{Close}
 use Rattle.scrib_elaborate.specs.Typing.{type_of, IsState}
 use Rattle.scrib_elaborate.proofs.Ahead.{closing_ahead, stops_ahead}
 use Rattle.scrib_elaborate.proofs.typing.step.Goals as goal

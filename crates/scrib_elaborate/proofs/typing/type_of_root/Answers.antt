@@ -1,4 +1,4 @@
-use Rattle.std.proofs.Common.{reverse, refl, sym, subst}
+use Rattle.std.proofs.Common.{refl, sym, subst}
 use Rattle.scrib_types.specs.Trees.{GlobalEnd}
 use Rattle.scrib_elaborate.specs.Elaboration.{Types, start_of}
 use Rattle.scrib_elaborate.specs.Table.{declaration_of}

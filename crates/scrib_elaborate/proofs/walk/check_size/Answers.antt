@@ -1,4 +1,3 @@
-use Rattle.std.proofs.Common.{sym, ap, ◌∙◌}
 use Rattle.scrib_elaborate.proofs.Checks.{state_is}
 use Rattle.scrib_elaborate.proofs.Walks.{small_at, large_fails, not_walked}
 use Rattle.scrib_elaborate.proofs.walk.check_size.Goals as goal

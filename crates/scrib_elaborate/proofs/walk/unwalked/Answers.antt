@@ -1,4 +1,3 @@
-use Rattle.std.proofs.Common.{◌≡◌, ℕ, [], length, refl, ap, sym, ◌∙◌}
 use Rattle.scrib_elaborate.proofs.Walks.{none_unwalked, one_more}
 use Rattle.scrib_elaborate.proofs.walk.unwalked.Goals as goal
 

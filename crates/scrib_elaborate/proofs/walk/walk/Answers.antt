@@ -1,8 +1,8 @@
-use Rattle.std.proofs.Common.{◌≡◌, ◌<◌, length, refl, sym, ap, ◌∙◌, subst, rules, arith}
+use Rattle.std.proofs.Common.{◌<◌, length, sym, subst, rules, arith}
 use Rattle.std.proofs.lemmas.Result.{err_from_is_err_and}
 use Rattle.scrib_elaborate.specs.Table.{IsSettledSo}
 use Rattle.scrib_elaborate.specs.Walking.{IsReady}
-use Rattle.scrib_elaborate.proofs.Walks.{IsNext, states_long, ready, top_within, begins_from, leaves_from, next_of, enters_from, less_entering, less_leaving, first_fails, next_fails, broken_fails, ended_from, summaries_from, no_items}
+use Rattle.scrib_elaborate.proofs.Walks.{states_long, ready, top_within, begins_from, leaves_from, next_of, enters_from, less_entering, less_leaving, first_fails, next_fails, broken_fails, ended_from, summaries_from, no_items}
 use Rattle.scrib_elaborate.proofs.walk.walk.Goals as goal
 
 pub returns-in_err-enter-clause-fault : goal.returns-in_err-enter-clause-fault

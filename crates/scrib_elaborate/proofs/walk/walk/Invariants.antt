@@ -1,5 +1,3 @@
-use Rattle.std.proofs.Common.{◌≡◌, length}
-use Rattle.scrib_elaborate.specs.Table.{shown}
 use Rattle.scrib_elaborate.proofs.Walks.{IsWalkFrom, work}
 use Rattle.scrib_elaborate.proofs.walk.walk.Given as goal
 
