@@ -1,5 +1,5 @@
 -- What the steps of `project` come to.
-use Rattle.std.proofs.Common.{◌≡◌, ◌+◌, ◌||◌, inl, inr, ℕ, ◌<◌, Bool, true, false, List, [], ◌∷◌, ◌++◌, ◌∙◌, length, drop, get_or, Option, sym, ap, refl, arith}
+use Rattle.std.proofs.Common.{◌≡◌, ◌+◌, ◌||◌, inl, inr, ℕ, ◌<◌, Bool, true, false, List, [], ◌∷◌, ◌++◌, ◌∙◌, length, drop, get_or, Option, Some, sym, ap, refl, arith}
 use Rattle.std.specs.Str.{bytes_eq}
 use Rattle.std.proofs.lemmas.Bool.{false_from_ne_true}
 use Rattle.std.proofs.lemmas.Slice.Eq.{bytes_eq-Decides}
@@ -88,3 +88,7 @@ pub declared_later : (roles : List (List ℕ)) (i : ℕ) (name role : List ℕ) 
 declared_later roles i name role h here other after =
     let not_here : bytes_eq name (get_or roles i role) ≡ false = false_from_ne_true (bytes_eq name (get_or roles i role)) (λ e. other (here ∙ sym ((bytes_eq-Decides name (get_or roles i role)).0 e))) in
     sym (ap (λ (b : Bool). b || has_role name (drop (i + 1) roles)) not_here) ∙ sym (at_drop_more (has_role name) roles i role h) ∙ after
+
+-- what is left of a list begins with the value at this place
+pub front_is : {A : Type 0} (xs : List (Option A)) (i : ℕ) (x : Option A) (a : A) → i < length xs → x ≡ get_or xs i x → x ≡ Some a → drop i xs ≡ Some a ∷ drop (i + 1) xs
+front_is xs i x a h e s = at_drop_more (λ l. l) xs i x h ∙ ap (λ y. y ∷ drop (i + 1) xs) (sym e ∙ s)

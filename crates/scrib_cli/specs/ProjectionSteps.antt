@@ -1,6 +1,6 @@
 -- What the steps of `project` promise one another.
 -- Only contracts of private functions cite this file.
-use Rattle.std.specs.Prelude.{◌≡◌, ◌⊎◌, ℕ, true, false, List, Option, Some, None}
+use Rattle.std.specs.Prelude.{◌≡◌, ◌⊎◌, ⊤, ℕ, true, false, List, Option, Some, None}
 use Rattle.scrib_types.specs.Agreement.{Agreement}
 use Rattle.scrib_types.specs.LocalView.{local_of}
 use Rattle.scrib_types.specs.Projection.{projection}
@@ -10,9 +10,11 @@ use Rattle.scrib_project.specs.Faults.{IsUnmergeable}
 use Rattle.scrib_library.specs.declared.fault.EditFault.{EditFault}
 use Rattle.scrib_library.specs.declared.fault.EditFault.TheVariants as edit
 use Rattle.scrib_script.specs.Fields.{IsDottedText}
+use Rattle.scrib_cli.specs.declared.fault.ScriptFault.{ScriptFault}
+use Rattle.scrib_cli.specs.declared.fault.ScriptFault.TheVariants as fault
 use Rattle.scrib_cli.specs.declared.projection.Projection.{Projection}
 use Rattle.scrib_cli.specs.declared.projection.Projection.TheVariants.{Projects, NoProtocol, NoRole, Refused}
-use Rattle.scrib_cli.specs.Projections.{IsNoModule, AreAdded, FailsAmong}
+use Rattle.scrib_cli.specs.Projections.{IsNoModule, AreAdded, FailsAmong, StopsUnread}
 
 -- the names that the bytes join by dots, if they do
 abbrev pub AreNamesOf : List ℕ → Option (List (List ℕ)) → Type 0
@@ -27,6 +29,12 @@ IsUnreadOrRefused t f = (f ≡ edit.OutOfMemory) ⊎ IsNoModule t f
 abbrev pub AreAddedOrFail : (before : List ModuleTree) → List (Option (List ℕ)) → (after : List ModuleTree) → Option EditFault → Type 0
 AreAddedOrFail before texts after None = AreAdded before texts after
 AreAddedOrFail before texts after (Some f) = FailsAmong texts f
+
+-- a text that can't be read stopped it, or memory was refused
+abbrev pub StopsAmong : List (Option (List ℕ)) → ScriptFault → Type 0
+StopsAmong texts fault.Read = StopsUnread texts
+StopsAmong texts fault.Write = ⊥
+StopsAmong texts fault.OutOfMemory = ⊤
 
 -- the name is one of the roles
 abbrev pub IsDeclared : List (List ℕ) → (name role : List ℕ) → Type 0

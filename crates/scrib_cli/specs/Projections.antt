@@ -1,5 +1,5 @@
 -- What `project` answers (this project's own).
-use Rattle.std.specs.Prelude.{◌≡◌, ◌⊎◌, ℕ, ◌<◌, Bool, true, false, List, [], ◌∷◌, ◌++◌, length, Option, Some, None, codes}
+use Rattle.std.specs.Prelude.{◌≡◌, ◌⊎◌, ⊤, ℕ, ◌<◌, Bool, true, false, List, [], ◌∷◌, ◌++◌, length, Option, Some, None, codes}
 use Rattle.scrib_types.specs.Agreement.{Agreement}
 use Rattle.scrib_types.specs.LocalView.{local_of}
 use Rattle.scrib_types.specs.Projection.{projection}
@@ -23,6 +23,8 @@ use Rattle.scrib_core.specs.declared.reply.Refusal.TheVariants as refusal
 use Rattle.scrib_script.specs.Fields.{IsDottedText}
 use Rattle.scrib_cli.specs.Scripts.{reply_line}
 use Rattle.scrib_cli.specs.Explanations.{refusal_line}
+use Rattle.scrib_cli.specs.declared.fault.ScriptFault.{ScriptFault}
+use Rattle.scrib_cli.specs.declared.fault.ScriptFault.TheVariants as fault
 use Rattle.scrib_cli.specs.declared.full_name.FullName.{FullName}
 use Rattle.scrib_cli.specs.declared.projection.Projection.{Projection}
 use Rattle.scrib_cli.specs.declared.projection.Projection.TheVariants.{Projects, NoProtocol, NoRole, Refused}
@@ -54,6 +56,19 @@ abbrev pub FailsAmong : List (Option (List ℕ)) → EditFault → Type 0
 FailsAmong [] f = ⊥
 FailsAmong (None ∷ ts) f = ⊥
 FailsAmong (Some t ∷ ts) f = IsNoModule t f ⊎ ((m : ModuleTree) × Reads t m × FailsAmong ts f)
+
+-- the first of the texts that is no module can't be read
+abbrev pub StopsUnread : List (Option (List ℕ)) → Type 0
+StopsUnread [] = ⊥
+StopsUnread (None ∷ ts) = ⊤
+StopsUnread (Some t ∷ ts) = (m : ModuleTree) × Reads t m × StopsUnread ts
+
+-- what a fault says of the input: that the reader failed says that the protocol has a full name, and that the first
+-- text that is no module can't be read; the writer and memory may fail at any input
+abbrev pub FaultTells : (texts : List (Option (List ℕ))) (protocol : List ℕ) → ScriptFault → Type 0
+FaultTells texts protocol fault.Read = ((name : FullName) × IsFullName protocol name) × StopsUnread texts
+FaultTells texts protocol fault.Write = ⊤
+FaultTells texts protocol fault.OutOfMemory = ⊤
 
 -- The answer for the protocol of this full name and this role, over module texts, by the first of these cases that
 -- it falls under: it is no full name; a text is no module; the protocol means nothing; it declares no such role; it

@@ -2,7 +2,7 @@
 
 ghost use Rattle.std.specs.Prelude.{IfOk, IfErr};
 ghost use Rattle.scrib_library.specs.Edits.{Reads};
-ghost use Rattle.scrib_cli.specs.ProjectionSteps.{IsUnreadOrRefused, AreAddedOrFail};
+ghost use Rattle.scrib_cli.specs.ProjectionSteps.{IsUnreadOrRefused, AreAddedOrFail, StopsAmong};
 
 use crate::fault::ScriptFault;
 use scrib_elaborate::modules::Modules;
@@ -15,12 +15,17 @@ use std::alloc::Global;
 
 /// Adds the modules that the texts are, in order. `None` stands for a text that can't be read. Returns why a text is
 /// no module: the first that is none.
+///
+/// # Errors
+/// - `Read` where the first text that is no module can't be read.
+/// - `OutOfMemory` where memory was refused.
 pub fn add_texts(
     alloc: Global,
     modules: &mut Modules,
     texts: &[Option<Items<u8>>],
 ) -> Result<Option<EditFault>, ScriptFault>
-    ensures { IfOk result (AreAddedOrFail modules.old texts.now modules.new) }
+    ensures ok { IfOk result (AreAddedOrFail modules.old texts.now modules.new) }
+    ensures fault { IfErr result (StopsAmong texts.now) }
 {
     for text in texts {
         let Some(text) = text else {

@@ -1,13 +1,13 @@
 //! Projecting a protocol of some modules on a role.
 
-ghost use Rattle.std.specs.Prelude.{◌≡◌, ◌⊎◌, ◌++◌, ◌∷◌, [], ℕ, List, Bool, IfOk, OnErr};
+ghost use Rattle.std.specs.Prelude.{◌≡◌, ◌⊎◌, ◌++◌, ◌∷◌, [], ℕ, List, Bool, IfOk, IfErr, OnErr};
 ghost use Rattle.std.specs.Io.KnownBytes.{Appends};
 ghost use Rattle.scrib_types.specs.LocalView.{local_of};
 ghost use Rattle.scrib_local.specs.Text.{local_text};
 ghost use Rattle.scrib_core.specs.declared.reply.Reply.TheVariants.{Refused};
 ghost use Rattle.scrib_core.specs.declared.reply.Refusal.TheVariants.{Edit};
 ghost use Rattle.scrib_cli.specs.Scripts.{AppendsPart, reply_line};
-ghost use Rattle.scrib_cli.specs.Projections.{IsProjecting, projects, projection_line};
+ghost use Rattle.scrib_cli.specs.Projections.{IsProjecting, FaultTells, projects, projection_line};
 
 use crate::explaining::refusal;
 pub use crate::fault::ScriptFault;
@@ -50,6 +50,7 @@ pub fn project_text<W: Write>(
     ensures err { OnErr result (Appends (W.contents writer.old) (W.contents writer.new) []
         ⊎ ((does_so : Bool) × (written : List ℕ) × IsProjecting texts.now protocol.now role.now does_so written
         × AppendsPart (W.contents writer.old) (W.contents writer.new) written)) }
+    ensures fault { IfErr result (FaultTells texts.now protocol.now) }
 {
     let projection = projection_of(alloc, protocol, role, texts)?;
     let (does_so, written) = told(alloc, projection)?;

@@ -1,9 +1,10 @@
 //! From module texts to what a role does in a protocol.
 
-ghost use Rattle.std.specs.Prelude.{◌≡◌, false, IfOk, MatchOption};
+ghost use Rattle.std.specs.Prelude.{◌≡◌, false, IfOk, IfErr, MatchOption};
 ghost use Rattle.scrib_types.specs.WellFormed.{has_role};
 ghost use Rattle.scrib_elaborate.specs.Meaning.{meaning_of};
-ghost use Rattle.scrib_cli.specs.Projections.{IsProjection};
+ghost use Rattle.scrib_cli.specs.declared.fault.ScriptFault.TheVariants.{OutOfMemory};
+ghost use Rattle.scrib_cli.specs.Projections.{IsProjection, FaultTells};
 ghost use Rattle.scrib_cli.specs.ProjectionSteps.{IsRoleProjection, IsDeclared};
 
 use crate::fault::ScriptFault;
@@ -36,13 +37,18 @@ pub enum Projection {
 
 /// What the role does in the protocol of this full name, among the modules that the texts are. `None` stands for a
 /// text that can't be read.
+///
+/// # Errors
+/// - `Read` where the first text that is no module can't be read.
+/// - `OutOfMemory` where memory was refused.
 pub fn projection_of(
     alloc: Global,
     protocol: &str,
     role: &str,
     texts: &[Option<Items<u8>>],
 ) -> Result<Projection, ScriptFault>
-    ensures { IfOk result (IsProjection texts.now protocol.now role.now) }
+    ensures ok { IfOk result (IsProjection texts.now protocol.now role.now) }
+    ensures fault { IfErr result (FaultTells texts.now protocol.now) }
 {
     let Some(name) = full_name_of(alloc, protocol)? else {
         return Ok(Projection::NoProtocol);
@@ -64,7 +70,8 @@ fn projection_on(
     elaborated: &Elaborated,
     role: &str,
 ) -> Result<Projection, ScriptFault>
-    ensures { IfOk result (IsRoleProjection (meaning_of elaborated.now) role.now) }
+    ensures ok { IfOk result (IsRoleProjection (meaning_of elaborated.now) role.now) }
+    ensures fault { IfErr result (λ e. e ≡ OutOfMemory) }
 {
     let Some(role) = declared_role(elaborated.roles(), role.as_bytes()) else {
         return Ok(Projection::NoRole);

@@ -1,7 +1,8 @@
 //! Writes all of some bytes, by as many writes as it takes.
 
-ghost use Rattle.std.specs.Prelude.{◌≡◌, OnOk, OnErr};
+ghost use Rattle.std.specs.Prelude.{◌≡◌, IfErr, OnOk, OnErr};
 ghost use Rattle.std.specs.Io.KnownBytes.{Appends, Keeps};
+ghost use Rattle.scrib_cli.specs.declared.fault.ScriptFault.TheVariants as fault;
 ghost use Rattle.scrib_cli.specs.Scripts.{AppendsPart};
 ghost use Rattle.scrib_cli.specs.Progress.{said};
 
@@ -13,6 +14,7 @@ use std::io::{ErrorKind, Write};
 pub fn write_out<W: Write>(writer: &mut W, bytes: &[u8]) -> Result<(), ScriptFault>
     ensures ok { OnOk result (Appends (W.contents writer.old) (W.contents writer.new) bytes.now) }
     ensures err { OnErr result (AppendsPart (W.contents writer.old) (W.contents writer.new) bytes.now) }
+    ensures fault { IfErr result (λ e. e ≡ fault.Write) }
 {
     let mut at = 0usize;
     for _ in 0..u64::MAX {
@@ -45,7 +47,8 @@ pub fn tell<W: Write>(telling: Telling, writer: &mut W, bytes: &[u8]) -> Result<
 
 /// Flushes what was written.
 pub fn flush_out<W: Write>(writer: &mut W) -> Result<(), ScriptFault>
-    ensures { Keeps (W.contents writer.old) (W.contents writer.new) }
+    ensures kept { Keeps (W.contents writer.old) (W.contents writer.new) }
+    ensures fault { IfErr result (λ e. e ≡ fault.Write) }
 {
     match writer.flush() {
         Ok(()) => Ok(()),

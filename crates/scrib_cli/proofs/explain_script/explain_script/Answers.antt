@@ -27,11 +27,11 @@ pub returns-clause-ok : goal.returns-clause-ok
 returns-clause-ok g c =
     let all = subst (λ (t : List ℕ). Appends (g.W.Write.contents c.run_whole.new.writer) (g.W.Write.contents c.write_out.new.writer) t) c.as_slice.ensures.value c.in_ok-write_out.ensures.ok in
     told_all (g.R.Read.remaining c.args.reader.now) c.args.id (world_of c.in_ok-core.core) c.in_ok-explained.explained c.in_ok-explained.text.items (g.W.Write.contents c.args.writer.now) (g.W.Write.contents c.run_whole.new.writer) (g.W.Write.contents c.write_out.new.writer) (g.W.Write.contents c.flush_out.new.writer)
-    c.in_ok-core.ensures.ok c.in_ok-explained.ensures all c.flush_out.ensures
+    c.in_ok-core.ensures.ok c.in_ok-explained.ensures all c.flush_out.ensures.kept
 
 pub returns-in_err-flush_out-clause-err : goal.returns-in_err-flush_out-clause-err
 returns-in_err-flush_out-clause-err g c =
     let p = err_from_is_err_and c.from_residual-in_err-flush_out.result c.from_residual-in_err-flush_out.ensures.1 in
     let all = subst (λ (t : List ℕ). Appends (g.W.Write.contents c.run_whole.new.writer) (g.W.Write.contents c.write_out.new.writer) t) c.as_slice.ensures.value c.in_ok-write_out.ensures.ok in
     rw p.1 (told_unflushed (g.R.Read.remaining c.args.reader.now) c.args.id (world_of c.in_ok-core.core) c.in_ok-explained.explained c.in_ok-explained.text.items (g.W.Write.contents c.args.writer.now) (g.W.Write.contents c.run_whole.new.writer) (g.W.Write.contents c.write_out.new.writer) (g.W.Write.contents c.flush_out.new.writer)
-    c.in_ok-core.ensures.ok c.in_ok-explained.ensures all c.flush_out.ensures)
+    c.in_ok-core.ensures.ok c.in_ok-explained.ensures all c.flush_out.ensures.kept)

@@ -11,28 +11,28 @@ use Rattle.scrib_cli.specs.ProjectionSteps.{IsRoleProjection}
 use Rattle.scrib_cli.proofs.Projected.{on_role}
 use Rattle.scrib_cli.proofs.projection.projection_of.Goals as goal
 
-pub returns-in_default : goal.returns-in_default
-returns-in_default c = unnamed (rw c.in_default.is at c.in_ok-name.ensures)
+pub returns-in_default-clause-ok : goal.returns-in_default-clause-ok
+returns-in_default-clause-ok c = unnamed (rw c.in_default.is at c.in_ok-name.ensures)
 
-pub returns-in-Some-2 : goal.returns-in-Some-2
-returns-in-Some-2 c =
+pub returns-in-Some-2-clause-ok : goal.returns-in-Some-2-clause-ok
+returns-in-Some-2-clause-ok c =
     let named : IsFullName c.args.protocol.now c.in-Some.name = rw c.in-Some.is at c.in_ok-name.ensures in
-    let failed : FailsAmong c.args.texts.now c.in-Some-2.fault = rw c.in-Some-2.is at c.in_ok-fault.ensures in
+    let failed : FailsAmong c.args.texts.now c.in-Some-2.fault = rw c.in-Some-2.is at c.in_ok-fault.ensures.ok in
     unread c.in-Some.name c.in-Some-2.fault named failed
 
-pub returns-in-Ok : goal.returns-in-Ok
-returns-in-Ok c =
+pub returns-in-Ok-clause-ok : goal.returns-in-Ok-clause-ok
+returns-in-Ok-clause-ok c =
     let named : IsFullName c.args.protocol.now c.in-Some.name = rw c.in-Some.is at c.in_ok-name.ensures in
-    let added : AreAdded [] c.args.texts.now c.add_texts.new.modules = rw (c.in_default-2.is, c.new-modules.ensures) at c.in_ok-fault.ensures in
+    let added : AreAdded [] c.args.texts.now c.add_texts.new.modules = rw (c.in_default-2.is, c.new-modules.ensures) at c.in_ok-fault.ensures.ok in
     let means : Elaborates c.add_texts.new.modules c.in-Some.name.home c.in-Some.name.protocol (meaning_of c.in-Ok.elaborated) = c.in-Ok.ensures.ok in
     IfOk-weaker c.projection_on.result (IsRoleProjection (meaning_of c.in-Ok.elaborated) c.args.role.now) (IsProjection c.args.texts.now c.args.protocol.now c.args.role.now)
     (λ p h. on_role c.args.texts.now c.args.protocol.now c.args.role.now c.in-Some.name c.add_texts.new.modules (meaning_of c.in-Ok.elaborated) p named added means h)
-    c.projection_on.ensures
+    c.projection_on.ensures.ok
 
-pub returns-in-Err-Broken : goal.returns-in-Err-Broken
-returns-in-Err-Broken c =
+pub returns-in-Err-Broken-clause-ok : goal.returns-in-Err-Broken-clause-ok
+returns-in-Err-Broken-clause-ok c =
     let named : IsFullName c.args.protocol.now c.in-Some.name = rw c.in-Some.is at c.in_ok-name.ensures in
-    let added : AreAdded [] c.args.texts.now c.add_texts.new.modules = rw (c.in_default-2.is, c.new-modules.ensures) at c.in_ok-fault.ensures in
+    let added : AreAdded [] c.args.texts.now c.add_texts.new.modules = rw (c.in_default-2.is, c.new-modules.ensures) at c.in_ok-fault.ensures.ok in
     let broken : IsBroken c.add_texts.new.modules c.in-Some.name.home c.in-Some.name.protocol c.in-Err-Broken.fault = rw c.in-Err-Broken.field-0-is at c.in-Err-Broken.ensures.fault in
     subst (λ (f : Fault). IsProjection c.args.texts.now c.args.protocol.now c.args.role.now (Refused (edit.Elaborate f))) (sym c.in-Err-Broken.fault-is)
     (meaningless c.in-Some.name c.add_texts.new.modules c.in-Err-Broken.fault named added broken)
