@@ -10,7 +10,7 @@ use scrib_cli::project::project_text;
 use scrib_cli::reading::{Items, read_text};
 use scrib_cli::run_script::{ScriptFault, run_script};
 use std::alloc::{AllocError, Global};
-use std::io::{BufWriter, Read};
+use std::io::{BufWriter, Read, Write};
 use std::process::ExitCode;
 use std::rt::{Env, Files};
 use std::{env, fs, io};
@@ -47,26 +47,55 @@ fn project_command<'a>(alloc: Global) -> Result<Command<'a>, AllocError> {
         .arg(files_arg(alloc))
 }
 
-fn command<'a>(alloc: Global) -> Result<Command<'a>, AllocError> {
-    let watch = Command::new(alloc, "watch")
+fn watch_command<'a>(alloc: Global) -> Result<Command<'a>, AllocError> {
+    Command::new(alloc, "watch")
         .about("Runs a script of edits and events, and prints a line for each reply")
-        .arg(file_arg(alloc))?;
+        .arg(file_arg(alloc))
+}
+
+fn explain_command<'a>(alloc: Global) -> Result<Command<'a>, AllocError> {
     let id = Arg::new(alloc, "ID")
         .help("The conversation's number in the script")
         .required(true);
-    let explain = Command::new(alloc, "explain")
+    Command::new(alloc, "explain")
         .about("Runs a script in silence, and prints the messages in flight in a conversation")
         .arg(id)?
-        .arg(file_arg(alloc))?;
-    Command::new(alloc, "scribmon")
+        .arg(file_arg(alloc))
+}
+
+// With the commands that read modules.
+fn with_modules<'a>(alloc: Global, line: Command<'a>) -> Result<Command<'a>, AllocError> {
+    let line = line.subcommand(check_command(alloc)?)?;
+    line.subcommand(project_command(alloc)?)
+}
+
+// With the commands that read a script.
+fn with_scripts<'a>(alloc: Global, line: Command<'a>) -> Result<Command<'a>, AllocError> {
+    let line = line.subcommand(watch_command(alloc)?)?;
+    line.subcommand(explain_command(alloc)?)
+}
+
+fn command<'a>(alloc: Global) -> Result<Command<'a>, AllocError> {
+    let line = Command::new(alloc, "scribmon")
         .version("0.1.0")
         .about("Judges running conversations against Scribble protocols")
         .subcommand_required(true)
-        .arg_required_else_help(true)
-        .subcommand(check_command(alloc)?)?
-        .subcommand(project_command(alloc)?)?
-        .subcommand(watch)?
-        .subcommand(explain)
+        .arg_required_else_help(true);
+    let line = with_modules(alloc, line)?;
+    with_scripts(alloc, line)
+}
+
+// Puts the file's module. Returns whether it was accepted.
+fn check_file<W: Write>(
+    rt: &(impl Files + AllocGlobal),
+    path: &str,
+    core: &mut Core,
+    writer: &mut W,
+) -> Result<bool, ScriptFault> {
+    let Ok(mut file) = fs::open(rt, path) else {
+        return Err(ScriptFault::Read);
+    };
+    check_module(rt.alloc(), core, &mut file, writer)
 }
 
 // Puts the files' modules in order, until one can't be read. Returns whether all of them were accepted.
@@ -81,10 +110,7 @@ fn check(
     let mut core = Core::new(alloc);
     let mut accepted = true;
     for path in matches.get_strs("FILE").unwrap_or(&[]) {
-        let Ok(mut file) = fs::open(rt, path) else {
-            return Err(ScriptFault::Read);
-        };
-        if !check_module(alloc, &mut core, &mut file, &mut writer)? {
+        if !check_file(rt, path, &mut core, &mut writer)? {
             accepted = false;
         }
     }
@@ -249,19 +275,27 @@ fn run_explain(
     }
 }
 
-fn run(rt: &(impl Print + Eprint + Input + Files + Env + AllocGlobal)) -> io::Result<ExitCode> {
-    let alloc = rt.alloc();
-    let words: Vec<String> = env::args(rt)?.collect(alloc)?;
-    let matches = match command(alloc)?.try_get_matches_from(words.as_slice()) {
-        Ok(matches) => matches,
-        Err(error) => return Ok(told_usage(rt, &error)),
-    };
+// Does what the command line asks for.
+fn obey(
+    rt: &(impl Print + Eprint + Input + Files + AllocGlobal),
+    matches: &ArgMatches,
+) -> io::Result<ExitCode> {
     match matches.subcommand() {
         Some(("check", matches)) => Ok(told_answer(rt, check(rt, matches))),
         Some(("project", matches)) => Ok(told_answer(rt, project(rt, matches))),
         Some(("watch", matches)) => Ok(run_watch(rt, matches)),
         Some(("explain", matches)) => run_explain(rt, matches),
         _ => Ok(ExitCode::from(2)),
+    }
+}
+
+fn run(rt: &(impl Print + Eprint + Input + Files + Env + AllocGlobal)) -> io::Result<ExitCode> {
+    let alloc = rt.alloc();
+    let words: Vec<String> = env::args(rt)?.collect(alloc)?;
+    let line = command(alloc)?;
+    match line.try_get_matches_from(words.as_slice()) {
+        Ok(matches) => obey(rt, &matches),
+        Err(error) => Ok(told_usage(rt, &error)),
     }
 }
 
