@@ -12,9 +12,10 @@ use Rattle.scrib_library.specs.declared.fault.EditFault.TheVariants as edit
 use Rattle.scrib_script.specs.Fields.{IsDottedText}
 use Rattle.scrib_cli.specs.declared.fault.ScriptFault.{ScriptFault}
 use Rattle.scrib_cli.specs.declared.fault.ScriptFault.TheVariants as fault
+use Rattle.scrib_cli.specs.declared.full_name.FullName.{FullName}
 use Rattle.scrib_cli.specs.declared.projection.Projection.{Projection}
 use Rattle.scrib_cli.specs.declared.projection.Projection.TheVariants.{Projects, NoProtocol, NoRole, Refused}
-use Rattle.scrib_cli.specs.Projections.{IsNoModule, AreAdded, FailsAmong, StopsUnread}
+use Rattle.scrib_cli.specs.Projections.{IsFullName, IsNoModule, AreAdded, FailsAmong, StopsUnread}
 
 -- the names that the bytes join by dots, if they do
 abbrev pub AreNamesOf : List ℕ → Option (List (List ℕ)) → Type 0
@@ -30,11 +31,17 @@ abbrev pub AreAddedOrFail : (before : List ModuleTree) → List (Option (List �
 AreAddedOrFail before texts after None = AreAdded before texts after
 AreAddedOrFail before texts after (Some f) = FailsAmong texts f
 
--- a text that can't be read stopped it, or memory was refused
+-- the first text that is no module can't be read, or memory was refused
 abbrev pub StopsAmong : List (Option (List ℕ)) → ScriptFault → Type 0
 StopsAmong texts fault.Read = StopsUnread texts
 StopsAmong texts fault.Write = ⊥
 StopsAmong texts fault.OutOfMemory = ⊤
+
+-- the protocol has a full name and the first text that is no module can't be read, or memory was refused
+abbrev pub StopsReading : (texts : List (Option (List ℕ))) (protocol : List ℕ) → ScriptFault → Type 0
+StopsReading texts protocol fault.Read = ((name : FullName) × IsFullName protocol name) × StopsUnread texts
+StopsReading texts protocol fault.Write = ⊥
+StopsReading texts protocol fault.OutOfMemory = ⊤
 
 -- the name is one of the roles
 abbrev pub IsDeclared : List (List ℕ) → (name role : List ℕ) → Type 0

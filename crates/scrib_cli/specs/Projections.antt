@@ -63,13 +63,6 @@ StopsUnread [] = ⊥
 StopsUnread (None ∷ ts) = ⊤
 StopsUnread (Some t ∷ ts) = (m : ModuleTree) × Reads t m × StopsUnread ts
 
--- what a fault says of the input: that the reader failed says that the protocol has a full name, and that the first
--- text that is no module can't be read; the writer and memory may fail at any input
-abbrev pub FaultTells : (texts : List (Option (List ℕ))) (protocol : List ℕ) → ScriptFault → Type 0
-FaultTells texts protocol fault.Read = ((name : FullName) × IsFullName protocol name) × StopsUnread texts
-FaultTells texts protocol fault.Write = ⊤
-FaultTells texts protocol fault.OutOfMemory = ⊤
-
 -- The answer for the protocol of this full name and this role, over module texts, by the first of these cases that
 -- it falls under: it is no full name; a text is no module; the protocol means nothing; it declares no such role; it
 -- has no projection on the role; the role does this.
@@ -103,3 +96,10 @@ projection_line (Refused f) = reply_line (reply.Refused (refusal.Edit f))
 abbrev pub IsProjecting : (texts : List (Option (List ℕ))) (protocol role : List ℕ) → Bool → List ℕ → Type 0
 IsProjecting texts protocol role does_so line =
     (p : Projection) × IsProjection texts protocol role p × (does_so ≡ projects p) × (line ≡ projection_line p)
+
+-- what a fault says of the input: a read fault, that the protocol has a full name and the first text that is no module
+-- can't be read; a write fault, that there is a line to write; memory may be refused at any input
+abbrev pub FaultTells : (texts : List (Option (List ℕ))) (protocol role : List ℕ) → ScriptFault → Type 0
+FaultTells texts protocol role fault.Read = ((name : FullName) × IsFullName protocol name) × StopsUnread texts
+FaultTells texts protocol role fault.Write = (does_so : Bool) × (line : List ℕ) × IsProjecting texts protocol role does_so line
+FaultTells texts protocol role fault.OutOfMemory = ⊤

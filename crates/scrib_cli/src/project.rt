@@ -35,7 +35,7 @@ use std::io::Write;
 ///
 /// # Errors
 /// Nothing was written by then, or a beginning of the line.
-/// - `Read` where the first text that is no module can't be read.
+/// - `Read` where the protocol has a full name and the first text that is no module can't be read.
 /// - `Write` where the writer fails.
 /// - `OutOfMemory` where memory was refused.
 pub fn project_text<W: Write>(
@@ -50,7 +50,7 @@ pub fn project_text<W: Write>(
     ensures err { OnErr result (Appends (W.contents writer.old) (W.contents writer.new) []
         ⊎ ((does_so : Bool) × (written : List ℕ) × IsProjecting texts.now protocol.now role.now does_so written
         × AppendsPart (W.contents writer.old) (W.contents writer.new) written)) }
-    ensures fault { IfErr result (FaultTells texts.now protocol.now) }
+    ensures fault { IfErr result (FaultTells texts.now protocol.now role.now) }
 {
     let projection = projection_of(alloc, protocol, role, texts)?;
     let (does_so, written) = told(alloc, projection)?;

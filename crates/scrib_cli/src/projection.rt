@@ -4,8 +4,8 @@ ghost use Rattle.std.specs.Prelude.{◌≡◌, false, IfOk, IfErr, MatchOption};
 ghost use Rattle.scrib_types.specs.WellFormed.{has_role};
 ghost use Rattle.scrib_elaborate.specs.Meaning.{meaning_of};
 ghost use Rattle.scrib_cli.specs.declared.fault.ScriptFault.TheVariants.{OutOfMemory};
-ghost use Rattle.scrib_cli.specs.Projections.{IsProjection, FaultTells};
-ghost use Rattle.scrib_cli.specs.ProjectionSteps.{IsRoleProjection, IsDeclared};
+ghost use Rattle.scrib_cli.specs.Projections.{IsProjection};
+ghost use Rattle.scrib_cli.specs.ProjectionSteps.{IsRoleProjection, IsDeclared, StopsReading};
 
 use crate::fault::ScriptFault;
 use crate::full_name::full_name_of;
@@ -39,7 +39,7 @@ pub enum Projection {
 /// text that can't be read.
 ///
 /// # Errors
-/// - `Read` where the first text that is no module can't be read.
+/// - `Read` where the protocol has a full name and the first text that is no module can't be read.
 /// - `OutOfMemory` where memory was refused.
 pub fn projection_of(
     alloc: Global,
@@ -48,7 +48,7 @@ pub fn projection_of(
     texts: &[Option<Items<u8>>],
 ) -> Result<Projection, ScriptFault>
     ensures ok { IfOk result (IsProjection texts.now protocol.now role.now) }
-    ensures fault { IfErr result (FaultTells texts.now protocol.now) }
+    ensures fault { IfErr result (StopsReading texts.now protocol.now) }
 {
     let Some(name) = full_name_of(alloc, protocol)? else {
         return Ok(Projection::NoProtocol);
