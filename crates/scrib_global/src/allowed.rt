@@ -19,10 +19,10 @@ use scrib_local::projection::project_type;
 use scrib_types::event::{Action, Event};
 use scrib_types::global::GlobalType;
 use scrib_types::local::Local;
-use scrib_types::message::Message;
 use scrib_types::name::Role;
 use scrib_types::plain::Items;
 use scrib_types::protocol::Protocol;
+use scrib_types::shared_message::SharedMessage;
 use std::alloc::{AllocError, Global};
 
 /// Exactly the actions with which the role may go on after the log, sorted by their printed text, none twice.
@@ -88,7 +88,7 @@ fn copies(alloc: Global, log: &[Event]) -> Result<Vec<Event>, AllocError>
 {
     let mut copies = Vec::with_capacity(alloc, log.len())?;
     for event in log {
-        copies.push(event.copy(alloc)?)?;
+        copies.push(event.copy()?)?;
     }
     Ok(copies)
 }
@@ -122,15 +122,15 @@ fn push_named(alloc: Global, local: &Local, list: &mut Vec<Action>) -> Result<()
 #[cycle(push_named)]
 fn push_sends(
     alloc: Global,
-    branches: &[(Message, Local)],
+    branches: &[(SharedMessage, Local)],
     to: &Role,
     list: &mut Vec<Action>,
 ) -> Result<(), AllocError>
     ensures { OnOk result (list.new.items ≡ list.old.items ++ spec.named_sends to.now (local_branches branches.now)) }
 {
     for (message, next) in branches {
-        let to = to.copy(alloc)?;
-        let message = message.copy(alloc)?;
+        let to = to.copy()?;
+        let message = message.copy()?;
         list.push(Action::Sends { to, message })?;
         push_named(alloc, next, list)?;
     }
@@ -140,15 +140,15 @@ fn push_sends(
 #[cycle(push_named)]
 fn push_receptions(
     alloc: Global,
-    branches: &[(Message, Local)],
+    branches: &[(SharedMessage, Local)],
     from: &Role,
     list: &mut Vec<Action>,
 ) -> Result<(), AllocError>
     ensures { OnOk result (list.new.items ≡ list.old.items ++ spec.named_receptions from.now (local_branches branches.now)) }
 {
     for (message, next) in branches {
-        let from = from.copy(alloc)?;
-        let message = message.copy(alloc)?;
+        let from = from.copy()?;
+        let message = message.copy()?;
         list.push(Action::Receives { from, message })?;
         push_named(alloc, next, list)?;
     }

@@ -8,9 +8,9 @@ use crate::fault::ExplainFault;
 use crate::permitted::first_offence;
 use crate::queues::{received, sent};
 use scrib_types::event::Event;
-use scrib_types::message::Message;
 use scrib_types::name::Role;
 use scrib_types::protocol::Protocol;
+use scrib_types::shared_message::SharedMessage;
 use std::alloc::{AllocError, Global};
 
 /// A message that was sent and not yet received.
@@ -18,7 +18,7 @@ use std::alloc::{AllocError, Global};
 pub struct Flight {
     pub from: Role,
     pub to: Role,
-    pub message: Message,
+    pub message: SharedMessage,
 }
 
 /// The messages in flight after the log, by sender and then receiver in the order in which the roles are
@@ -84,9 +84,9 @@ fn push_between(
     let landed = received(alloc, from, to, log)?.len();
     let messages = sent(alloc, from, to, log)?;
     for i in landed..messages.len() {
-        let from = from.copy(alloc)?;
-        let to = to.copy(alloc)?;
-        let message = messages[i].copy(alloc)?;
+        let from = from.copy()?;
+        let to = to.copy()?;
+        let message = messages[i].copy()?;
         flights.push(Flight { from, to, message })?;
     }
     Ok(())

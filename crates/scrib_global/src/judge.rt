@@ -25,7 +25,7 @@ pub fn judge_whole(alloc: Global, protocol: &Protocol, log: &[Event]) -> Result<
     match first_offence(alloc, protocol, log)? {
         None => Ok(Verdict::Permitted),
         Some(at) => {
-            let role = log[at].subject().copy(alloc)?;
+            let role = log[at].subject().copy()?;
             let allowed = allowed(alloc, protocol, &log[..at], &role)?;
             Ok(Verdict::Offence {
                 place: at + 1,

@@ -87,13 +87,13 @@ fn action_of(alloc: Global, event: &Event) -> Result<Action, AllocError>
     match event {
         Event::Join { .. } => Ok(Action::Join),
         Event::Sent { to, message, .. } => {
-            let to = to.copy(alloc)?;
-            let message = message.copy(alloc)?;
+            let to = to.copy()?;
+            let message = message.copy()?;
             Ok(Action::Sends { to, message })
         }
         Event::Received { from, message, .. } => {
-            let from = from.copy(alloc)?;
-            let message = message.copy(alloc)?;
+            let from = from.copy()?;
+            let message = message.copy()?;
             Ok(Action::Receives { from, message })
         }
     }
@@ -103,18 +103,18 @@ fn action_of(alloc: Global, event: &Event) -> Result<Action, AllocError>
 pub fn event_of(alloc: Global, role: &Role, action: &Action) -> Result<Event, AllocError>
     ensures { IfOk result (λ event. event ≡ logs.event_of role.now action.now) }
 {
-    let role = role.copy(alloc)?;
+    let role = role.copy()?;
     match action {
         Action::Join => Ok(Event::Join { role }),
         Action::Sends { to, message } => {
-            let to = to.copy(alloc)?;
-            let message = message.copy(alloc)?;
+            let to = to.copy()?;
+            let message = message.copy()?;
             let from = role;
             Ok(Event::Sent { from, to, message })
         }
         Action::Receives { from, message } => {
-            let from = from.copy(alloc)?;
-            let message = message.copy(alloc)?;
+            let from = from.copy()?;
+            let message = message.copy()?;
             let to = role;
             Ok(Event::Received { from, to, message })
         }

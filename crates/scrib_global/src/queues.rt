@@ -5,8 +5,8 @@ ghost use Rattle.scrib_types.specs.Queues as queue;
 ghost use Rattle.scrib_global.specs.Due.{IsDue};
 
 use scrib_types::event::Event;
-use scrib_types::message::Message;
 use scrib_types::name::Role;
+use scrib_types::shared_message::SharedMessage;
 use std::alloc::{AllocError, Global};
 
 /// The message, where the event is that the one role sent it to the other.
@@ -15,7 +15,7 @@ fn sent_message(
     from: &Role,
     to: &Role,
     event: &Event,
-) -> Result<Option<Message>, AllocError>
+) -> Result<Option<SharedMessage>, AllocError>
     ensures { IfOk result (λ message. message ≡ queue.sent_message from.now to.now event.now) }
 {
     match event {
@@ -23,7 +23,7 @@ fn sent_message(
             from: sender,
             to: receiver,
             message,
-        } if from.equal(sender) && to.equal(receiver) => Ok(Some(message.copy(alloc)?)),
+        } if from.equal(sender) && to.equal(receiver) => Ok(Some(message.copy()?)),
         _ => Ok(None),
     }
 }
@@ -34,7 +34,7 @@ fn received_message(
     from: &Role,
     to: &Role,
     event: &Event,
-) -> Result<Option<Message>, AllocError>
+) -> Result<Option<SharedMessage>, AllocError>
     ensures { IfOk result (λ message. message ≡ queue.received_message from.now to.now event.now) }
 {
     match event {
@@ -42,7 +42,7 @@ fn received_message(
             from: sender,
             to: receiver,
             message,
-        } if from.equal(sender) && to.equal(receiver) => Ok(Some(message.copy(alloc)?)),
+        } if from.equal(sender) && to.equal(receiver) => Ok(Some(message.copy()?)),
         _ => Ok(None),
     }
 }
@@ -56,7 +56,7 @@ pub fn sent(
     from: &Role,
     to: &Role,
     log: &[Event],
-) -> Result<Vec<Message>, AllocError>
+) -> Result<Vec<SharedMessage>, AllocError>
     ensures { IfOk result (λ messages. messages.items ≡ queue.sent from.now to.now log.now) }
 {
     let mut messages = Vec::new(alloc);
@@ -75,7 +75,7 @@ pub fn received(
     from: &Role,
     to: &Role,
     log: &[Event],
-) -> Result<Vec<Message>, AllocError>
+) -> Result<Vec<SharedMessage>, AllocError>
     ensures { IfOk result (λ messages. messages.items ≡ queue.received from.now to.now log.now) }
 {
     let mut messages = Vec::new(alloc);
@@ -89,7 +89,7 @@ pub fn received(
 }
 
 /// Whether the two lists are the same.
-fn all_equal(a: &[Message], b: &[Message]) -> bool
+fn all_equal(a: &[SharedMessage], b: &[SharedMessage]) -> bool
     ensures { IsTrue result ↔ (a.now ≡ b.now) }
 {
     if a.len() != b.len() {
@@ -104,7 +104,7 @@ fn all_equal(a: &[Message], b: &[Message]) -> bool
 }
 
 /// Whether the second list begins with the first.
-fn is_prefix(a: &[Message], b: &[Message]) -> bool
+fn is_prefix(a: &[SharedMessage], b: &[SharedMessage]) -> bool
     ensures { IsTrue result ↔ queue.IsPrefix a.now b.now }
 {
     a.len() <= b.len() && all_equal(a, &b[..a.len()])

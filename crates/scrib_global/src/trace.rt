@@ -9,8 +9,8 @@ ghost use Rattle.scrib_global.specs.Steps as spec;
 use crate::unfold::{acts_first, unfold};
 use scrib_types::event::Action;
 use scrib_types::local::Local;
-use scrib_types::message::Message;
 use scrib_types::name::Role;
+use scrib_types::shared_message::SharedMessage;
 use std::alloc::{AllocError, Global};
 
 /// Whether the local type may make these actions, one after another.
@@ -53,7 +53,7 @@ fn after(alloc: Global, local: &Local, action: &Action) -> Result<Option<Local>,
 fn after_send(
     alloc: Global,
     to: &Role,
-    branches: &[(Message, Local)],
+    branches: &[(SharedMessage, Local)],
     action: &Action,
 ) -> Result<Option<Local>, AllocError>
     ensures { IfOk result (spec.Leaves (Send to.now (local_branches branches.now)) action.now) }
@@ -70,7 +70,7 @@ fn after_send(
 fn after_reception(
     alloc: Global,
     from: &Role,
-    branches: &[(Message, Local)],
+    branches: &[(SharedMessage, Local)],
     action: &Action,
 ) -> Result<Option<Local>, AllocError>
     ensures { IfOk result (spec.Leaves (Recv from.now (local_branches branches.now)) action.now) }
@@ -87,8 +87,8 @@ fn after_reception(
 /// What the first branch of the message continues as.
 fn branch_of(
     alloc: Global,
-    branches: &[(Message, Local)],
-    message: &Message,
+    branches: &[(SharedMessage, Local)],
+    message: &SharedMessage,
 ) -> Result<Option<Local>, AllocError>
     ensures { IfOk result (spec.Continues (local_branches branches.now) message.now) }
 {

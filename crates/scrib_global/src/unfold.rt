@@ -6,8 +6,8 @@ ghost use Rattle.scrib_types.specs.Traces.{unfolding_of};
 ghost use Rattle.scrib_global.specs.Unfolded as unfolded;
 
 use scrib_types::local::Local;
-use scrib_types::message::Message;
 use scrib_types::plain::{Boxed, Items};
+use scrib_types::shared_message::SharedMessage;
 use std::alloc::{AllocError, Global};
 
 /// Whether a send or a reception stands after the leading recursions.
@@ -52,13 +52,13 @@ fn put(alloc: Global, local: &Local, depth: u64, body: &Local) -> Result<Local, 
             Ok(Local::Rec(Boxed::new(alloc, inner)?))
         }
         Local::Send { to, branches } => {
-            let to = to.copy(alloc)?;
+            let to = to.copy()?;
             let branches = put_all(alloc, branches.as_slice(), depth, body)?;
             let branches = Items::from_vec(branches);
             Ok(Local::Send { to, branches })
         }
         Local::Recv { from, branches } => {
-            let from = from.copy(alloc)?;
+            let from = from.copy()?;
             let branches = put_all(alloc, branches.as_slice(), depth, body)?;
             let branches = Items::from_vec(branches);
             Ok(Local::Recv { from, branches })
@@ -69,17 +69,17 @@ fn put(alloc: Global, local: &Local, depth: u64, body: &Local) -> Result<Local, 
 #[cycle(put)]
 fn put_all(
     alloc: Global,
-    branches: &[(Message, Local)],
+    branches: &[(SharedMessage, Local)],
     depth: u64,
     body: &Local,
-) -> Result<Vec<(Message, Local)>, AllocError>
+) -> Result<Vec<(SharedMessage, Local)>, AllocError>
     ensures { IfOk result
         (λ v. unfolded.PutsAll (local_of body.now) (local_branches branches.now) depth (local_branches v.items)) }
 {
     let mut done = Vec::new(alloc);
     for (message, local) in branches {
         let local = put(alloc, local, depth, body)?;
-        let message = message.copy(alloc)?;
+        let message = message.copy()?;
         done.push((message, local))?;
     }
     Ok(done)

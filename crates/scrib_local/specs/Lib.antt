@@ -1,4 +1,5 @@
 pub mod Differences
 pub mod Merging
+pub mod Projections
 pub mod Surveys
 pub mod Text

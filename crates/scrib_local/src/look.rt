@@ -10,9 +10,9 @@ use crate::merge::Merge;
 use crate::survey::Survey;
 use scrib_types::global::GlobalType;
 use scrib_types::local::Local;
-use scrib_types::message::Message;
 use scrib_types::name::Role;
 use scrib_types::plain::{Boxed, Items};
+use scrib_types::shared_message::SharedMessage;
 use std::alloc::{AllocError, Global};
 
 /// A global type as a role sees it.
@@ -28,7 +28,7 @@ pub struct Sight {
 #[derive(Drop)]
 struct Offer {
     survey: Survey,
-    locals: Option<Items<(Message, Local)>>,
+    locals: Option<Items<(SharedMessage, Local)>>,
 }
 
 /// The branches of a communication as another role sees them.
@@ -82,7 +82,7 @@ pub fn look(alloc: Global, global: &GlobalType, role: &Role) -> Result<Sight, Al
 #[cycle(look)]
 fn look_branches(
     alloc: Global,
-    branches: &[(Message, GlobalType)],
+    branches: &[(SharedMessage, GlobalType)],
     role: &Role,
 ) -> Result<Offer, AllocError>
     ensures { IfOk result (IsOffer role.now (global_branches branches.now)) }
@@ -101,7 +101,7 @@ fn look_branches(
 #[cycle(look)]
 fn merge_branches(
     alloc: Global,
-    branches: &[(Message, GlobalType)],
+    branches: &[(SharedMessage, GlobalType)],
     role: &Role,
 ) -> Result<Others, AllocError>
     ensures { IfOk result (AreOthers role.now (global_branches branches.now)) }
@@ -119,15 +119,15 @@ fn merge_branches(
 /// One more branch, where all have projections.
 fn with_branch(
     alloc: Global,
-    locals: Option<Items<(Message, Local)>>,
-    message: &Message,
+    locals: Option<Items<(SharedMessage, Local)>>,
+    message: &SharedMessage,
     local: Option<Local>,
-) -> Result<Option<Items<(Message, Local)>>, AllocError>
+) -> Result<Option<Items<(SharedMessage, Local)>>, AllocError>
     ensures { IfOk result (λ o. o ≡ with_branch locals message.now local) }
 {
     match (locals, local) {
         (Some(mut locals), Some(local)) => {
-            let message = message.copy(alloc)?;
+            let message = message.copy()?;
             locals.push((message, local))?;
             Ok(Some(locals))
         }
@@ -171,13 +171,13 @@ fn recursion(alloc: Global, body: Sight) -> Result<Sight, AllocError>
 fn send(
     alloc: Global,
     to: &Role,
-    locals: Option<Items<(Message, Local)>>,
+    locals: Option<Items<(SharedMessage, Local)>>,
 ) -> Result<Option<Local>, AllocError>
     ensures { IfOk result (λ o. option_map local_of o ≡ option_map (Send to.now) (offered locals)) }
 {
     match locals {
         Some(branches) => {
-            let to = to.copy(alloc)?;
+            let to = to.copy()?;
             Ok(Some(Local::Send { to, branches }))
         }
         None => Ok(None),
@@ -189,13 +189,13 @@ fn send(
 fn receive(
     alloc: Global,
     from: &Role,
-    locals: Option<Items<(Message, Local)>>,
+    locals: Option<Items<(SharedMessage, Local)>>,
 ) -> Result<Option<Local>, AllocError>
     ensures { IfOk result (λ o. option_map local_of o ≡ option_map (Recv from.now) (offered locals)) }
 {
     match locals {
         Some(branches) => {
-            let from = from.copy(alloc)?;
+            let from = from.copy()?;
             Ok(Some(Local::Recv { from, branches }))
         }
         None => Ok(None),

@@ -6,7 +6,7 @@ ghost use Rattle.scrib_types.specs.Texts.{joined_by};
 ghost use Rattle.scrib_local.specs.Text as spec;
 
 use scrib_types::local::Local;
-use scrib_types::message::Message;
+use scrib_types::shared_message::SharedMessage;
 use scrib_types::text::{push_bytes, push_message, push_number};
 use std::alloc::{AllocError, Global};
 
@@ -66,7 +66,7 @@ fn push_local(out: &mut Vec<u8>, local: &Local, depth: u64) -> Result<(), AllocE
 #[cycle(text)]
 fn push_braced(
     out: &mut Vec<u8>,
-    branches: &[(Message, Local)],
+    branches: &[(SharedMessage, Local)],
     depth: u64,
 ) -> Result<(), AllocError>
     requires { depth ≤ length out.old.items }
@@ -84,7 +84,7 @@ fn push_braced(
 }
 
 #[tactic(auto, using(crate::proofs::Texts::one, crate::proofs::Texts::not_one))]
-fn is_one(branches: &[(Message, Local)]) -> bool
+fn is_one(branches: &[(SharedMessage, Local)]) -> bool
     ensures { result ≡ spec.is_one (local_branches branches.now) }
 {
     if branches.len() == 1 {
@@ -97,7 +97,7 @@ fn is_one(branches: &[(Message, Local)]) -> bool
 #[cycle(text)]
 fn push_branches(
     out: &mut Vec<u8>,
-    branches: &[(Message, Local)],
+    branches: &[(SharedMessage, Local)],
     depth: u64,
 ) -> Result<(), AllocError>
     requires { depth ≤ length out.old.items }
@@ -107,7 +107,7 @@ fn push_branches(
         if i > 0 {
             push_bytes(out, b",")?;
         }
-        push_message(out, message)?;
+        push_message(out, message.get())?;
         push_bytes(out, b".")?;
         push_local(out, local, depth)?;
     }

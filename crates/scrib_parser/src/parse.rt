@@ -13,6 +13,7 @@ use scrib_lexer::token::{Keyword, Token, TokenKind};
 use scrib_types::message::{Message, Payload};
 use scrib_types::name::{Dotted, Name};
 use scrib_types::plain::Items;
+use scrib_types::shared_message::SharedMessage;
 use scrib_types::spot::Spot;
 use std::alloc::Global;
 
@@ -355,7 +356,7 @@ fn message(alloc: Global, tokens: &mut Cursor) -> Result<Statement, ParseFault>
     tokens.take(TokenKind::Keyword(Keyword::To))?;
     let to = names(alloc, tokens)?;
     tokens.take(TokenKind::Semicolon)?;
-    let message = Message { op, payload };
+    let message = SharedMessage::new(alloc, Message { op, payload })?;
     Ok(Statement::Message {
         message,
         from,
@@ -461,5 +462,5 @@ fn dotted_from(alloc: Global, first: Name, tokens: &mut Cursor) -> Result<Dotted
         tokens.take(TokenKind::Dot)?;
         names.push(tokens.name(alloc)?)?;
     }
-    Ok(Dotted::from_vec(names))
+    Ok(Dotted::from_vec(alloc, names)?)
 }

@@ -1,8 +1,8 @@
 //! Module trees.
 
-use scrib_types::message::Message;
 use scrib_types::name::{Dotted, Name, Role};
 use scrib_types::plain::Items;
+use scrib_types::shared_message::SharedMessage;
 use scrib_types::spot::Spot;
 
 /// A module: its full name, its imports and its protocols, each in the order of the text. A type
@@ -46,7 +46,7 @@ pub struct RoleDeclaration {
 pub enum Statement {
     /// A message from a role to each of one or more roles, in order.
     Message {
-        message: Message,
+        message: SharedMessage,
         from: Role,
         to: Items<Role>,
         spot: Spot,

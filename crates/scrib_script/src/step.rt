@@ -7,8 +7,8 @@ ghost use Rattle.scrib_script.specs.Steps.{Makes, MakesStep, IsExchange};
 use crate::text::{dotted_of, message_of, number_of};
 use scrib_core::step::Step;
 use scrib_types::event::Event;
-use scrib_types::message::Message;
 use scrib_types::name::{Name, Role};
+use scrib_types::shared_message::SharedMessage;
 use std::alloc::{AllocError, Global};
 
 // Who sends what to whom.
@@ -16,7 +16,7 @@ use std::alloc::{AllocError, Global};
 struct Exchange {
     from: Role,
     to: Role,
-    message: Message,
+    message: SharedMessage,
 }
 
 // The step that the fields make, if they make one.

@@ -5,6 +5,7 @@ ghost use Rattle.scrib_script.specs.Fields.{Finds, IsNumber, IsDottedText, IsOpe
 
 use scrib_types::message::{Message, Payload};
 use scrib_types::name::{Dotted, Name};
+use scrib_types::shared_message::SharedMessage;
 use std::alloc::{AllocError, Global};
 
 // The most digits of a number.
@@ -38,7 +39,7 @@ pub(crate) fn dotted_of(alloc: Global, bytes: &[u8]) -> Result<Option<Dotted>, A
         };
         names.push(name)?;
     }
-    Ok(Some(Dotted::from_vec(names)))
+    Ok(Some(Dotted::from_vec(alloc, names)?))
 }
 
 // The operator, or none, that the text before a message's parenthesis is.
@@ -78,7 +79,7 @@ fn parts_of(bytes: &[u8]) -> Option<(&[u8], &[u8])>
 }
 
 // The message whose printed text this is, if there is one.
-pub(crate) fn message_of(alloc: Global, bytes: &[u8]) -> Result<Option<Message>, AllocError>
+pub(crate) fn message_of(alloc: Global, bytes: &[u8]) -> Result<Option<SharedMessage>, AllocError>
     ensures { IfOk result (Finds (IsMessageText bytes.now)) }
 {
     let Some((before, between)) = parts_of(bytes) else {
@@ -90,5 +91,5 @@ pub(crate) fn message_of(alloc: Global, bytes: &[u8]) -> Result<Option<Message>,
     let Some(payload) = payload_of(alloc, between)? else {
         return Ok(None);
     };
-    Ok(Some(Message { op, payload }))
+    Ok(Some(SharedMessage::new(alloc, Message { op, payload })?))
 }

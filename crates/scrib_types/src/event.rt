@@ -3,17 +3,17 @@
 ghost use Rattle.std.specs.Prelude.{◌≡◌, IfOk};
 ghost use Rattle.scrib_types.specs.Logs.{subject_of};
 
-use crate::message::Message;
 use crate::name::Role;
+use crate::shared_message::SharedMessage;
 use sqlite_items::Items;
-use std::alloc::{AllocError, Global};
+use std::alloc::AllocError;
 
 /// What one role may do next: join, send a message to another role, or receive one from it.
 #[derive(Drop)]
 pub enum Action {
     Join,
-    Sends { to: Role, message: Message },
-    Receives { from: Role, message: Message },
+    Sends { to: Role, message: SharedMessage },
+    Receives { from: Role, message: SharedMessage },
 }
 
 /// One entry of a conversation's log: a role joined, a role sent a message to another, or a role
@@ -26,12 +26,12 @@ pub enum Event {
     Sent {
         from: Role,
         to: Role,
-        message: Message,
+        message: SharedMessage,
     },
     Received {
         from: Role,
         to: Role,
-        message: Message,
+        message: SharedMessage,
     },
 }
 
@@ -50,25 +50,25 @@ impl Event {
     /// The same event once more.
     ///
     /// # Errors
-    /// `AllocError` where memory for the copy is refused.
-    pub fn copy(&self, alloc: Global) -> Result<Event, AllocError>
+    /// `AllocError` where the count of those who share a name or the message can't rise.
+    pub fn copy(&self) -> Result<Event, AllocError>
         ensures { IfOk result (λ event. event ≡ self.now) }
     {
         match self {
             Event::Join { role } => {
-                let role = role.copy(alloc)?;
+                let role = role.copy()?;
                 Ok(Event::Join { role })
             }
             Event::Sent { from, to, message } => {
-                let from = from.copy(alloc)?;
-                let to = to.copy(alloc)?;
-                let message = message.copy(alloc)?;
+                let from = from.copy()?;
+                let to = to.copy()?;
+                let message = message.copy()?;
                 Ok(Event::Sent { from, to, message })
             }
             Event::Received { from, to, message } => {
-                let from = from.copy(alloc)?;
-                let to = to.copy(alloc)?;
-                let message = message.copy(alloc)?;
+                let from = from.copy()?;
+                let to = to.copy()?;
+                let message = message.copy()?;
                 Ok(Event::Received { from, to, message })
             }
         }

@@ -2,8 +2,8 @@
 
 ghost use Rattle.std.specs.Prelude.{◌≡◌, ◌↔◌, IsTrue, IfOk};
 
-use crate::message::Message;
 use crate::name::Role;
+use crate::shared_message::SharedMessage;
 use sqlite_items::{Boxed, Items};
 use std::alloc::{AllocError, Global};
 
@@ -17,7 +17,7 @@ pub enum GlobalType {
     Comm {
         from: Role,
         to: Role,
-        branches: Items<(Message, GlobalType)>,
+        branches: Items<(SharedMessage, GlobalType)>,
     },
 }
 
@@ -63,8 +63,8 @@ impl GlobalType {
                 Ok(GlobalType::Rec(Boxed::new(alloc, body)?))
             }
             GlobalType::Comm { from, to, branches } => {
-                let from = from.copy(alloc)?;
-                let to = to.copy(alloc)?;
+                let from = from.copy()?;
+                let to = to.copy()?;
                 let branches = copy_branches(alloc, branches.as_slice())?;
                 let branches = Items::from_vec(branches);
                 Ok(GlobalType::Comm { from, to, branches })
@@ -74,7 +74,7 @@ impl GlobalType {
 }
 
 #[cycle(equal)]
-fn branches_equal(a: &[(Message, GlobalType)], b: &[(Message, GlobalType)]) -> bool
+fn branches_equal(a: &[(SharedMessage, GlobalType)], b: &[(SharedMessage, GlobalType)]) -> bool
     ensures { IsTrue result ↔ (a.now ≡ b.now) }
 {
     if a.len() != b.len() {
@@ -96,13 +96,13 @@ fn branches_equal(a: &[(Message, GlobalType)], b: &[(Message, GlobalType)]) -> b
 #[cycle(copy)]
 fn copy_branches(
     alloc: Global,
-    branches: &[(Message, GlobalType)],
-) -> Result<Vec<(Message, GlobalType)>, AllocError>
+    branches: &[(SharedMessage, GlobalType)],
+) -> Result<Vec<(SharedMessage, GlobalType)>, AllocError>
     ensures { IfOk result (λ copies. copies.items ≡ branches.now) }
 {
     let mut copies = Vec::new(alloc);
     for (message, global) in branches {
-        let message = message.copy(alloc)?;
+        let message = message.copy()?;
         let global = GlobalType::copy(alloc, global)?;
         copies.push((message, global))?;
     }

@@ -7,6 +7,7 @@ pub mod local;
 pub mod message;
 pub mod name;
 pub mod protocol;
+pub mod shared_message;
 pub mod spot;
 pub mod text;
 

@@ -2,8 +2,8 @@
 
 ghost use Rattle.std.specs.Prelude.{◌≡◌, ◌↔◌, IsTrue, IfOk};
 
-use crate::message::Message;
 use crate::name::Role;
+use crate::shared_message::SharedMessage;
 use sqlite_items::{Boxed, Items};
 use std::alloc::{AllocError, Global};
 
@@ -16,11 +16,11 @@ pub enum Local {
     Rec(Boxed<Local>),
     Send {
         to: Role,
-        branches: Items<(Message, Local)>,
+        branches: Items<(SharedMessage, Local)>,
     },
     Recv {
         from: Role,
-        branches: Items<(Message, Local)>,
+        branches: Items<(SharedMessage, Local)>,
     },
 }
 
@@ -74,13 +74,13 @@ impl Local {
                 Ok(Local::Rec(Boxed::new(alloc, body)?))
             }
             Local::Send { to, branches } => {
-                let to = to.copy(alloc)?;
+                let to = to.copy()?;
                 let branches = copy_branches(alloc, branches.as_slice())?;
                 let branches = Items::from_vec(branches);
                 Ok(Local::Send { to, branches })
             }
             Local::Recv { from, branches } => {
-                let from = from.copy(alloc)?;
+                let from = from.copy()?;
                 let branches = copy_branches(alloc, branches.as_slice())?;
                 let branches = Items::from_vec(branches);
                 Ok(Local::Recv { from, branches })
@@ -90,7 +90,7 @@ impl Local {
 }
 
 #[cycle(equal)]
-fn branches_equal(a: &[(Message, Local)], b: &[(Message, Local)]) -> bool
+fn branches_equal(a: &[(SharedMessage, Local)], b: &[(SharedMessage, Local)]) -> bool
     ensures { IsTrue result ↔ (a.now ≡ b.now) }
 {
     if a.len() != b.len() {
@@ -112,13 +112,13 @@ fn branches_equal(a: &[(Message, Local)], b: &[(Message, Local)]) -> bool
 #[cycle(copy)]
 fn copy_branches(
     alloc: Global,
-    branches: &[(Message, Local)],
-) -> Result<Vec<(Message, Local)>, AllocError>
+    branches: &[(SharedMessage, Local)],
+) -> Result<Vec<(SharedMessage, Local)>, AllocError>
     ensures { IfOk result (λ copies. copies.items ≡ branches.now) }
 {
     let mut copies = Vec::new(alloc);
     for (message, local) in branches {
-        let message = message.copy(alloc)?;
+        let message = message.copy()?;
         let local = Local::copy(alloc, local)?;
         copies.push((message, local))?;
     }

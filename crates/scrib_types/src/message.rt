@@ -1,9 +1,8 @@
 //! Messages: an operator, or none, and the types of what is carried.
 
-ghost use Rattle.std.specs.Prelude.{◌≡◌, ◌↔◌, IsTrue, IfOk};
+ghost use Rattle.std.specs.Prelude.{◌≡◌, ◌↔◌, IsTrue};
 
 use crate::name::{Dotted, Name};
-use std::alloc::{AllocError, Global};
 use std::marker::Model;
 
 /// The names of the types that a message carries, in order. Contracts see the list.
@@ -41,17 +40,6 @@ impl Payload {
     {
         sorts_equal(&self.sorts, &other.sorts)
     }
-
-    /// The same once more.
-    ///
-    /// # Errors
-    /// `AllocError` where memory for the copy is refused.
-    pub fn copy(&self, alloc: Global) -> Result<Payload, AllocError>
-        ensures { IfOk result (λ payload. payload ≡ self.now) }
-    {
-        let sorts = copy_sorts(alloc, &self.sorts)?;
-        Ok(Payload { sorts })
-    }
 }
 
 /// What is sent and received. Two messages are equal where both the operator and the payload agree
@@ -68,21 +56,6 @@ impl Message {
         ensures { IsTrue result ↔ (self.now ≡ other.now) }
     {
         operators_equal(&self.op, &other.op) && self.payload.equal(&other.payload)
-    }
-
-    /// The same once more.
-    ///
-    /// # Errors
-    /// `AllocError` where memory for the copy is refused.
-    pub fn copy(&self, alloc: Global) -> Result<Message, AllocError>
-        ensures { IfOk result (λ message. message ≡ self.now) }
-    {
-        let op = match &self.op {
-            Some(name) => Some(name.copy(alloc)?),
-            None => None,
-        };
-        let payload = self.payload.copy(alloc)?;
-        Ok(Message { op, payload })
     }
 }
 
@@ -109,14 +82,4 @@ fn sorts_equal(a: &[Dotted], b: &[Dotted]) -> bool
         }
     }
     true
-}
-
-fn copy_sorts(alloc: Global, sorts: &[Dotted]) -> Result<Vec<Dotted>, AllocError>
-    ensures { IfOk result (λ copies. copies.items ≡ sorts.now) }
-{
-    let mut copies = Vec::with_capacity(alloc, sorts.len())?;
-    for sort in sorts {
-        copies.push(sort.copy(alloc)?)?;
-    }
-    Ok(copies)
 }

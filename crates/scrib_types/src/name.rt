@@ -6,15 +6,16 @@ ghost use Rattle.scrib_types.specs.Names as names;
 
 use std::alloc::{AllocError, Global};
 use std::marker::Model;
+use std::sync::Arc;
 
 /// The most bytes that a name may have.
 pub const MAX_NAME_BYTES: usize = 128;
 
 /// A name: an ASCII letter or underscore, then letters, digits and underscores, 1 to 128 bytes in all.
-/// Contracts see its bytes.
+/// Copies share the bytes. Contracts see its bytes.
 #[derive(Drop)]
 pub struct Name {
-    bytes: Vec<u8>,
+    bytes: Arc<Vec<u8>>,
 }
 
 /// A role of a protocol.
@@ -26,9 +27,9 @@ impl Model for Name {
 
     ghost Value = { List ℕ };
 
-    ghost view = { λ n. n.bytes.items };
+    ghost view = { λ n. n.bytes.value.items };
 
-    ghost invariant = { λ n. IsTrue (is_name n.bytes.items) };
+    ghost invariant = { λ n. IsTrue (is_name n.bytes.value.items) };
 }
 
 impl Name {
@@ -42,7 +43,7 @@ impl Name {
         if !is_name(bytes) {
             return Ok(None);
         }
-        let bytes = Vec::from_slice(alloc, bytes)?;
+        let bytes = Arc::new(alloc, Vec::from_slice(alloc, bytes)?)?;
         Ok(Some(Name { bytes }))
     }
 
@@ -64,19 +65,19 @@ impl Name {
     /// The same name once more.
     ///
     /// # Errors
-    /// `AllocError` where memory for the copy is refused.
-    pub fn copy(&self, alloc: Global) -> Result<Name, AllocError>
+    /// `AllocError` where the count of those who share the bytes can't rise.
+    pub fn copy(&self) -> Result<Name, AllocError>
         ensures { IfOk result (λ name. name ≡ self.now) }
     {
-        let bytes = Vec::from_slice(alloc, &self.bytes)?;
+        let bytes = self.bytes.clone()?;
         Ok(Name { bytes })
     }
 }
 
-/// One or more names, joined by dots. Contracts see the list of the names.
+/// One or more names, joined by dots. Copies share the list. Contracts see the list of the names.
 #[derive(Drop)]
 pub struct Dotted {
-    names: Vec<Name>,
+    names: Arc<Vec<Name>>,
 }
 
 impl Model for Dotted {
@@ -84,18 +85,22 @@ impl Model for Dotted {
 
     ghost Value = { List (List ℕ) };
 
-    ghost view = { λ d. d.names.items };
+    ghost view = { λ d. d.names.value.items };
 
-    ghost invariant = { λ d. 0 < length d.names.items };
+    ghost invariant = { λ d. 0 < length d.names.value.items };
 }
 
 impl Dotted {
     /// The names joined.
-    pub fn from_vec(names: Vec<Name>) -> Dotted
+    ///
+    /// # Errors
+    /// `AllocError` where memory for them is refused.
+    pub fn from_vec(alloc: Global, names: Vec<Name>) -> Result<Dotted, AllocError>
         requires { 0 < length names.items }
-        ensures { result ≡ names.items }
+        ensures { IfOk result (λ dotted. dotted ≡ names.items) }
     {
-        Self { names }
+        let names = Arc::new(alloc, names)?;
+        Ok(Dotted { names })
     }
 
     /// The names, from the first.
@@ -116,11 +121,11 @@ impl Dotted {
     /// The same once more.
     ///
     /// # Errors
-    /// `AllocError` where memory for the copy is refused.
-    pub fn copy(&self, alloc: Global) -> Result<Dotted, AllocError>
+    /// `AllocError` where the count of those who share the names can't rise.
+    pub fn copy(&self) -> Result<Dotted, AllocError>
         ensures { IfOk result (λ dotted. dotted ≡ self.now) }
     {
-        let names = copy_names(alloc, &self.names)?;
+        let names = self.names.clone()?;
         Ok(Dotted { names })
     }
 }
@@ -172,14 +177,4 @@ fn names_equal(a: &[Name], b: &[Name]) -> bool
         }
     }
     true
-}
-
-fn copy_names(alloc: Global, names: &[Name]) -> Result<Vec<Name>, AllocError>
-    ensures { IfOk result (λ copies. copies.items ≡ names.now) }
-{
-    let mut copies = Vec::with_capacity(alloc, names.len())?;
-    for name in names {
-        copies.push(name.copy(alloc)?)?;
-    }
-    Ok(copies)
 }

@@ -98,12 +98,12 @@ pub fn push_action(out: &mut Vec<u8>, action: &Action) -> Result<(), AllocError>
         Action::Sends { to, message } => {
             push_bytes(out, to.as_bytes())?;
             push_bytes(out, b"!")?;
-            push_message(out, message)
+            push_message(out, message.get())
         }
         Action::Receives { from, message } => {
             push_bytes(out, from.as_bytes())?;
             push_bytes(out, b"?")?;
-            push_message(out, message)
+            push_message(out, message.get())
         }
     }
 }

@@ -8,8 +8,8 @@ ghost use Rattle.scrib_walk.specs.Steps.{AreOffers};
 use crate::unfold::{leads_to_choice, unfold};
 use scrib_types::event::Action;
 use scrib_types::local::Local;
-use scrib_types::message::Message;
 use scrib_types::name::Role;
+use scrib_types::shared_message::SharedMessage;
 use std::alloc::{AllocError, Global};
 
 /// The actions that the local type can make, in the order of its branches.
@@ -35,13 +35,17 @@ pub fn offers(alloc: Global, local: &Local) -> Result<Vec<Action>, AllocError>
 }
 
 /// A send of each branch's message.
-fn sends(alloc: Global, to: &Role, branches: &[(Message, Local)]) -> Result<Vec<Action>, AllocError>
+fn sends(
+    alloc: Global,
+    to: &Role,
+    branches: &[(SharedMessage, Local)],
+) -> Result<Vec<Action>, AllocError>
     ensures { IfOk result (λ acts. acts.items ≡ map (λ b. Sends to.now b.0) branches.now) }
 {
     let mut actions = Vec::with_capacity(alloc, branches.len())?;
     for (message, _) in branches {
-        let to = to.copy(alloc)?;
-        let message = message.copy(alloc)?;
+        let to = to.copy()?;
+        let message = message.copy()?;
         actions.push(Action::Sends { to, message })?;
     }
     Ok(actions)
@@ -51,14 +55,14 @@ fn sends(alloc: Global, to: &Role, branches: &[(Message, Local)]) -> Result<Vec<
 fn receptions(
     alloc: Global,
     from: &Role,
-    branches: &[(Message, Local)],
+    branches: &[(SharedMessage, Local)],
 ) -> Result<Vec<Action>, AllocError>
     ensures { IfOk result (λ acts. acts.items ≡ map (λ b. Receives from.now b.0) branches.now) }
 {
     let mut actions = Vec::with_capacity(alloc, branches.len())?;
     for (message, _) in branches {
-        let from = from.copy(alloc)?;
-        let message = message.copy(alloc)?;
+        let from = from.copy()?;
+        let message = message.copy()?;
         actions.push(Action::Receives { from, message })?;
     }
     Ok(actions)

@@ -1,6 +1,7 @@
 //! One action of a local type.
 
 ghost use Rattle.std.specs.Prelude.{◌≡◌, ◌<◌, IfOk, MatchOption, Some, length, slice_get};
+ghost use Rattle.scrib_types.specs.declared.message.Message.{Message};
 ghost use Rattle.scrib_types.specs.LocalView.{local_of, local_branches};
 ghost use Rattle.scrib_types.specs.Traces.{Offers};
 ghost use Rattle.scrib_types.specs.Trees.{Send, Recv};
@@ -10,9 +11,9 @@ ghost use Rattle.scrib_walk.specs.Unfold.{OffersNone};
 use crate::unfold::{leads_to_choice, unfold};
 use scrib_types::event::Action;
 use scrib_types::local::Local;
-use scrib_types::message::Message;
 use scrib_types::name::Role;
 use scrib_types::plain::Items;
+use scrib_types::shared_message::SharedMessage;
 use std::alloc::{AllocError, Global};
 
 /// The local type after the action, or `None` where the type can't make it.
@@ -38,7 +39,7 @@ pub fn step(alloc: Global, local: Local, action: &Action) -> Result<Option<Local
 }
 
 /// What follows the action in a choice of sends to the role.
-fn after_send(to: &Role, branches: Items<(Message, Local)>, action: &Action) -> Option<Local>
+fn after_send(to: &Role, branches: Items<(SharedMessage, Local)>, action: &Action) -> Option<Local>
     ensures { StepGives (Send to.now (local_branches branches)) action.now result }
 {
     match action {
@@ -48,7 +49,11 @@ fn after_send(to: &Role, branches: Items<(Message, Local)>, action: &Action) -> 
 }
 
 /// What follows the action in a choice of receptions from the role.
-fn after_reception(from: &Role, branches: Items<(Message, Local)>, action: &Action) -> Option<Local>
+fn after_reception(
+    from: &Role,
+    branches: Items<(SharedMessage, Local)>,
+    action: &Action,
+) -> Option<Local>
     ensures { StepGives (Recv from.now (local_branches branches)) action.now result }
 {
     match action {
@@ -61,7 +66,7 @@ fn after_reception(from: &Role, branches: Items<(Message, Local)>, action: &Acti
 }
 
 /// What follows in the branch of the message.
-fn take(mut branches: Items<(Message, Local)>, message: &Message) -> Option<Local>
+fn take(mut branches: Items<(SharedMessage, Local)>, message: &SharedMessage) -> Option<Local>
     ensures { MatchOption result
         (OffersNone (local_branches branches) message.now)
         (λ next. Offers (local_branches branches) message.now (local_of next)) }
@@ -72,7 +77,7 @@ fn take(mut branches: Items<(Message, Local)>, message: &Message) -> Option<Loca
 }
 
 /// The place of the first branch that has the message.
-fn branch_of(branches: &[(Message, Local)], message: &Message) -> Option<usize>
+fn branch_of(branches: &[(SharedMessage, Local)], message: &SharedMessage) -> Option<usize>
     ensures { MatchOption result
         (OffersNone (local_branches branches.now) message.now)
         (λ at. (at < length branches.now)

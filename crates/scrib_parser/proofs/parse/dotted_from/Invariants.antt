@@ -4,8 +4,8 @@ use Rattle.scrib_parser.specs.Reading as reading
 use Rattle.scrib_parser.proofs.Loop.{with_front}
 use Rattle.scrib_parser.proofs.parse.dotted_from.Given as goal
 
-abbrev pub invariant-loop-alloc : goal.invariant-loop-alloc
-invariant-loop-alloc l = (with_front l.names.items (reading.dots_of (lexemes_of l.tokens.rest.now)) ≡ reading.dotted_from l.fn.first (lexemes_of l.fn.tokens.rest.now)) × (0 < length l.names.items)
+abbrev pub invariant-loop-tokens : goal.invariant-loop-tokens
+invariant-loop-tokens l = (with_front l.names.items (reading.dots_of (lexemes_of l.tokens.rest.now)) ≡ reading.dotted_from l.fn.first (lexemes_of l.fn.tokens.rest.now)) × (0 < length l.names.items)
 
-abbrev pub decreases-loop-alloc : goal.decreases-loop-alloc
-decreases-loop-alloc l = length (lexemes_of l.tokens.rest.now)
+abbrev pub decreases-loop-tokens : goal.decreases-loop-tokens
+decreases-loop-tokens l = length (lexemes_of l.tokens.rest.now)
