@@ -10,7 +10,7 @@ use Rattle.scrib_elaborate.specs.Source.{Body, Done, Then, Step, Sends, Chooses,
 use Rattle.scrib_elaborate.specs.SourceView.{body_of}
 use Rattle.scrib_elaborate.specs.Names.{Declaration, called}
 use Rattle.scrib_elaborate.specs.Elaboration.{Scope, inside, inside_call, Frames, NoFrame, Under, Types, ends, closes, sends, chooses, repeats, passes, continues, calls, JoinsTo, joins_none, joins}
-use Rattle.scrib_elaborate.specs.Faults.{blocks_before, Needs, needs_itself, needs_close, needs_sends, needs_branch, needs_repeats, needs_passes, needs_calls, IsNeeded, IsBranch, IsOneOf, FailsTyping}
+use Rattle.scrib_elaborate.specs.Faults.{blocks_before, Needs, needs_itself, needs_close, needs_sends, needs_branch, needs_repeats, needs_passes, needs_calls, IsNeeded, IsBranch, IsOneOf, IsFirstBlock, FailsTyping}
 use Rattle.scrib_elaborate.specs.Staying.{Stays, AllStay, none_stays, all_stay}
 use Rattle.scrib_elaborate.proofs.Staying.{of_then, of_done, of_sends, of_chooses, of_repeats, of_calls, of_or}
 
@@ -161,6 +161,15 @@ earlier_onto {bs = bs} more v h = record {
   typed = types_onto h.typed more (block_never bs h.before h.body h.spot h.after h.here v);
 }
 
+first_onto : {ms : List ModuleTree} {n : ℕ} {sc : Scope} {fs : Frames} {bs : Blocks} {p q : List ℕ} {cs : GlobalBranches} (more : Frames) → NeverAny ms sc bs fs → IsFirstBlock ms n sc fs bs p q cs → IsFirstBlock ms n sc (onto fs more) bs p q cs
+first_onto {bs = bs} more v h = record {
+  body = h.body;
+  spot = h.spot;
+  after = h.after;
+  here = h.here;
+  typed = types_onto h.typed more (block_never bs NoBlock h.body h.spot h.after h.here v);
+}
+
 branch_earlier : {ms : List ModuleTree} {k : ℕ} {from : Frames} {d : Declaration} {spot : Spot} (b : IsBranch ms k from d spot) → Never ms from → NeverAny ms b.scope b.before b.follows
 branch_earlier {spot = spot} b v = earlier_never b.before b.body spot b.after (never_needed b.needed v)
 
@@ -191,25 +200,20 @@ fails_onto kind.NotChooser n more d spot v h = record {
 }
 fails_onto kind.TwoReceivers n more d spot v h = record {
   branch = branch_onto more v h.branch;
-  sender = h.sender;
   receiver = h.receiver;
   branches = h.branches;
   is = h.is;
-  first_sender = h.first_sender;
   first_receiver = h.first_receiver;
   first_branches = h.first_branches;
-  earlier = earlier_onto more (branch_earlier h.branch v) h.earlier;
+  first = first_onto more (branch_earlier h.branch v) h.first;
   another = h.another;
 }
 fails_onto kind.SameOperator n more d spot v h = record {
   branch = branch_onto more v h.branch;
-  sender = h.sender;
   receiver = h.receiver;
   branches = h.branches;
   is = h.is;
-  first_sender = h.first_sender;
-  first_receiver = h.first_receiver;
-  first_branches = h.first_branches;
+  earlier_branches = h.earlier_branches;
   earlier = earlier_onto more (branch_earlier h.branch v) h.earlier;
   shared = h.shared;
 }

@@ -26,7 +26,7 @@ use Rattle.scrib_elaborate.specs.Source.{Body, Then, Chooses, Blocks, NoBlock, O
 use Rattle.scrib_elaborate.specs.SourceView.{body_of, blocks_of}
 use Rattle.scrib_elaborate.specs.Names.{Declaration}
 use Rattle.scrib_elaborate.specs.Elaboration.{Scope, role_in, Frames, Under, and_branches, sent, Types, ends, closes, sends, chooses, repeats, passes, continues, calls, JoinsTo, joins_none, joins, start_of}
-use Rattle.scrib_elaborate.specs.Faults.{Stands, StandsIn, in_this, in_other, in_choice, Reaches, blocks_before, Needs, needs_itself, needs_branch, IsBranch, IsOneOf, share_operator, FailsTyping}
+use Rattle.scrib_elaborate.specs.Faults.{Stands, StandsIn, in_this, in_other, in_choice, Reaches, blocks_before, Needs, needs_itself, needs_branch, IsBranch, IsOneOf, IsFirstBlock, share_operator, FailsTyping}
 use Rattle.scrib_elaborate.specs.Standing.{scope_of, IsSame}
 use Rattle.scrib_elaborate.specs.Typing.{type_of, FailsUp, AreTyped, Path, IsState, IsBefore, IsChoosing, IsFirst, IsAdded, HeadFails, IsHeadFault, TypingFails}
 use Rattle.scrib_elaborate.proofs.Needed.{fails_through}
@@ -234,12 +234,12 @@ one_joined ms n sc fs p bs old new cs ds b s g a d t =
       different = ap distinct_operators d.joined ∙ distinct_and cs d.branches a.different fine.1 d.apart;
     }
 
--- one of the blocks that join
+-- the first of the blocks that join, and one that shares an operator
 
-one_of : {ms : List ModuleTree} {n : ℕ} {sc : Scope} {bs : Blocks} {fs : Frames} {p q : List ℕ} {cs : GlobalBranches} → JoinsTo ms n sc bs fs p q cs → has_branches cs ≡ true → (ds : GlobalBranches) × IsOneOf ms n sc fs bs p q ds
-one_of joins_none h = absurd (false≢true h)
-one_of {ms = ms} {n = n} {sc = sc} {fs = fs} (joins {b = b} {s = s} {bs = bs} {cs = cs} t e j f) h =
-    (cs, record { before = NoBlock; body = b; spot = s; after = bs; here = refl; typed = subst (λ x. Types ms n (Under sc b fs) x) e t })
+first_of : {ms : List ModuleTree} {n : ℕ} {sc : Scope} {bs : Blocks} {fs : Frames} {p q : List ℕ} {cs : GlobalBranches} → JoinsTo ms n sc bs fs p q cs → has_branches cs ≡ true → (ds : GlobalBranches) × IsFirstBlock ms n sc fs bs p q ds
+first_of joins_none h = absurd (false≢true h)
+first_of {ms = ms} {n = n} {sc = sc} {fs = fs} (joins {b = b} {s = s} {bs = bs} {cs = cs} t e j f) h =
+    (cs, record { body = b; spot = s; after = bs; here = refl; typed = subst (λ x. Types ms n (Under sc b fs) x) e t })
 
 shared_one : {ms : List ModuleTree} {n : ℕ} {sc : Scope} {bs : Blocks} {fs : Frames} {p q : List ℕ} {cs : GlobalBranches} (es : GlobalBranches) → JoinsTo ms n sc bs fs p q cs → share_operator cs es ≡ true
     → (ds : GlobalBranches) × IsOneOf ms n sc fs bs p q ds × (share_operator ds es ≡ true)
@@ -292,17 +292,15 @@ head_fails kind.NotChooser ms n sc at bs i b spot rest outer receiver cs g there
 }
 head_fails kind.TwoReceivers ms n sc at bs i b spot rest outer receiver cs g there a t h =
     let j = a.some h.1 h.4 in
-    let one = one_of j.0 j.1 in
+    let first = first_of j.0 j.1 in
     record {
       branch = the_branch ms n sc at bs i b spot rest outer g there t;
-      sender = role_in sc at;
       receiver = h.0;
       branches = h.2;
       is = h.3;
-      first_sender = role_in sc at;
       first_receiver = h.1;
-      first_branches = one.0;
-      earlier = one.1;
+      first_branches = first.0;
+      first = first.1;
       another = λ e. h.5 (sym e);
     }
 head_fails kind.SameOperator ms n sc at bs i b spot rest outer receiver cs g there a t h =
@@ -310,13 +308,10 @@ head_fails kind.SameOperator ms n sc at bs i b spot rest outer receiver cs g the
     let one = shared_one h.1 j h.4 in
     record {
       branch = the_branch ms n sc at bs i b spot rest outer g there t;
-      sender = role_in sc at;
       receiver = h.0;
       branches = h.1;
       is = h.2;
-      first_sender = role_in sc at;
-      first_receiver = h.0;
-      first_branches = one.0;
+      earlier_branches = one.0;
       earlier = one.1;
       shared = one.2;
     }

@@ -10,7 +10,7 @@ use Rattle.scrib_elaborate.specs.Source.{Body, Then, Step, Repeats, Blocks, NoBl
 use Rattle.scrib_elaborate.specs.Names.{Declaration, called}
 use Rattle.scrib_elaborate.specs.Statements.{protocol_keeps, BlockKeeps, end_keeps, then_keeps, StepKeeps, sends_keeps, chooses_keeps, repeats_keeps, continues_keeps, calls_keeps, BlocksKeep, none_keeps, or_keeps}
 use Rattle.scrib_elaborate.specs.Elaboration.{continues_in, Scope, inside, inside_call, Frames, Under, Types}
-use Rattle.scrib_elaborate.specs.Faults.{blocks_before, Needs, needs_itself, needs_close, needs_sends, needs_branch, needs_repeats, needs_passes, needs_calls, IsNeeded, IsBranch, IsOneOf, FailsTyping}
+use Rattle.scrib_elaborate.specs.Faults.{blocks_before, Needs, needs_itself, needs_close, needs_sends, needs_branch, needs_repeats, needs_passes, needs_calls, IsNeeded, IsBranch, IsOneOf, IsFirstBlock, FailsTyping}
 use Rattle.scrib_elaborate.specs.Lifting.{lifted, branches_lifted, AreBelow}
 use Rattle.scrib_elaborate.proofs.Lifted.{raised_scope, raised, inside_raised, lift_types, leads_lifted, share_lifted, raised_stay, below_more}
 
@@ -156,25 +156,20 @@ fails_through kind.NotChooser d spot u h = record {
 }
 fails_through kind.TwoReceivers d spot u h = record {
   branch = branch_from u h.branch;
-  sender = h.sender;
   receiver = h.receiver;
   branches = h.branches;
   is = h.is;
-  first_sender = h.first_sender;
   first_receiver = h.first_receiver;
   first_branches = h.first_branches;
-  earlier = h.earlier;
+  first = h.first;
   another = h.another;
 }
 fails_through kind.SameOperator d spot u h = record {
   branch = branch_from u h.branch;
-  sender = h.sender;
   receiver = h.receiver;
   branches = h.branches;
   is = h.is;
-  first_sender = h.first_sender;
-  first_receiver = h.first_receiver;
-  first_branches = h.first_branches;
+  earlier_branches = h.earlier_branches;
   earlier = h.earlier;
   shared = h.shared;
 }
@@ -221,6 +216,10 @@ earlier_deeper c k e h = record {
   typed = lift_types h.typed c k e;
 }
 
+first_deeper : {ms : List ModuleTree} {m : ℕ} {sc : Scope} {fs : Frames} {bs : Blocks} {p q : List ℕ} {cs : GlobalBranches} (c k : ℕ) → m ≡ c + k → IsFirstBlock ms m sc fs bs p q cs
+    → IsFirstBlock ms (m + 1) (raised_scope c sc) (raised c fs) bs p q (branches_lifted k cs)
+first_deeper c k e h = record { body = h.body; spot = h.spot; after = h.after; here = h.here; typed = lift_types h.typed c k e }
+
 pub fails_deeper : (k : FaultKind) (ms : List ModuleTree) (n : ℕ) (fs : Frames) (d : Declaration) (spot : Spot) → AreBelow n fs → FailsTyping k ms n fs d spot → FailsTyping k ms (n + 1) fs d spot
 fails_deeper kind.Unguarded ms n fs d spot low h =
     let under = h.depth - n in
@@ -254,14 +253,12 @@ fails_deeper kind.TwoReceivers ms n fs d spot low h =
     let deep : h.branch.depth ≡ n + under = omega (arith, needed_depth h.branch.needed) in
     record {
       branch = branch_deeper low h.branch;
-      sender = h.sender;
       receiver = h.receiver;
       branches = branches_lifted under h.branches;
       is = ap (lifted under) h.is;
-      first_sender = h.first_sender;
       first_receiver = h.first_receiver;
       first_branches = branches_lifted under h.first_branches;
-      earlier = earlier_deeper n under deep h.earlier;
+      first = first_deeper n under deep h.first;
       another = h.another;
     }
 fails_deeper kind.SameOperator ms n fs d spot low h =
@@ -269,15 +266,12 @@ fails_deeper kind.SameOperator ms n fs d spot low h =
     let deep : h.branch.depth ≡ n + under = omega (arith, needed_depth h.branch.needed) in
     record {
       branch = branch_deeper low h.branch;
-      sender = h.sender;
       receiver = h.receiver;
       branches = branches_lifted under h.branches;
       is = ap (lifted under) h.is;
-      first_sender = h.first_sender;
-      first_receiver = h.first_receiver;
-      first_branches = branches_lifted under h.first_branches;
+      earlier_branches = branches_lifted under h.earlier_branches;
       earlier = earlier_deeper n under deep h.earlier;
-      shared = share_lifted under h.first_branches h.branches ∙ h.shared;
+      shared = share_lifted under h.earlier_branches h.branches ∙ h.shared;
     }
 fails_deeper other ms n fs d spot low h = absurd h
 

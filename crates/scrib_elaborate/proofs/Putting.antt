@@ -1,12 +1,18 @@
 -- A module that is put in its place, and taken back.
-use Rattle.std.proofs.Common.{◌≡◌, ℕ, zero, suc, ◌<◌, false, List, [], ◌∷◌, ◌++◌, length, get_or, set, take, Some, None, refl, sym, ap, ◌∙◌, arith}
+use Rattle.std.proofs.Common.{◌≡◌, ℕ, zero, suc, ◌<◌, false, List, [], ◌∷◌, ◌++◌, length, get_or, drop, map, set, take, Some, None, refl, sym, ap, ◌∙◌, arith}
+use Rattle.std.specs.List.{remove}
 use Rattle.std.proofs.Math.Seq.{take-append_seam}
-use Rattle.std.proofs.lemmas.List.{length-set, length-append, length_push, get_or-set_same, get_or_push}
+use Rattle.std.proofs.lemmas.List.{take-map, drop-map, map-append, length-set, length-append, length_push, get_or-set_same, get_or_push}
 use Rattle.scrib_parser.specs.declared.tree.ModuleTree.{ModuleTree}
 use Rattle.scrib_elaborate.specs.Names.{has_name, module_names}
 use Rattle.scrib_elaborate.specs.Table.{IsPlace}
 use Rattle.scrib_elaborate.specs.Placed.{IsPlaced}
 use Rattle.scrib_elaborate.proofs.Places.{with_module-at, with_module-last}
+
+-- one that is taken out of a list is taken out of its image too
+pub remove-map : {X Y : Type 0} (f : X → Y) (xs : List X) (k : ℕ) → remove (map f xs) k ≡ map f (remove xs k)
+remove-map f xs k =
+    ap (λ ys. ys ++ drop (suc k) (map f xs)) (take-map f k xs) ∙ ap (λ ys. map f (take k xs) ++ ys) (drop-map f (suc k) xs) ∙ sym (map-append f (take k xs) (drop (suc k) xs))
 
 set-back : {X : Type 0} (xs : List X) (k : ℕ) (x y : X) → y ≡ get_or xs k y → set (set xs k x) k y ≡ xs
 set-back [] k x y e = refl

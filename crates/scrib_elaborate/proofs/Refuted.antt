@@ -11,7 +11,7 @@ use Rattle.scrib_parser.specs.declared.tree.ModuleTree.{ModuleTree}
 use Rattle.scrib_elaborate.specs.declared.fault.FaultKind.{FaultKind}
 use Rattle.scrib_elaborate.specs.declared.fault.FaultKind.TheVariants as kind
 use Rattle.scrib_elaborate.specs.declared.fault.Fault.{Fault}
-use Rattle.scrib_elaborate.specs.Source.{Body, Then, Calls, Blocks}
+use Rattle.scrib_elaborate.specs.Source.{Body, Then, Calls, Blocks, NoBlock}
 use Rattle.scrib_elaborate.specs.Names.{Declaration, has_name, distinct_names, roles_of, called_home, called}
 use Rattle.scrib_elaborate.specs.Statements.{are_roles, KeepsRules}
 use Rattle.scrib_elaborate.specs.Elaboration.{and_branches, Scope, role_in, inside, Frames, Under, Types, nodes, start_of, Elaborates}
@@ -105,8 +105,8 @@ to_another : (ms : List ModuleTree) (root d : Declaration) (g : GlobalTree) → 
 to_another ms root d g t spot h =
     let v = joined ms root d g t spot h.branch in
     let w = split_join h.branch.before v.join.joined in
-    let u = branch_of_join h.earlier.before h.earlier.body h.earlier.spot h.earlier.after w.first h.earlier.here in
-    let first = types_same h.earlier.typed _ u.typed in
+    let u = branch_of_join NoBlock h.first.body h.first.spot h.first.after w.first h.first.here in
+    let first = types_same h.first.typed _ u.typed in
     let same : h.receiver ≡ h.first_receiver = cc (h.is, v.is, first) in
     h.another same
 
@@ -118,10 +118,10 @@ same_operator_twice ms root d g t spot h =
     let first = types_same h.earlier.typed _ u.typed in
     let o = join_of_or w.second in
     let begins = types_same h.branch.typed _ (subst (λ x. Types ms h.branch.depth (Under h.branch.scope h.branch.body h.branch.follows) x) o.begins o.typed) in
-    let cs : u.here ≡ h.first_branches = cc first in
+    let cs : u.here ≡ h.earlier_branches = cc first in
     let ds : o.here ≡ h.branches = cc (h.is, begins) in
     let whole = w.is ∙ ap (λ x. and_branches w.earlier x) o.is ∙ ap (λ x. and_branches x (and_branches o.here o.more)) u.is in
-    not_shared u.left u.here u.right o.here o.more (subst (λ x. distinct_operators x ≡ true) whole v.join.different) (cs_ds u.here o.here h.first_branches h.branches cs ds h.shared)
+    not_shared u.left u.here u.right o.here o.more (subst (λ x. distinct_operators x ≡ true) whole v.join.different) (cs_ds u.here o.here h.earlier_branches h.branches cs ds h.shared)
   where
     cs_ds : (a b c e : GlobalBranches) → a ≡ c → b ≡ e → share_operator c e ≡ true → share_operator a b ≡ true
     cs_ds a b c e p q h = (λ i. share_operator (p i) (q i)) ∙ h

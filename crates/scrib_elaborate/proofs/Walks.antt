@@ -19,7 +19,7 @@ use Rattle.scrib_elaborate.specs.declared.stop.Stop.{Stop}
 use Rattle.scrib_elaborate.specs.declared.stop.Stop.TheVariants.{Broken, Call}
 use Rattle.scrib_elaborate.specs.declared.stop.Summary.{Summary}
 use Rattle.scrib_elaborate.specs.Table.{declaration_of, shown, IsSummary}
-use Rattle.scrib_elaborate.specs.Walking.{AreUnwalked, IsEntered, EnterFails, IsFaultIn, IsReady, IsNextCall, IsBlockKept, TopKeeps, TopStops, WasWalked, AreSummaries, IsSmall, WalkFails}
+use Rattle.scrib_elaborate.specs.Walking.{AreUnwalked, IsEntered, EnterFails, IsFaultIn, IsReady, IsNextCall, IsBlockKept, TopKeeps, TopStops, WasWalked, AreSummaries, IsIdle, IsSmall, WalkFails}
 use Rattle.scrib_parser.specs.declared.tree.Statement.{Statement}
 use Rattle.scrib_elaborate.specs.SourceView.{body_of}
 use Rattle.scrib_elaborate.specs.declared.fault.FaultKind.TheVariants as kind
@@ -147,17 +147,14 @@ leaves ms ds at root states init top t e here kept w = record {
 
 -- it begins
 
-all_unwalked : (n k : ℕ) (s : State) (ss : List State) → ((j : ℕ) (v : State) → slice_get ss j ≡ Some v → v ≡ Unwalked) → slice_get ss k ≡ Some s → s ≡ Unwalked
-all_unwalked n k s ss h e = h k s e
-
-pub begins : (ms : List ModuleTree) (ds : List Declaration) (at : ℕ) (root : Declaration) (states : List State) → length states ≡ length ds → ((j : ℕ) (v : State) → slice_get states j ≡ Some v → v ≡ Unwalked)
+pub begins : (ms : List ModuleTree) (ds : List Declaration) (at : ℕ) (root : Declaration) (states : List State) → IsIdle ms ds states
     → slice_get ds at ≡ Some root → HasOwnNames root → IsWalk ms ds at root (set states at Walking) (at ∷ [])
-begins ms ds at root states long fresh here names = record {
-  states_all = length-set states at Walking ∙ long;
+begins ms ds at root states idle here names = record {
+  states_all = length-set states at Walking ∙ idle.kept.all;
   walked =
-      λ k d e p q. ⊎_elim (λ x. absurd (cc (x.1))) (λ x. let u = fresh k (Walked e) x.1 in absurd (cc u)) (get_set states at Walking k (Walked e) q);
+      λ k d e p q. ⊎_elim (λ x. absurd (cc (x.1))) (λ x. idle.kept.each k d e p x.1) (get_set states at Walking k (Walked e) q);
   listed =
-      λ k q. ⊎_elim (λ x. (0, ap Some (sym x.0))) (λ x. let u = fresh k Walking x.1 in absurd (cc u)) (get_set states at Walking k Walking q);
+      λ k q. ⊎_elim (λ x. (0, ap Some (sym x.0))) (λ x. absurd (idle.ended k x.1)) (get_set states at Walking k Walking q);
   inside = λ i k p. let e = only i k p in subst (λ y. y < length ds) e (slice_get_within ds at root here);
   named = λ i k d p q. subst HasOwnNames (same_entry k d (only i k p) q) names;
   reached = λ i k d p q. subst (Reaches ms root) (same_entry k d (only i k p) q) itself;
@@ -231,13 +228,12 @@ top_within ms declared at states stack init top is w =
     let long : length (shown declared) ≡ length declared = length-map declared declaration_of in
     omega arith
 
-pub begins_from : (ms : List ModuleTree) (declared : List Declared) (at : ℕ) (x : Declared) (old states : List State) (none stack : List ℕ) → at < length declared → x ≡ get_or declared at x → AreUnwalked (length declared) old → none ≡ []
+pub begins_from : (ms : List ModuleTree) (declared : List Declared) (at : ℕ) (x : Declared) (old states : List State) (none stack : List ℕ) → at < length declared → x ≡ get_or declared at x → IsIdle ms (shown declared) old → none ≡ []
     → IsEntered x.home.now x.protocol.now at old states none stack → IsWalkFrom ms declared at states stack
-begins_from ms declared at x old states none stack h is fresh empty e =
+begins_from ms declared at x old states none stack h is idle empty e =
     let there : slice_get (shown declared) at ≡ Some (declaration_of x) =
     entry_there declared at x h ∙ ap (λ y. Some (declaration_of y)) (sym is) in
-    let long : length old ≡ length (shown declared) = fresh.long ∙ sym (length-map declared declaration_of) in
-    let walk = begins ms (shown declared) at (declaration_of x) old long fresh.fresh there e.named in
+    let walk = begins ms (shown declared) at (declaration_of x) old idle there e.named in
     let only : stack ≡ at ∷ [] = e.stack ∙ ap (λ s. s ++ at ∷ []) empty in
     record {
       root = declaration_of x;
@@ -368,6 +364,21 @@ ended_from ms declared at states stack none w = λ d p.
 
 pub summaries_from : (ms : List ModuleTree) (declared : List Declared) (at : ℕ) (states : List State) (stack : List ℕ) → IsWalkFrom ms declared at states stack → AreSummaries ms (shown declared) states
 summaries_from ms declared at states stack w = record { all = w.walk.states_all; each = w.walk.walked }
+
+pub idle_from : (ms : List ModuleTree) (declared : List Declared) (at : ℕ) (states : List State) (stack : List ℕ) → stack ≡ [] → IsWalkFrom ms declared at states stack → IsIdle ms (shown declared) states
+idle_from ms declared at states stack none w = record {
+  kept = summaries_from ms declared at states stack w;
+  ended =
+      λ k q. let p = (subst (λ s. IsWalk ms (shown declared) at w.root states s) none w.walk).listed k q in absurd (cc (p.1));
+}
+
+-- where no protocol was walked
+pub idle_before : (ms : List ModuleTree) (declared : List Declared) (states : List State) → AreUnwalked (length declared) states → IsIdle ms (shown declared) states
+idle_before ms declared states u = record {
+  kept =
+      record { all = u.long ∙ sym (length-map declared declaration_of); each = λ k d s p q. let e = u.fresh k (Walked s) q in absurd (cc e) };
+  ended = λ k q. let e = u.fresh k Walking q in absurd (cc e);
+}
 
 pub no_items : (xs : List ℕ) → length xs ≡ 0 → xs ≡ []
 no_items [] e = refl

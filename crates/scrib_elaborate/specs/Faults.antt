@@ -179,6 +179,14 @@ pub record IsOneOf (modules : List ModuleTree) (n : ℕ) (sc : Scope) (fs : Fram
   pub here : bs ≡ blocks_before before body spot after
   pub typed : Types modules n (Under sc body fs) (Comm p q cs)
 
+-- the first block of these means a communication to this receiver with these branches
+pub record IsFirstBlock (modules : List ModuleTree) (n : ℕ) (sc : Scope) (fs : Frames) (bs : Blocks) (p q : List ℕ) (cs : GlobalBranches) : Type 0 where
+  pub body : Body
+  pub spot : Spot
+  pub after : Blocks
+  pub here : bs ≡ OrBlock body spot after
+  pub typed : Types modules n (Under sc body fs) (Comm p q cs)
+
 -- the two have an operator in common
 abbrev pub share_operator : GlobalBranches → GlobalBranches → Bool
 share_operator NoBranch cs = false
@@ -193,31 +201,26 @@ pub record IsOfAnother (modules : List ModuleTree) (k : ℕ) (from : Frames) (d 
   pub is : branch.type ≡ Comm sender receiver branches
   pub another : sender ≢ role_in branch.scope branch.chooser
 
--- the branch here begins with another receiver than an earlier one
+-- the branch here begins with another receiver than the first one; both are by the chooser
 pub record IsToAnother (modules : List ModuleTree) (k : ℕ) (from : Frames) (d : Declaration) (spot : Spot) : Type 0 where
   pub branch : IsBranch modules k from d spot
-  pub sender : List ℕ
   pub receiver : List ℕ
   pub branches : GlobalBranches
-  pub is : branch.type ≡ Comm sender receiver branches
-  pub first_sender : List ℕ
+  pub is : branch.type ≡ Comm (role_in branch.scope branch.chooser) receiver branches
   pub first_receiver : List ℕ
   pub first_branches : GlobalBranches
-  pub earlier : IsOneOf modules branch.depth branch.scope branch.follows branch.before first_sender first_receiver first_branches
+  pub first : IsFirstBlock modules branch.depth branch.scope branch.follows branch.before (role_in branch.scope branch.chooser) first_receiver first_branches
   pub another : receiver ≢ first_receiver
 
--- the branch here begins with an operator with which an earlier one begins
+-- The branch here begins with an operator with which an earlier one begins; both are by the chooser, to one receiver.
 pub record IsSameOperator (modules : List ModuleTree) (k : ℕ) (from : Frames) (d : Declaration) (spot : Spot) : Type 0 where
   pub branch : IsBranch modules k from d spot
-  pub sender : List ℕ
   pub receiver : List ℕ
   pub branches : GlobalBranches
-  pub is : branch.type ≡ Comm sender receiver branches
-  pub first_sender : List ℕ
-  pub first_receiver : List ℕ
-  pub first_branches : GlobalBranches
-  pub earlier : IsOneOf modules branch.depth branch.scope branch.follows branch.before first_sender first_receiver first_branches
-  pub shared : share_operator first_branches branches ≡ true
+  pub is : branch.type ≡ Comm (role_in branch.scope branch.chooser) receiver branches
+  pub earlier_branches : GlobalBranches
+  pub earlier : IsOneOf modules branch.depth branch.scope branch.follows branch.before (role_in branch.scope branch.chooser) receiver earlier_branches
+  pub shared : share_operator earlier_branches branches ≡ true
 
 -- The rule of this kind, if it is one of types, fails in d at this place, for the type of the frames `from`.
 abbrev pub FailsTyping : FaultKind → (modules : List ModuleTree) (k : ℕ) (from : Frames) (d : Declaration) → Spot → Type 0

@@ -17,3 +17,4 @@ pub mod Walking
 pub mod Standing
 pub mod Staying
 pub mod Typing
+pub mod Locality

@@ -12,9 +12,9 @@ use crate::lift::lifted;
 use crate::untyped::Refused;
 use scrib_parser::tree::ModuleTree;
 use scrib_types::global::GlobalType;
-use scrib_types::message::Message;
 use scrib_types::name::Role;
 use scrib_types::plain::{Boxed, Items};
+use scrib_types::shared_message::SharedMessage;
 use scrib_types::spot::Spot;
 use std::alloc::{AllocError, Global};
 
@@ -111,7 +111,7 @@ impl<'a> Typed<'a> {
     pub fn sent(
         self,
         alloc: Global,
-        message: &Message,
+        message: &SharedMessage,
         from: &Role,
         to: &[&Role],
     ) -> Result<Typed<'a>, AllocError>
@@ -131,16 +131,16 @@ impl<'a> Typed<'a> {
 
 fn communication(
     alloc: Global,
-    message: &Message,
+    message: &SharedMessage,
     from: &Role,
     to: &Role,
     follows: GlobalType,
 ) -> Result<GlobalType, AllocError>
     ensures { IfOk result (λ g. global_of g ≡ Comm from.now to.now (Branch message.now (global_of follows) NoBranch)) }
 {
-    let from = from.copy(alloc)?;
-    let to = to.copy(alloc)?;
-    let message = message.copy(alloc)?;
+    let from = from.copy()?;
+    let to = to.copy()?;
+    let message = message.copy()?;
     let mut branches = Vec::with_capacity(alloc, 1)?;
     branches.push((message, follows))?;
     let branches = Items::from_vec(branches);

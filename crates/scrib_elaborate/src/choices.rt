@@ -23,9 +23,9 @@ use crate::tasks::{Choosing, Task};
 use crate::untyped::Untyped;
 use scrib_parser::tree::{Block, ModuleTree};
 use scrib_types::global::GlobalType;
-use scrib_types::message::Message;
 use scrib_types::name::{Name, Role};
 use scrib_types::plain::{Items, at};
+use scrib_types::shared_message::SharedMessage;
 use scrib_types::spot::Spot;
 use std::alloc::{AllocError, Global};
 
@@ -33,7 +33,7 @@ use std::alloc::{AllocError, Global};
 #[derive(Drop)]
 struct Heads<'a> {
     receiver: Option<Role>,
-    branches: Items<(Message, GlobalType)>,
+    branches: Items<(SharedMessage, GlobalType)>,
     joins: Vec<Option<Origin<'a>>>,
 }
 
@@ -169,7 +169,7 @@ fn joined<'a>(
     } else {
         None
     })?;
-    let from = chooser.copy(alloc)?;
+    let from = chooser.copy()?;
     let global = GlobalType::Comm { from, to, branches };
     Ok(Typed { global, joins })
 }
@@ -227,22 +227,25 @@ fn is_first(receiver: &Option<Role>, to: &Role) -> bool
 }
 
 // Whether the two have an operator in common.
-fn share_operator(first: &[(Message, GlobalType)], other: &[(Message, GlobalType)]) -> bool
+fn share_operator(
+    first: &[(SharedMessage, GlobalType)],
+    other: &[(SharedMessage, GlobalType)],
+) -> bool
     ensures { result ≡ share_operator (global_branches first.now) (global_branches other.now) }
 {
     for (message, _) in first {
-        if has_operator(&message.op, other) {
+        if has_operator(&message.get().op, other) {
             return true;
         }
     }
     false
 }
 
-fn has_operator(op: &Option<Name>, branches: &[(Message, GlobalType)]) -> bool
+fn has_operator(op: &Option<Name>, branches: &[(SharedMessage, GlobalType)]) -> bool
     ensures { result ≡ has_operator op.now (global_branches branches.now) }
 {
     for (message, _) in branches {
-        if same_operator(op, &message.op) {
+        if same_operator(op, &message.get().op) {
             return true;
         }
     }

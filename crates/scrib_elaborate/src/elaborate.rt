@@ -8,7 +8,7 @@ ghost use Rattle.scrib_elaborate.specs.Faults.{FailsAt};
 ghost use Rattle.scrib_elaborate.specs.Meaning.{meaning_of, Means};
 ghost use Rattle.scrib_elaborate.specs.Table.{shown, declaration_of, IsFound};
 ghost use Rattle.scrib_elaborate.specs.Typing.{IsTable};
-ghost use Rattle.scrib_elaborate.specs.Walking.{IsAbsentFault, IsCounted};
+ghost use Rattle.scrib_elaborate.specs.Walking.{IsAbsentFault, IsCounted, IsTabled};
 
 use crate::built::{Origin, Typed};
 use crate::declared::{Declared, all_declared, find};
@@ -16,15 +16,17 @@ use crate::elaborated::{Elaborated, Join};
 use crate::fault::{ElaborateFault, Fault, FaultKind};
 use crate::modules::Modules;
 use crate::names::has_module;
+use crate::stop::State;
 use crate::tasks::Program;
 use crate::typing::type_of_root;
 use crate::untyped::Untyped;
-use crate::walk::{check_size, fault_in, walk};
+use crate::walk::{check_size, fault_in, unwalked, walk};
 use scrib_parser::tree::{ModuleTree, RoleDeclaration};
 use scrib_types::name::{Dotted, Name, Role};
 use scrib_types::plain::Items;
 use scrib_types::spot::Spot;
 use std::alloc::{AllocError, Global};
+use std::marker::Model;
 
 /// What the protocol of this name, in the module of this name, means among the modules.
 ///
@@ -42,16 +44,101 @@ pub fn elaborate(
     ensures only { (a : Agreement) → Elaborates modules.now «module».now protocol.now a → Means result a }
     ensures fault { IfErr result (FailsAt modules.now «module».now protocol.now) }
 {
-    let trees = modules.as_slice();
-    let declared = all_declared(alloc, modules)?;
-    let root = find_root(alloc, trees, &declared, module, protocol)?;
-    let states = walk(alloc, trees, &declared, root)?;
-    let count = check_size(alloc, &declared, &states, root)?;
+    let mut elaborator = Elaborator::new(alloc, modules)?;
+    elaborator.elaborate(module, protocol)
+}
+
+/// Elaboration of several protocols among the same modules, which looks once at what they call.
+#[derive(Drop)]
+pub struct Elaborator<'a> {
+    alloc: Global,
+    modules: &'a Modules,
+    declared: Vec<Declared<'a>>,
+    states: Vec<State>,
+}
+
+impl<'a> Model for Elaborator<'a> {
+    ghost use Rattle.std.specs.Prelude.{List};
+    ghost use Rattle.std.specs.Coded.{codes};
+    ghost use Rattle.scrib_parser.specs.declared.tree.ModuleTree as parsed;
+    ghost use Rattle.scrib_parser.specs.contracts.tree.Statement as statement;
+    ghost use Rattle.scrib_elaborate.specs.Walking.{IsTabled};
+
+    ghost Value = { List parsed.ModuleTree };
+
+    ghost coded = { Prim.hlevel (codes, statement.the_row.coded) };
+
+    ghost view = { λ e. e.modules.now };
+
+    ghost invariant = { λ e. IsTabled e.modules.now e.declared.items e.states.items };
+}
+
+impl<'a> Elaborator<'a> {
+    /// Elaboration among these modules.
+    ///
+    /// # Errors
+    /// `AllocError` where memory was refused.
+    pub fn new(alloc: Global, modules: &'a Modules) -> Result<Elaborator<'a>, AllocError>
+        ensures { IfOk result (λ e. e ≡ modules.entry.now) }
+    {
+        let declared = all_declared(alloc, modules)?;
+        let states = unwalked(alloc, declared.len())?;
+        Ok(Elaborator {
+            alloc,
+            modules,
+            declared,
+            states,
+        })
+    }
+
+    /// What the protocol of this name, in the module of this name, means.
+    ///
+    /// # Errors
+    /// Those of `elaborate`.
+    pub fn elaborate(
+        &mut self,
+        module: &Dotted,
+        protocol: &Name,
+    ) -> Result<Elaborated, ElaborateFault>
+        ensures ok { IfOk result (λ e. Elaborates self.old «module».now protocol.now (meaning_of e)) }
+        ensures only { (a : Agreement) → Elaborates self.old «module».now protocol.now a → Means result a }
+        ensures fault { IfErr result (FailsAt self.old «module».now protocol.now) }
+        ensures same { self.new ≡ self.old }
+    {
+        elaborate_among(
+            self.alloc,
+            self.modules.as_slice(),
+            &self.declared,
+            &mut self.states,
+            module,
+            protocol,
+        )
+    }
+}
+
+// What the protocol means among the modules, where these are their declared protocols and this was found of them.
+fn elaborate_among(
+    alloc: Global,
+    trees: &[ModuleTree],
+    declared: &[Declared],
+    states: &mut Vec<State>,
+    module: &Dotted,
+    protocol: &Name,
+) -> Result<Elaborated, ElaborateFault>
+    requires { IsTabled trees.now declared.now states.old.items }
+    ensures ok { IfOk result (λ e. Elaborates trees.now «module».now protocol.now (meaning_of e)) }
+    ensures only { (a : Agreement) → Elaborates trees.now «module».now protocol.now a → Means result a }
+    ensures fault { IfErr result (FailsAt trees.now «module».now protocol.now) }
+    ensures tabled { IsTabled trees.now declared.now states.new.items }
+{
+    let root = find_root(alloc, trees, declared, module, protocol)?;
+    walk(alloc, trees, declared, root, states)?;
+    let count = check_size(alloc, declared, &*states, root)?;
     let at = declared[root];
     let program = Program {
         modules: trees,
-        declared: &declared,
-        states: &states,
+        declared,
+        states: &*states,
         root: at,
     };
     finish(alloc, &program, count, module, protocol)
@@ -87,7 +174,7 @@ fn copy_roles(alloc: Global, roles: &[RoleDeclaration]) -> Result<Items<Role>, A
 {
     let mut names = Vec::with_capacity(alloc, roles.len())?;
     for role in roles {
-        names.push(role.name.copy(alloc)?)?;
+        names.push(role.name.copy()?)?;
     }
     Ok(Items::from_vec(names))
 }
@@ -97,7 +184,7 @@ fn told(alloc: Global, joins: &[Option<Origin>]) -> Result<Items<Join>, AllocErr
     let mut told = Vec::new(alloc);
     for join in joins {
         if let Some(origin) = join {
-            let module = origin.home.name.copy(alloc)?;
+            let module = origin.home.name.copy()?;
             let spot = origin.spot;
             told.push(Join { module, spot })?;
         }
@@ -132,7 +219,7 @@ fn absent(alloc: Global, name: &Dotted, kind: FaultKind) -> ElaborateFault
     ensures { IsAbsentFault name.now kind result }
 {
     let spot = Spot { line: 0, column: 0 };
-    match name.copy(alloc) {
+    match name.copy() {
         Ok(module) => ElaborateFault::Broken(Fault { kind, module, spot }),
         Err(error) => ElaborateFault::from(error),
     }

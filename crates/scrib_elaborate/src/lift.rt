@@ -6,8 +6,8 @@ ghost use Rattle.scrib_elaborate.specs.Lifting.{lifted, branches_lifted};
 
 use crate::untyped::{Refused, next};
 use scrib_types::global::GlobalType;
-use scrib_types::message::Message;
 use scrib_types::plain::{Boxed, Items};
+use scrib_types::shared_message::SharedMessage;
 use std::alloc::Global;
 
 /// The type with one recursion more round it. Those of its variables that belong to a recursion round it, the
@@ -35,8 +35,8 @@ pub fn lifted(alloc: Global, global: &GlobalType, under: u32) -> Result<GlobalTy
             Ok(GlobalType::Rec(Boxed::new(alloc, body)?))
         }
         GlobalType::Comm { from, to, branches } => {
-            let from = from.copy(alloc)?;
-            let to = to.copy(alloc)?;
+            let from = from.copy()?;
+            let to = to.copy()?;
             let branches = lifted_branches(alloc, branches.as_slice(), under)?;
             let branches = Items::from_vec(branches);
             Ok(GlobalType::Comm { from, to, branches })
@@ -47,14 +47,14 @@ pub fn lifted(alloc: Global, global: &GlobalType, under: u32) -> Result<GlobalTy
 #[cycle(lift)]
 fn lifted_branches(
     alloc: Global,
-    branches: &[(Message, GlobalType)],
+    branches: &[(SharedMessage, GlobalType)],
     under: u32,
-) -> Result<Vec<(Message, GlobalType)>, Refused>
+) -> Result<Vec<(SharedMessage, GlobalType)>, Refused>
     ensures { IfOk result (λ more. global_branches more.items ≡ branches_lifted under (global_branches branches.now)) }
 {
     let mut more = Vec::new(alloc);
     for (message, global) in branches {
-        let message = message.copy(alloc)?;
+        let message = message.copy()?;
         let global = lifted(alloc, global, under)?;
         more.push((message, global))?;
     }

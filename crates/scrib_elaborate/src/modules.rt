@@ -1,6 +1,6 @@
 //! The modules among which protocols call one another.
 
-ghost use Rattle.std.specs.Prelude.{◌≡◌, ◌∷◌, ◌++◌, ◌<◌, [], false, length, map, slice_set, slice_index_or, MatchOption, IfOk, OnOk, OnErr};
+ghost use Rattle.std.specs.Prelude.{◌≡◌, ◌∷◌, ◌++◌, ◌<◌, [], false, length, map, remove, slice_set, slice_index_or, MatchOption, IfOk, OnOk, OnErr};
 ghost use Rattle.scrib_parser.specs.declared.tree.ModuleTree as parsed;
 ghost use Rattle.scrib_elaborate.specs.Names.{has_name, module_names, with_module, is_settled};
 ghost use Rattle.scrib_elaborate.specs.Table.{IsPlace};
@@ -90,6 +90,23 @@ impl Modules {
                 Ok(Placed { at, replaced: None })
             }
         }
+    }
+
+    /// The place of the module of this name.
+    pub fn place_of(&self, name: &Dotted) -> Option<usize>
+        ensures { MatchOption result (has_name name.now (module_names self.now) ≡ false) (IsPlace self.now name.now) }
+    {
+        place_of(&self.trees, name)
+    }
+
+    /// Takes the module there out. The others stay in their order.
+    pub fn take_out(&mut self, at: usize) -> ModuleTree
+        requires { at < length self.old }
+        ensures taken { (d : parsed.ModuleTree) → result ≡ slice_index_or self.old at d }
+        ensures out { self.new ≡ remove self.old at }
+    {
+        self.settled.remove(at);
+        self.trees.remove(at)
     }
 
     /// Takes back what was put there last.

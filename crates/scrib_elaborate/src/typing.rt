@@ -32,8 +32,8 @@ use crate::tasks::{Callee, Program, Task};
 use crate::untyped::{Refused, Untyped};
 use scrib_parser::tree::{ModuleTree, Statement};
 use scrib_types::global::GlobalType;
-use scrib_types::message::Message;
 use scrib_types::name::{Dotted, Name, Role};
+use scrib_types::shared_message::SharedMessage;
 use scrib_types::spot::Spot;
 use std::alloc::{AllocError, Global};
 
@@ -41,7 +41,7 @@ use std::alloc::{AllocError, Global};
 fn send<'a>(
     alloc: Global,
     standing: &Standing<'a>,
-    message: &Message,
+    message: &SharedMessage,
     from: &'a Role,
     to: &'a [Role],
     typed: Typed<'a>,

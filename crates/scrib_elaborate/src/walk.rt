@@ -4,7 +4,7 @@ ghost use Rattle.std.specs.Prelude.{◌≡◌, ◌<◌, List, length, IfOk, IfEr
 ghost use Rattle.std.specs.List.{All};
 ghost use Rattle.scrib_elaborate.specs.Names.{declarations};
 ghost use Rattle.scrib_elaborate.specs.Table.{shown, IsSettledSo};
-ghost use Rattle.scrib_elaborate.specs.Walking.{AreUnwalked, IsEntered, EnterFails, IsFaultIn, IsReady, TopKeeps, TopStops, WasWalked, AreSummaries, IsSmall, WalkFails};
+ghost use Rattle.scrib_elaborate.specs.Walking.{AreUnwalked, IsEntered, EnterFails, IsFaultIn, IsReady, TopKeeps, TopStops, WasWalked, IsIdle, IsSmall, WalkFails};
 ghost use Rattle.scrib_parser.specs.declared.tree.ModuleTree.{ModuleTree};
 
 use crate::declared::Declared;
@@ -18,10 +18,8 @@ use crate::stop::{BrokenRule, Place, State, Stop, Summary};
 use scrib_parser::tree::ModuleTree;
 use std::alloc::{AllocError, Global};
 
-/// Walks over the protocol at this place of the table and over each that it calls, once. The protocols in which
-/// the walk is stand on a stack of their own. Where the check of one meets a call of a protocol that wasn't
-/// walked yet, the walk enters that one, and then checks the first again from its beginning. So a protocol is
-/// checked once more for each other that is first entered from it.
+/// Walks over the protocol at this place of the table and over each that it calls. What earlier walks found is
+/// kept in the states, and so is what this one finds; after a fault none of it is.
 ///
 /// # Errors
 /// `Broken` with the first rule that is broken, the module's name and the place; `OutOfMemory` where memory was
@@ -31,25 +29,54 @@ pub fn walk<'a>(
     modules: &'a [ModuleTree],
     declared: &'a [Declared<'a>],
     root: usize,
-) -> Result<Vec<State>, ElaborateFault>
+    states: &mut Vec<State>,
+) -> Result<(), ElaborateFault>
     requires all { shown declared.now ≡ declarations modules.now }
     requires settled { All IsSettledSo declared.now }
     requires there { root < length declared.now }
-    ensures ok { IfOk result (λ states. WasWalked modules.now (shown declared.now) states.items root) }
-    ensures each { IfOk result (λ states. AreSummaries modules.now (shown declared.now) states.items) }
+    requires idle { IsIdle modules.now (shown declared.now) states.old.items }
+    ensures ok { OnOk result (WasWalked modules.now (shown declared.now) states.new.items root) }
+    ensures idle { IsIdle modules.now (shown declared.now) states.new.items }
     ensures fault { IfErr result (WalkFails modules.now (shown declared.now) root) }
 {
-    let mut states = unwalked(alloc, declared.len())?;
+    match walk_from(alloc, modules, declared, root, states) {
+        Ok(()) => Ok(()),
+        Err(fault) => {
+            forget(states);
+            Err(fault)
+        }
+    }
+}
+
+// The protocols in which the walk is stand on a stack of their own. Where the check of one meets a call of a
+// protocol that wasn't walked yet, the walk enters that one, and then checks the first again from its beginning.
+// So a protocol is checked once more for each other that is first entered from it.
+fn walk_from<'a>(
+    alloc: Global,
+    modules: &'a [ModuleTree],
+    declared: &'a [Declared<'a>],
+    root: usize,
+    states: &mut Vec<State>,
+) -> Result<(), ElaborateFault>
+    requires all { shown declared.now ≡ declarations modules.now }
+    requires settled { All IsSettledSo declared.now }
+    requires there { root < length declared.now }
+    requires idle { IsIdle modules.now (shown declared.now) states.old.items }
+    ensures ok { OnOk result (WasWalked modules.now (shown declared.now) states.new.items root) }
+    ensures idle { OnOk result (IsIdle modules.now (shown declared.now) states.new.items) }
+    ensures long { length states.new.items ≡ length declared.now }
+    ensures fault { IfErr result (WalkFails modules.now (shown declared.now) root) }
+{
     let mut stack = Vec::new(alloc);
     let first = declared[root];
-    enter(alloc, first, root, &mut states, &mut stack)?;
+    enter(alloc, first, root, states, &mut stack)?;
     while let Some(top) = stack.pop() {
-        match check(alloc, &*modules, &*declared, &states, top) {
+        match check(alloc, &*modules, &*declared, &*states, top) {
             Ok(summary) => states[top] = State::Walked(summary),
             Err(Stop::Call(to)) => {
                 let next = declared[to];
                 stack.push(top)?;
-                enter(alloc, next, to, &mut states, &mut stack)?;
+                enter(alloc, next, to, states, &mut stack)?;
             }
             Err(Stop::Broken(rule)) => {
                 let at = declared[top];
@@ -58,7 +85,16 @@ pub fn walk<'a>(
             Err(Stop::OutOfMemory) => return Err(ElaborateFault::OutOfMemory),
         }
     }
-    Ok(states)
+    Ok(())
+}
+
+// No protocol was walked.
+fn forget(states: &mut [State])
+    ensures { AreUnwalked (length states.old) states.new }
+{
+    for state in states.iter_mut() {
+        *state = State::Unwalked;
+    }
 }
 
 /// How many nodes the type of the protocol at this place will have, after a walk over it: at most 4,096.
@@ -131,6 +167,7 @@ fn enter(
 ) -> Result<(), ElaborateFault>
     requires within { to < length states.old.items }
     requires settled { IsSettledSo declared }
+    ensures long { length states.new.items ≡ length states.old.items }
     ensures ok { OnOk result (IsEntered declared.entry.home.now declared.entry.protocol.now to states.old.items states.new.items stack.old.items stack.new.items) }
     ensures fault { IfErr result (EnterFails declared.entry.home.now declared.entry.protocol.now) }
 {
@@ -151,7 +188,7 @@ fn enter(
 pub fn fault_in(alloc: Global, home: &ModuleTree, rule: BrokenRule) -> ElaborateFault
     ensures { IsFaultIn home.now rule result }
 {
-    match home.name.copy(alloc) {
+    match home.name.copy() {
         Ok(module) => ElaborateFault::Broken(Fault {
             kind: rule.kind,
             module,
@@ -161,7 +198,11 @@ pub fn fault_in(alloc: Global, home: &ModuleTree, rule: BrokenRule) -> Elaborate
     }
 }
 
-fn unwalked(alloc: Global, count: usize) -> Result<Vec<State>, AllocError>
+/// A state of each protocol before any was walked.
+///
+/// # Errors
+/// `AllocError` where memory was refused.
+pub fn unwalked(alloc: Global, count: usize) -> Result<Vec<State>, AllocError>
     ensures { IfOk result (λ states. AreUnwalked count states.items) }
 {
     let mut states = Vec::new(alloc);

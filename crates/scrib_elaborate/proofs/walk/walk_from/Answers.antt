@@ -2,17 +2,17 @@ use Rattle.std.proofs.Common.{◌<◌, length, sym, subst, rules, arith}
 use Rattle.std.proofs.lemmas.Result.{err_from_is_err_and}
 use Rattle.scrib_elaborate.specs.Table.{IsSettledSo}
 use Rattle.scrib_elaborate.specs.Walking.{IsReady}
-use Rattle.scrib_elaborate.proofs.Walks.{states_long, ready, top_within, begins_from, leaves_from, next_of, enters_from, less_entering, less_leaving, first_fails, next_fails, broken_fails, ended_from, summaries_from, no_items}
-use Rattle.scrib_elaborate.proofs.walk.walk.Goals as goal
+use Rattle.scrib_elaborate.proofs.Walks.{states_long, ready, top_within, begins_from, leaves_from, next_of, enters_from, less_entering, less_leaving, first_fails, next_fails, broken_fails, ended_from, idle_from, no_items}
+use Rattle.scrib_elaborate.proofs.walk.walk_from.Goals as goal
 
 pub returns-in_err-enter-clause-fault : goal.returns-in_err-enter-clause-fault
 returns-in_err-enter-clause-fault c =
-    let p = err_from_is_err_and c.from_residual-in_err-enter.result c.from_residual-in_err-enter.ensures.1 in
+    let p = err_from_is_err_and c.from_residual.result c.from_residual.ensures.1 in
     rw (p.1, p.2) (first_fails c.args.modules.now c.args.declared.now c.args.root c.index-declared-root.result c.requires.there c.index-declared-root.is c.in_err-enter.field-0.0 c.in_err-enter.ensures.fault)
 
 pub loop-top-init : goal.loop-top-init
 loop-top-init c =
-    begins_from c.args.modules.now c.args.declared.now c.args.root c.index-declared-root.result c.in_ok-states.states.items c.enter.new.states.items c.new-stack.result.items c.enter.new.stack.items c.requires.there c.index-declared-root.is c.in_ok-states.ensures c.new-stack.ensures.items c.in_ok-enter.ensures.ok
+    begins_from c.args.modules.now c.args.declared.now c.args.root c.index-declared-root.result c.args.states.now.items c.enter.new.states.items c.new-stack.result.items c.enter.new.stack.items c.requires.there c.index-declared-root.is c.requires.idle c.new-stack.ensures.items c.in_ok-enter.ensures.ok
 
 pub check-requires-clause-ready : goal.check-requires-clause-ready
 check-requires-clause-ready c =
@@ -92,6 +92,6 @@ pub returns-clause-ok : goal.returns-clause-ok
 returns-clause-ok c =
     ended_from c.args.modules.now c.args.declared.now c.args.root c.loop-top.states.items c.loop-top.stack.items (no_items c.loop-top.stack.items (let none = c.in_default.ensures.cases.0 in omega (arith, none, c.loop-top.stack.ok.0))) c.loop-top.invariant
 
-pub returns-clause-each : goal.returns-clause-each
-returns-clause-each c =
-    summaries_from c.args.modules.now c.args.declared.now c.args.root c.loop-top.states.items c.loop-top.stack.items c.loop-top.invariant
+pub returns-clause-idle : goal.returns-clause-idle
+returns-clause-idle c =
+    idle_from c.args.modules.now c.args.declared.now c.args.root c.loop-top.states.items c.loop-top.stack.items (no_items c.loop-top.stack.items (let none = c.in_default.ensures.cases.0 in omega (arith, none, c.loop-top.stack.ok.0))) c.loop-top.invariant

@@ -1,5 +1,5 @@
 use Rattle.scrib_elaborate.proofs.Walks.{IsWalkFrom, work}
-use Rattle.scrib_elaborate.proofs.walk.walk.Given as goal
+use Rattle.scrib_elaborate.proofs.walk.walk_from.Given as goal
 
 abbrev pub invariant-loop-top : goal.invariant-loop-top
 invariant-loop-top l = IsWalkFrom l.modules l.declared l.root l.states.items l.stack.items
