@@ -1,2 +1,3 @@
+pub mod Projections
 pub mod Protocols
 pub mod Undefined

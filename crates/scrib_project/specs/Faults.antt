@@ -8,6 +8,7 @@ use Rattle.scrib_types.specs.Trees.{GlobalTree}
 use Rattle.scrib_types.specs.LocalView.{local_of}
 use Rattle.scrib_types.specs.Projection.{projection}
 use Rattle.scrib_elaborate.specs.declared.elaborated.Join.{Join}
+use Rattle.scrib_project.specs.declared.projected.ProjectedProtocol.{ProjectedProtocol}
 use Rattle.scrib_project.specs.declared.fault.Unmergeable.{Unmergeable}
 use Rattle.scrib_project.specs.declared.fault.ProjectFault.{ProjectFault}
 use Rattle.scrib_project.specs.declared.fault.ProjectFault.TheVariants as fault
@@ -46,6 +47,11 @@ abbrev pub Agrees : Agreement → Result Protocol ProjectFault → Type 0
 Agrees a (Ok p) = (agreement_of p ≡ a) × (first_without a.global a.roles ≡ None)
 Agrees a (Err (fault.Unmergeable u)) = (first_without a.global a.roles ≡ Some u.role) × IsUnmergeable a.global u.role u
 Agrees a (Err fault.OutOfMemory) = Unit {0}
+
+-- the same of a protocol that its projections come with
+abbrev pub AgreesWithProjections : Agreement → Result ProjectedProtocol ProjectFault → Type 0
+AgreesWithProjections a (Ok p) = Agrees a (Ok p.protocol)
+AgreesWithProjections a (Err f) = Agrees a (Err f)
 
 -- the fault is the role's, at the join's place, if there is a join
 pub record IsFaultOf (r : List ℕ) (join : Option Join) (u : Unmergeable) : Type 0 where

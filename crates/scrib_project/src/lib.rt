@@ -3,4 +3,5 @@
 
 pub mod fault;
 pub mod project;
+pub mod projected;
 pub mod protocol;

@@ -66,16 +66,16 @@ fn unmergeable(alloc: Global, role: &Role, join: Option<&Join>) -> Result<Unmerg
 {
     match join {
         Some(join) => Ok(Unmergeable {
-            role: role.copy(alloc)?,
-            module: join.module.copy(alloc)?,
+            role: role.copy()?,
+            module: join.module.copy()?,
             spot: join.spot,
         }),
         None => {
             let mut names = Vec::new(alloc);
-            names.push(role.copy(alloc)?)?;
+            names.push(role.copy()?)?;
             Ok(Unmergeable {
-                role: role.copy(alloc)?,
-                module: Dotted::from_vec(names),
+                role: role.copy()?,
+                module: Dotted::from_vec(alloc, names)?,
                 spot: Spot { line: 0, column: 0 },
             })
         }

@@ -2,11 +2,13 @@
 
 ghost use Rattle.std.specs.Prelude.{IfErr};
 ghost use Rattle.scrib_elaborate.specs.Meaning.{meaning_of, joins_of};
-ghost use Rattle.scrib_project.specs.Faults.{Agrees, IsPlaced};
+ghost use Rattle.scrib_project.specs.Faults.{Agrees, AgreesWithProjections, IsPlaced};
 
 use crate::fault::ProjectFault;
 use crate::project::project;
+use crate::projected::ProjectedProtocol;
 use scrib_elaborate::elaborated::Elaborated;
+use scrib_types::plain::Items;
 use scrib_types::protocol::Protocol;
 use std::alloc::Global;
 
@@ -20,9 +22,30 @@ pub fn protocol(alloc: Global, elaborated: Elaborated) -> Result<Protocol, Proje
     ensures value { Agrees (meaning_of elaborated) result }
     ensures place { IfErr result (IsPlaced (joins_of elaborated) (meaning_of elaborated).global) }
 {
+    let projected = protocol_with_projections(alloc, elaborated)?;
+    let ProjectedProtocol { protocol, .. } = projected;
+    Ok(protocol)
+}
+
+/// The protocol with its projections, each of which is made once.
+///
+/// # Errors
+/// As for `protocol`.
+pub fn protocol_with_projections(
+    alloc: Global,
+    elaborated: Elaborated,
+) -> Result<ProjectedProtocol, ProjectFault>
+    ensures value { AgreesWithProjections (meaning_of elaborated) result }
+    ensures place { IfErr result (IsPlaced (joins_of elaborated) (meaning_of elaborated).global) }
+{
+    let mut locals = Vec::with_capacity(alloc, elaborated.roles().len())?;
     for role in elaborated.roles() {
-        project(alloc, &elaborated, role)?;
+        let local = project(alloc, &elaborated, role)?;
+        locals.push(local)?;
     }
     let (roles, global) = elaborated.into_parts();
-    Ok(Protocol::new(roles, global))
+    Ok(ProjectedProtocol {
+        protocol: Protocol::new(roles, global),
+        locals: Items::from_vec(locals),
+    })
 }

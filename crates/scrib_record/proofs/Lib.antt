@@ -10,3 +10,5 @@ pub mod Judged
 pub mod Listed
 pub mod Offered
 pub mod Projections
+pub mod ReadOnce
+pub mod Written

@@ -17,7 +17,7 @@ use Rattle.scrib_types.specs.Queues.{sent, received, IsPrefix}
 use Rattle.scrib_record.specs.declared.course.Seat.{Seat}
 use Rattle.scrib_record.specs.declared.course.Course.{Course}
 use Rattle.scrib_record.specs.Courses.{seat_of, pending, IsSeat, IsKept, Tracks}
-use Rattle.scrib_record.specs.Projected.{are_projections}
+use Rattle.scrib_local.specs.Projections.{are_projections}
 use Rattle.scrib_record.proofs.Logs.{all_more}
 use Rattle.scrib_record.proofs.Moves.{seat_for}
 use Rattle.scrib_record.proofs.Projections.{projection_at}

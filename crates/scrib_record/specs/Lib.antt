@@ -1,4 +1,4 @@
 pub mod Courses
+pub mod Flat
 pub mod Listed
-pub mod Projected
 pub mod Versions

@@ -1,7 +1,17 @@
--- What a version of a protocol means (this project's own).
-use Rattle.scrib_record.specs.declared.version.Version.{Version}
+-- Versions of protocols (this project's own).
+use Rattle.std.specs.Prelude.{◌≡◌, ℕ}
 use Rattle.scrib_types.specs.Agreement.{Agreement}
 use Rattle.scrib_types.specs.Meaning.{agreement_of}
+use Rattle.scrib_record.specs.declared.version.Version.{Version}
 
+-- what a version's protocol means
 abbrev pub meaning_of : Version → Agreement
 meaning_of v = agreement_of v.protocol
+
+-- the number of a version's stamp
+abbrev pub number_of : Version → ℕ
+number_of v = v.number
+
+-- the stamps are the same: the numbers are, and the meanings
+abbrev pub HaveSameStamp : Version → Version → Type 0
+HaveSameStamp v w = (number_of v ≡ number_of w) × (meaning_of v ≡ meaning_of w)

@@ -14,9 +14,9 @@ use crate::allowed::insert;
 use crate::version::Version;
 use scrib_types::event::{Action, Event};
 use scrib_types::local::Local;
-use scrib_types::message::Message;
 use scrib_types::name::Role;
 use scrib_types::plain::Items;
+use scrib_types::shared_message::SharedMessage;
 use scrib_walk::offer::offers;
 use scrib_walk::step::step;
 use std::alloc::{AllocError, Global};
@@ -34,7 +34,7 @@ pub struct Seat {
 pub struct Flight {
     pub from: Role,
     pub to: Role,
-    pub message: Message,
+    pub message: SharedMessage,
 }
 
 impl Flight {
@@ -64,7 +64,7 @@ impl Course {
         let locals = version.locals();
         let mut seats = Vec::with_capacity(alloc, roles.len())?;
         for i in 0..roles.len() {
-            let role = roles[i].copy(alloc)?;
+            let role = roles[i].copy()?;
             let local = Local::copy(alloc, &locals[i])?;
             seats.push(Seat {
                 role,
@@ -125,20 +125,20 @@ impl Course {
         alloc: Global,
         from: &Role,
         to: &Role,
-        message: &Message,
+        message: &SharedMessage,
     ) -> Result<bool, AllocError>
         ensures { IfOk result (course.Accepts (Sent from.now to.now message.now) self.old self.new) }
     {
         let action = Action::Sends {
-            to: to.copy(alloc)?,
-            message: message.copy(alloc)?,
+            to: to.copy()?,
+            message: message.copy()?,
         };
         if !act(alloc, &mut self.seats, from, &action)? {
             return Ok(false);
         }
-        let from = from.copy(alloc)?;
-        let to = to.copy(alloc)?;
-        let message = message.copy(alloc)?;
+        let from = from.copy()?;
+        let to = to.copy()?;
+        let message = message.copy()?;
         self.flights.push(Flight { from, to, message })?;
         Ok(true)
     }
@@ -148,7 +148,7 @@ impl Course {
         alloc: Global,
         from: &Role,
         to: &Role,
-        message: &Message,
+        message: &SharedMessage,
     ) -> Result<bool, AllocError>
         ensures { IfOk result (course.Accepts (Received from.now to.now message.now) self.old self.new) }
     {
@@ -156,8 +156,8 @@ impl Course {
             return Ok(false);
         };
         let action = Action::Receives {
-            from: from.copy(alloc)?,
-            message: message.copy(alloc)?,
+            from: from.copy()?,
+            message: message.copy()?,
         };
         if !act(alloc, &mut self.seats, to, &action)? {
             return Ok(false);
@@ -216,7 +216,7 @@ fn act(alloc: Global, seats: &mut [Seat], role: &Role, action: &Action) -> Resul
 }
 
 /// The place of the oldest flight between the two, where it carries the message.
-fn front(flights: &[Flight], from: &Role, to: &Role, message: &Message) -> Option<usize>
+fn front(flights: &[Flight], from: &Role, to: &Role, message: &SharedMessage) -> Option<usize>
     ensures { MatchOption result (course.IsFront from.now to.now message.now flights.now → ⊥) (course.IsFrontAt from.now to.now message.now flights.now) }
 {
     for (i, flight) in flights.iter().enumerate() {

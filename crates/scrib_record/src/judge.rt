@@ -19,7 +19,7 @@ pub fn judge(alloc: Global, version: &Version, log: &[Event]) -> Result<Verdict,
     let mut course = Course::start(alloc, version)?;
     for (i, event) in log.iter().enumerate() {
         if !course.accept(alloc, event)? {
-            let role = event.subject().copy(alloc)?;
+            let role = event.subject().copy()?;
             let allowed = course.allowed(alloc, &role)?;
             return Ok(Verdict::Offence {
                 place: i + 1,

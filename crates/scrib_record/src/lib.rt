@@ -3,6 +3,7 @@
 
 mod allowed;
 mod course;
+mod flat;
 pub mod judge;
 mod text;
 pub mod version;

@@ -1,70 +1,123 @@
-//! Versions: protocols with what each role does in them.
+//! Versions: protocols with what each role does in them, under the numbers of their stamps.
 
-ghost use Rattle.std.specs.Prelude.{◌≡◌, IfOk, IsTrue};
+ghost use Rattle.std.specs.Prelude.{◌≡◌, IsTrue};
 ghost use Rattle.scrib_types.specs.Meaning.{agreement_of};
-ghost use Rattle.scrib_types.specs.GlobalView.{global_of};
-ghost use Rattle.scrib_record.specs.Projected.{are_projections};
+ghost use Rattle.scrib_local.specs.Projections.{are_projections};
+ghost use Rattle.scrib_record.specs.Flat.{flat_form};
 
-use scrib_local::projection::project_type;
+use crate::flat::flat_form;
 use scrib_types::local::Local;
 use scrib_types::plain::Items;
 use scrib_types::protocol::Protocol;
 use std::alloc::{AllocError, Global};
+use std::marker::Model;
+use std::sync::Arc;
 
-/// A protocol with its projection on each role, in the order in which the roles are declared.
+/// What the copies of a version share: a protocol with its projection on each role, in the order in which the
+/// roles are declared, the number of its stamp, and the flat form of what it means.
 #[derive(Drop)]
-pub struct Version {
+pub struct Edition {
     protocol: Protocol,
     locals: Items<Local>,
-    pub ghost projected: { IsTrue (are_projections (global_of protocol.global) protocol.roles locals) },
+    number: u32,
+    flat: Items<u8>,
+    pub ghost projected: { IsTrue (are_projections (agreement_of protocol).global (agreement_of protocol).roles locals) },
+    pub ghost flattened: { flat ≡ flat_form (agreement_of protocol) },
+}
+
+/// A version of a protocol. Its copies share it. Contracts see the edition.
+#[derive(Drop)]
+pub struct Version {
+    edition: Arc<Edition>,
+}
+
+impl Model for Version {
+    ghost use Rattle.scrib_record.specs.declared.version.Edition.{Edition};
+    ghost use Rattle.scrib_record.specs.contracts.version.Edition as shared;
+
+    ghost Value = { Edition };
+
+    ghost coded = { shared.the_row.coded };
+
+    ghost view = { λ version. version.edition.value };
 }
 
 impl Version {
-    ghost use Rattle.std.specs.Prelude.{◌≡◌, IfOk, IsTrue};
+    ghost use Rattle.std.specs.Prelude.{◌≡◌, ◌↔◌, IfOk, IsTrue};
     ghost use Rattle.scrib_types.specs.Meaning.{agreement_of};
-    ghost use Rattle.scrib_record.specs.Projected.{are_projections};
-    ghost use Rattle.scrib_record.specs.Versions.{meaning_of};
+    ghost use Rattle.scrib_local.specs.Projections.{are_projections};
+    ghost use Rattle.scrib_record.specs.Versions.{meaning_of, number_of, HaveSameStamp};
 
-    /// The version of a protocol.
+    /// The version of a protocol under the number, with the protocol's projections on its roles.
     ///
     /// # Errors
-    /// `AllocError` where memory for the projections was refused.
-    pub fn new(alloc: Global, protocol: Protocol) -> Result<Version, AllocError>
-        ensures { IfOk result (λ v. meaning_of v ≡ agreement_of protocol) }
+    /// `AllocError` where memory was refused.
+    pub fn new(
+        alloc: Global,
+        protocol: Protocol,
+        locals: Items<Local>,
+        number: u32,
+    ) -> Result<Version, AllocError>
+        requires { IsTrue (are_projections (agreement_of protocol).global (agreement_of protocol).roles locals) }
+        ensures meaning { IfOk result (λ version. meaning_of version ≡ agreement_of protocol) }
+        ensures locals { IfOk result (λ version. version.locals ≡ locals) }
+        ensures number { IfOk result (λ version. number_of version ≡ number) }
     {
-        let locals = projections(alloc, &protocol)?;
-        Ok(Version {
+        let flat = flat_form(alloc, &protocol)?;
+        let edition = Edition {
             protocol,
-            locals: Items::from_vec(locals),
-        })
+            locals,
+            number,
+            flat,
+        };
+        let edition = Arc::new(alloc, edition)?;
+        Ok(Version { edition })
+    }
+
+    /// The same version once more.
+    ///
+    /// # Errors
+    /// `AllocError` where the count of those who share it can't rise.
+    pub fn share(&self) -> Result<Version, AllocError>
+        ensures { IfOk result (λ version. version ≡ self.now) }
+    {
+        let edition = self.edition.clone()?;
+        Ok(Version { edition })
     }
 
     /// The protocol.
     pub fn protocol(&self) -> &Protocol
         ensures { agreement_of result.now ≡ meaning_of self.now }
     {
-        &self.protocol
+        &self.edition.protocol
     }
 
     /// What each role does, in the order in which the roles are declared.
     pub fn locals(&self) -> &[Local]
-        ensures { IsTrue (are_projections (meaning_of self.now).global (meaning_of self.now).roles result.now) }
+        ensures locals { result.now ≡ self.now.locals }
+        ensures projections { IsTrue (are_projections (meaning_of self.now).global (meaning_of self.now).roles result.now) }
     {
-        self.locals.as_slice()
+        self.edition.locals.as_slice()
     }
-}
 
-fn projections(alloc: Global, protocol: &Protocol) -> Result<Vec<Local>, AllocError>
-    ensures { IfOk result (λ locals. IsTrue (are_projections (agreement_of protocol.now).global (agreement_of protocol.now).roles locals.items)) }
-{
-    let roles = protocol.roles();
-    let global = protocol.global();
-    let mut locals = Vec::with_capacity(alloc, roles.len())?;
-    for role in roles {
-        let Some(local) = project_type(alloc, global, role)? else {
-            unreachable!()
-        };
-        locals.push(local)?;
+    /// The number of the stamp.
+    pub fn number(&self) -> u32
+        ensures { result ≡ number_of self.now }
+    {
+        self.edition.number
     }
-    Ok(locals)
+
+    /// Whether the two mean the same: the same roles, in order, and the same global type.
+    pub fn same_meaning(&self, other: &Version) -> bool
+        ensures { IsTrue result ↔ (meaning_of self.now ≡ meaning_of other.now) }
+    {
+        self.edition.flat.as_slice() == other.edition.flat.as_slice()
+    }
+
+    /// Whether the stamps are the same: the numbers, which are compared first, and the meanings.
+    pub fn same_stamp(&self, other: &Version) -> bool
+        ensures { IsTrue result ↔ HaveSameStamp self.now other.now }
+    {
+        self.number() == other.number() && self.same_meaning(other)
+    }
 }

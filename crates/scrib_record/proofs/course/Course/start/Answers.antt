@@ -11,7 +11,7 @@ pub bounds-locals-i : goal.bounds-locals-i
 bounds-locals-i c =
     let a = meaning_of c.args.version.now in
     let roles : c.roles-roles.result.now ≡ a.roles = c.roles-roles.ensures.roles ∙ ap (λ (x : Agreement). x.roles) c.protocol.ensures in
-    let len : length c.roles-roles.result.now ≡ length c.locals-locals.result.now = ap length roles ∙ projections_length a.global a.roles c.locals-locals.result.now c.locals-locals.ensures in
+    let len : length c.roles-roles.result.now ≡ length c.locals-locals.result.now = ap length roles ∙ projections_length a.global a.roles c.locals-locals.result.now c.locals-locals.ensures.projections in
     omega arith
 
 pub loop-i-preserved : goal.loop-i-preserved
@@ -22,7 +22,7 @@ loop-i-preserved c =
     let e : c.in_ok-role.role ≡ c.index-roles-i.result = c.in_ok-role.ensures in
     let role : c.in_ok-role.role ≡ get_or c.roles-roles.result.now c.loop-i.i c.in_ok-role.role = e ∙ c.index-roles-i.is ∙ ap (get_or c.roles-roles.result.now c.loop-i.i) (sym e) in
     let local : c.in_ok-local.local ≡ get_or c.locals-locals.result.now c.loop-i.i c.index-locals-i.result = c.in_ok-local.ensures ∙ c.index-locals-i.is in
-    let more = fresh_more a c.roles-roles.result.now c.locals-locals.result.now c.loop-i.seats.items c.loop-i.i s c.index-locals-i.result roles c.locals-locals.ensures c.loop-i-test.true role refl local c.loop-i.invariant in
+    let more = fresh_more a c.roles-roles.result.now c.locals-locals.result.now c.loop-i.seats.items c.loop-i.i s c.index-locals-i.result roles c.locals-locals.ensures.projections c.loop-i-test.true role refl local c.loop-i.invariant in
     rw c.in_ok-push.ensures.items more
 
 pub returns : goal.returns
