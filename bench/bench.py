@@ -1,30 +1,38 @@
 #!/usr/bin/env python3
-"""Times the built program on a module text near the limit of 1 MiB and on a library of 256 modules.
+"""Times the built program on large libraries and module texts.
 
-Run it from anywhere, after `make run`. It prints, for each input, its bytes, the seconds that the program
-took, and the most memory that it held. It is no test: it compares nothing but the last line.
+    bench.py [--beside PROGRAM]
+
+Run it from anywhere, after `make run`. It prints, for each script, its bytes, the seconds of processor time that
+`scribmon watch` took and the most memory that it held (15 to 20 MB where it held less: this script has that much
+itself); with --beside the same of another program that takes the same command and script, run in turn with the
+first on the same machine, and whether both wrote the same. The best of three runs counts. It is no test: it
+compares nothing but outputs.
 """
 
+import argparse
 import os
-import resource
+import random
 import subprocess
 import sys
-import time
+import tempfile
 
 PROGRAM = os.path.join(os.path.dirname(__file__), "..", "crates", "scribmon", "out", "scribmon")
 LIMIT = 1_048_576
+RUNS = 3
 
 
 def put(text):
     return "put\n" + text + "\n%%\n"
 
 
-def long_text():
-    """One module of 256 protocols of as many messages as the limits allow, and a comment up to the limit."""
-    parts = ["module long;\n"]
+def long_text(name="long", seed=0):
+    """One module of protocols of a hundred messages each, and a comment up to the limit."""
+    pick = random.Random(seed)
+    parts = ["module %s;\n" % name]
     size = len(parts[0])
-    for i in range(256):
-        body = "message(Int, Str) from First to Second;\n" * 100
+    for i in range(200):
+        body = "".join("message%d(Int, Str) from First to Second;\n" % pick.randrange(40) for _ in range(100))
         part = "global protocol P%d(role First, role Second) {\n%s}\n" % (i, body)
         if size + len(part) > LIMIT - 100:
             break
@@ -34,24 +42,54 @@ def long_text():
     return put("".join(parts))
 
 
+def long_texts():
+    """Four such modules, each put ten times: three times in ten with the protocols that it has already."""
+    seeds = [0, 1, 2, 3]
+    for revision in range(10):
+        for i in range(4):
+            if revision % 3 != 1:
+                seeds[i] += 4
+            yield long_text("m%d" % i, seeds[i])
+
+
 def nodes():
     """One protocol of 4,095 nodes: eleven choices of two branches, one after the other."""
     choice = "choice at A { a() from A to B; } or { b() from A to B; }\n"
     return put("module wide; global protocol P(role A, role B) {\n" + choice * 11 + "}")
 
 
+def chained_module(i):
+    """The module with this number: four protocols, most of which call those of the module before it."""
+    lines = ["module m%d;" % i]
+    if i:
+        lines.append("import m%d;" % (i - 1))
+    for j in range(4):
+        call = "do m%d.P%d(A, B);" % (i - 1, j) if i % 16 else ""
+        lines.append("global protocol P%d(role A, role B) { a() from A to B; %s }" % (j, call))
+    return put("\n".join(lines))
+
+
 def many_modules():
     """256 modules of four protocols, each importing the one before it and calling its protocols."""
-    script = []
-    for i in range(256):
-        lines = ["module m%d;" % i]
-        if i:
-            lines.append("import m%d;" % (i - 1))
-        for j in range(4):
-            call = "do m%d.P%d(A, B);" % (i - 1, j) if i % 16 else ""
-            lines.append("global protocol P%d(role A, role B) { a() from A to B; %s }" % (j, call))
-        script.append(put("\n".join(lines)))
+    return "".join(chained_module(i) for i in range(256))
+
+
+def edits_of_one(others):
+    """One module that nobody imports, put a thousand times in turn with two bodies, among so many others."""
+    script = [chained_module(i) for i in range(others)]
+    for i in range(1000):
+        operator = "ab"[i % 2]
+        script.append(put("module one; global protocol P(role A, role B) { %s() from A to B; }" % operator))
     return "".join(script)
+
+
+def nested_calls():
+    """1,000 protocols in a chain of calls, each from 60 nested blocks."""
+    lines = ["module t;"]
+    for i in range(1000):
+        inner = "do P%d(A, B);" % (i + 1) if i < 999 else "a() from A to B;"
+        lines.append("global protocol P%d(role A, role B) { %s%s%s }" % (i, "choice at A { " * 60, inner, " }" * 60))
+    return put("\n".join(lines))
 
 
 def silent_chain():
@@ -60,23 +98,49 @@ def silent_chain():
     return put("module s; global protocol P(role A, role B) {\n" + chain + "a() from A to B; }")
 
 
-def measure(name, script, last):
-    data = script.encode()
-    begin = time.perf_counter()
-    done = subprocess.run([PROGRAM, "watch"], input=data, stdout=subprocess.PIPE, check=False)
-    seconds = time.perf_counter() - begin
-    lines = done.stdout.decode().splitlines()
-    if done.returncode != 0 or not lines or not lines[-1].startswith(last):
-        sys.exit("%s: status %d, last line %s" % (name, done.returncode, lines[-1:]))
-    memory = resource.getrusage(resource.RUSAGE_CHILDREN).ru_maxrss
-    print("%-14s %9d bytes %8.3f s  at most %7d KiB so far" % (name, len(data), seconds, memory))
+SCRIPTS = [
+    ("wide type", nodes),
+    ("silent chain", silent_chain),
+    ("long text", long_text),
+    ("long texts", long_texts),
+    ("256 modules", many_modules),
+    ("edits alone", lambda: edits_of_one(1)),
+    ("edits among", lambda: edits_of_one(255)),
+    ("nested calls", nested_calls),
+]
+
+
+def run_once(program, path):
+    """Seconds of processor time, KiB at most, and the output."""
+    with tempfile.TemporaryFile() as out:
+        child = subprocess.Popen([program, "watch", path], stdout=out)
+        _, status, usage = os.wait4(child.pid, 0)
+        out.seek(0)
+        if status != 0:
+            sys.exit("%s: status %d" % (program, status))
+        return usage.ru_utime + usage.ru_stime, usage.ru_maxrss, out.read()
 
 
 def main():
-    measure("wide type", nodes(), "put wide: +wide.P")
-    measure("silent chain", silent_chain(), "put s: +s.P")
-    measure("long text", long_text(), "put long: +long.P0")
-    measure("256 modules", many_modules(), "put m255: +m255.P0")
+    parser = argparse.ArgumentParser(description=__doc__, formatter_class=argparse.RawDescriptionHelpFormatter)
+    parser.add_argument("--beside", help="another program to run in turn with this one")
+    beside = parser.parse_args().beside
+    programs = [PROGRAM] + ([beside] if beside else [])
+    with tempfile.TemporaryDirectory() as folder:
+        for name, make in SCRIPTS:
+            path = os.path.join(folder, "script")
+            with open(path, "w", encoding="ascii") as script:
+                pieces = make()
+                script.writelines([pieces] if isinstance(pieces, str) else pieces)
+            runs = [[run_once(program, path) for program in programs] for _ in range(RUNS)]
+            cells = []
+            for i in range(len(programs)):
+                seconds = min(run[i][0] for run in runs)
+                memory = max(run[i][1] for run in runs)
+                cells.append("%8.3f s %8d KiB" % (seconds, memory))
+            same = len({run[i][2] for run in runs for i in range(len(programs))}) == 1
+            note = "" if len(programs) == 1 else ("  same output" if same else "  OUTPUTS DIFFER")
+            print("%-14s %9d bytes %s%s" % (name, os.path.getsize(path), "  | ".join(cells), note), flush=True)
 
 
 if __name__ == "__main__":

@@ -1,0 +1,5 @@
+//! First-in-first-out queues of messages, one for each ordered pair of roles.
+#![tactic(auto)]
+
+mod lane;
+pub mod queues;
