@@ -112,7 +112,7 @@ fn changes_in(alloc: Global, differences: &[Difference]) -> Result<Items<Change>
 {
     let mut changes = Vec::with_capacity(alloc, differences.len())?;
     for difference in differences {
-        let name = difference.name.copy(alloc)?;
+        let name = difference.name.copy()?;
         changes.push(Change {
             kind: difference.kind,
             name,

@@ -27,10 +27,10 @@ pub fn full_name(alloc: Global, home: &Dotted, protocol: &Name) -> Result<Dotted
 {
     let mut names = Vec::new(alloc);
     for part in home.as_slice() {
-        names.push(part.copy(alloc)?)?;
+        names.push(part.copy()?)?;
     }
-    names.push(protocol.copy(alloc)?)?;
-    Ok(Dotted::from_vec(names))
+    names.push(protocol.copy()?)?;
+    Dotted::from_vec(alloc, names)
 }
 
 fn compare_all(a: &[Name], b: &[Name]) -> Ordering

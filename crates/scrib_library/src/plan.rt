@@ -41,7 +41,7 @@ pub fn plan_put(
     check_room(alloc, modules.as_slice(), new)?;
     let next = versions_of(alloc, modules)?;
     let list = changes_between(alloc, versions, next.as_slice())?;
-    let module = new.name.copy(alloc)?;
+    let module = new.name.copy()?;
     Ok(Plan {
         versions: next,
         changes: Changes { module, list },

@@ -26,7 +26,7 @@ pub fn check_room(alloc: Global, modules: &[ModuleTree], new: &ModuleTree) -> Re
         return Err(EditFault::TooManyModules);
     }
     if let Some(import) = missing_import(modules, new.imports.as_slice()) {
-        let module = import.module.copy(alloc)?;
+        let module = import.module.copy()?;
         return Err(EditFault::ImportMissing { module });
     }
     if declares_too_many(modules) {

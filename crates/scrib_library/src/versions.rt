@@ -11,10 +11,11 @@ ghost use Rattle.scrib_library.specs.Elaborated.{AreElaborated, AreVersionsOf, I
 use crate::declared::{Entry, entries_of};
 use crate::fault::EditFault;
 use crate::names::compare;
-use scrib_elaborate::elaborate::elaborate;
+use scrib_elaborate::elaborate::Elaborator;
 use scrib_elaborate::elaborated::Elaborated;
 use scrib_elaborate::modules::Modules;
-use scrib_project::protocol::protocol;
+use scrib_project::projected::ProjectedProtocol;
+use scrib_project::protocol::protocol_with_projections;
 use scrib_record::version::Version;
 use scrib_types::name::Dotted;
 use scrib_types::plain::Items;
@@ -72,13 +73,14 @@ fn elaborate_all(
     ensures fault { IfErr result (IsRefusal modules.now) }
 {
     let mut all = Vec::with_capacity(alloc, entries.len())?;
+    let mut elaborator = Elaborator::new(alloc, modules)?;
     for entry in entries {
         let Entry {
             home,
             protocol,
             name,
         } = entry;
-        let elaborated = elaborate(alloc, modules, home, protocol)?;
+        let elaborated = elaborator.elaborate(home, protocol)?;
         all.push(NamedElaborated { name, elaborated })?;
     }
     Ok(all)
@@ -95,8 +97,9 @@ fn project_all(
     let mut versions = Vec::with_capacity(alloc, elaborated.len())?;
     for named in elaborated {
         let NamedElaborated { name, elaborated } = named;
-        let protocol = protocol(alloc, elaborated)?;
-        let version = Version::new(alloc, protocol)?;
+        let projected = protocol_with_projections(alloc, elaborated)?;
+        let ProjectedProtocol { protocol, locals } = projected;
+        let version = Version::new(alloc, protocol, locals, 0)?;
         versions.push(NamedVersion { name, version })?;
     }
     Ok(versions)

@@ -9,6 +9,7 @@ use Rattle.scrib_library.proofs.versions.elaborate_all.Given as goal
 
 abbrev pub invariant-loop-entry : goal.invariant-loop-entry
 invariant-loop-entry l = record {
+  same : l.elaborator ≡ l.modules;
   names : elaborated_names l.all.items ≡ entry_names l.yielded;
   sound : (x : NamedElaborated) → Contains l.all.items x → Means l.modules x.name (meaning_of x.elaborated);
 }

@@ -6,18 +6,18 @@ use Rattle.std.proofs.lemmas.Result.{err_from_is_err_and}
 use Rattle.scrib_library.proofs.Elaborating.{projected_more, not_projected}
 use Rattle.scrib_library.proofs.versions.project_all.Goals as goal
 
-pub returns-in_err-protocol-clause-fault : goal.returns-in_err-protocol-clause-fault
-returns-in_err-protocol-clause-fault c =
+pub returns-in_err-projected-clause-fault : goal.returns-in_err-projected-clause-fault
+returns-in_err-projected-clause-fault c =
     let made = c.into_iter-named-iterator.ensures.into_iter_gives in
     let turn = YieldsList-turn (YieldsList-from_vec {s = c.into_iter-named-iterator.result} c.args.elaborated.items made.0 (made.1 ∙ c.args.elaborated.ok.0)) c.loop-named.yielded c.loop-named.named-iterator c.loop-named.yielded_by _ c.next.new.self c.in-Some.named c.in-Some.is c.next.ensures.steps in
     let there : Contains c.args.elaborated.items c.in-Some.named = (length c.loop-named.yielded, turn.0, sym turn.1) in
-    let p = err_from_is_err_and c.from_residual-in_err-protocol.result c.from_residual-in_err-protocol.ensures.1 in
-    rw (p.1, p.2) (not_projected c.args.elaborated.items c.in-Some.named c.in_err-protocol.field-0.0 there c.in_err-protocol.ensures.value)
+    let p = err_from_is_err_and c.from_residual-in_err-projected.result c.from_residual-in_err-projected.ensures.1 in
+    rw (p.1, p.2) (not_projected c.args.elaborated.items c.in-Some.named c.in_err-projected.field-0.0 there c.in_err-projected.ensures.value)
 
 pub loop-named-preserved : goal.loop-named-preserved
 loop-named-preserved c =
     let made = c.into_iter-named-iterator.ensures.into_iter_gives in
     let turn = YieldsList-turn (YieldsList-from_vec {s = c.into_iter-named-iterator.result} c.args.elaborated.items made.0 (made.1 ∙ c.args.elaborated.ok.0)) c.loop-named.yielded c.loop-named.named-iterator c.loop-named.yielded_by _ c.next.new.self c.in-Some.named c.in-Some.is c.next.ensures.steps in
     let there : Contains c.args.elaborated.items c.in-Some.named = (length c.loop-named.yielded, turn.0, sym turn.1) in
-    let more = projected_more c.args.elaborated.items c.loop-named.versions.items c.loop-named.yielded c.in-Some.named (record { name = c.in-Some.named.name; version = c.in_ok-version.version }) there c.loop-named.invariant.names c.loop-named.invariant.sound refl (c.in_ok-version.ensures ∙ c.in_ok-protocol.ensures.value.0) in
+    let more = projected_more c.args.elaborated.items c.loop-named.versions.items c.loop-named.yielded c.in-Some.named (record { name = c.in-Some.named.name; version = c.in_ok-version.version }) there c.loop-named.invariant.names c.loop-named.invariant.sound refl (c.in_ok-version.ensures.meaning ∙ c.in_ok-projected.ensures.value.0) in
     rw c.in_ok-push.ensures.items (record { names = more.0; sound = more.1 })
