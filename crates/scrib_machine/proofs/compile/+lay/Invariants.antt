@@ -1,0 +1,15 @@
+use Rattle.std.proofs.Common.{◌≡◌, ◌+◌, ◌*◌, take, reverse}
+use Rattle.scrib_types.specs.LocalView.{local_of, local_branches}
+use Rattle.scrib_machine.specs.Compilable.{nodes, nodes_all}
+use Rattle.scrib_machine.specs.Layout.{PlacedAll}
+use Rattle.scrib_machine.proofs.compile.+lay.Given as goal
+
+abbrev pub invariant-lay_all-loop-local : goal.invariant-lay_all-loop-local
+invariant-lay_all-loop-local l =
+    PlacedAll l.initial.rows.items l.rows.items (reverse l.outer.items) (local_branches (take l.local-index l.branches)) l.nexts.items × (l.outer.items ≡ l.initial.outer.items)
+
+abbrev pub decreases-lay : goal.decreases-lay
+decreases-lay l = 2 * nodes (local_of l.local.now)
+
+abbrev pub decreases-lay_all : goal.decreases-lay_all
+decreases-lay_all l = 2 * nodes_all (local_branches l.branches.now) + 1

@@ -1,0 +1,276 @@
+-- The projections of a well-formed global type have machines. Guarded is the part with an idea: where the role
+-- occurs it has a choice; where it doesn't, its projection ends in each variable of the global type, so in one.
+use Rattle.std.specs.Prelude.{◌≡◌, ◌≢◌, ◌⊎◌, ◌≤◌, ◌<◌, ◌&&◌, ◌||◌, ◌==◌, Bool, true, false, not, max, ℕ, ◌+◌, ◌-◌, List, Option, Some, None, refl}
+use Rattle.std.proofs.Common.{sym, ap, ◌∙◌, inl, inr, arith}
+use Rattle.std.specs.Str.{bytes_eq}
+use Rattle.std.proofs.lemmas.Bool.{and_parts, true≢false, cases_Bool, cases_eq}
+use Rattle.std.proofs.lemmas.Bool.Decides.{Decides-eqb}
+use Rattle.std.proofs.lemmas.Slice.Eq.{bytes_eq-Decides}
+use Rattle.scrib_types.specs.declared.message.Message.{Message}
+use Rattle.scrib_types.specs.Trees.{GlobalTree, GlobalEnd, GlobalVar, GlobalRec, Comm, Flight, GlobalBranches, NoBranch, Branch, LocalTree, LocalEnd, LocalVar, LocalRec, Send, Recv, LocalBranches}
+use Rattle.scrib_types.specs.Projection.{open_depth, branches_open_depth, is_closed, occurs, branches_occur, projection}
+use Rattle.scrib_types.specs.WellFormed.{leads_to_communication, uses, branches_use, same_operator, has_operator, distinct_operators, has_branches, well_formed, branches_well_formed}
+use Rattle.scrib_machine.specs.Compilable.{Closed, ClosedAll, LeadsToChoice, Guarded, GuardedAll, Lacks, Differ, Distinct, DistinctAll, nodes, nodes_all, most_nodes, IsCompilable}
+use Rattle.scrib_machine.specs.Projects.{Projects, p_end, p_var, p_send, p_recv, p_other, p_idle, p_rec, ProjectEach, each_none, each_one, ProjectSame, same_none, same_one, not_from, projects_of}
+
+-- how many ends, variables, recursions and communications it has
+abbrev mutual
+  pub global_nodes : GlobalTree → ℕ
+  global_nodes GlobalEnd = 1
+  global_nodes (GlobalVar n) = 1
+  global_nodes (GlobalRec g) = 1 + global_nodes g
+  global_nodes (Comm p q bs) = 1 + branch_nodes bs
+  global_nodes (Flight p q j bs) = 1 + branch_nodes bs
+
+  pub branch_nodes : GlobalBranches → ℕ
+  branch_nodes NoBranch = 0
+  branch_nodes (Branch m g bs) = global_nodes g + branch_nodes bs
+
+or_either : (a b : Bool) → (a || b) ≡ true → (a ≡ true) ⊎ (b ≡ true)
+or_either true b h = inl refl
+or_either false b h = inr h
+
+-- the parts of a well-formed communication
+record Parts (roles : List (List ℕ)) (bs : GlobalBranches) : Type 0 where
+  some : has_branches bs ≡ true
+  distinct : distinct_operators bs ≡ true
+  branches : branches_well_formed roles bs ≡ true
+
+parts : (roles : List (List ℕ)) (p q : List ℕ) (bs : GlobalBranches) → well_formed roles (Comm p q bs) ≡ true → Parts roles bs
+parts roles p q bs h =
+    let a = and_parts _ (branches_well_formed roles bs) h in
+    let b = and_parts _ (distinct_operators bs) a.0 in
+    let c = and_parts _ (has_branches bs) b.0 in record { some = c.1; distinct = b.1; branches = a.1 }
+
+record RecParts (roles : List (List ℕ)) (g : GlobalTree) : Type 0 where
+  used : uses 0 g ≡ true
+  formed : well_formed roles g ≡ true
+
+rec_parts : (roles : List (List ℕ)) (g : GlobalTree) → well_formed roles (GlobalRec g) ≡ true → RecParts roles g
+rec_parts roles g h =
+    let a = and_parts _ (well_formed roles g) h in
+    let b = and_parts (leads_to_communication g) (uses 0 g) a.0 in record { used = b.1; formed = a.1 }
+
+-- closed
+mutual
+  closed : (roles : List (List ℕ)) (r : List ℕ) {g : GlobalTree} {l : LocalTree} (d : ℕ) → Projects g r l → well_formed roles g ≡ true → open_depth g ≤ d → Closed l d
+  closed roles r d p_end f h = tt
+  closed roles r d p_var f h = omega arith
+  closed roles r d (p_send {p} {q} {bs} e pe) f h = closed_each roles r d pe (parts roles p q bs f).branches h
+  closed roles r d (p_recv {p} {q} {bs} e pe) f h = closed_each roles r d pe (parts roles p q bs f).branches h
+  closed roles r d (p_other {p} {q} {bs} e n ps) f h = let w = parts roles p q bs f in closed_same roles r d ps w.some w.branches h
+  closed roles r d (p_idle e n) f h = tt
+  closed roles r d (p_rec {g} e p) f h = closed roles r (d + 1) p (rec_parts roles g f).formed (omega arith)
+
+  closed_each : (roles : List (List ℕ)) (r : List ℕ) {bs : GlobalBranches} {ls : LocalBranches} (d : ℕ) → ProjectEach bs r ls → branches_well_formed roles bs ≡ true → branches_open_depth bs ≤ d → ClosedAll ls d
+  closed_each roles r d each_none f h = tt
+  closed_each roles r d (each_one {g} {bs} p pe) f h =
+      let w = and_parts (well_formed roles g) (branches_well_formed roles bs) f in (closed roles r d p w.0 (omega arith), closed_each roles r d pe w.1 (omega arith))
+
+  closed_same : (roles : List (List ℕ)) (r : List ℕ) {bs : GlobalBranches} {l : LocalTree} (d : ℕ) → ProjectSame bs r l → has_branches bs ≡ true → branches_well_formed roles bs ≡ true → branches_open_depth bs ≤ d → Closed l d
+  closed_same roles r d same_none s f h = absurd (true≢false (sym s))
+  closed_same roles r d (same_one {g} {bs} p ps) s f h =
+      let w = and_parts (well_formed roles g) (branches_well_formed roles bs) f in closed roles r d p w.0 (omega arith)
+
+-- no larger than the global type
+mutual
+  small : (roles : List (List ℕ)) (r : List ℕ) {g : GlobalTree} {l : LocalTree} → Projects g r l → well_formed roles g ≡ true → nodes l ≤ global_nodes g
+  small roles r p_end f = omega arith
+  small roles r p_var f = omega arith
+  small roles r (p_send {p} {q} {bs} e pe) f = omega (arith, small_each roles r pe (parts roles p q bs f).branches)
+  small roles r (p_recv {p} {q} {bs} e pe) f = omega (arith, small_each roles r pe (parts roles p q bs f).branches)
+  small roles r (p_other {p} {q} {bs} e n ps) f = let w = parts roles p q bs f in omega (arith, small_same roles r ps w.some w.branches)
+  small roles r (p_idle e n) f = omega arith
+  small roles r (p_rec {g} e p) f = omega (arith, small roles r p (rec_parts roles g f).formed)
+
+  small_each : (roles : List (List ℕ)) (r : List ℕ) {bs : GlobalBranches} {ls : LocalBranches} → ProjectEach bs r ls → branches_well_formed roles bs ≡ true → nodes_all ls ≤ branch_nodes bs
+  small_each roles r each_none f = omega arith
+  small_each roles r (each_one {g} {bs} p pe) f =
+      let w = and_parts (well_formed roles g) (branches_well_formed roles bs) f in omega (arith, small roles r p w.0, small_each roles r pe w.1)
+
+  small_same : (roles : List (List ℕ)) (r : List ℕ) {bs : GlobalBranches} {l : LocalTree} → ProjectSame bs r l → has_branches bs ≡ true → branches_well_formed roles bs ≡ true → nodes l ≤ branch_nodes bs
+  small_same roles r same_none s f = absurd (true≢false (sym s))
+  small_same roles r (same_one {g} {bs} p ps) s f =
+      let w = and_parts (well_formed roles g) (branches_well_formed roles bs) f in omega (arith, small roles r p w.0)
+
+-- different messages
+operator_itself : (o : Option (List ℕ)) → same_operator o o ≡ true
+operator_itself None = refl
+operator_itself (Some a) = (bytes_eq-Decides a a).1 refl
+
+or_none : (a b : Bool) → (a || b) ≡ false → (a ≡ false) × (b ≡ false)
+or_none true b h = absurd (true≢false h)
+or_none false b h = (refl, h)
+
+lacks : (r : List ℕ) (m : Message) {bs : GlobalBranches} {ls : LocalBranches} → ProjectEach bs r ls → has_operator m.op bs ≡ false → Lacks m ls
+lacks r m each_none h = tt
+lacks r m (each_one {m = n} {bs = bs} p pe) h =
+    let y = or_none (same_operator m.op n.op) (has_operator m.op bs) h in
+    (λ e. true≢false (sym (operator_itself m.op) ∙ ap (λ (x : Message). same_operator m.op x.op) e ∙ y.0), lacks r m pe y.1)
+
+differ : (r : List ℕ) {bs : GlobalBranches} {ls : LocalBranches} → ProjectEach bs r ls → distinct_operators bs ≡ true → Differ ls
+differ r each_none h = tt
+differ r (each_one {m = m} {bs = bs} p pe) h =
+    let y = and_parts (not (has_operator m.op bs)) (distinct_operators bs) h in (lacks r m pe (not_from (has_operator m.op bs) y.0), differ r pe y.1)
+
+mutual
+  distinct : (roles : List (List ℕ)) (r : List ℕ) {g : GlobalTree} {l : LocalTree} → Projects g r l → well_formed roles g ≡ true → Distinct l
+  distinct roles r p_end f = tt
+  distinct roles r p_var f = tt
+  distinct roles r (p_send {p} {q} {bs} e pe) f = let w = parts roles p q bs f in (differ r pe w.distinct, distinct_each roles r pe w.branches)
+  distinct roles r (p_recv {p} {q} {bs} e pe) f = let w = parts roles p q bs f in (differ r pe w.distinct, distinct_each roles r pe w.branches)
+  distinct roles r (p_other {p} {q} {bs} e n ps) f = let w = parts roles p q bs f in distinct_same roles r ps w.some w.branches
+  distinct roles r (p_idle e n) f = tt
+  distinct roles r (p_rec {g} e p) f = distinct roles r p (rec_parts roles g f).formed
+
+  distinct_each : (roles : List (List ℕ)) (r : List ℕ) {bs : GlobalBranches} {ls : LocalBranches} → ProjectEach bs r ls → branches_well_formed roles bs ≡ true → DistinctAll ls
+  distinct_each roles r each_none f = tt
+  distinct_each roles r (each_one {g} {bs} p pe) f =
+      let w = and_parts (well_formed roles g) (branches_well_formed roles bs) f in (distinct roles r p w.0, distinct_each roles r pe w.1)
+
+  distinct_same : (roles : List (List ℕ)) (r : List ℕ) {bs : GlobalBranches} {l : LocalTree} → ProjectSame bs r l → has_branches bs ≡ true → branches_well_formed roles bs ≡ true → Distinct l
+  distinct_same roles r same_none s f = absurd (true≢false (sym s))
+  distinct_same roles r (same_one {g} {bs} p ps) s f =
+      let w = and_parts (well_formed roles g) (branches_well_formed roles bs) f in distinct roles r p w.0
+
+-- a role that stands in the type has a choice there
+mutual
+  leads : (r : List ℕ) {g : GlobalTree} {l : LocalTree} → Projects g r l → occurs r g ≡ true → LeadsToChoice l
+  leads r p_end h = absurd (true≢false (sym h))
+  leads r p_var h = absurd (true≢false (sym h))
+  leads r (p_send e pe) h = tt
+  leads r (p_recv e pe) h = tt
+  leads r (p_other {p} {q} {bs} e n ps) h = leads_same r ps (sym (ap (λ b. b || branches_occur r bs) (ap (λ b. b || bytes_eq r q) e ∙ n)) ∙ h)
+  leads r (p_idle e n) h = absurd (true≢false (sym h ∙ n))
+  leads r (p_rec e p) h = leads r p h
+
+  leads_same : (r : List ℕ) {bs : GlobalBranches} {l : LocalTree} → ProjectSame bs r l → branches_occur r bs ≡ true → LeadsToChoice l
+  leads_same r same_none h = absurd (true≢false (sym h))
+  leads_same r (same_one {g} {bs} p ps) h = elim (or_either (occurs r g) (branches_occur r bs) h) [ inl a ↦ leads r p a | inr b ↦ leads_same r ps b ]
+
+-- a variable that occurs is below the depth, and the outermost one occurs
+mutual
+  used_depth : (g : GlobalTree) (k : ℕ) → uses k g ≡ true → k < open_depth g
+  used_depth GlobalEnd k h = absurd (true≢false (sym h))
+  used_depth (GlobalVar n) k h = let e : n ≡ k = (Decides-eqb n k).0 h in omega arith
+  used_depth (GlobalRec g) k h = omega (arith, used_depth g (k + 1) h)
+  used_depth (Comm p q bs) k h = used_depth_all bs k h
+  used_depth (Flight p q j bs) k h = used_depth_all bs k h
+
+  used_depth_all : (bs : GlobalBranches) (k : ℕ) → branches_use k bs ≡ true → k < branches_open_depth bs
+  used_depth_all NoBranch k h = absurd (true≢false (sym h))
+  used_depth_all (Branch m g bs) k h = elim (or_either (uses k g) (branches_use k bs) h) [ inl a ↦ (let w : k < open_depth g = used_depth g k a in omega arith) | inr b ↦ (let w : k < branches_open_depth bs = used_depth_all bs k b in omega arith) ]
+
+or_left : (a b : Bool) → a ≡ true → (a || b) ≡ true
+or_left true b h = refl
+or_left false b h = absurd (true≢false (sym h))
+
+or_right : (a b : Bool) → b ≡ true → (a || b) ≡ true
+or_right true b h = refl
+or_right false b h = h
+
+max_either : (a b k : ℕ) → max a b ≡ k + 1 → (a ≡ k + 1) ⊎ (b ≡ k + 1)
+max_either a b k h = elim (cases_eq a (k + 1)) [ inl e ↦ inl e | inr n ↦ (let w : b ≡ k + 1 = omega arith in inr w) ]
+
+mutual
+  depth_used : (g : GlobalTree) (k : ℕ) → open_depth g ≡ k + 1 → uses k g ≡ true
+  depth_used GlobalEnd k h = absurd (omega arith)
+  depth_used (GlobalVar n) k h = let e : n ≡ k = omega arith in (Decides-eqb n k).1 e
+  depth_used (GlobalRec g) k h = let e : open_depth g ≡ (k + 1) + 1 = omega arith in depth_used g (k + 1) e
+  depth_used (Comm p q bs) k h = depth_used_all bs k h
+  depth_used (Flight p q j bs) k h = depth_used_all bs k h
+
+  depth_used_all : (bs : GlobalBranches) (k : ℕ) → branches_open_depth bs ≡ k + 1 → branches_use k bs ≡ true
+  depth_used_all NoBranch k h = absurd (omega arith)
+  depth_used_all (Branch m g bs) k h = elim (max_either (open_depth g) (branches_open_depth bs) k h) [
+    | inl a ↦ or_left (uses k g) (branches_use k bs) (depth_used g k a)
+    | inr b ↦ or_right (uses k g) (branches_use k bs) (depth_used_all bs k b)
+  ]
+
+-- after its recursions the tree is the variable that is k outside it
+abbrev EndsIn : LocalTree → ℕ → Type 0
+EndsIn LocalEnd k = ⊥
+EndsIn (LocalVar n) k = n ≡ k
+EndsIn (LocalRec l) k = EndsIn l (k + 1)
+EndsIn (Send q ls) k = ⊥
+EndsIn (Recv p ls) k = ⊥
+
+ends_in_one : (l : LocalTree) (j k : ℕ) → EndsIn l j → EndsIn l k → j ≡ k
+ends_in_one LocalEnd j k a b = absurd a
+ends_in_one (LocalVar n) j k a b = sym a ∙ b
+ends_in_one (LocalRec l) j k a b = let e : j + 1 ≡ k + 1 = ends_in_one l (j + 1) (k + 1) a b in omega arith
+ends_in_one (Send q ls) j k a b = absurd a
+ends_in_one (Recv p ls) j k a b = absurd a
+
+-- what a role that stands nowhere does ends in each variable that occurs
+mutual
+  idle : (r : List ℕ) {g : GlobalTree} {l : LocalTree} (k : ℕ) → Projects g r l → occurs r g ≡ false → uses k g ≡ true → EndsIn l k
+  idle r k p_end n u = absurd (true≢false (sym u))
+  idle r k (p_var {k = i}) n u = (Decides-eqb i k).0 u
+  idle r k (p_send {p} {q} {bs} e pe) n u = absurd (true≢false (sym e ∙ (or_none (bytes_eq r p) (bytes_eq r q) (or_none (bytes_eq r p || bytes_eq r q) (branches_occur r bs) n).0).0))
+  idle r k (p_recv {p} {q} {bs} e pe) n u = absurd (true≢false (sym e ∙ (or_none (bytes_eq r p) (bytes_eq r q) (or_none (bytes_eq r p || bytes_eq r q) (branches_occur r bs) n).0).1))
+  idle r k (p_other {p} {q} {bs} e f ps) n u = idle_same r k ps (or_none (bytes_eq r p || bytes_eq r q) (branches_occur r bs) n).1 u
+  idle r k (p_idle {g = g} c a) n u =
+      let shut : open_depth g - 1 ≡ 0 = (Decides-eqb (open_depth g - 1) 0).0 c in absurd (omega (arith, shut, used_depth g (k + 1) u))
+  idle r k (p_rec e p) n u = idle r (k + 1) p n u
+
+  idle_same : (r : List ℕ) {bs : GlobalBranches} {l : LocalTree} (k : ℕ) → ProjectSame bs r l → branches_occur r bs ≡ false → branches_use k bs ≡ true → EndsIn l k
+  idle_same r k same_none n u = absurd (true≢false (sym u))
+  idle_same r k (same_one {g} {bs} p ps) n u =
+      let w = or_none (occurs r g) (branches_occur r bs) n in
+      elim (or_either (uses k g) (branches_use k bs) u) [ inl a ↦ idle r k p w.0 a | inr b ↦ idle_same r k ps w.1 b ]
+
+not_closed : (g : GlobalTree) → is_closed (GlobalRec g) ≡ false → (k : ℕ) × (open_depth g ≡ (k + 1) + 1)
+not_closed g h = some (open_depth g) h
+  where
+    some : (n : ℕ) → ((n - 1) == 0) ≡ false → (k : ℕ) × (n ≡ (k + 1) + 1)
+    some n h =
+        let ne : n - 1 ≢ 0 = λ (e : n - 1 ≡ 0). true≢false (sym ((Decides-eqb (n - 1) 0).1 e) ∙ h) in
+        (n - 2, omega arith)
+
+and_false : (a b : Bool) → (a && not b) ≡ false → b ≡ false → a ≡ false
+and_false true true h e = e
+and_false true false h e = h
+and_false false b h e = refl
+
+-- a recursion that is kept leads to a choice
+kept_leads : (r : List ℕ) (g : GlobalTree) (l : LocalTree) → Projects g r l → uses 0 g ≡ true → (is_closed (GlobalRec g) && not (occurs r g)) ≡ false → LeadsToChoice l
+kept_leads r g l p used kept = elim (cases_Bool (occurs r g)) [
+  | inl here ↦ leads r p here
+  | inr nowhere ↦
+      let w = not_closed g (and_false (is_closed (GlobalRec g)) (occurs r g) kept nowhere) in
+      let same : 0 ≡ w.0 + 1 = ends_in_one l 0 (w.0 + 1) (idle r 0 p nowhere used) (idle r (w.0 + 1) p nowhere (depth_used g (w.0 + 1) w.1)) in
+      absurd (omega arith)
+]
+
+mutual
+  guarded : (roles : List (List ℕ)) (r : List ℕ) {g : GlobalTree} {l : LocalTree} → Projects g r l → well_formed roles g ≡ true → Guarded l
+  guarded roles r p_end f = tt
+  guarded roles r p_var f = tt
+  guarded roles r (p_send {p} {q} {bs} e pe) f = guarded_each roles r pe (parts roles p q bs f).branches
+  guarded roles r (p_recv {p} {q} {bs} e pe) f = guarded_each roles r pe (parts roles p q bs f).branches
+  guarded roles r (p_other {p} {q} {bs} e n ps) f = let w = parts roles p q bs f in guarded_same roles r ps w.some w.branches
+  guarded roles r (p_idle e n) f = tt
+  guarded roles r (p_rec {g = g} {l = l} e p) f = let w = rec_parts roles g f in (kept_leads r g l p w.used e, guarded roles r p w.formed)
+
+  guarded_each : (roles : List (List ℕ)) (r : List ℕ) {bs : GlobalBranches} {ls : LocalBranches} → ProjectEach bs r ls → branches_well_formed roles bs ≡ true → GuardedAll ls
+  guarded_each roles r each_none f = tt
+  guarded_each roles r (each_one {g} {bs} p pe) f =
+      let w = and_parts (well_formed roles g) (branches_well_formed roles bs) f in (guarded roles r p w.0, guarded_each roles r pe w.1)
+
+  guarded_same : (roles : List (List ℕ)) (r : List ℕ) {bs : GlobalBranches} {l : LocalTree} → ProjectSame bs r l → has_branches bs ≡ true → branches_well_formed roles bs ≡ true → Guarded l
+  guarded_same roles r same_none s f = absurd (true≢false (sym s))
+  guarded_same roles r (same_one {g} {bs} p ps) s f =
+      let w = and_parts (well_formed roles g) (branches_well_formed roles bs) f in guarded roles r p w.0
+
+-- each projection of a well-formed and closed global type that isn't too large has a machine
+pub projected_compilable : (roles : List (List ℕ)) (r : List ℕ) (g : GlobalTree) (l : LocalTree) → well_formed roles g ≡ true → is_closed g ≡ true → global_nodes g ≤ most_nodes → projection r g ≡ Some l → IsCompilable l
+projected_compilable roles r g l f c n e =
+    let p = projects_of r g l e in
+    let shut : open_depth g ≡ 0 = (Decides-eqb (open_depth g) 0).0 c in
+    record {
+      closed = closed roles r 0 p f (omega arith);
+      guarded = guarded roles r p f;
+      distinct = distinct roles r p f;
+      small = omega (arith, n, small roles r p f);
+    }

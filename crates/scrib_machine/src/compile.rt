@@ -1,0 +1,181 @@
+//! The compilation of local types.
+
+ghost use Rattle.std.specs.Prelude.{◌≡◌, ◌+◌, ◌≤◌, IfOk, OnOk, AllPairs, length, reverse};
+ghost use Rattle.std.specs.List.Sorted.{IsPermutation};
+ghost use Rattle.scrib_types.specs.Judgement.{ComesBefore};
+ghost use Rattle.scrib_types.specs.LocalView.{local_of, local_branches};
+ghost use Rattle.scrib_types.specs.declared.event.Action.TheVariants.{Sends, Receives};
+ghost use Rattle.scrib_machine.specs.Machines.{IsSystemOf, Follows};
+ghost use Rattle.scrib_machine.specs.Compilable.{IsCompilable, Closed, ClosedAll, Differ, Distinct, DistinctAll, nodes, nodes_all, most_nodes};
+ghost use Rattle.scrib_machine.specs.Layout as layout;
+
+use crate::machine::{Edge, Machine, State};
+use crate::sorted::sorted;
+use scrib_types::event::Action;
+use scrib_types::local::Local;
+use scrib_types::name::Role;
+use scrib_types::plain::Items;
+use scrib_types::shared_message::SharedMessage;
+use std::alloc::{AllocError, Global};
+
+/// The machine of the local type: its states stand for what can follow in the type, and its paths from
+/// the start are the type's traces. A state is an end or a choice of the type; a variable leads to where
+/// its recursion begins.
+///
+/// # Errors
+/// `AllocError` where memory for the machine is refused.
+pub fn compile(alloc: Global, local: &Local) -> Result<Machine, AllocError>
+    requires { IsCompilable (local_of local.now) }
+    ensures stands { IfOk result (IsSystemOf (local_of local.now)) }
+    ensures follows { IfOk result (Follows (local_of local.now)) }
+{
+    let mut rows = Vec::new(alloc);
+    let mut outer = Vec::new(alloc);
+    lay(alloc, local, &mut rows, &mut outer)?;
+    Ok(Machine::from_rows(rows))
+}
+
+/// Lays the local type out in states after those of the rows, and returns the one in which it begins.
+/// The recursions round it begin in the outer states, the innermost last.
+#[cycle(lay)]
+#[tactic(auto, using(scrib_types::specs::LocalView::local_views))]
+fn lay(
+    alloc: Global,
+    local: &Local,
+    rows: &mut Vec<Items<Edge>>,
+    outer: &mut Vec<State>,
+) -> Result<State, AllocError>
+    requires room { length rows.old.items + nodes (local_of local.now) ≤ most_nodes }
+    requires closed { Closed (local_of local.now) (length outer.old.items) }
+    requires distinct { Distinct (local_of local.now) }
+    ensures placed { IfOk result (layout.Placed rows.old.items rows.new.items (reverse outer.old.items) (local_of local.now)) }
+    ensures outer { OnOk result (outer.new.items ≡ outer.old.items) }
+{
+    match local {
+        Local::End => {
+            let at = rows.len();
+            rows.push(Items::new(alloc))?;
+            Ok(at as State)
+        }
+        Local::Var(i) => Ok(outer[outer.len() - 1 - *i as usize]),
+        Local::Rec(body) => {
+            outer.push(rows.len() as State)?;
+            let root = lay(alloc, body.get(), rows, outer)?;
+            let _ = outer.pop();
+            Ok(root)
+        }
+        Local::Send { to, branches } => {
+            let at = rows.len();
+            rows.push(Items::new(alloc))?;
+            let nexts = lay_all(alloc, branches.as_slice(), rows, outer)?;
+            rows[at] = sends(alloc, to, branches.as_slice(), &nexts)?;
+            Ok(at as State)
+        }
+        Local::Recv { from, branches } => {
+            let at = rows.len();
+            rows.push(Items::new(alloc))?;
+            let nexts = lay_all(alloc, branches.as_slice(), rows, outer)?;
+            rows[at] = receptions(alloc, from, branches.as_slice(), &nexts)?;
+            Ok(at as State)
+        }
+    }
+}
+
+/// Lays the branches out, one after another, and returns the states in which they begin.
+#[cycle(lay)]
+fn lay_all(
+    alloc: Global,
+    branches: &[(SharedMessage, Local)],
+    rows: &mut Vec<Items<Edge>>,
+    outer: &mut Vec<State>,
+) -> Result<Vec<State>, AllocError>
+    requires room { length rows.old.items + nodes_all (local_branches branches.now) ≤ most_nodes }
+    requires closed { ClosedAll (local_branches branches.now) (length outer.old.items) }
+    requires distinct { DistinctAll (local_branches branches.now) }
+    ensures placed { IfOk result (λ nexts. layout.PlacedAll rows.old.items rows.new.items (reverse outer.old.items) (local_branches branches.now) nexts.items) }
+    ensures outer { OnOk result (outer.new.items ≡ outer.old.items) }
+{
+    let mut nexts = Vec::with_capacity(alloc, branches.len())?;
+    for (_, local) in branches {
+        let next = lay(alloc, local, rows, outer)?;
+        nexts.push(next)?;
+    }
+    Ok(nexts)
+}
+
+/// The row of a choice of sends: a send of each branch's message to the state in which the branch
+/// begins, sorted.
+fn sends(
+    alloc: Global,
+    to: &Role,
+    branches: &[(SharedMessage, Local)],
+    nexts: &[State],
+) -> Result<Items<Edge>, AllocError>
+    requires each { length nexts.now ≡ length branches.now }
+    requires differ { Differ (local_branches branches.now) }
+    ensures same { IfOk result (λ row. IsPermutation (layout.edges_of (Sends to.now) (local_branches branches.now) nexts.now) row) }
+    ensures sorted { IfOk result (λ row. AllPairs ComesBefore (layout.actions_of row)) }
+{
+    let edges = send_edges(alloc, to, branches, nexts)?;
+    let edges = sorted(alloc, edges)?;
+    Ok(Items::from_vec(edges))
+}
+
+/// The row of a choice of receptions, likewise.
+fn receptions(
+    alloc: Global,
+    from: &Role,
+    branches: &[(SharedMessage, Local)],
+    nexts: &[State],
+) -> Result<Items<Edge>, AllocError>
+    requires each { length nexts.now ≡ length branches.now }
+    requires differ { Differ (local_branches branches.now) }
+    ensures same { IfOk result (λ row. IsPermutation (layout.edges_of (Receives from.now) (local_branches branches.now) nexts.now) row) }
+    ensures sorted { IfOk result (λ row. AllPairs ComesBefore (layout.actions_of row)) }
+{
+    let edges = reception_edges(alloc, from, branches, nexts)?;
+    let edges = sorted(alloc, edges)?;
+    Ok(Items::from_vec(edges))
+}
+
+/// A send of each branch's message, in the order of the branches.
+fn send_edges(
+    alloc: Global,
+    to: &Role,
+    branches: &[(SharedMessage, Local)],
+    nexts: &[State],
+) -> Result<Vec<Edge>, AllocError>
+    requires { length nexts.now ≡ length branches.now }
+    ensures { IfOk result (λ edges. edges.items ≡ layout.edges_of (Sends to.now) (local_branches branches.now) nexts.now) }
+{
+    let mut edges = Vec::with_capacity(alloc, branches.len())?;
+    for i in 0..branches.len() {
+        let to = to.copy()?;
+        let message = branches[i].0.copy()?;
+        let action = Action::Sends { to, message };
+        let next = nexts[i];
+        edges.push(Edge { action, next })?;
+    }
+    Ok(edges)
+}
+
+/// A reception of each branch's message, in the order of the branches.
+fn reception_edges(
+    alloc: Global,
+    from: &Role,
+    branches: &[(SharedMessage, Local)],
+    nexts: &[State],
+) -> Result<Vec<Edge>, AllocError>
+    requires { length nexts.now ≡ length branches.now }
+    ensures { IfOk result (λ edges. edges.items ≡ layout.edges_of (Receives from.now) (local_branches branches.now) nexts.now) }
+{
+    let mut edges = Vec::with_capacity(alloc, branches.len())?;
+    for i in 0..branches.len() {
+        let from = from.copy()?;
+        let message = branches[i].0.copy()?;
+        let action = Action::Receives { from, message };
+        let next = nexts[i];
+        edges.push(Edge { action, next })?;
+    }
+    Ok(edges)
+}
