@@ -44,7 +44,10 @@ AreAdded before (Some t ∷ ts) after = (m : ModuleTree) × Reads t m × AreAdde
 abbrev pub IsNoModule : List ℕ → EditFault → Type 0
 IsNoModule t (edit.Lex f) = TellsLex t f
 IsNoModule t (edit.Parse f) = (ts : List Lexeme) × IsTokens t ts × TellsParse ts f
+IsNoModule t edit.UnknownModule = ⊥
 IsNoModule t edit.TooManyModules = ⊥
+IsNoModule t (edit.StillImported name) = ⊥
+IsNoModule t edit.VersionsFull = ⊥
 IsNoModule t (edit.ImportMissing name) = ⊥
 IsNoModule t edit.TooManyProtocols = ⊥
 IsNoModule t (edit.Elaborate f) = ⊥

@@ -28,7 +28,7 @@ pub fn full_name_of(alloc: Global, word: &str) -> Result<Option<FullName>, Alloc
     if names.is_empty() {
         return Ok(None);
     }
-    let home = Dotted::from_vec(names);
+    let home = Dotted::from_vec(alloc, names)?;
     Ok(Some(FullName { home, protocol }))
 }
 

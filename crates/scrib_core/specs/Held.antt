@@ -12,7 +12,7 @@ use Rattle.scrib_core.specs.World.{World, conversation}
 use Rattle.scrib_core.specs.Marks.{Marks, unmarked}
 
 abbrev pub world_of : Core → World
-world_of c = record { modules = c.library; conversations = c.conversations.entries }
+world_of c = record { modules = c.library.modules; used = c.library.used; conversations = c.conversations.entries }
 
 -- each verdict is made when it is told, so none is out of date
 abbrev pub marks_of : Core → Marks

@@ -1,6 +1,6 @@
--- The plain world (this project's own): the accepted modules, and for each conversation the name of its protocol and its events.
--- It holds no verdict and no mark.
-use Rattle.std.specs.Prelude.{◌≡◌, ℕ, ◌<◌, ◌≤◌, List, [], ◌∷◌, ◌++◌, length, Option, Some, None, nat_eq, IsSome}
+-- The plain world (this project's own): the accepted modules, how many names the accepted edits have added or replaced, and
+-- for each conversation the name of its protocol and its events. It holds no verdict and no mark.
+use Rattle.std.specs.Prelude.{◌≡◌, ℕ, ◌+◌, ◌<◌, ◌≤◌, List, [], ◌∷◌, ◌++◌, length, Option, Some, None, nat_eq, IsSome}
 use Rattle.std.specs.Map.{lookup, set_value}
 use Rattle.scrib_types.specs.declared.event.Event.{Event}
 use Rattle.scrib_types.specs.Agreement.{Agreement}
@@ -9,7 +9,8 @@ use Rattle.scrib_parser.specs.declared.tree.ModuleTree.{ModuleTree}
 use Rattle.scrib_library.specs.declared.fault.EditFault.{EditFault}
 use Rattle.scrib_library.specs.declared.fault.EditFault.TheVariants as edit
 use Rattle.scrib_library.specs.Modules.{Means}
-use Rattle.scrib_library.specs.Edits.{IsPut, PutFails}
+use Rattle.scrib_library.specs.declared.changes.Change.{Change}
+use Rattle.scrib_library.specs.Edits.{IsPut, IsChanges, new_versions, PutFails}
 use Rattle.scrib_core.specs.declared.conversation.Conversation.{Conversation}
 use Rattle.scrib_core.specs.declared.step.Step.{Step}
 use Rattle.scrib_core.specs.declared.step.Step.TheVariants.{Put, Open, Note, Ask}
@@ -18,11 +19,12 @@ use Rattle.scrib_core.specs.declared.reply.Refusal.TheVariants.{AlreadyOpen, Unk
 
 pub record World : Type 0 where
   pub modules : List ModuleTree
+  pub used : ℕ
   pub conversations : List (ℕ × Conversation)
 
 -- no module and no conversation
 abbrev pub nothing : World
-nothing = record { modules = []; conversations = [] }
+nothing = record { modules = []; used = 0; conversations = [] }
 
 -- the conversation that is open under the id, if any
 abbrev pub conversation : World → ℕ → Option Conversation
@@ -46,16 +48,23 @@ NoteFails c (Edit f) = ⊥
 NoteFails c LogFull = 65536 ≤ length c.log
 NoteFails c OutOfMemory = length c.log < 65536
 
+-- each name that was added or replaced used a version, of which there are at most 65,536
+pub record UsesVersions (w v : World) : Type 0 where
+  pub list : List Change
+  pub changes : IsChanges w.modules v.modules list
+  pub count : v.used ≡ w.used + new_versions list
+  pub few : v.used ≤ 65536
+
 -- What an accepted step makes of the world: a put places the module of its text; an open adds an empty log; a
 -- note appends its event; an ask changes nothing.
 abbrev pub Follows : World → Step → World → Type 0
-Follows w (Put text) v = ((m : ModuleTree) × IsPut w.modules text m v.modules) × (v.conversations ≡ w.conversations)
+Follows w (Put text) v = ((m : ModuleTree) × IsPut w.modules text m v.modules) × UsesVersions w v × (v.conversations ≡ w.conversations)
 Follows w (Open id name) v =
     (conversation w id ≡ None) × ((a : Agreement) × Means w.modules name a) × (length w.conversations < 65536)
-    × (v ≡ record { modules = w.modules; conversations = w.conversations ++ (id, opened name) ∷ [] })
+    × (v ≡ record { modules = w.modules; used = w.used; conversations = w.conversations ++ (id, opened name) ∷ [] })
 Follows w (Note id e) v =
     (c : Conversation) × (conversation w id ≡ Some c) × (length c.log < 65536)
-    × (v ≡ record { modules = w.modules; conversations = set_value (nat_eq id) w.conversations (noted c e) })
+    × (v ≡ record { modules = w.modules; used = w.used; conversations = set_value (nat_eq id) w.conversations (noted c e) })
 Follows w (Ask id) v = IsSome (conversation w id) × (v ≡ w)
 
 -- no other refusal is due, so that the step needs memory; a put needs it to find any refusal but that its text
@@ -73,13 +82,16 @@ Refuses w (Put text) AlreadyOpen = ⊥
 Refuses w (Put text) UnknownProtocol = ⊥
 Refuses w (Put text) TooManyConversations = ⊥
 Refuses w (Put text) NoConversation = ⊥
-Refuses w (Put text) (Edit (edit.Lex f)) = PutFails w.modules text (edit.Lex f)
-Refuses w (Put text) (Edit (edit.Parse f)) = PutFails w.modules text (edit.Parse f)
-Refuses w (Put text) (Edit edit.TooManyModules) = PutFails w.modules text edit.TooManyModules
-Refuses w (Put text) (Edit (edit.ImportMissing name)) = PutFails w.modules text (edit.ImportMissing name)
-Refuses w (Put text) (Edit edit.TooManyProtocols) = PutFails w.modules text edit.TooManyProtocols
-Refuses w (Put text) (Edit (edit.Elaborate f)) = PutFails w.modules text (edit.Elaborate f)
-Refuses w (Put text) (Edit (edit.Project u)) = PutFails w.modules text (edit.Project u)
+Refuses w (Put text) (Edit (edit.Lex f)) = PutFails w.modules w.used text (edit.Lex f)
+Refuses w (Put text) (Edit (edit.Parse f)) = PutFails w.modules w.used text (edit.Parse f)
+Refuses w (Put text) (Edit edit.TooManyModules) = PutFails w.modules w.used text edit.TooManyModules
+Refuses w (Put text) (Edit (edit.ImportMissing name)) = PutFails w.modules w.used text (edit.ImportMissing name)
+Refuses w (Put text) (Edit edit.TooManyProtocols) = PutFails w.modules w.used text edit.TooManyProtocols
+Refuses w (Put text) (Edit (edit.Elaborate f)) = PutFails w.modules w.used text (edit.Elaborate f)
+Refuses w (Put text) (Edit (edit.Project u)) = PutFails w.modules w.used text (edit.Project u)
+Refuses w (Put text) (Edit edit.VersionsFull) = PutFails w.modules w.used text edit.VersionsFull
+Refuses w (Put text) (Edit edit.UnknownModule) = ⊥
+Refuses w (Put text) (Edit (edit.StillImported by)) = ⊥
 Refuses w (Put text) (Edit edit.OutOfMemory) = ⊥
 Refuses w (Put text) LogFull = ⊥
 Refuses w (Put text) OutOfMemory = Unit {0}

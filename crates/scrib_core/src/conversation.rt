@@ -32,7 +32,7 @@ pub(crate) fn verdict_of(
     name: &Dotted,
     log: &[Event],
 ) -> Result<Verdict, AllocError>
-    ensures { IfOk result (λ v. (o : Option Agreement) × IsMeaning library.now name.now o × Judges o log.now v) }
+    ensures { IfOk result (λ v. (o : Option Agreement) × IsMeaning library.now.modules name.now o × Judges o log.now v) }
 {
     match library.present(name) {
         None => Ok(Verdict::Withdrawn),
@@ -47,7 +47,7 @@ pub(crate) fn note(
     conversation: &mut Conversation,
     event: Event,
 ) -> Result<Verdict, Refusal>
-    ensures ok { IfOk result (IsFresh library.now conversation.new) }
+    ensures ok { IfOk result (IsFresh library.now.modules conversation.new) }
     ensures noted { OnOk result (conversation.new ≡ noted conversation.old event) }
     ensures room { OnOk result (length conversation.old.log < 65536) }
     ensures fault { IfErr result (NoteFails conversation.old) }

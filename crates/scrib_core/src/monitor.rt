@@ -115,7 +115,7 @@ impl Core {
             Some(refusal) => return Reply::Refused(refusal),
             None => {}
         }
-        match name.copy(self.alloc) {
+        match name.copy() {
             Ok(name) => self.open(id, name),
             Err(_) => Reply::Refused(Refusal::OutOfMemory),
         }
@@ -131,7 +131,7 @@ impl Core {
         if conversation.log.len() >= MAX_EVENTS {
             return Reply::Refused(Refusal::LogFull);
         }
-        match event.copy(self.alloc) {
+        match event.copy() {
             Ok(event) => self.note(id, event),
             Err(_) => Reply::Refused(Refusal::OutOfMemory),
         }
@@ -176,7 +176,7 @@ impl Core {
             Some(refusal) => return Reply::Refused(refusal),
             None => {}
         }
-        let Ok(told) = name.copy(self.alloc) else {
+        let Ok(told) = name.copy() else {
             return Reply::Refused(Refusal::OutOfMemory);
         };
         let log = Items::new(self.alloc);
@@ -210,7 +210,7 @@ impl Core {
         let Some(conversation) = self.conversations.get(&id) else {
             return Reply::Refused(Refusal::NoConversation);
         };
-        let Ok(name) = conversation.name.copy(self.alloc) else {
+        let Ok(name) = conversation.name.copy() else {
             return Reply::Refused(Refusal::OutOfMemory);
         };
         let log = conversation.log.as_slice();

@@ -10,3 +10,5 @@ mod judgement;
 mod making;
 #[cfg(test)]
 mod monitor;
+#[cfg(test)]
+mod versions;

@@ -19,7 +19,7 @@ pub(crate) fn dotted(alloc: Global, parts: &[&str]) -> Result<Dotted, Fail> {
     if names.is_empty() {
         return Err("no parts".into());
     }
-    Ok(Dotted::from_vec(names))
+    Ok(Dotted::from_vec(alloc, names)?)
 }
 
 /// A library with the module of this text.

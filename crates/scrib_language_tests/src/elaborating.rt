@@ -42,7 +42,7 @@ fn told(alloc: Global, texts: &[&str], module: &str, protocol: &str) -> Result<V
     match elaborate(
         alloc,
         &modules,
-        &Dotted::from_vec(names),
+        &Dotted::from_vec(alloc, names)?,
         &name(alloc, protocol)?,
     ) {
         Ok(elaborated) => {

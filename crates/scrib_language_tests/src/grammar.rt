@@ -2,8 +2,8 @@ use scrib_lexer::lex::lex;
 use scrib_parser::fault::{LeftOutWord, ParseFault};
 use scrib_parser::parse::parse;
 use scrib_parser::tree::{Import, ModuleTree, Statement};
-use scrib_types::message::Message;
 use scrib_types::name::{Dotted, Name};
+use scrib_types::shared_message::SharedMessage;
 use scrib_types::spot::Spot;
 use std::alloc::{AllocError, Global};
 use std::test::Fail;
@@ -43,12 +43,12 @@ fn put_names(out: &mut Vec<u8>, names: &[Name]) -> Result<(), AllocError> {
     Ok(())
 }
 
-fn put_message(out: &mut Vec<u8>, message: &Message) -> Result<(), AllocError> {
-    match &message.op {
+fn put_message(out: &mut Vec<u8>, message: &SharedMessage) -> Result<(), AllocError> {
+    match &message.get().op {
         Some(op) => out.extend_from_slice(op.as_bytes())?,
         None => out.push(b'-')?,
     }
-    for sort in message.payload.as_slice() {
+    for sort in message.get().payload.as_slice() {
         out.push(b' ')?;
         put_dotted(out, sort)?;
     }

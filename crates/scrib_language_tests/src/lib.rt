@@ -1,10 +1,14 @@
-//! Tests of the language: tokens, trees, types, and elaboration of large modules.
+//! Tests of the lower layers: tokens, trees, types, elaboration of large modules, machines and queues.
 #![tactic(auto)]
 
 #[cfg(test)]
 mod elaborating;
 #[cfg(test)]
 mod grammar;
+#[cfg(test)]
+mod machines;
+#[cfg(test)]
+mod queues;
 #[cfg(test)]
 mod tokens;
 #[cfg(test)]

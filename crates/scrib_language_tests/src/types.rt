@@ -6,6 +6,7 @@ use scrib_types::local::Local;
 use scrib_types::message::{Message, Payload};
 use scrib_types::name::{Dotted, Name};
 use scrib_types::plain::{Boxed, Items};
+use scrib_types::shared_message::SharedMessage;
 use scrib_types::text::{push_action, push_number};
 use std::alloc::Global;
 use std::test::Fail;
@@ -18,18 +19,19 @@ fn dotted(alloc: Global, first: &[u8], second: &[u8]) -> Result<Dotted, Fail> {
     let mut names = Vec::new(alloc);
     names.push(name(alloc, first)?)?;
     names.push(name(alloc, second)?)?;
-    Ok(Dotted::from_vec(names))
+    Ok(Dotted::from_vec(alloc, names)?)
 }
 
 // `a(Int.T,b.Str)`
-fn message(alloc: Global) -> Result<Message, Fail> {
+fn message(alloc: Global) -> Result<SharedMessage, Fail> {
     let mut sorts = Vec::new(alloc);
     sorts.push(dotted(alloc, b"Int", b"T")?)?;
     sorts.push(dotted(alloc, b"b", b"Str")?)?;
-    Ok(Message {
+    let message = Message {
         op: Some(name(alloc, b"a")?),
         payload: Payload::from_vec(sorts),
-    })
+    };
+    Ok(SharedMessage::new(alloc, message)?)
 }
 
 #[test]
@@ -75,7 +77,7 @@ fn a_message_may_lack_its_operator(rt: HostRuntime) -> Result<(), Fail> {
     let payload = Payload::from_vec(Vec::new(alloc));
     let receives = Action::Receives {
         from: name(alloc, b"A")?,
-        message: Message { op, payload },
+        message: SharedMessage::new(alloc, Message { op, payload })?,
     };
     let mut out = Vec::new(alloc);
     push_action(&mut out, &receives)?;
@@ -126,7 +128,7 @@ fn the_copy_of_an_event_has_its_subject(rt: HostRuntime) -> Result<(), Fail> {
     let to = name(rt.alloc(), b"B")?;
     let message = message(rt.alloc())?;
     let event = Event::Received { from, to, message };
-    let copied = event.copy(rt.alloc())?;
+    let copied = event.copy()?;
     assert!(rt; copied.subject().as_bytes() == b"B".as_slice());
     Ok(())
 }

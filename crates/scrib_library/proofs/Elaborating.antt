@@ -1,115 +1,148 @@
--- From the declared protocols to what they mean, and to their versions.
-use Rattle.std.proofs.Common.{◌≡◌, ℕ, List, ◌∷◌, [], ◌++◌, Err, inl, inr, sym, ap, ◌∙◌, subst}
+-- From entries to what their protocols mean, and to the projections.
+use Rattle.std.proofs.Common.{◌≡◌, ℕ, true, List, ◌∷◌, [], ◌++◌, Option, Some, None, Err, inl, inr, sym, ◌∙◌, subst}
 use Rattle.std.specs.List.{Contains}
+use Rattle.std.proofs.lemmas.Bool.{false≢true}
 use Rattle.std.proofs.lemmas.List.{map-append}
 use Rattle.std.proofs.lemmas.List.Elements.{Contains-push_cases}
 use Rattle.scrib_types.specs.Agreement.{Agreement}
 use Rattle.scrib_parser.specs.declared.tree.ModuleTree.{ModuleTree}
-use Rattle.scrib_elaborate.specs.declared.elaborated.Elaborated.{Elaborated}
 use Rattle.scrib_elaborate.specs.declared.fault.ElaborateFault.{ElaborateFault}
 use Rattle.scrib_elaborate.specs.declared.fault.ElaborateFault.TheVariants as elaborate
 use Rattle.scrib_elaborate.specs.Elaboration.{Elaborates}
 use Rattle.scrib_elaborate.specs.Faults.{FailsAt, IsBroken}
-use Rattle.scrib_elaborate.specs.Meaning.{meaning_of}
 use Rattle.scrib_project.specs.declared.fault.ProjectFault.{ProjectFault}
 use Rattle.scrib_project.specs.declared.fault.ProjectFault.TheVariants as project
 use Rattle.scrib_project.specs.Faults.{Agrees}
-use Rattle.scrib_record.specs.Versions as record_versions
 use Rattle.scrib_library.specs.declared.declared.Entry.{Entry}
-use Rattle.scrib_library.specs.declared.versions.NamedElaborated.{NamedElaborated}
-use Rattle.scrib_library.specs.declared.versions.NamedVersion.{NamedVersion}
+use Rattle.scrib_library.specs.declared.meanings.NamedElaborated.{NamedElaborated}
+use Rattle.scrib_library.specs.declared.meanings.NamedMeaning.{NamedMeaning}
 use Rattle.scrib_library.specs.declared.fault.EditFault.{EditFault}
 use Rattle.scrib_library.specs.declared.fault.EditFault.TheVariants as edit
 use Rattle.scrib_library.specs.Made.{edit_fault_of_elaborate, edit_fault_of_project}
-use Rattle.scrib_library.specs.Modules.{Means, AreMeant, name_of}
-use Rattle.scrib_library.specs.Listed.{AreDeclaredNames}
-use Rattle.scrib_library.specs.Entries.{entry_names, AreEntries}
-use Rattle.scrib_library.specs.Stored.{version_names, AreVersions}
-use Rattle.scrib_library.specs.Elaborated.{elaborated_names, AreElaborated, AreVersionsOf, IsUnprojected, IsRefusal}
-use Rattle.scrib_library.proofs.Lists.{Contains-map_back}
-use Rattle.scrib_library.proofs.Meanings.{declared_of, declared_means}
+use Rattle.scrib_library.specs.Listed.{AreInOrder}
+use Rattle.scrib_library.specs.Entries.{entry_names, AreStanding}
+use Rattle.scrib_library.specs.Elaborated.{elaborated_names, meaning_names, found, meant, IsMeant, IsMeaningOf, IsFoundFor, IsBrokenEntry, AreElaborated, AreMeanings, IsProjected, StopsNamed, IsProjectionOf, AreProjected, AreElaborable, StopsProjection, IsRefusal}
+use Rattle.scrib_library.proofs.Lists.{Contains-map, Contains-map_back}
+use Rattle.scrib_library.proofs.Orders.{once}
 
 -- ---- elaboration
 
-module _ (ms : List ModuleTree) (es : List Entry) (h : AreEntries ms es) where
+pub broken_entry : (ms : List ModuleTree) (e : Entry) (f : ElaborateFault) → e.stands ≡ true → FailsAt ms e.home.now e.protocol.now f → IsBrokenEntry ms e (edit_fault_of_elaborate f)
+broken_entry ms e elaborate.OutOfMemory s k = tt
+broken_entry ms e (elaborate.Broken f) s k = (s, k)
+
+module _ (ms : List ModuleTree) (es : List Entry) where
   -- one more that is elaborated
-  pub elaborated_more : (xs : List NamedElaborated) (ys : List Entry) (e : Entry) (x : Elaborated) → Contains es e → elaborated_names xs ≡ entry_names ys → ((y : NamedElaborated) → Contains xs y → Means ms y.name (meaning_of y.elaborated)) → Elaborates ms e.home.now e.protocol.now (meaning_of x)
-      → (elaborated_names (xs ++ record { name = e.name; elaborated = x } ∷ []) ≡ entry_names (ys ++ e ∷ [])) × ((y : NamedElaborated) → Contains (xs ++ record { name = e.name; elaborated = x } ∷ []) y → Means ms y.name (meaning_of y.elaborated))
-  elaborated_more xs ys e x there names sound meant =
-      let new : NamedElaborated = record { name = e.name; elaborated = x } in
-      let s = (h.sound e there).2 in
-      let named : e.name ≡ e.home.now ++ e.protocol.now ∷ [] = s.named ∙ sym (λ i. s.home i ++ s.protocol i ∷ []) in
-      let means : Means ms e.name (meaning_of x) = record { home = e.home.now; protocol = e.protocol.now; named = named; elaborated = meant } in (
-        map-append (λ (y : NamedElaborated). y.name) xs (new ∷ []) ∙ ap (λ l. l ++ e.name ∷ []) names ∙ sym (map-append (λ (y : Entry). y.name) ys (e ∷ [])),
-        λ y p. elim (Contains-push_cases xs new y p) [
-          | inl q ↦ sound y q
-          | inr same ↦ (let P : NamedElaborated → Type 0 = λ z. Means ms z.name (meaning_of z.elaborated) in subst P same means)
-        ],
-      )
-
-  pub elaborated_all : (xs : List NamedElaborated) → elaborated_names xs ≡ entry_names es → ((y : NamedElaborated) → Contains xs y → Means ms y.name (meaning_of y.elaborated)) → AreElaborated ms xs
-  elaborated_all xs names sound =
-      let P : List (List (List ℕ)) → Type 0 = λ l. AreDeclaredNames ms l in
-      record { listed = subst P (sym names) h.listed; sound = sound }
-
-  -- why one isn't
-  pub not_elaborated : (e : Entry) (f : ElaborateFault) → Contains es e → FailsAt ms e.home.now e.protocol.now f → IsRefusal ms (edit_fault_of_elaborate f)
-  not_elaborated e elaborate.OutOfMemory there k = tt
-  not_elaborated e (elaborate.Broken f) there k =
-      let s = h.sound e there in
-      let P : List (List ℕ) → Type 0 = λ home. IsBroken ms home s.0.protocol.name f in
-      let Q : List ℕ → Type 0 = λ name. IsBroken ms e.home.now name f in
-      (s.0, s.1, subst P s.2.home (subst Q s.2.protocol k))
-
--- ---- projection
-
-module _ (xs : List NamedElaborated) where
-  abbrev IsSource : NamedVersion → Type 0
-  IsSource v = (x : NamedElaborated) × Contains xs x × (v.name ≡ x.name) × (record_versions.meaning_of v.version ≡ meaning_of x.elaborated)
-
-  pub projected_more : (vs : List NamedVersion) (ys : List NamedElaborated) (x : NamedElaborated) (v : NamedVersion) → Contains xs x → version_names vs ≡ elaborated_names ys → ((w : NamedVersion) → Contains vs w → IsSource w) → v.name ≡ x.name → record_versions.meaning_of v.version ≡ meaning_of x.elaborated
-      → (version_names (vs ++ v ∷ []) ≡ elaborated_names (ys ++ x ∷ [])) × ((w : NamedVersion) → Contains (vs ++ v ∷ []) w → IsSource w)
-  projected_more vs ys x v there names sound named meant = (
-    map-append (λ (y : NamedVersion). y.name) vs (v ∷ []) ∙ (λ i. names i ++ named i ∷ []) ∙ sym (map-append (λ (y : NamedElaborated). y.name) ys (x ∷ [])),
-    λ w p. elim (Contains-push_cases vs v w p) [
-      | inl q ↦ sound w q
-      | inr same ↦ (let P : NamedVersion → Type 0 = λ z. IsSource z in subst P same (x, there, named, meant))
+  pub elaborated_more : (xs : List NamedElaborated) (ys : List Entry) (e : Entry) (x : NamedElaborated) → Contains es e → elaborated_names xs ≡ entry_names ys → ((y : NamedElaborated) → Contains xs y → IsMeaningOf ms es y.name (found y)) → IsFoundFor ms e x
+      → (elaborated_names (xs ++ x ∷ []) ≡ entry_names (ys ++ e ∷ [])) × ((y : NamedElaborated) → Contains (xs ++ x ∷ []) y → IsMeaningOf ms es y.name (found y))
+  elaborated_more xs ys e x there names sound new = (
+    map-append (λ (y : NamedElaborated). y.name) xs (x ∷ []) ∙ (λ i. names i ++ new.named i ∷ []) ∙ sym (map-append (λ (y : Entry). y.name) ys (e ∷ [])),
+    λ y p. elim (Contains-push_cases xs x y p) [
+      | inl q ↦ sound y q
+      | inr same ↦ (let P : NamedElaborated → Type 0 = λ z. IsMeaningOf ms es z.name (found z) in subst P same (record { entry = e; there = there; named = new.named; means = new.means }))
     ],
   )
 
-  pub not_projected : (x : NamedElaborated) (f : ProjectFault) → Contains xs x → Agrees (meaning_of x.elaborated) (Err f) → IsUnprojected xs (edit_fault_of_project f)
-  not_projected x project.OutOfMemory there k = tt
-  not_projected x (project.Unmergeable u) there k = (x, there, k.0)
+  -- why one isn't
+  pub not_elaborated : AreStanding ms es → (e : Entry) (f : EditFault) → Contains es e → IsBrokenEntry ms e f → IsRefusal ms es f
+  not_elaborated stand e (edit.Elaborate f) there k =
+      let s = stand e there k.0 in
+      let P : List (List ℕ) → Type 0 = λ home. IsBroken ms home s.declaration.protocol.name f in
+      let Q : List ℕ → Type 0 = λ name. IsBroken ms e.home.now name f in
+      ((e, there, k.0), (s.declaration, s.there, subst P s.entry.home (subst Q s.entry.protocol k.1)))
+  not_elaborated stand e edit.OutOfMemory there k = tt
+  not_elaborated stand e (edit.Project u) there k = absurd k
+  not_elaborated stand e edit.TooManyModules there k = absurd k
+  not_elaborated stand e edit.UnknownModule there k = absurd k
+  not_elaborated stand e (edit.StillImported n) there k = absurd k
+  not_elaborated stand e (edit.ImportMissing n) there k = absurd k
+  not_elaborated stand e edit.TooManyProtocols there k = absurd k
+  not_elaborated stand e edit.VersionsFull there k = absurd k
+  not_elaborated stand e (edit.Lex f) there k = absurd k
+  not_elaborated stand e (edit.Parse f) there k = absurd k
+
+-- ---- projection
+
+pub unprojected_named : (x : NamedElaborated) (a : Agreement) (f : ProjectFault) → found x ≡ Some a → Agrees a (Err f) → StopsNamed x (edit_fault_of_project f)
+unprojected_named x a project.OutOfMemory is k = tt
+unprojected_named x a (project.Unmergeable u) is k = (a, is, k.0)
+
+module _ (xs : List NamedElaborated) where
+  pub projected_more : (vs : List NamedMeaning) (ys : List NamedElaborated) (x : NamedElaborated) (v : NamedMeaning) → Contains xs x → meaning_names vs ≡ elaborated_names ys → ((w : NamedMeaning) → Contains vs w → IsProjectionOf xs w) → IsProjected x v
+      → (meaning_names (vs ++ v ∷ []) ≡ elaborated_names (ys ++ x ∷ [])) × ((w : NamedMeaning) → Contains (vs ++ v ∷ []) w → IsProjectionOf xs w)
+  projected_more vs ys x v there names sound new = (
+    map-append (λ (y : NamedMeaning). y.name) vs (v ∷ []) ∙ (λ i. names i ++ new.named i ∷ []) ∙ sym (map-append (λ (y : NamedElaborated). y.name) ys (x ∷ [])),
+    λ w p. elim (Contains-push_cases vs v w p) [
+      | inl q ↦ sound w q
+      | inr same ↦ (let P : NamedMeaning → Type 0 = λ z. IsProjectionOf xs z in subst P same (record { source = x; there = there; named = new.named; means = new.means }))
+    ],
+  )
+
+  pub not_projected : (x : NamedElaborated) (f : EditFault) → Contains xs x → StopsNamed x f → StopsProjection xs f
+  not_projected x (edit.Project u) there k = record { source = x; there = there; meaning = k.0; means = k.1; first = k.2 }
+  not_projected x edit.OutOfMemory there k = tt
+  not_projected x (edit.Elaborate f) there k = absurd k
+  not_projected x edit.TooManyModules there k = absurd k
+  not_projected x edit.UnknownModule there k = absurd k
+  not_projected x (edit.StillImported n) there k = absurd k
+  not_projected x (edit.ImportMissing n) there k = absurd k
+  not_projected x edit.TooManyProtocols there k = absurd k
+  not_projected x edit.VersionsFull there k = absurd k
+  not_projected x (edit.Lex f) there k = absurd k
+  not_projected x (edit.Parse f) there k = absurd k
 
 -- ---- both
 
-module _ (ms : List ModuleTree) (xs : List NamedElaborated) (h : AreElaborated ms xs) where
-  pub versions_made : (vs : List NamedVersion) → AreVersionsOf xs vs → AreVersions ms vs
-  versions_made vs k =
-      let P : List (List (List ℕ)) → Type 0 = λ l. AreDeclaredNames ms l in
-      record {
-        listed = subst P (sym k.names) h.listed;
-        sound = λ v p.
-            let s = k.sound v p in
-            let Q : List (List ℕ) → Type 0 = λ n. Means ms n (record_versions.meaning_of v.version) in
-            let R : Agreement → Type 0 = λ a. Means ms s.0.name a in
-            subst Q (sym s.2) (subst R (sym s.3) (h.sound s.0 s.1));
-      }
+module _ (ms : List ModuleTree) (es : List Entry) where
+  stands_meant : (e : Entry) (o : Option Agreement) → e.stands ≡ true → IsMeant ms e o → (a : Agreement) × Elaborates ms e.home.now e.protocol.now a
+  stands_meant e None s k = absurd (false≢true (sym k ∙ s))
+  stands_meant e (Some a) s k = (a, k.1)
 
-  all_meant : AreMeant ms
-  all_meant d p =
-      let c = Contains-map_back (λ (x : NamedElaborated). x.name) xs (name_of d) (h.listed.complete d p) in
-      (meaning_of c.0.elaborated, declared_means ms d c.0.name (meaning_of c.0.elaborated) (h.sound c.0 c.1) c.2)
+  elaborable : AreInOrder (entry_names es) → (X : Type 0) (xs : List X) (name : X → List (List ℕ)) (o : X → Option Agreement) → ((e : Entry) → Contains es e → (x : X) × Contains xs x × (name x ≡ e.name)) → ((x : X) → Contains xs x → IsMeaningOf ms es (name x) (o x)) → AreElaborable ms es
+  elaborable sorted X xs name o back sound e p s =
+      let x = back e p in
+      let m = sound x.0 x.1 in
+      let same : m.entry ≡ e = once (λ (y : Entry). y.name) es sorted m.entry e m.there p (sym m.named ∙ x.2) in
+      let P : Entry → Type 0 = λ y. IsMeant ms y (o x.0) in
+      stands_meant e (o x.0) s (subst P same m.means)
 
-  pub no_versions : (f : EditFault) → IsUnprojected xs f → IsRefusal ms f
-  no_versions (edit.Project u) k =
-      let a = meaning_of k.0.elaborated in
-      let d = declared_of ms k.0.name a (h.sound k.0 k.1) in
-      (all_meant, (d.0, a, d.1, d.3, k.2))
-  no_versions edit.OutOfMemory k = tt
-  no_versions edit.TooManyModules k = absurd k
-  no_versions (edit.ImportMissing name) k = absurd k
-  no_versions edit.TooManyProtocols k = absurd k
-  no_versions (edit.Elaborate f) k = absurd k
-  no_versions (edit.Lex f) k = absurd k
-  no_versions (edit.Parse f) k = absurd k
+  pub elaborable_by : AreInOrder (entry_names es) → (xs : List NamedElaborated) → AreElaborated ms es xs → AreElaborable ms es
+  elaborable_by sorted xs h =
+      let P : (e : Entry) → List (List (List ℕ)) → Type 0 = λ e l. Contains l e.name in
+      elaborable sorted NamedElaborated xs (λ x. x.name) found (λ e p. Contains-map_back (λ (x : NamedElaborated). x.name) xs e.name (subst (P e) (sym h.names) (Contains-map (λ (y : Entry). y.name) es e p))) h.sound
+
+  pub elaborable_from : AreInOrder (entry_names es) → (ys : List NamedMeaning) → AreMeanings ms es ys → AreElaborable ms es
+  elaborable_from sorted ys h =
+      let P : (e : Entry) → List (List (List ℕ)) → Type 0 = λ e l. Contains l e.name in
+      elaborable sorted NamedMeaning ys (λ x. x.name) meant (λ e p. Contains-map_back (λ (x : NamedMeaning). x.name) ys e.name (subst (P e) (sym h.names) (Contains-map (λ (y : Entry). y.name) es e p))) h.sound
+
+  module _ (xs : List NamedElaborated) (h : AreElaborated ms es xs) where
+    pub meanings_made : (ys : List NamedMeaning) → AreProjected xs ys → AreMeanings ms es ys
+    meanings_made ys k = record {
+      names = k.names ∙ h.names;
+      sound = λ y p.
+          let s = k.sound y p in
+          let m = h.sound s.source s.there in
+          let P : Option Agreement → Type 0 = λ o. IsMeant ms m.entry o in
+          record { entry = m.entry; there = m.there; named = s.named ∙ m.named; means = subst P (sym s.means) m.means };
+    }
+
+    pub no_meanings : AreInOrder (entry_names es) → AreStanding ms es → (f : EditFault) → StopsProjection xs f → IsRefusal ms es f
+    no_meanings sorted stand (edit.Project u) k =
+        let m = h.sound k.source k.there in
+        let P : Option Agreement → Type 0 = λ o. IsMeant ms m.entry o in
+        let e = subst P k.means m.means in
+        let s = stand m.entry m.there e.0 in
+        let Q : List (List ℕ) → Type 0 = λ home. Elaborates ms home s.declaration.protocol.name k.meaning in
+        let R : List ℕ → Type 0 = λ name. Elaborates ms m.entry.home.now name k.meaning in
+        ((m.entry, m.there, e.0), elaborable_by sorted xs h, (s.declaration, k.meaning, s.there, subst Q s.entry.home (subst R s.entry.protocol e.1), k.first))
+    no_meanings sorted stand edit.OutOfMemory k = tt
+    no_meanings sorted stand (edit.Elaborate f) k = absurd k
+    no_meanings sorted stand edit.TooManyModules k = absurd k
+    no_meanings sorted stand edit.UnknownModule k = absurd k
+    no_meanings sorted stand (edit.StillImported n) k = absurd k
+    no_meanings sorted stand (edit.ImportMissing n) k = absurd k
+    no_meanings sorted stand edit.TooManyProtocols k = absurd k
+    no_meanings sorted stand edit.VersionsFull k = absurd k
+    no_meanings sorted stand (edit.Lex f) k = absurd k
+    no_meanings sorted stand (edit.Parse f) k = absurd k

@@ -1,17 +1,19 @@
--- The declared protocols, put in their places one after another.
-use Rattle.std.proofs.Common.{◌≡◌, ℕ, ◌+◌, ◌<◌, List, [], ◌∷◌, ◌++◌, length, get_or, take, ◌⊎◌, inl, inr, sym, ap, ◌∙◌, subst, arith}
+-- The protocols of modules, put in their places one after another.
+use Rattle.std.proofs.Common.{◌≡◌, ℕ, ◌+◌, ◌<◌, Bool, true, false, List, [], ◌∷◌, ◌++◌, length, get_or, take, None, Some, ◌⊎◌, inl, inr, refl, sym, ap, ◌∙◌, subst, arith}
 use Rattle.std.specs.List.{Contains, insert}
+use Rattle.std.proofs.lemmas.Bool.{false≢true}
 use Rattle.std.proofs.lemmas.List.{take_more}
 use Rattle.std.proofs.lemmas.List.Elements.{Contains-push, Contains-push_cases, Contains-append_left}
 use Rattle.scrib_parser.specs.declared.tree.ModuleTree.{ModuleTree}
 use Rattle.scrib_parser.specs.declared.tree.ProtocolDeclaration.{ProtocolDeclaration}
+use Rattle.scrib_elaborate.specs.Names.{Declaration}
 use Rattle.scrib_library.specs.declared.declared.Entry.{Entry}
 use Rattle.scrib_library.specs.Modules.{full_name, name_of}
 use Rattle.scrib_library.specs.Listed.{AreInOrder, IsAt, IsGap}
-use Rattle.scrib_library.specs.Entries.{entry_names, IsEntryOf, AreEntries, AreEntered}
+use Rattle.scrib_library.specs.Entries.{entry_names, IsEntryOf, IsNewEntry, AreEntries, AreEntered, AreTouched}
 use Rattle.scrib_library.proofs.Lists.{Contains-nil}
 use Rattle.scrib_library.proofs.Places.{declared-back, declared-there}
-use Rattle.scrib_library.proofs.Searching.{Contains-insert, Contains-insert_cases, map-insert, in_order-insert, Contains-at}
+use Rattle.scrib_library.proofs.Searching.{Contains-insert, Contains-insert_cases, map-insert, in_order-insert, Contains-at, not_at_gap}
 
 -- one more element of the front of a list
 taken_cases : {X : Type 0} (xs : List X) (i : ℕ) (x : X) → i < length xs → x ≡ get_or xs i x → (y : X) → Contains (take (i + 1) xs) y → Contains (take i xs) y ⊎ (x ≡ y)
@@ -31,11 +33,11 @@ taken_last {X} xs i x lt at =
 
 -- ---- the protocols of a module
 
-module _ (m : ModuleTree) (before : List Entry) where
-  pub entered_none : AreInOrder (entry_names before) → AreEntered m before [] before
+module _ (m : ModuleTree) (stands : Bool) (before : List Entry) where
+  pub entered_none : AreInOrder (entry_names before) → AreEntered m stands before [] before
   entered_none sorted = record { sorted = sorted; kept = λ n p. p; entered = λ p q. absurd (Contains-nil p q); sound = λ e p. inl p }
 
-  module _ (ps : List ProtocolDeclaration) (i : ℕ) (p : ProtocolDeclaration) (lt : i < length ps) (at : p ≡ get_or ps i p) (es : List Entry) (h : AreEntered m before (take i ps) es) where
+  module _ (ps : List ProtocolDeclaration) (i : ℕ) (p : ProtocolDeclaration) (lt : i < length ps) (at : p ≡ get_or ps i p) (es : List Entry) (h : AreEntered m stands before (take i ps) es) where
     entered_with : (fs : List Entry) → ((n : List (List ℕ)) → Contains (entry_names es) n → Contains (entry_names fs) n) → Contains (entry_names fs) (full_name m.name p.name) → (q : ProtocolDeclaration) → Contains (take (i + 1) ps) q → Contains (entry_names fs) (full_name m.name q.name)
     entered_with fs more new q t =
         elim (taken_cases ps i p lt at q t) [
@@ -43,10 +45,14 @@ module _ (m : ModuleTree) (before : List Entry) where
           | inr e ↦ (let P : ProtocolDeclaration → Type 0 = λ x. Contains (entry_names fs) (full_name m.name x.name) in subst P e new)
         ]
 
-    sound_with : (e : Entry) → Contains es e → Contains before e ⊎ ((q : ProtocolDeclaration) × Contains (take (i + 1) ps) q × IsEntryOf (record { home = m; protocol = q }) e)
-    sound_with e t = elim (h.sound e t) [ inl b ↦ inl b | inr r ↦ inr (r.0, taken_back ps i p lt at r.0 r.1, r.2) ]
+    sound_with : (e : Entry) → Contains es e → Contains before e ⊎ IsNewEntry m stands before (take (i + 1) ps) e
+    sound_with e t =
+        elim (h.sound e t) [
+          | inl b ↦ inl b
+          | inr r ↦ inr (record { protocol = r.protocol; there = taken_back ps i p lt at r.protocol r.there; entry = r.entry; stood = r.stood; new = r.new })
+        ]
 
-    pub entered_found : (n : List (List ℕ)) (k : ℕ) → n ≡ full_name m.name p.name → IsAt (entry_names es) n k → AreEntered m before (take (i + 1) ps) es
+    pub entered_found : (n : List (List ℕ)) (k : ℕ) → n ≡ full_name m.name p.name → IsAt (entry_names es) n k → AreEntered m stands before (take (i + 1) ps) es
     entered_found n k named there =
         let P : List (List ℕ) → Type 0 = λ x. Contains (entry_names es) x in
         record {
@@ -56,49 +62,136 @@ module _ (m : ModuleTree) (before : List Entry) where
           sound = sound_with;
         }
 
-    pub entered_new : (k : ℕ) (e : Entry) → IsEntryOf (record { home = m; protocol = p }) e → IsGap (entry_names es) e.name k → AreEntered m before (take (i + 1) ps) (insert es k e)
-    entered_new k e entry gap =
+    pub entered_new : (k : ℕ) (e : Entry) → IsEntryOf (record { home = m; protocol = p }) e → e.stands ≡ stands → IsGap (entry_names es) e.name k → AreEntered m stands before (take (i + 1) ps) (insert es k e)
+    entered_new k e entry stood gap =
         let names : entry_names (insert es k e) ≡ insert (entry_names es) k e.name = map-insert (λ (x : Entry). x.name) es k e in
         let P : List (List (List ℕ)) → Type 0 = λ l. AreInOrder l in
         let more : (n : List (List ℕ)) → (e.name ≡ n) ⊎ Contains (entry_names es) n → Contains (entry_names (insert es k e)) n =
         (λ n t. let Q : List (List (List ℕ)) → Type 0 = λ l. Contains l n in subst Q (sym names) (Contains-insert (entry_names es) k e.name n t)) in
+        let made : IsNewEntry m stands before (take (i + 1) ps) e =
+        record {
+          protocol = p;
+          there = taken_last ps i p lt at;
+          entry = entry;
+          stood = stood;
+          new = λ t. not_at_gap (entry_names es) k e.name gap (h.kept e.name t);
+        } in
         record {
           sorted = subst P (sym names) (in_order-insert (entry_names es) k e.name h.sorted gap);
           kept = λ n t. more n (inr (h.kept n t));
           entered = entered_with (insert es k e) (λ n t. more n (inr t)) (more (full_name m.name p.name) (inl entry.named));
           sound = λ f t. elim (Contains-insert_cases es k e f t) [
-            | inl same ↦ (let Q : Entry → Type 0 = λ x. IsEntryOf (record { home = m; protocol = p }) x in inr (p, taken_last ps i p lt at, subst Q same entry))
+            | inl same ↦ (let Q : Entry → Type 0 = λ x. IsNewEntry m stands before (take (i + 1) ps) x in inr (subst Q same made))
             | inr r ↦ sound_with f r
           ];
         }
 
--- ---- the modules
+-- ---- the modules of these names
 
-pub entries_none : AreEntries [] []
-entries_none = record {
-  listed = record { sorted = λ i j d lt last. absurd (omega (arith, last)); complete = λ d p. absurd (Contains-nil d p) };
-  sound = λ e p. absurd (Contains-nil e p);
-}
+module _ (names : List (List (List ℕ))) where
+  pub entries_none : AreEntries [] names []
+  entries_none = record {
+    sorted = λ i j d lt last. absurd (omega (arith, last));
+    complete = λ d p. absurd (Contains-nil d p);
+    stand = λ e p. absurd (Contains-nil e p);
+    sound = λ e p. absurd (Contains-nil e p);
+  }
 
-pub entries_more : (ms : List ModuleTree) (i : ℕ) (m : ModuleTree) (es fs : List Entry) → i < length ms → m ≡ get_or ms i m → AreEntries (take i ms) es → AreEntered m es m.protocols fs → AreEntries (take (i + 1) ms) fs
-entries_more ms i m es fs lt at h new = record {
-  listed = record {
-    sorted = new.sorted;
-    complete = λ d p.
-        let b = declared-back (take (i + 1) ms) d p in
-        elim (taken_cases ms i m lt at d.home b.0) [
-          | inl r ↦ new.kept (name_of d) (h.listed.complete d (declared-there (take i ms) d.home d.protocol r b.1))
-          | inr e ↦ (
-              let P : ModuleTree → Type 0 = λ x. Contains x.protocols d.protocol in
-              let Q : ModuleTree → Type 0 = λ x. Contains (entry_names fs) (full_name x.name d.protocol.name) in
-              subst Q e (new.entered d.protocol (subst P (sym e) b.1)))
-        ];
-  };
-  sound = λ e p. elim (new.sound e p) [
-    | inl r ↦ (
-        let s = h.sound e r in
-        let b = declared-back (take i ms) s.0 s.1 in
-        (s.0, declared-there (take (i + 1) ms) s.0.home s.0.protocol (taken_back ms i m lt at s.0.home b.0) b.1, s.2))
-    | inr r ↦ (record { home = m; protocol = r.0 }, declared-there (take (i + 1) ms) m r.0 (taken_last ms i m lt at) r.1, r.2)
-  ];
-}
+  module _ (ms : List ModuleTree) (i : ℕ) (m : ModuleTree) (es : List Entry) (lt : i < length ms) (at : m ≡ get_or ms i m) (h : AreEntries (take i ms) names es) where
+    pub entries_same : (Contains names m.name → ⊥) → AreEntries (take (i + 1) ms) names es
+    entries_same other = record {
+      sorted = h.sorted;
+      complete = λ d p named.
+          let b = declared-back (take (i + 1) ms) d p in
+          elim (taken_cases ms i m lt at d.home b.0) [
+            | inl r ↦ h.complete d (declared-there (take i ms) d.home d.protocol r b.1) named
+            | inr e ↦ absurd (other (let P : ModuleTree → Type 0 = λ x. Contains names x.name in subst P (sym e) named))
+          ];
+      stand = h.stand;
+      sound = λ e p s.
+          let r = h.sound e p s in
+          let b = declared-back (take i ms) r.declaration r.there in
+          record {
+            declaration = r.declaration;
+            there = declared-there (take (i + 1) ms) r.declaration.home r.declaration.protocol (taken_back ms i m lt at r.declaration.home b.0) b.1;
+            entry = r.entry;
+          };
+    }
+
+    pub entries_more : (fs : List Entry) → AreEntered m true es m.protocols fs → AreEntries (take (i + 1) ms) names fs
+    entries_more fs new = record {
+      sorted = new.sorted;
+      complete = λ d p named.
+          let b = declared-back (take (i + 1) ms) d p in
+          elim (taken_cases ms i m lt at d.home b.0) [
+            | inl r ↦ new.kept (name_of d) (h.complete d (declared-there (take i ms) d.home d.protocol r b.1) named)
+            | inr e ↦ (
+                let P : ModuleTree → Type 0 = λ x. Contains x.protocols d.protocol in
+                let Q : ModuleTree → Type 0 = λ x. Contains (entry_names fs) (full_name x.name d.protocol.name) in
+                subst Q e (new.entered d.protocol (subst P (sym e) b.1)))
+          ];
+      stand = λ e p. elim (new.sound e p) [ inl r ↦ h.stand e r | inr r ↦ r.stood ];
+      sound = λ e p s. elim (new.sound e p) [
+        | inl r ↦ (
+            let k = h.sound e r s in
+            let b = declared-back (take i ms) k.declaration k.there in
+            record {
+              declaration = k.declaration;
+              there = declared-there (take (i + 1) ms) k.declaration.home k.declaration.protocol (taken_back ms i m lt at k.declaration.home b.0) b.1;
+              entry = k.entry;
+            })
+        | inr r ↦ record {
+          declaration = record { home = m; protocol = r.protocol };
+          there = declared-there (take (i + 1) ms) m r.protocol (taken_last ms i m lt at) r.there;
+          entry = r.entry;
+        }
+      ];
+    }
+
+  -- ---- and the one that is gone
+
+  entry_name : (d : Declaration) (e : Entry) → IsEntryOf d e → e.name ≡ full_name e.home.now e.protocol.now
+  entry_name d e h = h.named ∙ sym (λ i. full_name (h.home i) (h.protocol i))
+
+  module _ (ms : List ModuleTree) (es : List Entry) (h : AreEntries ms names es) where
+    standing_name : (e : Entry) → Contains es e → e.name ≡ full_name e.home.now e.protocol.now
+    standing_name e p = let k = h.sound e p (h.stand e p) in entry_name k.declaration e k.entry
+
+    pub touched_none : AreTouched ms names None es
+    touched_none = record {
+      sorted = h.sorted;
+      complete = h.complete;
+      named = standing_name;
+      dropped = λ m p e q. absurd (cc);
+      sound = h.sound;
+      fallen = λ e p s. absurd (false≢true (sym s ∙ h.stand e p));
+    }
+
+    pub touched_gone : (gone : ModuleTree) (fs : List Entry) → AreEntered gone false es gone.protocols fs → AreTouched ms names (Some gone) fs
+    touched_gone gone fs new = record {
+      sorted = new.sorted;
+      complete = λ d p q. new.kept (name_of d) (h.complete d p q);
+      named = λ e p. elim (new.sound e p) [
+        | inl r ↦ standing_name e r
+        | inr r ↦ entry_name (record { home = gone; protocol = r.protocol }) e r.entry
+      ];
+      dropped = λ m p e q.
+          let same : gone ≡ m = cc in
+          let P : ModuleTree → Type 0 = λ x. Contains x.protocols p → Contains (entry_names fs) (full_name x.name p.name) in
+          subst P same (new.entered p) q;
+      sound = λ e p s. elim (new.sound e p) [ inl r ↦ h.sound e r s | inr r ↦ absurd (false≢true (sym r.stood ∙ s)) ];
+      fallen = λ e p s. elim (new.sound e p) [
+        | inl r ↦ absurd (false≢true (sym s ∙ h.stand e r))
+        | inr r ↦ (
+          gone,
+          refl,
+          record {
+            protocol = r.protocol;
+            named = r.entry.named;
+            undeclared = λ d q named same.
+                let P : List (List ℕ) → Type 0 = λ n. Contains (entry_names es) n in
+                r.new (subst P (sym same) (h.complete d q named));
+          },
+        )
+      ];
+    }

@@ -2,11 +2,14 @@ pub mod Lists
 pub mod Orders
 pub mod Searching
 pub mod Places
-pub mod Noting
 pub mod Texts
-pub mod Meanings
+pub mod Meant
+pub mod Affecting
 pub mod Entering
-pub mod Elaborating
+pub mod Making
+pub mod Drafting
 pub mod Spelling
 pub mod Refusals
+pub mod Covering
+pub mod Elaborating
 pub mod Planning

@@ -1,7 +1,10 @@
 -- Membership in lists, by recursion.
-use Rattle.std.proofs.Common.{◌≡◌, ℕ, zero, suc, ◌<◌, List, [], ◌∷◌, length, get_or, set, map, ◌⊎◌, inl, inr, refl, ap, subst, arith}
-use Rattle.std.specs.List.{Contains}
-use Rattle.std.proofs.lemmas.List.Elements.{Contains-append_right, Contains-append_cases}
+use Rattle.std.proofs.Common.{◌≡◌, ℕ, zero, suc, ◌+◌, ◌<◌, List, [], ◌∷◌, ◌++◌, length, get_or, set, take, drop, map, ◌⊎◌, inl, inr, refl, sym, ap, ◌∙◌, subst, arith}
+use Rattle.std.specs.List.{Contains, remove}
+use Rattle.std.proofs.Math.ListN.{length-set}
+use Rattle.std.proofs.Common.{drop-cons}
+use Rattle.std.proofs.lemmas.List.{take-append-drop, map-append, take-map, drop-map, get_or-set_same, get_or-set_other}
+use Rattle.std.proofs.lemmas.List.Elements.{Contains-append_left, Contains-append_right, Contains-append_cases}
 
 pub Contains-nil : {X : Type 0} (x : X) → Contains [] x → ⊥
 Contains-nil x h = omega (arith, h.1)
@@ -40,3 +43,35 @@ Contains-set_cases [] i x y h = absurd (Contains-nil y h)
 Contains-set_cases (z ∷ zs) zero x y h = elim (Contains-cases x zs y h) [ inl e ↦ inl e | inr p ↦ inr (Contains-tail z zs y p) ]
 Contains-set_cases (z ∷ zs) (suc i) x y h =
     elim (Contains-cases z (set zs i x) y h) [ inl e ↦ inr (Contains-head_at z zs y e) | inr p ↦ elim (Contains-set_cases zs i x y p) [ inl e ↦ inl e | inr q ↦ inr (Contains-tail z zs y q) ] ]
+
+-- ---- an element taken out
+
+split_at : {X : Type 0} (xs : List X) (i : ℕ) (y : X) → i < length xs → Contains xs y → Contains (take i xs ++ get_or xs i y ∷ drop (suc i) xs) y
+split_at {X} xs i y lt p =
+    let P : List X → Type 0 = λ l. Contains l y in
+    subst P (sym (take-append-drop i xs) ∙ ap (λ l. take i xs ++ l) (drop-cons xs i y lt)) p
+
+pub Contains-remove_cases : {X : Type 0} (xs : List X) (i : ℕ) (y : X) → i < length xs → Contains xs y → (get_or xs i y ≡ y) ⊎ Contains (remove xs i) y
+Contains-remove_cases xs i y lt p =
+    elim (Contains-append_cases (take i xs) (get_or xs i y ∷ drop (suc i) xs) y (split_at xs i y lt p)) [
+      | inl q ↦ inr (Contains-append_left (take i xs) (drop (suc i) xs) y q)
+      | inr q ↦ elim (Contains-cases (get_or xs i y) (drop (suc i) xs) y q) [ inl e ↦ inl e | inr r ↦ inr (Contains-append_right (take i xs) (drop (suc i) xs) y r) ]
+    ]
+
+pub Contains-remove_back : {X : Type 0} (xs : List X) (i : ℕ) (y : X) → i < length xs → Contains (remove xs i) y → Contains xs y
+Contains-remove_back {X} xs i y lt p =
+    let P : List X → Type 0 = λ l. Contains l y in
+    let whole : take i xs ++ get_or xs i y ∷ drop (suc i) xs ≡ xs = sym (ap (λ l. take i xs ++ l) (drop-cons xs i y lt)) ∙ take-append-drop i xs in
+    subst P whole (elim (Contains-append_cases (take i xs) (drop (suc i) xs) y p) [
+      | inl q ↦ Contains-append_left (take i xs) (get_or xs i y ∷ drop (suc i) xs) y q
+      | inr q ↦ Contains-append_right (take i xs) (get_or xs i y ∷ drop (suc i) xs) y (Contains-tail (get_or xs i y) (drop (suc i) xs) y q)
+    ])
+
+pub map-remove : {X Y : Type 0} (f : X → Y) (xs : List X) (i : ℕ) → map f (remove xs i) ≡ remove (map f xs) i
+map-remove f xs i = map-append f (take i xs) (drop (suc i) xs) ∙ (λ j. sym (take-map f i xs) j ++ sym (drop-map f (suc i) xs) j)
+
+pub Contains-set_here : {X : Type 0} (xs : List X) (i : ℕ) (x : X) → i < length xs → Contains (set xs i x) x
+Contains-set_here xs i x lt = (i, omega (arith, lt, length-set xs i x), get_or-set_same xs i x x lt)
+
+pub Contains-set_other : {X : Type 0} (xs : List X) (i : ℕ) (x y : X) → (p : Contains xs y) → (p.0 ≡ i → ⊥) → Contains (set xs i x) y
+Contains-set_other xs i x y p other = (p.0, omega (arith, p.1, length-set xs i x), get_or-set_other xs i p.0 x y other ∙ p.2)

@@ -1,7 +1,8 @@
 -- What an edit does to the modules, when it is refused, and what it changes (this project's own).
-use Rattle.std.specs.Prelude.{◌≡◌, ◌≢◌, ℕ, ◌<◌, ◌≤◌, List, length, Some, None, Contains, AllPairs, ◌↔◌}
+use Rattle.std.specs.Prelude.{◌≡◌, ◌≢◌, ℕ, ◌+◌, ◌<◌, ◌≤◌, Bool, true, false, List, length, Some, None, Contains, AllPairs, ◌↔◌}
+use Rattle.std.specs.List.{count_by}
 use Rattle.std.specs.Ordering.{nat_cmp}
-use Rattle.std.specs.declared.cmp.Ordering.TheVariants.{Less}
+use Rattle.std.specs.declared.cmp.Ordering.TheVariants.{Less, Greater}
 use Rattle.std.specs.Cmp.Lexicographic.{slice_cmp}
 use Rattle.scrib_types.specs.Agreement.{Agreement}
 use Rattle.scrib_types.specs.Texts.{dotted_text}
@@ -16,7 +17,8 @@ use Rattle.scrib_parser.specs.declared.tree.ModuleTree.{ModuleTree}
 use Rattle.scrib_parser.specs.declared.tree.Import.{Import}
 use Rattle.scrib_parser.specs.Grammar.{IsModule, IsFaultOf}
 use Rattle.scrib_elaborate.specs.declared.fault.Fault.{Fault}
-use Rattle.scrib_elaborate.specs.Names.{Declaration, declarations, with_module}
+use Rattle.scrib_elaborate.specs.Names.{Declaration, declarations, has_name, module_names, with_module}
+use Rattle.scrib_elaborate.specs.Locality.{without_module}
 use Rattle.scrib_elaborate.specs.Faults.{IsBroken}
 use Rattle.scrib_project.specs.declared.fault.Unmergeable.{Unmergeable}
 use Rattle.scrib_project.specs.Faults.{first_without}
@@ -26,6 +28,7 @@ use Rattle.scrib_library.specs.declared.changes.Change.{Change}
 use Rattle.scrib_library.specs.declared.fault.EditFault.{EditFault}
 use Rattle.scrib_library.specs.declared.fault.EditFault.TheVariants as edit
 use Rattle.scrib_library.specs.Modules.{Means, DeclaredMeans, AreMeant, AreWellFormed, missing_import, protocol_count}
+use Rattle.scrib_library.specs.Holdings.{Holdings, IsStamped}
 
 -- the text's tokens are the module
 abbrev pub Reads : List ℕ → ModuleTree → Type 0
@@ -45,6 +48,31 @@ pub record IsChanges (before after : List ModuleTree) (list : List Change) : Typ
   pub sorted : AllPairs NamedBefore list
   pub exact : (x : Change) → Contains list x ↔ Changes before after x.kind x.name
 
+-- different names whose meaning differs, by their texts
+pub record AreChanges (before after : List ModuleTree) (list : List Change) : Type 0 where
+  pub sorted : AllPairs NamedBefore list
+  pub sound : (x : Change) → Contains list x → Changes before after x.kind x.name
+
+-- an added or replaced name gets a new version
+abbrev pub has_new_version : ChangeKind → Bool
+has_new_version Added = true
+has_new_version Replaced = true
+has_new_version Withdrawn = false
+
+abbrev pub new_versions : List Change → ℕ
+new_versions list = count_by (λ (x : Change). has_new_version x.kind) list
+
+-- More versions are used by as many as these changes make, at most 65,536 in all. Where nothing changed the version
+-- is the old one, and each new one has a number that was never used before.
+pub record AreVersionsUsed (before after : Holdings) (list : List Change) : Type 0 where
+  pub count : after.used ≡ before.used + new_versions list
+  pub few : after.used ≤ 65536
+  pub stamped : IsStamped before after
+
+-- with the versions of the names that are added or replaced, more than 65,536 would be used
+abbrev pub RunsOut : (before after : List ModuleTree) (used : ℕ) → Type 0
+RunsOut before after used = (list : List Change) × AreChanges before after list × (65536 < used + new_versions list)
+
 -- with the module there are at most 256 modules, each that it imports is there, and there are at most 1,024 protocols
 pub record HasRoom (m : ModuleTree) (after : List ModuleTree) : Type 0 where
   pub modules : length after ≤ 256
@@ -58,6 +86,42 @@ pub record IsPut (before : List ModuleTree) (text : List ℕ) (m : ModuleTree) (
   pub placed : after ≡ with_module m before
   pub room : HasRoom m after
   pub meant : AreWellFormed after
+
+-- another module imports the one of this name
+pub record IsImporter (modules : List ModuleTree) (name : List (List ℕ)) (m : ModuleTree) : Type 0 where
+  pub there : Contains modules m
+  pub other : m.name ≢ name
+  pub by : Import
+  pub imports : Contains m.imports by
+  pub of : by.module ≡ name
+
+-- the name of another module that imports the one of the first name, and no such name comes before it
+pub record IsLeastImporter (modules : List ModuleTree) (name by : List (List ℕ)) : Type 0 where
+  pub importer : ModuleTree
+  pub imports : IsImporter modules name importer
+  pub named : importer.name ≡ by
+  pub least : (m : ModuleTree) → IsImporter modules name m → slice_cmp nat_cmp (dotted_text by) (dotted_text m.name) ≢ Greater
+
+-- The withdrawal is accepted: there is a module of the name, which no other imports. It is taken out.
+pub record IsWithdrawal (before : List ModuleTree) (name : List (List ℕ)) (after : List ModuleTree) : Type 0 where
+  pub there : has_name name (module_names before) ≡ true
+  pub free : (m : ModuleTree) → IsImporter before name m → ⊥
+  pub removed : after ≡ without_module name before
+  pub meant : AreWellFormed after
+
+-- The withdrawal is refused for this, and for nothing that comes before it in this list.
+abbrev pub WithdrawFails : List ModuleTree → List (List ℕ) → EditFault → Type 0
+WithdrawFails before name edit.UnknownModule = has_name name (module_names before) ≡ false
+WithdrawFails before name (edit.StillImported by) = (has_name name (module_names before) ≡ true) × IsLeastImporter before name by
+WithdrawFails before name edit.OutOfMemory = has_name name (module_names before) ≡ true
+WithdrawFails before name edit.TooManyModules = ⊥
+WithdrawFails before name (edit.ImportMissing other) = ⊥
+WithdrawFails before name edit.TooManyProtocols = ⊥
+WithdrawFails before name (edit.Elaborate f) = ⊥
+WithdrawFails before name (edit.Project u) = ⊥
+WithdrawFails before name edit.VersionsFull = ⊥
+WithdrawFails before name (edit.Lex f) = ⊥
+WithdrawFails before name (edit.Parse f) = ⊥
 
 -- the text has no tokens for this reason; want of memory is told as the edit's own fault
 abbrev pub TellsLex : List ℕ → LexFault → Type 0
@@ -87,32 +151,37 @@ IsUnmergeableIn modules u =
     (d : Declaration) × (a : Agreement) × Contains (declarations modules) d × DeclaredMeans modules d a
     × (first_without a.global a.roles ≡ Some u.role)
 
--- there is no room for the module, or the modules aren't well formed, for this and nothing that comes before it
-abbrev pub ModuleFails : ModuleTree → (after : List ModuleTree) → EditFault → Type 0
-ModuleFails m after edit.TooManyModules = 256 < length after
-ModuleFails m after (edit.ImportMissing name) =
+-- With the module there is no room, the modules aren't well formed, or versions run out, for this and nothing that
+-- comes before it.
+abbrev pub ModuleFails : (before : List ModuleTree) (used : ℕ) → ModuleTree → (after : List ModuleTree) → EditFault → Type 0
+ModuleFails before used m after edit.TooManyModules = 256 < length after
+ModuleFails before used m after (edit.ImportMissing name) =
     (length after ≤ 256) × ((i : Import) × (missing_import after m.imports ≡ Some i) × (name ≡ i.module))
-ModuleFails m after edit.TooManyProtocols =
+ModuleFails before used m after edit.TooManyProtocols =
     (length after ≤ 256) × (missing_import after m.imports ≡ None) × (1024 < protocol_count after)
-ModuleFails m after (edit.Elaborate f) = HasRoom m after × IsBrokenIn after f
-ModuleFails m after (edit.Project u) = HasRoom m after × AreMeant after × IsUnmergeableIn after u
-ModuleFails m after edit.OutOfMemory = Unit {0}
-ModuleFails m after (edit.Lex f) = ⊥
-ModuleFails m after (edit.Parse f) = ⊥
+ModuleFails before used m after (edit.Elaborate f) = HasRoom m after × IsBrokenIn after f
+ModuleFails before used m after (edit.Project u) = HasRoom m after × AreMeant after × IsUnmergeableIn after u
+ModuleFails before used m after edit.VersionsFull = HasRoom m after × AreWellFormed after × RunsOut before after used
+ModuleFails before used m after edit.OutOfMemory = Unit {0}
+ModuleFails before used m after edit.UnknownModule = ⊥
+ModuleFails before used m after (edit.StillImported name) = ⊥
+ModuleFails before used m after (edit.Lex f) = ⊥
+ModuleFails before used m after (edit.Parse f) = ⊥
 
--- The put is refused for this, and for nothing that comes before it in this list. Memory may lack for any text that
--- isn't too long.
-abbrev pub PutFails : List ModuleTree → List ℕ → EditFault → Type 0
-PutFails before text (edit.Lex f) = TellsLex text f
-PutFails before text (edit.Parse f) = (ts : List Lexeme) × IsTokens text ts × TellsParse ts f
-PutFails before text edit.TooManyModules =
-    (m : ModuleTree) × Reads text m × ModuleFails m (with_module m before) edit.TooManyModules
-PutFails before text (edit.ImportMissing name) =
-    (m : ModuleTree) × Reads text m × ModuleFails m (with_module m before) (edit.ImportMissing name)
-PutFails before text edit.TooManyProtocols =
-    (m : ModuleTree) × Reads text m × ModuleFails m (with_module m before) edit.TooManyProtocols
-PutFails before text (edit.Elaborate f) =
-    (m : ModuleTree) × Reads text m × ModuleFails m (with_module m before) (edit.Elaborate f)
-PutFails before text (edit.Project u) =
-    (m : ModuleTree) × Reads text m × ModuleFails m (with_module m before) (edit.Project u)
-PutFails before text edit.OutOfMemory = length text ≤ max_text_bytes
+abbrev pub TextFails : (before : List ModuleTree) (used : ℕ) → List ℕ → EditFault → Type 0
+TextFails before used text f = (m : ModuleTree) × Reads text m × ModuleFails before used m (with_module m before) f
+
+-- The put, after so many used versions, is refused for this, and for nothing that comes before it in this list.
+-- Memory may lack for any text that isn't too long.
+abbrev pub PutFails : (before : List ModuleTree) (used : ℕ) → List ℕ → EditFault → Type 0
+PutFails before used text (edit.Lex f) = TellsLex text f
+PutFails before used text (edit.Parse f) = (ts : List Lexeme) × IsTokens text ts × TellsParse ts f
+PutFails before used text edit.TooManyModules = TextFails before used text edit.TooManyModules
+PutFails before used text (edit.ImportMissing name) = TextFails before used text (edit.ImportMissing name)
+PutFails before used text edit.TooManyProtocols = TextFails before used text edit.TooManyProtocols
+PutFails before used text (edit.Elaborate f) = TextFails before used text (edit.Elaborate f)
+PutFails before used text (edit.Project u) = TextFails before used text (edit.Project u)
+PutFails before used text edit.VersionsFull = TextFails before used text edit.VersionsFull
+PutFails before used text edit.OutOfMemory = length text ≤ max_text_bytes
+PutFails before used text edit.UnknownModule = ⊥
+PutFails before used text (edit.StillImported name) = ⊥

@@ -1,51 +1,114 @@
--- The declared protocols, elaborated, and their versions.
+-- What the protocols mean whose meaning an edit can change.
 -- Only contracts of private functions cite this file.
-use Rattle.std.specs.Prelude.{◌≡◌, ℕ, List, map, Some, Contains}
+use Rattle.std.specs.Prelude.{◌≡◌, ℕ, true, false, List, map, Option, Some, None, Contains}
+use Rattle.std.specs.Option.{option_map}
+use Rattle.scrib_types.specs.Agreement.{Agreement}
+use Rattle.scrib_types.specs.Meaning.{agreement_of}
 use Rattle.scrib_parser.specs.declared.tree.ModuleTree.{ModuleTree}
+use Rattle.scrib_elaborate.specs.Elaboration.{Elaborates}
+use Rattle.scrib_elaborate.specs.Faults.{IsBroken}
 use Rattle.scrib_elaborate.specs.Meaning.{meaning_of}
+use Rattle.scrib_project.specs.declared.projected.ProjectedProtocol.{ProjectedProtocol}
 use Rattle.scrib_project.specs.Faults.{first_without}
-use Rattle.scrib_record.specs.Versions as record_versions
-use Rattle.scrib_library.specs.declared.versions.NamedElaborated.{NamedElaborated}
-use Rattle.scrib_library.specs.declared.versions.NamedVersion.{NamedVersion}
+use Rattle.scrib_library.specs.declared.declared.Entry.{Entry}
+use Rattle.scrib_library.specs.declared.meanings.NamedElaborated.{NamedElaborated}
+use Rattle.scrib_library.specs.declared.meanings.NamedMeaning.{NamedMeaning}
 use Rattle.scrib_library.specs.declared.fault.EditFault.{EditFault}
 use Rattle.scrib_library.specs.declared.fault.EditFault.TheVariants as edit
-use Rattle.scrib_library.specs.Modules.{Means, AreMeant}
 use Rattle.scrib_library.specs.Edits.{IsBrokenIn, IsUnmergeableIn}
-use Rattle.scrib_library.specs.Listed.{AreDeclaredNames}
-use Rattle.scrib_library.specs.Stored.{version_names}
+use Rattle.scrib_library.specs.Entries.{entry_names}
 
 abbrev pub elaborated_names : List NamedElaborated → List (List (List ℕ))
 elaborated_names xs = map (λ (x : NamedElaborated). x.name) xs
 
--- for each name of a declared protocol what it means
-pub record AreElaborated (modules : List ModuleTree) (xs : List NamedElaborated) : Type 0 where
-  pub listed : AreDeclaredNames modules (elaborated_names xs)
-  pub sound : (x : NamedElaborated) → Contains xs x → Means modules x.name (meaning_of x.elaborated)
+abbrev pub meaning_names : List NamedMeaning → List (List (List ℕ))
+meaning_names ys = map (λ (y : NamedMeaning). y.name) ys
 
--- a version of each, in the same order
-pub record AreVersionsOf (xs : List NamedElaborated) (vs : List NamedVersion) : Type 0 where
-  pub names : version_names vs ≡ elaborated_names xs
-  pub sound : (v : NamedVersion) → Contains vs v → (x : NamedElaborated) × Contains xs x × (v.name ≡ x.name) × (record_versions.meaning_of v.version ≡ meaning_of x.elaborated)
+-- what was found of the name, if it means something
+abbrev pub found : NamedElaborated → Option Agreement
+found x = option_map meaning_of x.elaborated
+
+abbrev pub meant : NamedMeaning → Option Agreement
+meant y = option_map (λ (p : ProjectedProtocol). agreement_of p.protocol) y.projected
+
+-- the entry's protocol means this; nothing where it doesn't stand any more
+abbrev pub IsMeant : List ModuleTree → Entry → Option Agreement → Type 0
+IsMeant modules e None = e.stands ≡ false
+IsMeant modules e (Some a) = (e.stands ≡ true) × Elaborates modules e.home.now e.protocol.now a
+
+pub record IsMeaningOf (modules : List ModuleTree) (es : List Entry) (name : List (List ℕ)) (o : Option Agreement) : Type 0 where
+  pub entry : Entry
+  pub there : Contains es entry
+  pub named : name ≡ entry.name
+  pub means : IsMeant modules entry o
+
+-- what one entry's protocol means, or why it means nothing
+
+pub record IsFoundFor (modules : List ModuleTree) (e : Entry) (x : NamedElaborated) : Type 0 where
+  pub named : x.name ≡ e.name
+  pub means : IsMeant modules e (found x)
+
+abbrev pub IsBrokenEntry : List ModuleTree → Entry → EditFault → Type 0
+IsBrokenEntry modules e (edit.Elaborate f) = (e.stands ≡ true) × IsBroken modules e.home.now e.protocol.now f
+IsBrokenEntry modules e edit.OutOfMemory = Unit {0}
+IsBrokenEntry modules e other = ⊥
+
+-- what each entry's protocol means, in the same order
+pub record AreElaborated (modules : List ModuleTree) (es : List Entry) (xs : List NamedElaborated) : Type 0 where
+  pub names : elaborated_names xs ≡ entry_names es
+  pub sound : (x : NamedElaborated) → Contains xs x → IsMeaningOf modules es x.name (found x)
+
+pub record AreMeanings (modules : List ModuleTree) (es : List Entry) (ys : List NamedMeaning) : Type 0 where
+  pub names : meaning_names ys ≡ entry_names es
+  pub sound : (y : NamedMeaning) → Contains ys y → IsMeaningOf modules es y.name (meant y)
+
+-- the projections of one, or why there are none
+
+pub record IsProjected (x : NamedElaborated) (y : NamedMeaning) : Type 0 where
+  pub named : y.name ≡ x.name
+  pub means : meant y ≡ found x
+
+abbrev pub StopsNamed : NamedElaborated → EditFault → Type 0
+StopsNamed x (edit.Project u) = (a : Agreement) × (found x ≡ Some a) × (first_without a.global a.roles ≡ Some u.role)
+StopsNamed x edit.OutOfMemory = Unit {0}
+StopsNamed x other = ⊥
+
+-- it comes of one of these
+pub record IsProjectionOf (xs : List NamedElaborated) (y : NamedMeaning) : Type 0 where
+  pub source : NamedElaborated
+  pub there : Contains xs source
+  pub named : y.name ≡ source.name
+  pub means : meant y ≡ found source
+
+-- the projections of each, in the same order
+pub record AreProjected (xs : List NamedElaborated) (ys : List NamedMeaning) : Type 0 where
+  pub names : meaning_names ys ≡ elaborated_names xs
+  pub sound : (y : NamedMeaning) → Contains ys y → IsProjectionOf xs y
 
 -- what one of these means has no projection on the role, which is the first such role of it
-abbrev pub IsUnprojected : List NamedElaborated → EditFault → Type 0
-IsUnprojected xs (edit.Project u) =
-    (x : NamedElaborated) × Contains xs x × (first_without (meaning_of x.elaborated).global (meaning_of x.elaborated).roles ≡ Some u.role)
-IsUnprojected xs edit.OutOfMemory = Unit {0}
-IsUnprojected xs edit.TooManyModules = ⊥
-IsUnprojected xs (edit.ImportMissing name) = ⊥
-IsUnprojected xs edit.TooManyProtocols = ⊥
-IsUnprojected xs (edit.Elaborate f) = ⊥
-IsUnprojected xs (edit.Lex f) = ⊥
-IsUnprojected xs (edit.Parse f) = ⊥
+pub record IsUnprojected (xs : List NamedElaborated) (role : List ℕ) : Type 0 where
+  pub source : NamedElaborated
+  pub there : Contains xs source
+  pub meaning : Agreement
+  pub means : found source ≡ Some meaning
+  pub first : first_without meaning.global meaning.roles ≡ Some role
 
--- why there is no version of each protocol
-abbrev pub IsRefusal : List ModuleTree → EditFault → Type 0
-IsRefusal modules (edit.Elaborate f) = IsBrokenIn modules f
-IsRefusal modules (edit.Project u) = AreMeant modules × IsUnmergeableIn modules u
-IsRefusal modules edit.OutOfMemory = Unit {0}
-IsRefusal modules edit.TooManyModules = ⊥
-IsRefusal modules (edit.ImportMissing name) = ⊥
-IsRefusal modules edit.TooManyProtocols = ⊥
-IsRefusal modules (edit.Lex f) = ⊥
-IsRefusal modules (edit.Parse f) = ⊥
+abbrev pub SomeStands : List Entry → Type 0
+SomeStands es = (e : Entry) × Contains es e × (e.stands ≡ true)
+
+-- the protocol of each entry that stands means something
+abbrev pub AreElaborable : List ModuleTree → List Entry → Type 0
+AreElaborable modules es =
+    (e : Entry) → Contains es e → e.stands ≡ true → (a : Agreement) × Elaborates modules e.home.now e.protocol.now a
+
+abbrev pub StopsProjection : List NamedElaborated → EditFault → Type 0
+StopsProjection xs (edit.Project u) = IsUnprojected xs u.role
+StopsProjection xs edit.OutOfMemory = Unit {0}
+StopsProjection xs other = ⊥
+
+-- why an entry's protocol has no meaning, or no projections
+abbrev pub IsRefusal : List ModuleTree → List Entry → EditFault → Type 0
+IsRefusal modules es (edit.Elaborate f) = SomeStands es × IsBrokenIn modules f
+IsRefusal modules es (edit.Project u) = SomeStands es × AreElaborable modules es × IsUnmergeableIn modules u
+IsRefusal modules es edit.OutOfMemory = Unit {0}
+IsRefusal modules es other = ⊥

@@ -1,12 +1,12 @@
--- The declared protocols by full name.
+-- The protocols whose meaning an edit can change, by full name.
 -- Only contracts of private functions cite this file.
-use Rattle.std.specs.Prelude.{◌≡◌, ◌⊎◌, ℕ, List, map, Contains}
+use Rattle.std.specs.Prelude.{◌≡◌, ◌≢◌, ◌⊎◌, ℕ, Bool, true, false, List, map, Option, Some, Contains}
 use Rattle.scrib_parser.specs.declared.tree.ModuleTree.{ModuleTree}
 use Rattle.scrib_parser.specs.declared.tree.ProtocolDeclaration.{ProtocolDeclaration}
 use Rattle.scrib_elaborate.specs.Names.{Declaration, declarations}
 use Rattle.scrib_library.specs.declared.declared.Entry.{Entry}
 use Rattle.scrib_library.specs.Modules.{full_name, name_of}
-use Rattle.scrib_library.specs.Listed.{AreInOrder, AreDeclaredNames}
+use Rattle.scrib_library.specs.Listed.{AreInOrder}
 
 abbrev pub entry_names : List Entry → List (List (List ℕ))
 entry_names es = map (λ (e : Entry). e.name) es
@@ -17,14 +17,49 @@ pub record IsEntryOf (d : Declaration) (e : Entry) : Type 0 where
   pub protocol : e.protocol.now ≡ d.protocol.name
   pub named : e.name ≡ name_of d
 
--- an entry for each name of a declared protocol
-pub record AreEntries (modules : List ModuleTree) (es : List Entry) : Type 0 where
-  pub listed : AreDeclaredNames modules (entry_names es)
-  pub sound : (e : Entry) → Contains es e → (d : Declaration) × Contains (declarations modules) d × IsEntryOf d e
+-- one of the modules declares its protocol
+pub record IsDeclaredIn (modules : List ModuleTree) (e : Entry) : Type 0 where
+  pub declaration : Declaration
+  pub there : Contains (declarations modules) declaration
+  pub entry : IsEntryOf declaration e
+
+-- the entries that are said to stand do
+abbrev pub AreStanding : List ModuleTree → List Entry → Type 0
+AreStanding modules es = (e : Entry) → Contains es e → e.stands ≡ true → IsDeclaredIn modules e
+
+-- an entry of one of these protocols of the module, whose name isn't among the earlier ones
+pub record IsNewEntry (m : ModuleTree) (stands : Bool) (before : List Entry) (ps : List ProtocolDeclaration) (e : Entry) : Type 0 where
+  pub protocol : ProtocolDeclaration
+  pub there : Contains ps protocol
+  pub entry : IsEntryOf (record { home = m; protocol = protocol }) e
+  pub stood : e.stands ≡ stands
+  pub new : Contains (entry_names before) e.name → ⊥
 
 -- the entries are now in order, with an entry for each name of these protocols of the module, and else as they were
-pub record AreEntered (m : ModuleTree) (before : List Entry) (ps : List ProtocolDeclaration) (after : List Entry) : Type 0 where
+pub record AreEntered (m : ModuleTree) (stands : Bool) (before : List Entry) (ps : List ProtocolDeclaration) (after : List Entry) : Type 0 where
   pub sorted : AreInOrder (entry_names after)
   pub kept : (n : List (List ℕ)) → Contains (entry_names before) n → Contains (entry_names after) n
   pub entered : (p : ProtocolDeclaration) → Contains ps p → Contains (entry_names after) (full_name m.name p.name)
-  pub sound : (e : Entry) → Contains after e → Contains before e ⊎ ((p : ProtocolDeclaration) × Contains ps p × IsEntryOf (record { home = m; protocol = p }) e)
+  pub sound : (e : Entry) → Contains after e → Contains before e ⊎ IsNewEntry m stands before ps e
+
+-- an entry for each name that a module of these names declares
+pub record AreEntries (modules : List ModuleTree) (names : List (List (List ℕ))) (es : List Entry) : Type 0 where
+  pub sorted : AreInOrder (entry_names es)
+  pub complete : (d : Declaration) → Contains (declarations modules) d → Contains names d.home.name → Contains (entry_names es) (name_of d)
+  pub stand : (e : Entry) → Contains es e → e.stands ≡ true
+  pub sound : AreStanding modules es
+
+-- an entry of a protocol that isn't declared any more
+pub record IsDropped (gone : ModuleTree) (modules : List ModuleTree) (names : List (List (List ℕ))) (e : Entry) : Type 0 where
+  pub protocol : ProtocolDeclaration
+  pub named : e.name ≡ full_name gone.name protocol.name
+  pub undeclared : (d : Declaration) → Contains (declarations modules) d → Contains names d.home.name → e.name ≢ name_of d
+
+-- The same, and one for each other name that the module which is gone declared.
+pub record AreTouched (modules : List ModuleTree) (names : List (List (List ℕ))) (gone : Option ModuleTree) (es : List Entry) : Type 0 where
+  pub sorted : AreInOrder (entry_names es)
+  pub complete : (d : Declaration) → Contains (declarations modules) d → Contains names d.home.name → Contains (entry_names es) (name_of d)
+  pub named : (e : Entry) → Contains es e → e.name ≡ full_name e.home.now e.protocol.now
+  pub dropped : (m : ModuleTree) (p : ProtocolDeclaration) → gone ≡ Some m → Contains m.protocols p → Contains (entry_names es) (full_name m.name p.name)
+  pub sound : AreStanding modules es
+  pub fallen : (e : Entry) → Contains es e → e.stands ≡ false → (m : ModuleTree) × (gone ≡ Some m) × IsDropped m modules names e

@@ -1,9 +1,11 @@
 pub mod Made
 pub mod Modules
+pub mod Holdings
 pub mod Edits
 pub mod Listed
+pub mod Affected
 pub mod Entries
 pub mod Stored
 pub mod Elaborated
-pub mod Differences
+pub mod Drafts
 pub mod Plans

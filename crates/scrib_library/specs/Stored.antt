@@ -1,28 +1,29 @@
 -- What is stored of the accepted modules.
-use Rattle.std.specs.Prelude.{◌≡◌, ℕ, IsTrue, List, map, Option, Some, None, Contains}
+use Rattle.std.specs.Prelude.{◌≡◌, ℕ, ◌<◌, ◌≤◌, IsTrue, List, map, Option, Some, None, Contains}
 use Rattle.scrib_types.specs.Names.{is_name}
-use Rattle.scrib_types.specs.Agreement.{Agreement}
 use Rattle.scrib_parser.specs.declared.tree.ModuleTree.{ModuleTree}
 use Rattle.scrib_parser.specs.declared.tree.ProtocolDeclaration.{ProtocolDeclaration}
-use Rattle.scrib_record.specs.Versions.{meaning_of}
+use Rattle.scrib_record.specs.declared.version.Version.{Version}
+use Rattle.scrib_record.specs.Versions.{meaning_of, number_of}
 use Rattle.scrib_library.specs.declared.versions.NamedVersion.{NamedVersion}
 use Rattle.scrib_library.specs.Modules.{Means, AreImportsThere}
+use Rattle.scrib_library.specs.Holdings.{Stamp}
 use Rattle.scrib_library.specs.Listed.{AreDeclaredNames}
 
 abbrev pub version_names : List NamedVersion → List (List (List ℕ))
 version_names vs = map (λ (v : NamedVersion). v.name) vs
 
--- one of the versions has the name and means this
-pub record HasMeaning (versions : List NamedVersion) (name : List (List ℕ)) (a : Agreement) : Type 0 where
-  pub stored : NamedVersion
-  pub there : Contains versions stored
-  pub named : stored.name ≡ name
-  pub meant : meaning_of stored.version ≡ a
+abbrev pub stamps_of : List NamedVersion → List Stamp
+stamps_of vs = map (λ (v : NamedVersion). record { name = v.name; number = number_of v.version }) vs
 
--- what the versions mean by the name, if anything
-abbrev pub IsVersion : List NamedVersion → List (List ℕ) → Option Agreement → Type 0
-IsVersion versions name None = (a : Agreement) → HasMeaning versions name a → ⊥
-IsVersion versions name (Some a) = HasMeaning versions name a
+-- the name has the version
+abbrev pub HasVersion : List NamedVersion → List (List ℕ) → Version → Type 0
+HasVersion vs name w = Contains vs (record { name = name; version = w })
+
+-- the version of the name, if it has one
+abbrev pub IsVersion : List NamedVersion → List (List ℕ) → Option Version → Type 0
+IsVersion vs name None = (w : Version) → HasVersion vs name w → ⊥
+IsVersion vs name (Some w) = HasVersion vs name w
 
 -- a version for each name of a declared protocol
 pub record AreVersions (modules : List ModuleTree) (versions : List NamedVersion) : Type 0 where
@@ -37,8 +38,15 @@ pub record IsSpelled (m : ModuleTree) : Type 0 where
   pub home : AreNames m.name
   pub protocols : (p : ProtocolDeclaration) → Contains m.protocols p → IsTrue (is_name p.name)
 
+-- no two have one number, and each is below the count of used versions
+pub record AreCounted (versions : List NamedVersion) (used : ℕ) : Type 0 where
+  pub below : (v : NamedVersion) → Contains versions v → number_of v.version < used
+  pub once : (v w : NamedVersion) → Contains versions v → Contains versions w → number_of v.version ≡ number_of w.version → v.name ≡ w.name
+  pub few : used ≤ 65536
+
 -- modules whose imports are there, with a version of each protocol
-pub record IsLibrary (modules : List ModuleTree) (versions : List NamedVersion) : Type 0 where
+pub record IsLibrary (modules : List ModuleTree) (versions : List NamedVersion) (used : ℕ) : Type 0 where
   pub imports : AreImportsThere modules
   pub spelled : (m : ModuleTree) → Contains modules m → IsSpelled m
   pub stored : AreVersions modules versions
+  pub counted : AreCounted versions used

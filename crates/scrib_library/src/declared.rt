@@ -1,45 +1,72 @@
-//! The declared protocols of the modules, by full name.
+//! The protocols whose meaning an edit can change, by full name.
 
-ghost use Rattle.std.specs.Prelude.{◌≡◌, IfOk, IfErr, OnOk, map};
+ghost use Rattle.std.specs.Prelude.{IfOk, IfErr, OnOk};
+ghost use Rattle.std.specs.Option.{option_copied};
 ghost use Rattle.scrib_library.specs.Listed.{AreInOrder, IsAt, IsGap};
-ghost use Rattle.scrib_library.specs.Entries.{entry_names, AreEntries, AreEntered};
+ghost use Rattle.scrib_library.specs.Affected.{names_now};
+ghost use Rattle.scrib_library.specs.Entries.{entry_names, AreEntries, AreEntered, AreTouched};
 
+use crate::affected::is_one_of;
 use crate::names::{compare, full_name};
 use scrib_parser::tree::ModuleTree;
 use scrib_types::name::{Dotted, Name};
 use std::alloc::{AllocError, Global};
 
-/// A declared protocol: the name of its module, its own, and its full name.
+/// A protocol: the name of its module, its own, its full name, and whether its module declares it still.
 #[derive(Drop)]
 pub struct Entry<'a> {
     pub home: &'a Dotted,
     pub protocol: &'a Name,
     pub name: Dotted,
+    pub stands: bool,
 }
 
-/// The declared protocols of the modules, in the order of their full names. A name that is declared twice stands
-/// there once.
+/// The protocols that the modules of these names declare, and those that only the module that is gone declared, in
+/// the order of their full names. A name that is declared twice stands there once.
 ///
 /// # Errors
 /// `AllocError` where memory was refused.
-pub fn entries_of(alloc: Global, modules: &[ModuleTree]) -> Result<Vec<Entry>, AllocError>
-    ensures { IfOk result (λ entries. AreEntries modules.now entries.items) }
+pub fn touched<'a>(
+    alloc: Global,
+    modules: &'a [ModuleTree],
+    affected: &[&Dotted],
+    gone: Option<&'a ModuleTree>,
+) -> Result<Vec<Entry<'a>>, AllocError>
+    ensures { IfOk result (λ entries. AreTouched modules.now (names_now affected.now) (option_copied gone.entry) entries.items) }
 {
-    let mut entries = Vec::new(alloc);
-    for tree in modules {
-        enter(alloc, &mut entries, tree)?;
+    let mut entries = entries_of(alloc, modules, affected)?;
+    if let Some(tree) = gone {
+        enter(alloc, &mut entries, tree, false)?;
     }
     Ok(entries)
 }
 
-/// Puts the protocols of the module in their places.
+/// The protocols that the modules of these names declare, in the order of their full names.
+fn entries_of<'a>(
+    alloc: Global,
+    modules: &'a [ModuleTree],
+    affected: &[&Dotted],
+) -> Result<Vec<Entry<'a>>, AllocError>
+    ensures { IfOk result (λ entries. AreEntries modules.now (names_now affected.now) entries.items) }
+{
+    let mut entries = Vec::new(alloc);
+    for tree in modules {
+        if is_one_of(affected, &tree.name) {
+            enter(alloc, &mut entries, tree, true)?;
+        }
+    }
+    Ok(entries)
+}
+
+/// Puts the protocols of the module in their places, except those whose names are there.
 fn enter<'a>(
     alloc: Global,
     entries: &mut Vec<Entry<'a>>,
     tree: &'a ModuleTree,
+    stands: bool,
 ) -> Result<(), AllocError>
     requires { AreInOrder (entry_names entries.old.items) }
-    ensures { OnOk result (AreEntered tree.now entries.old.items tree.now.protocols entries.new.items) }
+    ensures { OnOk result (AreEntered tree.now stands entries.old.items tree.now.protocols entries.new.items) }
 {
     for declaration in tree.protocols.as_slice() {
         let name = full_name(alloc, &tree.name, &declaration.name)?;
@@ -48,6 +75,7 @@ fn enter<'a>(
                 home: &tree.name,
                 protocol: &declaration.name,
                 name,
+                stands,
             };
             entries.insert(place, entry)?;
         }

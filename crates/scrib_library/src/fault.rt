@@ -14,8 +14,12 @@ pub enum EditFault {
     Lex(LexFault),
     /// The tokens are no module.
     Parse(ParseFault),
+    /// There is no module of the name.
+    UnknownModule,
     /// There would be more than 256 modules.
     TooManyModules,
+    /// Another module imports this one: the first that does, by name, in the order of bytes.
+    StillImported { by: Dotted },
     /// The module imports this one, which isn't there. It is the first such import.
     ImportMissing { module: Dotted },
     /// There would be more than 1,024 protocols.
@@ -24,6 +28,8 @@ pub enum EditFault {
     Elaborate(Fault),
     /// What a declared protocol means has no projection on a role: the first such protocol by name.
     Project(Unmergeable),
+    /// More than 65,536 versions would have been used.
+    VersionsFull,
     /// Memory was refused.
     OutOfMemory,
 }

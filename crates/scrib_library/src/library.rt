@@ -1,21 +1,21 @@
 //! The library of accepted modules.
 
-ghost use Rattle.std.specs.Prelude.{◌≡◌, [], IfOk, IfErr, OnErr};
+ghost use Rattle.std.specs.Prelude.{◌≡◌, IfOk, IfErr, OnErr};
 ghost use Rattle.std.specs.Option.{option_map};
 ghost use Rattle.scrib_parser.specs.declared.tree.ModuleTree as parsed;
-ghost use Rattle.scrib_record.specs.Versions.{meaning_of};
+ghost use Rattle.scrib_record.specs.Versions.{meaning_of, number_of};
 ghost use Rattle.scrib_library.specs.Modules.{IsMeaning, MeansProtocols};
-ghost use Rattle.scrib_library.specs.Edits.{IsPut, IsChanges, PutFails};
+ghost use Rattle.scrib_library.specs.Holdings.{no_holdings, IsNumber, AreNumbered};
+ghost use Rattle.scrib_library.specs.Edits.{IsPut, IsChanges, AreVersionsUsed, PutFails};
 
 use crate::changes::Changes;
 use crate::fault::EditFault;
-use crate::plan::plan_put;
+use crate::plan::{Plan, plan_put};
 use crate::read::read;
-use crate::versions::{NamedVersion, version_of};
+use crate::versions::{NamedVersion, make_all, version_of};
 use scrib_elaborate::modules::Modules;
 use scrib_record::version::Version;
 use scrib_types::name::Dotted;
-use scrib_types::plain::Items;
 use std::alloc::Global;
 use std::marker::Model;
 
@@ -25,40 +25,44 @@ pub const MAX_MODULES: usize = 256;
 /// The most protocols of all modules together.
 pub const MAX_PROTOCOLS: usize = 1024;
 
+/// The most versions that are ever used.
+pub const MAX_VERSIONS: u32 = 65_536;
+
 /// The accepted modules, with a version of each protocol that they declare, in the order of the protocols' full
-/// names. Contracts see the modules.
+/// names, and how many versions were ever used. Contracts see the modules, the numbers of the versions, and the count.
 #[derive(Drop)]
 pub struct Library {
     alloc: Global,
     modules: Modules,
-    versions: Items<NamedVersion>,
+    versions: Vec<NamedVersion>,
+    used: u32,
 }
 
 impl Model for Library {
-    ghost use Rattle.std.specs.Prelude.{List};
     ghost use Rattle.std.specs.Coded.{codes};
-    ghost use Rattle.scrib_parser.specs.declared.tree.ModuleTree as parsed;
     ghost use Rattle.scrib_parser.specs.contracts.tree.Statement as statement;
-    ghost use Rattle.scrib_library.specs.Stored.{IsLibrary};
+    ghost use Rattle.scrib_library.specs.Holdings.{Holdings};
+    ghost use Rattle.scrib_library.specs.Stored.{stamps_of, IsLibrary};
 
-    ghost Value = { List parsed.ModuleTree };
+    ghost Value = { Holdings };
 
     ghost coded = { Prim.hlevel (codes, statement.the_row.coded) };
 
-    ghost view = { λ l. l.modules };
+    ghost view = { λ l. record { modules = l.modules; stamps = stamps_of l.versions.items; used = l.used } };
 
-    ghost invariant = { λ l. IsLibrary l.modules l.versions };
+    ghost invariant = { λ l. IsLibrary l.modules l.versions.items l.used };
 }
 
 impl Library {
-    /// A library without modules.
+    /// A library without modules, of which no version was used.
     pub fn new(alloc: Global) -> Library
-        ensures { result ≡ [] }
+        ensures { result ≡ no_holdings }
     {
         Library {
             alloc,
             modules: Modules::new(alloc),
-            versions: Items::from_vec(Vec::new(alloc)),
+            versions: Vec::new(alloc),
+            used: 0,
         }
     }
 
@@ -68,18 +72,33 @@ impl Library {
     /// # Errors
     /// The first fault of `EditFault`'s list that the put has; `OutOfMemory` where memory was refused.
     pub fn put(&mut self, text: &[u8]) -> Result<Changes, EditFault>
-        ensures ok { IfOk result (λ changes. (m : parsed.ModuleTree) × IsPut self.old text.now m self.new
-            × (changes.module ≡ m.name) × IsChanges self.old self.new changes.list) }
-        ensures fault { IfErr result (PutFails self.old text.now) }
+        ensures ok { IfOk result (λ changes. (m : parsed.ModuleTree) × IsPut self.old.modules text.now m self.new.modules
+            × (changes.module ≡ m.name) × IsChanges self.old.modules self.new.modules changes.list) }
+        ensures versions { IfOk result (λ changes. AreVersionsUsed self.old self.new changes.list) }
+        ensures fault { IfErr result (PutFails self.old.modules self.old.used text.now) }
         ensures err { OnErr result (self.new ≡ self.old) }
     {
         let tree = read(self.alloc, text)?;
         let placed = self.modules.put(tree)?;
         let new = &self.modules.as_slice()[placed.at];
-        match plan_put(self.alloc, &self.modules, new, self.versions.as_slice()) {
+        let gone = placed.replaced.as_ref();
+        match plan_put(
+            self.alloc,
+            &self.modules,
+            new,
+            gone,
+            &mut self.versions,
+            self.used,
+        ) {
             Ok(plan) => {
-                self.versions = plan.versions;
-                Ok(plan.changes)
+                let Plan {
+                    edits,
+                    used,
+                    changes,
+                } = plan;
+                make_all(&mut self.versions, edits);
+                self.used = used;
+                Ok(changes)
             }
             Err(fault) => {
                 self.modules.undo(placed);
@@ -90,14 +109,29 @@ impl Library {
 
     /// The version of a protocol that is there, by its full name.
     pub fn present(&self, name: &Dotted) -> Option<&Version>
-        ensures { IsMeaning self.now name.now (option_map (λ v. meaning_of v.now) result) }
+        ensures meaning { IsMeaning self.now.modules name.now (option_map (λ v. meaning_of v.now) result) }
+        ensures number { IsNumber self.now name.now (option_map (λ v. number_of v.now) result) }
     {
-        version_of(self.versions.as_slice(), name)
+        version_of(&self.versions, name)
+    }
+
+    /// How many versions were ever used.
+    pub fn used(&self) -> usize
+        ensures { result ≡ self.now.used }
+    {
+        self.used as usize
     }
 
     /// A law: what the modules mean by a name is a protocol.
     pub fn means_protocols(&self)
-        ensures { MeansProtocols self.now }
+        ensures { MeansProtocols self.now.modules }
+    {
+        let _versions = self.versions.as_slice();
+    }
+
+    /// A law: each name that means something has a number of its own, below the count of used versions.
+    pub fn are_numbered(&self)
+        ensures { AreNumbered self.now }
     {
         let _versions = self.versions.as_slice();
     }

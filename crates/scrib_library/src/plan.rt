@@ -1,29 +1,37 @@
-//! What a put does, once the module stands among the others.
+//! What an edit of a module does.
 
-ghost use Rattle.std.specs.Prelude.{IfOk, IfErr};
-ghost use Rattle.scrib_library.specs.Edits.{ModuleFails};
+ghost use Rattle.std.specs.Prelude.{◌≡◌, ◌+◌, ◌≤◌, IfOk, IfErr, vec_len, vec_capacity};
+ghost use Rattle.std.specs.Option.{option_copied};
 ghost use Rattle.scrib_library.specs.Listed.{AreInOrder};
 ghost use Rattle.scrib_library.specs.Stored.{version_names};
-ghost use Rattle.scrib_library.specs.Plans.{IsPlan};
+ghost use Rattle.scrib_library.specs.Elaborated.{meaning_names};
+ghost use Rattle.scrib_library.specs.Drafts.{StopsDraft};
+ghost use Rattle.scrib_library.specs.Plans.{IsPlanFor, IsPlan, StopsPut};
 
+use crate::affected::affected;
 use crate::changes::Changes;
-use crate::difference::changes_between;
+use crate::declared::touched;
+use crate::draft::{Draft, changes_in, draft_of};
 use crate::fault::EditFault;
+use crate::meanings::{NamedMeaning, meanings_of};
 use crate::room::check_room;
-use crate::versions::{NamedVersion, versions_of};
+use crate::versions::{NamedVersion, VersionEdit};
 use scrib_elaborate::modules::Modules;
 use scrib_parser::tree::ModuleTree;
-use scrib_types::plain::Items;
+use scrib_types::name::Dotted;
 use std::alloc::Global;
 
-/// A put that is accepted: the versions then, and what changes.
+/// An edit that is accepted: what it does to the versions, how many were ever used then, and what changes.
 #[derive(Drop)]
 pub struct Plan {
-    pub versions: Items<NamedVersion>,
+    pub edits: Vec<VersionEdit>,
+    pub used: u32,
     pub changes: Changes,
 }
 
-/// What it does that the new module was put among these modules, where the versions are those before.
+/// What it does that the new module was put among these modules, in place of the one that is gone, where the versions
+/// are those before. Only the protocols of this module and of those that reach it by imports are looked at. There is
+/// room for the new versions then.
 ///
 /// # Errors
 /// The first fault of `EditFault`'s list, from `TooManyModules` on, that the put has; `OutOfMemory` where memory
@@ -32,18 +40,49 @@ pub fn plan_put(
     alloc: Global,
     modules: &Modules,
     new: &ModuleTree,
-    versions: &[NamedVersion],
+    gone: Option<&ModuleTree>,
+    versions: &mut Vec<NamedVersion>,
+    used: u32,
 ) -> Result<Plan, EditFault>
-    requires { AreInOrder (version_names versions.now) }
-    ensures ok { IfOk result (IsPlan new.now modules.now versions.now) }
-    ensures fault { IfErr result (ModuleFails new.now modules.now) }
+    requires sorted { AreInOrder (version_names versions.old.items) }
+    requires few { used ≤ 65536 }
+    ensures ok { IfOk result (IsPlan new.now modules.now (option_copied gone.entry) versions.old.items used) }
+    ensures fault { IfErr result (StopsPut new.now modules.now (option_copied gone.entry) versions.old.items used) }
+    ensures room { IfOk result (λ p. vec_len versions.new + vec_len p.edits ≤ vec_capacity versions.new) }
+    ensures kept { versions.new.items ≡ versions.old.items }
 {
-    check_room(alloc, modules.as_slice(), new)?;
-    let next = versions_of(alloc, modules)?;
-    let list = changes_between(alloc, versions, next.as_slice())?;
-    let module = new.name.copy()?;
+    let trees = modules.as_slice();
+    check_room(alloc, trees, new)?;
+    let affected = affected(alloc, trees, &new.name)?;
+    let entries = touched(alloc, trees, &affected, gone)?;
+    let meanings = meanings_of(alloc, modules, entries)?;
+    plan_edits(alloc, &new.name, versions, meanings, used)
+}
+
+/// What it does that names have these meanings now, where the edited module has this name. There is room for the new
+/// versions then.
+fn plan_edits(
+    alloc: Global,
+    name: &Dotted,
+    versions: &mut Vec<NamedVersion>,
+    meanings: Vec<NamedMeaning>,
+    used: u32,
+) -> Result<Plan, EditFault>
+    requires sorted { AreInOrder (version_names versions.old.items) }
+    requires meanings { AreInOrder (meaning_names meanings.items) }
+    requires few { used ≤ 65536 }
+    ensures ok { IfOk result (IsPlanFor versions.old.items meanings.items used name.now) }
+    ensures fault { IfErr result (StopsDraft versions.old.items meanings.items used) }
+    ensures room { IfOk result (λ p. vec_len versions.new + vec_len p.edits ≤ vec_capacity versions.new) }
+    ensures kept { versions.new.items ≡ versions.old.items }
+{
+    let Draft { edits, used } = draft_of(alloc, versions, meanings, used)?;
+    let list = changes_in(alloc, &edits)?;
+    let module = name.copy()?;
+    versions.reserve(edits.len())?;
     Ok(Plan {
-        versions: next,
+        edits,
+        used,
         changes: Changes { module, list },
     })
 }

@@ -120,11 +120,14 @@ unmergeable_text u = codes "Unmergeable " ++ u.role ++ codes " " ++ dotted_text 
 unfoldable pub edit_fault_text : EditFault → List ℕ
 edit_fault_text (edit.Lex f) = lex_fault_text f
 edit_fault_text (edit.Parse f) = parse_fault_text f
+edit_fault_text edit.UnknownModule = codes "UnknownModule"
 edit_fault_text edit.TooManyModules = codes "TooManyModules"
+edit_fault_text (edit.StillImported m) = codes "StillImported " ++ dotted_text m
 edit_fault_text (edit.ImportMissing m) = codes "ImportMissing " ++ dotted_text m
 edit_fault_text edit.TooManyProtocols = codes "TooManyProtocols"
 edit_fault_text (edit.Elaborate f) = fault_text f
 edit_fault_text (edit.Project u) = unmergeable_text u
+edit_fault_text edit.VersionsFull = codes "VersionsFull"
 edit_fault_text edit.OutOfMemory = codes "OutOfMemory"
 
 unfoldable pub refusal_text : Refusal → List ℕ

@@ -115,10 +115,10 @@ fn push_unmergeable(out: &mut Vec<u8>, fault: &Unmergeable) -> Result<(), AllocE
     push_spot(out, &fault.spot)
 }
 
-fn push_missing(out: &mut Vec<u8>, name: &Dotted) -> Result<(), AllocError>
-    ensures { OnOk result (out.new.items ≡ out.old.items ++ (codes "ImportMissing " ++ dotted_text name.now)) }
+fn push_named(out: &mut Vec<u8>, word: &[u8], name: &Dotted) -> Result<(), AllocError>
+    ensures { OnOk result (out.new.items ≡ out.old.items ++ (word.now ++ dotted_text name.now)) }
 {
-    push_bytes(out, b"ImportMissing ")?;
+    push_bytes(out, word)?;
     push_dotted(out, name)
 }
 
@@ -129,11 +129,14 @@ fn push_edit_fault(out: &mut Vec<u8>, fault: &EditFault) -> Result<(), AllocErro
     match fault {
         EditFault::Lex(fault) => push_lex_fault(out, fault),
         EditFault::Parse(fault) => push_parse_fault(out, fault),
+        EditFault::UnknownModule => push_bytes(out, b"UnknownModule"),
         EditFault::TooManyModules => push_bytes(out, b"TooManyModules"),
-        EditFault::ImportMissing { module } => push_missing(out, module),
+        EditFault::StillImported { by } => push_named(out, b"StillImported ", by),
+        EditFault::ImportMissing { module } => push_named(out, b"ImportMissing ", module),
         EditFault::TooManyProtocols => push_bytes(out, b"TooManyProtocols"),
         EditFault::Elaborate(fault) => push_fault(out, fault),
         EditFault::Project(fault) => push_unmergeable(out, fault),
+        EditFault::VersionsFull => push_bytes(out, b"VersionsFull"),
         EditFault::OutOfMemory => push_bytes(out, b"OutOfMemory"),
     }
 }

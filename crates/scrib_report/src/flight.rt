@@ -19,5 +19,5 @@ pub fn push_flight(out: &mut Vec<u8>, flight: &Flight) -> Result<(), AllocError>
     push_bytes(out, b" ")?;
     push_bytes(out, flight.to.as_bytes())?;
     push_bytes(out, b" ")?;
-    push_message(out, &flight.message)
+    push_message(out, flight.message.get())
 }

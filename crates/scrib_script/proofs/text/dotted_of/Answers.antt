@@ -18,4 +18,4 @@ returns c =
     (YieldsList-at c.into_iter-piece-iterator.ensures.into_iter_gives
     (YieldsList-from_slice_split _ (λ b. b == 46) c.args.bytes.now c.split-piece-items.ensures.rest c.split-piece-items.ensures.done c.split-piece-items.ensures.closure (λ x r q k. search (rules, tests))))
     c.loop-piece.yielded _ c.loop-piece.yielded_by _ _ c.in-None.is c.next.ensures.steps in
-    rw c.from_vec.ensures (dotted-read c.args.bytes.now c.loop-piece.names.items (c.loop-piece.invariant.read ∙ seen.0) c.loop-piece.invariant.names)
+    rw c.in_ok-from_vec.ensures (dotted-read c.args.bytes.now c.loop-piece.names.items (c.loop-piece.invariant.read ∙ seen.0) c.loop-piece.invariant.names)

@@ -25,4 +25,4 @@ returns c =
     let cut : IsCut c.args.bytes.now c.in-Some.before.now c.in-Some.between.now = rw c.in-Some.is at c.parts_of.ensures in
     let op : IsOperatorText c.in-Some.before.now c.in-Some-2.op = rw c.in-Some-2.is at c.in_ok-op.ensures in
     let payload : IsPayloadText c.in-Some.between.now c.in-Some-3.payload = rw c.in-Some-3.is at c.in_ok-payload.ensures in
-    cut-message c.args.bytes.now c.in-Some.before.now c.in-Some.between.now (record { op = c.in-Some-2.op; payload = c.in-Some-3.payload }) cut op payload
+    rw c.in_ok-new.ensures (cut-message c.args.bytes.now c.in-Some.before.now c.in-Some.between.now (record { op = c.in-Some-2.op; payload = c.in-Some-3.payload }) cut op payload)

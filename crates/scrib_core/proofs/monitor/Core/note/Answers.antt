@@ -18,7 +18,7 @@ returns-in-Err-clause-answered c =
     let same = set_value-same (nat_eq c.args.id) entries c.in-Some.conversation.now there in
     let all : (c.get_mut.follows.lender c.note.new.conversation).entries ≡ c.args.self.now.conversations.entries =
     written ∙ ap (set_value (nat_eq c.args.id) entries) kept ∙ same in
-    let with_entries : List (ℕ × Conversation) → World = λ es. record { modules = c.args.self.now.library; conversations = es } in (
+    let with_entries : List (ℕ × Conversation) → World = λ es. record { modules = c.args.self.now.library.modules; used = c.args.self.now.library.used; conversations = es } in (
       note_refused (world_of c.args.self.now) c.args.id c.args.event c.in-Some.conversation.now c.in-Err.refusal there c.in-Err.ensures.fault,
       ap with_entries all,
       (λ id k p marked. absurd (false≢true marked), λ id. refl),

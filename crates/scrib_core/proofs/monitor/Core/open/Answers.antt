@@ -19,7 +19,7 @@ returns-in-Ok-insert-clause-answered c =
     let added : c.insert.new.self.entries ≡ c.args.self.now.conversations.entries ++ (c.args.id, opened c.args.name) ∷ [] =
     c.in-Ok-insert.ensures.entries ∙ insert_entry-new nat_eq c.args.self.now.conversations c.args.id (with_log c.new-log.result) due.0
     ∙ ap (λ (log : List Event). c.args.self.now.conversations.entries ++ (c.args.id, with_log log) ∷ []) c.new-log.ensures in
-    let with_entries : List (ℕ × Conversation) → World = λ es. record { modules = c.args.self.now.library; conversations = es } in (
+    let with_entries : List (ℕ × Conversation) → World = λ es. record { modules = c.args.self.now.library.modules; used = c.args.self.now.library.used; conversations = es } in (
       (due.0, due.1, due.2, ap with_entries added),
       (refl, c.in-Ok.ensures),
       (λ id k p marked. absurd (false≢true marked), λ id. refl),

@@ -1,0 +1,106 @@
+-- The modules that reach the edited one by imports, found one after another.
+use Rattle.std.proofs.Common.{◌≡◌, ℕ, zero, suc, ◌+◌, ◌<◌, ◌≤◌, List, [], ◌∷◌, ◌++◌, length, get_or, take, ◌⊎◌, inl, inr, refl, sym, ap, ◌∙◌, subst, arith}
+use Rattle.std.specs.Borrow.{Bor}
+use Rattle.std.specs.List.{Contains, remove}
+use Rattle.std.proofs.lemmas.List.{take_more, take_all, map-append, length-map, get_or-map}
+use Rattle.std.proofs.lemmas.List.Elements.{Contains-push, Contains-push_cases, Contains-append_left}
+use Rattle.scrib_parser.specs.declared.tree.ModuleTree.{ModuleTree}
+use Rattle.scrib_parser.specs.declared.tree.Import.{Import}
+use Rattle.scrib_library.specs.Affected.{names_now, trees_now, ImportsSome, AreAffected, AreSorted}
+use Rattle.scrib_library.proofs.Lists.{Contains-head_at, Contains-remove_cases, map-remove}
+
+module _ (ms : List ModuleTree) (edited : List (List ℕ)) where
+  pub sorted_first : (waiting : List ModuleTree) (names : List (List (List ℕ))) → names ≡ edited ∷ [] → ((m : ModuleTree) → Contains ms m → Contains waiting m ⊎ (m.name ≡ edited)) → AreSorted ms edited waiting names
+  sorted_first waiting names is each =
+      let P : List (List (List ℕ)) → Type 0 = λ l. AreSorted ms edited waiting l in
+      subst P (sym is) (record {
+        edited_itself = Contains-head_at edited [] edited refl;
+        each = λ m p. elim (each m p) [ inl q ↦ inl q | inr e ↦ inr (Contains-head_at edited [] m.name (sym e)) ];
+      })
+
+  -- one that imports one of the names no longer waits
+  pub sorted_more : (waiting : List ModuleTree) (names : List (List (List ℕ))) (i : ℕ) (t : ModuleTree) → AreSorted ms edited waiting names → i < length waiting → t ≡ get_or waiting i t → AreSorted ms edited (remove waiting i) (names ++ t.name ∷ [])
+  sorted_more waiting names i t h lt at = record {
+    edited_itself = Contains-append_left names (t.name ∷ []) edited h.edited_itself;
+    each = λ m p. elim (h.each m p) [
+      | inl q ↦ elim (Contains-remove_cases waiting i m lt q) [
+        | inl e ↦ inr (
+            let same : t ≡ m = at ∙ any waiting i t m lt ∙ e in
+            let P : ModuleTree → Type 0 = λ x. Contains (names ++ t.name ∷ []) x.name in
+            subst P same (Contains-push names t.name))
+        | inr r ↦ inl r
+      ]
+      | inr q ↦ inr (Contains-append_left names (t.name ∷ []) m.name q)
+    ];
+  }
+    where
+      any : {X : Type 0} (xs : List X) (k : ℕ) (d c : X) → k < length xs → get_or xs k d ≡ get_or xs k c
+      any [] k d c l = absurd (omega (arith, l))
+      any (x ∷ xs) zero d c l = refl
+      any (x ∷ xs) (suc k) d c l = any xs k d c (omega (arith, l))
+
+  pub sorted_all : (waiting : List ModuleTree) (names : List (List (List ℕ))) → AreSorted ms edited waiting names → ((m : ModuleTree) → Contains waiting m → ImportsSome names m → ⊥) → AreAffected ms edited names
+  sorted_all waiting names h none = record {
+    edited_itself = h.edited_itself;
+    closed = λ m p s. elim (h.each m p) [ inl q ↦ absurd (none m q s) | inr q ↦ q ];
+  }
+
+-- ---- loops
+
+taken_cases : {X : Type 0} (xs : List X) (i : ℕ) (x : X) → i < length xs → x ≡ get_or xs i x → (y : X) → Contains (take (i + 1) xs) y → Contains (take i xs) y ⊎ (x ≡ y)
+taken_cases {X} xs i x lt at y p =
+    let P : List X → Type 0 = λ l. Contains l y in
+    Contains-push_cases (take i xs) x y (subst P (take_more xs i x lt ∙ ap (λ z. take i xs ++ z ∷ []) (sym at)) p)
+
+-- one more module that isn't of this name, or is
+pub others_more : (ms : List ModuleTree) (name : List (List ℕ)) (i : ℕ) (t : ModuleTree) (xs ys : List ModuleTree) → i < length ms → t ≡ get_or ms i t → ((m : ModuleTree) → Contains (take i ms) m → Contains xs m ⊎ (m.name ≡ name)) → ((m : ModuleTree) → Contains xs m → Contains ys m) → Contains ys t ⊎ (t.name ≡ name)
+    → (m : ModuleTree) → Contains (take (i + 1) ms) m → Contains ys m ⊎ (m.name ≡ name)
+others_more ms name i t xs ys lt at h kept new m p =
+    elim (taken_cases ms i t lt at m p) [
+      | inl q ↦ elim (h m q) [ inl r ↦ inl (kept m r) | inr e ↦ inr e ]
+      | inr is ↦ (let P : ModuleTree → Type 0 = λ x. Contains ys x ⊎ (x.name ≡ name) in subst P is new)
+    ]
+
+-- one more import that isn't of such a name
+pub none_more : (names : List (List (List ℕ))) (is : List Import) (k : ℕ) (i : Import) → k < length is → i ≡ get_or is k i → ((j : Import) → Contains (take k is) j → Contains names j.module → ⊥) → (Contains names i.module → ⊥) → (j : Import) → Contains (take (k + 1) is) j → Contains names j.module → ⊥
+none_more names is k i lt at h non j p q =
+    elim (taken_cases is k i lt at j p) [
+      | inl r ↦ h j r q
+      | inr e ↦ non (let P : Import → Type 0 = λ x. Contains names x.module in subst P (sym e) q)
+    ]
+
+pub none_imported : (names : List (List (List ℕ))) (m : ModuleTree) (is : List Import) → is ≡ m.imports → (k : ℕ) → length is ≤ k → ((j : Import) → Contains (take k is) j → Contains names j.module → ⊥) → ImportsSome names m → ⊥
+none_imported names m is same k le h s =
+    let P : List Import → Type 0 = λ l. Contains l s.by in
+    h s.by (subst P (sym same ∙ sym (take_all k is le)) s.imports) s.named
+
+pub some_imported : (names : List (List (List ℕ))) (m : ModuleTree) (is : List Import) → is ≡ m.imports → (k : ℕ) (i : Import) → k < length is → i ≡ get_or is k i → Contains names i.module → ImportsSome names m
+some_imported names m is same k i lt at named =
+    let P : List Import → Type 0 = λ l. Contains l i in
+    record { by = i; imports = subst P same (k, lt, sym at); named = named }
+
+-- one more module that imports none of the names
+pub none_waiting_more : (names : List (List (List ℕ))) (rs : List (Bor ModuleTree)) (k : ℕ) (r : Bor ModuleTree) → k < length rs → r ≡ get_or rs k r → ((m : ModuleTree) → Contains (trees_now (take k rs)) m → ImportsSome names m → ⊥) → (ImportsSome names r.now → ⊥)
+    → (m : ModuleTree) → Contains (trees_now (take (k + 1) rs)) m → ImportsSome names m → ⊥
+none_waiting_more names rs k r lt at h non m p s =
+    let e : trees_now (take (k + 1) rs) ≡ trees_now (take k rs) ++ r.now ∷ [] =
+    ap trees_now (take_more rs k r lt ∙ ap (λ z. take k rs ++ z ∷ []) (sym at)) ∙ map-append (λ (x : Bor ModuleTree). x.now) (take k rs) (r ∷ []) in
+    let P : List ModuleTree → Type 0 = λ l. Contains l m in
+    elim (Contains-push_cases (trees_now (take k rs)) r.now m (subst P e p)) [
+      | inl q ↦ h m q s
+      | inr is ↦ non (let Q : ModuleTree → Type 0 = λ x. ImportsSome names x in subst Q (sym is) s)
+    ]
+
+pub none_waiting : (names : List (List (List ℕ))) (rs : List (Bor ModuleTree)) (k : ℕ) → length rs ≤ k → ((m : ModuleTree) → Contains (trees_now (take k rs)) m → ImportsSome names m → ⊥) → (m : ModuleTree) → Contains (trees_now rs) m → ImportsSome names m → ⊥
+none_waiting names rs k le h m p = let P : List (Bor ModuleTree) → Type 0 = λ l. Contains (trees_now l) m in h m (subst P (sym (take_all k rs le)) p)
+
+-- a module that waits no longer, where the lists are of references
+pub sorted_moved : (ms : List ModuleTree) (edited : List (List ℕ)) (ws : List (Bor ModuleTree)) (ns : List (Bor (List (List ℕ)))) (i : ℕ) (r : Bor ModuleTree) (n : Bor (List (List ℕ))) → AreSorted ms edited (trees_now ws) (names_now ns) → i < length ws → r ≡ get_or ws i r → n.now ≡ r.now.name → AreSorted ms edited (trees_now (remove ws i)) (names_now (ns ++ n ∷ []))
+sorted_moved ms edited ws ns i r n h lt at named =
+    let trees : trees_now (remove ws i) ≡ remove (trees_now ws) i = map-remove (λ (x : Bor ModuleTree). x.now) ws i in
+    let names : names_now (ns ++ n ∷ []) ≡ names_now ns ++ r.now.name ∷ [] = map-append (λ (x : Bor (List (List ℕ))). x.now) ns (n ∷ []) ∙ ap (λ (x : List (List ℕ)). names_now ns ++ x ∷ []) named in
+    let long = length-map ws (λ (x : Bor ModuleTree). x.now) in
+    let here : r.now ≡ get_or (trees_now ws) i r.now = ap (λ (x : Bor ModuleTree). x.now) at ∙ sym (get_or-map (λ (x : Bor ModuleTree). x.now) ws i r r.now lt) in
+    let P : List ModuleTree → Type 0 = λ l. AreSorted ms edited l (names_now (ns ++ n ∷ [])) in
+    let Q : List (List (List ℕ)) → Type 0 = λ l. AreSorted ms edited (remove (trees_now ws) i) l in
+    subst P (sym trees) (subst Q (sym names) (sorted_more ms edited (trees_now ws) (names_now ns) i r.now h (omega (arith, lt, long)) here))

@@ -1,0 +1,9 @@
+use Rattle.std.proofs.Common.{length}
+use Rattle.scrib_library.specs.Affected.{names_now, trees_now, AreSorted}
+use Rattle.scrib_library.proofs.affected.affected.Given as goal
+
+abbrev pub invariant-loop-at : goal.invariant-loop-at
+invariant-loop-at l = AreSorted l.modules l.edited (trees_now l.waiting.items) (names_now l.names.items)
+
+abbrev pub decreases-loop-at : goal.decreases-loop-at
+decreases-loop-at l = length l.waiting.items

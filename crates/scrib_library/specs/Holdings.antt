@@ -1,0 +1,48 @@
+-- What contracts see of a library (this project's own).
+use Rattle.std.specs.Prelude.{◌≡◌, ◌⊎◌, ℕ, ◌<◌, ◌≤◌, List, [], Option, Some, None, Contains}
+use Rattle.scrib_types.specs.Agreement.{Agreement}
+use Rattle.scrib_parser.specs.declared.tree.ModuleTree.{ModuleTree}
+use Rattle.scrib_library.specs.Modules.{Means}
+
+-- a full name, and the number of the version that it has
+pub record Stamp : Type 0 where
+  pub name : List (List ℕ)
+  pub number : ℕ
+
+-- the accepted modules, a stamp for each name that means something, in the order of names, and how many versions
+-- were ever used
+pub record Holdings : Type 0 where
+  pub modules : List ModuleTree
+  pub stamps : List Stamp
+  pub used : ℕ
+
+abbrev pub no_holdings : Holdings
+no_holdings = record { modules = []; stamps = []; used = 0 }
+
+abbrev pub HasNumber : Holdings → List (List ℕ) → ℕ → Type 0
+HasNumber h name k = Contains h.stamps (record { name = name; number = k })
+
+-- the number of the name's version, if it has one
+abbrev pub IsNumber : Holdings → List (List ℕ) → Option ℕ → Type 0
+IsNumber h name None = (k : ℕ) → HasNumber h name k → ⊥
+IsNumber h name (Some k) = HasNumber h name k
+
+-- the name means this, and this is the number of its version
+pub record HasStamp (h : Holdings) (name : List (List ℕ)) (a : Agreement) (k : ℕ) : Type 0 where
+  pub meaning : Means h.modules name a
+  pub number : HasNumber h name k
+
+-- Exactly the names that mean something have numbers, each one. No two names have the same, and each number is below
+-- the count of used versions, which is at most 65,536.
+pub record AreNumbered (h : Holdings) : Type 0 where
+  pub numbered : (name : List (List ℕ)) (a : Agreement) → Means h.modules name a → (k : ℕ) × HasNumber h name k
+  pub meant : (name : List (List ℕ)) (k : ℕ) → HasNumber h name k → (a : Agreement) × Means h.modules name a
+  pub one : (name : List (List ℕ)) (k l : ℕ) → HasNumber h name k → HasNumber h name l → k ≡ l
+  pub once : (m n : List (List ℕ)) (k : ℕ) → HasNumber h m k → HasNumber h n k → m ≡ n
+  pub below : (name : List (List ℕ)) (k : ℕ) → HasNumber h name k → k < h.used
+  pub few : h.used ≤ 65536
+
+-- A name that means the same before and after an edit keeps its number, and each other number was never used before.
+pub record IsStamped (before after : Holdings) : Type 0 where
+  pub kept : (name : List (List ℕ)) (a : Agreement) (k : ℕ) → HasStamp before name a k → Means after.modules name a → HasNumber after name k
+  pub fresh : (name : List (List ℕ)) (a : Agreement) (k : ℕ) → HasStamp after name a k → HasStamp before name a k ⊎ (before.used ≤ k)

@@ -1,0 +1,84 @@
+//! The modules whose protocols an edit can change: the edited one, and those that reach it by imports.
+
+ghost use Rattle.std.specs.Prelude.{◌≡◌, ◌<◌, ◌⊎◌, length, MatchOption, IfOk, IsTrue, Contains, ◌↔◌};
+ghost use Rattle.scrib_parser.specs.declared.tree.ModuleTree as parsed;
+ghost use Rattle.scrib_library.specs.Affected.{names_now, trees_now, ImportsSome, AreAffected};
+
+use scrib_parser::tree::ModuleTree;
+use scrib_types::name::Dotted;
+use std::alloc::{AllocError, Global};
+
+/// The name of the edited module, and the names of the modules that reach it by imports.
+///
+/// # Errors
+/// `AllocError` where memory was refused.
+pub fn affected<'a>(
+    alloc: Global,
+    modules: &'a [ModuleTree],
+    edited: &'a Dotted,
+) -> Result<Vec<&'a Dotted>, AllocError>
+    ensures { IfOk result (λ names. AreAffected modules.now edited.now (names_now names.items)) }
+{
+    let mut waiting = others(alloc, modules, edited)?;
+    let mut names = Vec::new(alloc);
+    names.push(edited)?;
+    while let Some(at) = place_of_importer(&waiting, &names) {
+        let tree = waiting.remove(at);
+        names.push(&tree.name)?;
+    }
+    Ok(names)
+}
+
+/// The modules that don't have this name.
+fn others<'a>(
+    alloc: Global,
+    modules: &'a [ModuleTree],
+    name: &Dotted,
+) -> Result<Vec<&'a ModuleTree>, AllocError>
+    ensures { IfOk result (λ others. (m : parsed.ModuleTree) → Contains modules.now m → Contains (trees_now others.items) m ⊎ (m.name ≡ name.now)) }
+{
+    let mut others = Vec::with_capacity(alloc, modules.len())?;
+    for tree in modules {
+        if !name.equal(&tree.name) {
+            others.push(tree)?;
+        }
+    }
+    Ok(others)
+}
+
+/// The place of the first of the modules that imports one of these names.
+fn place_of_importer(waiting: &[&ModuleTree], names: &[&Dotted]) -> Option<usize>
+    ensures { MatchOption result
+        ((m : parsed.ModuleTree) → Contains (trees_now waiting.now) m → ImportsSome (names_now names.now) m → ⊥)
+        (λ at. at < length waiting.now) }
+{
+    for (at, tree) in waiting.iter().enumerate() {
+        if imports_some(tree, names) {
+            return Some(at);
+        }
+    }
+    None
+}
+
+fn imports_some(tree: &ModuleTree, names: &[&Dotted]) -> bool
+    ensures { IsTrue result ↔ ImportsSome (names_now names.now) tree.now }
+{
+    for import in tree.imports.as_slice() {
+        if is_one_of(names, &import.module) {
+            return true;
+        }
+    }
+    false
+}
+
+/// Whether the name is one of these.
+pub fn is_one_of(names: &[&Dotted], name: &Dotted) -> bool
+    ensures { IsTrue result ↔ Contains (names_now names.now) name.now }
+{
+    for other in names {
+        if name.equal(other) {
+            return true;
+        }
+    }
+    false
+}

@@ -1,0 +1,146 @@
+//! Which versions an edit makes anew.
+
+ghost use Rattle.std.specs.Prelude.{◌≡◌, ◌+◌, ◌≤◌, ◌<◌, cond, is_some, IfOk, IfErr, Some};
+ghost use Rattle.std.specs.Option.{option_copied};
+ghost use Rattle.scrib_record.specs.declared.version.Version as version;
+ghost use Rattle.scrib_library.specs.Listed.{AreInOrder};
+ghost use Rattle.scrib_library.specs.Stored.{version_names};
+ghost use Rattle.scrib_library.specs.Elaborated.{meaning_names};
+ghost use Rattle.scrib_library.specs.Drafts.{shown, IsMadeAnew, IsEdit, LacksVersion, LacksNumber, IsDraft, StopsDraft};
+
+use crate::changes::{Change, ChangeKind};
+use crate::fault::EditFault;
+use crate::library::MAX_VERSIONS;
+use crate::meanings::NamedMeaning;
+use crate::versions::{NamedVersion, VersionEdit, version_of};
+use scrib_project::projected::ProjectedProtocol;
+use scrib_record::version::Version;
+use scrib_types::name::Dotted;
+use scrib_types::plain::Items;
+use scrib_types::protocol::Protocol;
+use std::alloc::{AllocError, Global};
+
+/// The edits of the versions, and how many versions were ever used then.
+#[derive(Drop)]
+pub struct Draft {
+    pub edits: Vec<VersionEdit>,
+    pub used: u32,
+}
+
+/// The edits of the versions that give each name a version of what it means, in the same order. A name whose version
+/// means that keeps it. The new versions have the numbers from `used` on.
+///
+/// # Errors
+/// `VersionsFull` where there aren't numbers enough; `OutOfMemory` where memory was refused.
+pub fn draft_of(
+    alloc: Global,
+    versions: &[NamedVersion],
+    meanings: Vec<NamedMeaning>,
+    used: u32,
+) -> Result<Draft, EditFault>
+    requires versions { AreInOrder (version_names versions.now) }
+    requires meanings { AreInOrder (meaning_names meanings.items) }
+    requires few { used ≤ 65536 }
+    ensures ok { IfOk result (λ d. IsDraft versions.now meanings.items used d.edits.items d.used) }
+    ensures fault { IfErr result (StopsDraft versions.now meanings.items used) }
+{
+    let mut edits = Vec::new(alloc);
+    let mut next = used;
+    for named in meanings {
+        let before = version_of(versions, &named.name);
+        if let Some(edit) = edit_of(alloc, before, named, next)? {
+            next = used_after(&edit, next);
+            edits.push(edit)?;
+        }
+    }
+    Ok(Draft { edits, used: next })
+}
+
+/// How many versions were used, with that of the edit if it has one.
+fn used_after(edit: &VersionEdit, used: u32) -> u32
+    requires { (v : version.Version) → edit.now.version ≡ Some v → used < 65536 }
+    ensures { result ≡ used + cond (is_some edit.now.version) 1 0 }
+{
+    if edit.version.is_some() {
+        used + 1
+    } else {
+        used
+    }
+}
+
+/// The changes that the edits are.
+///
+/// # Errors
+/// `AllocError` where memory was refused.
+pub fn changes_in(alloc: Global, edits: &[VersionEdit]) -> Result<Items<Change>, AllocError>
+    ensures { IfOk result (λ changes. changes ≡ shown edits.now) }
+{
+    let mut changes = Vec::with_capacity(alloc, edits.len())?;
+    for edit in edits {
+        let name = edit.name.copy()?;
+        changes.push(Change {
+            kind: edit.kind,
+            name,
+        })?;
+    }
+    Ok(Items::from_vec(changes))
+}
+
+/// The edit of a name that has this version, if any, or nothing where the version means the same.
+fn edit_of(
+    alloc: Global,
+    before: Option<&Version>,
+    named: NamedMeaning,
+    used: u32,
+) -> Result<Option<VersionEdit>, EditFault>
+    ensures ok { IfOk result (IsEdit (option_copied before.entry) named used) }
+    ensures fault { IfErr result (LacksVersion (option_copied before.entry) named used) }
+{
+    let NamedMeaning { name, projected } = named;
+    match (before, projected) {
+        (None, None) => Ok(None),
+        (Some(_), None) => Ok(Some(VersionEdit {
+            kind: ChangeKind::Withdrawn,
+            name,
+            version: None,
+        })),
+        (None, Some(projected)) => {
+            let edit = anew(alloc, ChangeKind::Added, name, projected, used)?;
+            Ok(Some(edit))
+        }
+        (Some(before), Some(projected)) => {
+            if Protocol::same_meaning(before.protocol(), &projected.protocol) {
+                return Ok(None);
+            }
+            let edit = anew(alloc, ChangeKind::Replaced, name, projected, used)?;
+            Ok(Some(edit))
+        }
+    }
+}
+
+/// The edit that gives the name a new version of this number.
+fn anew(
+    alloc: Global,
+    kind: ChangeKind,
+    name: Dotted,
+    projected: ProjectedProtocol,
+    number: u32,
+) -> Result<VersionEdit, EditFault>
+    ensures ok { IfOk result (IsMadeAnew kind name projected number) }
+    ensures fault { IfErr result (LacksNumber number) }
+{
+    if number >= MAX_VERSIONS {
+        return Err(EditFault::VersionsFull);
+    }
+    let ProjectedProtocol {
+        protocol,
+        locals,
+        ..
+    } = projected;
+    let version = Version::new(alloc, protocol, locals, number)?;
+    Ok(VersionEdit {
+        kind,
+        name,
+        version: Some(version),
+    })
+}

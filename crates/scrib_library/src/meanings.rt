@@ -1,0 +1,114 @@
+//! What protocols mean, with their projections.
+
+ghost use Rattle.std.specs.Prelude.{◌≡◌, IfOk, IfErr};
+ghost use Rattle.scrib_library.specs.Listed.{AreInOrder};
+ghost use Rattle.scrib_library.specs.Entries.{entry_names, AreStanding};
+ghost use Rattle.scrib_library.specs.Elaborated.{IsFoundFor, IsBrokenEntry, AreElaborated, AreMeanings, IsProjected, StopsNamed, AreProjected, IsRefusal, StopsProjection};
+
+use crate::declared::Entry;
+use crate::fault::EditFault;
+use scrib_elaborate::elaborate::Elaborator;
+use scrib_elaborate::elaborated::Elaborated;
+use scrib_elaborate::modules::Modules;
+use scrib_project::projected::ProjectedProtocol;
+use scrib_project::protocol::protocol_with_projections;
+use scrib_types::name::Dotted;
+use std::alloc::Global;
+
+/// What a name means, if anything, as it was elaborated.
+#[derive(Drop)]
+pub struct NamedElaborated {
+    pub name: Dotted,
+    pub elaborated: Option<Elaborated>,
+}
+
+/// What a name means, if anything, with its projections.
+#[derive(Drop)]
+pub struct NamedMeaning {
+    pub name: Dotted,
+    pub projected: Option<ProjectedProtocol>,
+}
+
+/// What the protocol of each entry means, in the same order; nothing where it isn't declared any more.
+///
+/// # Errors
+/// `Elaborate` with a fault of the first protocol, in that order, that means nothing; if there is none `Project`
+/// with that of the first that has no projection on one of its roles; `OutOfMemory` where memory was refused.
+pub fn meanings_of(
+    alloc: Global,
+    modules: &Modules,
+    entries: Vec<Entry>,
+) -> Result<Vec<NamedMeaning>, EditFault>
+    requires sorted { AreInOrder (entry_names entries.items) }
+    requires stand { AreStanding modules.now entries.items }
+    ensures ok { IfOk result (λ meanings. AreMeanings modules.now entries.entry.items meanings.items) }
+    ensures fault { IfErr result (IsRefusal modules.now entries.entry.items) }
+{
+    let elaborated = elaborate_all(alloc, modules, entries)?;
+    let meanings = project_all(alloc, elaborated)?;
+    Ok(meanings)
+}
+
+fn elaborate_all(
+    alloc: Global,
+    modules: &Modules,
+    entries: Vec<Entry>,
+) -> Result<Vec<NamedElaborated>, EditFault>
+    requires { AreStanding modules.now entries.items }
+    ensures ok { IfOk result (λ all. AreElaborated modules.now entries.entry.items all.items) }
+    ensures fault { IfErr result (IsRefusal modules.now entries.entry.items) }
+{
+    let mut elaborator = Elaborator::new(alloc, modules)?;
+    let mut all = Vec::with_capacity(alloc, entries.len())?;
+    for entry in entries {
+        let named = elaborate_entry(&mut elaborator, entry)?;
+        all.push(named)?;
+    }
+    Ok(all)
+}
+
+fn elaborate_entry(elaborator: &mut Elaborator, entry: Entry) -> Result<NamedElaborated, EditFault>
+    ensures ok { IfOk result (IsFoundFor elaborator.old entry.entry) }
+    ensures fault { IfErr result (IsBrokenEntry elaborator.old entry.entry) }
+    ensures same { elaborator.new ≡ elaborator.old }
+{
+    let Entry {
+        home,
+        protocol,
+        name,
+        stands,
+    } = entry;
+    let mut elaborated = None;
+    if stands {
+        elaborated = Some(elaborator.elaborate(home, protocol)?);
+    }
+    Ok(NamedElaborated { name, elaborated })
+}
+
+/// The projections of each, in the same order.
+fn project_all(
+    alloc: Global,
+    elaborated: Vec<NamedElaborated>,
+) -> Result<Vec<NamedMeaning>, EditFault>
+    ensures ok { IfOk result (λ meanings. AreProjected elaborated.items meanings.items) }
+    ensures fault { IfErr result (StopsProjection elaborated.items) }
+{
+    let mut meanings = Vec::with_capacity(alloc, elaborated.len())?;
+    for named in elaborated {
+        let meaning = project_named(alloc, named)?;
+        meanings.push(meaning)?;
+    }
+    Ok(meanings)
+}
+
+fn project_named(alloc: Global, named: NamedElaborated) -> Result<NamedMeaning, EditFault>
+    ensures ok { IfOk result (IsProjected named) }
+    ensures fault { IfErr result (StopsNamed named) }
+{
+    let NamedElaborated { name, elaborated } = named;
+    let projected = match elaborated {
+        Some(elaborated) => Some(protocol_with_projections(alloc, elaborated)?),
+        None => None,
+    };
+    Ok(NamedMeaning { name, projected })
+}
