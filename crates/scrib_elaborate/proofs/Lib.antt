@@ -25,8 +25,6 @@ mod Grown
 mod Somewhere
 mod Putting
 mod Zipped
-mod Sited
-mod Begun
 mod Steps
 mod Joined
 mod Finished

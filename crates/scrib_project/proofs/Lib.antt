@@ -1,5 +1,3 @@
 pub mod Projections
 pub mod Protocols
 pub mod Undefined
-pub mod Located
-pub mod Placing

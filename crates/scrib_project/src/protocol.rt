@@ -1,10 +1,8 @@
 //! Protocols from what is elaborated.
 
-ghost use Rattle.std.specs.Prelude.{ℕ, List, IfErr};
-ghost use Rattle.scrib_parser.specs.declared.tree.ModuleTree.{ModuleTree};
-ghost use Rattle.scrib_elaborate.specs.Meaning.{meaning_of};
-ghost use Rattle.scrib_elaborate.specs.Sites.{AreSites};
-ghost use Rattle.scrib_project.specs.Faults.{Agrees, AgreesWithProjections, IsFaultPlaced};
+ghost use Rattle.std.specs.Prelude.{IfErr};
+ghost use Rattle.scrib_elaborate.specs.Meaning.{meaning_of, joins_of};
+ghost use Rattle.scrib_project.specs.Faults.{Agrees, AgreesWithProjections, IsPlaced};
 
 use crate::fault::ProjectFault;
 use crate::project::project;
@@ -22,9 +20,7 @@ use std::alloc::Global;
 /// tells for it; `OutOfMemory` where memory was refused.
 pub fn protocol(alloc: Global, elaborated: Elaborated) -> Result<Protocol, ProjectFault>
     ensures value { Agrees (meaning_of elaborated) result }
-    ensures place { (modules : List ModuleTree) (home : List (List ℕ)) (name : List ℕ)
-        → AreSites modules home name elaborated
-        → IfErr result (IsFaultPlaced modules home name (meaning_of elaborated).global) }
+    ensures place { IfErr result (IsPlaced (joins_of elaborated) (meaning_of elaborated).global) }
 {
     let projected = protocol_with_projections(alloc, elaborated)?;
     let ProjectedProtocol { protocol, .. } = projected;
@@ -40,9 +36,7 @@ pub fn protocol_with_projections(
     elaborated: Elaborated,
 ) -> Result<ProjectedProtocol, ProjectFault>
     ensures value { AgreesWithProjections (meaning_of elaborated) result }
-    ensures place { (modules : List ModuleTree) (home : List (List ℕ)) (name : List ℕ)
-        → AreSites modules home name elaborated
-        → IfErr result (IsFaultPlaced modules home name (meaning_of elaborated).global) }
+    ensures place { IfErr result (IsPlaced (joins_of elaborated) (meaning_of elaborated).global) }
 {
     let mut locals = Vec::with_capacity(alloc, elaborated.roles().len())?;
     for role in elaborated.roles() {
