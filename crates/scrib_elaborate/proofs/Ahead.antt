@@ -6,7 +6,6 @@ use Rattle.std.proofs.lemmas.List.Elements.{All-nil, All-cons, All-push, All-pop
 use Rattle.std.proofs.lemmas.List.Sorted.{All-permutation, IsPermutation-reverse, IsPermutation-sym}
 use Rattle.std.proofs.lemmas.Option.{slice_get-get_or}
 use Rattle.scrib_types.specs.declared.spot.Spot.{Spot}
-use Rattle.scrib_types.specs.Trees.{GlobalTree, GlobalEnd}
 use Rattle.scrib_parser.specs.declared.tree.ModuleTree.{ModuleTree}
 use Rattle.scrib_parser.specs.declared.tree.Statement.{Statement}
 use Rattle.scrib_parser.specs.declared.tree.Block.{Block}
@@ -23,7 +22,7 @@ use Rattle.scrib_elaborate.specs.Elaboration.{continues_in, Scope, inside, insid
 use Rattle.scrib_elaborate.specs.Faults.{later, in_choice, in_rec, StandsIn, needs_itself, needs_branch, needs_repeats, needs_passes, needs_calls}
 use Rattle.scrib_elaborate.specs.Staying.{Stays}
 use Rattle.scrib_elaborate.specs.Standing.{scope_of, IsSame, IsInside, IsInsideCall}
-use Rattle.scrib_elaborate.specs.Typing.{before, IsFront, Path, IsState, TypingFails, IsAhead, IsTaskAhead, AreAhead, StopsAhead}
+use Rattle.scrib_elaborate.specs.Typing.{Made, nothing_made, before, IsFront, Path, IsState, TypingFails, IsAhead, IsTaskAhead, AreAhead, StopsAhead}
 use Rattle.scrib_elaborate.proofs.Kept.{of_then, reaches_on}
 use Rattle.scrib_elaborate.proofs.Checks.{stands_here}
 use Rattle.scrib_elaborate.proofs.Lifted.{below_more, levels_more}
@@ -54,7 +53,7 @@ pub stack_ahead : (ms : List ModuleTree) (root : Declaration) (ts : List Task) (
 stack_ahead ms root ts n fs p =
     All-permutation (IsTaskAhead ms root) (reverse ts) ts (IsPermutation-sym ts (reverse ts) (IsPermutation-reverse ts)) (path_ahead ms root (reverse ts) n fs p)
 
-pub closing_ahead : (ms : List ModuleTree) (root : Declaration) (ts : List Task) (home : Bor ModuleTree) (spot : Spot) (g : GlobalTree) → IsState ms root (Close home spot ∷ reverse ts) g → AreAhead ms root ts
+pub closing_ahead : (ms : List ModuleTree) (root : Declaration) (ts : List Task) (home : Bor ModuleTree) (spot : Spot) (g : Made) → IsState ms root (Close home spot ∷ reverse ts) g → AreAhead ms root ts
 closing_ahead ms root ts home spot g s = stack_ahead ms root ts s.path.0 s.path.1 s.path.3
 
 turned_ahead : (ms : List ModuleTree) (root : Declaration) (old new : List Task) → IsPermutation old new → AreAhead ms root old → AreAhead ms root new
@@ -190,13 +189,13 @@ first_ahead ms root st ss rest s is a =
 -- a block without exit is tried alone
 
 trial_begins : (ms : List ModuleTree) (root : Declaration) (st : Standing) (ss : Bor (List Statement)) → IsAhead ms root (scope_of st) st.depth (body_of ss.now) → Stays ms st.within.home.now (body_of ss.now)
-    → IsState ms root (Front st ss ∷ Trial ∷ []) GlobalEnd
+    → IsState ms root (Front st ss ∷ Trial ∷ []) nothing_made
 trial_begins ms root st ss a stays =
     let sc = scope_of st in
     let n = st.depth in
     let b = body_of ss.now in
-    opened ms root (Trial ∷ []) st ss sc n b NoFrame (Under sc b NoFrame) GlobalEnd refl refl refl (record {
-      typed = ends;
+    opened ms root (Trial ∷ []) st ss sc n b NoFrame (Under sc b NoFrame) nothing_made refl refl refl (record {
+      made = record { typed = ends; marked = tt };
       leads = λ h t. t;
       up = λ f d spot h. a.up f d spot (fails_onto f n a.outer d spot (never_here stays) h);
       recs = a.recs;
@@ -206,9 +205,9 @@ trial_begins ms root st ss a stays =
     }) refl
 
 pub trial_state : (ms : List ModuleTree) (root : Declaration) (old mid new : List Task) (st : Standing) (ss : Bor (List Statement)) → old ≡ [] → mid ≡ old ++ Trial ∷ [] → new ≡ mid ++ Front st ss ∷ [] → IsAhead ms root (scope_of st) st.depth (body_of ss.now) → Stays ms st.within.home.now (body_of ss.now)
-    → IsState ms root (reverse new) GlobalEnd
+    → IsState ms root (reverse new) nothing_made
 trial_state ms root old mid new st ss none first second a stays =
-    pushed_twice ms root old mid new Trial (Front st ss) GlobalEnd GlobalEnd first second refl (subst (λ x. IsState ms root (Front st ss ∷ Trial ∷ reverse x) GlobalEnd) (sym none) (trial_begins ms root st ss a stays))
+    pushed_twice ms root old mid new Trial (Front st ss) nothing_made nothing_made first second refl (subst (λ x. IsState ms root (Front st ss ∷ Trial ∷ reverse x) nothing_made) (sym none) (trial_begins ms root st ss a stays))
 
 pub turned_stops : (ms : List ModuleTree) (root : Declaration) (old new : List Task) (e : Untyped) → IsPermutation old new → StopsAhead ms root old e → StopsAhead ms root new e
 turned_stops ms root old new (Broken home b) p h = (h.0, turned_ahead ms root old new p h.1)

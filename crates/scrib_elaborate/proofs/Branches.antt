@@ -1,5 +1,5 @@
 -- Branches one after the other.
-use Rattle.std.proofs.Common.{◌≡◌, ℕ, ◌+◌, ◌<◌, List, [], ◌∷◌, ◌++◌, length, get_or, take, refl, sym, ap, ◌∙◌}
+use Rattle.std.proofs.Common.{◌≡◌, ℕ, ◌+◌, ◌<◌, ◌≤◌, true, false, List, [], ◌∷◌, ◌++◌, length, get_or, take, refl, sym, ap, ◌∙◌, arith}
 use Rattle.std.proofs.lemmas.List.{take_more}
 use Rattle.scrib_types.specs.declared.message.Message.{Message}
 use Rattle.scrib_types.specs.declared.global.GlobalType as global
@@ -7,6 +7,7 @@ use Rattle.scrib_types.specs.declared.global.GlobalType.{GlobalType}
 use Rattle.scrib_types.specs.GlobalView.{global_of, global_branches, comm_of}
 use Rattle.scrib_types.specs.Trees.{Comm, GlobalBranches, NoBranch, Branch}
 use Rattle.scrib_elaborate.specs.Elaboration.{and_branches}
+use Rattle.scrib_elaborate.specs.Sites.{has_several}
 use Rattle.scrib_elaborate.specs.Lifting.{lifted, branches_lifted}
 
 pub branches_append : (bs cs : List (Message × GlobalType)) → global_branches (bs ++ cs) ≡ and_branches (global_branches bs) (global_branches cs)
@@ -30,3 +31,15 @@ lifted_more under old new all i b m g h is same lift push so_far =
 pub global_of-one_branch : (p q r s : List ℕ) (m n : Message) (g : GlobalType) (bs : List (Message × GlobalType)) → r ≡ p → s ≡ q → n ≡ m → bs ≡ (n, g) ∷ [] → global_of (global.Comm r s bs) ≡ Comm p q (Branch m (global_of g) NoBranch)
 global_of-one_branch p q r s m n g bs e f k h =
     ap (λ cs. global_of (global.Comm r s cs)) h ∙ comm_of r s ((n, g) ∷ []) ∙ (λ i. Comm (e i) (f i) (Branch (k i) (global_of g) NoBranch))
+
+-- several branches, by their number
+
+pub several_many : (bs : List (Message × GlobalType)) → 1 < length bs → has_several (global_branches bs) ≡ true
+several_many [] h = absurd (omega arith)
+several_many (b ∷ []) h = absurd (omega arith)
+several_many (b ∷ c ∷ bs) h = refl
+
+pub several_few : (bs : List (Message × GlobalType)) → length bs ≤ 1 → has_several (global_branches bs) ≡ false
+several_few [] h = refl
+several_few (b ∷ []) h = refl
+several_few (b ∷ c ∷ bs) h = absurd (omega arith)

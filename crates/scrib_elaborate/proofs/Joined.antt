@@ -1,7 +1,7 @@
 -- The steps of the third pass at a choice.
-use Rattle.std.proofs.Common.{◌≡◌, ◌≢◌, ◌⊎◌, ℕ, zero, suc, ◌+◌, ◌≤◌, true, false, not, List, [], ◌∷◌, ◌++◌, length, map, take, drop, Option, Some, None, option_map, MatchOption, refl, sym, ap, ◌∙◌, subst, ⊎_elim, inl, inr, arith}
+use Rattle.std.proofs.Common.{◌≡◌, ◌≢◌, ◌⊎◌, ℕ, zero, suc, ◌+◌, ◌≤◌, Bool, true, false, not, List, [], ◌∷◌, ◌++◌, length, map, take, drop, Option, Some, None, option_map, MatchOption, refl, sym, ap, ◌∙◌, subst, ⊎_elim, inl, inr, arith}
 use Rattle.std.specs.Borrow.{Bor}
-use Rattle.std.specs.List.{slice_get}
+use Rattle.std.specs.List.{AllZip, slice_get}
 use Rattle.std.proofs.lemmas.Option.{slice_get_within, get_or_from_slice_get}
 use Rattle.std.specs.Option.{option_copied, option_zip}
 use Rattle.std.proofs.lemmas.List.{take_more, length_push}
@@ -19,6 +19,7 @@ use Rattle.scrib_elaborate.specs.declared.tasks.Task.{Task}
 use Rattle.scrib_elaborate.specs.declared.tasks.Task.TheVariants.{Front, Join}
 use Rattle.scrib_elaborate.specs.declared.tasks.Choosing.{Choosing}
 use Rattle.scrib_elaborate.specs.declared.standing.Standing.{Standing}
+use Rattle.scrib_elaborate.specs.declared.built.Origin.{Origin}
 use Rattle.scrib_elaborate.specs.declared.built.Typed.{Typed}
 use Rattle.scrib_elaborate.specs.declared.untyped.Untyped.{Untyped}
 use Rattle.scrib_elaborate.specs.declared.untyped.Untyped.TheVariants as untyped
@@ -27,9 +28,11 @@ use Rattle.scrib_elaborate.specs.SourceView.{body_of, blocks_of}
 use Rattle.scrib_elaborate.specs.Names.{Declaration}
 use Rattle.scrib_elaborate.specs.Elaboration.{Scope, role_in, Frames, Under, and_branches, sent, Types, ends, closes, sends, chooses, repeats, passes, continues, calls, JoinsTo, joins_none, joins, start_of}
 use Rattle.scrib_elaborate.specs.Faults.{Stands, StandsIn, in_this, in_other, in_choice, Reaches, blocks_before, Needs, needs_itself, needs_branch, IsBranch, IsOneOf, IsFirstBlock, share_operator, FailsTyping}
+use Rattle.scrib_elaborate.specs.Sites.{communications, branch_communications, has_several, IsSite}
 use Rattle.scrib_elaborate.specs.Standing.{scope_of, IsSame}
-use Rattle.scrib_elaborate.specs.Typing.{type_of, FailsUp, AreTyped, Path, IsState, IsBefore, IsChoosing, IsFirst, IsAdded, HeadFails, IsHeadFault, TypingFails}
+use Rattle.scrib_elaborate.specs.Typing.{Made, type_of, made_of, IsMarked, Makes, AddsOrigins, FailsUp, AreTyped, Path, IsState, IsBefore, IsChoosing, IsFirst, IsAdded, HeadFails, IsHeadFault, TypingFails}
 use Rattle.scrib_elaborate.proofs.Needed.{fails_through}
+use Rattle.scrib_elaborate.proofs.Sited.{marks_through, made_from, marks_more, marks_some, marks_joined}
 use Rattle.scrib_elaborate.proofs.Steps.{opened}
 
 -- a block among those of a choice
@@ -48,13 +51,13 @@ none_typed : (ms : List ModuleTree) (n : ℕ) (sc : Scope) (fs : Frames) (bs : L
 none_typed ms n sc fs bs types none k b t e f = absurd (omega (arith, slice_get_within types k t f, ap length none))
 
 pub choosing_begins : (ms : List ModuleTree) (root : Declaration) (ts : List Task) (sc : Scope) (n : ℕ) (p : List ℕ) (bs : List Block) (spot : Spot) (t : Typed) (types : List Typed)
-    → types ≡ [] → IsBefore ms root ts sc n (Chooses p (blocks_of bs) spot) (type_of t) → IsChoosing ms root ts sc n p bs spot (Some t) types
+    → types ≡ [] → IsBefore ms root ts sc n (Chooses p (blocks_of bs) spot) (made_of t) → IsChoosing ms root ts sc n p bs spot (Some t) types
 choosing_begins ms root ts sc n p bs spot t types none b = record {
   rest = b.rest;
   outer = b.outer;
   typed = none_typed ms n sc (Under sc b.rest b.outer) bs types none;
   few = omega (arith, ap length none);
-  after = b.typed;
+  after = b.made;
   up = b.up;
   recs = b.recs;
   parts = λ inner r q. b.part inner r (in_choice q);
@@ -64,13 +67,13 @@ choosing_begins ms root ts sc n p bs spot t types none b = record {
 }
 
 -- what follows the choice is kept once more, if blocks are left
-kept_on : (o : Option Typed) (P Q : Type 0) (R : GlobalTree → Type 0) (g : GlobalTree) → (P → Q) → MatchOption o P (λ t. type_of t ≡ g) → R g → MatchOption o Q (λ t. R (type_of t))
+kept_on : (o : Option Typed) (P Q : Type 0) (R : Made → Type 0) (g : Made) → (P → Q) → MatchOption o P (λ t. made_of t ≡ g) → R g → MatchOption o Q (λ t. R (made_of t))
 kept_on None P Q R g f h r = f h
 kept_on (Some t) P Q R g f h r = subst R (sym h) r
 
 -- the next block is entered
-pub next_block : (ms : List ModuleTree) (root : Declaration) (ts : List Task) (c : Choosing) (inner : Standing) (ss : Bor (List Statement)) (b : Block) (t : Typed) (left : ℕ) (g : GlobalTree)
-    → slice_get c.branches.now (length c.types.items) ≡ Some b → length c.types.items + 1 + left ≡ length c.branches.now → IsSame c.standing inner → ss.now ≡ b.body → g ≡ type_of t → MatchOption c.follows (left ≡ 0) (λ u. type_of u ≡ type_of t)
+pub next_block : (ms : List ModuleTree) (root : Declaration) (ts : List Task) (c : Choosing) (inner : Standing) (ss : Bor (List Statement)) (b : Block) (t : Typed) (left : ℕ) (g : Made)
+    → slice_get c.branches.now (length c.types.items) ≡ Some b → length c.types.items + 1 + left ≡ length c.branches.now → IsSame c.standing inner → ss.now ≡ b.body → g ≡ made_of t → MatchOption c.follows (left ≡ 0) (λ u. made_of u ≡ made_of t)
     → IsChoosing ms root ts (scope_of c.standing) c.standing.depth c.chooser.now c.branches.now c.spot (Some t) c.types.items → IsState ms root (Front inner ss ∷ Join c ∷ ts) g
 next_block ms root ts c inner ss b t left g at count same body is kept x =
     let sc = scope_of c.standing in
@@ -83,7 +86,7 @@ next_block ms root ts c inner ss b t left g at count same body is kept x =
     let first = blocks_of (take k bs) in
     let last = blocks_of (drop (suc k) bs) in
     opened ms root (Join c ∷ ts) inner ss sc n (body_of b.body) after (Under sc (body_of b.body) after) g same.scope same.depth (ap body_of body) (record {
-      typed = subst (λ y. Types ms n after y) (sym is) x.after;
+      made = subst (λ y. Makes ms n after y) (sym is) x.after;
       leads = λ h t. t;
       up = λ f d s h. x.up f d s (fails_through f d s (needs_branch first (body_of b.body) b.spot last split needs_itself) h);
       recs = x.recs;
@@ -103,7 +106,7 @@ next_block ms root ts c inner ss b t left g at count same body is kept x =
         up = x.up;
         typed = x.typed;
         after =
-            kept_on c.follows (left ≡ 0) (k + 1 ≡ length bs) (λ y. Types ms n after y) (type_of t) (λ none. omega (arith, count, none)) kept x.after;
+            kept_on c.follows (left ≡ 0) (k + 1 ≡ length bs) (λ y. Makes ms n after y) (made_of t) (λ none. omega (arith, count, none)) kept x.after;
         recs = x.recs;
         parts = x.parts;
         reached = x.reached;
@@ -113,7 +116,7 @@ next_block ms root ts c inner ss b t left g at count same body is kept x =
     )
 
 -- a choice without a block
-pub no_block : (ms : List ModuleTree) (root : Declaration) (ts : List Task) (st : Standing) (p : List ℕ) (bs : List Block) (spot : Spot) (g : GlobalTree)
+pub no_block : (ms : List ModuleTree) (root : Declaration) (ts : List Task) (st : Standing) (p : List ℕ) (bs : List Block) (spot : Spot) (g : Made)
     → bs ≡ [] → IsBefore ms root ts (scope_of st) st.depth (Chooses p (blocks_of bs) spot) g → (place : Declaration) × Reaches ms root place × (st.within.home.now ≡ place.home) × FailsTyping kind.EmptyBranch ms 0 (start_of root) place spot
 no_block ms root ts st p bs spot g none b =
     let sc = scope_of st in
@@ -327,11 +330,42 @@ head_fault ms root ts sc n at bs i b spot follows types receiver cs g x there a 
 
 -- all blocks have joined
 
-pub joined_put : (ms : List ModuleTree) (root : Declaration) (ts : List Task) (sc : Scope) (n : ℕ) (at : List ℕ) (bs : List Block) (spot : Spot) (follows : Option Typed) (types : List Typed) (receiver : Option (List ℕ)) (cs : GlobalBranches) (q : List ℕ) (h : GlobalTree) (x : IsChoosing ms root ts sc n at bs spot follows types)
-    → AreJoined ms n sc (Under sc x.rest x.outer) (role_in sc at) (blocks_of bs) receiver cs → receiver ≡ Some q → h ≡ Comm (role_in sc at) q cs → IsState ms root ts h
-joined_put ms root ts sc n at bs spot follows types receiver cs q h x a told is =
+-- the choice's own communication comes from the choice, if several branches result
+abbrev pub IsOwnOrigin : Bor ModuleTree → Spot → (several : Bool) → Option Origin → Type 0
+IsOwnOrigin home spot several None = several ≡ false
+IsOwnOrigin home spot several (Some o) = (several ≡ true) × (o ≡ record { home = home; spot = spot })
+
+own_mark : {ms : List ModuleTree} {n : ℕ} {sc : Scope} {at : List ℕ} {bs : Blocks} {spot : Spot} {rest : Body} {outer : Frames} {p q : List ℕ} {cs : GlobalBranches} (home : Bor ModuleTree) (o : Option Origin)
+    → home.now ≡ sc.within.home → IsOwnOrigin home spot (has_several cs) o → Types ms n (Under sc (Then (Chooses at bs spot) rest) outer) (Comm p q cs) → IsMarked ms n (Under sc (Then (Chooses at bs spot) rest) outer) (n, Comm p q cs) o
+own_mark home None here own typed = own
+own_mark {ms = ms} {n = n} {sc = sc} {at = at} {bs = bs} {spot = spot} {rest = rest} {outer = outer} {p = p} {q = q} {cs = cs} home (Some o) here own typed =
+    let whole = Under sc (Then (Chooses at bs spot) rest) outer in
+    let site : IsSite ms n whole home.now.name spot n (Comm p q cs) = record {
+      scope = sc;
+      chooser = at;
+      blocks = bs;
+      after = rest;
+      outer = outer;
+      there = ap (λ (m : ModuleTree). m.name) here;
+      needs = needs_itself;
+      typed = typed;
+    } in
+    (own.0, subst (λ (i : Origin). IsSite ms n whole i.home.now.name i.spot n (Comm p q cs)) (sym own.1) site)
+
+pub joined_put : (ms : List ModuleTree) (root : Declaration) (ts : List Task) (sc : Scope) (n : ℕ) (at : List ℕ) (bs : List Block) (spot : Spot) (follows : Option Typed) (types : List Typed) (receiver : Option (List ℕ)) (cs : GlobalBranches) (q : List ℕ) (js : List (Option Origin)) (o : Option Origin) (home : Bor ModuleTree) (h : Made) (x : IsChoosing ms root ts sc n at bs spot follows types)
+    → AreJoined ms n sc (Under sc x.rest x.outer) (role_in sc at) (blocks_of bs) receiver cs → receiver ≡ Some q → h.type ≡ Comm (role_in sc at) q cs → h.origins ≡ js ++ o ∷ [] → home.now ≡ sc.within.home → IsOwnOrigin home spot (has_several cs) o
+    → AllZip (IsMarked ms n (Under sc (Then (Chooses at (blocks_of bs) spot) x.rest) x.outer)) (branch_communications n cs) js → IsState ms root ts h
+joined_put ms root ts sc n at bs spot follows types receiver cs q js o home h x a told is kept here own marks =
     let j = a.some q told in
-    record { depth = n; frames = Under sc (Then (Chooses at (blocks_of bs) spot) x.rest) x.outer; typed = chooses j.0 j.1 a.different is; path = x.path }
+    let whole = Under sc (Then (Chooses at (blocks_of bs) spot) x.rest) x.outer in
+    let typed : Types ms n whole (Comm (role_in sc at) q cs) = chooses j.0 j.1 a.different refl in
+    record {
+      depth = n;
+      frames = whole;
+      made =
+          made_from h (Comm (role_in sc at) q cs) (js ++ o ∷ []) is kept (chooses j.0 j.1 a.different is) (marks_joined ms n whole n (role_in sc at) q cs js o marks (own_mark home o here own typed));
+      path = x.path;
+    }
 
 pub joined_none : (ms : List ModuleTree) (root : Declaration) (ts : List Task) (sc : Scope) (n : ℕ) (at : List ℕ) (bs : List Block) (spot : Spot) (follows : Option Typed) (types : List Typed) (receiver : Option (List ℕ)) (cs : GlobalBranches) (x : IsChoosing ms root ts sc n at bs spot follows types)
     → AreJoined ms n sc (Under sc x.rest x.outer) (role_in sc at) (blocks_of bs) receiver cs → receiver ≡ None → (place : Declaration) × Reaches ms root place × (sc.within.home ≡ place.home) × FailsTyping kind.EmptyBranch ms 0 (start_of root) place spot
@@ -373,27 +407,39 @@ pub next_joined : (ms : List ModuleTree) (root : Declaration) (ts : List Task) (
     → j ≡ i + 1 → slice_get bs i ≡ Some b → slice_get types i ≡ Some t → chooser ≡ role_in sc at → AreJoined ms n sc (Under sc x.rest x.outer) (role_in sc at) (blocks_of (take i bs)) old cs → IsAdded chooser old new cs ds (type_of t)
     → AreJoined ms n sc (Under sc x.rest x.outer) (role_in sc at) (blocks_of (take j bs)) new ds
 next_joined ms root ts sc n at bs i j b spot follows types t chooser old new cs ds x next found there given a d =
-    let typed = x.typed i b t found there in
+    let typed = (x.typed i b t found there).typed in
     let added = subst (λ p. IsAdded p old new cs ds (type_of t)) given d in
     let more : blocks_of (take j bs) ≡ blocks_before (blocks_of (take i bs)) (body_of b.body) b.spot NoBlock =
     ap (λ k. blocks_of (take k bs)) next ∙ ap blocks_of (take_more bs i b (slice_get_within bs i b found) ∙ ap (λ y. take i bs ++ y ∷ []) (get_or_from_slice_get bs i b b found)) ∙ blocks_push (take i bs) b in
     let u = one_joined ms n sc (Under sc x.rest x.outer) (role_in sc at) (blocks_of (take i bs)) old new cs ds (body_of b.body) b.spot (type_of t) a added typed in
     subst (λ y. AreJoined ms n sc (Under sc x.rest x.outer) (role_in sc at) y new ds) (sym more) u
 
+pub next_marked : (ms : List ModuleTree) (root : Declaration) (ts : List Task) (sc : Scope) (n : ℕ) (at : List ℕ) (bs : List Block) (i : ℕ) (b : Block) (spot : Spot) (follows : Option Typed) (types : List Typed) (t : Typed) (chooser : List ℕ) (old new : Option (List ℕ)) (cs ds : GlobalBranches) (js ks : List (Option Origin)) (x : IsChoosing ms root ts sc n at bs spot follows types)
+    → slice_get bs i ≡ Some b → slice_get types i ≡ Some t → IsAdded chooser old new cs ds (type_of t) → AddsOrigins js ks t.joins.items
+    → AllZip (IsMarked ms n (Under sc (Then (Chooses at (blocks_of bs) spot) x.rest) x.outer)) (branch_communications n cs) js → AllZip (IsMarked ms n (Under sc (Then (Chooses at (blocks_of bs) spot) x.rest) x.outer)) (branch_communications n ds) ks
+next_marked ms root ts sc n at bs i b spot follows types t chooser old new cs ds js ks x found there d more marks =
+    let after = Under sc x.rest x.outer in
+    let whole = Under sc (Then (Chooses at (blocks_of bs) spot) x.rest) x.outer in
+    let R = IsMarked ms n whole in
+    let needs : Needs ms n whole n (Under sc (body_of b.body) after) = needs_branch (blocks_of (take i bs)) (body_of b.body) b.spot (blocks_of (drop (suc i) bs)) (block_at bs i b found) needs_itself in
+    let here = marks_through needs (communications n (type_of t)) t.joins.items (x.typed i b t found there).marked in
+    let marked = subst (λ g. AllZip R (communications n g) t.joins.items) d.is here in
+    ⊎_elim (λ e. absurd (marks_some ms n whole n chooser d.receiver d.branches (subst (λ y. AllZip R (communications n (Comm chooser d.receiver d.branches)) y) e marked))) (λ m. subst (λ y. AllZip R (branch_communications n ds) y) (sym m.3) (subst (λ y. AllZip R (branch_communications n y) (js ++ m.0)) (sym d.joined) (marks_more ms n whole n chooser d.receiver cs d.branches js m.0 m.1 marks (subst (λ y. AllZip R (communications n (Comm chooser d.receiver d.branches)) y) m.2 marked)))) more
+
 pub next_fails : (ms : List ModuleTree) (root : Declaration) (ts : List Task) (sc : Scope) (n : ℕ) (at : List ℕ) (bs : List Block) (i : ℕ) (b : Block) (spot : Spot) (follows : Option Typed) (types : List Typed) (t : Typed) (chooser : List ℕ) (old : Option (List ℕ)) (cs : GlobalBranches) (x : IsChoosing ms root ts sc n at bs spot follows types)
     → slice_get bs i ≡ Some b → slice_get types i ≡ Some t → chooser ≡ role_in sc at → AreJoined ms n sc (Under sc x.rest x.outer) (role_in sc at) (blocks_of (take i bs)) old cs → (e : Untyped) → IsHeadFault sc.within.home b.spot chooser old cs (type_of t) e
     → TypingFails ms root e
 next_fails ms root ts sc n at bs i b spot follows types t chooser old cs x found there given a e f =
-    let typed = x.typed i b t found there in
+    let typed = (x.typed i b t found there).typed in
     head_fault ms root ts sc n at bs i b spot follows types old cs (type_of t) x found a typed e (subst (λ p. IsHeadFault sc.within.home b.spot p old cs (type_of t) e) given f)
 
 -- the next block's type is there
 
-typed_push : (ms : List ModuleTree) (n : ℕ) (sc : Scope) (fs : Frames) (bs : List Block) (types : List Typed) (t : Typed) (b : Block) → slice_get bs (length types) ≡ Some b → AreTyped ms n sc fs bs types → Types ms n (Under sc (body_of b.body) fs) (type_of t) → AreTyped ms n sc fs bs (types ++ t ∷ [])
+typed_push : (ms : List ModuleTree) (n : ℕ) (sc : Scope) (fs : Frames) (bs : List Block) (types : List Typed) (t : Typed) (b : Block) → slice_get bs (length types) ≡ Some b → AreTyped ms n sc fs bs types → Makes ms n (Under sc (body_of b.body) fs) (made_of t) → AreTyped ms n sc fs bs (types ++ t ∷ [])
 typed_push ms n sc fs (c ∷ bs) [] t b at all here zero d u e f =
     let blocks : b ≡ d = cc (at, e) in
     let same : t ≡ u = cc f in
-    subst (λ y. Types ms n (Under sc (body_of y.body) fs) (type_of u)) blocks (subst (λ y. Types ms n (Under sc (body_of b.body) fs) (type_of y)) same here)
+    subst (λ y. Makes ms n (Under sc (body_of y.body) fs) (made_of u)) blocks (subst (λ y. Makes ms n (Under sc (body_of b.body) fs) (made_of y)) same here)
 typed_push ms n sc fs [] [] t b at all here k d u e f = absurd (omega (arith, slice_get_within [] k d e))
 typed_push ms n sc fs (c ∷ bs) [] t b at all here (suc k) d u e f = absurd (omega (arith, slice_get_within (t ∷ []) (suc k) u f))
 typed_push ms n sc fs [] (s ∷ types) t b at all here k d u e f = absurd (omega (arith, slice_get_within [] k d e))
@@ -423,7 +469,7 @@ one_left None follows b t e = absurd (cc e)
 one_left (Some c) None b t e = absurd (cc e)
 one_left (Some c) (Some u) b t e = (ap (option_map (λ x. x.0)) e, ap (option_map (λ x. x.1)) e)
 
-pub block_typed : (ms : List ModuleTree) (root : Declaration) (ts : List Task) (c : Choosing) (types : List Typed) (t : Typed) → types ≡ c.types.items ++ t ∷ [] → IsState ms root (Join c ∷ ts) (type_of t)
+pub block_typed : (ms : List ModuleTree) (root : Declaration) (ts : List Task) (c : Choosing) (types : List Typed) (t : Typed) → types ≡ c.types.items ++ t ∷ [] → IsState ms root (Join c ∷ ts) (made_of t)
     → IsChoosing ms root ts (scope_of c.standing) c.standing.depth c.chooser.now c.branches.now c.spot c.follows types
 block_typed ms root ts c types t more s =
     let sc = scope_of c.standing in
@@ -431,7 +477,7 @@ block_typed ms root ts c types t more s =
     let f = s.path.1 in
     let after = Under sc f.rest f.outer in
     let whole = Under sc (Then (Chooses c.chooser.now (blocks_of c.branches.now) c.spot) f.rest) f.outer in
-    let here : Types ms s.depth (Under sc (body_of f.block.body) after) (type_of t) = subst (λ fs. Types ms s.depth fs (type_of t)) f.is s.typed in
+    let here : Makes ms s.depth (Under sc (body_of f.block.body) after) (made_of t) = subst (λ fs. Makes ms s.depth fs (made_of t)) f.is s.made in
     let all : AreTyped ms s.depth sc after c.branches.now types = subst (λ ts. AreTyped ms s.depth sc after c.branches.now ts) (sym more) (typed_push ms s.depth sc after c.branches.now c.types.items t f.block f.here f.typed here) in
     let long : length types ≡ length c.types.items + 1 = ap length more ∙ length_push c.types.items t in
     subst (λ n. IsChoosing ms root ts sc n c.chooser.now c.branches.now c.spot c.follows types) f.deep (record {
@@ -439,7 +485,7 @@ block_typed ms root ts c types t more s =
       outer = f.outer;
       typed = all;
       few = omega (arith, long, slice_get_within c.branches.now (length c.types.items) f.block f.here);
-      after = longer c.follows (λ u. Types ms s.depth after (type_of u)) (length types) (length c.types.items + 1) (length c.branches.now) long f.after;
+      after = longer c.follows (λ u. Makes ms s.depth after (made_of u)) (length types) (length c.types.items + 1) (length c.branches.now) long f.after;
       up = subst (λ fs. FailsUp ms root s.depth fs) f.goes f.up;
       recs = f.recs;
       parts = f.parts;

@@ -25,6 +25,8 @@ mod Grown
 mod Somewhere
 mod Putting
 mod Zipped
+mod Sited
+mod Begun
 mod Steps
 mod Joined
 mod Finished

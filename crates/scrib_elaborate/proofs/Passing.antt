@@ -41,7 +41,7 @@ only_unused (only_passes e k l) x = only_unused l x
 only_unused (only_calls e n h g k l) x = only_unused l x
 
 -- what is given for a role, through a call
-given_through : (f : List ℕ → List ℕ) (ds gs : List (List ℕ)) (r : List ℕ) → length gs ≡ length ds → has_role r ds ≡ true → given_for ds (map f gs) r ≡ f (given_for ds gs r)
+pub given_through : (f : List ℕ → List ℕ) (ds gs : List (List ℕ)) (r : List ℕ) → length gs ≡ length ds → has_role r ds ≡ true → given_for ds (map f gs) r ≡ f (given_for ds gs r)
 given_through f [] gs r n h = absurd (false≢true h)
 given_through f (d ∷ ds) [] r n h = absurd (omega arith)
 given_through f (d ∷ ds) (g ∷ gs) r n h =

@@ -1,5 +1,5 @@
 -- The shape of a block, statement by statement.
-use Rattle.std.proofs.Common.{◌≡◌, ◌≢◌, ◌⊎◌, inl, inr, ◌+◌, ◌||◌, Option, None, option_map, ℕ, zero, suc, Bool, true, false, ◌==◌, not, List, [], ◌∷◌, length, map, get_or, Some, if◌then◌else◌, refl, sym, ap, ◌∙◌, subst, ⊎_elim, arith, tests}
+use Rattle.std.proofs.Common.{◌≡◌, ◌≢◌, ◌⊎◌, inl, inr, ◌+◌, ◌||◌, Option, None, option_map, ℕ, zero, suc, Bool, true, false, ◌==◌, not, List, [], ◌∷◌, length, get_or, Some, if◌then◌else◌, refl, sym, ap, ◌∙◌, subst, ⊎_elim, arith, tests}
 use Rattle.std.specs.List.{slice_get}
 use Rattle.std.proofs.lemmas.List.{length-map}
 use Rattle.std.proofs.lemmas.Option.{slice_get_within}
@@ -18,19 +18,16 @@ use Rattle.scrib_elaborate.specs.declared.shape.Shape.{Shape}
 use Rattle.scrib_elaborate.specs.declared.shape.Shape.TheVariants.{Nothing, Joining, Other}
 use Rattle.scrib_elaborate.specs.Source.{Body, Done, Then, Step, Sends, Chooses, Repeats, Continues, Calls, Blocks, NoBlock, OrBlock}
 use Rattle.scrib_elaborate.specs.SourceView.{body_of, blocks_of}
-use Rattle.scrib_elaborate.specs.Names.{Declaration, roles_of, called}
-use Rattle.scrib_elaborate.specs.Elaboration.{given_for, Scope, role_in, Frames, Under, Types}
-use Rattle.scrib_elaborate.proofs.Passing.{call_of_nothing, call_of_only}
-use Rattle.scrib_types.specs.Trees.{GlobalTree}
-use Rattle.scrib_elaborate.specs.Joining.{AddsNothing, nothing_ends, nothing_repeats, nothing_calls, OnlyJoins, only_ends, only_chooses, only_repeats, only_passes, only_calls}
-use Rattle.scrib_elaborate.specs.Faults.{HasStep}
+use Rattle.scrib_elaborate.specs.Names.{Declaration, roles_of, declarations, called}
+use Rattle.scrib_elaborate.specs.Elaboration.{given_for}
+use Rattle.scrib_elaborate.specs.Joining.{AddsNothing, nothing_ends, nothing_repeats, nothing_calls, OnlyJoins, only_ends, only_chooses, only_repeats, only_passes, only_calls, BeginsAt, begins_here, begins_in_rec, begins_in_call, begins_later}
 use Rattle.scrib_elaborate.specs.Table.{protocol_at, IsKnown, IsOwnPlace, IsSummary, IsCallKept}
 use Rattle.scrib_elaborate.proofs.Kept.{of_calls, of_protocol}
-use Rattle.scrib_elaborate.specs.Shape.{IsChoiceAt, JoinsBy, AddsMore, HasShape, IsShapeOf, both, place_of, joining_at, IsGiven, Passes}
+use Rattle.scrib_elaborate.specs.Shape.{IsChoiceAt, JoinsBy, AddsMore, HasShape, IsShapeOf, both, place_of, joining_at, IsGiven}
 
 -- by the first statement
 
-abbrev NothingFirst : List ModuleTree → Declaration → Step → Type 0
+abbrev pub NothingFirst : List ModuleTree → Declaration → Step → Type 0
 NothingFirst ms d (Sends m p qs s) = ⊥
 NothingFirst ms d (Chooses p bs s) = ⊥
 NothingFirst ms d (Repeats x c s) = AddsNothing ms d c
@@ -39,11 +36,11 @@ NothingFirst ms d (Calls path roles s) =
     (c : Declaration) × (called ms d.home path ≡ Some c) × AddsNothing ms c (body_of c.protocol.body)
 
 -- the called protocol only joins by a role for which this one is given
-abbrev JoinsCalled : List ModuleTree → Declaration → (roles : List (List ℕ)) (p : List ℕ) → Type 0
+abbrev pub JoinsCalled : List ModuleTree → Declaration → (roles : List (List ℕ)) (p : List ℕ) → Type 0
 JoinsCalled ms c roles p =
-    (q : List ℕ) × (has_role q (roles_of c) ≡ true) × (given_for (roles_of c) roles q ≡ p) × OnlyJoins ms c q (body_of c.protocol.body)
+    (q : List ℕ) × (has_role q (roles_of c) ≡ true) × (given_for (roles_of c) roles q ≡ p) × OnlyJoins ms c q (body_of c.protocol.body) × (length roles ≡ length (roles_of c))
 
-abbrev OnlyFirst : List ModuleTree → Declaration → (p : List ℕ) → Step → Type 0
+abbrev pub OnlyFirst : List ModuleTree → Declaration → (p : List ℕ) → Step → Type 0
 OnlyFirst ms d p (Sends m q qs s) = ⊥
 OnlyFirst ms d p (Chooses q bs s) =
     (p ≡ q) × (c : Body) × (t : Spot) × (bs ≡ OrBlock c t NoBlock) × OnlyJoins ms d p c
@@ -52,15 +49,15 @@ OnlyFirst ms d p (Continues x s) = ⊥
 OnlyFirst ms d p (Calls path roles s) =
     (c : Declaration) × (called ms d.home path ≡ Some c) × (AddsNothing ms c (body_of c.protocol.body) ⊎ JoinsCalled ms c roles p)
 
-nothing_view : {ms : List ModuleTree} {d : Declaration} {s : Step} {b : Body} → AddsNothing ms d (Then s b) → NothingFirst ms d s × AddsNothing ms d b
+pub nothing_view : {ms : List ModuleTree} {d : Declaration} {s : Step} {b : Body} → AddsNothing ms d (Then s b) → NothingFirst ms d s × AddsNothing ms d b
 nothing_view (nothing_repeats k l) = (k, l)
 nothing_view (nothing_calls {c = c} e k l) = ((c, e, k), l)
 
-only_view : {ms : List ModuleTree} {d : Declaration} {p : List ℕ} {s : Step} {b : Body} → OnlyJoins ms d p (Then s b) → OnlyFirst ms d p s × OnlyJoins ms d p b
+pub only_view : {ms : List ModuleTree} {d : Declaration} {p : List ℕ} {s : Step} {b : Body} → OnlyJoins ms d p (Then s b) → OnlyFirst ms d p s × OnlyJoins ms d p b
 only_view (only_chooses {c = c} {t = t} k l) = ((refl, c, t, refl, k), l)
 only_view (only_repeats k l) = (k, l)
 only_view (only_passes {c = c} e k l) = ((c, e, inl k), l)
-only_view (only_calls {q = q} {c = c} e n h g k l) = ((c, e, inr (q, h, g, k)), l)
+only_view (only_calls {q = q} {c = c} e n h g k l) = ((c, e, inr (q, h, g, k, n)), l)
 
 -- the first statement alone, and before others
 
@@ -74,7 +71,7 @@ only_first (only_repeats k l) = only_repeats k only_ends
 only_first (only_passes e k l) = only_passes e k only_ends
 only_first (only_calls e n h g k l) = only_calls e n h g k only_ends
 
-nothing_before : {ms : List ModuleTree} {d : Declaration} {s : Step} {b : Body} → AddsNothing ms d (Then s Done) → AddsNothing ms d b → AddsNothing ms d (Then s b)
+pub nothing_before : {ms : List ModuleTree} {d : Declaration} {s : Step} {b : Body} → AddsNothing ms d (Then s Done) → AddsNothing ms d b → AddsNothing ms d (Then s b)
 nothing_before (nothing_repeats k l) m = nothing_repeats k m
 nothing_before (nothing_calls e k l) m = nothing_calls e k m
 
@@ -83,6 +80,15 @@ only_before (only_chooses k l) m = only_chooses k m
 only_before (only_repeats k l) m = only_repeats k m
 only_before (only_passes e k l) m = only_passes e k m
 only_before (only_calls e n h g k l) m = only_calls e n h g k m
+
+begins_nowhere : {ms : List ModuleTree} {d home : Declaration} {t : Spot} → BeginsAt ms d Done home t → ⊥
+begins_nowhere v = elim v [ ]
+
+begins_before : {ms : List ModuleTree} {d home : Declaration} {s : Step} {b : Body} {t : Spot} → BeginsAt ms d (Then s Done) home t → BeginsAt ms d (Then s b) home t
+begins_before begins_here = begins_here
+begins_before (begins_in_rec h) = begins_in_rec h
+begins_before (begins_in_call e h) = begins_in_call e h
+begins_before (begins_later a h) = absurd (begins_nowhere h)
 
 -- what adds nothing joins by any role
 pub only_of_nothing : {ms : List ModuleTree} {d : Declaration} {b : Body} (p : List ℕ) → AddsNothing ms d b → OnlyJoins ms d p b
@@ -114,7 +120,7 @@ joins_one h q m = ⊎_elim (λ a. absurd (h.something a)) (λ e. e) (joins_alike
 
 -- the place of a role
 
-placed_at : (r : List ℕ) (ds : List (List ℕ)) (k : ℕ) → place_of r ds ≡ Some k → slice_get ds k ≡ Some r
+pub placed_at : (r : List ℕ) (ds : List (List ℕ)) (k : ℕ) → place_of r ds ≡ Some k → slice_get ds k ≡ Some r
 placed_at r [] k e = absurd (cc e)
 placed_at r (d ∷ ds) k e =
     at (bytes_eq r d) (λ t. sym ((bytes_eq-Decides r d).0 t)) (place_of r ds) (λ j f. placed_at r ds j f) e
@@ -170,12 +176,13 @@ pub record AddsSoFar (ms : List ModuleTree) (d : Declaration) (whole rest : Body
   pub nothing_down : AddsNothing ms d whole → AddsNothing ms d rest
   pub only_up : (p : List ℕ) → OnlyJoins ms d p rest → OnlyJoins ms d p whole
   pub only_down : (p : List ℕ) → OnlyJoins ms d p whole → OnlyJoins ms d p rest
+  pub begins_up : (home : Declaration) (s : Spot) → BeginsAt ms d rest home s → BeginsAt ms d whole home s
 
 -- and where they join by the role at this place
 pub record JoinsSoFar (ms : List ModuleTree) (d : Declaration) (whole rest : Body) (k at : ℕ) (spot : Spot) : Type 0 where
   pub role : List ℕ
   pub there : place_of role (roles_of d) ≡ Some k
-  pub first : IsChoiceAt ms at spot
+  pub first : IsChoiceAt ms d whole at spot
   pub up : OnlyJoins ms d role rest → OnlyJoins ms d role whole
   pub down : OnlyJoins ms d role whole → OnlyJoins ms d role rest
   pub something : AddsNothing ms d whole → ⊥
@@ -193,6 +200,7 @@ begin_shaping ms d whole = record {
   nothing_down = λ k. k;
   only_up = λ p k. k;
   only_down = λ p k. k;
+  begins_up = λ home s h. h;
 }
 
 pub end_shaping : (ms : List ModuleTree) (d : Declaration) (whole : Body) (f : Shape) (rest : Body) → rest ≡ Done → IsShaping ms d whole f rest → HasShape ms d whole f
@@ -233,11 +241,16 @@ more_shaping ms d whole Nothing Nothing s b h l = record {
   nothing_down = λ k. (nothing_view (l.nothing_down k)).1;
   only_up = λ p k. l.only_up p (only_before (only_of_nothing p h) k);
   only_down = λ p k. (only_view (l.only_down p k)).1;
+  begins_up = λ home t k. l.begins_up home t (begins_later h k);
 }
 more_shaping ms d whole Nothing (Joining k at spot) s b h l = record {
   role = h.role;
   there = h.there;
-  first = h.first;
+  first = record {
+    home = h.first.home;
+    there = h.first.there;
+    first = l.begins_up h.first.home spot (begins_before h.first.first);
+  };
   up = λ m. l.only_up h.role (only_before h.only m);
   down = λ m. (only_view (l.only_down h.role m)).1;
   something = λ m. h.something (nothing_first (l.nothing_down m));
@@ -293,7 +306,7 @@ loop_shapes ms d x c s (Joining k at spot) h = record {
   there = h.there;
   only = only_repeats h.only only_ends;
   something = λ m. h.something (nothing_view m).0;
-  first = h.first;
+  first = record { home = h.first.home; there = h.first.there; first = begins_in_rec h.first.first };
 }
 loop_shapes ms d x c s Other h = record { something = λ m. h.something (nothing_view m).0; more = λ p r m. h.more p r (only_view m).0 }
 
@@ -315,7 +328,7 @@ several_shapes ms d t p bs s is many =
     not_one (b ∷ a ∷ bs) c u n e = absurd (cc e)
 
 -- a choice of one block
-one_choice : (ms : List ModuleTree) (d : Declaration) (p : List ℕ) (c : Body) (u s spot : Spot) (at : ℕ) (o : Option ℕ) (f : Shape) → place_of p (roles_of d) ≡ o → IsChoiceAt ms at spot → HasShape ms d c f
+one_choice : (ms : List ModuleTree) (d : Declaration) (p : List ℕ) (c : Body) (u s spot : Spot) (at : ℕ) (o : Option ℕ) (f : Shape) → place_of p (roles_of d) ≡ o → IsChoiceAt ms d (Then (Chooses p (OrBlock c u NoBlock) s) Done) at spot → HasShape ms d c f
     → HasShape ms d (Then (Chooses p (OrBlock c u NoBlock) s) Done) (both (joining_at o at spot) f)
 one_choice ms d p c u s spot at None f there first h = record {
   something = λ k. (nothing_view k).0;
@@ -355,12 +368,13 @@ one_choice ms d p c u s spot at (Some k) Other there first h = record {
       λ q r m. let v = (only_view m).0 in let block : c ≡ v.1 = cc (v.3) in h.more q r (subst (λ x. OnlyJoins ms d q x) (sym block) v.4);
 }
 
-pub choice_shapes : (ms : List ModuleTree) (d : Declaration) (t : Step) (p : List ℕ) (bs : Blocks) (c : Body) (u s spot : Spot) (at : ℕ) (j f r : Shape)
-    → t ≡ Chooses p bs s → bs ≡ OrBlock c u NoBlock → j ≡ joining_at (place_of p (roles_of d)) at spot → IsChoiceAt ms at spot → HasShape ms d c f → r ≡ both j f → HasShape ms d (Then t Done) r
-choice_shapes ms d t p bs c u s spot at j f r is one by first h e =
+pub choice_shapes : (ms : List ModuleTree) (d : Declaration) (t : Step) (p : List ℕ) (bs : Blocks) (c : Body) (u s : Spot) (at : ℕ) (j f r : Shape)
+    → t ≡ Chooses p bs s → bs ≡ OrBlock c u NoBlock → j ≡ joining_at (place_of p (roles_of d)) at s → slice_get (declarations ms) at ≡ Some d → HasShape ms d c f → r ≡ both j f → HasShape ms d (Then t Done) r
+choice_shapes ms d t p bs c u s at j f r is one by own h e =
     let same : t ≡ Chooses p (OrBlock c u NoBlock) s = is ∙ ap (λ x. Chooses p x s) one in
-    let shape : r ≡ both (joining_at (place_of p (roles_of d)) at spot) f = e ∙ ap (λ x. both x f) by in
-    subst (λ y. HasShape ms d (Then y Done) r) (sym same) (subst (HasShape ms d (Then (Chooses p (OrBlock c u NoBlock) s) Done)) (sym shape) (one_choice ms d p c u s spot at (place_of p (roles_of d)) f refl first h))
+    let first : IsChoiceAt ms d (Then (Chooses p (OrBlock c u NoBlock) s) Done) at s = record { home = d; there = own; first = begins_here } in
+    let shape : r ≡ both (joining_at (place_of p (roles_of d)) at s) f = e ∙ ap (λ x. both x f) by in
+    subst (λ y. HasShape ms d (Then y Done) r) (sym same) (subst (HasShape ms d (Then (Chooses p (OrBlock c u NoBlock) s) Done)) (sym shape) (one_choice ms d p c u s s at (place_of p (roles_of d)) f refl first h))
 
 -- a call, by what the called protocol is
 called_as : (ms : List ModuleTree) (c e : Declaration) (roles : List (List ℕ)) (p : List ℕ) → e ≡ c → AddsNothing ms e (body_of e.protocol.body) ⊎ JoinsCalled ms e roles p → AddsNothing ms c (body_of c.protocol.body) ⊎ JoinsCalled ms c roles p
@@ -389,7 +403,7 @@ joining_called ms d path roles s c k at spot role (Some j) there apart long h he
       only = only_calls there long (role_at (roles_of c) k h.role declared) (given_at (roles_of c) roles k h.role role apart declared here) h.only only_ends;
       something =
           λ m. let v = (nothing_view m).0 in let same : v.0 ≡ c = cc (v.1, there) in h.something (subst (λ x. AddsNothing ms x (body_of x.protocol.body)) same v.2);
-      first = h.first;
+      first = record { home = h.first.home; there = h.first.there; first = begins_in_call there h.first.first };
     }
 
 pub call_shapes : (ms : List ModuleTree) (d : Declaration) (t : Step) (path roles : List (List ℕ)) (s : Spot) (c : Declaration) (f r : Shape)
@@ -417,15 +431,9 @@ called_roles p path roles spot s k =
     let long : length (roles_of c.to) ≡ length c.to.protocol.roles = length-map c.to.protocol.roles (λ (r : RoleDeclaration). r.name) in
     (subst (λ x. distinct_roles (roles_of x) ≡ true) same names.roles, subst (λ x. length roles ≡ length (roles_of x)) same (c.call.count ∙ sym long))
 
--- a choice of the protocol at its own place
-pub own_choice : (p : Place) (own : ℕ) (q : List ℕ) (bs : Blocks) (spot : Spot) → IsKnown p → IsOwnPlace p own → HasStep (protocol_at p) (Chooses q bs spot) → IsChoiceAt p.modules.now own spot
-own_choice p own q bs spot known there stands = record {
-  home = protocol_at p;
-  there = ap (λ ds. slice_get ds own) (sym known.all) ∙ there;
-  chooser = q;
-  blocks = bs;
-  stands = stands;
-}
+-- the protocol stands at its own place
+pub own_place : (p : Place) (own : ℕ) → IsKnown p → IsOwnPlace p own → slice_get (declarations p.modules.now) own ≡ Some (protocol_at p)
+own_place p own known there = ap (λ ds. slice_get ds own) (sym known.all) ∙ there
 
 -- blocks of which there is one
 pub one_block : (bs : List Block) (b : Block) → length bs ≡ 1 → b ≡ get_or bs 0 b → blocks_of bs ≡ OrBlock (body_of b.body) b.spot NoBlock
@@ -436,15 +444,3 @@ one_block (c ∷ d ∷ bs) b n e = absurd (omega arith)
 -- what is kept of a protocol that was walked has its shape
 pub shape_kept : (ms : List ModuleTree) (c : Declaration) (s : Summary) → IsSummary ms c s → IsShapeOf ms c s.shape
 shape_kept ms c s h = inr ((of_protocol h.kept).names.roles, h.shaped)
-
--- A call that passes has the type of what follows it.
-pub call_passes : {ms : List ModuleTree} {n : ℕ} {sc : Scope} {path roles : List (List ℕ)} {s : Spot} {b : Body} {fs : Frames} {g : GlobalTree} (c : Declaration) (f : Shape)
-    → called ms sc.within.home path ≡ Some c → IsShapeOf ms c f → Passes f (map (role_in sc) roles) g → Types ms n (Under sc b fs) g → Types ms n (Under sc (Then (Calls path roles s) b) fs) g
-call_passes {ms = ms} {n = n} {sc = sc} {path = path} {roles = roles} {s = s} {b = b} {fs = fs} {g = g} c f there shaped passed t =
-    ⊎_elim (λ e. absurd (subst (λ x. Passes x (map (role_in sc) roles) g) e passed)) (λ h. by f h.1 h.0 passed) shaped
-  where
-    by : (f : Shape) → HasShape ms c (body_of c.protocol.body) f → distinct_roles (roles_of c) ≡ true → Passes f (map (role_in sc) roles) g → Types ms n (Under sc (Then (Calls path roles s) b) fs) g
-    by Nothing k apart u = call_of_nothing c there k t
-    by (Joining k at spot) j apart (p, q, cs, given, is) =
-        subst (λ x. Types ms n (Under sc (Then (Calls path roles s) b) fs) x) (sym is) (call_of_only c j.role there j.only (sym (given_at (roles_of c) (map (role_in sc) roles) k j.role p apart (placed_at j.role (roles_of c) k j.there) given)) (subst (λ x. Types ms n (Under sc b fs) x) is t))
-    by Other k apart none = absurd none

@@ -1,22 +1,73 @@
 -- A call that adds nothing to the type of what follows it isn't entered.
-use Rattle.std.proofs.Common.{◌≡◌, ℕ, List, map, Some, subst}
+use Rattle.std.proofs.Common.{◌≡◌, ℕ, true, List, [], map, Option, Some, None, option_map, refl, sym, ap, ◌∙◌, subst, ⊎_elim}
+use Rattle.std.specs.List.{AllZip, slice_get}
+use Rattle.std.proofs.lemmas.Option.{slice_get-map}
 use Rattle.scrib_types.specs.declared.spot.Spot.{Spot}
-use Rattle.scrib_types.specs.Trees.{GlobalTree}
+use Rattle.scrib_types.specs.Trees.{Comm}
+use Rattle.scrib_types.specs.WellFormed.{distinct_roles}
 use Rattle.scrib_parser.specs.declared.tree.ModuleTree.{ModuleTree}
+use Rattle.scrib_elaborate.specs.declared.built.Origin.{Origin}
+use Rattle.scrib_elaborate.specs.declared.declared.Declared.{Declared}
 use Rattle.scrib_elaborate.specs.declared.shape.Shape.{Shape}
+use Rattle.scrib_elaborate.specs.declared.shape.Shape.TheVariants.{Nothing, Joining, Other}
 use Rattle.scrib_elaborate.specs.declared.tasks.Task.{Task}
 use Rattle.scrib_elaborate.specs.Source.{Then, Calls}
-use Rattle.scrib_elaborate.specs.Names.{Declaration, called}
-use Rattle.scrib_elaborate.specs.Elaboration.{Scope, role_in, Under}
-use Rattle.scrib_elaborate.specs.Shape.{IsShapeOf, Passes}
-use Rattle.scrib_elaborate.specs.Typing.{IsBefore, IsState}
-use Rattle.scrib_elaborate.proofs.Shaped.{call_passes}
+use Rattle.scrib_elaborate.specs.SourceView.{body_of}
+use Rattle.scrib_elaborate.specs.Names.{Declaration, roles_of, declarations, called}
+use Rattle.scrib_elaborate.specs.Elaboration.{Scope, given_for, role_in, Frames, Under, Types}
+use Rattle.scrib_elaborate.specs.Faults.{needs_itself, needs_calls}
+use Rattle.scrib_elaborate.specs.Shape.{HasShape, IsShapeOf, Passes}
+use Rattle.scrib_elaborate.specs.Sites.{communications, IsSite}
+use Rattle.scrib_elaborate.specs.Table.{declaration_of, shown}
+use Rattle.scrib_elaborate.specs.Typing.{Made, IsMarked, Makes, retold, PassesOn, IsBefore, IsState}
+use Rattle.scrib_elaborate.proofs.Begun.{nothing_needs, only_needs, begins_site}
+use Rattle.scrib_elaborate.proofs.Passing.{call_of_nothing, call_of_only, typed_branches}
+use Rattle.scrib_elaborate.proofs.Shaped.{placed_at, given_at}
+use Rattle.scrib_elaborate.proofs.Sited.{site_through, marks_through, marks_retold, made_through, made_from}
 
-pub call_skipped : (ms : List ModuleTree) (root : Declaration) (ts : List Task) (sc : Scope) (n : ℕ) (path roles given : List (List ℕ)) (spot : Spot) (c : Declaration) (f : Shape) (g : GlobalTree)
-    → called ms sc.within.home path ≡ Some c → IsShapeOf ms c f → given ≡ map (role_in sc) roles → Passes f given g → IsBefore ms root ts sc n (Calls path roles spot) g → IsState ms root ts g
-call_skipped ms root ts sc n path roles given spot c f g there shaped named passed b = record {
+-- the table's entry at a place
+shown_at : (table : List Declared) (k : ℕ) (d : Declaration) → slice_get (shown table) k ≡ Some d → (e : Declared) × (slice_get table k ≡ Some e) × (declaration_of e ≡ d)
+shown_at table k d h = of (slice_get table k) refl (sym (slice_get-map declaration_of table k) ∙ h)
+  where
+    of : (o : Option Declared) → slice_get table k ≡ o → option_map declaration_of o ≡ Some d → (e : Declared) × (slice_get table k ≡ Some e) × (declaration_of e ≡ d)
+    of None e f = absurd (cc f)
+    of (Some x) e f = let same : declaration_of x ≡ d = cc f in (x, e, same)
+
+pub call_skipped : (ms : List ModuleTree) (root : Declaration) (ts : List Task) (sc : Scope) (n : ℕ) (path roles given : List (List ℕ)) (spot : Spot) (c : Declaration) (f : Shape) (table : List Declared) (g h : Made)
+    → called ms sc.within.home path ≡ Some c → IsShapeOf ms c f → given ≡ map (role_in sc) roles → Passes f given g.type → shown table ≡ declarations ms → PassesOn table f g h → IsBefore ms root ts sc n (Calls path roles spot) g → IsState ms root ts h
+call_skipped ms root ts sc n path roles given spot c f table g h there shaped named passed all told b = record {
   depth = n;
-  frames = Under sc (Then (Calls path roles spot) b.rest) b.outer;
-  typed = call_passes c f there shaped (subst (λ gs. Passes f gs g) named passed) b.typed;
+  frames = whole;
+  made = ⊎_elim (λ e. absurd (subst (λ x. Passes x gs g.type) e named_passes)) (λ k. by f k.1 k.0 named_passes told) shaped;
   path = b.path;
 }
+  where
+    gs : List (List ℕ)
+    gs = map (role_in sc) roles
+
+    after : Frames
+    after = Under sc b.rest b.outer
+
+    whole : Frames
+    whole = Under sc (Then (Calls path roles spot) b.rest) b.outer
+
+    named_passes : Passes f gs g.type
+    named_passes = subst (λ x. Passes f x g.type) named passed
+
+    by : (f : Shape) → HasShape ms c (body_of c.protocol.body) f → distinct_roles (roles_of c) ≡ true → Passes f gs g.type → PassesOn table f g h → Makes ms n whole h
+    by Nothing k apart u same =
+        subst (Makes ms n whole) (sym same) (made_through g (needs_calls there (nothing_needs k gs [] n after)) (call_of_nothing c there k b.made.typed) b.made)
+    by (Joining k at first) j apart (p, q, cs, role, is) on =
+        let typed = subst (λ x. Types ms n after x) is b.made.typed in
+        let by_role : p ≡ given_for (roles_of c) gs j.role = sym (given_at (roles_of c) gs k j.role p apart (placed_at j.role (roles_of c) k j.there) role) in
+        let fine = typed_branches typed p q cs refl in
+        let entry = shown_at table at j.first.home (ap (λ ds. slice_get ds at) all ∙ j.first.there) in
+        let origin : Origin = record { home = entry.0.home; spot = first } in
+        let same = on entry.0 entry.1 in
+        let marks = subst (λ x. AllZip (IsMarked ms n after) (communications n x) g.origins) is b.made.marked in
+        let through = marks_through (needs_calls there (only_needs j.only gs [] n after)) (communications n (Comm p q cs)) g.origins marks in
+        let inside = begins_site j.first.first j.role j.only gs [] n after p q cs by_role fine.0 fine.1 typed in
+        let site : IsSite ms n whole entry.0.home.now.name first n (Comm p q cs) = subst (λ (d : Declaration). IsSite ms n whole d.home.name first n (Comm p q cs)) (sym entry.2) (site_through (needs_calls there needs_itself) inside) in
+        let whole_typed : Types ms n whole h.type = subst (Types ms n whole) (sym (ap (λ (m : Made). m.type) same ∙ is)) (call_of_only c j.role there j.only by_role typed) in
+        made_from h (Comm p q cs) (retold origin g.origins) (ap (λ (m : Made). m.type) same ∙ is) (ap (λ (m : Made). m.origins) same) whole_typed (marks_retold ms n whole n p q cs g.origins origin site through)
+    by Other k apart none on = absurd none

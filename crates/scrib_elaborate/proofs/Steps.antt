@@ -4,7 +4,7 @@ use Rattle.std.specs.Borrow.{Bor}
 use Rattle.std.proofs.lemmas.List.{reverse-append}
 use Rattle.scrib_types.specs.declared.message.Message.{Message}
 use Rattle.scrib_types.specs.declared.spot.Spot.{Spot}
-use Rattle.scrib_types.specs.Trees.{GlobalTree, GlobalEnd, GlobalVar, GlobalRec}
+use Rattle.scrib_types.specs.Trees.{GlobalVar, GlobalRec}
 use Rattle.scrib_types.specs.WellFormed.{leads_to_communication}
 use Rattle.scrib_parser.specs.declared.tree.ModuleTree.{ModuleTree}
 use Rattle.scrib_parser.specs.declared.tree.Statement.{Statement}
@@ -17,16 +17,18 @@ use Rattle.scrib_elaborate.specs.Source.{Body, Done, Then, Step, Sends, Repeats,
 use Rattle.scrib_elaborate.specs.SourceView.{step_of, body_of}
 use Rattle.scrib_elaborate.specs.Names.{Declaration, called}
 use Rattle.scrib_elaborate.specs.Statements.{KeepsRules, BlockKeeps, StepKeeps}
-use Rattle.scrib_elaborate.specs.Elaboration.{continues_in, Scope, role_in, level_of, inside, inside_call, Frames, NoFrame, Under, sent, Types, ends, closes, sends, repeats, passes, continues, calls, start_of}
-use Rattle.scrib_elaborate.specs.Faults.{Stands, here, later, in_rec, Reaches, itself, needs_itself, needs_repeats, needs_passes, needs_calls, FailsTyping}
+use Rattle.scrib_elaborate.specs.Elaboration.{continues_in, Scope, role_in, level_of, inside, inside_call, Frames, NoFrame, Under, sent, closes, sends, repeats, passes, continues, calls, start_of}
+use Rattle.scrib_elaborate.specs.Faults.{Stands, here, later, in_rec, Reaches, itself, needs_itself, needs_close, needs_sends, needs_repeats, needs_passes, needs_calls, FailsTyping}
 use Rattle.scrib_elaborate.specs.Lifting.{lifted, AreBelow}
 use Rattle.scrib_elaborate.specs.Table.{IsPart}
 use Rattle.scrib_elaborate.specs.Standing.{scope_of, start_scope, IsStart, IsSame, IsInside}
-use Rattle.scrib_elaborate.specs.Typing.{before, FailsUp, IsFront, Path, IsState, IsBefore}
+use Rattle.scrib_elaborate.specs.Sites.{communications}
+use Rattle.scrib_elaborate.specs.Typing.{Made, nothing_made, none_told, Makes, before, FailsUp, IsFront, Path, IsState, IsBefore}
 use Rattle.scrib_elaborate.proofs.Kept.{of_then, of_protocol, kept_at, kept_along, reaches_on}
 use Rattle.scrib_elaborate.proofs.Checks.{stands_here}
-use Rattle.scrib_elaborate.proofs.Lifted.{lift_below, below_more, levels_more}
+use Rattle.scrib_elaborate.proofs.Lifted.{below_more, levels_more}
 use Rattle.scrib_elaborate.proofs.Needed.{fails_through, fails_rest}
+use Rattle.scrib_elaborate.proofs.Sited.{marks_through, made_through, made_from, made_deeper, nothing_follows, marks_sent}
 
 -- statements in front of others
 
@@ -62,24 +64,24 @@ block_kept {ms = ms} {d = d} recs b reached e kept part =
 
 -- a task more, on the stack
 
-pub pushed : (ms : List ModuleTree) (root : Declaration) (old new : List Task) (t : Task) (g h : GlobalTree) → new ≡ old ++ t ∷ [] → h ≡ g → IsState ms root (t ∷ reverse old) g → IsState ms root (reverse new) h
+pub pushed : (ms : List ModuleTree) (root : Declaration) (old new : List Task) (t : Task) (g h : Made) → new ≡ old ++ t ∷ [] → h ≡ g → IsState ms root (t ∷ reverse old) g → IsState ms root (reverse new) h
 pushed ms root old new t g h e same st =
     let list : reverse new ≡ t ∷ reverse old = ap reverse e ∙ reverse-append old (t ∷ []) in
     subst (λ x. IsState ms root (reverse new) x) (sym same) (subst (λ ts. IsState ms root ts g) (sym list) st)
 
-pub pushed_twice : (ms : List ModuleTree) (root : Declaration) (old mid new : List Task) (t u : Task) (g h : GlobalTree) → mid ≡ old ++ t ∷ [] → new ≡ mid ++ u ∷ [] → h ≡ g → IsState ms root (u ∷ t ∷ reverse old) g → IsState ms root (reverse new) h
+pub pushed_twice : (ms : List ModuleTree) (root : Declaration) (old mid new : List Task) (t u : Task) (g h : Made) → mid ≡ old ++ t ∷ [] → new ≡ mid ++ u ∷ [] → h ≡ g → IsState ms root (u ∷ t ∷ reverse old) g → IsState ms root (reverse new) h
 pushed_twice ms root old mid new t u g h e f same st =
     let list : reverse mid ≡ t ∷ reverse old = ap reverse e ∙ reverse-append old (t ∷ []) in
     pushed ms root mid new u g h f same (subst (λ ts. IsState ms root (u ∷ ts) g) (sym list) st)
 
 -- the state at statements in front
 
-pub record IsAt (ms : List ModuleTree) (root : Declaration) (ts : List Task) (sc : Scope) (n : ℕ) (ss : List Statement) (g : GlobalTree) : Type 0 where
+pub record IsAt (ms : List ModuleTree) (root : Declaration) (ts : List Task) (sc : Scope) (n : ℕ) (ss : List Statement) (g : Made) : Type 0 where
   pub rest : Body
   pub outer : Frames
   pub next : Frames
-  pub typed : Types ms n (Under sc rest outer) g
-  pub leads : (h : GlobalTree) → Types ms n (Under sc (before ss rest) outer) h → Types ms n next h
+  pub made : Makes ms n (Under sc rest outer) g
+  pub leads : (h : Made) → Makes ms n (Under sc (before ss rest) outer) h → Makes ms n next h
   pub up : FailsUp ms root n (Under sc (before ss rest) outer)
   pub recs : List (List ℕ)
   pub part : IsPart sc.within recs (before ss rest)
@@ -87,7 +89,7 @@ pub record IsAt (ms : List ModuleTree) (root : Declaration) (ts : List Task) (sc
   pub below : AreBelow n (Under sc rest outer)
   pub path : Path ms root ts n next
 
-pub front_at : (ms : List ModuleTree) (root : Declaration) (ts : List Task) (st : Standing) (ss : Bor (List Statement)) (g : GlobalTree) → IsState ms root (Front st ss ∷ ts) g → IsAt ms root ts (scope_of st) st.depth ss.now g
+pub front_at : (ms : List ModuleTree) (root : Declaration) (ts : List Task) (st : Standing) (ss : Bor (List Statement)) (g : Made) → IsState ms root (Front st ss ∷ ts) g → IsAt ms root ts (scope_of st) st.depth ss.now g
 front_at ms root ts st ss g s =
     let hs = s.path.0 in
     let f = s.path.1 in
@@ -96,7 +98,7 @@ front_at ms root ts st ss g s =
       rest = f.rest;
       outer = f.outer;
       next = hs;
-      typed = subst (λ fs. Types ms s.depth fs g) f.is s.typed;
+      made = subst (λ fs. Makes ms s.depth fs g) f.is s.made;
       leads = f.leads;
       up = f.up;
       recs = f.recs;
@@ -107,13 +109,13 @@ front_at ms root ts st ss g s =
     })
 
 -- no statement is left
-pub front_done : (ms : List ModuleTree) (root : Declaration) (ts : List Task) (st : Standing) (ss : Bor (List Statement)) (g : GlobalTree) → ss.now ≡ [] → IsState ms root (Front st ss ∷ ts) g → IsState ms root ts g
+pub front_done : (ms : List ModuleTree) (root : Declaration) (ts : List Task) (st : Standing) (ss : Bor (List Statement)) (g : Made) → ss.now ≡ [] → IsState ms root (Front st ss ∷ ts) g → IsState ms root ts g
 front_done ms root ts st ss g none s =
     let a = subst (λ x. IsAt ms root ts (scope_of st) st.depth x g) none (front_at ms root ts st ss g s) in
-    record { depth = st.depth; frames = a.next; typed = a.leads g a.typed; path = a.path }
+    record { depth = st.depth; frames = a.next; made = a.leads g a.made; path = a.path }
 
 -- the last statement is next
-pub front_step : (ms : List ModuleTree) (root : Declaration) (ts : List Task) (st again : Standing) (ss front : Bor (List Statement)) (s : Statement) (g : GlobalTree) (e : Bool) → KeepsRules ms root e → ss.now ≡ front.now ++ s ∷ [] → IsSame st again
+pub front_step : (ms : List ModuleTree) (root : Declaration) (ts : List Task) (st again : Standing) (ss front : Bor (List Statement)) (s : Statement) (g : Made) (e : Bool) → KeepsRules ms root e → ss.now ≡ front.now ++ s ∷ [] → IsSame st again
     → IsState ms root (Front st ss ∷ ts) g → IsBefore ms root (Front again front ∷ ts) (scope_of st) st.depth (step_of s) g
 front_step ms root ts st again ss front s g e kept is same x =
     let sc = scope_of st in
@@ -123,7 +125,7 @@ front_step ms root ts st again ss front s g e kept is same x =
     ap (λ y. before y a.rest) is ∙ before_push front.now s a.rest in
     let up = subst (λ b. FailsUp ms root n (Under sc b a.outer)) list a.up in
     let part = subst (λ b. IsPart sc.within a.recs b) list a.part in
-    let leads = subst (λ b. (h : GlobalTree) → Types ms n (Under sc b a.outer) h → Types ms n a.next h) list a.leads in
+    let leads = subst (λ b. (h : Made) → Makes ms n (Under sc b a.outer) h → Makes ms n a.next h) list a.leads in
     let k = block_kept a.recs (before front.now (Then (step_of s) a.rest)) a.reached e kept part in
     let this : IsFront ms root sc n front.now n (Under sc (Then (step_of s) a.rest) a.outer) a.next = record {
       rest = Then (step_of s) a.rest;
@@ -140,7 +142,7 @@ front_step ms root ts st again ss front s g e kept is same x =
     record {
       rest = a.rest;
       outer = a.outer;
-      typed = a.typed;
+      made = a.made;
       path =
           (a.next, subst (λ d. IsFront ms root (scope_of again) d front.now n (Under sc (Then (step_of s) a.rest) a.outer) a.next) (sym same.depth) (subst (λ c. IsFront ms root c n front.now n (Under sc (Then (step_of s) a.rest) a.outer) a.next) (sym same.scope) this), a.path);
       up =
@@ -153,16 +155,16 @@ front_step ms root ts st again ss front s g e kept is same x =
 
 -- a block is entered
 
-pub record IsOpened (ms : List ModuleTree) (root : Declaration) (sc : Scope) (n : ℕ) (b : Body) (outer next : Frames) (g : GlobalTree) : Type 0 where
-  pub typed : Types ms n outer g
-  pub leads : (h : GlobalTree) → Types ms n (Under sc b outer) h → Types ms n next h
+pub record IsOpened (ms : List ModuleTree) (root : Declaration) (sc : Scope) (n : ℕ) (b : Body) (outer next : Frames) (g : Made) : Type 0 where
+  pub made : Makes ms n outer g
+  pub leads : (h : Made) → Makes ms n (Under sc b outer) h → Makes ms n next h
   pub up : FailsUp ms root n (Under sc b outer)
   pub recs : List (List ℕ)
   pub part : IsPart sc.within recs b
   pub reached : Reaches ms root sc.within
   pub below : AreBelow n (Under sc Done outer)
 
-pub opened : (ms : List ModuleTree) (root : Declaration) (ts : List Task) (st : Standing) (ss : Bor (List Statement)) (sc : Scope) (n : ℕ) (b : Body) (outer next : Frames) (g : GlobalTree)
+pub opened : (ms : List ModuleTree) (root : Declaration) (ts : List Task) (st : Standing) (ss : Bor (List Statement)) (sc : Scope) (n : ℕ) (b : Body) (outer next : Frames) (g : Made)
     → scope_of st ≡ sc → st.depth ≡ n → body_of ss.now ≡ b → IsOpened ms root sc n b outer next g → Path ms root ts n next → IsState ms root (Front st ss ∷ ts) g
 opened ms root ts st ss sc n b outer next g scope depth body o path =
     let list : b ≡ before ss.now Done = sym body ∙ sym (before_done ss.now) in
@@ -182,41 +184,46 @@ opened ms root ts st ss sc n b outer next g scope depth body o path =
     record {
       depth = n;
       frames = Under sc Done outer;
-      typed = closes p.typed;
+      made = made_through g (needs_close needs_itself) (closes p.made.typed) p.made;
       path =
           (next, subst (λ d. IsFront ms root (scope_of st) d ss.now n (Under sc Done outer) next) (sym depth) (subst (λ c. IsFront ms root c n ss.now n (Under sc Done outer) next) (sym scope) this), path);
     }
 
 -- a message is sent
 
-pub message_put : (ms : List ModuleTree) (root : Declaration) (ts : List Task) (sc : Scope) (n : ℕ) (m : Message) (p : List ℕ) (qs : List (List ℕ)) (spot : Spot) (g h : GlobalTree)
-    → h ≡ sent m (role_in sc p) (map (role_in sc) qs) g → IsBefore ms root ts sc n (Sends m p qs spot) g → IsState ms root ts h
-message_put ms root ts sc n m p qs spot g h is b = record {
-  depth = n;
-  frames = Under sc (Then (Sends m p qs spot) b.rest) b.outer;
-  typed = sends b.typed is;
-  path = b.path;
-}
+pub message_put : (ms : List ModuleTree) (root : Declaration) (ts : List Task) (sc : Scope) (n : ℕ) (m : Message) (p : List ℕ) (qs : List (List ℕ)) (spot : Spot) (g h : Made)
+    → h.type ≡ sent m (role_in sc p) (map (role_in sc) qs) g.type → h.origins ≡ none_told (map (role_in sc) qs) g.origins → IsBefore ms root ts sc n (Sends m p qs spot) g → IsState ms root ts h
+message_put ms root ts sc n m p qs spot g h is none b =
+    let sender = role_in sc p in
+    let receivers = map (role_in sc) qs in
+    let marks = marks_through (needs_sends needs_itself) (communications n g.type) g.origins b.made.marked in
+    record {
+      depth = n;
+      frames = Under sc (Then (Sends m p qs spot) b.rest) b.outer;
+      made =
+          made_from h (sent m sender receivers g.type) (none_told receivers g.origins) is none (sends b.made.typed is) (marks_sent ms n (Under sc (Then (Sends m p qs spot) b.rest) b.outer) n m sender receivers g.type g.origins marks);
+      path = b.path;
+    }
 
 -- a recursion is continued
 
-pub variable_put : (ms : List ModuleTree) (root : Declaration) (ts : List Task) (sc : Scope) (n k i : ℕ) (x : List ℕ) (spot : Spot) (g h : GlobalTree)
-    → level_of x sc.recs ≡ Some k → n ≡ k + 1 + i → h ≡ GlobalVar i → IsBefore ms root ts sc n (Continues x spot) g → IsState ms root ts h
-variable_put ms root ts sc n k i x spot g h level deep is b = record {
+pub variable_put : (ms : List ModuleTree) (root : Declaration) (ts : List Task) (sc : Scope) (n k i : ℕ) (x : List ℕ) (spot : Spot) (g h : Made)
+    → level_of x sc.recs ≡ Some k → n ≡ k + 1 + i → h.type ≡ GlobalVar i → h.origins ≡ [] → IsBefore ms root ts sc n (Continues x spot) g → IsState ms root ts h
+variable_put ms root ts sc n k i x spot g h level deep is alone b = record {
   depth = n;
   frames = Under sc (Then (Continues x spot) b.rest) b.outer;
-  typed = continues level deep is;
+  made = made_from h (GlobalVar i) [] is alone (continues level deep is) tt;
   path = b.path;
 }
 
 -- a protocol is called
 
-pub call_put : (ms : List ModuleTree) (root : Declaration) (ts : List Task) (st : Standing) (ss : Bor (List Statement)) (sc : Scope) (n : ℕ) (path roles : List (List ℕ)) (spot : Spot) (c : Declaration) (g : GlobalTree)
+pub call_put : (ms : List ModuleTree) (root : Declaration) (ts : List Task) (st : Standing) (ss : Bor (List Statement)) (sc : Scope) (n : ℕ) (path roles : List (List ℕ)) (spot : Spot) (c : Declaration) (g : Made)
     → called ms sc.within.home path ≡ Some c → scope_of st ≡ inside_call sc c roles → st.depth ≡ n → ss.now ≡ c.protocol.body → IsBefore ms root ts sc n (Calls path roles spot) g → IsState ms root (Front st ss ∷ ts) g
 call_put ms root ts st ss sc n path roles spot c g there scope depth body b =
     opened ms root ts st ss (inside_call sc c roles) n (body_of c.protocol.body) (Under sc b.rest b.outer) (Under sc (Then (Calls path roles spot) b.rest) b.outer) g scope depth (ap body_of body) (record {
-      typed = b.typed;
-      leads = λ h t. calls there t;
+      made = b.made;
+      leads = λ h t. made_through h (needs_calls there needs_itself) (calls there t.typed) t;
       up = λ f d s h. b.up f d s (fails_through f d s (needs_calls there needs_itself) h);
       recs = [];
       part = λ inner r q. q;
@@ -226,15 +233,15 @@ call_put ms root ts st ss sc n path roles spot c g there scope depth body b =
 
 -- a recursion that isn't continued
 
-pub passes_put : (ms : List ModuleTree) (root : Declaration) (ts : List Task) (st : Standing) (ss : Bor (List Statement)) (x : List ℕ) (spot : Spot) (g : GlobalTree)
+pub passes_put : (ms : List ModuleTree) (root : Declaration) (ts : List Task) (st : Standing) (ss : Bor (List Statement)) (x : List ℕ) (spot : Spot) (g : Made)
     → continues_in x (body_of ss.now) ≡ false → IsBefore ms root ts (scope_of st) st.depth (Repeats x (body_of ss.now) spot) g → IsState ms root (Front st ss ∷ ts) g
 passes_put ms root ts st ss x spot g none b =
     let sc = scope_of st in
     let n = st.depth in
     let c = body_of ss.now in
     opened ms root ts st ss sc n c (Under sc b.rest b.outer) (Under sc (Then (Repeats x c spot) b.rest) b.outer) g refl refl refl (record {
-      typed = b.typed;
-      leads = λ h t. passes none t;
+      made = b.made;
+      leads = λ h t. made_through h (needs_passes none needs_itself) (passes none t.typed) t;
       up = λ f d s h. b.up f d s (fails_through f d s (needs_passes none needs_itself) h);
       recs = x ∷ b.recs;
       part = λ inner r q. b.part inner r (in_rec q);
@@ -244,16 +251,16 @@ passes_put ms root ts st ss x spot g none b =
 
 -- one that is
 
-pub repeats_put : (ms : List ModuleTree) (root : Declaration) (ts : List Task) (st inner : Standing) (ss : Bor (List Statement)) (home : Bor ModuleTree) (x : List ℕ) (spot : Spot) (g h : GlobalTree) → home.now ≡ (scope_of st).within.home
-    → continues_in x (body_of ss.now) ≡ true → IsInside st x inner → h ≡ lifted 0 g → IsBefore ms root ts (scope_of st) st.depth (Repeats x (body_of ss.now) spot) g → IsState ms root (Front inner ss ∷ Close home spot ∷ ts) h
-repeats_put ms root ts st inner ss home x spot g h at loops same is b =
+pub repeats_put : (ms : List ModuleTree) (root : Declaration) (ts : List Task) (st inner : Standing) (ss : Bor (List Statement)) (home : Bor ModuleTree) (x : List ℕ) (spot : Spot) (g h : Made) → home.now ≡ (scope_of st).within.home
+    → continues_in x (body_of ss.now) ≡ true → IsInside st x inner → h.type ≡ lifted 0 g.type → h.origins ≡ g.origins → IsBefore ms root ts (scope_of st) st.depth (Repeats x (body_of ss.now) spot) g → IsState ms root (Front inner ss ∷ Close home spot ∷ ts) h
+repeats_put ms root ts st inner ss home x spot g h at loops same is kept b =
     let sc = scope_of st in
     let n = st.depth in
     let c = body_of ss.now in
     let after = Under sc b.rest b.outer in
     let whole = Under sc (Then (Repeats x c spot) b.rest) b.outer in
     opened ms root (Close home spot ∷ ts) inner ss (inside sc x n) (n + 1) c after (Under (inside sc x n) c after) h same.scope same.depth refl (record {
-      typed = subst (λ y. Types ms (n + 1) after y) (sym is) (lift_below b.below b.typed);
+      made = made_deeper g h is kept b.below b.made;
       leads = λ k t. t;
       up = λ f d s k. b.up f d s (fails_through f d s (needs_repeats loops needs_itself) k);
       recs = x ∷ b.recs;
@@ -283,21 +290,21 @@ repeats_put ms root ts st inner ss home x spot g h at loops same is b =
 
 -- the recursion's body has its type
 
-pub record IsClosing (ms : List ModuleTree) (root : Declaration) (ts : List Task) (home : ModuleTree) (spot : Spot) (g : GlobalTree) : Type 0 where
+pub record IsClosing (ms : List ModuleTree) (root : Declaration) (ts : List Task) (home : ModuleTree) (spot : Spot) (g : Made) : Type 0 where
   pub scope : Scope
   pub depth : ℕ
   pub name : List ℕ
   pub body : Body
   pub rest : Body
   pub outer : Frames
-  pub typed : Types ms (depth + 1) (Under (inside scope name depth) body (Under scope rest outer)) g
+  pub made : Makes ms (depth + 1) (Under (inside scope name depth) body (Under scope rest outer)) g
   pub continued : continues_in name body ≡ true
   pub up : FailsUp ms root depth (Under scope (Then (Repeats name body spot) rest) outer)
   pub reached : Reaches ms root scope.within
   pub at : home ≡ scope.within.home
   pub path : Path ms root ts depth (Under scope (Then (Repeats name body spot) rest) outer)
 
-closing : (ms : List ModuleTree) (root : Declaration) (ts : List Task) (home : Bor ModuleTree) (spot : Spot) (g : GlobalTree) → IsState ms root (Close home spot ∷ ts) g → IsClosing ms root ts home.now spot g
+closing : (ms : List ModuleTree) (root : Declaration) (ts : List Task) (home : Bor ModuleTree) (spot : Spot) (g : Made) → IsState ms root (Close home spot ∷ ts) g → IsClosing ms root ts home.now spot g
 closing ms root ts home spot g s =
     let m = s.path.0 in
     let hs = s.path.1 in
@@ -309,7 +316,7 @@ closing ms root ts home spot g s =
       body = f.body;
       rest = f.rest;
       outer = f.outer;
-      typed = subst (λ n. Types ms n (Under (inside f.scope f.name m) f.body (Under f.scope f.rest f.outer)) g) f.deep (subst (λ fs. Types ms s.depth fs g) f.is s.typed);
+      made = subst (λ n. Makes ms n (Under (inside f.scope f.name m) f.body (Under f.scope f.rest f.outer)) g) f.deep (subst (λ fs. Makes ms s.depth fs g) f.is s.made);
       continued = f.continued;
       up = subst (λ fs. FailsUp ms root m fs) f.goes f.up;
       reached = f.reached;
@@ -317,17 +324,18 @@ closing ms root ts home spot g s =
       path = subst (λ fs. Path ms root ts m fs) f.goes s.path.3;
     }
 
-pub close_put : (ms : List ModuleTree) (root : Declaration) (ts : List Task) (home : Bor ModuleTree) (spot : Spot) (g h : GlobalTree) → leads_to_communication g ≡ true → h ≡ GlobalRec g → IsState ms root (Close home spot ∷ ts) g → IsState ms root ts h
-close_put ms root ts home spot g h guarded is s =
+pub close_put : (ms : List ModuleTree) (root : Declaration) (ts : List Task) (home : Bor ModuleTree) (spot : Spot) (g h : Made) → leads_to_communication g.type ≡ true → h.type ≡ GlobalRec g.type → h.origins ≡ g.origins → IsState ms root (Close home spot ∷ ts) g → IsState ms root ts h
+close_put ms root ts home spot g h guarded is kept s =
     let c = closing ms root ts home spot g s in
     record {
       depth = c.depth;
       frames = Under c.scope (Then (Repeats c.name c.body spot) c.rest) c.outer;
-      typed = repeats c.continued c.typed guarded is;
+      made =
+          made_from h (GlobalRec g.type) g.origins is kept (repeats c.continued c.made.typed guarded is) (marks_through (needs_repeats c.continued needs_itself) (communications (c.depth + 1) g.type) g.origins c.made.marked);
       path = c.path;
     }
 
-pub close_fails : (ms : List ModuleTree) (root : Declaration) (ts : List Task) (home : Bor ModuleTree) (spot : Spot) (g : GlobalTree) → leads_to_communication g ≡ false → IsState ms root (Close home spot ∷ ts) g
+pub close_fails : (ms : List ModuleTree) (root : Declaration) (ts : List Task) (home : Bor ModuleTree) (spot : Spot) (g : Made) → leads_to_communication g.type ≡ false → IsState ms root (Close home spot ∷ ts) g
     → (place : Declaration) × Reaches ms root place × (home.now ≡ place.home) × FailsTyping kind.Unguarded ms 0 (start_of root) place spot
 close_fails ms root ts home spot g unguarded s =
     let c = closing ms root ts home spot g s in (
@@ -342,18 +350,18 @@ close_fails ms root ts home spot g unguarded s =
         follows = Under c.scope c.rest c.outer;
         needed = record { after = c.rest; outer = c.outer; same = refl; home = refl; needs = needs_itself };
         continued = c.continued;
-        inner = g;
-        typed = c.typed;
+        inner = g.type;
+        typed = c.made.typed;
         unguarded = unguarded;
       }),
     )
 
 -- the stack at the beginning and at the end, and the task on its top
 
-pub begins : (ms : List ModuleTree) (root : Declaration) (old new : List Task) (st : Standing) (ss : Bor (List Statement)) (g : GlobalTree) → old ≡ [] → new ≡ old ++ Front st ss ∷ [] → IsStart root st → ss.now ≡ root.protocol.body → g ≡ GlobalEnd → IsState ms root (reverse new) g
+pub begins : (ms : List ModuleTree) (root : Declaration) (old new : List Task) (st : Standing) (ss : Bor (List Statement)) (g : Made) → old ≡ [] → new ≡ old ++ Front st ss ∷ [] → IsStart root st → ss.now ≡ root.protocol.body → g ≡ nothing_made → IsState ms root (reverse new) g
 begins ms root old new st ss g none push start body is =
     let state : IsState ms root (Front st ss ∷ []) g = opened ms root [] st ss (start_scope root) 0 (body_of root.protocol.body) NoFrame (start_of root) g start.scope start.depth (ap body_of body) (record {
-      typed = subst (λ x. Types ms 0 NoFrame x) (sym is) ends;
+      made = subst (λ x. Makes ms 0 NoFrame x) (sym is) (nothing_follows ms);
       leads = λ h t. t;
       up = λ f d s h. h;
       recs = [];
@@ -363,15 +371,15 @@ begins ms root old new st ss g none push start body is =
     }) (refl, refl) in
     pushed ms root old new (Front st ss) g g push refl (subst (λ o. IsState ms root (Front st ss ∷ reverse o) g) (sym none) state)
 
-pub popped : (ms : List ModuleTree) (root : Declaration) (old new : List Task) (t : Task) (g : GlobalTree) → old ≡ new ++ t ∷ [] → IsState ms root (reverse old) g → IsState ms root (t ∷ reverse new) g
+pub popped : (ms : List ModuleTree) (root : Declaration) (old new : List Task) (t : Task) (g : Made) → old ≡ new ++ t ∷ [] → IsState ms root (reverse old) g → IsState ms root (t ∷ reverse new) g
 popped ms root old new t g is s =
     subst (λ ts. IsState ms root ts g) (ap reverse is ∙ reverse-append new (t ∷ [])) s
 
-pub ended : (ms : List ModuleTree) (root : Declaration) (ts : List Task) (g : GlobalTree) → ts ≡ [] → IsState ms root (reverse ts) g → Types ms 0 (start_of root) g
+pub ended : (ms : List ModuleTree) (root : Declaration) (ts : List Task) (g : Made) → ts ≡ [] → IsState ms root (reverse ts) g → Makes ms 0 (start_of root) g
 ended ms root ts g none s =
     let e = subst (λ x. IsState ms root (reverse x) g) none s in
-    subst (λ fs. Types ms 0 fs g) e.path.1 (subst (λ n. Types ms n e.frames g) e.path.0 e.typed)
+    subst (λ fs. Makes ms 0 fs g) e.path.1 (subst (λ n. Makes ms n e.frames g) e.path.0 e.made)
 
-pub pushed_before : (ms : List ModuleTree) (root : Declaration) (old new : List Task) (t : Task) (sc : Scope) (n : ℕ) (s : Step) (g : GlobalTree) → new ≡ old ++ t ∷ [] → IsBefore ms root (t ∷ reverse old) sc n s g → IsBefore ms root (reverse new) sc n s g
+pub pushed_before : (ms : List ModuleTree) (root : Declaration) (old new : List Task) (t : Task) (sc : Scope) (n : ℕ) (s : Step) (g : Made) → new ≡ old ++ t ∷ [] → IsBefore ms root (t ∷ reverse old) sc n s g → IsBefore ms root (reverse new) sc n s g
 pushed_before ms root old new t sc n s g e b =
     subst (λ ts. IsBefore ms root ts sc n s g) (sym (ap reverse e ∙ reverse-append old (t ∷ []))) b

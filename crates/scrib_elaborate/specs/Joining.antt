@@ -4,7 +4,7 @@ use Rattle.std.specs.Prelude.{◌≡◌, ℕ, true, List, length, Some}
 use Rattle.scrib_types.specs.declared.spot.Spot.{Spot}
 use Rattle.scrib_types.specs.WellFormed.{has_role}
 use Rattle.scrib_parser.specs.declared.tree.ModuleTree.{ModuleTree}
-use Rattle.scrib_elaborate.specs.Source.{Body, Done, Then, Chooses, Repeats, Calls, NoBlock, OrBlock}
+use Rattle.scrib_elaborate.specs.Source.{Body, Done, Then, Step, Chooses, Repeats, Calls, Blocks, NoBlock, OrBlock}
 use Rattle.scrib_elaborate.specs.SourceView.{body_of}
 use Rattle.scrib_elaborate.specs.Names.{Declaration, roles_of, called}
 use Rattle.scrib_elaborate.specs.Elaboration.{given_for}
@@ -28,3 +28,12 @@ pub data OnlyJoins (modules : List ModuleTree) : Declaration → (chooser : List
   only_calls : {d : Declaration} {p q : List ℕ} {path roles : List (List ℕ)} {s : Spot} {b : Body} {c : Declaration}
       → called modules d.home path ≡ Some c → length roles ≡ length (roles_of c) → has_role q (roles_of c) ≡ true → given_for (roles_of c) roles q ≡ p → OnlyJoins modules c q (body_of c.protocol.body)
       → OnlyJoins modules d p b → OnlyJoins modules d p (Then (Calls path roles s) b)
+
+-- The first choice that a reader of the block meets, who follows its calls, stands here in this protocol.
+pub data BeginsAt (modules : List ModuleTree) : Declaration → Body → (home : Declaration) → Spot → Type 0 where
+  begins_here : {d : Declaration} {p : List ℕ} {bs : Blocks} {s : Spot} {b : Body} → BeginsAt modules d (Then (Chooses p bs s) b) d s
+  begins_in_rec : {d home : Declaration} {x : List ℕ} {c : Body} {t s : Spot} {b : Body} → BeginsAt modules d c home s → BeginsAt modules d (Then (Repeats x c t) b) home s
+  begins_in_call : {d home : Declaration} {path roles : List (List ℕ)} {t s : Spot} {b : Body} {c : Declaration}
+      → called modules d.home path ≡ Some c → BeginsAt modules c (body_of c.protocol.body) home s → BeginsAt modules d (Then (Calls path roles t) b) home s
+  -- after a statement that adds nothing
+  begins_later : {d home : Declaration} {step : Step} {s : Spot} {b : Body} → AddsNothing modules d (Then step Done) → BeginsAt modules d b home s → BeginsAt modules d (Then step b) home s

@@ -9,6 +9,7 @@ pub mod Sizes
 pub mod Faults
 pub mod Sound
 pub mod Meaning
+pub mod Sites
 pub mod Growth
 pub mod Joining
 pub mod Shape

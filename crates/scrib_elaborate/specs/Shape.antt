@@ -9,19 +9,16 @@ use Rattle.scrib_types.specs.Trees.{GlobalTree, Comm, GlobalBranches}
 use Rattle.scrib_parser.specs.declared.tree.ModuleTree.{ModuleTree}
 use Rattle.scrib_elaborate.specs.declared.shape.Shape.{Shape}
 use Rattle.scrib_elaborate.specs.declared.shape.Shape.TheVariants.{Nothing, Joining, Other}
-use Rattle.scrib_elaborate.specs.Source.{Body, Chooses, Blocks}
+use Rattle.scrib_elaborate.specs.Source.{Body}
 use Rattle.scrib_elaborate.specs.SourceView.{body_of}
 use Rattle.scrib_elaborate.specs.Names.{Declaration, roles_of, declarations}
-use Rattle.scrib_elaborate.specs.Faults.{HasStep}
-use Rattle.scrib_elaborate.specs.Joining.{AddsNothing, OnlyJoins}
+use Rattle.scrib_elaborate.specs.Joining.{AddsNothing, OnlyJoins, BeginsAt}
 
--- a choice stands here in the protocol at this place of all
-pub record IsChoiceAt (modules : List ModuleTree) (at : ℕ) (spot : Spot) : Type 0 where
+-- the first choice of the block of d stands here, in the protocol at this place of all
+pub record IsChoiceAt (modules : List ModuleTree) (d : Declaration) (b : Body) (at : ℕ) (spot : Spot) : Type 0 where
   pub home : Declaration
   pub there : slice_get (declarations modules) at ≡ Some home
-  pub chooser : List ℕ
-  pub blocks : Blocks
-  pub stands : HasStep home (Chooses chooser blocks spot)
+  pub first : BeginsAt modules d b home spot
 
 -- the place of the first of this name
 abbrev pub place_of : List ℕ → List (List ℕ) → Option ℕ
@@ -34,7 +31,7 @@ pub record JoinsBy (modules : List ModuleTree) (d : Declaration) (b : Body) (cho
   pub there : place_of role (roles_of d) ≡ Some chooser
   pub only : OnlyJoins modules d role b
   pub something : AddsNothing modules d b → ⊥
-  pub first : IsChoiceAt modules at spot
+  pub first : IsChoiceAt modules d b at spot
 
 -- the block adds something, and no role of the protocol joins by it
 pub record AddsMore (modules : List ModuleTree) (d : Declaration) (b : Body) : Type 0 where

@@ -1,7 +1,7 @@
 -- What the parts of the third pass stand for (this project's own).
 -- Only contracts of private functions cite this file.
-use Rattle.std.specs.Prelude.{◌≡◌, ◌≢◌, ℕ, ◌+◌, ◌≤◌, true, false, List, [], ◌∷◌, length, slice_get, Option, Some, None, MatchOption}
-use Rattle.std.specs.List.{All}
+use Rattle.std.specs.Prelude.{◌≡◌, ◌≢◌, ◌⊎◌, ℕ, ◌+◌, ◌≤◌, true, false, List, [], ◌∷◌, ◌++◌, length, slice_get, Option, Some, None, option_map, MatchOption}
+use Rattle.std.specs.List.{All, AllZip}
 use Rattle.scrib_types.specs.declared.spot.Spot.{Spot}
 use Rattle.scrib_types.specs.GlobalView.{global_of}
 use Rattle.scrib_types.specs.Trees.{GlobalTree, GlobalEnd, GlobalVar, GlobalRec, Comm, GlobalBranches}
@@ -9,6 +9,11 @@ use Rattle.scrib_parser.specs.declared.tree.ModuleTree.{ModuleTree}
 use Rattle.scrib_parser.specs.declared.tree.Statement.{Statement}
 use Rattle.scrib_parser.specs.declared.tree.Block.{Block}
 use Rattle.scrib_elaborate.specs.declared.built.Typed.{Typed}
+use Rattle.scrib_elaborate.specs.declared.built.Origin.{Origin}
+use Rattle.scrib_elaborate.specs.declared.declared.Declared.{Declared}
+use Rattle.scrib_elaborate.specs.declared.elaborated.Join.{Join as TheJoin}
+use Rattle.scrib_elaborate.specs.declared.shape.Shape.{Shape}
+use Rattle.scrib_elaborate.specs.declared.shape.Shape.TheVariants.{Joining}
 use Rattle.scrib_elaborate.specs.declared.tasks.Program.{Program}
 use Rattle.scrib_elaborate.specs.declared.tasks.Task.{Task}
 use Rattle.scrib_elaborate.specs.declared.tasks.Task.TheVariants.{Front, Join, Close, Trial}
@@ -24,6 +29,7 @@ use Rattle.scrib_elaborate.specs.Faults.{Reaches, share_operator, FailsTyping}
 use Rattle.scrib_elaborate.specs.Table.{shown, IsPart, AreParts}
 use Rattle.scrib_elaborate.specs.Walking.{AreSummaries}
 use Rattle.scrib_elaborate.specs.Lifting.{AreBelow}
+use Rattle.scrib_elaborate.specs.Sites.{communications, is_several, IsSite}
 use Rattle.scrib_elaborate.specs.Standing.{scope_of}
 
 -- the table has all protocols of the modules, and what is kept of one that was walked is so
@@ -33,6 +39,29 @@ pub record IsTable (p : Program) : Type 0 where
 
 abbrev pub type_of : Typed → GlobalTree
 type_of t = global_of t.global
+
+-- a type, and the origins of its communications, in post-order
+pub record Made : Type 0 where
+  pub type : GlobalTree
+  pub origins : List (Option Origin)
+
+abbrev pub made_of : Typed → Made
+made_of t = record { type = type_of t; origins = t.joins.items }
+
+-- the type of no statement
+abbrev pub nothing_made : Made
+nothing_made = record { type = GlobalEnd; origins = [] }
+
+-- the choice that a communication with several branches comes from stands there, and none is told of another
+abbrev pub IsMarked : List ModuleTree → (k : ℕ) → (from : Frames) → (ℕ × GlobalTree) → Option Origin → Type 0
+IsMarked modules k from c None = is_several c.1 ≡ false
+IsMarked modules k from c (Some o) =
+    (is_several c.1 ≡ true) × IsSite modules k from o.home.now.name o.spot c.0 c.1
+
+-- the frames, under n recursions, mean this type, and its communications come from there
+pub record Makes (modules : List ModuleTree) (n : ℕ) (fs : Frames) (m : Made) : Type 0 where
+  pub typed : Types modules n fs m.type
+  pub marked : AllZip (IsMarked modules n fs) (communications n m.type) m.origins
 
 -- these statements stand in front of the rest of their block
 abbrev pub before : List Statement → Body → Body
@@ -50,7 +79,7 @@ pub record IsFront (modules : List ModuleTree) (root : Declaration) (sc : Scope)
   pub outer : Frames
   pub deep : n ≡ depth
   pub is : fs ≡ Under sc rest outer
-  pub leads : (g : GlobalTree) → Types modules n (Under sc (before statements rest) outer) g → Types modules n hs g
+  pub leads : (m : Made) → Makes modules n (Under sc (before statements rest) outer) m → Makes modules n hs m
   pub up : FailsUp modules root n (Under sc (before statements rest) outer)
   pub recs : List (List ℕ)
   pub part : IsPart sc.within recs (before statements rest)
@@ -60,7 +89,7 @@ pub record IsFront (modules : List ModuleTree) (root : Declaration) (sc : Scope)
 -- these are the types of the first blocks
 abbrev pub AreTyped : List ModuleTree → ℕ → Scope → Frames → List Block → List Typed → Type 0
 AreTyped modules n sc fs blocks types =
-    (k : ℕ) (b : Block) (t : Typed) → slice_get blocks k ≡ Some b → slice_get types k ≡ Some t → Types modules n (Under sc (body_of b.body) fs) (type_of t)
+    (k : ℕ) (b : Block) (t : Typed) → slice_get blocks k ≡ Some b → slice_get types k ≡ Some t → Makes modules n (Under sc (body_of b.body) fs) (made_of t)
 
 -- the frames are those of the next block of a choice, and the others begin with that choice
 pub record IsJoin (modules : List ModuleTree) (root : Declaration) (sc : Scope) (depth : ℕ) (chooser : List ℕ) (blocks : List Block) (spot : Spot) (follows : Option Typed) (types : List Typed) (n : ℕ) (fs hs : Frames) : Type 0 where
@@ -73,7 +102,7 @@ pub record IsJoin (modules : List ModuleTree) (root : Declaration) (sc : Scope) 
   pub goes : hs ≡ Under sc (Then (Chooses chooser (blocks_of blocks) spot) rest) outer
   pub up : FailsUp modules root n hs
   pub typed : AreTyped modules n sc (Under sc rest outer) blocks types
-  pub after : MatchOption follows (length types + 1 ≡ length blocks) (λ t. Types modules n (Under sc rest outer) (type_of t))
+  pub after : MatchOption follows (length types + 1 ≡ length blocks) (λ t. Makes modules n (Under sc rest outer) (made_of t))
   pub recs : List (List ℕ)
   pub parts : AreParts sc.within recs (blocks_of blocks)
   pub reached : Reaches modules root sc.within
@@ -107,17 +136,17 @@ Path modules root (Close home spot ∷ tasks) n fs =
 Path modules root (Trial ∷ tasks) n fs = tasks ≡ []
 
 -- the type that was made last is that of the frames from which the tasks lead on
-pub record IsState (modules : List ModuleTree) (root : Declaration) (tasks : List Task) (g : GlobalTree) : Type 0 where
+pub record IsState (modules : List ModuleTree) (root : Declaration) (tasks : List Task) (m : Made) : Type 0 where
   pub depth : ℕ
   pub frames : Frames
-  pub typed : Types modules depth frames g
+  pub made : Makes modules depth frames m
   pub path : Path modules root tasks depth frames
 
 -- it is that of what follows this statement, and the tasks lead on from the statement
-pub record IsBefore (modules : List ModuleTree) (root : Declaration) (tasks : List Task) (sc : Scope) (n : ℕ) (s : Step) (g : GlobalTree) : Type 0 where
+pub record IsBefore (modules : List ModuleTree) (root : Declaration) (tasks : List Task) (sc : Scope) (n : ℕ) (s : Step) (m : Made) : Type 0 where
   pub rest : Body
   pub outer : Frames
-  pub typed : Types modules n (Under sc rest outer) g
+  pub made : Makes modules n (Under sc rest outer) m
   pub path : Path modules root tasks n (Under sc (Then s rest) outer)
   pub up : FailsUp modules root n (Under sc (Then s rest) outer)
   pub recs : List (List ℕ)
@@ -164,7 +193,7 @@ pub record IsChoosing (modules : List ModuleTree) (root : Declaration) (tasks : 
   pub outer : Frames
   pub typed : AreTyped modules n sc (Under sc rest outer) blocks types
   pub few : length types ≤ length blocks
-  pub after : MatchOption follows (length types ≡ length blocks) (λ t. Types modules n (Under sc rest outer) (type_of t))
+  pub after : MatchOption follows (length types ≡ length blocks) (λ t. Makes modules n (Under sc rest outer) (made_of t))
   pub up : FailsUp modules root n (Under sc (Then (Chooses chooser (blocks_of blocks) spot) rest) outer)
   pub recs : List (List ℕ)
   pub parts : AreParts sc.within recs (blocks_of blocks)
@@ -187,6 +216,11 @@ pub record IsAdded (chooser : List ℕ) (before after : Option (List ℕ)) (old 
   pub apart : share_operator old branches ≡ false
   pub joined : new ≡ and_branches old branches
 
+-- the origins of the block's communications, but for its first one, which is joined, were put after the others
+abbrev pub AddsOrigins : (old new of : List (Option Origin)) → Type 0
+AddsOrigins old new of =
+    (of ≡ []) ⊎ ((rest : List (Option Origin)) × (first : Option Origin) × (of ≡ rest ++ first ∷ []) × (new ≡ old ++ rest))
+
 -- the block's type doesn't fit the chooser, or the blocks before it
 abbrev pub HeadFails : FaultKind → (chooser : List ℕ) → (receiver : Option (List ℕ)) → (earlier : GlobalBranches) → GlobalTree → Type 0
 HeadFails kind.EmptyBranch chooser receiver earlier g = g ≡ GlobalEnd
@@ -206,10 +240,35 @@ IsHeadFault home spot chooser receiver earlier g (Broken h b) =
     (h.now ≡ home) × (b.spot ≡ spot) × HeadFails b.kind chooser receiver earlier g
 IsHeadFault home spot chooser receiver earlier g OutOfMemory = Unit {0}
 
+-- none is told of one communication to each of these, in front of the others
+abbrev pub none_told : {X : Type 0} → List X → List (Option Origin) → List (Option Origin)
+none_told [] js = js
+none_told (q ∷ qs) js = none_told qs js ++ None ∷ []
+
+-- the communication in front, if it has an origin, comes from this one
+abbrev pub retold : Origin → List (Option Origin) → List (Option Origin)
+retold o [] = []
+retold o (j ∷ []) = option_map (λ _. o) j ∷ []
+retold o (j ∷ k ∷ js) = j ∷ retold o (k ∷ js)
+
+-- where the choices stand of those that have an origin
+abbrev pub joins_told : List (Option Origin) → List TheJoin
+joins_told [] = []
+joins_told (None ∷ js) = joins_told js
+joins_told (Some o ∷ js) = record { «module» = o.home.now.name; spot = o.spot } ∷ joins_told js
+
+-- What follows a call of a protocol of this shape has the same type. Its communication in front comes from the first
+-- choice of the called protocol, if that joins.
+abbrev pub PassesOn : List Declared → Shape → (before after : Made) → Type 0
+PassesOn table (Joining k at spot) before after =
+    (d : Declared) → slice_get table at ≡ Some d → after ≡ record { type = before.type; origins = retold (record { home = d.home; spot = spot }) before.origins }
+PassesOn table _ before after = after ≡ before
+
 -- the type is the variable of the recursion of this name
-pub record IsVariable (sc : Scope) (n : ℕ) (name : List ℕ) (g : GlobalTree) : Type 0 where
+pub record IsVariable (sc : Scope) (n : ℕ) (name : List ℕ) (m : Made) : Type 0 where
   pub level : ℕ
   pub index : ℕ
   pub there : level_of name sc.recs ≡ Some level
   pub deep : n ≡ level + 1 + index
-  pub is : g ≡ GlobalVar index
+  pub is : m.type ≡ GlobalVar index
+  pub alone : m.origins ≡ []

@@ -1,12 +1,12 @@
 //! The types of statements, built from the end.
 
-ghost use Rattle.std.specs.Prelude.{◌≡◌, ◌-◌, IfOk};
+ghost use Rattle.std.specs.Prelude.{◌≡◌, ◌-◌, [], IfOk};
 ghost use Rattle.scrib_types.specs.GlobalView.{global_of};
 ghost use Rattle.scrib_types.specs.Trees.{GlobalEnd, GlobalVar, GlobalRec, Comm, Branch, NoBranch};
 ghost use Rattle.scrib_elaborate.specs.Elaboration.{sent};
 ghost use Rattle.scrib_elaborate.specs.Lifting.{lifted};
 ghost use Rattle.scrib_elaborate.specs.Standing.{named};
-ghost use Rattle.scrib_elaborate.specs.Typing.{type_of};
+ghost use Rattle.scrib_elaborate.specs.Typing.{type_of, none_told, retold};
 
 use crate::lift::lifted;
 use crate::untyped::Refused;
@@ -37,7 +37,8 @@ impl<'a> Typed<'a> {
     /// The type of no statement.
     #[tactic(auto, using(scrib_types::specs::GlobalView::global_views))]
     pub fn end(alloc: Global) -> Typed<'a>
-        ensures { type_of result ≡ GlobalEnd }
+        ensures global { type_of result ≡ GlobalEnd }
+        ensures joins { result.joins.items ≡ [] }
     {
         Typed {
             global: GlobalType::End,
@@ -48,7 +49,8 @@ impl<'a> Typed<'a> {
     /// The type of a `continue`.
     #[tactic(auto, using(scrib_types::specs::GlobalView::global_views))]
     pub fn variable(alloc: Global, index: u32) -> Typed<'a>
-        ensures { type_of result ≡ GlobalVar index }
+        ensures global { type_of result ≡ GlobalVar index }
+        ensures joins { result.joins.items ≡ [] }
     {
         Typed {
             global: GlobalType::Var(index),
@@ -61,7 +63,8 @@ impl<'a> Typed<'a> {
     /// # Errors
     /// `AllocError` where memory was refused.
     pub fn copy(&self, alloc: Global) -> Result<Typed<'a>, AllocError>
-        ensures { IfOk result (λ t. type_of t ≡ type_of self.now) }
+        ensures global { IfOk result (λ t. type_of t ≡ type_of self.now) }
+        ensures joins { IfOk result (λ t. t.joins.items ≡ self.now.joins.items) }
     {
         let global = GlobalType::copy(alloc, &self.global)?;
         let joins = Vec::from_slice(alloc, &self.joins)?;
@@ -73,7 +76,8 @@ impl<'a> Typed<'a> {
     /// # Errors
     /// `Refused` where memory was refused.
     pub fn lifted(&self, alloc: Global) -> Result<Typed<'a>, Refused>
-        ensures { IfOk result (λ t. type_of t ≡ lifted 0 (type_of self.now)) }
+        ensures global { IfOk result (λ t. type_of t ≡ lifted 0 (type_of self.now)) }
+        ensures joins { IfOk result (λ t. t.joins.items ≡ self.now.joins.items) }
     {
         let global = lifted(alloc, &self.global, 0)?;
         let joins = Vec::from_slice(alloc, &self.joins)?;
@@ -86,7 +90,8 @@ impl<'a> Typed<'a> {
     /// `AllocError` where memory was refused.
     #[tactic(auto, using(scrib_types::specs::GlobalView::global_views))]
     pub fn closed(self, alloc: Global) -> Result<Typed<'a>, AllocError>
-        ensures { IfOk result (λ t. type_of t ≡ GlobalRec (type_of self.entry)) }
+        ensures global { IfOk result (λ t. type_of t ≡ GlobalRec (type_of self.entry)) }
+        ensures joins { IfOk result (λ t. t.joins.items ≡ self.entry.joins.items) }
     {
         let Typed { global, joins } = self;
         let global = GlobalType::Rec(Boxed::new(alloc, global)?);
@@ -95,11 +100,15 @@ impl<'a> Typed<'a> {
 
     /// The same type, of which the communication in front, if it has several branches, comes from this choice.
     pub fn joined_at(self, origin: Origin<'a>) -> Typed<'a>
-        ensures { type_of result ≡ type_of self.entry }
+        ensures global { type_of result ≡ type_of self.entry }
+        ensures joins { result.joins.items ≡ retold origin.entry self.entry.joins.items }
     {
         let Typed { global, mut joins } = self;
-        if let Some(Some(last)) = joins.last_mut() {
-            *last = origin;
+        if !joins.is_empty() {
+            let front = joins.len() - 1;
+            if joins[front].is_some() {
+                joins[front] = Some(origin);
+            }
         }
         Typed { global, joins }
     }
@@ -115,7 +124,8 @@ impl<'a> Typed<'a> {
         from: &Role,
         to: &[&Role],
     ) -> Result<Typed<'a>, AllocError>
-        ensures { IfOk result (λ t. type_of t ≡ sent message.now from.now (named to.now) (type_of self.entry)) }
+        ensures global { IfOk result (λ t. type_of t ≡ sent message.now from.now (named to.now) (type_of self.entry)) }
+        ensures joins { IfOk result (λ t. t.joins.items ≡ none_told (named to.now) self.entry.joins.items) }
     {
         let Typed {
             mut global,

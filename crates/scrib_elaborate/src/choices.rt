@@ -13,7 +13,7 @@ ghost use Rattle.scrib_elaborate.specs.Source.{Chooses};
 ghost use Rattle.scrib_elaborate.specs.SourceView.{blocks_of};
 ghost use Rattle.scrib_elaborate.specs.Names.{Declaration};
 ghost use Rattle.scrib_elaborate.specs.Standing.{scope_of};
-ghost use Rattle.scrib_elaborate.specs.Typing.{type_of, IsBefore, IsState, TypingFails, StopsAhead, IsChoosing, IsFirst, IsAdded, IsHeadFault};
+ghost use Rattle.scrib_elaborate.specs.Typing.{type_of, made_of, AddsOrigins, IsBefore, IsState, TypingFails, StopsAhead, IsChoosing, IsFirst, IsAdded, IsHeadFault};
 
 use crate::built::{Origin, Typed};
 use crate::fault::FaultKind;
@@ -51,8 +51,8 @@ pub fn choose<'a>(
     typed: Typed<'a>,
 ) -> Result<Typed<'a>, Untyped<'a>>
     ensures { (modules : List ModuleTree) (root : Declaration)
-        → IsBefore modules root (reverse tasks.old.items) (scope_of standing.entry) standing.entry.depth (Chooses chooser.now (blocks_of branches.now) spot) (type_of typed.entry)
-        → MatchResult result (λ t. IsState modules root (reverse tasks.new.items) (type_of t)) (StopsAhead modules root tasks.new.items) }
+        → IsBefore modules root (reverse tasks.old.items) (scope_of standing.entry) standing.entry.depth (Chooses chooser.now (blocks_of branches.now) spot) (made_of typed.entry)
+        → MatchResult result (λ t. IsState modules root (reverse tasks.new.items) (made_of t)) (StopsAhead modules root tasks.new.items) }
 {
     let Some(first) = branches.first() else {
         return Err(broken(standing.within.home, FaultKind::EmptyBranch, spot));
@@ -83,8 +83,8 @@ pub fn join<'a>(
     typed: Typed<'a>,
 ) -> Result<Typed<'a>, Untyped<'a>>
     ensures { (modules : List ModuleTree) (root : Declaration)
-        → IsState modules root (Join choosing.entry ∷ reverse tasks.old.items) (type_of typed.entry)
-        → MatchResult result (λ t. IsState modules root (reverse tasks.new.items) (type_of t)) (StopsAhead modules root tasks.new.items) }
+        → IsState modules root (Join choosing.entry ∷ reverse tasks.old.items) (made_of typed.entry)
+        → MatchResult result (λ t. IsState modules root (reverse tasks.new.items) (made_of t)) (StopsAhead modules root tasks.new.items) }
 {
     let Choosing {
         standing,
@@ -121,8 +121,8 @@ fn share<'a>(
     follows: Typed<'a>,
     left: usize,
 ) -> Result<(Typed<'a>, Option<Typed<'a>>), AllocError>
-    ensures next { IfOk result (λ t. type_of t.0 ≡ type_of follows.entry) }
-    ensures others { IfOk result (λ t. MatchOption t.1 (left ≡ 0) (λ u. type_of u ≡ type_of follows.entry)) }
+    ensures next { IfOk result (λ t. made_of t.0 ≡ made_of follows.entry) }
+    ensures others { IfOk result (λ t. MatchOption t.1 (left ≡ 0) (λ u. made_of u ≡ made_of follows.entry)) }
 {
     if left == 0 {
         return Ok((follows, None));
@@ -143,7 +143,7 @@ fn joined<'a>(
     ensures { (modules : List ModuleTree) (root : Declaration) (tasks : List Task) (follows : Option Typed)
         → IsChoosing modules root tasks (scope_of standing.now) standing.now.depth given.now blocks.now spot follows types.entry.items
         → length types.entry.items ≡ length blocks.now
-        → MatchResult result (λ t. IsState modules root tasks (type_of t)) (TypingFails modules root) }
+        → MatchResult result (λ t. IsState modules root tasks (made_of t)) (TypingFails modules root) }
 {
     let home = standing.within.home;
     let chooser = standing.role(given);
@@ -183,6 +183,7 @@ fn add<'a>(
     typed: Typed<'a>,
 ) -> Result<(), Untyped<'a>>
     ensures ok { OnOk result (IsAdded chooser.now so_far.old.receiver so_far.new.receiver (global_branches so_far.old.branches) (global_branches so_far.new.branches) (type_of typed.entry)) }
+    ensures joins { OnOk result (AddsOrigins so_far.old.joins.items so_far.new.joins.items typed.entry.joins.items) }
     ensures fault { IfErr result (IsHeadFault home.now spot chooser.now so_far.old.receiver (global_branches so_far.old.branches) (type_of typed.entry)) }
 {
     let Typed { global, mut joins } = typed;

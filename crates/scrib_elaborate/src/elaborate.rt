@@ -6,8 +6,9 @@ ghost use Rattle.scrib_elaborate.specs.Names.{declarations, is_called, role_name
 ghost use Rattle.scrib_elaborate.specs.Elaboration.{Elaborates};
 ghost use Rattle.scrib_elaborate.specs.Faults.{FailsAt};
 ghost use Rattle.scrib_elaborate.specs.Meaning.{meaning_of, Means};
+ghost use Rattle.scrib_elaborate.specs.Sites.{AreSites};
 ghost use Rattle.scrib_elaborate.specs.Table.{shown, declaration_of, IsFound};
-ghost use Rattle.scrib_elaborate.specs.Typing.{IsTable};
+ghost use Rattle.scrib_elaborate.specs.Typing.{IsTable, joins_told};
 ghost use Rattle.scrib_elaborate.specs.Walking.{IsAbsentFault, IsCounted, IsTabled};
 
 use crate::built::{Origin, Typed};
@@ -41,6 +42,7 @@ pub fn elaborate(
     protocol: &Name,
 ) -> Result<Elaborated, ElaborateFault>
     ensures ok { IfOk result (λ e. Elaborates modules.now «module».now protocol.now (meaning_of e)) }
+    ensures sites { IfOk result (AreSites modules.now «module».now protocol.now) }
     ensures only { (a : Agreement) → Elaborates modules.now «module».now protocol.now a → Means result a }
     ensures fault { IfErr result (FailsAt modules.now «module».now protocol.now) }
 {
@@ -101,6 +103,7 @@ impl<'a> Elaborator<'a> {
         protocol: &Name,
     ) -> Result<Elaborated, ElaborateFault>
         ensures ok { IfOk result (λ e. Elaborates self.old «module».now protocol.now (meaning_of e)) }
+        ensures sites { IfOk result (AreSites self.old «module».now protocol.now) }
         ensures only { (a : Agreement) → Elaborates self.old «module».now protocol.now a → Means result a }
         ensures fault { IfErr result (FailsAt self.old «module».now protocol.now) }
         ensures same { self.new ≡ self.old }
@@ -127,6 +130,7 @@ fn elaborate_among(
 ) -> Result<Elaborated, ElaborateFault>
     requires { IsTabled trees.now declared.now states.old.items }
     ensures ok { IfOk result (λ e. Elaborates trees.now «module».now protocol.now (meaning_of e)) }
+    ensures sites { IfOk result (AreSites trees.now «module».now protocol.now) }
     ensures only { (a : Agreement) → Elaborates trees.now «module».now protocol.now a → Means result a }
     ensures fault { IfErr result (FailsAt trees.now «module».now protocol.now) }
     ensures tabled { IsTabled trees.now declared.now states.new.items }
@@ -155,6 +159,7 @@ fn finish(
     requires table { IsTable program.now }
     requires ready { IsCounted program.now.modules.now (shown program.now.declared.now) (declaration_of program.now.root) count «module».now protocol.now }
     ensures ok { IfOk result (λ e. Elaborates program.now.modules.now «module».now protocol.now (meaning_of e)) }
+    ensures sites { IfOk result (AreSites program.now.modules.now «module».now protocol.now) }
     ensures fault { IfErr result (FailsAt program.now.modules.now «module».now protocol.now) }
 {
     match type_of_root(alloc, program) {
@@ -180,7 +185,9 @@ fn copy_roles(alloc: Global, roles: &[RoleDeclaration]) -> Result<Items<Role>, A
 }
 
 // The choices that communications with several branches come from.
-fn told(alloc: Global, joins: &[Option<Origin>]) -> Result<Items<Join>, AllocError> {
+fn told(alloc: Global, joins: &[Option<Origin>]) -> Result<Items<Join>, AllocError>
+    ensures { IfOk result (λ ts. ts ≡ joins_told joins.now) }
+{
     let mut told = Vec::new(alloc);
     for join in joins {
         if let Some(origin) = join {

@@ -47,7 +47,8 @@ impl Elaborated {
     ) -> Elaborated
         requires counted { count ≡ nodes (global_of global) }
         requires sound { IsTrue (is_sound roles (global_of global)) }
-        ensures { meaning_of result ≡ record { roles = roles; global = global_of global } }
+        ensures meaning { meaning_of result ≡ record { roles = roles; global = global_of global } }
+        ensures joins { joins_of result ≡ joins }
     {
         Elaborated {
             roles,

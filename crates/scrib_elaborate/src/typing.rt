@@ -3,7 +3,6 @@
 ghost use Rattle.std.specs.Prelude.{◌≡◌, ℕ, Bool, List, ◌∷◌, map, slice_get, Some, IfOk, IfErr, IfSome, MatchResult, reverse};
 ghost use Rattle.scrib_types.specs.declared.spot.Spot.{Spot};
 ghost use Rattle.scrib_types.specs.GlobalView.{global_of};
-ghost use Rattle.scrib_types.specs.Trees.{GlobalEnd};
 ghost use Rattle.scrib_types.specs.WellFormed.{leads_to_communication};
 ghost use Rattle.scrib_parser.specs.declared.tree.ModuleTree.{ModuleTree};
 ghost use Rattle.scrib_elaborate.specs.declared.tasks.Task.TheVariants.{Front, Join, Close};
@@ -12,11 +11,11 @@ ghost use Rattle.scrib_elaborate.specs.Source.{Sends, Chooses, Repeats, Continue
 ghost use Rattle.scrib_elaborate.specs.SourceView.{step_of, body_of};
 ghost use Rattle.scrib_elaborate.specs.Names.{Declaration, declarations, called};
 ghost use Rattle.scrib_elaborate.specs.Statements.{KeepsRules};
-ghost use Rattle.scrib_elaborate.specs.Elaboration.{role_in, sent, Types, start_of};
+ghost use Rattle.scrib_elaborate.specs.Elaboration.{role_in, sent, start_of};
 ghost use Rattle.scrib_elaborate.specs.Table.{shown, declaration_of};
 ghost use Rattle.scrib_elaborate.specs.Shape.{IsShapeOf};
 ghost use Rattle.scrib_elaborate.specs.Standing.{scope_of};
-ghost use Rattle.scrib_elaborate.specs.Typing.{type_of, IsBefore, IsState, IsTable, IsVariable, TypingFails, StopsAhead};
+ghost use Rattle.scrib_elaborate.specs.Typing.{type_of, made_of, nothing_made, none_told, Makes, PassesOn, IsBefore, IsState, IsTable, IsVariable, TypingFails, StopsAhead};
 
 use crate::built::{Origin, Typed};
 use crate::choices::{choose, join};
@@ -46,7 +45,8 @@ fn send<'a>(
     to: &'a [Role],
     typed: Typed<'a>,
 ) -> Result<Typed<'a>, AllocError>
-    ensures { IfOk result (λ t. type_of t ≡ sent message.now (role_in (scope_of standing.now) from.now) (map (role_in (scope_of standing.now)) to.now) (type_of typed.entry)) }
+    ensures global { IfOk result (λ t. type_of t ≡ sent message.now (role_in (scope_of standing.now) from.now) (map (role_in (scope_of standing.now)) to.now) (type_of typed.entry)) }
+    ensures joins { IfOk result (λ t. t.joins.items ≡ none_told (map (role_in (scope_of standing.now)) to.now) typed.entry.joins.items) }
 {
     let sender = standing.role(from);
     let receivers = standing.roles(alloc, to)?;
@@ -64,8 +64,8 @@ fn repeat<'a>(
     typed: Typed<'a>,
 ) -> Result<Typed<'a>, Refused>
     ensures { (modules : List ModuleTree) (root : Declaration)
-        → IsBefore modules root (reverse tasks.old.items) (scope_of standing.entry) standing.entry.depth (Repeats name.now (body_of body.now) spot) (type_of typed.entry)
-        → IfOk result (λ t. IsState modules root (reverse tasks.new.items) (type_of t)) }
+        → IsBefore modules root (reverse tasks.old.items) (scope_of standing.entry) standing.entry.depth (Repeats name.now (body_of body.now) spot) (made_of typed.entry)
+        → IfOk result (λ t. IsState modules root (reverse tasks.new.items) (made_of t)) }
 {
     if continues_in(name, body) {
         let inside = standing.inside(alloc, name)?;
@@ -89,10 +89,11 @@ fn call<'a>(
     typed: Typed<'a>,
 ) -> Result<Typed<'a>, Refused>
     ensures { (modules : List ModuleTree) (root : Declaration) (path : List (List ℕ)) (spot : Spot)
+        → shown table.now ≡ declarations modules
         → called modules standing.now.within.home.now path ≡ Some (declaration_of callee.entry.declared)
         → IsShapeOf modules (declaration_of callee.entry.declared) callee.entry.shape
-        → IsBefore modules root (reverse tasks.old.items) (scope_of standing.now) standing.now.depth (Calls path roles.now spot) (type_of typed.entry)
-        → IfOk result (λ t. IsState modules root (reverse tasks.new.items) (type_of t)) }
+        → IsBefore modules root (reverse tasks.old.items) (scope_of standing.now) standing.now.depth (Calls path roles.now spot) (made_of typed.entry)
+        → IfOk result (λ t. IsState modules root (reverse tasks.new.items) (made_of t)) }
 {
     let Callee {
         declared,
@@ -110,7 +111,7 @@ fn call<'a>(
 // What follows a call that adds nothing to its type. Where the called protocol joins, its first choice is the
 // outermost one that the communication in front comes from.
 fn passed<'a>(table: &'a [Declared<'a>], shape: Shape, typed: Typed<'a>) -> Typed<'a>
-    ensures { type_of result ≡ type_of typed.entry }
+    ensures { PassesOn table.now shape (made_of typed.entry) (made_of result) }
 {
     if let Shape::Joining { at, spot, .. } = shape {
         // The first pass found the choice there.
@@ -130,8 +131,8 @@ fn close<'a>(
     typed: Typed<'a>,
 ) -> Result<Typed<'a>, Untyped<'a>>
     ensures { (modules : List ModuleTree) (root : Declaration) (tasks : List Task)
-        → IsState modules root (Close home.entry spot ∷ tasks) (type_of typed.entry)
-        → MatchResult result (λ t. IsState modules root tasks (type_of t)) (TypingFails modules root) }
+        → IsState modules root (Close home.entry spot ∷ tasks) (made_of typed.entry)
+        → MatchResult result (λ t. IsState modules root tasks (made_of t)) (TypingFails modules root) }
 {
     if !leads_to_communication(&typed.global) {
         let kind = FaultKind::Unguarded;
@@ -165,8 +166,8 @@ fn put<'a>(
 ) -> Result<Typed<'a>, Untyped<'a>>
     requires { IsTable program.now }
     ensures { (root : Declaration)
-        → IsBefore program.now.modules.now root (reverse tasks.old.items) (scope_of standing.entry) standing.entry.depth (step_of statement.now) (type_of typed.entry)
-        → MatchResult result (λ t. IsState program.now.modules.now root (reverse tasks.new.items) (type_of t)) (StopsAhead program.now.modules.now root tasks.new.items) }
+        → IsBefore program.now.modules.now root (reverse tasks.old.items) (scope_of standing.entry) standing.entry.depth (step_of statement.now) (made_of typed.entry)
+        → MatchResult result (λ t. IsState program.now.modules.now root (reverse tasks.new.items) (made_of t)) (StopsAhead program.now.modules.now root tasks.new.items) }
 {
     match statement {
         Statement::Message {
@@ -217,7 +218,7 @@ fn put<'a>(
 
 // The variable of the recursion of this name.
 fn again<'a>(alloc: Global, standing: &Standing<'a>, name: &Name) -> Result<Typed<'a>, Untyped<'a>>
-    ensures { MatchResult result (λ t. IsVariable (scope_of standing.now) standing.now.depth name.now (type_of t)) (λ e. e ≡ OutOfMemory) }
+    ensures { MatchResult result (λ t. IsVariable (scope_of standing.now) standing.now.depth name.now (made_of t)) (λ e. e ≡ OutOfMemory) }
 {
     // The first pass found it, and it stands round the statement.
     let Some(level) = standing.level_of(name) else {
@@ -259,8 +260,8 @@ fn front<'a>(
 ) -> Result<Typed<'a>, Untyped<'a>>
     requires { IsTable program.now }
     ensures { (root : Declaration) (e : Bool) → KeepsRules program.now.modules.now root e
-        → IsState program.now.modules.now root (Front standing.entry statements.entry ∷ reverse tasks.old.items) (type_of typed.entry)
-        → MatchResult result (λ t. IsState program.now.modules.now root (reverse tasks.new.items) (type_of t)) (StopsAhead program.now.modules.now root tasks.new.items) }
+        → IsState program.now.modules.now root (Front standing.entry statements.entry ∷ reverse tasks.old.items) (made_of typed.entry)
+        → MatchResult result (λ t. IsState program.now.modules.now root (reverse tasks.new.items) (made_of t)) (StopsAhead program.now.modules.now root tasks.new.items) }
 {
     let Some((last, rest)) = statements.split_last() else {
         return Ok(typed);
@@ -280,8 +281,8 @@ fn step<'a>(
 ) -> Result<Typed<'a>, Untyped<'a>>
     requires { IsTable program.now }
     ensures { (root : Declaration) (e : Bool) → KeepsRules program.now.modules.now root e
-        → IsState program.now.modules.now root (task.entry ∷ reverse tasks.old.items) (type_of typed.entry)
-        → MatchResult result (λ t. IsState program.now.modules.now root (reverse tasks.new.items) (type_of t)) (StopsAhead program.now.modules.now root tasks.new.items) }
+        → IsState program.now.modules.now root (task.entry ∷ reverse tasks.old.items) (made_of typed.entry)
+        → MatchResult result (λ t. IsState program.now.modules.now root (reverse tasks.new.items) (made_of t)) (StopsAhead program.now.modules.now root tasks.new.items) }
 {
     match task {
         Task::Front(standing, statements) => {
@@ -307,8 +308,8 @@ pub fn run<'a>(
 ) -> Result<Option<Typed<'a>>, Untyped<'a>>
     requires { IsTable program.now }
     ensures { (root : Declaration) (e : Bool) → KeepsRules program.now.modules.now root e
-        → IsState program.now.modules.now root (reverse tasks.old.items) GlobalEnd
-        → MatchResult result (λ o. IfSome o (λ t. Types program.now.modules.now 0 (start_of root) (type_of t))) (StopsAhead program.now.modules.now root tasks.new.items) }
+        → IsState program.now.modules.now root (reverse tasks.old.items) nothing_made
+        → MatchResult result (λ o. IfSome o (λ t. Makes program.now.modules.now 0 (start_of root) (made_of t))) (StopsAhead program.now.modules.now root tasks.new.items) }
 {
     let mut typed = Typed::end(alloc);
     // Memory ends long before this many tasks.
@@ -334,7 +335,7 @@ pub fn run<'a>(
 pub fn type_of_root<'a>(alloc: Global, program: &Program<'a>) -> Result<Typed<'a>, Untyped<'a>>
     requires table { IsTable program.now }
     requires kept { (e : Bool) × KeepsRules program.now.modules.now (declaration_of program.now.root) e }
-    ensures ok { IfOk result (λ t. Types program.now.modules.now 0 (start_of (declaration_of program.now.root)) (type_of t)) }
+    ensures ok { IfOk result (λ t. Makes program.now.modules.now 0 (start_of (declaration_of program.now.root)) (made_of t)) }
     ensures fault { IfErr result (TypingFails program.now.modules.now (declaration_of program.now.root)) }
 {
     let standing = Standing::start(alloc, program.root)?;

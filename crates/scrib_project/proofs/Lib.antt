@@ -1,3 +1,5 @@
 pub mod Projections
 pub mod Protocols
 pub mod Undefined
+pub mod Located
+pub mod Placing

@@ -1,18 +1,22 @@
 -- What the answers of projection say.
-use Rattle.std.specs.Prelude.{◌≡◌, ℕ, List, [], ◌∷◌, slice_get, Option, Some, None, is_some, Result, Ok, Err, if◌then◌else◌}
+use Rattle.std.specs.Prelude.{◌≡◌, ◌≢◌, ℕ, true, List, [], ◌∷◌, slice_get, Option, Some, None, is_some, Result, Ok, Err, if◌then◌else◌}
 use Rattle.scrib_types.specs.declared.local.Local.{Local}
 use Rattle.scrib_types.specs.declared.protocol.Protocol.{Protocol}
 use Rattle.scrib_types.specs.Agreement.{Agreement}
 use Rattle.scrib_types.specs.Meaning.{agreement_of}
-use Rattle.scrib_types.specs.Trees.{GlobalTree}
+use Rattle.scrib_types.specs.Trees.{GlobalTree, Comm, GlobalBranches}
 use Rattle.scrib_types.specs.LocalView.{local_of}
-use Rattle.scrib_types.specs.Projection.{projection}
+use Rattle.scrib_types.specs.Projection.{projection, branch_projections}
+use Rattle.scrib_parser.specs.declared.tree.ModuleTree.{ModuleTree}
 use Rattle.scrib_elaborate.specs.declared.elaborated.Join.{Join}
+use Rattle.scrib_elaborate.specs.Names.{Declaration, find_protocol}
+use Rattle.scrib_elaborate.specs.Elaboration.{start_of}
+use Rattle.scrib_elaborate.specs.Sites.{several, IsSite}
 use Rattle.scrib_project.specs.declared.projected.ProjectedProtocol.{ProjectedProtocol}
 use Rattle.scrib_project.specs.declared.fault.Unmergeable.{Unmergeable}
 use Rattle.scrib_project.specs.declared.fault.ProjectFault.{ProjectFault}
 use Rattle.scrib_project.specs.declared.fault.ProjectFault.TheVariants as fault
-use Rattle.scrib_local.specs.Differences.{first_difference}
+use Rattle.scrib_local.specs.Differences.{first_difference, differ}
 
 -- there is no projection on the role, and some choice differs for it
 pub record IsUnmergeable (g : GlobalTree) (r : List ℕ) (u : Unmergeable) : Type 0 where
@@ -33,9 +37,32 @@ Projects g r (Err (fault.Unmergeable u)) = IsUnmergeable g r u
 Projects g r (Err fault.OutOfMemory) = Unit {0}
 
 -- so it is of the place
-abbrev pub IsPlaced : List Join → GlobalTree → ProjectFault → Type 0
-IsPlaced joins g (fault.Unmergeable u) = IsAtJoin joins g u
-IsPlaced joins g fault.OutOfMemory = Unit {0}
+abbrev pub IsOfJoin : List Join → GlobalTree → ProjectFault → Type 0
+IsOfJoin joins g (fault.Unmergeable u) = IsAtJoin joins g u
+IsOfJoin joins g fault.OutOfMemory = Unit {0}
+
+-- At the place stands a choice that the type of the protocol of this name, in the module of this name, is made of.
+-- Its own type is the communication of the first difference: one of two other roles, whose branches all have a
+-- projection on the role, of which two differ.
+pub record IsPlaced (modules : List ModuleTree) (home : List (List ℕ)) (name : List ℕ) (g : GlobalTree) (u : Unmergeable) : Type 0 where
+  pub root : Declaration
+  pub there : find_protocol modules home name ≡ Some root
+  pub first : ℕ
+  pub differs : first_difference u.role g ≡ Some first
+  pub depth : ℕ
+  pub sender : List ℕ
+  pub receiver : List ℕ
+  pub branches : GlobalBranches
+  pub is : slice_get (several g) first ≡ Some (depth, Comm sender receiver branches)
+  pub site : IsSite modules 0 (start_of root) u.module u.spot depth (Comm sender receiver branches)
+  pub not_sender : u.role ≢ sender
+  pub not_receiver : u.role ≢ receiver
+  pub apart : differ (branch_projections u.role branches) ≡ true
+
+-- the same of a fault, unless memory was refused
+abbrev pub IsFaultPlaced : List ModuleTree → (home : List (List ℕ)) (name : List ℕ) → GlobalTree → ProjectFault → Type 0
+IsFaultPlaced modules home name g (fault.Unmergeable u) = IsPlaced modules home name g u
+IsFaultPlaced modules home name g fault.OutOfMemory = Unit {0}
 
 -- the first of these roles that has no projection
 abbrev pub first_without : GlobalTree → List (List ℕ) → Option (List ℕ)

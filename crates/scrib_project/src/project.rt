@@ -1,10 +1,12 @@
 //! The projection of an elaborated protocol.
 
-ghost use Rattle.std.specs.Prelude.{◌≡◌, ℕ, Option, slice_get, IfOk, IfErr, option_map, option_and_then};
+ghost use Rattle.std.specs.Prelude.{◌≡◌, ℕ, List, Option, slice_get, IfOk, IfErr, option_map, option_and_then};
 ghost use Rattle.std.specs.Option.{option_copied};
-ghost use Rattle.scrib_elaborate.specs.Meaning.{meaning_of, joins_of};
+ghost use Rattle.scrib_parser.specs.declared.tree.ModuleTree.{ModuleTree};
+ghost use Rattle.scrib_elaborate.specs.Meaning.{meaning_of};
+ghost use Rattle.scrib_elaborate.specs.Sites.{AreSites};
 ghost use Rattle.scrib_local.specs.Surveys.{capped};
-ghost use Rattle.scrib_project.specs.Faults.{Projects, IsPlaced, IsFaultOf};
+ghost use Rattle.scrib_project.specs.Faults.{Projects, IsOfJoin, IsFaultPlaced, IsFaultOf};
 
 use crate::fault::{ProjectFault, Unmergeable};
 use scrib_elaborate::elaborated::{Elaborated, Join};
@@ -21,7 +23,9 @@ use std::alloc::{AllocError, Global};
 /// that is visited and whose branches differ for the role; `OutOfMemory` where memory was refused.
 pub fn project(alloc: Global, elaborated: &Elaborated, role: &Role) -> Result<Local, ProjectFault>
     ensures value { Projects (meaning_of elaborated.now).global role.now result }
-    ensures place { IfErr result (IsPlaced (joins_of elaborated.now) (meaning_of elaborated.now).global) }
+    ensures place { (modules : List ModuleTree) (home : List (List ℕ)) (name : List ℕ)
+        → AreSites modules home name elaborated.now
+        → IfErr result (IsFaultPlaced modules home name (meaning_of elaborated.now).global) }
 {
     project_among(alloc, elaborated, elaborated.joins(), role)
 }
@@ -34,7 +38,7 @@ fn project_among(
     role: &Role,
 ) -> Result<Local, ProjectFault>
     ensures value { Projects (meaning_of elaborated.now).global role.now result }
-    ensures place { IfErr result (IsPlaced joins.now (meaning_of elaborated.now).global) }
+    ensures place { IfErr result (IsOfJoin joins.now (meaning_of elaborated.now).global) }
 {
     let sight = look(alloc, elaborated.global(), role)?;
     match sight.local {

@@ -1,8 +1,10 @@
 //! Protocols from what is elaborated.
 
-ghost use Rattle.std.specs.Prelude.{IfErr};
-ghost use Rattle.scrib_elaborate.specs.Meaning.{meaning_of, joins_of};
-ghost use Rattle.scrib_project.specs.Faults.{Agrees, AgreesWithProjections, IsPlaced};
+ghost use Rattle.std.specs.Prelude.{ℕ, List, IfErr};
+ghost use Rattle.scrib_parser.specs.declared.tree.ModuleTree.{ModuleTree};
+ghost use Rattle.scrib_elaborate.specs.Meaning.{meaning_of};
+ghost use Rattle.scrib_elaborate.specs.Sites.{AreSites};
+ghost use Rattle.scrib_project.specs.Faults.{Agrees, AgreesWithProjections, IsFaultPlaced};
 
 use crate::fault::ProjectFault;
 use crate::project::project;
@@ -20,7 +22,9 @@ use std::alloc::Global;
 /// tells for it; `OutOfMemory` where memory was refused.
 pub fn protocol(alloc: Global, elaborated: Elaborated) -> Result<Protocol, ProjectFault>
     ensures value { Agrees (meaning_of elaborated) result }
-    ensures place { IfErr result (IsPlaced (joins_of elaborated) (meaning_of elaborated).global) }
+    ensures place { (modules : List ModuleTree) (home : List (List ℕ)) (name : List ℕ)
+        → AreSites modules home name elaborated
+        → IfErr result (IsFaultPlaced modules home name (meaning_of elaborated).global) }
 {
     let projected = protocol_with_projections(alloc, elaborated)?;
     let ProjectedProtocol { protocol, .. } = projected;
@@ -36,7 +40,9 @@ pub fn protocol_with_projections(
     elaborated: Elaborated,
 ) -> Result<ProjectedProtocol, ProjectFault>
     ensures value { AgreesWithProjections (meaning_of elaborated) result }
-    ensures place { IfErr result (IsPlaced (joins_of elaborated) (meaning_of elaborated).global) }
+    ensures place { (modules : List ModuleTree) (home : List (List ℕ)) (name : List ℕ)
+        → AreSites modules home name elaborated
+        → IfErr result (IsFaultPlaced modules home name (meaning_of elaborated).global) }
 {
     let mut locals = Vec::with_capacity(alloc, elaborated.roles().len())?;
     for role in elaborated.roles() {

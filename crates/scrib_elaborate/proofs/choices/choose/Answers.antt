@@ -6,7 +6,7 @@ use Rattle.scrib_elaborate.specs.Source.{Then, Chooses}
 use Rattle.scrib_elaborate.specs.SourceView.{blocks_of}
 use Rattle.scrib_elaborate.specs.Elaboration.{Under}
 use Rattle.scrib_elaborate.specs.Standing.{scope_of}
-use Rattle.scrib_elaborate.specs.Typing.{type_of, StopsAhead}
+use Rattle.scrib_elaborate.specs.Typing.{made_of, StopsAhead}
 use Rattle.scrib_elaborate.proofs.Steps.{pushed_twice}
 use Rattle.scrib_elaborate.proofs.Ahead.{stack_ahead}
 use Rattle.scrib_elaborate.proofs.Joined.{choosing_begins, no_block, next_block, no_item, first_item}
@@ -16,7 +16,7 @@ pub returns-in_default : goal.returns-in_default
 returns-in_default c = λ modules root b.
     let old = c.args.tasks.now.items in
     let standing = c.args.standing in
-    let fails = no_block modules root (reverse c.args.tasks.now.items) c.args.standing c.args.chooser.now c.args.branches.now c.args.spot (type_of c.args.typed) (no_item c.args.branches.now c.in_default.ensures.value) b in
+    let fails = no_block modules root (reverse c.args.tasks.now.items) c.args.standing c.args.chooser.now c.args.branches.now c.args.spot (made_of c.args.typed) (no_item c.args.branches.now c.in_default.ensures.value) b in
     let ahead = stack_ahead modules root old standing.depth (Under (scope_of standing) (Then (Chooses c.args.chooser.now (blocks_of c.args.branches.now) c.args.spot) b.rest) b.outer) b.path in
     subst (λ e. StopsAhead modules root old e) (sym c.broken.ensures) (fails, ahead)
 
@@ -33,7 +33,7 @@ returns c = λ modules root b.
       follows = c.in_ok-begun.follows;
       types = c.new.result;
     } in
-    let g = type_of c.in_ok-begun.begun in
+    let g = made_of c.in_ok-begun.begun in
     let there = first_item c.args.branches.now c.new.result.items c.in-Some.first.now c.new.ensures.items (sym c.in-Some.ensures.value) in
     let count : length c.new.result.items + 1 + left ≡ length c.args.branches.now = omega (arith, ap length c.new.ensures.items, slice_get_within c.args.branches.now (length c.new.result.items) c.in-Some.first.now there) in
     pushed_twice modules root old c.push.new.self.items c.push-2.new.self.items (Join choosing) (Front c.in_ok-inner.inner c.as_slice.result) g g c.in_ok-push.ensures.items c.in_ok-push-2.ensures.items refl (next_block modules root (reverse old) choosing c.in_ok-inner.inner c.as_slice.result c.in-Some.first.now c.args.typed left g there count c.in_ok-inner.ensures c.as_slice.ensures c.in_ok-begun.ensures.next c.in_ok-begun.ensures.others (choosing_begins modules root (reverse old) (scope_of standing) standing.depth c.args.chooser.now c.args.branches.now c.args.spot c.args.typed c.new.result.items c.new.ensures.items b))

@@ -10,7 +10,7 @@ use Rattle.scrib_elaborate.specs.Source.{Then, Chooses}
 use Rattle.scrib_elaborate.specs.SourceView.{blocks_of}
 use Rattle.scrib_elaborate.specs.Elaboration.{Under}
 use Rattle.scrib_elaborate.specs.Standing.{scope_of}
-use Rattle.scrib_elaborate.specs.Typing.{type_of, IsChoosing}
+use Rattle.scrib_elaborate.specs.Typing.{made_of, IsChoosing}
 use Rattle.scrib_elaborate.proofs.Steps.{pushed_twice}
 use Rattle.scrib_elaborate.proofs.Ahead.{stack_ahead, stops_ahead}
 use Rattle.scrib_elaborate.proofs.Joined.{block_typed, next_block, none_left, one_left}
@@ -37,7 +37,7 @@ returns-in_default c = λ modules root s.
 
 pub returns : goal.returns
 returns c = λ modules root s.
-    let g = type_of c.in_ok-begun.begun in
+    let g = made_of c.in_ok-begun.begun in
     let old = c.args.tasks.now.items in
     let choosing = c.args.choosing in
     let branches = choosing.branches.now in

@@ -1,4 +1,4 @@
-use Rattle.std.proofs.Common.{◌≡◌, length, sym, ap, ◌∙◌, subst}
+use Rattle.std.proofs.Common.{◌≡◌, refl, arith, length, sym, ap, ◌∙◌, subst}
 use Rattle.std.specs.Iterator.Adapters.{zip_first, zip_second}
 use Rattle.std.specs.Slice.Iter.{iter_rest}
 use Rattle.std.specs.Vec.Iter.{into_iter_items}
@@ -10,8 +10,11 @@ use Rattle.scrib_elaborate.specs.SourceView.{blocks_of}
 use Rattle.scrib_elaborate.specs.Elaboration.{role_in, Under}
 use Rattle.scrib_elaborate.specs.Standing.{scope_of}
 use Rattle.scrib_elaborate.specs.Typing.{TypingFails}
-use Rattle.scrib_elaborate.proofs.Joined.{AreJoined, next_joined, next_fails, joined_put, joined_none}
+use Rattle.scrib_elaborate.proofs.Joined.{IsOwnOrigin, AreJoined, next_joined, next_marked, next_fails, joined_put, joined_none}
+use Rattle.scrib_elaborate.specs.Sites.{has_several}
+use Rattle.scrib_elaborate.proofs.Branches.{several_many, several_few}
 use Rattle.scrib_elaborate.proofs.Zipped.{zip_turn, zip_end}
+use Rattle.scrib_elaborate.proofs.choices.joined.Goals.{then-several, else-several}
 use Rattle.scrib_elaborate.proofs.choices.joined.Goals as goal
 
 pub returns-in_err-add : goal.returns-in_err-add
@@ -23,7 +26,7 @@ returns-in_err-add c = λ modules root tasks follows x long.
     let first : iter_rest (zip_first begun) ≡ c.args.blocks.now = ap (λ z. iter_rest (zip_first z)) same ∙ ap iter_rest c.zip-block-items.ensures.first ∙ c.iter.ensures.rest in
     let second : into_iter_items (zip_second begun) ≡ c.args.types.items = ap (λ z. into_iter_items (zip_second z)) same ∙ c.zip-block-items.ensures.second.0 in
     let at = zip_turn c.args.blocks.now c.args.types.items c.loop-block.yielded begun c.loop-block.block-iterator c.next.new.self c.next.result (c.in-Some.block, c.in-Some.typed) first second c.loop-block.yielded_by c.in-Some.is c.next.ensures.steps in
-    rw (p.1, p.2) (next_fails modules root tasks (scope_of standing) standing.depth c.args.given.now c.args.blocks.now (length c.loop-block.yielded) c.in-Some.block.now c.args.spot follows c.args.types.items c.in-Some.typed c.role-chooser.result.now c.loop-block.so_far.receiver (global_branches c.loop-block.so_far.branches) x at.0 at.1 c.role-chooser.ensures (c.loop-block.invariant modules root tasks follows x) c.in_err-add.field-0.0 c.in_err-add.ensures.fault)
+    rw (p.1, p.2) (next_fails modules root tasks (scope_of standing) standing.depth c.args.given.now c.args.blocks.now (length c.loop-block.yielded) c.in-Some.block.now c.args.spot follows c.args.types.items c.in-Some.typed c.role-chooser.result.now c.loop-block.so_far.receiver (global_branches c.loop-block.so_far.branches) x at.0 at.1 c.role-chooser.ensures (c.loop-block.invariant modules root tasks follows x).0 c.in_err-add.field-0.0 c.in_err-add.ensures.fault)
 
 pub loop-block-preserved : goal.loop-block-preserved
 loop-block-preserved c = λ modules root tasks follows x.
@@ -33,7 +36,8 @@ loop-block-preserved c = λ modules root tasks follows x.
     let first : iter_rest (zip_first begun) ≡ c.args.blocks.now = ap (λ z. iter_rest (zip_first z)) same ∙ ap iter_rest c.zip-block-items.ensures.first ∙ c.iter.ensures.rest in
     let second : into_iter_items (zip_second begun) ≡ c.args.types.items = ap (λ z. into_iter_items (zip_second z)) same ∙ c.zip-block-items.ensures.second.0 in
     let at = zip_turn c.args.blocks.now c.args.types.items c.loop-block.yielded begun c.loop-block.block-iterator c.next.new.self c.next.result (c.in-Some.block, c.in-Some.typed) first second c.loop-block.yielded_by c.in-Some.is c.next.ensures.steps in
-    next_joined modules root tasks (scope_of standing) standing.depth c.args.given.now c.args.blocks.now (length c.loop-block.yielded) _ c.in-Some.block.now c.args.spot follows c.args.types.items c.in-Some.typed c.role-chooser.result.now c.loop-block.so_far.receiver c.add.new.so_far.receiver (global_branches c.loop-block.so_far.branches) (global_branches c.add.new.so_far.branches) x (length_push c.loop-block.yielded (c.in-Some.block, c.in-Some.typed)) at.0 at.1 c.role-chooser.ensures (c.loop-block.invariant modules root tasks follows x) c.in_ok-add.ensures.ok
+    let before = c.loop-block.invariant modules root tasks follows x in
+    (next_joined modules root tasks (scope_of standing) standing.depth c.args.given.now c.args.blocks.now (length c.loop-block.yielded) _ c.in-Some.block.now c.args.spot follows c.args.types.items c.in-Some.typed c.role-chooser.result.now c.loop-block.so_far.receiver c.add.new.so_far.receiver (global_branches c.loop-block.so_far.branches) (global_branches c.add.new.so_far.branches) x (length_push c.loop-block.yielded (c.in-Some.block, c.in-Some.typed)) at.0 at.1 c.role-chooser.ensures before.0 c.in_ok-add.ensures.ok, next_marked modules root tasks (scope_of standing) standing.depth c.args.given.now c.args.blocks.now (length c.loop-block.yielded) c.in-Some.block.now c.args.spot follows c.args.types.items c.in-Some.typed c.role-chooser.result.now c.loop-block.so_far.receiver c.add.new.so_far.receiver (global_branches c.loop-block.so_far.branches) (global_branches c.add.new.so_far.branches) c.loop-block.so_far.joins.items c.add.new.so_far.joins.items x at.0 at.1 c.in_ok-add.ensures.ok c.in_ok-add.ensures.joins before.1)
 
 pub returns-in_default : goal.returns-in_default
 returns-in_default c = λ modules root tasks follows x long.
@@ -45,7 +49,7 @@ returns-in_default c = λ modules root tasks follows x long.
     let second : into_iter_items (zip_second begun) ≡ c.args.types.items = ap (λ z. into_iter_items (zip_second z)) same ∙ c.zip-block-items.ensures.second.0 in
     let ended = zip_end c.args.blocks.now c.args.types.items c.loop-block.yielded begun c.loop-block.block-iterator c.next.new.self c.next.result first second c.loop-block.yielded_by c.in-None.is c.next.ensures.steps long in
     let all = ap blocks_of (take_all (length c.loop-block.yielded) c.args.blocks.now ended) in
-    let a = subst (λ bs. AreJoined modules standing.depth sc (Under sc x.rest x.outer) (role_in sc c.args.given.now) bs c.loop-block.so_far.receiver (global_branches c.loop-block.so_far.branches)) all (c.loop-block.invariant modules root tasks follows x) in
+    let a = subst (λ bs. AreJoined modules standing.depth sc (Under sc x.rest x.outer) (role_in sc c.args.given.now) bs c.loop-block.so_far.receiver (global_branches c.loop-block.so_far.branches)) all (c.loop-block.invariant modules root tasks follows x).0 in
     subst (λ e. TypingFails modules root e) (sym c.broken.ensures) (joined_none modules root tasks sc standing.depth c.args.given.now c.args.blocks.now c.args.spot follows c.args.types.items c.loop-block.so_far.receiver (global_branches c.loop-block.so_far.branches) x a c.in_default.is)
 
 pub returns : goal.returns
@@ -59,5 +63,10 @@ returns c = λ modules root tasks follows x long.
     let ended = zip_end c.args.blocks.now c.args.types.items c.loop-block.yielded begun c.loop-block.block-iterator c.next.new.self c.next.result first second c.loop-block.yielded_by c.in-None.is c.next.ensures.steps long in
     let all = ap blocks_of (take_all (length c.loop-block.yielded) c.args.blocks.now ended) in
     let cs = global_branches c.loop-block.so_far.branches in
-    let a = subst (λ bs. AreJoined modules standing.depth sc (Under sc x.rest x.outer) (role_in sc c.args.given.now) bs c.loop-block.so_far.receiver cs) all (c.loop-block.invariant modules root tasks follows x) in
-    joined_put modules root tasks sc standing.depth c.args.given.now c.args.blocks.now c.args.spot follows c.args.types.items c.loop-block.so_far.receiver cs c.in-Some-receiver.to _ x a c.in-Some-receiver.is (comm_of c.in_ok-from.from c.in-Some-receiver.to c.loop-block.so_far.branches ∙ ap (λ p. Comm p c.in-Some-receiver.to cs) (c.in_ok-from.ensures ∙ c.role-chooser.ensures))
+    let a = subst (λ bs. AreJoined modules standing.depth sc (Under sc x.rest x.outer) (role_in sc c.args.given.now) bs c.loop-block.so_far.receiver cs) all (c.loop-block.invariant modules root tasks follows x).0 in
+    let own : IsOwnOrigin standing.within.home c.args.spot (has_several cs) c.if-several.push =
+    elim c.if-several.branch [
+      | then-several w ↦ rw w.push-is (several_many c.loop-block.so_far.branches (omega (arith, c.len-several.ensures, w.if-several.true)), refl)
+      | else-several w ↦ rw w.push-is (several_few c.loop-block.so_far.branches (omega (arith, c.len-several.ensures, w.if-several.false)))
+    ] in
+    joined_put modules root tasks sc standing.depth c.args.given.now c.args.blocks.now c.args.spot follows c.args.types.items c.loop-block.so_far.receiver cs c.in-Some-receiver.to c.loop-block.so_far.joins.items c.if-several.push standing.within.home _ x a c.in-Some-receiver.is (comm_of c.in_ok-from.from c.in-Some-receiver.to c.loop-block.so_far.branches ∙ ap (λ p. Comm p c.in-Some-receiver.to cs) (c.in_ok-from.ensures ∙ c.role-chooser.ensures)) c.in_ok-push.ensures.items refl own (c.loop-block.invariant modules root tasks follows x).1

@@ -1,13 +1,16 @@
 use Rattle.std.proofs.Common.{List, length, take, Option}
+use Rattle.std.specs.List.{AllZip}
 use Rattle.scrib_types.specs.GlobalView.{global_branches}
 use Rattle.scrib_parser.specs.declared.tree.ModuleTree.{ModuleTree}
 use Rattle.scrib_elaborate.specs.declared.built.Typed.{Typed}
 use Rattle.scrib_elaborate.specs.declared.tasks.Task.{Task}
+use Rattle.scrib_elaborate.specs.Source.{Then, Chooses}
 use Rattle.scrib_elaborate.specs.SourceView.{blocks_of}
 use Rattle.scrib_elaborate.specs.Names.{Declaration}
 use Rattle.scrib_elaborate.specs.Elaboration.{role_in, Under}
+use Rattle.scrib_elaborate.specs.Sites.{branch_communications}
 use Rattle.scrib_elaborate.specs.Standing.{scope_of}
-use Rattle.scrib_elaborate.specs.Typing.{IsChoosing}
+use Rattle.scrib_elaborate.specs.Typing.{IsMarked, IsChoosing}
 use Rattle.scrib_elaborate.proofs.Joined.{AreJoined}
 use Rattle.scrib_elaborate.proofs.choices.joined.Given as goal
 
@@ -15,3 +18,4 @@ abbrev pub invariant-loop-block : goal.invariant-loop-block
 invariant-loop-block l =
     (modules : List ModuleTree) (root : Declaration) (tasks : List Task) (follows : Option Typed) (x : IsChoosing modules root tasks (scope_of l.standing) l.standing.depth l.given l.blocks l.spot follows l.fn.types.items)
     → AreJoined modules l.standing.depth (scope_of l.standing) (Under (scope_of l.standing) x.rest x.outer) (role_in (scope_of l.standing) l.given) (blocks_of (take (length l.yielded) l.blocks)) l.so_far.receiver (global_branches l.so_far.branches)
+    × AllZip (IsMarked modules l.standing.depth (Under (scope_of l.standing) (Then (Chooses l.given (blocks_of l.blocks) l.spot) x.rest) x.outer)) (branch_communications l.standing.depth (global_branches l.so_far.branches)) l.so_far.joins.items

@@ -1,25 +1,44 @@
 use Rattle.std.proofs.Common.{sym, ap, ◌∙◌, subst}
+use Rattle.std.specs.List.{AllZip}
+use Rattle.scrib_types.specs.Agreement.{Agreement}
 use Rattle.scrib_types.specs.GlobalView.{global_of}
 use Rattle.scrib_elaborate.specs.Names.{role_names}
 use Rattle.scrib_elaborate.specs.Elaboration.{Elaborates}
+use Rattle.scrib_elaborate.specs.Meaning.{joins_of}
+use Rattle.scrib_elaborate.specs.Sites.{communications, several, IsJoinOf}
+use Rattle.scrib_elaborate.specs.Typing.{joins_told}
 use Rattle.scrib_elaborate.specs.Table.{shown, declaration_of}
 use Rattle.scrib_elaborate.proofs.Accepted.{accepted_sound, size_is_nodes}
 use Rattle.scrib_elaborate.proofs.Finished.{elaborated}
+use Rattle.scrib_elaborate.proofs.Sited.{sites_told}
 use Rattle.scrib_elaborate.proofs.elaborate.finish.Goals as goal
 
 pub new-requires-clause-counted : goal.new-requires-clause-counted
 new-requires-clause-counted c =
     let program = c.args.program.now in
-    sym (size_is_nodes program.modules.now (declaration_of program.root) c.args.count (global_of c.in-Ok.typed.global) c.requires.ready.counted c.in-Ok.ensures.ok)
+    sym (size_is_nodes program.modules.now (declaration_of program.root) c.args.count (global_of c.in-Ok.typed.global) c.requires.ready.counted c.in-Ok.ensures.ok.typed)
 
 pub new-requires-clause-sound : goal.new-requires-clause-sound
 new-requires-clause-sound c =
     let program = c.args.program.now in
     let g = global_of c.in-Ok.typed.global in
-    accepted_sound program.modules.now c.args.module.now c.args.protocol.now (record { roles = c.in_ok-roles-in-Ok.roles; global = g }) (elaborated program.modules.now (shown program.declared.now) (declaration_of program.root) c.args.count c.args.module.now c.args.protocol.now c.in_ok-roles-in-Ok.roles g c.requires.ready (c.in_ok-roles-in-Ok.ensures ∙ ap role_names c.as_slice.ensures) c.in-Ok.ensures.ok)
+    accepted_sound program.modules.now c.args.module.now c.args.protocol.now (record { roles = c.in_ok-roles-in-Ok.roles; global = g }) (elaborated program.modules.now (shown program.declared.now) (declaration_of program.root) c.args.count c.args.module.now c.args.protocol.now c.in_ok-roles-in-Ok.roles g c.requires.ready (c.in_ok-roles-in-Ok.ensures ∙ ap role_names c.as_slice.ensures) c.in-Ok.ensures.ok.typed)
 
 pub returns-in_ok-joins-in-Ok-clause-ok : goal.returns-in_ok-joins-in-Ok-clause-ok
 returns-in_ok-joins-in-Ok-clause-ok c =
     let program = c.args.program.now in
     let g = global_of c.in-Ok.typed.global in
-    subst (λ a. Elaborates program.modules.now c.args.module.now c.args.protocol.now a) (sym c.new.ensures) (elaborated program.modules.now (shown program.declared.now) (declaration_of program.root) c.args.count c.args.module.now c.args.protocol.now c.in_ok-roles-in-Ok.roles g c.requires.ready (c.in_ok-roles-in-Ok.ensures ∙ ap role_names c.as_slice.ensures) c.in-Ok.ensures.ok)
+    subst (λ a. Elaborates program.modules.now c.args.module.now c.args.protocol.now a) (sym c.new.ensures.meaning) (elaborated program.modules.now (shown program.declared.now) (declaration_of program.root) c.args.count c.args.module.now c.args.protocol.now c.in_ok-roles-in-Ok.roles g c.requires.ready (c.in_ok-roles-in-Ok.ensures ∙ ap role_names c.as_slice.ensures) c.in-Ok.ensures.ok.typed)
+
+pub returns-in_ok-joins-in-Ok-clause-sites : goal.returns-in_ok-joins-in-Ok-clause-sites
+returns-in_ok-joins-in-Ok-clause-sites c =
+    let ms = c.args.program.now.modules.now in
+    let root = declaration_of c.args.program.now.root in
+    let g = global_of c.in-Ok.typed.global in
+    let sites = sites_told ms root (communications 0 g) c.in-Ok.typed.joins.items c.in-Ok.ensures.ok.marked in
+    let told = c.new.ensures.joins ∙ c.in_ok-joins-in-Ok.ensures ∙ ap joins_told c.deref.ensures.value in
+    record {
+      root = root;
+      there = c.requires.ready.there;
+      each = subst (λ (a : Agreement). AllZip (IsJoinOf ms root) (several a.global) (joins_of c.new.result)) (sym c.new.ensures.meaning) (subst (λ js. AllZip (IsJoinOf ms root) (several g) js) (sym told) sites);
+    }

@@ -9,7 +9,7 @@ use Rattle.scrib_elaborate.specs.Names.{role_names}
 use Rattle.scrib_elaborate.specs.Shape.{HasShape, place_of, joining_at, IsGiven}
 use Rattle.scrib_elaborate.specs.Table.{protocol_at, IsPartSomewhere}
 use Rattle.scrib_elaborate.proofs.Checks.{body_more}
-use Rattle.scrib_elaborate.proofs.Shaped.{step_shaping, end_shaping, rec_shapes, choice_shapes, message_shapes, continue_shapes, several_shapes, call_shapes, called_roles, own_choice, one_block}
+use Rattle.scrib_elaborate.proofs.Shaped.{step_shaping, end_shaping, rec_shapes, choice_shapes, message_shapes, continue_shapes, several_shapes, call_shapes, called_roles, own_place, one_block}
 use Rattle.scrib_elaborate.proofs.Somewhere.{first_somewhere, rest_somewhere, block_somewhere, choice_somewhere, rec_somewhere, step_stands}
 use Rattle.scrib_elaborate.proofs.shapes.+shapes.Goals as goal
 
@@ -67,10 +67,10 @@ shape_statement-returns-in_ok-inner-in-Choice g c =
     let same = ap step_of c.in-Choice.is ∙ choice_of c.in-Choice.at c.in-Choice.branches c.in-Choice.spot in
     let one = ap blocks_of (sym c.as_slice-branches.ensures) ∙ one_block c.as_slice-branches.result.now c.index-branches-0.result c.if-branches-ne1.false c.index-branches-0.is in
     let by = c.joining-outer.ensures ∙ ap (λ rs. joining_at (place_of c.in-Choice.at (role_names rs)) c.args.own c.in-Choice.spot) c.as_slice-declared.ensures in
-    let first = own_choice c.args.place.now c.args.own _ _ c.in-Choice.spot c.requires.known c.requires.own (step_stands d _ _ same c.requires.part) in
+    let first = own_place c.args.place.now c.args.own c.requires.known c.requires.own in
     let text = c.as_slice.ensures ∙ ap (λ (b : Block). b.body) (sym c.index-branches-0.is) in
     let inner = subst (λ b. HasShape c.args.place.now.modules.now d (body_of b) c.in_ok-inner-in-Choice.inner) text c.in_ok-inner-in-Choice.ensures in
-    choice_shapes _ d _ _ _ _ _ _ c.in-Choice.spot c.args.own c.joining-outer.result c.in_ok-inner-in-Choice.inner c.before-in-Choice.result same one by first inner c.before-in-Choice.ensures
+    choice_shapes _ d _ _ _ _ _ c.in-Choice.spot c.args.own c.joining-outer.result c.in_ok-inner-in-Choice.inner c.before-in-Choice.result same one by first inner c.before-in-Choice.ensures
 
 pub shape_statement-returns-in_ok-shape-in-Rec : goal.shape_statement-returns-in_ok-shape-in-Rec
 shape_statement-returns-in_ok-shape-in-Rec g c =

@@ -1,9 +1,10 @@
 use Rattle.std.proofs.Common.{reverse}
+use Rattle.std.proofs.lemmas.List.{nil_from_length}
 use Rattle.scrib_elaborate.specs.declared.tasks.Task.TheVariants.{Front}
 use Rattle.scrib_elaborate.specs.SourceView.{step_of}
 use Rattle.scrib_elaborate.specs.Standing.{scope_of}
-use Rattle.scrib_elaborate.specs.Typing.{type_of}
-use Rattle.scrib_elaborate.proofs.Steps.{front_step, pushed_before}
+use Rattle.scrib_elaborate.specs.Typing.{made_of}
+use Rattle.scrib_elaborate.proofs.Steps.{front_done, front_step, pushed_before}
 use Rattle.scrib_elaborate.proofs.typing.front.Goals as goal
 
 pub returns : goal.returns
@@ -12,6 +13,10 @@ returns c = λ root e kept s.
     let old = c.args.tasks.now.items in
     let standing = c.args.standing in
     let again = c.in_ok-again.again in
-    let g = type_of c.args.typed in
+    let g = made_of c.args.typed in
     let last = c.in-Some.last.now in
     c.put.ensures root (pushed_before ms root old c.push.new.self.items (Front again c.in-Some.rest) (scope_of standing) standing.depth (step_of last) g c.in_ok-push.ensures.items (front_step ms root (reverse old) standing again c.args.statements c.in-Some.rest last g e kept c.in-Some.ensures.cases.0 c.in_ok-again.ensures s))
+
+pub returns-in_default : goal.returns-in_default
+returns-in_default c = λ root e kept s.
+    front_done c.args.program.now.modules.now root (reverse c.args.tasks.now.items) c.args.standing c.args.statements (made_of c.args.typed) (nil_from_length c.args.statements.now c.in_default.ensures.cases) s

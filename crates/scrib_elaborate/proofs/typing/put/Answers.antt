@@ -4,7 +4,7 @@ use Rattle.scrib_elaborate.specs.Source.{Chooses, Repeats, Calls}
 use Rattle.scrib_elaborate.specs.SourceView.{step_of, body_of, blocks_of, message_of, choice_of, rec_of, continue_of, do_of}
 use Rattle.scrib_elaborate.specs.Elaboration.{role_in, sent}
 use Rattle.scrib_elaborate.specs.Standing.{scope_of}
-use Rattle.scrib_elaborate.specs.Typing.{type_of, IsBefore, StopsAhead}
+use Rattle.scrib_elaborate.specs.Typing.{made_of, none_told, IsBefore, StopsAhead}
 use Rattle.scrib_elaborate.proofs.Steps.{message_put, variable_put}
 use Rattle.scrib_elaborate.proofs.typing.put.Goals as goal
 
@@ -14,11 +14,11 @@ returns-in-Message c = λ root b.
     let ts = reverse c.args.tasks.now.items in
     let sc = scope_of c.args.standing in
     let n = c.args.standing.depth in
-    let g = type_of c.args.typed in
+    let g = made_of c.args.typed in
     let m = c.in-Message in
     let same = ap step_of m.is ∙ message_of m.message m.from m.to m.spot in
     let at = subst (λ s. IsBefore ms root ts sc n s g) same b in
-    message_put ms root ts sc n m.message m.from m.to m.spot g (type_of c.in_ok-sent-in-Message.sent) (c.in_ok-sent-in-Message.ensures ∙ ap (λ qs. sent m.message (role_in sc m.from) (map (role_in sc) qs) g) c.as_slice.ensures) at
+    message_put ms root ts sc n m.message m.from m.to m.spot g (made_of c.in_ok-sent-in-Message.sent) (c.in_ok-sent-in-Message.ensures.global ∙ ap (λ qs. sent m.message (role_in sc m.from) (map (role_in sc) qs) g.type) c.as_slice.ensures) (c.in_ok-sent-in-Message.ensures.joins ∙ ap (λ qs. none_told (map (role_in sc) qs) g.origins) c.as_slice.ensures) at
 
 pub returns-in-Choice : goal.returns-in-Choice
 returns-in-Choice c = λ root b.
@@ -26,7 +26,7 @@ returns-in-Choice c = λ root b.
     let ts = reverse c.args.tasks.now.items in
     let sc = scope_of c.args.standing in
     let n = c.args.standing.depth in
-    let g = type_of c.args.typed in
+    let g = made_of c.args.typed in
     let m = c.in-Choice in
     let same = ap step_of m.is ∙ choice_of m.at m.branches m.spot ∙ ap (λ bs. Chooses m.at (blocks_of bs) m.spot) (sym c.as_slice-in-Choice.ensures) in
     c.choose.ensures ms root (subst (λ s. IsBefore ms root ts sc n s g) same b)
@@ -37,7 +37,7 @@ returns-in-Rec c = λ root b.
     let ts = reverse c.args.tasks.now.items in
     let sc = scope_of c.args.standing in
     let n = c.args.standing.depth in
-    let g = type_of c.args.typed in
+    let g = made_of c.args.typed in
     let m = c.in-Rec in
     let same = ap step_of m.is ∙ rec_of m.name m.body m.spot ∙ ap (λ ss. Repeats m.name (body_of ss) m.spot) (sym c.as_slice-in-Rec.ensures) in
     c.in_ok-begun-in-Rec.ensures ms root (subst (λ s. IsBefore ms root ts sc n s g) same b)
@@ -48,11 +48,11 @@ returns-in-Continue c = λ root b.
     let ts = reverse c.args.tasks.now.items in
     let sc = scope_of c.args.standing in
     let n = c.args.standing.depth in
-    let g = type_of c.args.typed in
+    let g = made_of c.args.typed in
     let m = c.in-Continue in
     let same = ap step_of m.is ∙ continue_of m.name m.spot in
     let at = subst (λ s. IsBefore ms root ts sc n s g) same b in
-    MatchResult-weaker c.again.result c.again.ensures (λ t v. variable_put ms root ts sc n v.level v.index m.name m.spot g (type_of t) v.there v.deep v.is at) (λ e f. subst (λ x. StopsAhead ms root c.args.tasks.now.items x) (sym f) tt)
+    MatchResult-weaker c.again.result c.again.ensures (λ t v. variable_put ms root ts sc n v.level v.index m.name m.spot g (made_of t) v.there v.deep v.is v.alone at) (λ e f. subst (λ x. StopsAhead ms root c.args.tasks.now.items x) (sym f) tt)
 
 pub returns : goal.returns
 returns c = λ root b.
@@ -60,7 +60,7 @@ returns c = λ root b.
     let ts = reverse c.args.tasks.now.items in
     let sc = scope_of c.args.standing in
     let n = c.args.standing.depth in
-    let g = type_of c.args.typed in
+    let g = made_of c.args.typed in
     let m = c.in-Do in
     let same = ap step_of m.is ∙ do_of m.protocol m.roles m.spot ∙ ap (λ qs. Calls m.protocol qs m.spot) (sym c.as_slice-in-Do.ensures) in
-    c.in_ok-entered-in-Do.ensures ms root m.protocol m.spot c.in-Some.ensures.called c.in-Some.ensures.shape (subst (λ s. IsBefore ms root ts sc n s g) same b)
+    c.in_ok-entered-in-Do.ensures ms root m.protocol m.spot c.requires.all c.in-Some.ensures.called c.in-Some.ensures.shape (subst (λ s. IsBefore ms root ts sc n s g) same b)

@@ -1,19 +1,20 @@
 use Rattle.std.proofs.Common.{◌≡◌, [], length, reverse, sym, subst, arith}
 use Rattle.std.proofs.lemmas.List.{nil_from_length}
-use Rattle.scrib_elaborate.specs.Typing.{type_of, IsState}
+use Rattle.scrib_elaborate.specs.Typing.{made_of, nothing_made, IsState}
+use Rattle.scrib_elaborate.proofs.Sited.{made_is}
 use Rattle.scrib_elaborate.proofs.Steps.{popped, ended}
 use Rattle.scrib_elaborate.proofs.typing.run.Goals as goal
 
 pub loop-init : goal.loop-init
 loop-init c = λ root e kept s.
-    subst (λ g. IsState c.args.program.now.modules.now root (reverse c.args.tasks.now.items) g) (sym c.end-typed.ensures) s
+    subst (λ g. IsState c.args.program.now.modules.now root (reverse c.args.tasks.now.items) g) (sym (made_is (made_of c.end-typed.result) nothing_made c.end-typed.ensures.global c.end-typed.ensures.joins)) s
 
 pub loop-preserved : goal.loop-preserved
 loop-preserved c = λ root e kept s.
-    c.in_ok-typed.ensures root e kept (popped c.args.program.now.modules.now root c.loop.tasks.items c.pop.new.self.items c.in-Some.task (type_of c.loop.typed) c.in-Some.ensures.items (c.loop.invariant root e kept s))
+    c.in_ok-typed.ensures root e kept (popped c.args.program.now.modules.now root c.loop.tasks.items c.pop.new.self.items c.in-Some.task (made_of c.loop.typed) c.in-Some.ensures.items (c.loop.invariant root e kept s))
 
 pub returns-in_default : goal.returns-in_default
 returns-in_default c = λ root e kept s.
     let long : length c.loop.tasks.items ≡ 0 = omega (arith, c.in_default.ensures.cases, c.loop.tasks.ok.0) in
     let none : c.loop.tasks.items ≡ [] = nil_from_length c.loop.tasks.items long in
-    ended c.args.program.now.modules.now root c.loop.tasks.items (type_of c.loop.typed) none (c.loop.invariant root e kept s)
+    ended c.args.program.now.modules.now root c.loop.tasks.items (made_of c.loop.typed) none (c.loop.invariant root e kept s)

@@ -1,4 +1,4 @@
-use Rattle.std.proofs.Common.{◌<◌, sym, length, ⊎_elim, arith}
+use Rattle.std.proofs.Common.{sym, ⊎_elim, arith}
 use Rattle.std.proofs.lemmas.Option.{slice_get_within}
 use Rattle.scrib_elaborate.specs.declared.stop.State.TheVariants.{Unwalked}
 use Rattle.scrib_elaborate.proofs.Walks.{get_set}

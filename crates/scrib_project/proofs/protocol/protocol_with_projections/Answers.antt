@@ -1,5 +1,6 @@
 use Rattle.std.proofs.Common.{IsTrue, sym, ap, ◌∙◌, subst}
 use Rattle.std.proofs.lemmas.List.{drop_all}
+use Rattle.std.proofs.lemmas.Result.{err_from_is_err_and}
 use Rattle.scrib_types.specs.Agreement.{Agreement}
 use Rattle.scrib_types.specs.WellFormed.{is_protocol}
 use Rattle.scrib_elaborate.specs.Meaning.{meaning_of}
@@ -23,3 +24,8 @@ loop-role-preserved c =
       without = without_step g c.roles-role-items.result.now c.loop-role.role-index c.role-item.result (local_of c.in_ok-local.local) c.loop-role-test.true c.role-item.is c.in_ok-local.ensures.value ∙ c.loop-role.invariant.without;
       made = rw c.in_ok-push.ensures.items more;
     }
+
+pub returns-in_err-local-clause-place : goal.returns-in_err-local-clause-place
+returns-in_err-local-clause-place c = λ modules home name sites.
+    let p = err_from_is_err_and c.from_residual-in_err-local.result c.from_residual-in_err-local.ensures.1 in
+    rw (p.1, p.2) (c.in_err-local.ensures.place modules home name sites)
