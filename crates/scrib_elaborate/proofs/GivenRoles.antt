@@ -24,7 +24,7 @@ given_first r d ds g gs e = rw e refl
 given_later : (r d : List ℕ) (ds : List (List ℕ)) (g : List ℕ) (gs : List (List ℕ)) → bytes_eq r d ≡ false → given_for (d ∷ ds) (g ∷ gs) r ≡ given_for ds gs r
 given_later r d ds g gs e = rw e refl
 
-true_or_false : (t : Bool) → (t ≡ true) ⊎ (t ≡ false)
+pub true_or_false : (t : Bool) → (t ≡ true) ⊎ (t ≡ false)
 true_or_false true = inl refl
 true_or_false false = inr refl
 

@@ -25,8 +25,10 @@ mod Grown
 mod Somewhere
 mod Putting
 mod Zipped
-mod Sited
+pub mod Sited
 mod Begun
+pub mod Moved
+mod TypesKept
 mod Steps
 mod Joined
 mod Finished

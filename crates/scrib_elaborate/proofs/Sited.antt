@@ -27,7 +27,7 @@ zip_append R [] (j ∷ js) ys ks h k = absurd h
 zip_append R (x ∷ xs) [] ys ks h k = absurd h
 zip_append R (x ∷ xs) (j ∷ js) ys ks h k = (h.0, zip_append R xs js ys ks h.1 k)
 
-zip_map : {X Z Y : Type 0} (R : X → Y → Type 0) (S : Z → Y → Type 0) (f : X → Z) (xs : List X) (js : List Y) → ((x : X) (j : Y) → R x j → S (f x) j) → AllZip R xs js → AllZip S (map f xs) js
+pub zip_map : {X Z Y : Type 0} (R : X → Y → Type 0) (S : Z → Y → Type 0) (f : X → Z) (xs : List X) (js : List Y) → ((x : X) (j : Y) → R x j → S (f x) j) → AllZip R xs js → AllZip S (map f xs) js
 zip_map R S f [] [] g h = h
 zip_map R S f [] (j ∷ js) g h = absurd h
 zip_map R S f (x ∷ xs) [] g h = absurd h

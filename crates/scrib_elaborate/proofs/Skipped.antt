@@ -1,9 +1,10 @@
 -- A call that adds nothing to the type of what follows it isn't entered.
-use Rattle.std.proofs.Common.{◌≡◌, ℕ, true, List, [], map, Option, Some, None, option_map, refl, sym, ap, ◌∙◌, subst, ⊎_elim}
+use Rattle.std.proofs.Common.{◌≡◌, ℕ, Bool, true, List, [], length, map, Option, Some, None, option_map, refl, sym, ap, ◌∙◌, subst, ⊎_elim}
 use Rattle.std.specs.List.{AllZip, slice_get}
+use Rattle.std.proofs.lemmas.List.{length-map}
 use Rattle.std.proofs.lemmas.Option.{slice_get-map}
 use Rattle.scrib_types.specs.declared.spot.Spot.{Spot}
-use Rattle.scrib_types.specs.Trees.{Comm}
+use Rattle.scrib_types.specs.Trees.{GlobalEnd, Comm}
 use Rattle.scrib_types.specs.WellFormed.{distinct_roles}
 use Rattle.scrib_parser.specs.declared.tree.ModuleTree.{ModuleTree}
 use Rattle.scrib_elaborate.specs.declared.built.Origin.{Origin}
@@ -14,16 +15,21 @@ use Rattle.scrib_elaborate.specs.declared.tasks.Task.{Task}
 use Rattle.scrib_elaborate.specs.Source.{Then, Calls}
 use Rattle.scrib_elaborate.specs.SourceView.{body_of}
 use Rattle.scrib_elaborate.specs.Names.{Declaration, roles_of, declarations, called}
-use Rattle.scrib_elaborate.specs.Elaboration.{Scope, given_for, role_in, Frames, Under, Types}
+use Rattle.scrib_elaborate.specs.Statements.{KeepsRules}
+use Rattle.scrib_elaborate.specs.Elaboration.{Scope, given_for, role_in, inside_call, Frames, Under, Types, calls}
 use Rattle.scrib_elaborate.specs.Faults.{needs_itself, needs_calls}
+use Rattle.scrib_elaborate.specs.Renaming.{renamed}
 use Rattle.scrib_elaborate.specs.Shape.{HasShape, IsShapeOf, Passes}
 use Rattle.scrib_elaborate.specs.Sites.{communications, IsSite}
 use Rattle.scrib_elaborate.specs.Table.{declaration_of, shown}
-use Rattle.scrib_elaborate.specs.Typing.{Made, IsMarked, Makes, retold, PassesOn, IsBefore, IsState}
+use Rattle.scrib_elaborate.specs.Typing.{Made, IsMarked, Makes, IsAlone, retold, PassesOn, IsBefore, IsState}
 use Rattle.scrib_elaborate.proofs.Begun.{nothing_needs, only_needs, begins_site}
+use Rattle.scrib_elaborate.proofs.Kept.{of_then, of_calls}
+use Rattle.scrib_elaborate.proofs.Moved.{made_moved}
 use Rattle.scrib_elaborate.proofs.Passing.{call_of_nothing, call_of_only, typed_branches}
 use Rattle.scrib_elaborate.proofs.Shaped.{placed_at, given_at}
 use Rattle.scrib_elaborate.proofs.Sited.{site_through, marks_through, marks_retold, made_through, made_from}
+use Rattle.scrib_elaborate.proofs.Steps.{block_kept}
 
 -- the table's entry at a place
 shown_at : (table : List Declared) (k : ℕ) (d : Declaration) → slice_get (shown table) k ≡ Some d → (e : Declared) × (slice_get table k ≡ Some e) × (declaration_of e ≡ d)
@@ -71,3 +77,24 @@ call_skipped ms root ts sc n path roles given spot c f table g h there shaped na
         let whole_typed : Types ms n whole h.type = subst (Types ms n whole) (sym (ap (λ (m : Made). m.type) same ∙ is)) (call_of_only c j.role there j.only by_role typed) in
         made_from h (Comm p q cs) (retold origin g.origins) (ap (λ (m : Made). m.type) same ∙ is) (ap (λ (m : Made). m.origins) same) whole_typed (marks_retold ms n whole n p q cs g.origins origin site through)
     by Other k apart none on = absurd none
+
+-- nor is one that nothing follows, of a protocol whose type alone is known
+pub call_known : (ms : List ModuleTree) (root : Declaration) (x : Bool) (ts : List Task) (sc : Scope) (n : ℕ) (path roles given : List (List ℕ)) (spot : Spot) (c : Declaration) (g k h : Made)
+    → KeepsRules ms root x → called ms sc.within.home path ≡ Some c → IsAlone ms c k → given ≡ map (role_in sc) roles → g.type ≡ GlobalEnd → h.type ≡ renamed (given_for (roles_of c) given) k.type → h.origins ≡ k.origins
+    → IsBefore ms root ts sc n (Calls path roles spot) g → IsState ms root ts h
+call_known ms root x ts sc n path roles given spot c g k h kept there alone named none is same b =
+    let gs = map (role_in sc) roles in
+    let block = (block_kept b.recs (Then (Calls path roles spot) b.rest) b.reached x kept b.part).2 in
+    let call = of_calls (of_then block).step in
+    let to : call.to ≡ c = cc (call.call.there, there) in
+    let count : length roles ≡ length c.protocol.roles = subst (λ (d : Declaration). length roles ≡ length d.protocol.roles) to call.call.count in
+    let long : length (roles_of c) ≡ length gs = length-map c.protocol.roles (λ r. r.name) ∙ sym count ∙ sym (length-map roles (role_in sc)) in
+    let ended = subst (Types ms n (Under sc b.rest b.outer)) none b.made.typed in
+    let type : h.type ≡ renamed (given_for (roles_of c) gs) k.type = is ∙ ap (λ ns. renamed (given_for (roles_of c) ns) k.type) named in
+    let inner : Makes ms n (Under (inside_call sc c roles) (body_of c.protocol.body) (Under sc b.rest b.outer)) h = made_moved c alone.exits gs k h alone.kept long alone.made b.below ended type same in
+    record {
+      depth = n;
+      frames = Under sc (Then (Calls path roles spot) b.rest) b.outer;
+      made = made_through h (needs_calls there needs_itself) (calls there inner.typed) inner;
+      path = b.path;
+    }

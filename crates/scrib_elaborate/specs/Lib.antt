@@ -5,6 +5,7 @@ pub mod Placed
 pub mod Statements
 pub mod Elaboration
 pub mod Lifting
+pub mod Renaming
 pub mod Sizes
 pub mod Faults
 pub mod Sound

@@ -1,6 +1,6 @@
 -- What the parts of the third pass stand for (this project's own).
 -- Only contracts of private functions cite this file.
-use Rattle.std.specs.Prelude.{◌≡◌, ◌≢◌, ◌⊎◌, ℕ, ◌+◌, ◌≤◌, true, false, List, [], ◌∷◌, ◌++◌, length, slice_get, Option, Some, None, option_map, MatchOption}
+use Rattle.std.specs.Prelude.{◌≡◌, ◌≢◌, ◌⊎◌, ℕ, ◌+◌, ◌≤◌, Bool, true, false, List, [], ◌∷◌, ◌++◌, length, slice_get, Option, Some, None, option_map, MatchOption}
 use Rattle.std.specs.List.{All, AllZip}
 use Rattle.scrib_types.specs.declared.spot.Spot.{Spot}
 use Rattle.scrib_types.specs.GlobalView.{global_of}
@@ -14,6 +14,7 @@ use Rattle.scrib_elaborate.specs.declared.declared.Declared.{Declared}
 use Rattle.scrib_elaborate.specs.declared.elaborated.Join.{Join as TheJoin}
 use Rattle.scrib_elaborate.specs.declared.shape.Shape.{Shape}
 use Rattle.scrib_elaborate.specs.declared.shape.Shape.TheVariants.{Joining}
+use Rattle.scrib_elaborate.specs.declared.stop.State.{State}
 use Rattle.scrib_elaborate.specs.declared.tasks.Program.{Program}
 use Rattle.scrib_elaborate.specs.declared.tasks.Task.{Task}
 use Rattle.scrib_elaborate.specs.declared.tasks.Task.TheVariants.{Front, Join, Close, Trial}
@@ -26,16 +27,12 @@ use Rattle.scrib_elaborate.specs.SourceView.{step_of, body_of, blocks_of}
 use Rattle.scrib_elaborate.specs.Names.{Declaration, declarations}
 use Rattle.scrib_elaborate.specs.Elaboration.{continues_in, Scope, level_of, inside, Frames, Under, and_branches, Types, start_of}
 use Rattle.scrib_elaborate.specs.Faults.{Reaches, share_operator, FailsTyping}
-use Rattle.scrib_elaborate.specs.Table.{shown, IsPart, AreParts}
-use Rattle.scrib_elaborate.specs.Walking.{AreSummaries}
+use Rattle.scrib_elaborate.specs.Statements.{KeepsRules}
+use Rattle.scrib_elaborate.specs.Table.{shown, IsPart, AreParts, IsSettledSo}
+use Rattle.scrib_elaborate.specs.Walking.{AreSummaries, IsIdle}
 use Rattle.scrib_elaborate.specs.Lifting.{AreBelow}
 use Rattle.scrib_elaborate.specs.Sites.{communications, is_several, IsSite}
 use Rattle.scrib_elaborate.specs.Standing.{scope_of}
-
--- the table has all protocols of the modules, and what is kept of one that was walked is so
-pub record IsTable (p : Program) : Type 0 where
-  pub all : shown p.declared.now ≡ declarations p.modules.now
-  pub kept : AreSummaries p.modules.now (shown p.declared.now) p.states.now
 
 abbrev pub type_of : Typed → GlobalTree
 type_of t = global_of t.global
@@ -62,6 +59,39 @@ IsMarked modules k from c (Some o) =
 pub record Makes (modules : List ModuleTree) (n : ℕ) (fs : Frames) (m : Made) : Type 0 where
   pub typed : Types modules n fs m.type
   pub marked : AllZip (IsMarked modules n fs) (communications n m.type) m.origins
+
+-- the protocol keeps the rules, and its type is this, where nothing follows it
+pub record IsAlone (modules : List ModuleTree) (d : Declaration) (m : Made) : Type 0 where
+  pub exits : Bool
+  pub kept : KeepsRules modules d exits
+  pub made : Makes modules 0 (start_of d) m
+
+-- the type that is known of the protocol at a place of the table is so
+abbrev pub AreKnown : List ModuleTree → List Declaration → List (Option Typed) → Type 0
+AreKnown modules ds known =
+    (k : ℕ) (d : Declaration) (t : Typed) → slice_get ds k ≡ Some d → slice_get known k ≡ Some (Some t) → IsAlone modules d (made_of t)
+
+-- none is known yet
+abbrev pub AreUnknown : List (Option Typed) → Type 0
+AreUnknown known = (k : ℕ) (o : Option Typed) → slice_get known k ≡ Some o → o ≡ None
+
+-- it is the type of the protocol at this place
+abbrev pub IsAloneAt : List ModuleTree → List Declaration → (place : ℕ) → Made → Type 0
+IsAloneAt modules ds place m = (d : Declaration) → slice_get ds place ≡ Some d → IsAlone modules d m
+
+-- The table has all protocols of the modules, what is kept of one that was walked is so, and so is each type that
+-- is known.
+pub record IsTable (p : Program) : Type 0 where
+  pub all : shown p.declared.now ≡ declarations p.modules.now
+  pub kept : AreSummaries p.modules.now (shown p.declared.now) p.states.now
+  pub known : AreKnown p.modules.now (shown p.declared.now) p.known.now
+
+-- these are all declared protocols of the modules, what walks found of them, and the types that are known
+pub record IsTabled (modules : List ModuleTree) (declared : List Declared) (states : List State) (types : List (Option Typed)) : Type 0 where
+  pub all : shown declared ≡ declarations modules
+  pub settled : All IsSettledSo declared
+  pub idle : IsIdle modules (shown declared) states
+  pub known : AreKnown modules (shown declared) types
 
 -- these statements stand in front of the rest of their block
 abbrev pub before : List Statement → Body → Body

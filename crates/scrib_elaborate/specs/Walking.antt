@@ -1,7 +1,6 @@
 -- What the parts of a walk over protocols do.
 -- Only contracts of private functions cite this file.
 use Rattle.std.specs.Prelude.{◌≡◌, ◌≢◌, ◌⊎◌, ℕ, ◌≤◌, Bool, true, List, [], ◌∷◌, ◌++◌, length, slice_get, slice_set, Some}
-use Rattle.std.specs.List.{All}
 use Rattle.scrib_types.specs.declared.spot.Spot.{Spot}
 use Rattle.scrib_parser.specs.declared.tree.ModuleTree.{ModuleTree}
 use Rattle.scrib_parser.specs.declared.tree.ProtocolDeclaration.{ProtocolDeclaration}
@@ -23,7 +22,7 @@ use Rattle.scrib_elaborate.specs.declared.stop.Summary.{Summary}
 use Rattle.scrib_elaborate.specs.Sizes.{Size}
 use Rattle.scrib_elaborate.specs.Growth.{BlockGrows}
 use Rattle.scrib_elaborate.specs.Shape.{HasShape}
-use Rattle.scrib_elaborate.specs.Table.{shown, IsSummary, IsSettledSo}
+use Rattle.scrib_elaborate.specs.Table.{shown, IsSummary}
 
 pub record AreUnwalked (count : ℕ) (states : List State) : Type 0 where
   pub long : length states ≡ count
@@ -95,12 +94,6 @@ pub record AreSummaries (modules : List ModuleTree) (ds : List Declaration) (sta
 pub record IsIdle (modules : List ModuleTree) (ds : List Declaration) (states : List State) : Type 0 where
   pub kept : AreSummaries modules ds states
   pub ended : (k : ℕ) → slice_get states k ≢ Some Walking
-
--- these are all declared protocols of the modules, and what walks found of them
-pub record IsTabled (modules : List ModuleTree) (declared : List Declared) (states : List State) : Type 0 where
-  pub all : shown declared ≡ declarations modules
-  pub settled : All IsSettledSo declared
-  pub idle : IsIdle modules (shown declared) states
 
 -- in some protocol that is reached from the one at this place, the rule fails
 abbrev pub WalkFails : List ModuleTree → List Declaration → ℕ → ElaborateFault → Type 0

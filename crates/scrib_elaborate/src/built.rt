@@ -3,14 +3,17 @@
 ghost use Rattle.std.specs.Prelude.{◌≡◌, ◌-◌, [], IfOk};
 ghost use Rattle.scrib_types.specs.GlobalView.{global_of};
 ghost use Rattle.scrib_types.specs.Trees.{GlobalEnd, GlobalVar, GlobalRec, Comm, Branch, NoBranch};
-ghost use Rattle.scrib_elaborate.specs.Elaboration.{sent};
+ghost use Rattle.scrib_elaborate.specs.Names.{role_names};
+ghost use Rattle.scrib_elaborate.specs.Elaboration.{given_for, sent};
 ghost use Rattle.scrib_elaborate.specs.Lifting.{lifted};
+ghost use Rattle.scrib_elaborate.specs.Renaming.{renamed};
 ghost use Rattle.scrib_elaborate.specs.Standing.{named};
 ghost use Rattle.scrib_elaborate.specs.Typing.{type_of, none_told, retold};
 
 use crate::lift::lifted;
+use crate::renamed::renamed;
 use crate::untyped::Refused;
-use scrib_parser::tree::ModuleTree;
+use scrib_parser::tree::{ModuleTree, RoleDeclaration};
 use scrib_types::global::GlobalType;
 use scrib_types::name::Role;
 use scrib_types::plain::{Boxed, Items};
@@ -80,6 +83,24 @@ impl<'a> Typed<'a> {
         ensures joins { IfOk result (λ t. t.joins.items ≡ self.now.joins.items) }
     {
         let global = lifted(alloc, &self.global, 0)?;
+        let joins = Vec::from_slice(alloc, &self.joins)?;
+        Ok(Typed { global, joins })
+    }
+
+    /// The type with the role that is given for each declared one in its place.
+    ///
+    /// # Errors
+    /// `AllocError` where memory was refused.
+    pub fn renamed(
+        &self,
+        alloc: Global,
+        declared: &[RoleDeclaration],
+        given: &[&Role],
+    ) -> Result<Typed<'a>, AllocError>
+        ensures global { IfOk result (λ t. type_of t ≡ renamed (given_for (role_names declared.now) (named given.now)) (type_of self.now)) }
+        ensures joins { IfOk result (λ t. t.joins.items ≡ self.now.joins.items) }
+    {
+        let global = renamed(alloc, declared, given, &self.global)?;
         let joins = Vec::from_slice(alloc, &self.joins)?;
         Ok(Typed { global, joins })
     }

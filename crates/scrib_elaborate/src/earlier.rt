@@ -33,7 +33,7 @@ use std::alloc::Global;
 /// fault is earlier, and the walk goes on in what stands in front of that one.
 pub fn first_fault<'a>(
     alloc: Global,
-    program: &Program<'a>,
+    program: &Program<'a, '_>,
     left: Vec<Task<'a>>,
     found: Untyped<'a>,
 ) -> Untyped<'a>
@@ -64,7 +64,7 @@ pub fn first_fault<'a>(
 // Walks through the first statement of a task: what stands in it comes next, and then the statements after it.
 fn look<'a>(
     alloc: Global,
-    program: &Program<'a>,
+    program: &Program<'a, '_>,
     ahead: &mut Vec<Task<'a>>,
     entered: &mut Vec<usize>,
     task: Task<'a>,
@@ -91,7 +91,7 @@ fn look<'a>(
 // Walks into a statement.
 fn look_into<'a>(
     alloc: Global,
-    program: &Program<'a>,
+    program: &Program<'a, '_>,
     ahead: &mut Vec<Task<'a>>,
     entered: &mut Vec<usize>,
     standing: Standing<'a>,
@@ -136,7 +136,7 @@ fn look_into<'a>(
 // Tries the blocks of a choice that come before one with an exit, and walks into that one.
 fn look_into_choice<'a>(
     alloc: Global,
-    program: &Program<'a>,
+    program: &Program<'a, '_>,
     ahead: &mut Vec<Task<'a>>,
     standing: &Standing<'a>,
     branches: &'a [Block],
@@ -162,7 +162,7 @@ fn look_into_choice<'a>(
 // Tries a block without exit. Where it fails, the tasks are those in front of its fault.
 fn try_alone<'a>(
     alloc: Global,
-    program: &Program<'a>,
+    program: &Program<'a, '_>,
     ahead: &mut Vec<Task<'a>>,
     standing: Standing<'a>,
     body: &'a [Statement],
@@ -212,7 +212,7 @@ fn enter<'a>(
 // Walks into a called protocol, once: the types of its blocks without exit are the same at each call.
 fn look_into_call<'a>(
     alloc: Global,
-    program: &Program<'a>,
+    program: &Program<'a, '_>,
     ahead: &mut Vec<Task<'a>>,
     entered: &mut Vec<usize>,
     standing: &Standing<'a>,

@@ -1,6 +1,6 @@
 //! Elaboration of a protocol among modules.
 
-ghost use Rattle.std.specs.Prelude.{◌≡◌, IfOk, IfErr, MatchResult};
+ghost use Rattle.std.specs.Prelude.{◌≡◌, slice_get, Some, IfOk, IfErr, MatchResult};
 ghost use Rattle.scrib_types.specs.Agreement.{Agreement};
 ghost use Rattle.scrib_elaborate.specs.Names.{declarations, is_called, role_names};
 ghost use Rattle.scrib_elaborate.specs.Elaboration.{Elaborates};
@@ -8,18 +8,18 @@ ghost use Rattle.scrib_elaborate.specs.Faults.{FailsAt};
 ghost use Rattle.scrib_elaborate.specs.Meaning.{meaning_of, Means};
 ghost use Rattle.scrib_elaborate.specs.Sites.{AreSites};
 ghost use Rattle.scrib_elaborate.specs.Table.{shown, declaration_of, IsFound};
-ghost use Rattle.scrib_elaborate.specs.Typing.{IsTable, joins_told};
-ghost use Rattle.scrib_elaborate.specs.Walking.{IsAbsentFault, IsCounted, IsTabled};
+ghost use Rattle.scrib_elaborate.specs.Typing.{IsTable, IsTabled, joins_told};
+ghost use Rattle.scrib_elaborate.specs.Walking.{IsAbsentFault, IsCounted};
 
 use crate::built::{Origin, Typed};
 use crate::declared::{Declared, all_declared, find};
 use crate::elaborated::{Elaborated, Join};
 use crate::fault::{ElaborateFault, Fault, FaultKind};
+use crate::known::{know, known_or_typed, unknown};
 use crate::modules::Modules;
 use crate::names::has_module;
 use crate::stop::State;
 use crate::tasks::Program;
-use crate::typing::type_of_root;
 use crate::untyped::Untyped;
 use crate::walk::{check_size, fault_in, unwalked, walk};
 use scrib_parser::tree::{ModuleTree, RoleDeclaration};
@@ -57,6 +57,7 @@ pub struct Elaborator<'a> {
     modules: &'a Modules,
     declared: Vec<Declared<'a>>,
     states: Vec<State>,
+    known: Vec<Option<Typed<'a>>>,
 }
 
 impl<'a> Model for Elaborator<'a> {
@@ -64,7 +65,7 @@ impl<'a> Model for Elaborator<'a> {
     ghost use Rattle.std.specs.Coded.{codes};
     ghost use Rattle.scrib_parser.specs.declared.tree.ModuleTree as parsed;
     ghost use Rattle.scrib_parser.specs.contracts.tree.Statement as statement;
-    ghost use Rattle.scrib_elaborate.specs.Walking.{IsTabled};
+    ghost use Rattle.scrib_elaborate.specs.Typing.{IsTabled};
 
     ghost Value = { List parsed.ModuleTree };
 
@@ -72,7 +73,7 @@ impl<'a> Model for Elaborator<'a> {
 
     ghost view = { λ e. e.modules.now };
 
-    ghost invariant = { λ e. IsTabled e.modules.now e.declared.items e.states.items };
+    ghost invariant = { λ e. IsTabled e.modules.now e.declared.items e.states.items e.known.items };
 }
 
 impl<'a> Elaborator<'a> {
@@ -85,11 +86,13 @@ impl<'a> Elaborator<'a> {
     {
         let declared = all_declared(alloc, modules)?;
         let states = unwalked(alloc, declared.len())?;
+        let known = unknown(alloc, declared.len())?;
         Ok(Elaborator {
             alloc,
             modules,
             declared,
             states,
+            known,
         })
     }
 
@@ -113,6 +116,7 @@ impl<'a> Elaborator<'a> {
             self.modules.as_slice(),
             &self.declared,
             &mut self.states,
+            &mut self.known,
             module,
             protocol,
         )
@@ -120,49 +124,56 @@ impl<'a> Elaborator<'a> {
 }
 
 // What the protocol means among the modules, where these are their declared protocols and this was found of them.
-fn elaborate_among(
+fn elaborate_among<'a>(
     alloc: Global,
-    trees: &[ModuleTree],
-    declared: &[Declared],
+    trees: &'a [ModuleTree],
+    declared: &[Declared<'a>],
     states: &mut Vec<State>,
+    known: &mut Vec<Option<Typed<'a>>>,
     module: &Dotted,
     protocol: &Name,
 ) -> Result<Elaborated, ElaborateFault>
-    requires { IsTabled trees.now declared.now states.old.items }
+    requires { IsTabled trees.now declared.now states.old.items known.old.items }
     ensures ok { IfOk result (λ e. Elaborates trees.now «module».now protocol.now (meaning_of e)) }
     ensures sites { IfOk result (AreSites trees.now «module».now protocol.now) }
     ensures only { (a : Agreement) → Elaborates trees.now «module».now protocol.now a → Means result a }
     ensures fault { IfErr result (FailsAt trees.now «module».now protocol.now) }
-    ensures tabled { IsTabled trees.now declared.now states.new.items }
+    ensures tabled { IsTabled trees.now declared.now states.new.items known.new.items }
 {
     let root = find_root(alloc, trees, declared, module, protocol)?;
-    walk(alloc, trees, declared, root, states)?;
+    let mut walked = Vec::new(alloc);
+    walk(alloc, &*trees, &*declared, root, states, &mut walked)?;
     let count = check_size(alloc, declared, &*states, root)?;
+    walked.pop();
+    know(alloc, trees, declared, &*states, &walked, known)?;
     let at = declared[root];
     let program = Program {
         modules: trees,
-        declared,
+        declared: &*declared,
         states: &*states,
+        known: &*known,
         root: at,
     };
-    finish(alloc, &program, count, module, protocol)
+    finish(alloc, &program, root, count, module, protocol)
 }
 
 // What the protocol means, after the first two passes.
 fn finish(
     alloc: Global,
     program: &Program,
+    root: usize,
     count: usize,
     module: &Dotted,
     protocol: &Name,
 ) -> Result<Elaborated, ElaborateFault>
     requires table { IsTable program.now }
+    requires there { slice_get (shown program.now.declared.now) root ≡ Some (declaration_of program.now.root) }
     requires ready { IsCounted program.now.modules.now (shown program.now.declared.now) (declaration_of program.now.root) count «module».now protocol.now }
     ensures ok { IfOk result (λ e. Elaborates program.now.modules.now «module».now protocol.now (meaning_of e)) }
     ensures sites { IfOk result (AreSites program.now.modules.now «module».now protocol.now) }
     ensures fault { IfErr result (FailsAt program.now.modules.now «module».now protocol.now) }
 {
-    match type_of_root(alloc, program) {
+    match known_or_typed(alloc, program, root) {
         Ok(typed) => {
             let Typed { global, joins } = typed;
             let roles = copy_roles(alloc, program.root.protocol.roles.as_slice())?;

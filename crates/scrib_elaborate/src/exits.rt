@@ -16,7 +16,7 @@ use scrib_parser::tree::{Block, ModuleTree, Statement};
 
 /// Whether a way through the block, in this module, leads to its end.
 #[cycle(exits)]
-pub fn has_exit<'a>(program: &Program<'a>, home: &'a ModuleTree, body: &'a [Statement]) -> bool
+pub fn has_exit<'a>(program: &Program<'a, '_>, home: &'a ModuleTree, body: &'a [Statement]) -> bool
     requires { IsTable program.now }
     ensures { result ≡ false → Stays program.now.modules.now home.now (body_of body.now) }
 {
@@ -29,7 +29,7 @@ pub fn has_exit<'a>(program: &Program<'a>, home: &'a ModuleTree, body: &'a [Stat
 }
 
 #[cycle(exits)]
-fn leads_on<'a>(program: &Program<'a>, home: &'a ModuleTree, statement: &'a Statement) -> bool
+fn leads_on<'a>(program: &Program<'a, '_>, home: &'a ModuleTree, statement: &'a Statement) -> bool
     requires { IsTable program.now }
     ensures { result ≡ false → StepStays program.now.modules.now home.now (step_of statement.now) }
 {
@@ -46,7 +46,7 @@ fn leads_on<'a>(program: &Program<'a>, home: &'a ModuleTree, statement: &'a Stat
 }
 
 #[cycle(exits)]
-fn some_exit<'a>(program: &Program<'a>, home: &'a ModuleTree, branches: &'a [Block]) -> bool
+fn some_exit<'a>(program: &Program<'a, '_>, home: &'a ModuleTree, branches: &'a [Block]) -> bool
     requires { IsTable program.now }
     ensures { result ≡ false → AllStay program.now.modules.now home.now (blocks_of branches.now) }
 {

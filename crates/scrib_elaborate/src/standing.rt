@@ -7,6 +7,7 @@ ghost use Rattle.scrib_elaborate.specs.Table.{declaration_of};
 ghost use Rattle.scrib_elaborate.specs.Standing.{scope_of, levels_of, named, IsStart, IsSame, IsInside, IsInsideCall};
 
 use crate::declared::Declared;
+use crate::renamed::given_for;
 use crate::untyped::{Refused, next};
 use scrib_parser::tree::RoleDeclaration;
 use scrib_types::name::{Name, Role};
@@ -120,16 +121,7 @@ impl<'a> Standing<'a> {
     pub fn role(&self, role: &'a Role) -> &'a Role
         ensures { result.now ≡ role_in (scope_of self.now) role.now }
     {
-        let declared = self.within.protocol.roles.as_slice();
-        for (i, given) in self.given.iter().enumerate() {
-            if i >= declared.len() {
-                return role;
-            }
-            if role.equal(&declared[i].name) {
-                return *given;
-            }
-        }
-        role
+        given_for(self.within.protocol.roles.as_slice(), &self.given, role)
     }
 
     /// How many recursions stand round the one of this name.

@@ -9,12 +9,14 @@ use scrib_parser::tree::{Block, ModuleTree, Statement};
 use scrib_types::name::Role;
 use scrib_types::spot::Spot;
 
-/// The protocol that is asked for, among all declared protocols of the modules, and how far a walk was with each.
+/// The protocol that is asked for, among all declared protocols of the modules, how far a walk was with each, and
+/// the type of each that is known alone, as if nothing followed it.
 #[derive(Clone, Copy, Drop)]
-pub struct Program<'a> {
+pub struct Program<'a, 'k> {
     pub modules: &'a [ModuleTree],
-    pub declared: &'a [Declared<'a>],
-    pub states: &'a [State],
+    pub declared: &'k [Declared<'a>],
+    pub states: &'k [State],
+    pub known: &'k [Option<Typed<'a>>],
     pub root: Declared<'a>,
 }
 

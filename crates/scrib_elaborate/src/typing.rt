@@ -3,6 +3,7 @@
 ghost use Rattle.std.specs.Prelude.{◌≡◌, ℕ, Bool, List, ◌∷◌, map, slice_get, Some, IfOk, IfErr, IfSome, MatchResult, reverse};
 ghost use Rattle.scrib_types.specs.declared.spot.Spot.{Spot};
 ghost use Rattle.scrib_types.specs.GlobalView.{global_of};
+ghost use Rattle.scrib_types.specs.Trees.{GlobalEnd};
 ghost use Rattle.scrib_types.specs.WellFormed.{leads_to_communication};
 ghost use Rattle.scrib_parser.specs.declared.tree.ModuleTree.{ModuleTree};
 ghost use Rattle.scrib_elaborate.specs.declared.tasks.Task.TheVariants.{Front, Join, Close};
@@ -78,39 +79,62 @@ fn repeat<'a>(
     Ok(typed)
 }
 
-// Enters a called protocol, where what follows the call has this type, unless the call adds nothing to it.
+// Enters a called protocol, where what follows the call has this type, unless the call adds nothing to it, or the
+// protocol's type alone is known and nothing follows.
 fn call<'a>(
     alloc: Global,
+    program: &Program<'a, '_>,
     tasks: &mut Vec<Task<'a>>,
-    table: &'a [Declared<'a>],
     standing: &Standing<'a>,
     callee: Callee<'a>,
     roles: &'a [Role],
     typed: Typed<'a>,
 ) -> Result<Typed<'a>, Refused>
-    ensures { (modules : List ModuleTree) (root : Declaration) (path : List (List ℕ)) (spot : Spot)
-        → shown table.now ≡ declarations modules
-        → called modules standing.now.within.home.now path ≡ Some (declaration_of callee.entry.declared)
-        → IsShapeOf modules (declaration_of callee.entry.declared) callee.entry.shape
-        → IsBefore modules root (reverse tasks.old.items) (scope_of standing.now) standing.now.depth (Calls path roles.now spot) (made_of typed.entry)
-        → IfOk result (λ t. IsState modules root (reverse tasks.new.items) (made_of t)) }
+    requires { IsTable program.now }
+    ensures { (root : Declaration) (e : Bool) (path : List (List ℕ)) (spot : Spot)
+        → KeepsRules program.now.modules.now root e
+        → called program.now.modules.now standing.now.within.home.now path ≡ Some (declaration_of callee.entry.declared)
+        → slice_get (shown program.now.declared.now) callee.entry.place ≡ Some (declaration_of callee.entry.declared)
+        → IsShapeOf program.now.modules.now (declaration_of callee.entry.declared) callee.entry.shape
+        → IsBefore program.now.modules.now root (reverse tasks.old.items) (scope_of standing.now) standing.now.depth (Calls path roles.now spot) (made_of typed.entry)
+        → IfOk result (λ t. IsState program.now.modules.now root (reverse tasks.new.items) (made_of t)) }
 {
     let Callee {
         declared,
         shape,
-        ..
+        place,
     } = callee;
     let inside = standing.inside_call(alloc, declared, roles)?;
     if shape.passes(&inside.given, &typed.global) {
-        return Ok(passed(table, shape, typed));
+        return Ok(passed(program.declared, shape, typed));
+    }
+    if let Some(alone) = known_alone(program, place, &typed.global) {
+        let known = alone.renamed(alloc, declared.protocol.roles.as_slice(), &inside.given)?;
+        return Ok(known);
     }
     tasks.push(Task::Front(inside, declared.protocol.body.as_slice()))?;
     Ok(typed)
 }
 
+// The type of the protocol at this place of the table, where it is known alone and nothing follows the call.
+#[tactic(auto, using(scrib_types::specs::GlobalView::global_views))]
+fn known_alone<'a, 'k>(
+    program: &Program<'a, 'k>,
+    place: usize,
+    follows: &GlobalType,
+) -> Option<&'k Typed<'a>>
+    ensures known { IfSome result (λ t. slice_get program.now.known.now place ≡ Some (Some t.now)) }
+    ensures ends { IfSome result (λ _. global_of follows.now ≡ GlobalEnd) }
+{
+    if let GlobalType::End = follows {
+        return program.known.get(place)?.as_ref();
+    }
+    None
+}
+
 // What follows a call that adds nothing to its type. Where the called protocol joins, its first choice is the
 // outermost one that the communication in front comes from.
-fn passed<'a>(table: &'a [Declared<'a>], shape: Shape, typed: Typed<'a>) -> Typed<'a>
+fn passed<'a>(table: &[Declared<'a>], shape: Shape, typed: Typed<'a>) -> Typed<'a>
     ensures { PassesOn table.now shape (made_of typed.entry) (made_of result) }
 {
     if let Shape::Joining { at, spot, .. } = shape {
@@ -158,14 +182,14 @@ fn leads_to_communication(global: &GlobalType) -> bool
 // Puts a statement in front of what has this type, or begins to.
 fn put<'a>(
     alloc: Global,
-    program: &Program<'a>,
+    program: &Program<'a, '_>,
     tasks: &mut Vec<Task<'a>>,
     standing: Standing<'a>,
     statement: &'a Statement,
     typed: Typed<'a>,
 ) -> Result<Typed<'a>, Untyped<'a>>
     requires { IsTable program.now }
-    ensures { (root : Declaration)
+    ensures { (root : Declaration) (e : Bool) → KeepsRules program.now.modules.now root e
         → IsBefore program.now.modules.now root (reverse tasks.old.items) (scope_of standing.entry) standing.entry.depth (step_of statement.now) (made_of typed.entry)
         → MatchResult result (λ t. IsState program.now.modules.now root (reverse tasks.new.items) (made_of t)) (StopsAhead program.now.modules.now root tasks.new.items) }
 {
@@ -204,8 +228,8 @@ fn put<'a>(
             };
             let entered = call(
                 alloc,
+                program,
                 tasks,
-                program.declared,
                 &standing,
                 callee,
                 roles.as_slice(),
@@ -231,7 +255,11 @@ fn again<'a>(alloc: Global, standing: &Standing<'a>, name: &Name) -> Result<Type
 }
 
 /// The protocol that a call of this path names.
-pub fn callee<'a>(program: &Program<'a>, at: &'a ModuleTree, path: &'a Dotted) -> Option<Callee<'a>>
+pub fn callee<'a>(
+    program: &Program<'a, '_>,
+    at: &'a ModuleTree,
+    path: &'a Dotted,
+) -> Option<Callee<'a>>
     requires { IsTable program.now }
     ensures place { IfSome result (λ c. slice_get (shown program.now.declared.now) c.place ≡ Some (declaration_of c.declared)) }
     ensures called { IfSome result (λ c. called program.now.modules.now at.now path.now ≡ Some (declaration_of c.declared)) }
@@ -252,7 +280,7 @@ pub fn callee<'a>(program: &Program<'a>, at: &'a ModuleTree, path: &'a Dotted) -
 // The next statement of these, or the task is done.
 fn front<'a>(
     alloc: Global,
-    program: &Program<'a>,
+    program: &Program<'a, '_>,
     tasks: &mut Vec<Task<'a>>,
     standing: Standing<'a>,
     statements: &'a [Statement],
@@ -274,7 +302,7 @@ fn front<'a>(
 // One task.
 fn step<'a>(
     alloc: Global,
-    program: &Program<'a>,
+    program: &Program<'a, '_>,
     tasks: &mut Vec<Task<'a>>,
     task: Task<'a>,
     typed: Typed<'a>,
@@ -303,7 +331,7 @@ fn step<'a>(
 /// the tasks has the statements in front of it; `OutOfMemory` where memory was refused.
 pub fn run<'a>(
     alloc: Global,
-    program: &Program<'a>,
+    program: &Program<'a, '_>,
     tasks: &mut Vec<Task<'a>>,
 ) -> Result<Option<Typed<'a>>, Untyped<'a>>
     requires { IsTable program.now }
@@ -332,20 +360,48 @@ pub fn run<'a>(
 /// # Errors
 /// `Broken` with the rule on types that is broken, its module and its place, of several the one that a reader who
 /// goes forward meets first; `OutOfMemory` where memory was refused.
-pub fn type_of_root<'a>(alloc: Global, program: &Program<'a>) -> Result<Typed<'a>, Untyped<'a>>
+pub fn type_of_root<'a>(alloc: Global, program: &Program<'a, '_>) -> Result<Typed<'a>, Untyped<'a>>
     requires table { IsTable program.now }
     requires kept { (e : Bool) × KeepsRules program.now.modules.now (declaration_of program.now.root) e }
     ensures ok { IfOk result (λ t. Makes program.now.modules.now 0 (start_of (declaration_of program.now.root)) (made_of t)) }
     ensures fault { IfErr result (TypingFails program.now.modules.now (declaration_of program.now.root)) }
 {
-    let standing = Standing::start(alloc, program.root)?;
-    let statements = program.root.protocol.body.as_slice();
-    let mut tasks = Vec::new(alloc);
-    tasks.push(Task::Front(standing, statements))?;
+    let mut tasks = first_task(alloc, program.root)?;
     match run(alloc, program, &mut tasks) {
         Ok(Some(typed)) => Ok(typed),
         // No block is tried yet.
         Ok(None) => Err(Untyped::OutOfMemory),
         Err(found) => Err(first_fault(alloc, program, tasks, found)),
     }
+}
+
+/// The type of the protocol that was asked for, after the first pass, or `None` where a rule on types is broken.
+///
+/// # Errors
+/// `Refused` where memory was refused.
+pub fn type_alone<'a>(
+    alloc: Global,
+    program: &Program<'a, '_>,
+) -> Result<Option<Typed<'a>>, Refused>
+    requires table { IsTable program.now }
+    requires kept { (e : Bool) × KeepsRules program.now.modules.now (declaration_of program.now.root) e }
+    ensures { IfOk result (λ o. IfSome o (λ t. Makes program.now.modules.now 0 (start_of (declaration_of program.now.root)) (made_of t))) }
+{
+    let mut tasks = first_task(alloc, program.root)?;
+    match run(alloc, program, &mut tasks) {
+        Ok(typed) => Ok(typed),
+        Err(Untyped::Broken(..)) => Ok(None),
+        Err(Untyped::OutOfMemory) => Err(Refused),
+    }
+}
+
+// All statements of the protocol that was asked for.
+fn first_task<'a>(alloc: Global, root: Declared<'a>) -> Result<Vec<Task<'a>>, AllocError>
+    ensures { IfOk result (λ tasks. (modules : List ModuleTree) → IsState modules (declaration_of root.entry) (reverse tasks.items) nothing_made) }
+{
+    let standing = Standing::start(alloc, root)?;
+    let statements = root.protocol.body.as_slice();
+    let mut tasks = Vec::new(alloc);
+    tasks.push(Task::Front(standing, statements))?;
+    Ok(tasks)
 }

@@ -2,6 +2,7 @@
 
 ghost use Rattle.std.specs.Prelude.{◌≡◌, ◌+◌, IfOk};
 
+use crate::fault::ElaborateFault;
 use crate::stop::BrokenRule;
 use scrib_parser::tree::ModuleTree;
 use std::alloc::{AllocError, AllocFailed};
@@ -39,6 +40,17 @@ impl<'a> From<Refused> for Untyped<'a> {
 
     fn from(_e: Refused) -> Untyped<'a> {
         Untyped::OutOfMemory
+    }
+}
+
+impl From<Refused> for ElaborateFault {
+    ghost use Rattle.std.specs.Prelude.{◌≡◌};
+    ghost use Rattle.scrib_elaborate.specs.declared.fault.ElaborateFault.TheVariants.{OutOfMemory};
+
+    ghost from_gives = { λ _ e. e ≡ OutOfMemory };
+
+    fn from(_e: Refused) -> ElaborateFault {
+        ElaborateFault::OutOfMemory
     }
 }
 

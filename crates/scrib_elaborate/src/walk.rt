@@ -19,7 +19,8 @@ use scrib_parser::tree::ModuleTree;
 use std::alloc::{AllocError, Global};
 
 /// Walks over the protocol at this place of the table and over each that it calls. What earlier walks found is
-/// kept in the states, and so is what this one finds; after a fault none of it is.
+/// kept in the states, and so is what this one finds; after a fault none of it is. The places of the protocols that
+/// it walks are put last into `walked`, each after those that it calls.
 ///
 /// # Errors
 /// `Broken` with the first rule that is broken, the module's name and the place; `OutOfMemory` where memory was
@@ -30,6 +31,7 @@ pub fn walk<'a>(
     declared: &'a [Declared<'a>],
     root: usize,
     states: &mut Vec<State>,
+    walked: &mut Vec<usize>,
 ) -> Result<(), ElaborateFault>
     requires all { shown declared.now ≡ declarations modules.now }
     requires settled { All IsSettledSo declared.now }
@@ -39,7 +41,7 @@ pub fn walk<'a>(
     ensures idle { IsIdle modules.now (shown declared.now) states.new.items }
     ensures fault { IfErr result (WalkFails modules.now (shown declared.now) root) }
 {
-    match walk_from(alloc, modules, declared, root, states) {
+    match walk_from(alloc, modules, declared, root, states, walked) {
         Ok(()) => Ok(()),
         Err(fault) => {
             forget(states);
@@ -57,6 +59,7 @@ fn walk_from<'a>(
     declared: &'a [Declared<'a>],
     root: usize,
     states: &mut Vec<State>,
+    walked: &mut Vec<usize>,
 ) -> Result<(), ElaborateFault>
     requires all { shown declared.now ≡ declarations modules.now }
     requires settled { All IsSettledSo declared.now }
@@ -72,7 +75,10 @@ fn walk_from<'a>(
     enter(alloc, first, root, states, &mut stack)?;
     while let Some(top) = stack.pop() {
         match check(alloc, &*modules, &*declared, &*states, top) {
-            Ok(summary) => states[top] = State::Walked(summary),
+            Ok(summary) => {
+                walked.push(top)?;
+                states[top] = State::Walked(summary);
+            }
             Err(Stop::Call(to)) => {
                 let next = declared[to];
                 stack.push(top)?;

@@ -1,7 +1,8 @@
 use Rattle.std.proofs.Common.{refl, sym, subst}
 use Rattle.std.proofs.lemmas.Result.{err_from_is_err_and}
 use Rattle.scrib_elaborate.specs.Table.{shown}
-use Rattle.scrib_elaborate.specs.Walking.{AreSummaries}
+use Rattle.scrib_elaborate.specs.Typing.{AreKnown}
+use Rattle.scrib_elaborate.specs.Walking.{AreSummaries, IsIdle}
 use Rattle.scrib_elaborate.proofs.Answered.{walk_told, size_told, root_stated, root_within, nothing_missed}
 use Rattle.scrib_elaborate.proofs.Finished.{is_counted, only_meant}
 use Rattle.scrib_elaborate.proofs.elaborate.elaborate_among.Goals as goal
@@ -49,10 +50,19 @@ pub finish-requires-clause-ready : goal.finish-requires-clause-ready
 finish-requires-clause-ready c =
     is_counted c.args.trees.now c.args.module.now c.args.protocol.now c.args.declared.now c.args.declared.now c.args.declared.now c.args.declared.now c.args.declared.now c.walk.new.states.items c.deref.result.now c.in_ok-root.root c.in_ok-count.count c.index-declared-root.result refl refl refl refl c.deref.ensures.value c.requires.all c.in_ok-root.ensures c.in_ok-walk.ensures.ok (c.in_ok-count.ensures.ok c.args.trees.now) c.index-declared-root.is
 
+pub know-requires : goal.know-requires
+know-requires c = record {
+  all = c.requires.all;
+  settled = c.requires.settled;
+  idle = subst (λ ss. IsIdle c.args.trees.now (shown c.args.declared.now) ss) (sym c.deref-2.ensures.value) c.walk.ensures.idle;
+  known = c.requires.known;
+}
+
 pub finish-requires-clause-table : goal.finish-requires-clause-table
 finish-requires-clause-table c = record {
   all = c.requires.all;
-  kept = subst (λ ss. AreSummaries c.args.trees.now (shown c.args.declared.now) ss) (sym c.deref-2.ensures.value) c.walk.ensures.idle.kept;
+  kept = subst (λ ss. AreSummaries c.args.trees.now (shown c.args.declared.now) ss) (sym c.deref-4.ensures.value) c.walk.ensures.idle.kept;
+  known = subst (λ ts. AreKnown c.args.trees.now (shown c.args.declared.now) ts) (sym c.deref-5.ensures.value) c.know.ensures;
 }
 
 pub returns-clause-only : goal.returns-clause-only

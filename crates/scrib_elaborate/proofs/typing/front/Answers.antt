@@ -15,7 +15,7 @@ returns c = λ root e kept s.
     let again = c.in_ok-again.again in
     let g = made_of c.args.typed in
     let last = c.in-Some.last.now in
-    c.put.ensures root (pushed_before ms root old c.push.new.self.items (Front again c.in-Some.rest) (scope_of standing) standing.depth (step_of last) g c.in_ok-push.ensures.items (front_step ms root (reverse old) standing again c.args.statements c.in-Some.rest last g e kept c.in-Some.ensures.cases.0 c.in_ok-again.ensures s))
+    c.put.ensures root e kept (pushed_before ms root old c.push.new.self.items (Front again c.in-Some.rest) (scope_of standing) standing.depth (step_of last) g c.in_ok-push.ensures.items (front_step ms root (reverse old) standing again c.args.statements c.in-Some.rest last g e kept c.in-Some.ensures.cases.0 c.in_ok-again.ensures s))
 
 pub returns-in_default : goal.returns-in_default
 returns-in_default c = λ root e kept s.

@@ -9,7 +9,7 @@ use Rattle.scrib_elaborate.proofs.Steps.{message_put, variable_put}
 use Rattle.scrib_elaborate.proofs.typing.put.Goals as goal
 
 pub returns-in-Message : goal.returns-in-Message
-returns-in-Message c = λ root b.
+returns-in-Message c = λ root e kept b.
     let ms = c.args.program.now.modules.now in
     let ts = reverse c.args.tasks.now.items in
     let sc = scope_of c.args.standing in
@@ -21,7 +21,7 @@ returns-in-Message c = λ root b.
     message_put ms root ts sc n m.message m.from m.to m.spot g (made_of c.in_ok-sent-in-Message.sent) (c.in_ok-sent-in-Message.ensures.global ∙ ap (λ qs. sent m.message (role_in sc m.from) (map (role_in sc) qs) g.type) c.as_slice.ensures) (c.in_ok-sent-in-Message.ensures.joins ∙ ap (λ qs. none_told (map (role_in sc) qs) g.origins) c.as_slice.ensures) at
 
 pub returns-in-Choice : goal.returns-in-Choice
-returns-in-Choice c = λ root b.
+returns-in-Choice c = λ root e kept b.
     let ms = c.args.program.now.modules.now in
     let ts = reverse c.args.tasks.now.items in
     let sc = scope_of c.args.standing in
@@ -32,7 +32,7 @@ returns-in-Choice c = λ root b.
     c.choose.ensures ms root (subst (λ s. IsBefore ms root ts sc n s g) same b)
 
 pub returns-in-Rec : goal.returns-in-Rec
-returns-in-Rec c = λ root b.
+returns-in-Rec c = λ root e kept b.
     let ms = c.args.program.now.modules.now in
     let ts = reverse c.args.tasks.now.items in
     let sc = scope_of c.args.standing in
@@ -43,7 +43,7 @@ returns-in-Rec c = λ root b.
     c.in_ok-begun-in-Rec.ensures ms root (subst (λ s. IsBefore ms root ts sc n s g) same b)
 
 pub returns-in-Continue : goal.returns-in-Continue
-returns-in-Continue c = λ root b.
+returns-in-Continue c = λ root e kept b.
     let ms = c.args.program.now.modules.now in
     let ts = reverse c.args.tasks.now.items in
     let sc = scope_of c.args.standing in
@@ -55,7 +55,7 @@ returns-in-Continue c = λ root b.
     MatchResult-weaker c.again.result c.again.ensures (λ t v. variable_put ms root ts sc n v.level v.index m.name m.spot g (made_of t) v.there v.deep v.is v.alone at) (λ e f. subst (λ x. StopsAhead ms root c.args.tasks.now.items x) (sym f) tt)
 
 pub returns : goal.returns
-returns c = λ root b.
+returns c = λ root e kept b.
     let ms = c.args.program.now.modules.now in
     let ts = reverse c.args.tasks.now.items in
     let sc = scope_of c.args.standing in
@@ -63,4 +63,4 @@ returns c = λ root b.
     let g = made_of c.args.typed in
     let m = c.in-Do in
     let same = ap step_of m.is ∙ do_of m.protocol m.roles m.spot ∙ ap (λ qs. Calls m.protocol qs m.spot) (sym c.as_slice-in-Do.ensures) in
-    c.in_ok-entered-in-Do.ensures ms root m.protocol m.spot c.requires.all c.in-Some.ensures.called c.in-Some.ensures.shape (subst (λ s. IsBefore ms root ts sc n s g) same b)
+    c.in_ok-entered-in-Do.ensures root e m.protocol m.spot kept c.in-Some.ensures.called c.in-Some.ensures.place c.in-Some.ensures.shape (subst (λ s. IsBefore ms root ts sc n s g) same b)

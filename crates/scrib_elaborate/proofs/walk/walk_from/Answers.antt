@@ -62,12 +62,12 @@ enter-requires-in-Err-Call-clause-settled c =
 pub loop-top-smaller : goal.loop-top-smaller
 loop-top-smaller c =
     let n = next_of c.args.modules.now c.args.declared.now c.args.root c.loop-top.states.items c.deref.result.now c.loop-top.stack.items c.pop.new.self.items c.in-Some.top c.in-Err-Call.to c.in-Err-Call.field-0 c.in-Some.ensures.items c.loop-top.invariant c.deref.ensures.value c.in-Err-Call.field-0-is c.in-Err-Call.ensures in
-    less_entering c.args.modules.now c.args.declared.now c.loop-top.states.items c.enter-in-Err-Call.new.states.items c.loop-top.stack.items c.pop.new.self.items c.push.new.self.items c.enter-in-Err-Call.new.stack.items c.in-Some.top c.in-Err-Call.to _ _ c.in-Some.ensures.items c.in_ok-push-in-Err-Call.ensures.items n c.in_ok-enter-in-Err-Call.ensures.ok
+    less_entering c.args.modules.now c.args.declared.now c.loop-top.states.items c.enter-in-Err-Call.new.states.items c.loop-top.stack.items c.pop.new.self.items c.push-in-Err-Call.new.self.items c.enter-in-Err-Call.new.stack.items c.in-Some.top c.in-Err-Call.to _ _ c.in-Some.ensures.items c.in_ok-push-in-Err-Call.ensures.items n c.in_ok-enter-in-Err-Call.ensures.ok
 
 pub loop-top-preserved : goal.loop-top-preserved
 loop-top-preserved c =
     let n = next_of c.args.modules.now c.args.declared.now c.args.root c.loop-top.states.items c.deref.result.now c.loop-top.stack.items c.pop.new.self.items c.in-Some.top c.in-Err-Call.to c.in-Err-Call.field-0 c.in-Some.ensures.items c.loop-top.invariant c.deref.ensures.value c.in-Err-Call.field-0-is c.in-Err-Call.ensures in
-    enters_from c.args.modules.now c.args.declared.now c.args.root c.loop-top.states.items c.enter-in-Err-Call.new.states.items c.loop-top.stack.items c.pop.new.self.items c.push.new.self.items c.enter-in-Err-Call.new.stack.items c.in-Some.top c.in-Err-Call.to c.index-declared-to.result c.in-Some.ensures.items c.in_ok-push-in-Err-Call.ensures.items c.index-declared-to.is c.loop-top.invariant n c.in_ok-enter-in-Err-Call.ensures.ok
+    enters_from c.args.modules.now c.args.declared.now c.args.root c.loop-top.states.items c.enter-in-Err-Call.new.states.items c.loop-top.stack.items c.pop.new.self.items c.push-in-Err-Call.new.self.items c.enter-in-Err-Call.new.stack.items c.in-Some.top c.in-Err-Call.to c.index-declared-to.result c.in-Some.ensures.items c.in_ok-push-in-Err-Call.ensures.items c.index-declared-to.is c.loop-top.invariant n c.in_ok-enter-in-Err-Call.ensures.ok
 
 pub returns-in_err-enter-in-Err-Call-clause-fault : goal.returns-in_err-enter-in-Err-Call-clause-fault
 returns-in_err-enter-in-Err-Call-clause-fault c =

@@ -3,7 +3,7 @@ use Rattle.std.proofs.lemmas.List.{drop_all}
 use Rattle.scrib_elaborate.specs.Names.{role_names}
 use Rattle.scrib_elaborate.specs.Elaboration.{given_for}
 use Rattle.scrib_elaborate.specs.Standing.{named}
-use Rattle.scrib_elaborate.proofs.standing.Standing.role.Goals as goal
+use Rattle.scrib_elaborate.proofs.renamed.given_for.Goals as goal
 
 none_given : (ds rest : List (List ℕ)) (r s : List ℕ) → rest ≡ [] → given_for ds rest r ≡ s → r ≡ s
 none_given [] rest r s e f = f
@@ -11,5 +11,5 @@ none_given (d ∷ ds) rest r s e f = sym (ap (λ gs. given_for (d ∷ ds) gs r) 
 
 pub returns : goal.returns
 returns c =
-    let end = ap named (drop_all c.loop-i.i c.deref-given-items.result.now c.loop-i-test.false) in
-    none_given (role_names (drop c.loop-i.i c.as_slice-declared.result.now)) (named (drop c.loop-i.i c.deref-given-items.result.now)) c.args.role.now _ end (c.loop-i.invariant ∙ (λ i. given_for (role_names (c.as_slice-declared.ensures i)) (named (c.deref-given-items.ensures.value i)) c.args.role.now))
+    let end = ap named (drop_all c.loop-i.i c.args.given.now c.loop-i-test.false) in
+    none_given (role_names (drop c.loop-i.i c.args.declared.now)) (named (drop c.loop-i.i c.args.given.now)) c.args.role.now _ end c.loop-i.invariant

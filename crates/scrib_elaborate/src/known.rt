@@ -1,0 +1,112 @@
+//! The types of protocols alone, as if nothing followed them, each of which is made once.
+
+ghost use Rattle.std.specs.Prelude.{◌≡◌, Bool, slice_get, Some, IfOk, IfErr, IfSome};
+ghost use Rattle.scrib_elaborate.specs.Statements.{KeepsRules};
+ghost use Rattle.scrib_elaborate.specs.Elaboration.{start_of};
+ghost use Rattle.scrib_elaborate.specs.Table.{shown, declaration_of};
+ghost use Rattle.scrib_elaborate.specs.Typing.{made_of, Makes, AreKnown, AreUnknown, IsAloneAt, IsTable, IsTabled, TypingFails};
+
+use crate::built::Typed;
+use crate::declared::Declared;
+use crate::growth::MAX_NODES;
+use crate::stop::State;
+use crate::tasks::Program;
+use crate::typing::{type_alone, type_of_root};
+use crate::untyped::{Refused, Untyped};
+use scrib_parser::tree::ModuleTree;
+use std::alloc::{AllocError, Global};
+
+/// No type of so many protocols.
+///
+/// # Errors
+/// `AllocError` where memory was refused.
+pub fn unknown<'a>(alloc: Global, count: usize) -> Result<Vec<Option<Typed<'a>>>, AllocError>
+    ensures { IfOk result (λ known. AreUnknown known.items) }
+{
+    let mut known = Vec::new(alloc);
+    for _ in 0..count {
+        known.push(None)?;
+    }
+    Ok(known)
+}
+
+/// Makes the types of the protocols at these places alone, in this order, each after those that it calls. It ends at
+/// the first that has none: a call of it is told where it stands.
+///
+/// # Errors
+/// `Refused` where memory was refused.
+pub fn know<'a>(
+    alloc: Global,
+    modules: &'a [ModuleTree],
+    declared: &[Declared<'a>],
+    states: &[State],
+    places: &[usize],
+    known: &mut Vec<Option<Typed<'a>>>,
+) -> Result<(), Refused>
+    requires { IsTabled modules.now declared.now states.now known.old.items }
+    ensures { AreKnown modules.now (shown declared.now) known.new.items }
+{
+    for place in places {
+        let Some(typed) = alone(alloc, modules, declared, states, &*known, *place)? else {
+            return Ok(());
+        };
+        if *place < known.len() {
+            known[*place] = Some(typed);
+        }
+    }
+    Ok(())
+}
+
+// The type of the protocol at this place alone, if it has one of at most 4,096 nodes.
+fn alone<'a>(
+    alloc: Global,
+    modules: &'a [ModuleTree],
+    declared: &[Declared<'a>],
+    states: &[State],
+    known: &[Option<Typed<'a>>],
+    place: usize,
+) -> Result<Option<Typed<'a>>, Refused>
+    requires { IsTabled modules.now declared.now states.now known.now }
+    ensures { IfOk result (λ o. IfSome o (λ t. IsAloneAt modules.now (shown declared.now) place (made_of t))) }
+{
+    let Some(root) = declared.get(place) else {
+        return Ok(None);
+    };
+    let Some(State::Walked(summary)) = states.get(place) else {
+        return Ok(None);
+    };
+    if summary.size.base >= MAX_NODES {
+        return Ok(None);
+    }
+    let program = Program {
+        modules,
+        declared,
+        states,
+        known,
+        root: *root,
+    };
+    type_alone(alloc, &program)
+}
+
+/// The type of the protocol that was asked for, which stands at this place of the table: a copy of the known one, or
+/// made now.
+///
+/// # Errors
+/// Those of `type_of_root`.
+pub fn known_or_typed<'a>(
+    alloc: Global,
+    program: &Program<'a, '_>,
+    place: usize,
+) -> Result<Typed<'a>, Untyped<'a>>
+    requires table { IsTable program.now }
+    requires there { slice_get (shown program.now.declared.now) place ≡ Some (declaration_of program.now.root) }
+    requires kept { (e : Bool) × KeepsRules program.now.modules.now (declaration_of program.now.root) e }
+    ensures ok { IfOk result (λ t. Makes program.now.modules.now 0 (start_of (declaration_of program.now.root)) (made_of t)) }
+    ensures fault { IfErr result (TypingFails program.now.modules.now (declaration_of program.now.root)) }
+{
+    if let Some(Some(typed)) = program.known.get(place) {
+        let typed = typed.copy(alloc)?;
+        return Ok(typed);
+    }
+    type_of_root(alloc, program)
+}
