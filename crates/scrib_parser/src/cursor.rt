@@ -5,15 +5,17 @@ ghost use Rattle.scrib_parser.specs.LeftOut as left_out;
 ghost use Rattle.scrib_parser.specs.Reading.{left, Gives, begins, same_kind, begins_statement, begins_declaration, deep_fault, token_of, paren_behind, placed_name_of, name_of};
 
 use crate::fault::{LeftOutWord, ParseFault};
+use crate::names::RecentNames;
 use scrib_lexer::token::{Keyword, Token, TokenKind};
 use scrib_types::name::Name;
 use scrib_types::spot::Spot;
 use std::alloc::Global;
 
-/// The tokens that are left to read.
+/// The tokens that are left to read, and names of those that were read.
 #[derive(Drop)]
 pub(crate) struct Cursor<'t, 'a> {
     pub(crate) rest: &'t [Token<'a>],
+    pub(crate) names: RecentNames,
 }
 
 impl<'t, 'a> Cursor<'t, 'a> {
@@ -111,7 +113,7 @@ impl<'t, 'a> Cursor<'t, 'a> {
                 if token.kind != TokenKind::Name {
                     return Err(ParseFault::Unexpected { at: token.spot });
                 }
-                let name = Name::from_bytes(alloc, token.bytes)?;
+                let name = self.names.name(alloc, token.bytes)?;
                 let name = name.ok_or(ParseFault::Unexpected { at: token.spot })?;
                 self.rest = rest;
                 Ok((name, token.spot))

@@ -3,5 +3,6 @@
 
 mod cursor;
 pub mod fault;
+mod names;
 pub mod parse;
 pub mod tree;

@@ -8,6 +8,7 @@ ghost use Rattle.scrib_parser.specs.Reading.{left, Gives, GivesAll};
 
 use crate::cursor::{Cursor, left_out_declaration};
 use crate::fault::ParseFault;
+use crate::names::RecentNames;
 use crate::tree::{Block, Import, ModuleTree, ProtocolDeclaration, RoleDeclaration, Statement};
 use scrib_lexer::token::{Keyword, Token, TokenKind};
 use scrib_types::message::{Message, Payload};
@@ -45,7 +46,11 @@ pub fn parse(alloc: Global, tokens: &[Token]) -> Result<ModuleTree, ParseFault>
 fn whole(alloc: Global, tokens: &[Token]) -> Result<ModuleTree, ParseFault>
     ensures { GivesAll result (reading.whole_of 64 (lexemes_of tokens.now)) }
 {
-    let mut tokens = Cursor { rest: tokens };
+    let names = RecentNames::new(alloc, tokens.len())?;
+    let mut tokens = Cursor {
+        rest: tokens,
+        names,
+    };
     let tree = module_tree(alloc, MAX_LEVELS, &mut tokens)?;
     match tokens.rest {
         [] => Ok(tree),
