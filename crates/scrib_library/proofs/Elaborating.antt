@@ -1,6 +1,7 @@
 -- From entries to what their protocols mean, and to the projections.
 use Rattle.std.proofs.Common.{◌≡◌, ℕ, true, List, ◌∷◌, [], ◌++◌, Option, Some, None, Err, inl, inr, sym, ◌∙◌, subst}
 use Rattle.std.specs.List.{Contains}
+use Rattle.std.specs.Option.{option_map}
 use Rattle.std.proofs.lemmas.Bool.{false≢true}
 use Rattle.std.proofs.lemmas.List.{map-append}
 use Rattle.std.proofs.lemmas.List.Elements.{Contains-push_cases}
@@ -8,11 +9,14 @@ use Rattle.scrib_types.specs.Agreement.{Agreement}
 use Rattle.scrib_parser.specs.declared.tree.ModuleTree.{ModuleTree}
 use Rattle.scrib_elaborate.specs.declared.fault.ElaborateFault.{ElaborateFault}
 use Rattle.scrib_elaborate.specs.declared.fault.ElaborateFault.TheVariants as elaborate
+use Rattle.scrib_elaborate.specs.declared.elaborated.Elaborated.{Elaborated}
 use Rattle.scrib_elaborate.specs.Elaboration.{Elaborates}
 use Rattle.scrib_elaborate.specs.Faults.{FailsAt, IsBroken}
+use Rattle.scrib_elaborate.specs.Meaning.{meaning_of}
+use Rattle.scrib_elaborate.specs.Sites.{AreSites}
 use Rattle.scrib_project.specs.declared.fault.ProjectFault.{ProjectFault}
 use Rattle.scrib_project.specs.declared.fault.ProjectFault.TheVariants as project
-use Rattle.scrib_project.specs.Faults.{Agrees}
+use Rattle.scrib_project.specs.Faults.{Agrees, IsPlaced, IsFaultPlaced}
 use Rattle.scrib_library.specs.declared.declared.Entry.{Entry}
 use Rattle.scrib_library.specs.declared.meanings.NamedElaborated.{NamedElaborated}
 use Rattle.scrib_library.specs.declared.meanings.NamedMeaning.{NamedMeaning}
@@ -21,7 +25,7 @@ use Rattle.scrib_library.specs.declared.fault.EditFault.TheVariants as edit
 use Rattle.scrib_library.specs.Made.{edit_fault_of_elaborate, edit_fault_of_project}
 use Rattle.scrib_library.specs.Listed.{AreInOrder}
 use Rattle.scrib_library.specs.Entries.{entry_names, AreStanding}
-use Rattle.scrib_library.specs.Elaborated.{elaborated_names, meaning_names, found, meant, IsMeant, IsMeaningOf, IsFoundFor, IsBrokenEntry, AreElaborated, AreMeanings, IsProjected, StopsNamed, IsProjectionOf, AreProjected, AreElaborable, StopsProjection, IsRefusal}
+use Rattle.scrib_library.specs.Elaborated.{elaborated_names, meaning_names, found, meant, IsMeant, IsMeaningOf, HasSites, IsFoundFor, IsFoundAmong, IsBrokenEntry, AreElaborated, AreMeanings, IsProjected, StopsNamed, IsProjectionOf, AreProjected, AreElaborable, StopsProjection, IsRefusal}
 use Rattle.scrib_library.proofs.Lists.{Contains-map, Contains-map_back}
 use Rattle.scrib_library.proofs.Orders.{once}
 
@@ -33,13 +37,13 @@ broken_entry ms e (elaborate.Broken f) s k = (s, k)
 
 module _ (ms : List ModuleTree) (es : List Entry) where
   -- one more that is elaborated
-  pub elaborated_more : (xs : List NamedElaborated) (ys : List Entry) (e : Entry) (x : NamedElaborated) → Contains es e → elaborated_names xs ≡ entry_names ys → ((y : NamedElaborated) → Contains xs y → IsMeaningOf ms es y.name (found y)) → IsFoundFor ms e x
-      → (elaborated_names (xs ++ x ∷ []) ≡ entry_names (ys ++ e ∷ [])) × ((y : NamedElaborated) → Contains (xs ++ x ∷ []) y → IsMeaningOf ms es y.name (found y))
+  pub elaborated_more : (xs : List NamedElaborated) (ys : List Entry) (e : Entry) (x : NamedElaborated) → Contains es e → elaborated_names xs ≡ entry_names ys → ((y : NamedElaborated) → Contains xs y → IsFoundAmong ms es y) → IsFoundFor ms e x
+      → (elaborated_names (xs ++ x ∷ []) ≡ entry_names (ys ++ e ∷ [])) × ((y : NamedElaborated) → Contains (xs ++ x ∷ []) y → IsFoundAmong ms es y)
   elaborated_more xs ys e x there names sound new = (
     map-append (λ (y : NamedElaborated). y.name) xs (x ∷ []) ∙ (λ i. names i ++ new.named i ∷ []) ∙ sym (map-append (λ (y : Entry). y.name) ys (e ∷ [])),
     λ y p. elim (Contains-push_cases xs x y p) [
       | inl q ↦ sound y q
-      | inr same ↦ (let P : NamedElaborated → Type 0 = λ z. IsMeaningOf ms es z.name (found z) in subst P same (record { entry = e; there = there; named = new.named; means = new.means }))
+      | inr same ↦ (let P : NamedElaborated → Type 0 = λ z. IsFoundAmong ms es z in subst P same (record { entry = e; there = there; found = new }))
     ],
   )
 
@@ -63,9 +67,10 @@ module _ (ms : List ModuleTree) (es : List Entry) where
 
 -- ---- projection
 
-pub unprojected_named : (x : NamedElaborated) (a : Agreement) (f : ProjectFault) → found x ≡ Some a → Agrees a (Err f) → StopsNamed x (edit_fault_of_project f)
-unprojected_named x a project.OutOfMemory is k = tt
-unprojected_named x a (project.Unmergeable u) is k = (a, is, k.0)
+pub unprojected_named : (x : NamedElaborated) (e : Elaborated) (f : ProjectFault) → x.elaborated ≡ Some e → Agrees (meaning_of e) (Err f)
+    → ((ms : List ModuleTree) (home : List (List ℕ)) (name : List ℕ) → AreSites ms home name e → IsFaultPlaced ms home name (meaning_of e).global f) → StopsNamed x (edit_fault_of_project f)
+unprojected_named x e project.OutOfMemory is k place = tt
+unprojected_named x e (project.Unmergeable u) is k place = record { elaborated = e; is = is; first = k.0; place = place }
 
 module _ (xs : List NamedElaborated) where
   pub projected_more : (vs : List NamedMeaning) (ys : List NamedElaborated) (x : NamedElaborated) (v : NamedMeaning) → Contains xs x → meaning_names vs ≡ elaborated_names ys → ((w : NamedMeaning) → Contains vs w → IsProjectionOf xs w) → IsProjected x v
@@ -79,7 +84,7 @@ module _ (xs : List NamedElaborated) where
   )
 
   pub not_projected : (x : NamedElaborated) (f : EditFault) → Contains xs x → StopsNamed x f → StopsProjection xs f
-  not_projected x (edit.Project u) there k = record { source = x; there = there; meaning = k.0; means = k.1; first = k.2 }
+  not_projected x (edit.Project u) there k = (x, there, k)
   not_projected x edit.OutOfMemory there k = tt
   not_projected x (edit.Elaborate f) there k = absurd k
   not_projected x edit.TooManyModules there k = absurd k
@@ -106,10 +111,13 @@ module _ (ms : List ModuleTree) (es : List Entry) where
       let P : Entry → Type 0 = λ y. IsMeant ms y (o x.0) in
       stands_meant e (o x.0) s (subst P same m.means)
 
+  meaning_found : (x : NamedElaborated) → IsFoundAmong ms es x → IsMeaningOf ms es x.name (found x)
+  meaning_found x h = record { entry = h.entry; there = h.there; named = h.found.named; means = h.found.means }
+
   pub elaborable_by : AreInOrder (entry_names es) → (xs : List NamedElaborated) → AreElaborated ms es xs → AreElaborable ms es
   elaborable_by sorted xs h =
       let P : (e : Entry) → List (List (List ℕ)) → Type 0 = λ e l. Contains l e.name in
-      elaborable sorted NamedElaborated xs (λ x. x.name) found (λ e p. Contains-map_back (λ (x : NamedElaborated). x.name) xs e.name (subst (P e) (sym h.names) (Contains-map (λ (y : Entry). y.name) es e p))) h.sound
+      elaborable sorted NamedElaborated xs (λ x. x.name) found (λ e p. Contains-map_back (λ (x : NamedElaborated). x.name) xs e.name (subst (P e) (sym h.names) (Contains-map (λ (y : Entry). y.name) es e p))) (λ x p. meaning_found x (h.sound x p))
 
   pub elaborable_from : AreInOrder (entry_names es) → (ys : List NamedMeaning) → AreMeanings ms es ys → AreElaborable ms es
   elaborable_from sorted ys h =
@@ -124,18 +132,22 @@ module _ (ms : List ModuleTree) (es : List Entry) where
           let s = k.sound y p in
           let m = h.sound s.source s.there in
           let P : Option Agreement → Type 0 = λ o. IsMeant ms m.entry o in
-          record { entry = m.entry; there = m.there; named = s.named ∙ m.named; means = subst P (sym s.means) m.means };
+          record { entry = m.entry; there = m.there; named = s.named ∙ m.found.named; means = subst P (sym s.means) m.found.means };
     }
 
     pub no_meanings : AreInOrder (entry_names es) → AreStanding ms es → (f : EditFault) → StopsProjection xs f → IsRefusal ms es f
-    no_meanings sorted stand (edit.Project u) k =
-        let m = h.sound k.source k.there in
-        let P : Option Agreement → Type 0 = λ o. IsMeant ms m.entry o in
-        let e = subst P k.means m.means in
+    no_meanings sorted stand (edit.Project u) (x, there, k) =
+        let m = h.sound x there in
+        let g = (meaning_of k.elaborated).global in
+        let P : Option Elaborated → Type 0 = λ o. IsMeant ms m.entry (option_map meaning_of o) in
+        let Q : Option Elaborated → Type 0 = λ o. HasSites ms m.entry o in
+        let e = subst P k.is m.found.means in
+        let at = k.place ms m.entry.home.now m.entry.protocol.now (subst Q k.is m.found.sites) in
         let s = stand m.entry m.there e.0 in
-        let Q : List (List ℕ) → Type 0 = λ home. Elaborates ms home s.declaration.protocol.name k.meaning in
-        let R : List ℕ → Type 0 = λ name. Elaborates ms m.entry.home.now name k.meaning in
-        ((m.entry, m.there, e.0), elaborable_by sorted xs h, (s.declaration, k.meaning, s.there, subst Q s.entry.home (subst R s.entry.protocol e.1), k.first))
+        let R : List (List ℕ) → Type 0 = λ home. Elaborates ms home s.declaration.protocol.name (meaning_of k.elaborated) × IsPlaced ms home s.declaration.protocol.name g u in
+        let S : List ℕ → Type 0 = λ name. Elaborates ms m.entry.home.now name (meaning_of k.elaborated) × IsPlaced ms m.entry.home.now name g u in
+        let both = subst R s.entry.home (subst S s.entry.protocol (e.1, at)) in
+        ((m.entry, m.there, e.0), elaborable_by sorted xs h, (s.declaration, meaning_of k.elaborated, s.there, both.0, k.first, both.1))
     no_meanings sorted stand edit.OutOfMemory k = tt
     no_meanings sorted stand (edit.Elaborate f) k = absurd k
     no_meanings sorted stand edit.TooManyModules k = absurd k

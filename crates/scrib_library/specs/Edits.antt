@@ -21,7 +21,7 @@ use Rattle.scrib_elaborate.specs.Names.{Declaration, declarations, has_name, mod
 use Rattle.scrib_elaborate.specs.Locality.{without_module}
 use Rattle.scrib_elaborate.specs.Faults.{IsBroken}
 use Rattle.scrib_project.specs.declared.fault.Unmergeable.{Unmergeable}
-use Rattle.scrib_project.specs.Faults.{first_without}
+use Rattle.scrib_project.specs.Faults.{first_without, IsPlaced}
 use Rattle.scrib_library.specs.declared.changes.ChangeKind.{ChangeKind}
 use Rattle.scrib_library.specs.declared.changes.ChangeKind.TheVariants.{Added, Replaced, Withdrawn}
 use Rattle.scrib_library.specs.declared.changes.Change.{Change}
@@ -145,11 +145,12 @@ abbrev pub IsBrokenIn : List ModuleTree → Fault → Type 0
 IsBrokenIn modules f =
     (d : Declaration) × Contains (declarations modules) d × IsBroken modules d.home.name d.protocol.name f
 
--- what a declared protocol means has no projection on the role, which is the first such role of it
+-- What a declared protocol means has no projection on the role, which is the first such role of it. At the place
+-- stands a choice that the protocol's type is made of, and whose branches differ for the role.
 abbrev pub IsUnmergeableIn : List ModuleTree → Unmergeable → Type 0
 IsUnmergeableIn modules u =
     (d : Declaration) × (a : Agreement) × Contains (declarations modules) d × DeclaredMeans modules d a
-    × (first_without a.global a.roles ≡ Some u.role)
+    × (first_without a.global a.roles ≡ Some u.role) × IsPlaced modules d.home.name d.protocol.name a.global u
 
 -- With the module there is no room, the modules aren't well formed, or versions run out, for this and nothing that
 -- comes before it.

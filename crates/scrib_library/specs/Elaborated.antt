@@ -5,11 +5,14 @@ use Rattle.std.specs.Option.{option_map}
 use Rattle.scrib_types.specs.Agreement.{Agreement}
 use Rattle.scrib_types.specs.Meaning.{agreement_of}
 use Rattle.scrib_parser.specs.declared.tree.ModuleTree.{ModuleTree}
+use Rattle.scrib_elaborate.specs.declared.elaborated.Elaborated.{Elaborated}
 use Rattle.scrib_elaborate.specs.Elaboration.{Elaborates}
 use Rattle.scrib_elaborate.specs.Faults.{IsBroken}
 use Rattle.scrib_elaborate.specs.Meaning.{meaning_of}
+use Rattle.scrib_elaborate.specs.Sites.{AreSites}
 use Rattle.scrib_project.specs.declared.projected.ProjectedProtocol.{ProjectedProtocol}
-use Rattle.scrib_project.specs.Faults.{first_without}
+use Rattle.scrib_project.specs.declared.fault.Unmergeable.{Unmergeable}
+use Rattle.scrib_project.specs.Faults.{first_without, IsPlaced}
 use Rattle.scrib_library.specs.declared.declared.Entry.{Entry}
 use Rattle.scrib_library.specs.declared.meanings.NamedElaborated.{NamedElaborated}
 use Rattle.scrib_library.specs.declared.meanings.NamedMeaning.{NamedMeaning}
@@ -44,19 +47,31 @@ pub record IsMeaningOf (modules : List ModuleTree) (es : List Entry) (name : Lis
 
 -- what one entry's protocol means, or why it means nothing
 
+-- the joins of what was elaborated of the entry's protocol, if anything, are those of its type
+abbrev pub HasSites : List ModuleTree → Entry → Option Elaborated → Type 0
+HasSites modules e None = Unit {0}
+HasSites modules e (Some p) = AreSites modules e.home.now e.protocol.now p
+
 pub record IsFoundFor (modules : List ModuleTree) (e : Entry) (x : NamedElaborated) : Type 0 where
   pub named : x.name ≡ e.name
   pub means : IsMeant modules e (found x)
+  pub sites : HasSites modules e x.elaborated
 
 abbrev pub IsBrokenEntry : List ModuleTree → Entry → EditFault → Type 0
 IsBrokenEntry modules e (edit.Elaborate f) = (e.stands ≡ true) × IsBroken modules e.home.now e.protocol.now f
 IsBrokenEntry modules e edit.OutOfMemory = Unit {0}
 IsBrokenEntry modules e other = ⊥
 
+-- it was found for one of these entries
+pub record IsFoundAmong (modules : List ModuleTree) (es : List Entry) (x : NamedElaborated) : Type 0 where
+  pub entry : Entry
+  pub there : Contains es entry
+  pub found : IsFoundFor modules entry x
+
 -- what each entry's protocol means, in the same order
 pub record AreElaborated (modules : List ModuleTree) (es : List Entry) (xs : List NamedElaborated) : Type 0 where
   pub names : elaborated_names xs ≡ entry_names es
-  pub sound : (x : NamedElaborated) → Contains xs x → IsMeaningOf modules es x.name (found x)
+  pub sound : (x : NamedElaborated) → Contains xs x → IsFoundAmong modules es x
 
 pub record AreMeanings (modules : List ModuleTree) (es : List Entry) (ys : List NamedMeaning) : Type 0 where
   pub names : meaning_names ys ≡ entry_names es
@@ -68,8 +83,17 @@ pub record IsProjected (x : NamedElaborated) (y : NamedMeaning) : Type 0 where
   pub named : y.name ≡ x.name
   pub means : meant y ≡ found x
 
+-- What it means has no projection on the role, which is the first such role of it. The place is that of a choice
+-- whose branches differ for the role, where the joins are those of its type.
+pub record IsUnprojected (x : NamedElaborated) (u : Unmergeable) : Type 0 where
+  pub elaborated : Elaborated
+  pub is : x.elaborated ≡ Some elaborated
+  pub first : first_without (meaning_of elaborated).global (meaning_of elaborated).roles ≡ Some u.role
+  pub place : (modules : List ModuleTree) (home : List (List ℕ)) (name : List ℕ)
+      → AreSites modules home name elaborated → IsPlaced modules home name (meaning_of elaborated).global u
+
 abbrev pub StopsNamed : NamedElaborated → EditFault → Type 0
-StopsNamed x (edit.Project u) = (a : Agreement) × (found x ≡ Some a) × (first_without a.global a.roles ≡ Some u.role)
+StopsNamed x (edit.Project u) = IsUnprojected x u
 StopsNamed x edit.OutOfMemory = Unit {0}
 StopsNamed x other = ⊥
 
@@ -85,14 +109,6 @@ pub record AreProjected (xs : List NamedElaborated) (ys : List NamedMeaning) : T
   pub names : meaning_names ys ≡ elaborated_names xs
   pub sound : (y : NamedMeaning) → Contains ys y → IsProjectionOf xs y
 
--- what one of these means has no projection on the role, which is the first such role of it
-pub record IsUnprojected (xs : List NamedElaborated) (role : List ℕ) : Type 0 where
-  pub source : NamedElaborated
-  pub there : Contains xs source
-  pub meaning : Agreement
-  pub means : found source ≡ Some meaning
-  pub first : first_without meaning.global meaning.roles ≡ Some role
-
 abbrev pub SomeStands : List Entry → Type 0
 SomeStands es = (e : Entry) × Contains es e × (e.stands ≡ true)
 
@@ -102,7 +118,7 @@ AreElaborable modules es =
     (e : Entry) → Contains es e → e.stands ≡ true → (a : Agreement) × Elaborates modules e.home.now e.protocol.now a
 
 abbrev pub StopsProjection : List NamedElaborated → EditFault → Type 0
-StopsProjection xs (edit.Project u) = IsUnprojected xs u.role
+StopsProjection xs (edit.Project u) = (x : NamedElaborated) × Contains xs x × IsUnprojected x u
 StopsProjection xs edit.OutOfMemory = Unit {0}
 StopsProjection xs other = ⊥
 

@@ -1,11 +1,8 @@
-use Rattle.std.proofs.Common.{ap}
-use Rattle.std.specs.Option.{option_map}
 use Rattle.std.proofs.lemmas.Result.{err_from_is_err_and}
-use Rattle.scrib_elaborate.specs.Meaning.{meaning_of}
 use Rattle.scrib_library.proofs.Elaborating.{unprojected_named}
 use Rattle.scrib_library.proofs.meanings.project_named.Goals as goal
 
 pub returns-in_err-protocol_with_projections-in-Some-clause-fault : goal.returns-in_err-protocol_with_projections-in-Some-clause-fault
 returns-in_err-protocol_with_projections-in-Some-clause-fault c =
     let p = err_from_is_err_and c.from_residual.result c.from_residual.ensures.1 in
-    rw (p.1, p.2) (unprojected_named c.args.named (meaning_of c.in-Some.elaborated) c.in_err-protocol_with_projections-in-Some.field-0.0 (ap (λ o. option_map meaning_of o) c.in-Some.is) c.in_err-protocol_with_projections-in-Some.ensures.value)
+    rw (p.1, p.2) (unprojected_named c.args.named c.in-Some.elaborated c.in_err-protocol_with_projections-in-Some.field-0.0 c.in-Some.is c.in_err-protocol_with_projections-in-Some.ensures.value c.in_err-protocol_with_projections-in-Some.ensures.place)
