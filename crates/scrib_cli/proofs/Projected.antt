@@ -1,5 +1,5 @@
 -- What the steps of `project` come to.
-use Rattle.std.proofs.Common.{◌≡◌, ◌+◌, ◌||◌, inl, inr, ℕ, ◌<◌, Bool, true, false, List, [], ◌∷◌, ◌++◌, ◌∙◌, length, drop, get_or, Option, Some, sym, ap, refl, arith}
+use Rattle.std.proofs.Common.{◌≡◌, ◌+◌, ◌||◌, inl, inr, ℕ, ◌<◌, Bool, true, false, List, [], ◌∷◌, ◌++◌, ◌∙◌, length, drop, get_or, Option, Some, Result, Ok, Err, IfOk, sym, ap, refl, arith}
 use Rattle.std.specs.Str.{bytes_eq}
 use Rattle.std.proofs.lemmas.Bool.{false_from_ne_true}
 use Rattle.std.proofs.lemmas.Slice.Eq.{bytes_eq-Decides}
@@ -21,11 +21,12 @@ use Rattle.scrib_library.specs.declared.fault.EditFault.TheVariants as edit
 use Rattle.scrib_library.specs.Made.{edit_fault_of_lex, edit_fault_of_parse}
 use Rattle.scrib_script.specs.Fields.{IsDottedText}
 use Rattle.scrib_script.proofs.Pieces.{dotted-pieces}
+use Rattle.scrib_cli.specs.declared.fault.ScriptFault.{ScriptFault}
 use Rattle.scrib_cli.specs.declared.full_name.FullName.{FullName}
 use Rattle.scrib_cli.specs.declared.projection.Projection.{Projection}
 use Rattle.scrib_cli.specs.declared.projection.Projection.TheVariants.{Projects, NoProtocol, NoRole, Refused}
 use Rattle.scrib_cli.specs.Projections.{IsFullName, AreAdded, IsNoModule, IsProjection, undeclared, unmerged, does}
-use Rattle.scrib_cli.specs.ProjectionSteps.{IsUnreadOrRefused, IsRoleProjection}
+use Rattle.scrib_cli.specs.ProjectionSteps.{IsUnreadOrRefused, IsRoleProjection, IsRefusalPlaced}
 
 -- why the text has no tokens
 pub lex_refused : (text : List ℕ) (f : LexFault) → tokens.FailsAt text f → IsUnreadOrRefused text (edit_fault_of_lex f)
@@ -62,22 +63,27 @@ alone bytes names last h e name k =
     omega (arith, ap length same, length-append names (last ∷ []), length-append name.home (name.protocol ∷ []), k.1)
 
 -- no protocol has the name, and the answer is what the role does
-pub on_role : (texts : List (Option (List ℕ))) (protocol role : List ℕ) (name : FullName) (modules : List ModuleTree) (a : Agreement) (p : Projection)
-    → IsFullName protocol name → AreAdded [] texts modules → Elaborates modules name.home name.protocol a → IsRoleProjection a role p → IsProjection texts protocol role p
-on_role texts protocol role name modules a (Projects l) n m e h = does name modules a l n m e h.0 h.1
-on_role texts protocol role name modules a NoProtocol n m e h = absurd h
-on_role texts protocol role name modules a NoRole n m e h = undeclared name modules a n m e h
-on_role texts protocol role name modules a (Refused (edit.Project u)) n m e h = unmerged name modules a u n m e h.0 h.1
-on_role texts protocol role name modules a (Refused edit.UnknownModule) n m e h = absurd h
-on_role texts protocol role name modules a (Refused edit.TooManyModules) n m e h = absurd h
-on_role texts protocol role name modules a (Refused (edit.StillImported other)) n m e h = absurd h
-on_role texts protocol role name modules a (Refused edit.VersionsFull) n m e h = absurd h
-on_role texts protocol role name modules a (Refused (edit.ImportMissing other)) n m e h = absurd h
-on_role texts protocol role name modules a (Refused edit.TooManyProtocols) n m e h = absurd h
-on_role texts protocol role name modules a (Refused (edit.Elaborate f)) n m e h = absurd h
-on_role texts protocol role name modules a (Refused (edit.Lex f)) n m e h = absurd h
-on_role texts protocol role name modules a (Refused (edit.Parse f)) n m e h = absurd h
-on_role texts protocol role name modules a (Refused edit.OutOfMemory) n m e h = absurd h
+on_role : (texts : List (Option (List ℕ))) (protocol role : List ℕ) (name : FullName) (modules : List ModuleTree) (a : Agreement) (p : Projection)
+    → IsFullName protocol name → AreAdded [] texts modules → Elaborates modules name.home name.protocol a → IsRoleProjection a role p → IsRefusalPlaced modules name.home name.protocol a.global p → IsProjection texts protocol role p
+on_role texts protocol role name modules a (Projects l) n m e h at = does name modules a l n m e h.0 h.1
+on_role texts protocol role name modules a NoProtocol n m e h at = absurd h
+on_role texts protocol role name modules a NoRole n m e h at = undeclared name modules a n m e h
+on_role texts protocol role name modules a (Refused (edit.Project u)) n m e h at = unmerged name modules a u n m e h.0 h.1 at
+on_role texts protocol role name modules a (Refused edit.UnknownModule) n m e h at = absurd h
+on_role texts protocol role name modules a (Refused edit.TooManyModules) n m e h at = absurd h
+on_role texts protocol role name modules a (Refused (edit.StillImported other)) n m e h at = absurd h
+on_role texts protocol role name modules a (Refused edit.VersionsFull) n m e h at = absurd h
+on_role texts protocol role name modules a (Refused (edit.ImportMissing other)) n m e h at = absurd h
+on_role texts protocol role name modules a (Refused edit.TooManyProtocols) n m e h at = absurd h
+on_role texts protocol role name modules a (Refused (edit.Elaborate f)) n m e h at = absurd h
+on_role texts protocol role name modules a (Refused (edit.Lex f)) n m e h at = absurd h
+on_role texts protocol role name modules a (Refused (edit.Parse f)) n m e h at = absurd h
+on_role texts protocol role name modules a (Refused edit.OutOfMemory) n m e h at = absurd h
+
+pub ok_role : (texts : List (Option (List ℕ))) (protocol role : List ℕ) (name : FullName) (modules : List ModuleTree) (a : Agreement) (r : Result Projection ScriptFault)
+    → IsFullName protocol name → AreAdded [] texts modules → Elaborates modules name.home name.protocol a → IfOk r (IsRoleProjection a role) → IfOk r (IsRefusalPlaced modules name.home name.protocol a.global) → IfOk r (IsProjection texts protocol role)
+ok_role texts protocol role name modules a (Ok p) n m e h at = on_role texts protocol role name modules a p n m e h at
+ok_role texts protocol role name modules a (Err f) n m e h at = tt
 
 -- the role is the one here
 pub declared_here : (roles : List (List ℕ)) (i : ℕ) (name role : List ℕ) → i < length roles → role ≡ get_or roles i role → role ≡ name → has_role name (drop i roles) ≡ has_role name roles → has_role name roles ≡ true

@@ -3,10 +3,11 @@
 use Rattle.std.specs.Prelude.{◌≡◌, ◌⊎◌, ⊤, ℕ, true, false, List, Option, Some, None}
 use Rattle.scrib_types.specs.Agreement.{Agreement}
 use Rattle.scrib_types.specs.LocalView.{local_of}
+use Rattle.scrib_types.specs.Trees.{GlobalTree}
 use Rattle.scrib_types.specs.Projection.{projection}
 use Rattle.scrib_types.specs.WellFormed.{has_role}
 use Rattle.scrib_parser.specs.declared.tree.ModuleTree.{ModuleTree}
-use Rattle.scrib_project.specs.Faults.{IsUnmergeable}
+use Rattle.scrib_project.specs.Faults.{IsUnmergeable, IsPlaced}
 use Rattle.scrib_library.specs.declared.fault.EditFault.{EditFault}
 use Rattle.scrib_library.specs.declared.fault.EditFault.TheVariants as edit
 use Rattle.scrib_script.specs.Fields.{IsDottedText}
@@ -63,3 +64,9 @@ IsRoleProjection a role (Refused (edit.Elaborate f)) = ⊥
 IsRoleProjection a role (Refused (edit.Lex f)) = ⊥
 IsRoleProjection a role (Refused (edit.Parse f)) = ⊥
 IsRoleProjection a role (Refused edit.OutOfMemory) = ⊥
+
+-- where the protocol of this name, in the module of this name, has no projection, the place is that of a choice
+-- without one
+abbrev pub IsRefusalPlaced : List ModuleTree → (home : List (List ℕ)) (name : List ℕ) → GlobalTree → Projection → Type 0
+IsRefusalPlaced modules home name g (Refused (edit.Project u)) = IsPlaced modules home name g u
+IsRefusalPlaced modules home name g other = Unit {0}

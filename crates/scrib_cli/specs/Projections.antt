@@ -13,7 +13,7 @@ use Rattle.scrib_elaborate.specs.Names.{with_module}
 use Rattle.scrib_elaborate.specs.Elaboration.{Elaborates}
 use Rattle.scrib_elaborate.specs.Faults.{IsBroken}
 use Rattle.scrib_project.specs.declared.fault.Unmergeable.{Unmergeable}
-use Rattle.scrib_project.specs.Faults.{IsUnmergeable}
+use Rattle.scrib_project.specs.Faults.{IsUnmergeable, IsPlaced}
 use Rattle.scrib_local.specs.Text.{local_text}
 use Rattle.scrib_library.specs.declared.fault.EditFault.{EditFault}
 use Rattle.scrib_library.specs.declared.fault.EditFault.TheVariants as edit
@@ -68,7 +68,7 @@ StopsUnread (Some t ∷ ts) = (m : ModuleTree) × Reads t m × StopsUnread ts
 
 -- The answer for the protocol of this full name and this role, over module texts, by the first of these cases that
 -- it falls under: it is no full name; a text is no module; the protocol means nothing; it declares no such role; it
--- has no projection on the role; the role does this.
+-- has no projection on the role, and at the place stands a choice whose branches differ for it; the role does this.
 pub data IsProjection (texts : List (Option (List ℕ))) (protocol role : List ℕ) : Projection → Type 0 where
   unnamed : ((name : FullName) → IsFullName protocol name → ⊥) → IsProjection texts protocol role NoProtocol
   unread : (name : FullName) (f : EditFault) → IsFullName protocol name → FailsAmong texts f → IsProjection texts protocol role (Refused f)
@@ -77,7 +77,8 @@ pub data IsProjection (texts : List (Option (List ℕ))) (protocol role : List �
   undeclared : (name : FullName) (modules : List ModuleTree) (a : Agreement) → IsFullName protocol name → AreAdded [] texts modules
       → Elaborates modules name.home name.protocol a → has_role role a.roles ≡ false → IsProjection texts protocol role NoRole
   unmerged : (name : FullName) (modules : List ModuleTree) (a : Agreement) (u : Unmergeable) → IsFullName protocol name → AreAdded [] texts modules
-      → Elaborates modules name.home name.protocol a → has_role role a.roles ≡ true → IsUnmergeable a.global role u → IsProjection texts protocol role (Refused (edit.Project u))
+      → Elaborates modules name.home name.protocol a → has_role role a.roles ≡ true → IsUnmergeable a.global role u
+      → IsPlaced modules name.home name.protocol a.global u → IsProjection texts protocol role (Refused (edit.Project u))
   does : (name : FullName) (modules : List ModuleTree) (a : Agreement) (l : Local) → IsFullName protocol name → AreAdded [] texts modules
       → Elaborates modules name.home name.protocol a → has_role role a.roles ≡ true → projection role a.global ≡ Some (local_of l) → IsProjection texts protocol role (Projects l)
 

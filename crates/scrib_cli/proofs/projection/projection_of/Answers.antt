@@ -1,14 +1,13 @@
 use Rattle.std.proofs.Common.{[], sym, subst}
-use Rattle.std.proofs.lemmas.Result.{IfOk-weaker}
 use Rattle.scrib_elaborate.specs.declared.fault.Fault.{Fault}
 use Rattle.scrib_elaborate.specs.Meaning.{meaning_of}
 use Rattle.scrib_elaborate.specs.Elaboration.{Elaborates}
 use Rattle.scrib_elaborate.specs.Faults.{IsBroken}
+use Rattle.scrib_elaborate.specs.Sites.{AreSites}
 use Rattle.scrib_library.specs.declared.fault.EditFault.TheVariants as edit
 use Rattle.scrib_cli.specs.declared.projection.Projection.TheVariants.{Refused}
 use Rattle.scrib_cli.specs.Projections.{IsFullName, AreAdded, IsProjection, FailsAmong, unnamed, unread, meaningless}
-use Rattle.scrib_cli.specs.ProjectionSteps.{IsRoleProjection}
-use Rattle.scrib_cli.proofs.Projected.{on_role}
+use Rattle.scrib_cli.proofs.Projected.{ok_role}
 use Rattle.scrib_cli.proofs.projection.projection_of.Goals as goal
 
 pub returns-in_default-clause-ok : goal.returns-in_default-clause-ok
@@ -25,9 +24,9 @@ returns-in-Ok-clause-ok c =
     let named : IsFullName c.args.protocol.now c.in-Some.name = rw c.in-Some.is at c.in_ok-name.ensures in
     let added : AreAdded [] c.args.texts.now c.add_texts.new.modules = rw (c.in_default-2.is, c.new-modules.ensures) at c.in_ok-fault.ensures.ok in
     let means : Elaborates c.add_texts.new.modules c.in-Some.name.home c.in-Some.name.protocol (meaning_of c.in-Ok.elaborated) = c.in-Ok.ensures.ok in
-    IfOk-weaker c.projection_on.result (IsRoleProjection (meaning_of c.in-Ok.elaborated) c.args.role.now) (IsProjection c.args.texts.now c.args.protocol.now c.args.role.now)
-    (λ p h. on_role c.args.texts.now c.args.protocol.now c.args.role.now c.in-Some.name c.add_texts.new.modules (meaning_of c.in-Ok.elaborated) p named added means h)
-    c.projection_on.ensures.ok
+    let sites : AreSites c.add_texts.new.modules c.in-Some.name.home c.in-Some.name.protocol c.in-Ok.elaborated = c.in-Ok.ensures.sites in
+    ok_role c.args.texts.now c.args.protocol.now c.args.role.now c.in-Some.name c.add_texts.new.modules (meaning_of c.in-Ok.elaborated) c.projection_on.result named added means
+    c.projection_on.ensures.ok (c.projection_on.ensures.place c.add_texts.new.modules c.in-Some.name.home c.in-Some.name.protocol sites)
 
 pub returns-in-Err-Broken-clause-ok : goal.returns-in-Err-Broken-clause-ok
 returns-in-Err-Broken-clause-ok c =

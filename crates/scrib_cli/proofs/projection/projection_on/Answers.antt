@@ -1,0 +1,8 @@
+use Rattle.scrib_elaborate.specs.Meaning.{meaning_of}
+use Rattle.scrib_project.specs.Faults.{IsPlaced}
+use Rattle.scrib_cli.proofs.projection.projection_on.Goals as goal
+
+pub returns-in-Err-Unmergeable-clause-place : goal.returns-in-Err-Unmergeable-clause-place
+returns-in-Err-Unmergeable-clause-place c = λ modules home name sites.
+    let placed : IsPlaced modules home name (meaning_of c.args.elaborated.now).global c.in-Err-Unmergeable.fault = rw c.in-Err-Unmergeable.field-0-is at (c.in-Err-Unmergeable.ensures.place modules home name sites) in
+    placed
