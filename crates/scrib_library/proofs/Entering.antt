@@ -16,17 +16,17 @@ use Rattle.scrib_library.proofs.Places.{declared-back, declared-there}
 use Rattle.scrib_library.proofs.Searching.{Contains-insert, Contains-insert_cases, map-insert, in_order-insert, Contains-at, not_at_gap}
 
 -- one more element of the front of a list
-taken_cases : {X : Type 0} (xs : List X) (i : ℕ) (x : X) → i < length xs → x ≡ get_or xs i x → (y : X) → Contains (take (i + 1) xs) y → Contains (take i xs) y ⊎ (x ≡ y)
+pub taken_cases : {X : Type 0} (xs : List X) (i : ℕ) (x : X) → i < length xs → x ≡ get_or xs i x → (y : X) → Contains (take (i + 1) xs) y → Contains (take i xs) y ⊎ (x ≡ y)
 taken_cases {X} xs i x lt at y p =
     let P : List X → Type 0 = λ l. Contains l y in
     Contains-push_cases (take i xs) x y (subst P (take_more xs i x lt ∙ ap (λ z. take i xs ++ z ∷ []) (sym at)) p)
 
-taken_back : {X : Type 0} (xs : List X) (i : ℕ) (x : X) → i < length xs → x ≡ get_or xs i x → (y : X) → Contains (take i xs) y → Contains (take (i + 1) xs) y
+pub taken_back : {X : Type 0} (xs : List X) (i : ℕ) (x : X) → i < length xs → x ≡ get_or xs i x → (y : X) → Contains (take i xs) y → Contains (take (i + 1) xs) y
 taken_back {X} xs i x lt at y p =
     let P : List X → Type 0 = λ l. Contains l y in
     subst P (sym (take_more xs i x lt ∙ ap (λ z. take i xs ++ z ∷ []) (sym at))) (Contains-append_left (take i xs) (x ∷ []) y p)
 
-taken_last : {X : Type 0} (xs : List X) (i : ℕ) (x : X) → i < length xs → x ≡ get_or xs i x → Contains (take (i + 1) xs) x
+pub taken_last : {X : Type 0} (xs : List X) (i : ℕ) (x : X) → i < length xs → x ≡ get_or xs i x → Contains (take (i + 1) xs) x
 taken_last {X} xs i x lt at =
     let P : List X → Type 0 = λ l. Contains l x in
     subst P (sym (take_more xs i x lt ∙ ap (λ z. take i xs ++ z ∷ []) (sym at))) (Contains-push (take i xs) x)

@@ -13,3 +13,6 @@ pub mod Refusals
 pub mod Covering
 pub mod Elaborating
 pub mod Planning
+pub mod Naming
+pub mod Withdrawing
+pub mod Importing

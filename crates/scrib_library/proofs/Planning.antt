@@ -7,7 +7,7 @@ use Rattle.std.proofs.lemmas.List.{same_from_push, take-append-drop, get_or-set_
 use Rattle.std.proofs.lemmas.List.Elements.{Contains-append_left}
 use Rattle.scrib_types.specs.Agreement.{Agreement}
 use Rattle.scrib_parser.specs.declared.tree.ModuleTree.{ModuleTree}
-use Rattle.scrib_elaborate.specs.Names.{Declaration, dotted_eq, declarations, with_module}
+use Rattle.scrib_elaborate.specs.Names.{Declaration, dotted_eq, distinct_names, module_names, declarations, with_module}
 use Rattle.scrib_elaborate.specs.Locality.{IsClosed, AgreeOn, elaborates_alike, put_agrees}
 use Rattle.scrib_elaborate.specs.declared.modules.Placed.{Placed}
 use Rattle.scrib_elaborate.specs.Placed.{IsPlaced, back_to}
@@ -32,6 +32,7 @@ use Rattle.scrib_library.specs.Plans.{IsPlan, StopsPut}
 use Rattle.scrib_library.proofs.Lists.{Contains-set_cases, Contains-map_back}
 use Rattle.scrib_library.proofs.Orders.{get_or_any}
 use Rattle.scrib_library.proofs.Places.{either, with_module-cases, imports_kept, declared-back, declared-there}
+use Rattle.scrib_library.proofs.Naming.{distinct_with}
 use Rattle.scrib_library.proofs.Spelling.{spelled}
 use Rattle.scrib_library.proofs.Refusals.{put_refused}
 use Rattle.scrib_library.proofs.Meant.{declared_of, declared_means, means_declared, holdings}
@@ -196,6 +197,11 @@ module _ (m : ModuleTree) (before after : List ModuleTree) (p : Placed) (placed 
 
   -- ---- the library after the put
 
+  pub distinct_after : distinct_names (module_names after) ≡ true
+  distinct_after =
+      let P : List ModuleTree → Type 0 = λ l. distinct_names (module_names l) ≡ true in
+      subst P (sym placed.put) (distinct_with m before library.distinct)
+
   pub imports_after : HasRoom m after → AreImportsThere after
   imports_after room t c =
       let P : List ModuleTree → Type 0 = λ l. Contains l t in
@@ -279,6 +285,7 @@ module _ (m : ModuleTree) (before after : List ModuleTree) (p : Placed) (placed 
   module _ (news : List NamedVersion) (made : AreMade versions plan.edits.items news) where
     pub library_then : IsLibrary after news plan.used
     library_then = record {
+      distinct = distinct_after m before after p placed versions used library;
       imports = imports_after m before after p placed versions used library h.room;
       spelled = all_spelled;
       stored = versions_after before after versions library.stored h.meanings sorted covers used plan.edits.items plan.used h.planned.draft news made;

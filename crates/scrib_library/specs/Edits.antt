@@ -109,6 +109,10 @@ pub record IsWithdrawal (before : List ModuleTree) (name : List (List ℕ)) (aft
   pub removed : after ≡ without_module name before
   pub meant : AreWellFormed after
 
+-- each change is that a name means nothing any more
+abbrev pub AreWithdrawn : List Change → Type 0
+AreWithdrawn list = (x : Change) → Contains list x → x.kind ≡ Withdrawn
+
 -- The withdrawal is refused for this, and for nothing that comes before it in this list.
 abbrev pub WithdrawFails : List ModuleTree → List (List ℕ) → EditFault → Type 0
 WithdrawFails before name edit.UnknownModule = has_name name (module_names before) ≡ false

@@ -9,3 +9,4 @@ pub mod Stored
 pub mod Elaborated
 pub mod Drafts
 pub mod Plans
+pub mod Withdrawals

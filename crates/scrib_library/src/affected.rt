@@ -60,7 +60,8 @@ fn place_of_importer(waiting: &[&ModuleTree], names: &[&Dotted]) -> Option<usize
     None
 }
 
-fn imports_some(tree: &ModuleTree, names: &[&Dotted]) -> bool
+/// Whether the module imports one of these names.
+pub fn imports_some(tree: &ModuleTree, names: &[&Dotted]) -> bool
     ensures { IsTrue result ↔ ImportsSome (names_now names.now) tree.now }
 {
     for import in tree.imports.as_slice() {

@@ -59,7 +59,10 @@ fn entries_of<'a>(
 }
 
 /// Puts the protocols of the module in their places, except those whose names are there.
-fn enter<'a>(
+///
+/// # Errors
+/// `AllocError` where memory was refused.
+pub fn enter<'a>(
     alloc: Global,
     entries: &mut Vec<Entry<'a>>,
     tree: &'a ModuleTree,

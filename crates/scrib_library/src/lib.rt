@@ -11,5 +11,6 @@ mod meanings;
 mod names;
 mod plan;
 mod read;
+mod removal;
 mod room;
 mod versions;

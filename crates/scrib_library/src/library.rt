@@ -6,12 +6,13 @@ ghost use Rattle.scrib_parser.specs.declared.tree.ModuleTree as parsed;
 ghost use Rattle.scrib_record.specs.Versions.{meaning_of, number_of};
 ghost use Rattle.scrib_library.specs.Modules.{IsMeaning, MeansProtocols};
 ghost use Rattle.scrib_library.specs.Holdings.{no_holdings, IsNumber, AreNumbered};
-ghost use Rattle.scrib_library.specs.Edits.{IsPut, IsChanges, AreVersionsUsed, PutFails};
+ghost use Rattle.scrib_library.specs.Edits.{IsPut, IsChanges, AreVersionsUsed, PutFails, IsWithdrawal, AreWithdrawn, WithdrawFails};
 
 use crate::changes::Changes;
 use crate::fault::EditFault;
-use crate::plan::{Plan, plan_put};
+use crate::plan::{Plan, plan_put, plan_withdrawal};
 use crate::read::read;
+use crate::removal::free_place;
 use crate::versions::{NamedVersion, make_all, version_of};
 use scrib_elaborate::modules::Modules;
 use scrib_record::version::Version;
@@ -105,6 +106,30 @@ impl Library {
                 Err(fault)
             }
         }
+    }
+
+    /// Takes the module of this name out, and answers what changed: the names of its protocols, which mean nothing
+    /// any more. A module that imports itself alone can be withdrawn. A refused withdrawal changes nothing.
+    ///
+    /// # Errors
+    /// `UnknownModule` where there is no module of the name, else `StillImported` where another module imports it;
+    /// `OutOfMemory` where memory was refused.
+    pub fn withdraw(&mut self, name: &Dotted) -> Result<Changes, EditFault>
+        ensures ok { IfOk result (λ changes. IsWithdrawal self.old.modules name.now self.new.modules
+            × (changes.module ≡ name.now) × IsChanges self.old.modules self.new.modules changes.list
+            × AreWithdrawn changes.list) }
+        ensures versions { IfOk result (λ changes. AreVersionsUsed self.old self.new changes.list
+            × (self.new.used ≡ self.old.used)) }
+        ensures fault { IfErr result (WithdrawFails self.old.modules name.now) }
+        ensures err { OnErr result (self.new ≡ self.old) }
+    {
+        let at = free_place(&self.modules, name)?;
+        let gone = &self.modules.as_slice()[at];
+        let plan = plan_withdrawal(self.alloc, gone, &mut self.versions, self.used)?;
+        let Plan { edits, changes, .. } = plan;
+        make_all(&mut self.versions, edits);
+        self.modules.take_out(at);
+        Ok(changes)
     }
 
     /// The version of a protocol that is there, by its full name.

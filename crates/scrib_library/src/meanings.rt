@@ -4,16 +4,18 @@ ghost use Rattle.std.specs.Prelude.{◌≡◌, IfOk, IfErr};
 ghost use Rattle.scrib_library.specs.Listed.{AreInOrder};
 ghost use Rattle.scrib_library.specs.Entries.{entry_names, AreStanding};
 ghost use Rattle.scrib_library.specs.Elaborated.{IsFoundFor, IsBrokenEntry, AreElaborated, AreMeanings, IsProjected, StopsNamed, AreProjected, IsRefusal, StopsProjection};
+ghost use Rattle.scrib_library.specs.Withdrawals.{AreNothing, AreDropped};
 
-use crate::declared::Entry;
+use crate::declared::{Entry, enter};
 use crate::fault::EditFault;
 use scrib_elaborate::elaborate::Elaborator;
 use scrib_elaborate::elaborated::Elaborated;
 use scrib_elaborate::modules::Modules;
+use scrib_parser::tree::ModuleTree;
 use scrib_project::projected::ProjectedProtocol;
 use scrib_project::protocol::protocol_with_projections;
 use scrib_types::name::Dotted;
-use std::alloc::Global;
+use std::alloc::{AllocError, Global};
 
 /// What a name means, if anything, as it was elaborated.
 #[derive(Drop)]
@@ -46,6 +48,34 @@ pub fn meanings_of(
 {
     let elaborated = elaborate_all(alloc, modules, entries)?;
     let meanings = project_all(alloc, elaborated)?;
+    Ok(meanings)
+}
+
+/// That the names of the module's protocols mean nothing, in the order of their full names. A name that is declared
+/// twice stands there once.
+///
+/// # Errors
+/// `AllocError` where memory was refused.
+pub fn dropped(alloc: Global, gone: &ModuleTree) -> Result<Vec<NamedMeaning>, AllocError>
+    ensures { IfOk result (λ meanings. AreDropped gone.now meanings.items) }
+{
+    let mut entries = Vec::new(alloc);
+    enter(alloc, &mut entries, gone, false)?;
+    nothing_of(alloc, entries)
+}
+
+/// That the entries' names mean nothing, in the same order.
+fn nothing_of(alloc: Global, entries: Vec<Entry>) -> Result<Vec<NamedMeaning>, AllocError>
+    ensures { IfOk result (λ meanings. AreNothing entries.entry.items meanings.items) }
+{
+    let mut meanings = Vec::with_capacity(alloc, entries.len())?;
+    for entry in entries {
+        let Entry { name, .. } = entry;
+        meanings.push(NamedMeaning {
+            name,
+            projected: None,
+        })?;
+    }
     Ok(meanings)
 }
 

@@ -7,13 +7,15 @@ ghost use Rattle.scrib_library.specs.Stored.{version_names};
 ghost use Rattle.scrib_library.specs.Elaborated.{meaning_names};
 ghost use Rattle.scrib_library.specs.Drafts.{StopsDraft};
 ghost use Rattle.scrib_library.specs.Plans.{IsPlanFor, IsPlan, StopsPut};
+ghost use Rattle.scrib_library.specs.Withdrawals.{IsRemovalPlan};
+ghost use Rattle.scrib_library.specs.declared.fault.EditFault.TheVariants.{OutOfMemory};
 
 use crate::affected::affected;
 use crate::changes::Changes;
 use crate::declared::touched;
 use crate::draft::{Draft, changes_in, draft_of};
 use crate::fault::EditFault;
-use crate::meanings::{NamedMeaning, meanings_of};
+use crate::meanings::{NamedMeaning, dropped, meanings_of};
 use crate::room::check_room;
 use crate::versions::{NamedVersion, VersionEdit};
 use scrib_elaborate::modules::Modules;
@@ -57,6 +59,27 @@ pub fn plan_put(
     let entries = touched(alloc, trees, &affected, gone)?;
     let meanings = meanings_of(alloc, modules, entries)?;
     plan_edits(alloc, &new.name, versions, meanings, used)
+}
+
+/// What it does that the module is taken out, where the versions are those before.
+///
+/// # Errors
+/// `OutOfMemory` where memory was refused.
+pub fn plan_withdrawal(
+    alloc: Global,
+    gone: &ModuleTree,
+    versions: &mut Vec<NamedVersion>,
+    used: u32,
+) -> Result<Plan, EditFault>
+    requires sorted { AreInOrder (version_names versions.old.items) }
+    requires few { used ≤ 65536 }
+    ensures ok { IfOk result (IsRemovalPlan gone.now versions.old.items used) }
+    ensures fault { IfErr result (λ f. f ≡ OutOfMemory) }
+    ensures room { IfOk result (λ p. vec_len versions.new + vec_len p.edits ≤ vec_capacity versions.new) }
+    ensures kept { versions.new.items ≡ versions.old.items }
+{
+    let meanings = dropped(alloc, gone)?;
+    plan_edits(alloc, &gone.name, versions, meanings, used)
 }
 
 /// What it does that names have these meanings now, where the edited module has this name. There is room for the new

@@ -1,0 +1,78 @@
+use Rattle.std.proofs.Common.{◌≡◌, List, get_or, sym, ap, ◌∙◌, subst}
+use Rattle.scrib_parser.specs.declared.tree.ModuleTree.{ModuleTree}
+use Rattle.scrib_library.specs.declared.versions.NamedVersion.{NamedVersion}
+use Rattle.scrib_library.specs.Holdings.{Holdings}
+use Rattle.scrib_library.specs.Edits.{IsWithdrawal, IsChanges, AreWithdrawn, AreVersionsUsed}
+use Rattle.scrib_library.specs.Stored.{IsLibrary}
+use Rattle.scrib_library.specs.Drafts.{AreMade}
+use Rattle.scrib_library.specs.Withdrawals.{IsRemovalPlan}
+use Rattle.scrib_library.proofs.Meant.{holdings}
+use Rattle.scrib_library.proofs.Naming.{place_is, place_removed}
+use Rattle.scrib_library.proofs.Withdrawing.{withdrawn_then, named_then, changes_then, withdrawal_then, library_then, used_then}
+use Rattle.scrib_library.proofs.library.Library.withdraw.Goals as goal
+
+pub invariant_of-self-2 : goal.invariant_of-self-2
+invariant_of-self-2 c =
+    let before = c.self.inside.modules in
+    let versions = c.self.inside.versions.items in
+    let used = c.self.inside.used in
+    let name = c.args.name.now in
+    let at = c.in_ok-at.at in
+    let free = c.in_ok-at.ensures.ok in
+    let n = c.index-as_slice-at.result in
+    let here = c.index-as_slice-at.is ∙ ap (λ l. get_or l at n) c.as_slice.ensures ∙ place_is before name at free.place n in
+    let plan = c.in_ok-plan.plan in
+    let P : ModuleTree → Type 0 = λ m. IsRemovalPlan m versions used plan in
+    let planned = subst P here c.in_ok-plan.ensures.ok in
+    let news = c.make_all.new.versions.items in
+    let R : List NamedVersion → Type 0 = λ l. AreMade l plan.edits.items news in
+    let made = subst R c.in_ok-plan.ensures.kept c.make_all.ensures in
+    let after = c.take_out.ensures.out ∙ place_removed before name at free.place in
+    let Q : List ModuleTree → Type 0 = λ l. IsLibrary l news used in
+    subst Q (sym after) (library_then name before at free.place free.free versions used c.self.invariant plan planned news made)
+
+pub returns-clause-ok : goal.returns-clause-ok
+returns-clause-ok c =
+    let before = c.self.inside.modules in
+    let versions = c.self.inside.versions.items in
+    let used = c.self.inside.used in
+    let name = c.args.name.now in
+    let at = c.in_ok-at.at in
+    let free = c.in_ok-at.ensures.ok in
+    let n = c.index-as_slice-at.result in
+    let here = c.index-as_slice-at.is ∙ ap (λ l. get_or l at n) c.as_slice.ensures ∙ place_is before name at free.place n in
+    let plan = c.in_ok-plan.plan in
+    let P : ModuleTree → Type 0 = λ m. IsRemovalPlan m versions used plan in
+    let planned = subst P here c.in_ok-plan.ensures.ok in
+    let after = c.take_out.ensures.out ∙ place_removed before name at free.place in
+    let Q : List ModuleTree → Type 0 = λ l. IsWithdrawal before name l × (plan.changes.module ≡ name) × IsChanges before l plan.changes.list × AreWithdrawn plan.changes.list in
+    let S : Holdings → Type 0 = λ k. IsWithdrawal k.modules name c.take_out.new.self × (plan.changes.module ≡ name) × IsChanges k.modules c.take_out.new.self plan.changes.list × AreWithdrawn plan.changes.list in
+    subst S c.self.view_is (subst Q (sym after) (
+      withdrawal_then name before at free.place free.free versions used c.self.invariant plan planned,
+      named_then name before at free.place free.free versions used c.self.invariant plan planned,
+      changes_then name before at free.place free.free versions used c.self.invariant plan planned,
+      withdrawn_then name before at free.place free.free versions used c.self.invariant plan planned,
+    ))
+
+pub returns-clause-versions : goal.returns-clause-versions
+returns-clause-versions c =
+    let before = c.self.inside.modules in
+    let versions = c.self.inside.versions.items in
+    let used = c.self.inside.used in
+    let name = c.args.name.now in
+    let at = c.in_ok-at.at in
+    let free = c.in_ok-at.ensures.ok in
+    let n = c.index-as_slice-at.result in
+    let here = c.index-as_slice-at.is ∙ ap (λ l. get_or l at n) c.as_slice.ensures ∙ place_is before name at free.place n in
+    let plan = c.in_ok-plan.plan in
+    let P : ModuleTree → Type 0 = λ m. IsRemovalPlan m versions used plan in
+    let planned = subst P here c.in_ok-plan.ensures.ok in
+    let news = c.make_all.new.versions.items in
+    let R : List NamedVersion → Type 0 = λ l. AreMade l plan.edits.items news in
+    let made = subst R c.in_ok-plan.ensures.kept c.make_all.ensures in
+    let after = c.take_out.ensures.out ∙ place_removed before name at free.place in
+    let Q : List ModuleTree → Type 0 = λ l. AreVersionsUsed (holdings before versions used) (holdings l news used) plan.changes.list in
+    let S : Holdings → Type 0 = λ k. AreVersionsUsed k (holdings c.take_out.new.self news used) plan.changes.list in (
+      subst S c.self.view_is (subst Q (sym after) (used_then name before at free.place free.free versions used c.self.invariant plan planned news made)),
+      ap (λ (k : Holdings). k.used) c.self.view_is,
+    )
