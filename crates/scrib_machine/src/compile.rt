@@ -5,7 +5,7 @@ ghost use Rattle.std.specs.List.Sorted.{IsPermutation};
 ghost use Rattle.scrib_types.specs.Judgement.{ComesBefore};
 ghost use Rattle.scrib_types.specs.LocalView.{local_of, local_branches};
 ghost use Rattle.scrib_types.specs.declared.event.Action.TheVariants.{Sends, Receives};
-ghost use Rattle.scrib_machine.specs.Machines.{IsSystemOf, Follows};
+ghost use Rattle.scrib_machine.specs.Machines.{IsMachine, IsSystemOf, Follows};
 ghost use Rattle.scrib_machine.specs.Compilable.{IsCompilable, Closed, ClosedAll, Differ, Distinct, DistinctAll, nodes, nodes_all, most_nodes};
 ghost use Rattle.scrib_machine.specs.Layout as layout;
 
@@ -26,6 +26,7 @@ use std::alloc::{AllocError, Global};
 /// `AllocError` where memory for the machine is refused.
 pub fn compile(alloc: Global, local: &Local) -> Result<Machine, AllocError>
     requires { IsCompilable (local_of local.now) }
+    ensures machine { IfOk result IsMachine }
     ensures stands { IfOk result (IsSystemOf (local_of local.now)) }
     ensures follows { IfOk result (Follows (local_of local.now)) }
 {

@@ -2,5 +2,6 @@
 #![tactic(auto)]
 
 pub mod compile;
+pub mod graph;
 pub mod machine;
 mod sorted;

@@ -49,6 +49,13 @@ impl Machine {
         Machine { rows }
     }
 
+    /// The row of edges of each state.
+    pub(crate) fn rows(&self) -> &[Items<Edge>]
+        ensures { result.now ≡ self.now }
+    {
+        self.rows.as_slice()
+    }
+
     /// The state in which it starts.
     pub fn start(&self) -> State
         ensures first { result ≡ 0 }

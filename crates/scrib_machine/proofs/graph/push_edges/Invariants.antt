@@ -1,0 +1,6 @@
+use Rattle.std.proofs.Common.{◌≡◌, ◌++◌, drop}
+use Rattle.scrib_machine.specs.Graph.{edge_lines}
+use Rattle.scrib_machine.proofs.graph.push_edges.Given as goal
+
+abbrev pub invariant-loop-i : goal.invariant-loop-i
+invariant-loop-i l = l.out.items ++ edge_lines l.i (drop l.i l.rows) ≡ l.fn.out.items ++ edge_lines 0 l.rows
