@@ -1,11 +1,16 @@
 -- What the steps of `project` come to.
-use Rattle.std.proofs.Common.{◌≡◌, ◌+◌, ◌||◌, inl, inr, ℕ, ◌<◌, Bool, true, false, List, [], ◌∷◌, ◌++◌, ◌∙◌, length, drop, get_or, Option, Some, Result, Ok, Err, IfOk, sym, ap, refl, arith}
+use Rattle.std.proofs.Common.{◌≡◌, ◌+◌, ◌||◌, inl, inr, ℕ, ◌<◌, ◌≤◌, IsTrue, Bool, true, false, List, [], ◌∷◌, ◌++◌, ◌∙◌, length, drop, get_or, Option, Some, Result, Ok, Err, IfOk, sym, ap, refl, arith}
 use Rattle.std.specs.Str.{bytes_eq}
-use Rattle.std.proofs.lemmas.Bool.{false_from_ne_true}
+use Rattle.std.proofs.lemmas.Bool.{false_from_ne_true, and_parts}
 use Rattle.std.proofs.lemmas.Slice.Eq.{bytes_eq-Decides}
 use Rattle.std.proofs.lemmas.List.{length-append, at_drop_more}
 use Rattle.scrib_types.specs.Agreement.{Agreement}
-use Rattle.scrib_types.specs.WellFormed.{has_role}
+use Rattle.scrib_types.specs.Trees.{GlobalTree, GlobalEnd, GlobalVar, GlobalRec, Comm, Flight, GlobalBranches, NoBranch, Branch, LocalTree}
+use Rattle.scrib_types.specs.Projection.{projection, is_closed}
+use Rattle.scrib_types.specs.WellFormed.{has_role, well_formed}
+use Rattle.scrib_machine.specs.Compilable.{IsCompilable}
+use Rattle.scrib_machine.specs.Projected as projected
+use Rattle.scrib_machine.specs.Projected.{global_nodes, projected_compilable}
 use Rattle.scrib_lexer.specs.declared.fault.LexFault.{LexFault}
 use Rattle.scrib_lexer.specs.declared.fault.LexFault.TheVariants as lex
 use Rattle.scrib_lexer.specs.Lexeme.{Lexeme}
@@ -15,7 +20,8 @@ use Rattle.scrib_parser.specs.declared.fault.ParseFault.{ParseFault}
 use Rattle.scrib_parser.specs.declared.fault.ParseFault.TheVariants as parse
 use Rattle.scrib_parser.specs.declared.tree.ModuleTree.{ModuleTree}
 use Rattle.scrib_parser.specs.Grammar.{IsFaultOf}
-use Rattle.scrib_elaborate.specs.Elaboration.{Elaborates}
+use Rattle.scrib_elaborate.specs.Elaboration.{Elaborates, nodes, branch_nodes}
+use Rattle.scrib_elaborate.specs.Sound.{is_sound}
 use Rattle.scrib_library.specs.declared.fault.EditFault.{EditFault}
 use Rattle.scrib_library.specs.declared.fault.EditFault.TheVariants as edit
 use Rattle.scrib_library.specs.Made.{edit_fault_of_lex, edit_fault_of_parse}
@@ -101,3 +107,24 @@ declared_later roles i name role h here other after =
 -- what is left of a list begins with the value at this place
 pub front_is : {A : Type 0} (xs : List (Option A)) (i : ℕ) (x : Option A) (a : A) → i < length xs → x ≡ get_or xs i x → x ≡ Some a → drop i xs ≡ Some a ∷ drop (i + 1) xs
 front_is xs i x a h e s = at_drop_more (λ l. l) xs i x h ∙ ap (λ y. y ∷ drop (i + 1) xs) (sym e ∙ s)
+
+-- both count the nodes of a global type alike
+mutual
+  same_nodes : (g : GlobalTree) → global_nodes g ≡ nodes g
+  same_nodes GlobalEnd = refl
+  same_nodes (GlobalVar n) = refl
+  same_nodes (GlobalRec g) = ap (λ k. 1 + k) (same_nodes g)
+  same_nodes (Comm p q bs) = ap (λ k. 1 + k) (same_branch_nodes bs)
+  same_nodes (Flight p q j bs) = ap (λ k. 1 + k) (same_branch_nodes bs)
+
+  same_branch_nodes : (bs : GlobalBranches) → projected.branch_nodes bs ≡ branch_nodes bs
+  same_branch_nodes NoBranch = refl
+  same_branch_nodes (Branch m g bs) = let e = same_nodes g in let f = same_branch_nodes bs in cc
+
+-- what a role does in an elaborated protocol has a machine
+pub has_machine : (roles : List (List ℕ)) (role : List ℕ) (g : GlobalTree) (l : LocalTree) → IsTrue (is_sound roles g) → nodes g ≤ 4096 → projection role g ≡ Some l → IsCompilable l
+unfolding is_sound
+has_machine roles role g l sound small e =
+    let formed = and_parts _ (well_formed roles g) sound in
+    let shut = and_parts _ (is_closed g) formed.0 in
+    projected_compilable roles role g l formed.1 shut.1 (omega (arith, same_nodes g)) e

@@ -1,4 +1,4 @@
--- What the steps of `project` promise one another.
+-- What the steps of `project` and `machine` promise one another.
 -- Only contracts of private functions cite this file.
 use Rattle.std.specs.Prelude.{◌≡◌, ◌⊎◌, ⊤, ℕ, true, false, List, Option, Some, None}
 use Rattle.scrib_types.specs.Agreement.{Agreement}
@@ -6,6 +6,7 @@ use Rattle.scrib_types.specs.LocalView.{local_of}
 use Rattle.scrib_types.specs.Trees.{GlobalTree}
 use Rattle.scrib_types.specs.Projection.{projection}
 use Rattle.scrib_types.specs.WellFormed.{has_role}
+use Rattle.scrib_machine.specs.Compilable.{IsCompilable}
 use Rattle.scrib_parser.specs.declared.tree.ModuleTree.{ModuleTree}
 use Rattle.scrib_project.specs.Faults.{IsUnmergeable, IsPlaced}
 use Rattle.scrib_library.specs.declared.fault.EditFault.{EditFault}
@@ -70,3 +71,10 @@ IsRoleProjection a role (Refused edit.OutOfMemory) = ⊥
 abbrev pub IsRefusalPlaced : List ModuleTree → (home : List (List ℕ)) (name : List ℕ) → GlobalTree → Projection → Type 0
 IsRefusalPlaced modules home name g (Refused (edit.Project u)) = IsPlaced modules home name g u
 IsRefusalPlaced modules home name g other = Unit {0}
+
+-- what the role does has a machine
+abbrev pub HasMachine : Projection → Type 0
+HasMachine (Projects l) = IsCompilable (local_of l)
+HasMachine NoProtocol = ⊤
+HasMachine NoRole = ⊤
+HasMachine (Refused f) = ⊤

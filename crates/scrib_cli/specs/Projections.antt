@@ -1,9 +1,10 @@
--- What `project` answers (this project's own).
+-- What `project` and `machine` answer (this project's own).
 use Rattle.std.specs.Prelude.{◌≡◌, ◌⊎◌, ⊤, ℕ, ◌<◌, Bool, true, false, List, [], ◌∷◌, ◌++◌, length, Option, Some, None, codes}
 use Rattle.scrib_types.specs.Agreement.{Agreement}
 use Rattle.scrib_types.specs.LocalView.{local_of}
 use Rattle.scrib_types.specs.Projection.{projection}
 use Rattle.scrib_types.specs.WellFormed.{has_role}
+use Rattle.scrib_types.specs.Trees.{LocalTree}
 use Rattle.scrib_types.specs.declared.local.Local.{Local}
 use Rattle.scrib_lexer.specs.Lexeme.{Lexeme}
 use Rattle.scrib_lexer.specs.Tokens.{IsTokens}
@@ -15,6 +16,9 @@ use Rattle.scrib_elaborate.specs.Faults.{IsBroken}
 use Rattle.scrib_project.specs.declared.fault.Unmergeable.{Unmergeable}
 use Rattle.scrib_project.specs.Faults.{IsUnmergeable, IsPlaced}
 use Rattle.scrib_local.specs.Text.{local_text}
+use Rattle.scrib_machine.specs.declared.machine.Edge.{Edge}
+use Rattle.scrib_machine.specs.Machines.{IsMachine, IsSystemOf, Follows}
+use Rattle.scrib_machine.specs.Graph.{graph_text}
 use Rattle.scrib_library.specs.declared.fault.EditFault.{EditFault}
 use Rattle.scrib_library.specs.declared.fault.EditFault.TheVariants as edit
 use Rattle.scrib_library.specs.Edits.{Reads, TellsLex, TellsParse}
@@ -25,6 +29,8 @@ use Rattle.scrib_cli.specs.Scripts.{reply_line}
 use Rattle.scrib_cli.specs.Explanations.{refusal_line}
 use Rattle.scrib_cli.specs.declared.fault.ScriptFault.{ScriptFault}
 use Rattle.scrib_cli.specs.declared.fault.ScriptFault.TheVariants as fault
+use Rattle.scrib_cli.specs.declared.form.Form.{Form}
+use Rattle.scrib_cli.specs.declared.form.Form.TheVariants.{Text, Graph}
 use Rattle.scrib_cli.specs.declared.full_name.FullName.{FullName}
 use Rattle.scrib_cli.specs.declared.projection.Projection.{Projection}
 use Rattle.scrib_cli.specs.declared.projection.Projection.TheVariants.{Projects, NoProtocol, NoRole, Refused}
@@ -89,21 +95,35 @@ projects NoProtocol = false
 projects NoRole = false
 projects (Refused f) = false
 
--- the line of the answer: the local type's text, or a refusal line
-abbrev pub projection_line : Projection → List ℕ
-projection_line (Projects l) = local_text 0 (local_of l) ++ 10 ∷ []
-projection_line NoProtocol = refusal_line (codes "NoProtocol")
-projection_line NoRole = refusal_line (codes "NoRole")
-projection_line (Refused f) = reply_line (reply.Refused (refusal.Edit f))
+-- The text is the graph of a machine: one that is the transition system of the local type and whose paths from the
+-- start are its traces.
+pub record IsGraphOf (l : LocalTree) (text : List ℕ) : Type 0 where
+  pub rows : List (List Edge)
+  pub machine : IsMachine rows
+  pub stands : IsSystemOf l rows
+  pub follows : Follows l rows
+  pub written : text ≡ graph_text rows
 
--- the line of an answer, and whether it is what the role does
-abbrev pub IsProjecting : (texts : List (Option (List ℕ))) (protocol role : List ℕ) → Bool → List ℕ → Type 0
-IsProjecting texts protocol role does_so line =
-    (p : Projection) × IsProjection texts protocol role p × (does_so ≡ projects p) × (line ≡ projection_line p)
+-- what a role does, in this form: its local type in a line, or the graph of its machine
+abbrev pub IsPrinted : Form → Local → List ℕ → Type 0
+IsPrinted Text l text = text ≡ local_text 0 (local_of l) ++ 10 ∷ []
+IsPrinted Graph l text = IsGraphOf (local_of l) text
+
+-- the text of the answer: what the role does in this form, or a refusal line, which is the same in each
+abbrev pub IsTextOf : Form → Projection → List ℕ → Type 0
+IsTextOf form (Projects l) text = IsPrinted form l text
+IsTextOf form NoProtocol text = text ≡ refusal_line (codes "NoProtocol")
+IsTextOf form NoRole text = text ≡ refusal_line (codes "NoRole")
+IsTextOf form (Refused f) text = text ≡ reply_line (reply.Refused (refusal.Edit f))
+
+-- the text of an answer in this form, and whether it is what the role does
+abbrev pub IsAnswer : Form → (texts : List (Option (List ℕ))) (protocol role : List ℕ) → Bool → List ℕ → Type 0
+IsAnswer form texts protocol role does_so text =
+    (p : Projection) × IsProjection texts protocol role p × (does_so ≡ projects p) × IsTextOf form p text
 
 -- what a fault says of the input: a read fault, that the protocol has a full name and the first text that is no module
--- can't be read; a write fault, that there is a line to write; memory may be refused at any input
-abbrev pub FaultTells : (texts : List (Option (List ℕ))) (protocol role : List ℕ) → ScriptFault → Type 0
-FaultTells texts protocol role fault.Read = ((name : FullName) × IsFullName protocol name) × StopsUnread texts
-FaultTells texts protocol role fault.Write = (does_so : Bool) × (line : List ℕ) × IsProjecting texts protocol role does_so line
-FaultTells texts protocol role fault.OutOfMemory = ⊤
+-- can't be read; a write fault, that there is a text to write; memory may be refused at any input
+abbrev pub FaultTells : Form → (texts : List (Option (List ℕ))) (protocol role : List ℕ) → ScriptFault → Type 0
+FaultTells form texts protocol role fault.Read = ((name : FullName) × IsFullName protocol name) × StopsUnread texts
+FaultTells form texts protocol role fault.Write = (does_so : Bool) × (text : List ℕ) × IsAnswer form texts protocol role does_so text
+FaultTells form texts protocol role fault.OutOfMemory = ⊤

@@ -1,14 +1,17 @@
 //! Scripts, and the commands of the program.
 #![tactic(auto)]
 
+mod answer;
 mod carrying;
 pub mod check;
 pub mod explain_script;
 mod explaining;
 pub mod fault;
+mod form;
 mod full_name;
 pub mod id;
 mod keeping;
+pub mod machine;
 mod modules;
 pub mod project;
 mod projection;

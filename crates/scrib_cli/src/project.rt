@@ -1,25 +1,16 @@
 //! Projecting a protocol of some modules on a role.
 
-ghost use Rattle.std.specs.Prelude.{◌≡◌, ◌⊎◌, ◌++◌, ◌∷◌, [], ℕ, List, Bool, IfOk, IfErr, OnErr};
+ghost use Rattle.std.specs.Prelude.{◌⊎◌, [], ℕ, List, Bool, IfOk, IfErr, OnErr};
 ghost use Rattle.std.specs.Io.KnownBytes.{Appends};
-ghost use Rattle.scrib_types.specs.LocalView.{local_of};
-ghost use Rattle.scrib_local.specs.Text.{local_text};
-ghost use Rattle.scrib_core.specs.declared.reply.Reply.TheVariants.{Refused};
-ghost use Rattle.scrib_core.specs.declared.reply.Refusal.TheVariants.{Edit};
-ghost use Rattle.scrib_cli.specs.Scripts.{AppendsPart, reply_line};
-ghost use Rattle.scrib_cli.specs.Projections.{IsProjecting, FaultTells, projects, projection_line};
+ghost use Rattle.scrib_cli.specs.Scripts.{AppendsPart};
+ghost use Rattle.scrib_cli.specs.Projections.{IsAnswer, FaultTells};
+ghost use Rattle.scrib_cli.specs.declared.form.Form.TheVariants as form;
 
-use crate::explaining::refusal;
+use crate::answer::answer;
 pub use crate::fault::ScriptFault;
-use crate::projection::{Projection, projection_of};
-use crate::writing::{flush_out, write_out};
-use scrib_core::reply::{Refusal, Reply};
-use scrib_library::fault::EditFault;
-use scrib_local::text::text;
-use scrib_report::line::line;
-use scrib_types::local::Local;
+use crate::form::Form;
 use scrib_types::plain::Items;
-use std::alloc::{AllocError, Global};
+use std::alloc::Global;
 use std::io::Write;
 
 /// Writes one line: what the role does in the protocol of this full name, among the modules that the texts are, as
@@ -45,54 +36,12 @@ pub fn project_text<W: Write>(
     texts: &[Option<Items<u8>>],
     writer: &mut W,
 ) -> Result<bool, ScriptFault>
-    ensures ok { IfOk result (λ does_so. (written : List ℕ) × IsProjecting texts.now protocol.now role.now does_so written
+    ensures ok { IfOk result (λ does_so. (written : List ℕ) × IsAnswer form.Text texts.now protocol.now role.now does_so written
         × Appends (W.contents writer.old) (W.contents writer.new) written) }
     ensures err { OnErr result (Appends (W.contents writer.old) (W.contents writer.new) []
-        ⊎ ((does_so : Bool) × (written : List ℕ) × IsProjecting texts.now protocol.now role.now does_so written
+        ⊎ ((does_so : Bool) × (written : List ℕ) × IsAnswer form.Text texts.now protocol.now role.now does_so written
         × AppendsPart (W.contents writer.old) (W.contents writer.new) written)) }
-    ensures fault { IfErr result (FaultTells texts.now protocol.now role.now) }
+    ensures fault { IfErr result (FaultTells form.Text texts.now protocol.now role.now) }
 {
-    let projection = projection_of(alloc, protocol, role, texts)?;
-    let (does_so, written) = told(alloc, projection)?;
-    write_out(writer, written.as_slice())?;
-    flush_out(writer)?;
-    Ok(does_so)
-}
-
-/// Whether the answer is what the role does, and its line.
-fn told(alloc: Global, projection: Projection) -> Result<(bool, Vec<u8>), AllocError>
-    ensures { IfOk result (λ r. (r.0 ≡ projects projection) × (r.1.items ≡ projection_line projection)) }
-{
-    match projection {
-        Projection::Projects(local) => Ok((true, local_line(alloc, &local)?)),
-        Projection::NoProtocol => Ok((false, refusal(alloc, b"NoProtocol")?)),
-        Projection::NoRole => Ok((false, refusal(alloc, b"NoRole")?)),
-        Projection::Refused(fault) => Ok((false, fault_line(alloc, fault)?)),
-    }
-}
-
-/// The line of a local type.
-fn local_line(alloc: Global, local: &Local) -> Result<Vec<u8>, AllocError>
-    ensures { IfOk result (λ line. line.items ≡ local_text 0 (local_of local.now) ++ 10 ∷ []) }
-{
-    let mut line = text(alloc, local)?;
-    line.push(b'\n')?;
-    Ok(line)
-}
-
-/// The refusal line of a fault.
-fn fault_line(alloc: Global, fault: EditFault) -> Result<Vec<u8>, AllocError>
-    ensures { IfOk result (λ line. line.items ≡ reply_line (Refused (Edit fault))) }
-{
-    let reply = Reply::Refused(Refusal::Edit(fault));
-    whole_line(alloc, &reply)
-}
-
-/// The line of a reply, with its end.
-fn whole_line(alloc: Global, reply: &Reply) -> Result<Vec<u8>, AllocError>
-    ensures { IfOk result (λ text. text.items ≡ reply_line reply.now) }
-{
-    let mut text = line(alloc, reply)?;
-    text.push(b'\n')?;
-    Ok(text)
+    answer(alloc, Form::Text, protocol, role, texts, writer)
 }

@@ -1,13 +1,14 @@
 //! From module texts to what a role does in a protocol.
 
-ghost use Rattle.std.specs.Prelude.{◌≡◌, ℕ, false, List, IfOk, IfErr, MatchOption};
+ghost use Rattle.std.specs.Prelude.{◌≡◌, ◌≤◌, ℕ, false, List, IfOk, IfErr, MatchOption};
 ghost use Rattle.scrib_types.specs.WellFormed.{has_role};
 ghost use Rattle.scrib_parser.specs.declared.tree.ModuleTree.{ModuleTree};
+ghost use Rattle.scrib_elaborate.specs.Elaboration.{nodes};
 ghost use Rattle.scrib_elaborate.specs.Meaning.{meaning_of};
 ghost use Rattle.scrib_elaborate.specs.Sites.{AreSites};
 ghost use Rattle.scrib_cli.specs.declared.fault.ScriptFault.TheVariants.{OutOfMemory};
 ghost use Rattle.scrib_cli.specs.Projections.{IsProjection};
-ghost use Rattle.scrib_cli.specs.ProjectionSteps.{IsRoleProjection, IsRefusalPlaced, IsDeclared, StopsReading};
+ghost use Rattle.scrib_cli.specs.ProjectionSteps.{IsRoleProjection, IsRefusalPlaced, IsDeclared, HasMachine, StopsReading};
 
 use crate::fault::ScriptFault;
 use crate::full_name::full_name_of;
@@ -50,6 +51,7 @@ pub fn projection_of(
     texts: &[Option<Items<u8>>],
 ) -> Result<Projection, ScriptFault>
     ensures ok { IfOk result (IsProjection texts.now protocol.now role.now) }
+    ensures machine { IfOk result HasMachine }
     ensures fault { IfErr result (StopsReading texts.now protocol.now) }
 {
     let Some(name) = full_name_of(alloc, protocol)? else {
@@ -72,10 +74,12 @@ fn projection_on(
     elaborated: &Elaborated,
     role: &str,
 ) -> Result<Projection, ScriptFault>
+    requires { nodes (meaning_of elaborated.now).global ≤ 4096 }
     ensures ok { IfOk result (IsRoleProjection (meaning_of elaborated.now) role.now) }
     ensures place { (modules : List ModuleTree) (home : List (List ℕ)) (name : List ℕ)
         → AreSites modules home name elaborated.now
         → IfOk result (IsRefusalPlaced modules home name (meaning_of elaborated.now).global) }
+    ensures machine { IfOk result HasMachine }
     ensures fault { IfErr result (λ e. e ≡ OutOfMemory) }
 {
     let Some(role) = declared_role(elaborated.roles(), role.as_bytes()) else {

@@ -1,0 +1,117 @@
+//! What is printed of a role of a protocol of some modules.
+
+ghost use Rattle.std.specs.Prelude.{◌≡◌, ◌⊎◌, ◌++◌, ◌∷◌, [], ℕ, List, Bool, IfOk, IfErr, OnErr};
+ghost use Rattle.std.specs.Io.KnownBytes.{Appends};
+ghost use Rattle.scrib_types.specs.LocalView.{local_of};
+ghost use Rattle.scrib_local.specs.Text.{local_text};
+ghost use Rattle.scrib_machine.specs.Compilable.{IsCompilable};
+ghost use Rattle.scrib_core.specs.declared.reply.Reply.TheVariants.{Refused};
+ghost use Rattle.scrib_core.specs.declared.reply.Refusal.TheVariants.{Edit};
+ghost use Rattle.scrib_cli.specs.Scripts.{AppendsPart, reply_line};
+ghost use Rattle.scrib_cli.specs.Projections.{IsAnswer, FaultTells, IsTextOf, IsPrinted, IsGraphOf, projects};
+ghost use Rattle.scrib_cli.specs.ProjectionSteps.{HasMachine};
+
+use crate::explaining::refusal;
+use crate::fault::ScriptFault;
+use crate::form::Form;
+use crate::projection::{Projection, projection_of};
+use crate::writing::{flush_out, write_out};
+use scrib_core::reply::{Refusal, Reply};
+use scrib_library::fault::EditFault;
+use scrib_local::text::text;
+use scrib_machine::compile::compile;
+use scrib_machine::graph::graph_text;
+use scrib_report::line::line;
+use scrib_types::local::Local;
+use scrib_types::plain::Items;
+use std::alloc::{AllocError, Global};
+use std::io::Write;
+
+/// Writes what the role does in the protocol of this full name, in this form, or a refusal line, and flushes the
+/// writer. Returns whether it wrote what the role does.
+///
+/// # Errors
+/// Nothing was written by then, or a beginning of what was to be written.
+/// - `Read` where the protocol has a full name and the first text that is no module can't be read.
+/// - `Write` where the writer fails.
+/// - `OutOfMemory` where memory was refused.
+pub fn answer<W: Write>(
+    alloc: Global,
+    form: Form,
+    protocol: &str,
+    role: &str,
+    texts: &[Option<Items<u8>>],
+    writer: &mut W,
+) -> Result<bool, ScriptFault>
+    ensures ok { IfOk result (λ does_so. (written : List ℕ) × IsAnswer form texts.now protocol.now role.now does_so written
+        × Appends (W.contents writer.old) (W.contents writer.new) written) }
+    ensures err { OnErr result (Appends (W.contents writer.old) (W.contents writer.new) []
+        ⊎ ((does_so : Bool) × (written : List ℕ) × IsAnswer form texts.now protocol.now role.now does_so written
+        × AppendsPart (W.contents writer.old) (W.contents writer.new) written)) }
+    ensures fault { IfErr result (FaultTells form texts.now protocol.now role.now) }
+{
+    let projection = projection_of(alloc, protocol, role, texts)?;
+    let (does_so, written) = told(alloc, form, projection)?;
+    write_out(writer, written.as_slice())?;
+    flush_out(writer)?;
+    Ok(does_so)
+}
+
+/// Whether the answer is what the role does, and its text.
+fn told(alloc: Global, form: Form, projection: Projection) -> Result<(bool, Vec<u8>), AllocError>
+    requires { HasMachine projection }
+    ensures { IfOk result (λ r. (r.0 ≡ projects projection) × IsTextOf form projection r.1.items) }
+{
+    match projection {
+        Projection::Projects(local) => Ok((true, printed(alloc, form, &local)?)),
+        Projection::NoProtocol => Ok((false, refusal(alloc, b"NoProtocol")?)),
+        Projection::NoRole => Ok((false, refusal(alloc, b"NoRole")?)),
+        Projection::Refused(fault) => Ok((false, fault_line(alloc, fault)?)),
+    }
+}
+
+/// What a role does, in this form.
+fn printed(alloc: Global, form: Form, local: &Local) -> Result<Vec<u8>, AllocError>
+    requires { IsCompilable (local_of local.now) }
+    ensures { IfOk result (λ text. IsPrinted form local.now text.items) }
+{
+    match form {
+        Form::Text => local_line(alloc, local),
+        Form::Graph => local_graph(alloc, local),
+    }
+}
+
+/// The line of a local type.
+fn local_line(alloc: Global, local: &Local) -> Result<Vec<u8>, AllocError>
+    ensures { IfOk result (λ line. line.items ≡ local_text 0 (local_of local.now) ++ 10 ∷ []) }
+{
+    let mut line = text(alloc, local)?;
+    line.push(b'\n')?;
+    Ok(line)
+}
+
+/// The graph of a local type's machine.
+fn local_graph(alloc: Global, local: &Local) -> Result<Vec<u8>, AllocError>
+    requires { IsCompilable (local_of local.now) }
+    ensures { IfOk result (λ text. IsGraphOf (local_of local.now) text.items) }
+{
+    let machine = compile(alloc, local)?;
+    graph_text(alloc, &machine)
+}
+
+/// The refusal line of a fault.
+fn fault_line(alloc: Global, fault: EditFault) -> Result<Vec<u8>, AllocError>
+    ensures { IfOk result (λ line. line.items ≡ reply_line (Refused (Edit fault))) }
+{
+    let reply = Reply::Refused(Refusal::Edit(fault));
+    whole_line(alloc, &reply)
+}
+
+/// The line of a reply, with its end.
+fn whole_line(alloc: Global, reply: &Reply) -> Result<Vec<u8>, AllocError>
+    ensures { IfOk result (λ text. text.items ≡ reply_line reply.now) }
+{
+    let mut text = line(alloc, reply)?;
+    text.push(b'\n')?;
+    Ok(text)
+}
