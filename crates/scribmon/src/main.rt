@@ -6,6 +6,7 @@ use clap::{Arg, ArgAction, ArgMatches, Command, Error};
 use scrib_cli::check::{Core, check_module};
 use scrib_cli::explain_script::{Explained, explain_script};
 use scrib_cli::id::id_of;
+use scrib_cli::machine::machine_text;
 use scrib_cli::project::project_text;
 use scrib_cli::reading::{Items, read_text};
 use scrib_cli::run_script::{ScriptFault, run_script};
@@ -33,18 +34,33 @@ fn check_command<'a>(alloc: Global) -> Result<Command<'a>, AllocError> {
         .arg(files_arg(alloc))
 }
 
-fn project_command<'a>(alloc: Global) -> Result<Command<'a>, AllocError> {
+// A command on what a role does in a protocol of some modules.
+fn role_command<'a>(
+    alloc: Global,
+    name: &'a str,
+    about: &'a str,
+) -> Result<Command<'a>, AllocError> {
     let protocol = Arg::new(alloc, "PROTOCOL")
         .help("The protocol's full name, as demo.Hello")
         .required(true);
     let role = Arg::new(alloc, "ROLE")
         .help("A role of the protocol")
         .required(true);
-    Command::new(alloc, "project")
-        .about("Prints what a role does in a protocol of some modules")
+    Command::new(alloc, name)
+        .about(about)
         .arg(protocol)?
         .arg(role)?
         .arg(files_arg(alloc))
+}
+
+fn project_command<'a>(alloc: Global) -> Result<Command<'a>, AllocError> {
+    let about = "Prints what a role does in a protocol of some modules";
+    role_command(alloc, "project", about)
+}
+
+fn machine_command<'a>(alloc: Global) -> Result<Command<'a>, AllocError> {
+    let about = "Prints the machine of a role of a protocol, as a graph in the DOT language";
+    role_command(alloc, "machine", about)
 }
 
 fn watch_command<'a>(alloc: Global) -> Result<Command<'a>, AllocError> {
@@ -66,7 +82,8 @@ fn explain_command<'a>(alloc: Global) -> Result<Command<'a>, AllocError> {
 // With the commands that read modules.
 fn with_modules<'a>(alloc: Global, line: Command<'a>) -> Result<Command<'a>, AllocError> {
     let line = line.subcommand(check_command(alloc)?)?;
-    line.subcommand(project_command(alloc)?)
+    let line = line.subcommand(project_command(alloc)?)?;
+    line.subcommand(machine_command(alloc)?)
 }
 
 // With the commands that read a script.
@@ -146,19 +163,52 @@ fn texts_of(
     Ok(texts)
 }
 
+// What a command on a role asks: the protocol and the role that it names, and the texts of its files.
+#[derive(Drop)]
+struct Question<'a> {
+    protocol: &'a str,
+    role: &'a str,
+    texts: Vec<Option<Items<u8>>>,
+}
+
+fn asked_of<'a>(
+    rt: &(impl Files + AllocGlobal),
+    matches: &'a ArgMatches,
+) -> Result<Question<'a>, ScriptFault> {
+    let texts = texts_of(rt, matches)?;
+    Ok(Question {
+        protocol: matches.get_str("PROTOCOL").unwrap_or(""),
+        role: matches.get_str("ROLE").unwrap_or(""),
+        texts,
+    })
+}
+
 // Returns whether the role's local type was printed.
 fn project(
     rt: &(impl Print + Files + AllocGlobal),
     matches: &ArgMatches,
 ) -> Result<bool, ScriptFault> {
     let alloc = rt.alloc();
-    let texts = texts_of(rt, matches)?;
+    let asked = asked_of(rt, matches)?;
     let Ok(mut writer) = BufWriter::new(alloc, io::writer(rt)) else {
         return Err(ScriptFault::OutOfMemory);
     };
-    let protocol = matches.get_str("PROTOCOL").unwrap_or("");
-    let role = matches.get_str("ROLE").unwrap_or("");
-    project_text(alloc, protocol, role, texts.as_slice(), &mut writer)
+    let texts = asked.texts.as_slice();
+    project_text(alloc, asked.protocol, asked.role, texts, &mut writer)
+}
+
+// Returns whether the role's machine was printed.
+fn machine(
+    rt: &(impl Print + Files + AllocGlobal),
+    matches: &ArgMatches,
+) -> Result<bool, ScriptFault> {
+    let alloc = rt.alloc();
+    let asked = asked_of(rt, matches)?;
+    let Ok(mut writer) = BufWriter::new(alloc, io::writer(rt)) else {
+        return Err(ScriptFault::OutOfMemory);
+    };
+    let texts = asked.texts.as_slice();
+    machine_text(alloc, asked.protocol, asked.role, texts, &mut writer)
 }
 
 fn watch_reader<R: Read>(
@@ -283,6 +333,7 @@ fn obey(
     match matches.subcommand() {
         Some(("check", matches)) => Ok(told_answer(rt, check(rt, matches))),
         Some(("project", matches)) => Ok(told_answer(rt, project(rt, matches))),
+        Some(("machine", matches)) => Ok(told_answer(rt, machine(rt, matches))),
         Some(("watch", matches)) => Ok(run_watch(rt, matches)),
         Some(("explain", matches)) => run_explain(rt, matches),
         _ => Ok(ExitCode::from(2)),
