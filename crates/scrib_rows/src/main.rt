@@ -1,10 +1,11 @@
 //! Runs worked examples. Each has a title line that begins with `== `, a line with a command of `scribmon` and
-//! its words (`watch`, `explain 1`, `project demo.Hello A`), and the script or the module texts of the command. The
-//! output is each title with what the command writes.
+//! its words (`watch`, `explain 1`, `project demo.Hello A`, `machine demo.Hello A`), and the script or the module texts
+//! of the command. The output is each title with what the command writes.
 #![tactic(auto)]
 
 use scrib_cli::explain_script::explain_script;
 use scrib_cli::id::id_of;
+use scrib_cli::machine::machine_text;
 use scrib_cli::project::project_text;
 use scrib_cli::run_script::{ScriptFault, run_script};
 use scrib_types::plain::Items;
@@ -77,6 +78,10 @@ fn obey<W: Write>(
         (Some("project"), Some(protocol), Some(role)) => {
             let texts = texts_of(alloc, body)?;
             project_text(alloc, protocol, role, &texts, writer)?;
+        }
+        (Some("machine"), Some(protocol), Some(role)) => {
+            let texts = texts_of(alloc, body)?;
+            machine_text(alloc, protocol, role, &texts, writer)?;
         }
         _ => return Err(RowsFault::NoCommand),
     }
