@@ -10,5 +10,6 @@ pub mod Judged
 pub mod Listed
 pub mod Offered
 pub mod Projections
+pub mod Compiled
 pub mod ReadOnce
 pub mod Written

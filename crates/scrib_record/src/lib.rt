@@ -5,5 +5,6 @@ mod allowed;
 mod course;
 mod flat;
 pub mod judge;
+mod machines;
 mod text;
 pub mod version;

@@ -6,6 +6,8 @@ ghost use Rattle.scrib_local.specs.Projections.{are_projections};
 ghost use Rattle.scrib_record.specs.Flat.{flat_form};
 
 use crate::flat::flat_form;
+use crate::machines::machines_of;
+use scrib_machine::machine::Machine;
 use scrib_types::local::Local;
 use scrib_types::plain::Items;
 use scrib_types::protocol::Protocol;
@@ -13,12 +15,13 @@ use std::alloc::{AllocError, Global};
 use std::marker::Model;
 use std::sync::Arc;
 
-/// What the copies of a version share: a protocol with its projection on each role, in the order in which the
-/// roles are declared, the number of its stamp, and the flat form of what it means.
+/// What the copies of a version share: a protocol with its projection on each role and that projection's machine, in
+/// the order in which the roles are declared, the number of its stamp, and the flat form of what it means.
 #[derive(Drop)]
 pub struct Edition {
     protocol: Protocol,
     locals: Items<Local>,
+    machines: Items<Machine>,
     number: u32,
     flat: Items<u8>,
     pub ghost projected: { IsTrue (are_projections (agreement_of protocol).global (agreement_of protocol).roles locals) },
@@ -34,21 +37,29 @@ pub struct Version {
 impl Model for Version {
     ghost use Rattle.scrib_record.specs.declared.version.Edition.{Edition};
     ghost use Rattle.scrib_record.specs.contracts.version.Edition as shared;
+    ghost use Rattle.scrib_types.specs.Meaning.{agreement_of};
+    ghost use Rattle.scrib_record.specs.RoleMachines.{AreMachinesOf};
 
     ghost Value = { Edition };
 
     ghost coded = { shared.the_row.coded };
 
     ghost view = { λ version. version.edition.value };
+
+    ghost invariant = { λ version. AreMachinesOf (agreement_of version.edition.value.protocol) version.edition.value.machines };
 }
 
 impl Version {
-    ghost use Rattle.std.specs.Prelude.{◌≡◌, ◌↔◌, IfOk, IsTrue};
+    ghost use Rattle.std.specs.Prelude.{◌≡◌, ◌↔◌, ◌≤◌, IfOk, IsTrue};
     ghost use Rattle.scrib_types.specs.Meaning.{agreement_of};
+    ghost use Rattle.scrib_machine.specs.Compilable.{most_nodes};
+    ghost use Rattle.scrib_machine.specs.Projected.{global_nodes};
+    ghost use Rattle.scrib_record.specs.RoleMachines.{AreMachinesOf};
     ghost use Rattle.scrib_local.specs.Projections.{are_projections};
     ghost use Rattle.scrib_record.specs.Versions.{meaning_of, number_of, HaveSameStamp};
 
-    /// The version of a protocol under the number, with the protocol's projections on its roles.
+    /// The version of a protocol under the number, with the protocol's projections on its roles, each of which is
+    /// compiled.
     ///
     /// # Errors
     /// `AllocError` where memory was refused.
@@ -58,15 +69,18 @@ impl Version {
         locals: Items<Local>,
         number: u32,
     ) -> Result<Version, AllocError>
-        requires { IsTrue (are_projections (agreement_of protocol).global (agreement_of protocol).roles locals) }
+        requires projections { IsTrue (are_projections (agreement_of protocol).global (agreement_of protocol).roles locals) }
+        requires small { global_nodes (agreement_of protocol).global ≤ most_nodes }
         ensures meaning { IfOk result (λ version. meaning_of version ≡ agreement_of protocol) }
         ensures locals { IfOk result (λ version. version.locals ≡ locals) }
         ensures number { IfOk result (λ version. number_of version ≡ number) }
     {
         let flat = flat_form(alloc, &protocol)?;
+        let machines = machines_of(alloc, &protocol, locals.as_slice())?;
         let edition = Edition {
             protocol,
             locals,
+            machines,
             number,
             flat,
         };
@@ -98,6 +112,14 @@ impl Version {
         ensures projections { IsTrue (are_projections (meaning_of self.now).global (meaning_of self.now).roles result.now) }
     {
         self.edition.locals.as_slice()
+    }
+
+    /// The machine of each role's projection, in the order in which the roles are declared.
+    pub fn machines(&self) -> &[Machine]
+        ensures machines { result.now ≡ self.now.machines }
+        ensures follow { AreMachinesOf (meaning_of self.now) self.now.machines }
+    {
+        self.edition.machines.as_slice()
     }
 
     /// The number of the stamp.
