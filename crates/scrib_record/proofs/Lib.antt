@@ -11,5 +11,12 @@ pub mod Listed
 pub mod Offered
 pub mod Projections
 pub mod Compiled
+pub mod RolePlaces
+pub mod Following
+pub mod Begun
+pub mod Standing
+pub mod Partners
+pub mod Advancing
+pub mod Options
 pub mod ReadOnce
 pub mod Written

@@ -2,9 +2,13 @@
 #![tactic(auto)]
 
 mod allowed;
+mod choices;
+mod configuration;
+mod copies;
 mod course;
 mod flat;
 pub mod judge;
 mod machines;
+mod seat;
 mod text;
 pub mod version;

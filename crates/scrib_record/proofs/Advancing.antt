@@ -1,0 +1,110 @@
+-- The answers of a configuration at an event.
+use Rattle.std.proofs.Common.{◌≡◌, ◌↔◌, true, false, ℕ, ◌<◌, List, [], ◌∷◌, ◌++◌, Option, Some, None, length, get_or, set, slice_get, MatchOption, refl, sym, ap, subst, ◌∙◌, arith}
+use Rattle.std.proofs.lemmas.Bool.{true≢false}
+use Rattle.std.proofs.lemmas.Option.{slice_get_read}
+use Rattle.scrib_types.specs.declared.message.Message.{Message}
+use Rattle.scrib_types.specs.declared.event.Action.TheVariants.{Sends, Receives}
+use Rattle.scrib_types.specs.declared.event.Event.{Event}
+use Rattle.scrib_types.specs.declared.event.Event.TheVariants.{Join, Sent, Received}
+use Rattle.scrib_types.specs.Agreement.{Agreement}
+use Rattle.scrib_types.specs.WellFormed.{is_protocol, well_formed}
+use Rattle.scrib_machine.specs.declared.machine.Edge.{Edge}
+use Rattle.scrib_machine.specs.Machines.{Steps}
+use Rattle.scrib_queues.specs.Channels.{Channels, queue_of}
+use Rattle.scrib_record.specs.declared.seat.Seat.{Seat}
+use Rattle.scrib_record.specs.declared.configuration.Configuration.{Configuration}
+use Rattle.scrib_record.specs.RoleMachines.{AreMachinesOf}
+use Rattle.scrib_record.specs.Following.{MayAct, MayFollow}
+use Rattle.scrib_record.specs.Configurations.{place_in, AreFlying, Stands, Others, IsFront, IsNext}
+use Rattle.scrib_record.proofs.RolePlaces.{place_within, not_declared, is_declared}
+use Rattle.scrib_record.proofs.Compiled.{valid}
+use Rattle.scrib_record.proofs.Partners.{acts_among}
+use Rattle.scrib_record.proofs.Standing.{IsAt, is_at, seat_for, seat_within, acts_on, acts_from, front_oldest, oldest_front, seat_joined, seat_sent, seat_received, flying_still, flying_sent, flying_taken, stands_on}
+
+-- what a search of the roles found, once these have another name
+pub place_is : (roles known : List (List ℕ)) (r : List ℕ) (o x : Option ℕ) → roles ≡ known → o ≡ place_in roles r → o ≡ x → place_in known r ≡ x
+place_is roles known r o x same at is = ap (λ (rs : List (List ℕ)). place_in rs r) (sym same) ∙ sym at ∙ is
+
+-- what was read there
+pub read_at : {X : Type 0} (xs known : List X) (i : ℕ) (x : X) → xs ≡ known → i < length xs → x ≡ get_or xs i x → slice_get known i ≡ Some x
+read_at xs known i x same n is = ap (λ ys. slice_get ys i) (sym same) ∙ slice_get_read xs (length xs) i x refl n is
+
+pub seat_read : (a : Agreement) (ms : List (List (List Edge))) (log : List Event) (c : Configuration) (r : List ℕ) (i : ℕ) (s : Seat) → Stands a ms log c → place_in a.roles r ≡ Some i → s ≡ get_or c.seats.items i s → slice_get c.seats.items i ≡ Some s
+seat_read a ms log c r i s st e is = read_at c.seats.items c.seats.items i s refl (seat_within a ms log c r i st e) is
+
+pub machine_read : (a : Agreement) (ms xs : List (List (List Edge))) (r : List ℕ) (i : ℕ) (m : List (List Edge)) → AreMachinesOf a ms → xs ≡ ms → place_in a.roles r ≡ Some i → m ≡ get_or xs i m → slice_get ms i ≡ Some m
+machine_read a ms xs r i m w same e is =
+    let n : i < length xs = omega (arith, place_within a.roles r i e, w.count, ap length same) in read_at xs ms i m same n is
+
+-- the role, its seat and its machine, as they were read
+pub at_read : (a : Agreement) (ms xs : List (List (List Edge))) (log : List Event) (c : Configuration) (r : List ℕ) (i : ℕ) (s : Seat) (m : List (List Edge)) → AreMachinesOf a ms → Stands a ms log c → place_in a.roles r ≡ Some i → s ≡ get_or c.seats.items i s → xs ≡ ms → m ≡ get_or xs i m → IsAt a ms log r i s m
+at_read a ms xs log c r i s m w st e seat same is =
+    is_at a ms log c r i s m w st e (seat_read a ms log c r i s st e seat) (machine_read a ms xs r i m w same e is)
+
+pub formed : (p a : Agreement) → p ≡ a → is_protocol p.roles p.global ≡ true → well_formed a.roles a.global ≡ true
+formed p a e v = subst (λ (x : Agreement). well_formed x.roles x.global ≡ true) e (valid p.roles p.global v).formed
+
+pub join_nobody : (a : Agreement) (log : List Event) (r : List ℕ) → place_in a.roles r ≡ None → MayFollow a log (Join r) → ⊥
+join_nobody a log r e h = true≢false (sym h.0 ∙ not_declared a.roles r e)
+
+pub join_twice : (a : Agreement) (ms : List (List (List Edge))) (log : List Event) (c : Configuration) (r : List ℕ) (i : ℕ) (s : Seat) → Stands a ms log c → place_in a.roles r ≡ Some i → slice_get c.seats.items i ≡ Some s → s.joined ≡ true → MayFollow a log (Join r) → ⊥
+join_twice a ms log c r i s st e at j h = true≢false (sym j ∙ (seat_for a ms log c.seats.items r i s st.seated e at).joined ∙ h.1)
+
+pub joins : (a : Agreement) (ms : List (List (List Edge))) (log : List Event) (c d : Configuration) (r : List ℕ) (i : ℕ) (s t : Seat) → Stands a ms log c → place_in a.roles r ≡ Some i → slice_get c.seats.items i ≡ Some s → s.joined ≡ false → t.joined ≡ true → t.state ≡ s.state → d.seats.items ≡ set c.seats.items i t → d.queues ≡ c.queues → IsNext a ms log (Join r) d true
+joins a ms log c d r i s t st e at j tj ts seats queues =
+    let k = seat_for a ms log c.seats.items r i s st.seated e at in (
+      (is_declared a.roles r i e, sym k.joined ∙ j),
+      stands_on a ms log c d (Join r) i t st e seats (seat_joined ms log r i s t tj ts k) (ap (λ (x : Channels). x.roles) queues)
+          (subst (λ (x : Channels). AreFlying a (log ++ Join r ∷ []) x) (sym queues) (flying_still a log r c.queues st.flying)),
+    )
+
+pub act_nobody : (a : Agreement) (log : List Event) (r : List ℕ) → place_in a.roles r ≡ None → (act : _) → MayAct a log r act → ⊥
+act_nobody a log r e act h = true≢false (sym h.declared ∙ not_declared a.roles r e)
+
+pub send_nowhere : (a : Agreement) (log : List Event) (p q : List ℕ) (m : Message) → well_formed a.roles a.global ≡ true → place_in a.roles q ≡ None → MayFollow a log (Sent p q m) → ⊥
+send_nowhere a log p q m f e h = true≢false (sym (acts_among a log p (Sends q m) f h) ∙ not_declared a.roles q e)
+
+pub receive_nowhere : (a : Agreement) (log : List Event) (p q : List ℕ) (m : Message) → well_formed a.roles a.global ≡ true → place_in a.roles p ≡ None → MayFollow a log (Received p q m) → ⊥
+receive_nowhere a log p q m f e h = true≢false (sym (acts_among a log q (Receives p m) f h.0) ∙ not_declared a.roles p e)
+
+none_some : (n : ℕ) → ◌≡◌ {A = Option ℕ} None (Some n) → ⊥
+none_some n e = cc
+
+-- the state has no such step
+pub stuck : (o : Option ℕ) (P : ℕ → Type 0) → o ≡ None → ((n : ℕ) → (o ≡ Some n) ↔ P n) → (n : ℕ) → P n → ⊥
+stuck o P e h n p = none_some n (sym e ∙ (h n).1 p)
+
+pub send_stuck : (a : Agreement) (ms : List (List (List Edge))) (log : List Event) (p q : List ℕ) (m : Message) (i : ℕ) (s : Seat) (k : List (List Edge)) (o : Option ℕ) → IsAt a ms log p i s k → ((n : ℕ) → (o ≡ Some n) ↔ ((s.joined ≡ true) × Steps k s.state (Sends q m) n)) → o ≡ None → MayFollow a log (Sent p q m) → ⊥
+send_stuck a ms log p q m i s k o at h e f =
+    let w = acts_from a ms log p i s k (Sends q m) at f in
+    stuck o (λ n. (s.joined ≡ true) × Steps k s.state (Sends q m) n) e h w.1.0 (w.0, w.1.1)
+
+pub receive_stuck : (a : Agreement) (ms : List (List (List Edge))) (log : List Event) (p q : List ℕ) (m : Message) (i : ℕ) (s : Seat) (k : List (List Edge)) (o : Option ℕ) → IsAt a ms log q i s k → ((n : ℕ) → (o ≡ Some n) ↔ ((s.joined ≡ true) × Steps k s.state (Receives p m) n)) → o ≡ None → MayFollow a log (Received p q m) → ⊥
+receive_stuck a ms log p q m i s k o at h e f =
+    let w = acts_from a ms log q i s k (Receives p m) at f.0 in
+    stuck o (λ n. (s.joined ≡ true) × Steps k s.state (Receives p m) n) e h w.1.0 (w.0, w.1.1)
+
+pub receive_early : (a : Agreement) (ms : List (List (List Edge))) (log : List Event) (c : Configuration) (p q : List ℕ) (m : Message) (i j : ℕ) → Stands a ms log c → place_in a.roles p ≡ Some i → place_in a.roles q ≡ Some j → (IsFront i j m c.queues → ⊥) → MayFollow a log (Received p q m) → ⊥
+receive_early a ms log c p q m i j st e f never h = never (oldest_front a log c.queues p q i j m st.flying e f h.1)
+
+pub sends_on : (a : Agreement) (ms : List (List (List Edge))) (log : List Event) (c d : Configuration) (p q : List ℕ) (m : Message) (i j : ℕ) (s t : Seat) (k : List (List Edge)) → Stands a ms log c → IsAt a ms log p i s k → slice_get ms i ≡ Some k → place_in a.roles q ≡ Some j → t.joined ≡ true → (s.joined ≡ true) × Steps k s.state (Sends q m) t.state → d.seats.items ≡ set c.seats.items i t → d.queues.roles ≡ c.queues.roles → queue_of d.queues i j ≡ queue_of c.queues i j ++ m ∷ [] → Others i j c.queues d.queues → IsNext a ms log (Sent p q m) d true
+sends_on a ms log c d p q m i j s t k st at runs e tj step seats roles pushed others = (
+  acts_on a ms log p i s k (Sends q m) at step.0 (t.state, step.1),
+  stands_on a ms log c d (Sent p q m) i t st at.place seats (seat_sent a ms log p q m i s t k runs at step.0 tj step.1) roles
+      (flying_sent a log p q m i j c.queues d.queues st.flying at.place e pushed others),
+)
+
+pub receives_on : (a : Agreement) (ms : List (List (List Edge))) (log : List Event) (c d : Configuration) (p q : List ℕ) (m : Message) (i j : ℕ) (s t : Seat) (k : List (List Edge)) → Stands a ms log c → IsAt a ms log q j s k → slice_get ms j ≡ Some k → place_in a.roles p ≡ Some i → IsFront i j m c.queues → t.joined ≡ true → (s.joined ≡ true) × Steps k s.state (Receives p m) t.state → d.seats.items ≡ set c.seats.items j t → d.queues.roles ≡ c.queues.roles → queue_of c.queues i j ≡ m ∷ queue_of d.queues i j → Others i j c.queues d.queues → IsNext a ms log (Received p q m) d true
+receives_on a ms log c d p q m i j s t k st at runs e front tj step seats roles popped others = (
+  (acts_on a ms log q j s k (Receives p m) at step.0 (t.state, step.1), front_oldest a log c.queues p q i j m st.flying e at.place front),
+  stands_on a ms log c d (Received p q m) j t st at.place seats (seat_received a ms log p q m j s t k runs at step.0 tj step.1) roles
+      (flying_taken a log p q m i j c.queues d.queues st.flying e at.place popped others),
+)
+
+-- a queue with a front loses it
+pub popped : (m : Message) (o : Option Message) (old new : List Message) → ((rest : List Message) × (old ≡ m ∷ rest)) → MatchOption o ((old ≡ []) × (new ≡ [])) (λ x. old ≡ x ∷ new) → old ≡ m ∷ new
+popped m None old new f h = absurd (no_front m f.0 (sym f.1 ∙ h.0))
+  where
+    no_front : (m : Message) (rest : List Message) → m ∷ rest ≡ [] → ⊥
+    no_front m rest e = cc
+popped m (Some x) old new f h = let same : m ∷ f.0 ≡ x ∷ new = sym f.1 ∙ h in let first : x ≡ m = cc in h ∙ ap (λ y. y ∷ new) first

@@ -1,0 +1,70 @@
+-- Places of roles.
+use Rattle.std.proofs.Common.{◌≡◌, ℕ, zero, suc, ◌+◌, ◌<◌, ◌≤◌, Bool, true, false, not, cond, ◌||◌, List, [], ◌∷◌, Option, Some, None, length, get_or, slice_get, refl, sym, ap, ◌∙◌, arith}
+use Rattle.std.specs.List.{position_or_len}
+use Rattle.std.specs.Str.{bytes_eq}
+use Rattle.std.proofs.lemmas.Bool.{true≢false}
+use Rattle.std.proofs.lemmas.Grind.{common_steps}
+use Rattle.std.proofs.lemmas.List.Quantifiers.{position-Some}
+use Rattle.std.proofs.lemmas.Option.{same_Some, slice_get-get_or}
+use Rattle.std.proofs.lemmas.Slice.Eq.{bytes_eq-Decides}
+use Rattle.scrib_types.specs.WellFormed.{has_role}
+use Rattle.scrib_record.specs.Configurations.{place_in}
+
+pub bytes_same : (p q : List ℕ) → bytes_eq p q ≡ true → p ≡ q
+bytes_same p q h = (bytes_eq-Decides p q).0 h
+
+pub bytes_itself : (p : List ℕ) → bytes_eq p p ≡ true
+bytes_itself p = (bytes_eq-Decides p p).1 refl
+
+pub place_within : (roles : List (List ℕ)) (r : List ℕ) (i : ℕ) → place_in roles r ≡ Some i → i < length roles
+place_within roles r i e = (position-Some (bytes_eq r) roles i r e).0
+
+-- the role stands at its place
+pub place_role : (roles : List (List ℕ)) (r : List ℕ) (i : ℕ) → place_in roles r ≡ Some i → slice_get roles i ≡ Some r
+place_role roles r i e =
+    let f = position-Some (bytes_eq r) roles i r e in
+    slice_get-get_or roles i r f.0 ∙ ap Some (sym (bytes_same r (get_or roles i r) f.1))
+
+-- no two roles have one place
+pub same_role : (roles : List (List ℕ)) (r t : List ℕ) (i : ℕ) → place_in roles r ≡ Some i → place_in roles t ≡ Some i → r ≡ t
+same_role roles r t i e f = same_Some r t (sym (place_role roles r i e) ∙ place_role roles t i f)
+
+-- no role has two places
+pub same_place : (roles : List (List ℕ)) (r t : List ℕ) (i j : ℕ) → r ≡ t → place_in roles r ≡ Some i → place_in roles t ≡ Some j → i ≡ j
+same_place roles r t i j s e f = same_Some i j (sym e ∙ ap (place_in roles) s ∙ f)
+
+none_past : (r : List ℕ) (roles : List (List ℕ)) → length roles ≤ position_or_len (bytes_eq r) roles → has_role r roles ≡ false
+none_past r [] h = refl
+none_past r (x ∷ xs) h = by (bytes_eq r x) h (none_past r xs)
+  where
+    by : (b : Bool) → suc (length xs) ≤ cond (not b) (1 + position_or_len (bytes_eq r) xs) 0 → (length xs ≤ position_or_len (bytes_eq r) xs → has_role r xs ≡ false) → (b || has_role r xs) ≡ false
+    by true h rest = absurd (omega arith)
+    by false h rest = rest (omega arith)
+
+past : (r : List ℕ) (roles : List (List ℕ)) → place_in roles r ≡ None → length roles ≤ position_or_len (bytes_eq r) roles
+past r roles e = grind (arith, common_steps)
+
+-- a role without a place isn't one of the roles
+pub not_declared : (roles : List (List ℕ)) (r : List ℕ) → place_in roles r ≡ None → has_role r roles ≡ false
+not_declared roles r e = none_past r roles (past r roles e)
+
+-- each of the roles has a place
+pub place_for : (roles : List (List ℕ)) (r : List ℕ) → has_role r roles ≡ true → (i : ℕ) × (place_in roles r ≡ Some i)
+place_for roles r h = by (place_in roles r) refl
+  where
+    by : (o : Option ℕ) → place_in roles r ≡ o → (i : ℕ) × (place_in roles r ≡ Some i)
+    by None e = absurd (true≢false (sym h ∙ not_declared roles r e))
+    by (Some i) e = (i, e)
+
+stands_there : (r : List ℕ) (roles : List (List ℕ)) (i : ℕ) → slice_get roles i ≡ Some r → has_role r roles ≡ true
+stands_there r [] i e = absurd (cc)
+stands_there r (x ∷ xs) zero e = let same : x ≡ r = same_Some x r e in rw same (ap (λ b. b || has_role r xs) (bytes_itself r))
+stands_there r (x ∷ xs) (suc i) e = by (bytes_eq r x) (stands_there r xs i e)
+  where
+    by : (b : Bool) → has_role r xs ≡ true → (b || has_role r xs) ≡ true
+    by true h = refl
+    by false h = h
+
+-- a role with a place is one of the roles
+pub is_declared : (roles : List (List ℕ)) (r : List ℕ) (i : ℕ) → place_in roles r ≡ Some i → has_role r roles ≡ true
+is_declared roles r i e = stands_there r roles i (place_role roles r i e)

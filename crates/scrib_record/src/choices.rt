@@ -1,0 +1,89 @@
+//! What a role may do next.
+
+ghost use Rattle.std.specs.Prelude.{◌≡◌, ◌↔◌, ◌<◌, List, IsTrue, IfOk, AllPairs, Contains, length, map};
+ghost use Rattle.scrib_types.specs.declared.event.Action.{Action};
+ghost use Rattle.scrib_types.specs.declared.event.Event.{Event};
+ghost use Rattle.scrib_types.specs.Judgement.{ComesBefore, AreAllowed};
+ghost use Rattle.scrib_types.specs.Permitted.{IsPermitted};
+ghost use Rattle.scrib_record.specs.Configurations as conf;
+ghost use Rattle.scrib_record.specs.Versions.{meaning_of};
+
+use crate::configuration::{Configuration, is_first};
+use crate::copies::copy_action;
+use crate::seat::place_of;
+use crate::version::Version;
+use scrib_machine::machine::Edge;
+use scrib_queues::queues::Queues;
+use scrib_types::event::Action;
+use scrib_types::name::Role;
+use scrib_types::plain::Items;
+use std::alloc::{AllocError, Global};
+
+/// The actions that the role may make next, sorted by their printed texts, none twice.
+///
+/// # Errors
+/// `AllocError` where memory was refused, here and below.
+pub fn choices(
+    configuration: &Configuration,
+    version: &Version,
+    role: &Role,
+) -> Result<Items<Action>, AllocError>
+    requires { conf.IsReached (meaning_of version.now) version.now.machines configuration.now }
+    ensures { IfOk result (λ list. (log : List Event) → conf.Stands (meaning_of version.now) version.now.machines log configuration.now → IsPermitted (meaning_of version.now) log → AreAllowed (meaning_of version.now) log role.now list) }
+{
+    let alloc = *configuration.seats.allocator();
+    let roles = version.protocol().roles();
+    let Some(at) = place_of(roles, role) else {
+        return Ok(Items::new(alloc));
+    };
+    let seat = &configuration.seats[at];
+    if !seat.joined {
+        let mut only = Items::new(alloc);
+        only.push(Action::Join)?;
+        return Ok(only);
+    }
+    let edges = version.machines()[at].edges(seat.state);
+    let list = due(alloc, roles, &configuration.queues, at, edges)?;
+    Ok(list)
+}
+
+/// Those of the edges' actions that the messages in flight let the role at this place make, in order.
+fn due(
+    alloc: Global,
+    roles: &[Role],
+    queues: &Queues,
+    at: usize,
+    edges: &[Edge],
+) -> Result<Items<Action>, AllocError>
+    requires roles { queues.now.roles ≡ length roles.now }
+    requires place { at < length roles.now }
+    requires order { AllPairs ComesBefore (map (λ e. e.action) edges.now) }
+    ensures sorted { IfOk result (AllPairs ComesBefore) }
+    ensures exact { IfOk result (λ list. (act : Action) → Contains list act ↔ (Contains (map (λ e. e.action) edges.now) act × conf.IsDue roles.now queues.now at act)) }
+{
+    let mut list = Items::new(alloc);
+    for edge in edges {
+        if is_due(roles, queues, at, &edge.action) {
+            let action = copy_action(&edge.action)?;
+            list.push(action)?;
+        }
+    }
+    Ok(list)
+}
+
+/// Whether the messages in flight let the role at this place make the action: a reception takes the oldest message.
+fn is_due(roles: &[Role], queues: &Queues, at: usize, action: &Action) -> bool
+    requires roles { queues.now.roles ≡ length roles.now }
+    requires place { at < length roles.now }
+    ensures { IsTrue result ↔ conf.IsDue roles.now queues.now at action.now }
+{
+    match action {
+        // No machine joins.
+        Action::Join => false,
+        Action::Sends { .. } => true,
+        Action::Receives { from, message } => match place_of(roles, from) {
+            Some(sender) => is_first(queues, sender, at, message),
+            None => false,
+        },
+    }
+}
