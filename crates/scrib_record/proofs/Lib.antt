@@ -18,5 +18,9 @@ pub mod Standing
 pub mod Partners
 pub mod Advancing
 pub mod Options
+pub mod Stamps
+pub mod Kept
+pub mod Stepping
+pub mod Telling
 pub mod ReadOnce
 pub mod Written

@@ -2,6 +2,9 @@ pub mod Configurations
 pub mod Courses
 pub mod Flat
 pub mod Following
+pub mod Judgings
 pub mod Listed
 pub mod RoleMachines
+pub mod Stale
+pub mod Told
 pub mod Versions

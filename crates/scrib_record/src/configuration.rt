@@ -28,12 +28,13 @@ pub struct Configuration {
 }
 
 impl Configuration {
-    /// The configuration before any event: no role has joined, and nothing is in flight.
+    /// The configuration before any event, which is permitted: no role has joined, and nothing is in flight.
     ///
     /// # Errors
     /// `AllocError` where memory was refused, here and below.
     pub fn start(alloc: Global, version: &Version) -> Result<Configuration, AllocError>
-        ensures { IfOk result (conf.Stands (meaning_of version.now) version.now.machines []) }
+        ensures stands { IfOk result (conf.Stands (meaning_of version.now) version.now.machines []) }
+        ensures permitted { OnOk result (IsPermitted (meaning_of version.now) []) }
     {
         let machines = version.machines();
         let mut seats = Vec::with_capacity(alloc, machines.len())?;

@@ -1,0 +1,53 @@
+use Rattle.std.proofs.Common.{◌≡◌, ◌++◌, Bool, subst, length, take, arith}
+use Rattle.scrib_types.specs.declared.event.Event.{Event}
+use Rattle.scrib_record.specs.Configurations.{IsNext}
+use Rattle.scrib_record.specs.Following.{MayFollow}
+use Rattle.scrib_record.specs.Judgings.{Runs}
+use Rattle.scrib_record.specs.Versions.{meaning_of}
+use Rattle.scrib_record.proofs.Kept.{runs_none, runs_more, runs_stop, at_is, no_more}
+use Rattle.scrib_record.proofs.judging.run.Goals as goal
+
+pub advance-requires : goal.advance-requires
+advance-requires c = let r = c.loop-i.invariant c.requires.0 c.requires.1 in (_, r.stands)
+
+pub returns-then-not-branch : goal.returns-then-not-branch
+returns-then-not-branch c =
+    let v = c.args.version.now in
+    let e = c.index-events-i.result in
+    let events = c.args.events.now in
+    record {
+      within = omega arith;
+      runs = λ log st.
+          let r = c.loop-i.invariant log st in
+          let next = subst (λ (b : Bool). IsNext (meaning_of v) v.machines (log ++ take c.loop-i.i events) e c.advance.new.self b) c.if-not-branch.true (c.in_ok-advance.ensures.ok (log ++ take c.loop-i.i events) r.stands) in
+          runs_stop v log events c.loop-i.configuration c.advance.new.self c.loop-i.i r next.1;
+      stops = λ log st f at.
+          let r = c.loop-i.invariant log st in
+          let next = subst (λ (b : Bool). IsNext (meaning_of v) v.machines (log ++ take c.loop-i.i events) e c.advance.new.self b) c.if-not-branch.true (c.in_ok-advance.ensures.ok (log ++ take c.loop-i.i events) r.stands) in
+          let same = at_is events c.loop-i.i e f c.loop-i-test.true c.index-events-i.is at in
+          let P : Event → Type 0 = λ x. MayFollow (meaning_of v) (log ++ take c.loop-i.i events) x → ⊥ in
+          subst P same next.0;
+    }
+
+pub loop-i-init : goal.loop-i-init
+loop-i-init c log st = runs_none c.args.version.now log c.args.events.now c.args.configuration.now st
+
+pub loop-i-preserved : goal.loop-i-preserved
+loop-i-preserved c log st =
+    let v = c.args.version.now in
+    let e = c.index-events-i.result in
+    let events = c.args.events.now in
+    let r = c.loop-i.invariant log st in
+    let next = subst (λ (b : Bool). IsNext (meaning_of v) v.machines (log ++ take c.loop-i.i events) e c.advance.new.self b) c.if-not-branch.false (c.in_ok-advance.ensures.ok (log ++ take c.loop-i.i events) r.stands) in
+    runs_more v log events c.loop-i.configuration c.advance.new.self c.loop-i.i e c.loop-i-test.true c.index-events-i.is r next
+
+pub returns : goal.returns
+returns c =
+    let v = c.args.version.now in
+    let events = c.args.events.now in
+    let all : c.loop-i.i ≡ length events = omega arith in
+    record {
+      within = omega arith;
+      runs = λ log st. subst (Runs v log events c.loop-i.configuration) all (c.loop-i.invariant log st);
+      stops = λ log st f at. absurd (no_more events f at);
+    }

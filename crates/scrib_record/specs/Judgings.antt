@@ -1,0 +1,82 @@
+-- What a record keeps of the events that are judged.
+-- Only contracts of private functions cite this file.
+use Rattle.std.specs.Prelude.{◌≡◌, ◌⊎◌, ℕ, true, ◌+◌, ◌≤◌, List, [], ◌∷◌, ◌++◌, length, take, slice_get, Option, Some, None, if◌then◌else◌}
+use Rattle.scrib_types.specs.declared.event.Event.{Event}
+use Rattle.scrib_types.specs.declared.event.Told.{Told}
+use Rattle.scrib_types.specs.declared.event.Told.TheVariants.{Judged}
+use Rattle.scrib_types.specs.declared.event.Verdict.{Verdict}
+use Rattle.scrib_types.specs.declared.event.Verdict.TheVariants.{Permitted, Offence, Withdrawn}
+use Rattle.scrib_types.specs.Agreement.{Agreement}
+use Rattle.scrib_types.specs.Judgement.{IsOffence}
+use Rattle.scrib_types.specs.Permitted.{IsPermitted}
+use Rattle.scrib_record.specs.declared.configuration.Configuration.{Configuration}
+use Rattle.scrib_record.specs.declared.judging.Judging.{Judging}
+use Rattle.scrib_record.specs.declared.version.Version.{Version}
+use Rattle.scrib_record.specs.Configurations.{Stands}
+use Rattle.scrib_record.specs.Following.{MayFollow}
+use Rattle.scrib_record.specs.Stale.{is_present, is_final}
+use Rattle.scrib_record.specs.Versions.{meaning_of}
+
+-- the log and each beginning of it are permitted
+abbrev pub IsPermittedThroughout : Agreement → List Event → Type 0
+IsPermittedThroughout a log = (n : ℕ) → n ≤ length log → IsPermitted a (take n log)
+
+-- the log leads to the configuration as long as it is permitted, and else the verdict is its first offence
+abbrev pub Keeps : Option Version → List Event → Verdict → Configuration → Type 0
+Keeps None log Permitted c = ⊥
+Keeps None log (Offence place role allowed) c = ⊥
+Keeps None log Withdrawn c = Unit {0}
+Keeps (Some v) log Permitted c = Stands (meaning_of v) v.machines log c × IsPermittedThroughout (meaning_of v) log
+Keeps (Some v) log (Offence place role allowed) c = IsOffence (meaning_of v) log place role allowed
+Keeps (Some v) log Withdrawn c = ⊥
+
+-- what is kept of the events of the log that are judged
+pub record IsKept (log : List Event) (j : Judging) : Type 0 where
+  pub within : j.judged ≤ length log
+  pub keeps : Keeps j.held (take j.judged log) j.verdict j.configuration
+
+-- the same judgement of the same events
+pub record IsSameJudging (old new : Judging) : Type 0 where
+  pub held : new.held ≡ old.held
+  pub judged : new.judged ≡ old.judged
+  pub verdict : new.verdict ≡ old.verdict
+
+-- what is kept of a log that has no more events than a log may have
+pub record IsKeptWhole (log : List Event) (j : Judging) : Type 0 where
+  pub kept : IsKept log j
+  pub bounded : length log ≤ 65536
+
+-- the event after the log is judged, and that verdict told
+pub record IsJudgedOn (log : List Event) (e : Event) (old new : Judging) (answer : Told) : Type 0 where
+  pub kept : IsKept (log ++ e ∷ []) new
+  pub held : new.held ≡ old.held
+  pub whole : is_final new.verdict new.judged (length log + 1) ≡ true
+  pub told : answer ≡ Judged new.verdict
+
+-- the verdict is on the whole log, or on 256 events more
+pub record IsFurther (log : List Event) (old new : Judging) : Type 0 where
+  pub kept : IsKept log new
+  pub held : new.held ≡ old.held
+  pub further : (is_final new.verdict new.judged (length log) ≡ true) ⊎ (new.judged ≡ old.judged + 256)
+
+-- the judgement after a turn
+pub record IsTurnedTo (present : Option Version) (log : List Event) (old new : Judging) : Type 0 where
+  pub kept : IsKept log new
+  pub held : is_present present new.held ≡ true
+  pub further : (is_final new.verdict new.judged (length log) ≡ true) ⊎ (new.judged ≡ (if is_present present old.held then old.judged else 0) + 256)
+
+-- so many of the events may follow the log, one after another, and lead to the configuration
+pub record Runs (v : Version) (log events : List Event) (c : Configuration) (n : ℕ) : Type 0 where
+  pub stands : Stands (meaning_of v) v.machines (log ++ take n events) c
+  pub permitted : IsPermittedThroughout (meaning_of v) log → IsPermittedThroughout (meaning_of v) (log ++ take n events)
+
+-- so many of the events may follow each log that leads to the old configuration, and the next one may not
+pub record RunsFrom (v : Version) (events : List Event) (old new : Configuration) (n : ℕ) : Type 0 where
+  pub within : n ≤ length events
+  pub runs : (log : List Event) → Stands (meaning_of v) v.machines log old → Runs v log events new n
+  pub stops : (log : List Event) → Stands (meaning_of v) v.machines log old → (e : Event) → slice_get events n ≡ Some e → MayFollow (meaning_of v) (log ++ take n events) e → ⊥
+
+-- the verdict at this place on each log that leads to the configuration, where the event may not follow it
+abbrev pub IsRefusal : Version → Configuration → ℕ → Event → Verdict → Type 0
+IsRefusal v c place e verdict =
+    (log : List Event) → Stands (meaning_of v) v.machines log c → IsPermittedThroughout (meaning_of v) log → place ≡ length log + 1 → (MayFollow (meaning_of v) log e → ⊥) → (d : Configuration) → Keeps (Some v) (log ++ e ∷ []) verdict d

@@ -1,0 +1,142 @@
+//! Records of conversations.
+
+ghost use Rattle.std.specs.Prelude.{◌≡◌, ◌<◌, [], Some, IfOk, IfErr, OnErr, OnOk, length};
+ghost use Rattle.std.specs.Option.{option_copied};
+ghost use Rattle.scrib_types.specs.declared.event.Verdict.TheVariants.{Permitted};
+ghost use Rattle.scrib_record.specs.Stale.{Recorded, IsLawful};
+ghost use Rattle.scrib_record.specs.Told.{IsAnswer, IsNoted, IsTurned, NoteFails};
+
+use crate::answer::Answer;
+use crate::fault::NoteFault;
+use crate::judging::Judging;
+use crate::version::Version;
+use scrib_types::event::{Event, Told, Verdict};
+use scrib_types::name::Dotted;
+use std::alloc::{AllocError, Global};
+use std::marker::Model;
+
+/// The most events of a log.
+pub const MAX_EVENTS: usize = 65_536;
+
+/// One conversation: the full name of its protocol, its log, and the verdict on the events that are judged, which are
+/// all of them until the protocol changes. Contracts see these, the version that the events are judged under, and how
+/// many are judged.
+#[derive(Drop)]
+pub struct Record {
+    name: Dotted,
+    log: Vec<Event>,
+    judging: Judging,
+}
+
+impl Model for Record {
+    ghost use Rattle.scrib_record.specs.Judgings.{IsKeptWhole};
+    ghost use Rattle.scrib_record.specs.Stale.{Recorded};
+    ghost use Rattle.scrib_record.specs.contracts.version.Edition as version;
+    ghost use Rattle.std.specs.Coded.{codes};
+
+    ghost Value = { Recorded };
+
+    ghost coded = { Prim.hlevel (codes, version.the_row.coded) };
+
+    ghost view = { λ r. record { name = r.name; log = r.log.items; held = r.judging.held; judged = r.judging.judged; verdict = r.judging.verdict } };
+
+    ghost invariant = { λ r. IsKeptWhole r.log.items r.judging };
+}
+
+impl Record {
+    /// The record of an empty log, judged under the version.
+    ///
+    /// # Errors
+    /// `AllocError` where memory was refused.
+    pub fn new(alloc: Global, name: Dotted, version: &Version) -> Result<Record, AllocError>
+        ensures { IfOk result (λ new. new ≡ record { name = name; log = []; held = Some version.now; judged = 0; verdict = Permitted }) }
+    {
+        let judging = Judging::start(alloc, version)?;
+        Ok(Record {
+            name,
+            log: Vec::new(alloc),
+            judging,
+        })
+    }
+
+    /// The full name of the protocol.
+    pub fn name(&self) -> &Dotted
+        ensures { result.now ≡ self.now.name }
+    {
+        &self.name
+    }
+
+    /// The events, oldest first.
+    pub fn log(&self) -> &[Event]
+        ensures log { result.now ≡ self.now.log }
+        ensures lawful { IsLawful self.now }
+    {
+        &self.log
+    }
+
+    /// Appends the event. A record that isn't stale, where this is the present version of its protocol or none is
+    /// there, judges it in one step; a stale one doesn't. An offence stays the first.
+    ///
+    /// # Errors
+    /// `LogFull` where the log has 65,536 events, and else `OutOfMemory` where memory was refused. Nothing changes.
+    pub fn note(&mut self, present: Option<&Version>, event: Event) -> Result<Told, NoteFault>
+        ensures ok { IfOk result (IsNoted (option_copied present.entry) self.old event self.new) }
+        ensures room { OnOk result (length self.old.log < 65536) }
+        ensures fault { IfErr result (NoteFails self.old) }
+        ensures err { OnErr result (self.new ≡ self.old) }
+    {
+        if self.log.len() >= MAX_EVENTS {
+            return Err(NoteFault::LogFull);
+        }
+        self.log.reserve(1)?;
+        if self.judging.is_stale(present, self.log.len()) {
+            self.log.push_reserved(event);
+            return Ok(Told::Stale);
+        }
+        let told = self.judging.note(&self.log, &event)?;
+        self.log.push_reserved(event);
+        Ok(told)
+    }
+
+    /// Judges anew what is stale: withdrawn at once where no version is present, from event 1 where another version is
+    /// held than the present one, and otherwise from where it stands, for at most 256 events. A record that isn't stale
+    /// is unchanged.
+    ///
+    /// # Errors
+    /// `AllocError` where memory was refused. Nothing changes.
+    pub fn turn(&mut self, present: Option<&Version>) -> Result<Told, AllocError>
+        ensures ok { IfOk result (IsTurned (option_copied present.entry) self.old self.new) }
+        ensures err { OnErr result (self.new ≡ self.old) }
+    {
+        if !self.judging.is_stale(present, self.log.len()) {
+            let told = self.judging.told(present, self.log.len())?;
+            return Ok(told);
+        }
+        let judging = self.judging.turned(present, &self.log)?;
+        let told = judging.told(present, self.log.len())?;
+        self.judging = judging;
+        Ok(told)
+    }
+
+    /// What is told of the log, where this is the present version of its protocol or none is there. It takes no memory.
+    pub fn ask(&self, present: Option<&Version>) -> Answer<'_>
+        ensures { IsAnswer (option_copied present.entry) self.now result }
+    {
+        if self.judging.is_stale(present, self.log.len()) {
+            return Answer::Stale;
+        }
+        match &self.judging.verdict {
+            Verdict::Permitted => Answer::Permitted,
+            Verdict::Offence {
+                place,
+                role,
+                allowed,
+            } => Answer::Offence {
+                place: *place,
+                role,
+                allowed: allowed.as_slice(),
+            },
+            Verdict::Withdrawn => Answer::Withdrawn,
+        }
+    }
+}
