@@ -117,6 +117,7 @@ further_all log events old new v end n p k held free runs all h j w =
       };
       held = h;
       further = how_far log old new end p j (w ∙ free);
+      most = omega (arith, j, p.most);
     }
   where
     final_at : (log : List Event) (new : Judging) → new.verdict ≡ Permitted → length log ≤ new.judged → is_final new.verdict new.judged (length log) ≡ true
@@ -155,4 +156,5 @@ further_refused log events old new v end n e p k held free runs less at refusal 
       };
       held = h;
       further = inl (refusal_final v (take m log) e new.verdict new.configuration new.judged (length log) (now new.configuration) never);
+      most = omega (arith, j, less, long, p.most);
     }

@@ -100,6 +100,7 @@ turned_not present name log j answer k f e = record {
   log = refl;
   present = (and_parts (is_present present j.held) (is_final j.verdict j.judged (length log)) f).0;
   further = inl (ap not f);
+  most = λ s. let all = (and_parts (is_present present j.held) (is_final j.verdict j.judged (length log)) f).0 in rw all (omega arith);
   told = told_either present name log j answer k e;
 }
 
@@ -110,5 +111,6 @@ turned_on present name log old new answer f h e = record {
   log = refl;
   present = h.held;
   further = elim h.further [ inl w ↦ inl (rw (h.held, w) refl) | inr n ↦ inr n ];
+  most = h.most;
   told = told_either present name log new answer h.kept e;
 }

@@ -1,6 +1,6 @@
 -- What a record keeps of the events that are judged.
 -- Only contracts of private functions cite this file.
-use Rattle.std.specs.Prelude.{◌≡◌, ◌⊎◌, ℕ, true, ◌+◌, ◌≤◌, List, [], ◌∷◌, ◌++◌, length, take, slice_get, Option, Some, None, if◌then◌else◌}
+use Rattle.std.specs.Prelude.{◌≡◌, ◌⊎◌, ℕ, true, ◌+◌, ◌≤◌, List, [], ◌∷◌, ◌++◌, length, take, slice_get, Option, Some, None, IsSome, if◌then◌else◌}
 use Rattle.scrib_types.specs.declared.event.Event.{Event}
 use Rattle.scrib_types.specs.declared.event.Told.{Told}
 use Rattle.scrib_types.specs.declared.event.Told.TheVariants.{Judged}
@@ -53,17 +53,19 @@ pub record IsJudgedOn (log : List Event) (e : Event) (old new : Judging) (answer
   pub whole : is_final new.verdict new.judged (length log + 1) ≡ true
   pub told : answer ≡ Judged new.verdict
 
--- the verdict is on the whole log, or on 256 events more
+-- the verdict is on the whole log, or on 256 events more, and on no more than these
 pub record IsFurther (log : List Event) (old new : Judging) : Type 0 where
   pub kept : IsKept log new
   pub held : new.held ≡ old.held
   pub further : (is_final new.verdict new.judged (length log) ≡ true) ⊎ (new.judged ≡ old.judged + 256)
+  pub most : new.judged ≤ old.judged + 256
 
 -- the judgement after a turn
 pub record IsTurnedTo (present : Option Version) (log : List Event) (old new : Judging) : Type 0 where
   pub kept : IsKept log new
   pub held : is_present present new.held ≡ true
   pub further : (is_final new.verdict new.judged (length log) ≡ true) ⊎ (new.judged ≡ (if is_present present old.held then old.judged else 0) + 256)
+  pub most : IsSome present → new.judged ≤ (if is_present present old.held then old.judged else 0) + 256
 
 -- so many of the events may follow the log, one after another, and lead to the configuration
 pub record Runs (v : Version) (log events : List Event) (c : Configuration) (n : ℕ) : Type 0 where

@@ -7,4 +7,5 @@ pub mod Listed
 pub mod RoleMachines
 pub mod Stale
 pub mod Told
+pub mod Turns
 pub mod Versions

@@ -1,5 +1,5 @@
 -- What the calls of a record tell, and what they leave (this project's own).
-use Rattle.std.specs.Prelude.{◌≡◌, ◌⊎◌, ℕ, ◌+◌, ◌<◌, ◌≤◌, true, false, [], ◌∷◌, ◌++◌, length, Option, if◌then◌else◌}
+use Rattle.std.specs.Prelude.{◌≡◌, ◌⊎◌, ℕ, ◌+◌, ◌<◌, ◌≤◌, true, false, [], ◌∷◌, ◌++◌, length, Option, IsSome, if◌then◌else◌}
 use Rattle.std.specs.Option.{option_map}
 use Rattle.scrib_types.specs.declared.event.Event.{Event}
 use Rattle.scrib_types.specs.declared.event.Told.{Told}
@@ -49,11 +49,12 @@ abbrev pub judged_under : Option Version → Recorded → ℕ
 judged_under present r = if is_present present r.held then r.judged else 0
 
 -- A turn leaves a record that isn't stale. A stale one holds the present version afterwards, or none where there is
--- none, and isn't stale any more, or 256 events more are judged under that version.
+-- none, and isn't stale any more, or 256 events more are judged under that version; it judges no more than these.
 pub record IsTurned (now : Option Version) (old new : Recorded) (answer : Told) : Type 0 where
   pub fresh : is_stale now old ≡ false → new ≡ old
   pub name : new.name ≡ old.name
   pub log : new.log ≡ old.log
   pub present : is_present now new.held ≡ true
   pub further : (is_stale now new ≡ false) ⊎ (new.judged ≡ judged_under now old + 256)
+  pub most : IsSome now → new.judged ≤ judged_under now old + 256
   pub told : IsTold now new answer
