@@ -52,7 +52,7 @@ fn lifted_branches(
 ) -> Result<Vec<(SharedMessage, GlobalType)>, Refused>
     ensures { IfOk result (λ more. global_branches more.items ≡ branches_lifted under (global_branches branches.now)) }
 {
-    let mut more = Vec::new(alloc);
+    let mut more = Vec::with_capacity(alloc, branches.len())?;
     for (message, global) in branches {
         let message = message.copy()?;
         let global = lifted(alloc, global, under)?;

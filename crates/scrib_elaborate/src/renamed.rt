@@ -69,7 +69,7 @@ fn renamed_branches(
 ) -> Result<Vec<(SharedMessage, GlobalType)>, AllocError>
     ensures { IfOk result (λ more. global_branches more.items ≡ branches_renamed (given_for (role_names declared.now) (named given.now)) (global_branches branches.now)) }
 {
-    let mut more = Vec::new(alloc);
+    let mut more = Vec::with_capacity(alloc, branches.len())?;
     for (message, global) in branches {
         let message = message.copy()?;
         let global = renamed(alloc, declared, given, global)?;

@@ -110,7 +110,7 @@ impl<'a> Standing<'a> {
     pub fn roles(&self, alloc: Global, roles: &'a [Role]) -> Result<Vec<&'a Role>, AllocError>
         ensures { IfOk result (λ given. named given.items ≡ map (role_in (scope_of self.now)) roles.now) }
     {
-        let mut given = Vec::new(alloc);
+        let mut given = Vec::with_capacity(alloc, roles.len())?;
         for role in roles {
             given.push(self.role(role))?;
         }
@@ -141,7 +141,7 @@ impl<'a> Standing<'a> {
 fn role_names<'a>(alloc: Global, roles: &'a [RoleDeclaration]) -> Result<Vec<&'a Role>, AllocError>
     ensures { IfOk result (λ names. named names.items ≡ role_names roles.now) }
 {
-    let mut names = Vec::new(alloc);
+    let mut names = Vec::with_capacity(alloc, roles.len())?;
     for role in roles {
         names.push(&role.name)?;
     }

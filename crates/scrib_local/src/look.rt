@@ -88,7 +88,7 @@ fn look_branches(
     ensures { IfOk result (IsOffer role.now (global_branches branches.now)) }
 {
     let mut survey = Survey::leaf(0);
-    let mut locals = Some(Items::new(alloc));
+    let mut locals = Some(Items::from_vec(Vec::with_capacity(alloc, branches.len())?));
     for (message, global) in branches {
         let sight = look(alloc, global, role)?;
         survey = survey.with_branch(sight.survey);

@@ -100,7 +100,7 @@ fn copy_branches(
 ) -> Result<Vec<(SharedMessage, GlobalType)>, AllocError>
     ensures { IfOk result (λ copies. copies.items ≡ branches.now) }
 {
-    let mut copies = Vec::new(alloc);
+    let mut copies = Vec::with_capacity(alloc, branches.len())?;
     for (message, global) in branches {
         let message = message.copy()?;
         let global = GlobalType::copy(alloc, global)?;

@@ -116,7 +116,7 @@ fn copy_branches(
 ) -> Result<Vec<(SharedMessage, Local)>, AllocError>
     ensures { IfOk result (λ copies. copies.items ≡ branches.now) }
 {
-    let mut copies = Vec::new(alloc);
+    let mut copies = Vec::with_capacity(alloc, branches.len())?;
     for (message, local) in branches {
         let message = message.copy()?;
         let local = Local::copy(alloc, local)?;
