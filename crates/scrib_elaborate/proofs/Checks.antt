@@ -1,12 +1,14 @@
 -- What the checks of a statement find.
-use Rattle.std.proofs.Common.{◌≡◌, ℕ, ◌+◌, ◌<◌, Bool, true, false, ◌||◌, List, ◌∷◌, length, get_or, drop, Option, Some, option_map, option_and_then, refl, ap, sym, ◌∙◌, subst, arith}
+use Rattle.std.proofs.Common.{◌≡◌, ◌⊎◌, inl, inr, ⊎_elim, ℕ, ◌+◌, ◌<◌, Bool, true, false, ◌||◌, List, [], ◌∷◌, ◌++◌, length, get_or, drop, Option, Some, if◌then◌else◌, option_map, option_and_then, refl, ap, sym, ◌∙◌, subst, arith}
 use Rattle.std.specs.List.{slice_get}
-use Rattle.std.proofs.lemmas.Bool.{false≢true}
+use Rattle.std.specs.Str.{bytes_eq}
+use Rattle.std.proofs.lemmas.Bool.{false≢true, and_parts, or_left, or_right}
 use Rattle.std.proofs.lemmas.List.{drop_more, length-map}
 use Rattle.std.proofs.lemmas.Option.{slice_get-map, slice_get-get_or, slice_get_within}
 use Rattle.scrib_types.specs.declared.spot.Spot.{Spot}
 use Rattle.scrib_types.specs.WellFormed.{has_role}
 use Rattle.scrib_parser.specs.declared.tree.ModuleTree.{ModuleTree}
+use Rattle.scrib_parser.specs.declared.tree.ProtocolDeclaration.{ProtocolDeclaration}
 use Rattle.scrib_parser.specs.declared.tree.Statement.{Statement}
 use Rattle.scrib_parser.specs.declared.tree.Block.{Block}
 use Rattle.scrib_elaborate.specs.declared.declared.Declared.{Declared}
@@ -15,7 +17,7 @@ use Rattle.scrib_elaborate.specs.declared.stop.State.{State}
 use Rattle.scrib_elaborate.specs.declared.stop.Place.{Place}
 use Rattle.scrib_elaborate.specs.Source.{Body, Done, Then, Step, Chooses, Repeats, Continues, Blocks, NoBlock, OrBlock}
 use Rattle.scrib_elaborate.specs.SourceView.{step_of, body_of, blocks_of}
-use Rattle.scrib_elaborate.specs.Names.{Declaration, roles_of, declarations, is_called, first_where, last_name, find_protocol, called_home, called}
+use Rattle.scrib_elaborate.specs.Names.{Declaration, dotted_eq, has_name, module_names, roles_of, declared_in, declarations, is_called, first_where, last_name, find_protocol, called_home, called}
 use Rattle.scrib_elaborate.specs.Statements.{are_roles, BlockKeeps, end_keeps, then_keeps, StepKeeps, BlocksKeep, none_keeps, or_keeps, chooses_keeps, repeats_keeps, continues_keeps}
 use Rattle.scrib_elaborate.specs.Faults.{here, later, in_choice, in_rec, in_this, in_other, StandsAt, IsLoose, HasStep, Fails, spot_of}
 use Rattle.scrib_elaborate.specs.Table.{declaration_of, shown, IsKnown, IsPart, AreParts, IsEntry}
@@ -26,6 +28,26 @@ pub called-is : (ms : List ModuleTree) (m : ModuleTree) (path : List (List ℕ))
     → Some h ≡ called_home ms m path → name ≡ last_name path → ds ≡ declarations ms → first_where (is_called h name) ds ≡ r → called ms m path ≡ r
 called-is ms m path h name ds r e n d f =
     ap (option_and_then (λ x. find_protocol ms x (last_name path))) (sym e) ∙ (λ i. first_where (is_called h (sym n i)) (sym d i)) ∙ f
+
+-- a module is there of which a protocol is declared
+
+declared_home : (h : List (List ℕ)) (name : List ℕ) (m : ModuleTree) (ps : List ProtocolDeclaration) (rest : List Declaration) (d : Declaration) → first_where (is_called h name) (declared_in m ps ++ rest) ≡ Some d
+    → (dotted_eq h m.name ≡ true) ⊎ (first_where (is_called h name) rest ≡ Some d)
+declared_home h name m [] rest d e = inr e
+declared_home h name m (p ∷ ps) rest d e = case (declared_home h name m ps rest d) (is_called h name (record { home = m; protocol = p })) refl e
+  where
+    case : (first_where (is_called h name) (declared_in m ps ++ rest) ≡ Some d → (dotted_eq h m.name ≡ true) ⊎ (first_where (is_called h name) rest ≡ Some d)) → (t : Bool) → is_called h name (record { home = m; protocol = p }) ≡ t
+        → (if t then Some (record { home = m; protocol = p }) else first_where (is_called h name) (declared_in m ps ++ rest)) ≡ Some d → (dotted_eq h m.name ≡ true) ⊎ (first_where (is_called h name) rest ≡ Some d)
+    case more true passes e = inl (and_parts (bytes_eq name p.name) (dotted_eq h m.name) passes).1
+    case more false passes e = more e
+
+home_found : (ms : List ModuleTree) (h : List (List ℕ)) (name : List ℕ) (d : Declaration) → first_where (is_called h name) (declarations ms) ≡ Some d → has_name h (module_names ms) ≡ true
+home_found [] h name d e = absurd (cc e)
+home_found (m ∷ ms) h name d e =
+    ⊎_elim (λ t. or_left (dotted_eq h m.name) (has_name h (module_names ms)) t) (λ f. or_right (dotted_eq h m.name) (has_name h (module_names ms)) (home_found ms h name d f)) (declared_home h name m m.protocols (declarations ms) d e)
+
+pub found_home : (ms : List ModuleTree) (h : List (List ℕ)) (name : List ℕ) (ds : List Declaration) (d : Declaration) → ds ≡ declarations ms → first_where (is_called h name) ds ≡ Some d → has_name h (module_names ms) ≡ true
+found_home ms h name ds d all e = home_found ms h name d (ap (first_where (is_called h name)) (sym all) ∙ e)
 
 -- an entry of the table
 

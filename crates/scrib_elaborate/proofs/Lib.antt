@@ -29,6 +29,7 @@ pub mod Sited
 mod Begun
 pub mod Moved
 mod TypesKept
+mod Slots
 mod Steps
 mod Joined
 mod Finished

@@ -41,7 +41,7 @@ lent_at xs i x e f = slice_get_read xs (length xs) i x refl (ltb-true i (length 
 
 -- the protocol at a place of the table
 
-there_shown : (declared : List Declared) (place : ℕ) (root : Declared) → slice_get declared place ≡ Some root → slice_get (shown declared) place ≡ Some (declaration_of root)
+pub there_shown : (declared : List Declared) (place : ℕ) (root : Declared) → slice_get declared place ≡ Some root → slice_get (shown declared) place ≡ Some (declaration_of root)
 there_shown declared place root e = slice_get-map declaration_of declared place ∙ ap (option_map declaration_of) e
 
 pub kept_there : (ms : List ModuleTree) (declared : List Declared) (states : List State) (place : ℕ) (root : Declared) (s : Summary) → AreSummaries ms (shown declared) states → slice_get declared place ≡ Some root → slice_get states place ≡ Some (Walked s)

@@ -4,7 +4,8 @@ use Rattle.std.specs.Str.{bytes_eq}
 use Rattle.scrib_types.specs.declared.message.Message.{Message}
 use Rattle.scrib_types.specs.declared.spot.Spot.{Spot}
 use Rattle.scrib_types.specs.Agreement.{Agreement}
-use Rattle.scrib_types.specs.Trees.{GlobalTree, GlobalEnd, GlobalVar, GlobalRec, Comm, Flight, GlobalBranches, NoBranch, Branch}
+pub use Rattle.scrib_types.specs.Nodes.{global_nodes, branch_nodes}
+use Rattle.scrib_types.specs.Trees.{GlobalTree, GlobalEnd, GlobalVar, GlobalRec, Comm, GlobalBranches, NoBranch, Branch}
 use Rattle.scrib_types.specs.WellFormed.{leads_to_communication, distinct_operators, has_branches}
 use Rattle.scrib_parser.specs.declared.tree.ModuleTree.{ModuleTree}
 use Rattle.scrib_elaborate.specs.Source.{Body, Done, Then, Step, Sends, Chooses, Repeats, Continues, Calls, Blocks, NoBlock, OrBlock}
@@ -108,17 +109,8 @@ mutual
         → JoinsTo modules n sc (OrBlock b s bs) fs p q es
 
 -- an end, a variable, a recursion and a communication are a node each
-abbrev mutual
-  pub nodes : GlobalTree → ℕ
-  nodes GlobalEnd = 1
-  nodes (GlobalVar n) = 1
-  nodes (GlobalRec g) = 1 + nodes g
-  nodes (Comm p q bs) = 1 + branch_nodes bs
-  nodes (Flight p q j bs) = 1 + branch_nodes bs
-
-  pub branch_nodes : GlobalBranches → ℕ
-  branch_nodes NoBranch = 0
-  branch_nodes (Branch m g bs) = nodes g + branch_nodes bs
+abbrev pub nodes : GlobalTree → ℕ
+nodes = global_nodes
 
 -- the frames and the scope with which a protocol begins
 abbrev pub start_of : Declaration → Frames

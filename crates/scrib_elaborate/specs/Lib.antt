@@ -6,6 +6,7 @@ pub mod Statements
 pub mod Elaboration
 pub mod Lifting
 pub mod Renaming
+pub mod Directory
 pub mod Sizes
 pub mod Faults
 pub mod Sound

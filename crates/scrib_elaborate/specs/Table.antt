@@ -16,6 +16,7 @@ use Rattle.scrib_elaborate.specs.declared.stop.Stop.{Stop}
 use Rattle.scrib_elaborate.specs.declared.stop.Stop.TheVariants.{Broken, Call, OutOfMemory}
 use Rattle.scrib_elaborate.specs.declared.stop.Place.{Place}
 use Rattle.scrib_elaborate.specs.declared.stop.Summary.{Summary}
+use Rattle.scrib_elaborate.specs.Directory.{IsDirectory}
 use Rattle.scrib_elaborate.specs.SourceView.{body_of}
 use Rattle.scrib_elaborate.specs.Growth.{BlockGrows}
 use Rattle.scrib_elaborate.specs.Shape.{HasShape}
@@ -40,6 +41,13 @@ pub record IsFound (ds : List Declaration) (test : Declaration → Bool) (k : �
   pub found : Declaration
   pub there : slice_get ds k ≡ Some found
   pub first : first_where test ds ≡ Some found
+
+-- a protocol of this name, in the module of this name, stands there
+pub record IsNamed (ds : List Declaration) (k : ℕ) (home : List (List ℕ)) (name : List ℕ) : Type 0 where
+  pub found : Declaration
+  pub there : slice_get ds k ≡ Some found
+  pub home_is : found.home.name ≡ home
+  pub name_is : found.protocol.name ≡ name
 
 -- the first module of this name stands there
 pub record IsPlace (ms : List ModuleTree) (name : List (List ℕ)) (k : ℕ) : Type 0 where
@@ -69,10 +77,11 @@ pub record IsSummary (modules : List ModuleTree) (d : Declaration) (s : Summary)
   pub grows : BlockGrows modules d (body_of d.protocol.body) s.size
   pub shaped : HasShape modules d (body_of d.protocol.body) s.shape
 
--- The table has all protocols of the modules. One that was walked keeps the rules, and one that is being walked
--- leads to the protocol that is checked.
+-- The table has all protocols of the modules, and the directory is its own. One that was walked keeps the rules, and
+-- one that is being walked leads to the protocol that is checked.
 pub record IsKnown (p : Place) : Type 0 where
   pub all : shown p.declared.now ≡ declarations p.modules.now
+  pub filed : IsDirectory (shown p.declared.now) p.directory.now.slots.items
   pub states : length p.states.now ≡ length p.declared.now
   pub walked : (k : ℕ) (d : Declaration) (s : Summary) → slice_get (shown p.declared.now) k ≡ Some d → slice_get p.states.now k ≡ Some (Walked s) → IsSummary p.modules.now d s
   pub walking : (k : ℕ) (d : Declaration) → slice_get (shown p.declared.now) k ≡ Some d → slice_get p.states.now k ≡ Some Walking → Reaches p.modules.now d (protocol_at p)

@@ -27,6 +27,7 @@ use Rattle.scrib_elaborate.specs.SourceView.{step_of, body_of, blocks_of}
 use Rattle.scrib_elaborate.specs.Names.{Declaration, declarations}
 use Rattle.scrib_elaborate.specs.Elaboration.{continues_in, Scope, level_of, inside, Frames, Under, and_branches, Types, start_of}
 use Rattle.scrib_elaborate.specs.Faults.{Reaches, share_operator, FailsTyping}
+use Rattle.scrib_elaborate.specs.Directory.{IsDirectory}
 use Rattle.scrib_elaborate.specs.Statements.{KeepsRules}
 use Rattle.scrib_elaborate.specs.Table.{shown, IsPart, AreParts, IsSettledSo}
 use Rattle.scrib_elaborate.specs.Walking.{AreSummaries, IsIdle}
@@ -79,16 +80,19 @@ AreUnknown known = (k : ℕ) (o : Option Typed) → slice_get known k ≡ Some o
 abbrev pub IsAloneAt : List ModuleTree → List Declaration → (place : ℕ) → Made → Type 0
 IsAloneAt modules ds place m = (d : Declaration) → slice_get ds place ≡ Some d → IsAlone modules d m
 
--- The table has all protocols of the modules, what is kept of one that was walked is so, and so is each type that
--- is known.
+-- The table has all protocols of the modules, the directory is its own, what is kept of one that was walked is so,
+-- and so is each type that is known.
 pub record IsTable (p : Program) : Type 0 where
   pub all : shown p.declared.now ≡ declarations p.modules.now
+  pub filed : IsDirectory (shown p.declared.now) p.directory.now.slots.items
   pub kept : AreSummaries p.modules.now (shown p.declared.now) p.states.now
   pub known : AreKnown p.modules.now (shown p.declared.now) p.known.now
 
--- these are all declared protocols of the modules, what walks found of them, and the types that are known
-pub record IsTabled (modules : List ModuleTree) (declared : List Declared) (states : List State) (types : List (Option Typed)) : Type 0 where
+-- these are all declared protocols of the modules, their directory, what walks found of them, and the types that are
+-- known
+pub record IsTabled (modules : List ModuleTree) (declared : List Declared) (slots : List (Option ℕ)) (states : List State) (types : List (Option Typed)) : Type 0 where
   pub all : shown declared ≡ declarations modules
+  pub filed : IsDirectory (shown declared) slots
   pub settled : All IsSettledSo declared
   pub idle : IsIdle modules (shown declared) states
   pub known : AreKnown modules (shown declared) types

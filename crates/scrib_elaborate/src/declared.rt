@@ -3,11 +3,11 @@
 ghost use Rattle.std.specs.Prelude.{◌≡◌, ◌++◌, IfOk, OnOk, MatchOption, None};
 ghost use Rattle.std.specs.List.{All};
 ghost use Rattle.std.specs.Option.{option_copied};
-ghost use Rattle.scrib_elaborate.specs.Names.{is_settled, dotted_eq, known_by, imported, looked_in, called_home, declarations, declared_in, is_called, first_where};
+ghost use Rattle.scrib_elaborate.specs.Names.{is_settled, dotted_eq, known_by, imported, looked_in, declarations, declared_in, is_called, first_where};
 ghost use Rattle.scrib_elaborate.specs.Table.{shown, IsSettledSo, IsFound};
 
 use crate::modules::Modules;
-use crate::names::{has_module, same_name, same_names};
+use crate::names::{same_name, same_names};
 use scrib_parser::tree::{Import, ModuleTree, ProtocolDeclaration};
 use scrib_types::name::{Dotted, Name};
 use std::alloc::{AllocError, Global};
@@ -73,28 +73,9 @@ pub fn find(declared: &[Declared], home: &Dotted, name: &Name) -> Option<usize>
     None
 }
 
-/// The name of the module in which a call of this path looks, if that module is there.
-pub fn called_home<'a>(
-    modules: &[ModuleTree],
-    at: &'a ModuleTree,
-    path: &Dotted,
-) -> Option<&'a Dotted>
-    ensures { option_copied result ≡ called_home modules.now at.now path.now }
-{
-    let names = path.as_slice();
-    match looked_in(at, &names[..names.len() - 1]) {
-        Some(home) => {
-            if has_module(modules, home) {
-                Some(home)
-            } else {
-                None
-            }
-        }
-        None => None,
-    }
-}
-
-fn looked_in<'a>(at: &'a ModuleTree, front: &[Name]) -> Option<&'a Dotted>
+/// The name of the module in which a call looks whose path has these names in front of the protocol's: this one's
+/// where there are none, and else that of the import that is known by them.
+pub fn looked_in<'a>(at: &'a ModuleTree, front: &[Name]) -> Option<&'a Dotted>
     ensures { option_copied result ≡ looked_in at.now front.now }
 {
     if front.is_empty() {

@@ -3,6 +3,7 @@
 ghost use Rattle.std.specs.Prelude.{◌≡◌, slice_get, Some, IfOk, IfErr, MatchResult};
 ghost use Rattle.scrib_types.specs.Agreement.{Agreement};
 ghost use Rattle.scrib_elaborate.specs.Names.{declarations, is_called, role_names};
+ghost use Rattle.scrib_elaborate.specs.Directory.{IsDirectory};
 ghost use Rattle.scrib_elaborate.specs.Elaboration.{Elaborates};
 ghost use Rattle.scrib_elaborate.specs.Faults.{FailsAt};
 ghost use Rattle.scrib_elaborate.specs.Meaning.{meaning_of, Means};
@@ -12,7 +13,8 @@ ghost use Rattle.scrib_elaborate.specs.Typing.{IsTable, IsTabled, joins_told};
 ghost use Rattle.scrib_elaborate.specs.Walking.{IsAbsentFault, IsCounted};
 
 use crate::built::{Origin, Typed};
-use crate::declared::{Declared, all_declared, find};
+use crate::declared::{Declared, all_declared};
+use crate::directory::Directory;
 use crate::elaborated::{Elaborated, Join};
 use crate::fault::{ElaborateFault, Fault, FaultKind};
 use crate::known::{know, known_or_typed, unknown};
@@ -56,6 +58,7 @@ pub struct Elaborator<'a> {
     alloc: Global,
     modules: &'a Modules,
     declared: Vec<Declared<'a>>,
+    directory: Directory,
     states: Vec<State>,
     known: Vec<Option<Typed<'a>>>,
 }
@@ -73,7 +76,7 @@ impl<'a> Model for Elaborator<'a> {
 
     ghost view = { λ e. e.modules.now };
 
-    ghost invariant = { λ e. IsTabled e.modules.now e.declared.items e.states.items e.known.items };
+    ghost invariant = { λ e. IsTabled e.modules.now e.declared.items e.directory.slots.items e.states.items e.known.items };
 }
 
 impl<'a> Elaborator<'a> {
@@ -85,12 +88,14 @@ impl<'a> Elaborator<'a> {
         ensures { IfOk result (λ e. e ≡ modules.entry.now) }
     {
         let declared = all_declared(alloc, modules)?;
+        let directory = Directory::new(alloc, &declared)?;
         let states = unwalked(alloc, declared.len())?;
         let known = unknown(alloc, declared.len())?;
         Ok(Elaborator {
             alloc,
             modules,
             declared,
+            directory,
             states,
             known,
         })
@@ -115,6 +120,7 @@ impl<'a> Elaborator<'a> {
             self.alloc,
             self.modules.as_slice(),
             &self.declared,
+            &self.directory,
             &mut self.states,
             &mut self.known,
             module,
@@ -128,28 +134,38 @@ fn elaborate_among<'a>(
     alloc: Global,
     trees: &'a [ModuleTree],
     declared: &[Declared<'a>],
+    directory: &Directory,
     states: &mut Vec<State>,
     known: &mut Vec<Option<Typed<'a>>>,
     module: &Dotted,
     protocol: &Name,
 ) -> Result<Elaborated, ElaborateFault>
-    requires { IsTabled trees.now declared.now states.old.items known.old.items }
+    requires { IsTabled trees.now declared.now directory.now.slots.items states.old.items known.old.items }
     ensures ok { IfOk result (λ e. Elaborates trees.now «module».now protocol.now (meaning_of e)) }
     ensures sites { IfOk result (AreSites trees.now «module».now protocol.now) }
     ensures only { (a : Agreement) → Elaborates trees.now «module».now protocol.now a → Means result a }
     ensures fault { IfErr result (FailsAt trees.now «module».now protocol.now) }
-    ensures tabled { IsTabled trees.now declared.now states.new.items known.new.items }
+    ensures tabled { IsTabled trees.now declared.now directory.now.slots.items states.new.items known.new.items }
 {
-    let root = find_root(alloc, trees, declared, module, protocol)?;
+    let root = find_root(alloc, trees, declared, directory, module, protocol)?;
     let mut walked = Vec::new(alloc);
-    walk(alloc, &*trees, &*declared, root, states, &mut walked)?;
+    walk(
+        alloc,
+        &*trees,
+        &*declared,
+        &*directory,
+        root,
+        states,
+        &mut walked,
+    )?;
     let count = check_size(alloc, declared, &*states, root)?;
     walked.pop();
-    know(alloc, trees, declared, &*states, &walked, known)?;
+    know(alloc, trees, declared, directory, &*states, &walked, known)?;
     let at = declared[root];
     let program = Program {
         modules: trees,
         declared: &*declared,
+        directory: &*directory,
         states: &*states,
         known: &*known,
         root: at,
@@ -215,10 +231,12 @@ fn find_root(
     alloc: Global,
     modules: &[ModuleTree],
     declared: &[Declared],
+    directory: &Directory,
     module: &Dotted,
     protocol: &Name,
 ) -> Result<usize, ElaborateFault>
-    requires { shown declared.now ≡ declarations modules.now }
+    requires all { shown declared.now ≡ declarations modules.now }
+    requires filed { IsDirectory (shown declared.now) directory.now.slots.items }
     ensures { MatchResult result
         (IsFound (shown declared.now) (is_called «module».now protocol.now))
         (FailsAt modules.now «module».now protocol.now) }
@@ -226,7 +244,7 @@ fn find_root(
     if !has_module(modules, module) {
         return Err(absent(alloc, module, FaultKind::NoModule));
     }
-    match find(declared, module, protocol) {
+    match directory.find(declared, module, protocol) {
         Some(root) => Ok(root),
         None => Err(absent(alloc, module, FaultKind::NoProtocol)),
     }

@@ -1,6 +1,6 @@
 //! Elaborated protocols.
 
-ghost use Rattle.std.specs.Prelude.{◌≡◌, IsTrue};
+ghost use Rattle.std.specs.Prelude.{◌≡◌, ◌≤◌, IsTrue};
 ghost use Rattle.scrib_types.specs.GlobalView.{global_of};
 ghost use Rattle.scrib_elaborate.specs.Elaboration.{nodes};
 ghost use Rattle.scrib_elaborate.specs.Sound.{is_sound};
@@ -27,17 +27,18 @@ pub struct Elaborated {
     count: usize,
     joins: Items<Join>,
     pub ghost counted: { count ≡ nodes (global_of global) },
+    pub ghost small: { count ≤ 4096 },
     pub ghost sound: { IsTrue (is_sound roles (global_of global)) },
 }
 
 impl Elaborated {
-    ghost use Rattle.std.specs.Prelude.{◌≡◌, IsTrue};
+    ghost use Rattle.std.specs.Prelude.{◌≡◌, ◌≤◌, IsTrue};
     ghost use Rattle.scrib_types.specs.GlobalView.{global_of};
     ghost use Rattle.scrib_elaborate.specs.Elaboration.{nodes};
     ghost use Rattle.scrib_elaborate.specs.Sound.{is_sound};
     ghost use Rattle.scrib_elaborate.specs.Meaning.{meaning_of, joins_of};
 
-    /// The protocol of these roles and this type, which has so many nodes. The joins are those of the type's
+    /// The protocol of these roles and this type, which has so many nodes, at most 4,096. The joins are those of the type's
     /// communications with several branches, in post-order.
     pub fn new(
         roles: Items<Role>,
@@ -46,6 +47,7 @@ impl Elaborated {
         joins: Items<Join>,
     ) -> Elaborated
         requires counted { count ≡ nodes (global_of global) }
+        requires small { count ≤ 4096 }
         requires sound { IsTrue (is_sound roles (global_of global)) }
         ensures meaning { meaning_of result ≡ record { roles = roles; global = global_of global } }
         ensures joins { joins_of result ≡ joins }
@@ -91,7 +93,8 @@ impl Elaborated {
 
     /// The roles and the global type.
     pub fn into_parts(self) -> (Items<Role>, GlobalType)
-        ensures { record { roles = result.0; global = global_of result.1 } ≡ meaning_of self }
+        ensures parts { record { roles = result.0; global = global_of result.1 } ≡ meaning_of self }
+        ensures small { nodes (global_of result.1) ≤ 4096 }
     {
         let Elaborated { roles, global, .. } = self;
         (roles, global)

@@ -8,6 +8,7 @@ ghost use Rattle.scrib_elaborate.specs.Typing.{made_of, Makes, AreKnown, AreUnkn
 
 use crate::built::Typed;
 use crate::declared::Declared;
+use crate::directory::Directory;
 use crate::growth::MAX_NODES;
 use crate::stop::State;
 use crate::tasks::Program;
@@ -39,15 +40,17 @@ pub fn know<'a>(
     alloc: Global,
     modules: &'a [ModuleTree],
     declared: &[Declared<'a>],
+    directory: &Directory,
     states: &[State],
     places: &[usize],
     known: &mut Vec<Option<Typed<'a>>>,
 ) -> Result<(), Refused>
-    requires { IsTabled modules.now declared.now states.now known.old.items }
+    requires { IsTabled modules.now declared.now directory.now.slots.items states.now known.old.items }
     ensures { AreKnown modules.now (shown declared.now) known.new.items }
 {
     for place in places {
-        let Some(typed) = alone(alloc, modules, declared, states, &*known, *place)? else {
+        let Some(typed) = alone(alloc, modules, declared, directory, states, &*known, *place)?
+        else {
             return Ok(());
         };
         if *place < known.len() {
@@ -62,11 +65,12 @@ fn alone<'a>(
     alloc: Global,
     modules: &'a [ModuleTree],
     declared: &[Declared<'a>],
+    directory: &Directory,
     states: &[State],
     known: &[Option<Typed<'a>>],
     place: usize,
 ) -> Result<Option<Typed<'a>>, Refused>
-    requires { IsTabled modules.now declared.now states.now known.now }
+    requires { IsTabled modules.now declared.now directory.now.slots.items states.now known.now }
     ensures { IfOk result (λ o. IfSome o (λ t. IsAloneAt modules.now (shown declared.now) place (made_of t))) }
 {
     let Some(root) = declared.get(place) else {
@@ -81,6 +85,7 @@ fn alone<'a>(
     let program = Program {
         modules,
         declared,
+        directory,
         states,
         known,
         root: *root,

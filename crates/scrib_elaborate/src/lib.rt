@@ -4,11 +4,13 @@
 mod built;
 mod choices;
 mod declared;
+mod directory;
 mod earlier;
 pub mod elaborate;
 pub mod elaborated;
 mod exits;
 pub mod fault;
+mod filed;
 mod growth;
 mod known;
 mod lift;

@@ -13,9 +13,9 @@ ghost use Rattle.scrib_elaborate.specs.Statements.{BlockKeeps, StepKeeps, Blocks
 ghost use Rattle.scrib_elaborate.specs.Faults.{HasStep, spot_of};
 ghost use Rattle.scrib_elaborate.specs.Table.{shown, round_names, protocol_at, IsKnown, IsPart, AreParts, IsEntry, IsCallKept, StopsAt};
 
-use crate::declared::{called_home, find};
+use crate::declared::looked_in;
 use crate::fault::FaultKind;
-use crate::names::{are_different, are_roles, has_role, is_among};
+use crate::names::{are_different, are_roles, has_module, has_role, is_among};
 use crate::stop::{BrokenRule, Place, Round, State, Stop, Summary};
 use scrib_parser::tree::{Block, Statement};
 use scrib_types::name::{Dotted, Name, Role};
@@ -175,15 +175,15 @@ fn called(place: &Place, path: &Dotted, roles: &[Role], spot: Spot) -> Result<us
         (IsEntry place.now path.now)
         (StopsAt place.now) }
 {
-    match called_home(place.modules, place.at.home, path) {
+    let names = path.as_slice();
+    let last = names.len() - 1;
+    let Some(home) = looked_in(place.at.home, &names[..last]) else {
+        return Err(broken(FaultKind::NoModule, spot));
+    };
+    match place.directory.find(place.declared, home, &names[last]) {
+        Some(k) => Ok(k),
+        None if has_module(place.modules, home) => Err(broken(FaultKind::NoProtocol, spot)),
         None => Err(broken(FaultKind::NoModule, spot)),
-        Some(home) => {
-            let names = path.as_slice();
-            match find(place.declared, home, &names[names.len() - 1]) {
-                Some(k) => Ok(k),
-                None => Err(broken(FaultKind::NoProtocol, spot)),
-            }
-        }
     }
 }
 

@@ -1,6 +1,7 @@
 //! Where a walk over statements stands, and why it stops.
 
 use crate::declared::Declared;
+use crate::directory::Directory;
 use crate::fault::FaultKind;
 use crate::growth::Growth;
 use crate::shape::Shape;
@@ -35,12 +36,13 @@ pub struct Round<'a> {
     pub name: &'a Name,
 }
 
-/// The protocol whose statements are checked, among all declared protocols of the modules and the states of
-/// the walk.
+/// The protocol whose statements are checked, among all declared protocols of the modules, with their directory and
+/// the states of the walk.
 #[derive(Clone, Copy, Drop)]
 pub struct Place<'a> {
     pub modules: &'a [ModuleTree],
     pub declared: &'a [Declared<'a>],
+    pub directory: &'a Directory,
     pub states: &'a [State],
     pub at: Declared<'a>,
 }

@@ -2,6 +2,7 @@
 
 use crate::built::Typed;
 use crate::declared::Declared;
+use crate::directory::Directory;
 use crate::shape::Shape;
 use crate::standing::Standing;
 use crate::stop::State;
@@ -9,12 +10,13 @@ use scrib_parser::tree::{Block, ModuleTree, Statement};
 use scrib_types::name::Role;
 use scrib_types::spot::Spot;
 
-/// The protocol that is asked for, among all declared protocols of the modules, how far a walk was with each, and
-/// the type of each that is known alone, as if nothing followed it.
+/// The protocol that is asked for, among all declared protocols of the modules, with their directory, how far a walk
+/// was with each, and the type of each that is known alone, as if nothing followed it.
 #[derive(Clone, Copy, Drop)]
 pub struct Program<'a, 'k> {
     pub modules: &'a [ModuleTree],
     pub declared: &'k [Declared<'a>],
+    pub directory: &'k Directory,
     pub states: &'k [State],
     pub known: &'k [Option<Typed<'a>>],
     pub root: Declared<'a>,

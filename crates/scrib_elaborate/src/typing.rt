@@ -20,7 +20,7 @@ ghost use Rattle.scrib_elaborate.specs.Typing.{type_of, made_of, nothing_made, n
 
 use crate::built::{Origin, Typed};
 use crate::choices::{choose, join};
-use crate::declared::{Declared, called_home, find};
+use crate::declared::{Declared, looked_in};
 use crate::earlier::first_fault;
 use crate::fault::FaultKind;
 use crate::shape::Shape;
@@ -265,9 +265,12 @@ pub fn callee<'a>(
     ensures called { IfSome result (λ c. called program.now.modules.now at.now path.now ≡ Some (declaration_of c.declared)) }
     ensures shape { IfSome result (λ c. IsShapeOf program.now.modules.now (declaration_of c.declared) c.shape) }
 {
-    let home = called_home(program.modules, at, path)?;
     let names = path.as_slice();
-    let place = find(program.declared, home, &names[names.len() - 1])?;
+    let last = names.len() - 1;
+    let home = looked_in(at, &names[..last])?;
+    let place = program
+        .directory
+        .find(program.declared, home, &names[last])?;
     let declared = program.declared[place];
     let shape = shape_at(program.states, place);
     Some(Callee {

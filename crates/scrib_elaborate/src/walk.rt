@@ -2,12 +2,14 @@
 
 ghost use Rattle.std.specs.Prelude.{◌≡◌, ◌<◌, List, length, IfOk, IfErr, OnOk, MatchResult};
 ghost use Rattle.std.specs.List.{All};
+ghost use Rattle.scrib_elaborate.specs.Directory.{IsDirectory};
 ghost use Rattle.scrib_elaborate.specs.Names.{declarations};
 ghost use Rattle.scrib_elaborate.specs.Table.{shown, IsSettledSo};
 ghost use Rattle.scrib_elaborate.specs.Walking.{AreUnwalked, IsEntered, EnterFails, IsFaultIn, IsReady, TopKeeps, TopStops, WasWalked, IsIdle, IsSmall, WalkFails};
 ghost use Rattle.scrib_parser.specs.declared.tree.ModuleTree.{ModuleTree};
 
 use crate::declared::Declared;
+use crate::directory::Directory;
 use crate::fault::{ElaborateFault, Fault, FaultKind};
 use crate::growth::MAX_NODES;
 use crate::own_names::check_own_names;
@@ -29,11 +31,13 @@ pub fn walk<'a>(
     alloc: Global,
     modules: &'a [ModuleTree],
     declared: &'a [Declared<'a>],
+    directory: &'a Directory,
     root: usize,
     states: &mut Vec<State>,
     walked: &mut Vec<usize>,
 ) -> Result<(), ElaborateFault>
     requires all { shown declared.now ≡ declarations modules.now }
+    requires filed { IsDirectory (shown declared.now) directory.now.slots.items }
     requires settled { All IsSettledSo declared.now }
     requires there { root < length declared.now }
     requires idle { IsIdle modules.now (shown declared.now) states.old.items }
@@ -41,7 +45,7 @@ pub fn walk<'a>(
     ensures idle { IsIdle modules.now (shown declared.now) states.new.items }
     ensures fault { IfErr result (WalkFails modules.now (shown declared.now) root) }
 {
-    match walk_from(alloc, modules, declared, root, states, walked) {
+    match walk_from(alloc, modules, declared, directory, root, states, walked) {
         Ok(()) => Ok(()),
         Err(fault) => {
             forget(states);
@@ -57,11 +61,13 @@ fn walk_from<'a>(
     alloc: Global,
     modules: &'a [ModuleTree],
     declared: &'a [Declared<'a>],
+    directory: &'a Directory,
     root: usize,
     states: &mut Vec<State>,
     walked: &mut Vec<usize>,
 ) -> Result<(), ElaborateFault>
     requires all { shown declared.now ≡ declarations modules.now }
+    requires filed { IsDirectory (shown declared.now) directory.now.slots.items }
     requires settled { All IsSettledSo declared.now }
     requires there { root < length declared.now }
     requires idle { IsIdle modules.now (shown declared.now) states.old.items }
@@ -74,7 +80,7 @@ fn walk_from<'a>(
     let first = declared[root];
     enter(alloc, first, root, states, &mut stack)?;
     while let Some(top) = stack.pop() {
-        match check(alloc, &*modules, &*declared, &*states, top) {
+        match check(alloc, &*modules, &*declared, &*directory, &*states, top) {
             Ok(summary) => {
                 walked.push(top)?;
                 states[top] = State::Walked(summary);
@@ -141,10 +147,12 @@ fn check<'a>(
     alloc: Global,
     modules: &'a [ModuleTree],
     declared: &'a [Declared<'a>],
+    directory: &'a Directory,
     states: &'a [State],
     top: usize,
 ) -> Result<Summary, Stop>
     requires ready { IsReady modules.now declared.now states.now top }
+    requires filed { IsDirectory (shown declared.now) directory.now.slots.items }
     requires there { top < length declared.now }
     ensures { MatchResult result
         (TopKeeps modules.now (shown declared.now) top)
@@ -154,6 +162,7 @@ fn check<'a>(
     let place = Place {
         modules,
         declared,
+        directory,
         states,
         at,
     };

@@ -7,24 +7,12 @@ use Rattle.std.proofs.lemmas.Bool.{and_parts, true≢false, cases_Bool, cases_eq
 use Rattle.std.proofs.lemmas.Bool.Decides.{Decides-eqb}
 use Rattle.std.proofs.lemmas.Slice.Eq.{bytes_eq-Decides}
 use Rattle.scrib_types.specs.declared.message.Message.{Message}
+pub use Rattle.scrib_types.specs.Nodes.{global_nodes, branch_nodes}
 use Rattle.scrib_types.specs.Trees.{GlobalTree, GlobalEnd, GlobalVar, GlobalRec, Comm, Flight, GlobalBranches, NoBranch, Branch, LocalTree, LocalEnd, LocalVar, LocalRec, Send, Recv, LocalBranches}
 use Rattle.scrib_types.specs.Projection.{open_depth, branches_open_depth, is_closed, occurs, branches_occur, projection}
 use Rattle.scrib_types.specs.WellFormed.{leads_to_communication, uses, branches_use, same_operator, has_operator, distinct_operators, has_branches, well_formed, branches_well_formed}
 use Rattle.scrib_machine.specs.Compilable.{Closed, ClosedAll, LeadsToChoice, Guarded, GuardedAll, Lacks, Differ, Distinct, DistinctAll, nodes, nodes_all, most_nodes, IsCompilable}
 use Rattle.scrib_machine.specs.Projects.{Projects, p_end, p_var, p_send, p_recv, p_other, p_idle, p_rec, ProjectEach, each_none, each_one, ProjectSame, same_none, same_one, not_from, projects_of}
-
--- how many ends, variables, recursions and communications it has
-abbrev mutual
-  pub global_nodes : GlobalTree → ℕ
-  global_nodes GlobalEnd = 1
-  global_nodes (GlobalVar n) = 1
-  global_nodes (GlobalRec g) = 1 + global_nodes g
-  global_nodes (Comm p q bs) = 1 + branch_nodes bs
-  global_nodes (Flight p q j bs) = 1 + branch_nodes bs
-
-  pub branch_nodes : GlobalBranches → ℕ
-  branch_nodes NoBranch = 0
-  branch_nodes (Branch m g bs) = global_nodes g + branch_nodes bs
 
 or_either : (a b : Bool) → (a || b) ≡ true → (a ≡ true) ⊎ (b ≡ true)
 or_either true b h = inl refl

@@ -53,6 +53,7 @@ finish-requires-clause-ready c =
 pub know-requires : goal.know-requires
 know-requires c = record {
   all = c.requires.all;
+  filed = c.requires.filed;
   settled = c.requires.settled;
   idle = subst (λ ss. IsIdle c.args.trees.now (shown c.args.declared.now) ss) (sym c.deref-2.ensures.value) c.walk.ensures.idle;
   known = c.requires.known;
@@ -61,6 +62,7 @@ know-requires c = record {
 pub finish-requires-clause-table : goal.finish-requires-clause-table
 finish-requires-clause-table c = record {
   all = c.requires.all;
+  filed = c.requires.filed;
   kept = subst (λ ss. AreSummaries c.args.trees.now (shown c.args.declared.now) ss) (sym c.deref-4.ensures.value) c.walk.ensures.idle.kept;
   known = subst (λ ts. AreKnown c.args.trees.now (shown c.args.declared.now) ts) (sym c.deref-5.ensures.value) c.know.ensures;
 }

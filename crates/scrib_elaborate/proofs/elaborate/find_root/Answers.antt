@@ -8,4 +8,4 @@ returns-then-not-has_module c =
 
 pub returns-in-None : goal.returns-in-None
 returns-in-None c =
-    absent_fails c.args.modules.now c.args.module.now c.args.protocol.now _ c.absent-in-None.result (no_protocol c.args.modules.now c.args.module.now c.args.protocol.now _ c.requires (sym c.has_module.ensures ∙ c.if-not-has_module.false) c.in-None.ensures) c.absent-in-None.ensures
+    absent_fails c.args.modules.now c.args.module.now c.args.protocol.now _ c.absent-in-None.result (no_protocol c.args.modules.now c.args.module.now c.args.protocol.now _ c.requires.all (sym c.has_module.ensures ∙ c.if-not-has_module.false) c.in-None.ensures) c.absent-in-None.ensures

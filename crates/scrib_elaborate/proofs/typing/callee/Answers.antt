@@ -3,8 +3,8 @@ use Rattle.std.proofs.lemmas.Option.{slice_get_within}
 use Rattle.scrib_elaborate.specs.Names.{Declaration}
 use Rattle.scrib_elaborate.specs.Shape.{IsShapeOf}
 use Rattle.scrib_elaborate.specs.Table.{shown}
-use Rattle.scrib_elaborate.proofs.Places.{name_last}
-use Rattle.scrib_elaborate.proofs.Checks.{called-is, entry_is}
+use Rattle.scrib_elaborate.proofs.Places.{name_last, called_home-there}
+use Rattle.scrib_elaborate.proofs.Checks.{called-is, entry_is, found_home}
 use Rattle.scrib_elaborate.proofs.typing.callee.Goals as goal
 
 pub shape_at-shape-requires : goal.shape_at-shape-requires
@@ -24,8 +24,10 @@ pub returns-clause-called : goal.returns-clause-called
 returns-clause-called c =
     let f = c.in_ok-place.ensures in
     let program = c.args.program.now in
-    let n = name_last c.args.path.now c.as_slice-names.result.now c.index-names-names.result c.as_slice-names.ensures.names c.as_slice-names.ensures.some c.index-names-names.is in
-    called-is program.modules.now c.args.at.now c.args.path.now c.in_ok-home.home.now c.index-names-names.result _ (Some f.found) c.in_ok-home.ensures n c.requires.all f.first ∙ ap Some (entry_is program.declared.now c.in_ok-place.place f.found c.index-program-place.result f.there)
+    let n = name_last c.args.path.now c.as_slice-names.result.now c.index-names-last.result c.as_slice-names.ensures.names c.as_slice-names.ensures.some c.index-names-last.is in
+    let there = found_home program.modules.now c.in_ok-home.home.now c.index-names-last.result (shown program.declared.now) f.found c.requires.all f.first in
+    let home = called_home-there program.modules.now c.args.at.now c.args.path.now c.as_slice-names.result.now c.in_ok-home.home.now c.as_slice-names.ensures.names c.as_slice-names.ensures.some c.in_ok-home.ensures there in
+    called-is program.modules.now c.args.at.now c.args.path.now c.in_ok-home.home.now c.index-names-last.result _ (Some f.found) home n c.requires.all f.first ∙ ap Some (entry_is program.declared.now c.in_ok-place.place f.found c.index-program-place.result f.there)
 
 pub returns-clause-shape : goal.returns-clause-shape
 returns-clause-shape c =

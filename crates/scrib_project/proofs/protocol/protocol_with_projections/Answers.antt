@@ -14,7 +14,7 @@ pub new-requires : goal.new-requires
 new-requires c =
     let a = meaning_of c.args.elaborated in
     let none = sym c.loop-role.invariant.without ∙ ap (first_without a.global) (drop_all c.loop-role.role-index c.roles-role-items.result.now c.loop-role-test.false) in
-    subst (λ (x : Agreement). IsTrue (is_protocol x.roles x.global)) (sym c.into_parts-roles.ensures) (makes_protocol a.roles a.global c.roles-role-items.ensures.sound none)
+    subst (λ (x : Agreement). IsTrue (is_protocol x.roles x.global)) (sym c.into_parts-roles.ensures.parts) (makes_protocol a.roles a.global c.roles-role-items.ensures.sound none)
 
 pub loop-role-preserved : goal.loop-role-preserved
 loop-role-preserved c =

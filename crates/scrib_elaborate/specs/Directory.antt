@@ -1,0 +1,34 @@
+-- Where a directory of declared protocols looks for one (this project's own).
+-- Only contracts of private functions cite this file.
+use Rattle.std.specs.Prelude.{◌≡◌, ◌≢◌, ℕ, ◌+◌, ◌*◌, ◌%◌, ◌<◌, List, [], ◌∷◌, length, slice_get, Option, Some}
+use Rattle.scrib_elaborate.specs.Names.{Declaration}
+
+-- the bytes, mixed into a number below the size
+abbrev pub mixed : (size so_far : ℕ) → List ℕ → ℕ
+mixed size h [] = h
+mixed size h (b ∷ bs) = mixed size ((h * 33 + b) % size) bs
+
+abbrev pub mixed_all : (size so_far : ℕ) → List (List ℕ) → ℕ
+mixed_all size h [] = h
+mixed_all size h (n ∷ ns) = mixed_all size (mixed size h n) ns
+
+-- the slot of the protocol of this name, in the module of this name
+abbrev pub slot_of : (size : ℕ) → (home : List (List ℕ)) (name : List ℕ) → ℕ
+slot_of size home name = mixed_all size (mixed size 0 name) home
+
+abbrev pub slot_for : (size : ℕ) → Declaration → ℕ
+slot_for size d = slot_of size d.home.name d.protocol.name
+
+-- no protocol before this place has the slot
+abbrev pub IsFirstOf : List Declaration → (size slot place : ℕ) → Type 0
+IsFirstOf ds size s k = (j : ℕ) (d : Declaration) → slice_get ds j ≡ Some d → j < k → slot_for size d ≢ s
+
+-- each slot tells the first protocol that has it, or none
+abbrev pub IsDirectory : List Declaration → List (Option ℕ) → Type 0
+IsDirectory ds slots = (s k : ℕ) → slice_get slots s ≡ Some (Some k) → IsFirstOf ds (length slots) s k
+
+-- so it is of the first n protocols, each of which has its slot taken
+pub record IsFilled (ds : List Declaration) (size n : ℕ) (slots : List (Option ℕ)) : Type 0 where
+  pub long : length slots ≡ size
+  pub first : (s k : ℕ) → slice_get slots s ≡ Some (Some k) → IsFirstOf ds size s k
+  pub taken : (j : ℕ) (d : Declaration) → slice_get ds j ≡ Some d → j < n → (k : ℕ) × (slice_get slots (slot_for size d) ≡ Some (Some k))
