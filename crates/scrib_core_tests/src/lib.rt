@@ -12,3 +12,5 @@ mod making;
 mod monitor;
 #[cfg(test)]
 mod versions;
+#[cfg(test)]
+mod withdrawals;

@@ -96,5 +96,17 @@ fn versions_run_out(rt: HostRuntime) -> Result<(), Fail> {
     assert_eq!(rt; number(alloc, &library, &["f", "P"])?, 65_535);
     let changes = put(&mut library, B)?;
     assert_eq!(rt; changes.list.as_slice().len(), 0);
+    // a withdrawal needs no version
+    let name = dotted(alloc, &["f"])?;
+    let Ok(changes) = library.withdraw(&name) else {
+        return Err(Fail::new("the withdrawal is refused"));
+    };
+    assert_eq!(rt; changes.list.as_slice().len(), 1);
+    assert_eq!(rt; changes.list.as_slice()[0].kind, ChangeKind::Withdrawn);
+    assert!(rt;
+        changes.list.as_slice()[0]
+            .name
+            .equal(&dotted(alloc, &["f", "P"])?)
+    );
     Ok(())
 }
