@@ -5,17 +5,19 @@ ghost use Rattle.scrib_parser.specs.LeftOut as left_out;
 ghost use Rattle.scrib_parser.specs.Reading.{left, Gives, begins, same_kind, begins_statement, begins_declaration, deep_fault, token_of, paren_behind, placed_name_of, name_of};
 
 use crate::fault::{LeftOutWord, ParseFault};
+use crate::messages::RecentMessages;
 use crate::names::RecentNames;
 use scrib_lexer::token::{Keyword, Token, TokenKind};
 use scrib_types::name::Name;
 use scrib_types::spot::Spot;
 use std::alloc::Global;
 
-/// The tokens that are left to read, and names of those that were read.
+/// The tokens that are left to read, and what those that were read had in them.
 #[derive(Drop)]
 pub(crate) struct Cursor<'t, 'a> {
     pub(crate) rest: &'t [Token<'a>],
     pub(crate) names: RecentNames,
+    pub(crate) messages: RecentMessages,
 }
 
 impl<'t, 'a> Cursor<'t, 'a> {

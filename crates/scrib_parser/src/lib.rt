@@ -3,6 +3,8 @@
 
 mod cursor;
 pub mod fault;
+mod messages;
 mod names;
 pub mod parse;
+mod places;
 pub mod tree;

@@ -1,20 +1,13 @@
 //! Names that a text had before, to be shared by those that are the same.
 
-ghost use Rattle.std.specs.Prelude.{◌≡◌, IfOk, IfSome, Some, None, if◌then◌else◌};
+ghost use Rattle.std.specs.Prelude.{◌≡◌, IfOk, Some, None, if◌then◌else◌};
 ghost use Rattle.scrib_types.specs.Names as names;
 
+use crate::places;
 use scrib_types::name::{Name, is_name};
 use std::alloc::{AllocError, Global};
 
-/// How many places there are for names, in a text of fewer than `LONG` tokens and in a longer one.
-const FEW: usize = 128;
-
-const MANY: usize = 4096;
-
-const LONG: usize = 1024;
-
-/// Names that a text had before, so that one that comes again takes no memory. Each has the place that its
-/// bytes give, until another comes there: which ones are kept is left open.
+/// Names that a text had before, so that one that comes again takes no memory.
 #[derive(Drop)]
 pub(crate) struct RecentNames {
     places: Vec<Option<Name>>,
@@ -26,11 +19,7 @@ impl RecentNames {
     /// # Errors
     /// `AllocError` where memory for the places is refused.
     pub(crate) fn new(alloc: Global, tokens: usize) -> Result<RecentNames, AllocError> {
-        let count = if tokens < LONG { FEW } else { MANY };
-        let mut places = Vec::with_capacity(alloc, count)?;
-        for _ in 0..count {
-            places.push(None)?;
-        }
+        let places = places::empty(alloc, tokens)?;
         Ok(RecentNames { places })
     }
 
@@ -41,7 +30,7 @@ impl RecentNames {
     pub(crate) fn name(&mut self, alloc: Global, bytes: &[u8]) -> Result<Option<Name>, AllocError>
         ensures { IfOk result (λ name. name ≡ (if names.is_name bytes.now then Some bytes.now else None)) }
     {
-        let at = hash(bytes) & self.places.len().wrapping_sub(1);
+        let at = places::place(places::hash_on(0, bytes), self.places.len());
         if at >= self.places.len() || !is_name(bytes) {
             return Name::from_bytes(alloc, bytes);
         }
@@ -64,13 +53,4 @@ fn copy_of(name: &Option<Name>) -> Result<Option<Name>, AllocError>
         Some(name) => Ok(Some(name.copy()?)),
         None => Ok(None),
     }
-}
-
-/// A number that different bytes seldom share.
-fn hash(bytes: &[u8]) -> usize {
-    let mut hash: usize = 0;
-    for byte in bytes {
-        hash = hash.wrapping_mul(31).wrapping_add(*byte as usize);
-    }
-    hash
 }

@@ -8,18 +8,21 @@ ghost use Rattle.scrib_parser.specs.Reading.{left, Gives, GivesAll};
 
 use crate::cursor::{Cursor, left_out_declaration};
 use crate::fault::ParseFault;
+use crate::messages::RecentMessages;
 use crate::names::RecentNames;
 use crate::tree::{Block, Import, ModuleTree, ProtocolDeclaration, RoleDeclaration, Statement};
 use scrib_lexer::token::{Keyword, Token, TokenKind};
 use scrib_types::message::{Message, Payload};
 use scrib_types::name::{Dotted, Name};
 use scrib_types::plain::Items;
-use scrib_types::shared_message::SharedMessage;
 use scrib_types::spot::Spot;
 use std::alloc::Global;
 
 /// The most levels of blocks, a protocol's own being the first.
 pub const MAX_LEVELS: usize = 64;
+
+/// Room for the receivers, the types or the parts of a dotted name that most statements have.
+const FEW: usize = 2;
 
 /// The module that the tokens are. The tree keeps the text's order; a type declaration leaves nothing in it.
 ///
@@ -46,10 +49,10 @@ pub fn parse(alloc: Global, tokens: &[Token]) -> Result<ModuleTree, ParseFault>
 fn whole(alloc: Global, tokens: &[Token]) -> Result<ModuleTree, ParseFault>
     ensures { GivesAll result (reading.whole_of 64 (lexemes_of tokens.now)) }
 {
-    let names = RecentNames::new(alloc, tokens.len())?;
     let mut tokens = Cursor {
         rest: tokens,
-        names,
+        names: RecentNames::new(alloc, tokens.len())?,
+        messages: RecentMessages::new(alloc, tokens.len())?,
     };
     let tree = module_tree(alloc, MAX_LEVELS, &mut tokens)?;
     match tokens.rest {
@@ -89,7 +92,7 @@ fn imports(alloc: Global, tokens: &mut Cursor) -> Result<Items<Import>, ParseFau
     while tokens.next_is(TokenKind::Keyword(Keyword::Import)) {
         imports.push(import(alloc, tokens)?)?;
     }
-    Ok(Items::from_vec(imports))
+    Ok(fitted(imports))
 }
 
 /// `"import" dotted [ "as" name ] ";"`
@@ -136,7 +139,7 @@ fn declarations(
             protocols.push(protocol)?;
         }
     }
-    Ok(Items::from_vec(protocols))
+    Ok(fitted(protocols))
 }
 
 /// `typedecl | protocol`
@@ -208,7 +211,7 @@ fn roles(alloc: Global, tokens: &mut Cursor) -> Result<Items<RoleDeclaration>, P
         tokens.take(TokenKind::Comma)?;
         roles.push(role(alloc, tokens)?)?;
     }
-    Ok(Items::from_vec(roles))
+    Ok(fitted(roles))
 }
 
 /// `"role" name`
@@ -257,7 +260,7 @@ fn statements(
     while tokens.next_begins_statement() {
         statements.push(statement(alloc, levels, tokens)?)?;
     }
-    Ok(Items::from_vec(statements))
+    Ok(fitted(statements))
 }
 
 /// `message | choice | rec | continue | do`
@@ -304,7 +307,7 @@ fn blocks(alloc: Global, levels: usize, tokens: &mut Cursor) -> Result<Items<Blo
         tokens.take(TokenKind::Keyword(Keyword::Or))?;
         blocks.push(block(alloc, levels, tokens)?)?;
     }
-    Ok(Items::from_vec(blocks))
+    Ok(fitted(blocks))
 }
 
 /// `"rec" name block`
@@ -361,7 +364,7 @@ fn message(alloc: Global, tokens: &mut Cursor) -> Result<Statement, ParseFault>
     tokens.take(TokenKind::Keyword(Keyword::To))?;
     let to = names(alloc, tokens)?;
     tokens.take(TokenKind::Semicolon)?;
-    let message = SharedMessage::new(alloc, Message { op, payload })?;
+    let message = tokens.messages.share(alloc, Message { op, payload })?;
     Ok(Statement::Message {
         message,
         from,
@@ -375,7 +378,7 @@ fn message(alloc: Global, tokens: &mut Cursor) -> Result<Statement, ParseFault>
 fn names(alloc: Global, tokens: &mut Cursor) -> Result<Items<Name>, ParseFault>
     ensures { Gives result (left tokens.new) (reading.names_of (left tokens.old)) }
 {
-    let mut names = Vec::new(alloc);
+    let mut names = Vec::with_capacity(alloc, FEW)?;
     names.push(tokens.name(alloc)?)?;
     while tokens.next_is(TokenKind::Comma) {
         tokens.take(TokenKind::Comma)?;
@@ -424,7 +427,7 @@ fn payload(alloc: Global, tokens: &mut Cursor) -> Result<Payload, ParseFault>
 fn elements(alloc: Global, tokens: &mut Cursor) -> Result<Payload, ParseFault>
     ensures { Gives result (left tokens.new) (reading.elements_of (left tokens.old)) }
 {
-    let mut sorts = Vec::new(alloc);
+    let mut sorts = Vec::with_capacity(alloc, FEW)?;
     sorts.push(element(alloc, tokens)?)?;
     while tokens.next_is(TokenKind::Comma) {
         tokens.take(TokenKind::Comma)?;
@@ -461,11 +464,20 @@ fn dotted(alloc: Global, tokens: &mut Cursor) -> Result<Dotted, ParseFault>
 fn dotted_from(alloc: Global, first: Name, tokens: &mut Cursor) -> Result<Dotted, ParseFault>
     ensures { Gives result (left tokens.new) (reading.dotted_from first (left tokens.old)) }
 {
-    let mut names = Vec::new(alloc);
+    let mut names = Vec::with_capacity(alloc, FEW)?;
     names.push(first)?;
     while tokens.next_is(TokenKind::Dot) {
         tokens.take(TokenKind::Dot)?;
         names.push(tokens.name(alloc)?)?;
     }
     Ok(Dotted::from_vec(alloc, names)?)
+}
+
+/// The list, which a tree keeps long: without spare room, where memory for the smaller list is given.
+fn fitted<T>(items: Vec<T>) -> Items<T>
+    ensures { result ≡ items.items }
+{
+    let mut items = items;
+    items.shrink_to_fit();
+    Items::from_vec(items)
 }

@@ -41,7 +41,7 @@ blocks-loop-alloc-preserved n c =
 
 pub blocks-returns : goal.blocks-returns
 blocks-returns n c =
-    rw c.from_vec.ensures (is_done (same_kind (Keyword Or)) (after (token_of (Keyword Or)) (block_of c.args.levels)) (or_takes_of c.args.levels) c.loop-alloc.blocks.items (lexemes_of c.loop-alloc.tokens.rest.now) (blocks_of (block_of c.args.levels) (lexemes_of c.args.tokens.now.rest.now)) (sym c.loop-alloc-test.ensures) c.loop-alloc.invariant)
+    rw c.fitted.ensures (is_done (same_kind (Keyword Or)) (after (token_of (Keyword Or)) (block_of c.args.levels)) (or_takes_of c.args.levels) c.loop-alloc.blocks.items (lexemes_of c.loop-alloc.tokens.rest.now) (blocks_of (block_of c.args.levels) (lexemes_of c.args.tokens.now.rest.now)) (sym c.loop-alloc-test.ensures) c.loop-alloc.invariant)
 
 pub statements-returns-in_err-statement : goal.statements-returns-in_err-statement
 unfolding statements_of
@@ -60,4 +60,4 @@ statements-loop-alloc-preserved n c =
 pub statements-returns : goal.statements-returns
 unfolding statements_of
 statements-returns n c =
-    rw c.from_vec.ensures (is_done begins_statement (statement_of (block_of c.args.levels)) (statement_takes_of c.args.levels) c.loop-alloc.statements.items (lexemes_of c.loop-alloc.tokens.rest.now) (statements_of (block_of c.args.levels) (lexemes_of c.args.tokens.now.rest.now)) (sym c.loop-alloc-test.ensures) c.loop-alloc.invariant)
+    rw c.fitted.ensures (is_done begins_statement (statement_of (block_of c.args.levels)) (statement_takes_of c.args.levels) c.loop-alloc.statements.items (lexemes_of c.loop-alloc.tokens.rest.now) (statements_of (block_of c.args.levels) (lexemes_of c.args.tokens.now.rest.now)) (sym c.loop-alloc-test.ensures) c.loop-alloc.invariant)

@@ -13,7 +13,7 @@ returns-in_err-declared c =
 
 pub returns : goal.returns
 returns c =
-    rw c.from_vec.ensures (ended c.args.levels c.loop-alloc.protocols.items (lexemes_of c.loop-alloc.tokens.rest.now) (declarations_of c.args.levels (lexemes_of c.args.tokens.now.rest.now)) (sym c.loop-alloc-test.ensures) c.loop-alloc.invariant)
+    rw c.fitted.ensures (ended c.args.levels c.loop-alloc.protocols.items (lexemes_of c.loop-alloc.tokens.rest.now) (declarations_of c.args.levels (lexemes_of c.args.tokens.now.rest.now)) (sym c.loop-alloc-test.ensures) c.loop-alloc.invariant)
 
 pub loop-alloc-smaller-in-Continue-branch-2 : goal.loop-alloc-smaller-in-Continue-branch-2
 loop-alloc-smaller-in-Continue-branch-2 c = declaration_takes c.args.levels _ _ _ c.in_ok-declared.ensures

@@ -25,4 +25,4 @@ loop-alloc-preserved c =
 pub returns : goal.returns
 unfolding imports_of
 returns c =
-    rw c.from_vec.ensures (is_done (same_kind (Keyword Import)) import_of import_takes c.loop-alloc.imports.items (lexemes_of c.loop-alloc.tokens.rest.now) (imports_of (lexemes_of c.args.tokens.now.rest.now)) (sym c.loop-alloc-test.ensures) c.loop-alloc.invariant)
+    rw c.fitted.ensures (is_done (same_kind (Keyword Import)) import_of import_takes c.loop-alloc.imports.items (lexemes_of c.loop-alloc.tokens.rest.now) (imports_of (lexemes_of c.args.tokens.now.rest.now)) (sym c.loop-alloc-test.ensures) c.loop-alloc.invariant)

@@ -32,4 +32,4 @@ loop-alloc-preserved c =
 
 pub returns : goal.returns
 returns c =
-    rw c.from_vec.ensures (is_done (same_kind Comma) (after (token_of Comma) role_of) role_takes c.loop-alloc.roles.items (lexemes_of c.loop-alloc.tokens.rest.now) (roles_of (lexemes_of c.args.tokens.now.rest.now)) (sym c.loop-alloc-test.ensures) c.loop-alloc.invariant)
+    rw c.fitted.ensures (is_done (same_kind Comma) (after (token_of Comma) role_of) role_takes c.loop-alloc.roles.items (lexemes_of c.loop-alloc.tokens.rest.now) (roles_of (lexemes_of c.args.tokens.now.rest.now)) (sym c.loop-alloc-test.ensures) c.loop-alloc.invariant)
