@@ -12,7 +12,7 @@ use scrib_types::name::Name;
 use scrib_types::spot::Spot;
 use std::alloc::Global;
 
-/// The tokens that are left to read, and what those that were read had in them.
+/// The tokens that are left to read, and names and messages that were read, to be shared.
 #[derive(Drop)]
 pub(crate) struct Cursor<'t, 'a> {
     pub(crate) rest: &'t [Token<'a>],

@@ -33,7 +33,7 @@ const FEW: usize = 2;
 ///   `interruptible`, `connect` and `disconnect` at the start of a statement: with the word and its place.
 /// - `TooDeep` with the place of the brace that opens a 65th level of blocks.
 /// - `EndOfText` where all tokens are the beginning of a module, and are no module.
-/// - `OutOfMemory` where memory for the tree is refused.
+/// - `OutOfMemory` where memory for the tree, or for reading it, is refused.
 pub fn parse(alloc: Global, tokens: &[Token]) -> Result<ModuleTree, ParseFault>
     // What is parsed is spelled so.
     ensures found { IfOk result (λ m. IsModule (lexemes_of tokens.now) m) }
