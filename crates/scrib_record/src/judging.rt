@@ -115,8 +115,8 @@ impl Judging {
         Ok(Told::Judged(told))
     }
 
-    /// The judgement after a turn under the present version: from event 1 where another version is held, it goes on for
-    /// at most 256 events.
+    /// The judgement after a turn: withdrawn where no version is present, and else of at most 256 events more, from
+    /// event 1 where another version is held.
     pub fn turned(&self, present: Option<&Version>, log: &[Event]) -> Result<Judging, AllocError>
         requires kept { kept.IsKept log.now self.now }
         requires stale { (stale.is_present (option_copied present) self.now.held && stale.is_final self.now.verdict self.now.judged (length log.now)) ≢ true }
