@@ -1,4 +1,5 @@
-//! Declared protocols by name.
+//! Declared protocols by name: what a directory is filled with, and its look-ups. Its slots stand apart, since
+//! definitions of the table speak of them.
 
 ghost use Rattle.std.specs.Prelude.{IsTrue};
 ghost use Rattle.scrib_elaborate.specs.Table.{shown, IsNamed};
