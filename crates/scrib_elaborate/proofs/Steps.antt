@@ -108,6 +108,15 @@ front_at ms root ts st ss g s =
       path = s.path.2;
     })
 
+-- the statements count, and not where they lie in memory
+pub front_same : (ms : List ModuleTree) (root : Declaration) (ts : List Task) (st : Standing) (ss others : Bor (List Statement)) (g : Made) → ss.now ≡ others.now → IsState ms root (Front st ss ∷ ts) g → IsState ms root (Front st others ∷ ts) g
+front_same ms root ts st ss others g e s = record {
+  depth = s.depth;
+  frames = s.frames;
+  made = s.made;
+  path = (s.path.0, subst (λ xs. IsFront ms root (scope_of st) st.depth xs s.depth s.frames s.path.0) e s.path.1, s.path.2);
+}
+
 -- no statement is left
 pub front_done : (ms : List ModuleTree) (root : Declaration) (ts : List Task) (st : Standing) (ss : Bor (List Statement)) (g : Made) → ss.now ≡ [] → IsState ms root (Front st ss ∷ ts) g → IsState ms root ts g
 front_done ms root ts st ss g none s =

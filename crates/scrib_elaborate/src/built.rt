@@ -1,6 +1,6 @@
 //! The types of statements, built from the end.
 
-ghost use Rattle.std.specs.Prelude.{◌≡◌, ◌-◌, [], IfOk};
+ghost use Rattle.std.specs.Prelude.{◌≡◌, ◌-◌, [], ◌∷◌, IfOk};
 ghost use Rattle.scrib_types.specs.GlobalView.{global_of};
 ghost use Rattle.scrib_types.specs.Trees.{GlobalEnd, GlobalVar, GlobalRec, Comm, Branch, NoBranch};
 ghost use Rattle.scrib_elaborate.specs.Names.{role_names};
@@ -134,7 +134,7 @@ impl<'a> Typed<'a> {
         Typed { global, joins }
     }
 
-    /// One message to each of the receivers in turn, and then what has this type.
+    /// One message, and then what has this type.
     ///
     /// # Errors
     /// `AllocError` where memory was refused.
@@ -143,19 +143,14 @@ impl<'a> Typed<'a> {
         alloc: Global,
         message: &SharedMessage,
         from: &Role,
-        to: &[&Role],
+        to: &Role,
     ) -> Result<Typed<'a>, AllocError>
-        ensures global { IfOk result (λ t. type_of t ≡ sent message.now from.now (named to.now) (type_of self.entry)) }
-        ensures joins { IfOk result (λ t. t.joins.items ≡ none_told (named to.now) self.entry.joins.items) }
+        ensures global { IfOk result (λ t. type_of t ≡ sent message.now from.now (to.now ∷ []) (type_of self.entry)) }
+        ensures joins { IfOk result (λ t. t.joins.items ≡ none_told (to.now ∷ []) self.entry.joins.items) }
     {
-        let Typed {
-            mut global,
-            mut joins,
-        } = self;
-        for i in (0..to.len()).rev() {
-            global = communication(alloc, message, from, to[i], global)?;
-            joins.push(None)?;
-        }
+        let Typed { global, mut joins } = self;
+        let global = communication(alloc, message, from, to, global)?;
+        joins.push(None)?;
         Ok(Typed { global, joins })
     }
 }

@@ -50,8 +50,12 @@ fn send<'a>(
     ensures joins { IfOk result (λ t. t.joins.items ≡ none_told (map (role_in (scope_of standing.now)) to.now) typed.entry.joins.items) }
 {
     let sender = standing.role(from);
-    let receivers = standing.roles(alloc, to)?;
-    typed.sent(alloc, message, sender, &receivers)
+    let mut typed = typed;
+    for i in (0..to.len()).rev() {
+        let receiver = standing.role(&to[i]);
+        typed = typed.sent(alloc, message, sender, receiver)?;
+    }
+    Ok(typed)
 }
 
 // Begins a recursion, of which what follows has this type.
@@ -294,12 +298,42 @@ fn front<'a>(
         → IsState program.now.modules.now root (Front standing.entry statements.entry ∷ reverse tasks.old.items) (made_of typed.entry)
         → MatchResult result (λ t. IsState program.now.modules.now root (reverse tasks.new.items) (made_of t)) (StopsAhead program.now.modules.now root tasks.new.items) }
 {
+    let (typed, statements) = messages(alloc, &standing, statements, typed)?;
     let Some((last, rest)) = statements.split_last() else {
         return Ok(typed);
     };
     let again = standing.copy(alloc)?;
     tasks.push(Task::Front(again, rest))?;
     put(alloc, program, tasks, standing, last, typed)
+}
+
+// The messages at the end of these statements, in front of what has this type, and what is left in front of them.
+fn messages<'a>(
+    alloc: Global,
+    standing: &Standing<'a>,
+    statements: &'a [Statement],
+    typed: Typed<'a>,
+) -> Result<(Typed<'a>, &'a [Statement]), AllocError>
+    ensures { (modules : List ModuleTree) (root : Declaration) (e : Bool) (tasks : List Task) → KeepsRules modules root e
+        → IsState modules root (Front standing.now statements.entry ∷ tasks) (made_of typed.entry)
+        → IfOk result (λ r. IsState modules root (Front standing.now r.1 ∷ tasks) (made_of r.0)) }
+{
+    let mut typed = typed;
+    let mut left = statements;
+    while let Some((last, rest)) = left.split_last() {
+        let Statement::Message {
+            message,
+            from,
+            to,
+            ..
+        } = last
+        else {
+            return Ok((typed, left));
+        };
+        typed = send(alloc, standing, message, from, to.as_slice(), typed)?;
+        left = rest;
+    }
+    Ok((typed, left))
 }
 
 // One task.

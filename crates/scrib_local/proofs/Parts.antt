@@ -1,17 +1,19 @@
 -- A communication, surveyed from its branches.
-use Rattle.std.proofs.Common.{◌≡◌, ℕ, ◌+◌, ◌-◌, Bool, true, false, ◌||◌, ◌&&◌, not, ◌==◌, List, [], ◌∷◌, length, nat_lt, Option, Some, None, option_map, option_and_then, if◌then◌else◌, refl, sym, ap, ◌∙◌, arith, rules, tests}
+use Rattle.std.proofs.Common.{◌≡◌, ℕ, zero, suc, ◌+◌, ◌-◌, Bool, true, false, ◌||◌, ◌&&◌, not, ◌==◌, ◌≤◌, ◌<◌, List, [], ◌∷◌, length, get_or, nat_lt, Option, Some, None, option_map, option_and_then, if◌then◌else◌, refl, sym, ap, ◌∙◌, arith, rules, tests}
 use Rattle.std.specs.Option.{option_or}
 use Rattle.std.specs.Str.{bytes_eq}
 use Rattle.scrib_types.specs.declared.message.Message.{Message}
 use Rattle.scrib_types.specs.declared.global.GlobalType.{GlobalType}
 use Rattle.scrib_types.specs.declared.local.Local.{Local}
-use Rattle.scrib_types.specs.Trees.{GlobalTree, GlobalRec, GlobalBranches, Comm, LocalBranches, Send, Recv}
-use Rattle.scrib_types.specs.GlobalView.{global_branches}
+use Rattle.scrib_types.specs.Trees.{GlobalTree, GlobalRec, GlobalBranches, NoBranch, Branch, Comm, LocalTree, LocalBranches, NoChoice, Send, Recv}
+use Rattle.scrib_types.specs.GlobalView.{global_of, global_branches}
 use Rattle.scrib_types.specs.LocalView.{local_of}
-use Rattle.scrib_types.specs.Projection.{open_depth, occurs, branches_occur, branch_projections, merged}
-use Rattle.scrib_local.specs.Differences.{joins_here, branch_joins, differ, first_difference, first_among}
+use Rattle.scrib_types.specs.Projection.{open_depth, occurs, branches_occur, projection, branch_projections, with_choice, merged}
+use Rattle.scrib_types.specs.Nodes.{global_nodes, branch_nodes}
+use Rattle.scrib_local.specs.Differences.{joins, joins_here, branch_joins, differ, first_difference, first_among}
 use Rattle.scrib_local.specs.Surveys.{capped, IsSurvey, IsBranchSurvey, IsSight}
 use Rattle.scrib_local.specs.declared.survey.Survey.{Survey}
+use Rattle.scrib_local.specs.declared.look.Sight.{Sight}
 
 -- one where the test holds
 abbrev pub one_if : Bool → ℕ
@@ -114,6 +116,55 @@ module _ (r p q : List ℕ) (bs : GlobalBranches) (s : Survey) (many : Bool) (t 
         ∙ ap (λ b. if b then option_map (Send q) (branch_projections r bs) else (if false then option_map (Recv p) (branch_projections r bs) else option_and_then merged (branch_projections r bs))) (sym n)
         ∙ ap (λ b. if bytes_eq r p then option_map (Send q) (branch_projections r bs) else (if b then option_map (Recv p) (branch_projections r bs) else option_and_then merged (branch_projections r bs))) (sym m);
   }
+
+alone_merged : (m : Message) (l : Option LocalTree) → option_and_then merged (with_choice m l (Some NoChoice)) ≡ l
+alone_merged m None = refl
+alone_merged m (Some l) = refl
+
+alone_same : (m : Message) (l : Option LocalTree) → differ (with_choice m l (Some NoChoice)) ≡ false
+alone_same m None = refl
+alone_same m (Some l) = refl
+
+alone_first : (o : Option ℕ) → o ≡ option_or (option_or o None) None
+alone_first None = refl
+alone_first (Some k) = refl
+
+alone_occurs : (b : Bool) → b ≡ ((false || false) || (b || false))
+alone_occurs true = refl
+alone_occurs false = refl
+
+-- a communication of others with one branch, from what follows
+pub alone : (r p q : List ℕ) (m : Message) (g : GlobalTree) (s : Sight) → bytes_eq r p ≡ false → bytes_eq r q ≡ false → IsSight r g s → IsSight r (Comm p q (Branch m g NoBranch)) s
+alone r p q m g s e f seen = record {
+  survey = record {
+    depth = seen.survey.depth ∙ omega arith;
+    occurring = seen.survey.occurring ∙ alone_occurs (occurs r g) ∙ ap (λ b. (b || false) || (occurs r g || false)) (sym e) ∙ ap (λ b. (bytes_eq r p || b) || (occurs r g || false)) (sym f);
+    counted = let k : joins g ≡ joins g + 0 + 0 = omega arith in seen.survey.counted ∙ ap capped k;
+    differing =
+        seen.survey.differing
+        ∙ ap (option_map capped) (alone_first (first_difference r g))
+        ∙ ap (λ b. option_map capped (option_or (option_or (first_difference r g) None) (if b then Some (joins g + 0) else None))) (sym (alone_same m (projection r g)))
+        ∙ ap (λ b. option_map capped (option_or (option_or (first_difference r g) None) (if b || false then None else (if differ (branch_projections r (Branch m g NoBranch)) then Some (joins g + 0) else None)))) (sym e)
+        ∙ ap (λ b. option_map capped (option_or (option_or (first_difference r g) None) (if bytes_eq r p || b then None else (if differ (branch_projections r (Branch m g NoBranch)) then Some (joins g + 0) else None)))) (sym f);
+  };
+  local =
+      seen.local
+      ∙ sym (alone_merged m (projection r g))
+      ∙ ap (λ b. if b then option_map (Send q) (branch_projections r (Branch m g NoBranch)) else (if false then option_map (Recv p) (branch_projections r (Branch m g NoBranch)) else option_and_then merged (branch_projections r (Branch m g NoBranch)))) (sym e)
+      ∙ ap (λ b. if bytes_eq r p then option_map (Send q) (branch_projections r (Branch m g NoBranch)) else (if b then option_map (Recv p) (branch_projections r (Branch m g NoBranch)) else option_and_then merged (branch_projections r (Branch m g NoBranch)))) (sym f);
+}
+
+-- the only branch
+pub only : (bs : List (Message × GlobalType)) (d : Message × GlobalType) → 1 ≤ length bs → length bs < 2 → global_branches bs ≡ Branch (get_or bs 0 d).0 (global_of (get_or bs 0 d).1) NoBranch
+only [] d h k = absurd (omega arith)
+only (b ∷ []) d h k = refl
+only (b ∷ c ∷ bs) d h k = absurd (omega arith)
+
+-- a branch has no more nodes than all of them
+pub nodes_within : (bs : List (Message × GlobalType)) (i : ℕ) (b : Message × GlobalType) → b ≡ get_or bs i b → i < length bs → global_nodes (global_of b.1) ≤ branch_nodes (global_branches bs)
+nodes_within [] i b is h = absurd (omega arith)
+nodes_within (x ∷ bs) zero b is h = omega (arith, ap (λ (y : Message × GlobalType). global_nodes (global_of y.1)) is)
+nodes_within (x ∷ bs) (suc i) b is h = let k : i < length bs = omega arith in omega (arith, nodes_within bs i b is k)
 
 -- a recursion, from its body
 pub recursion : (r : List ℕ) (g : GlobalTree) (s t : Survey) → IsSurvey r g s → t.depth ≡ s.depth - 1 → t.occurs ≡ s.occurs → t.joins ≡ s.joins → t.first ≡ (if (s.depth - 1 == 0) && not s.occurs then None else s.first) → IsSurvey r (GlobalRec g) t

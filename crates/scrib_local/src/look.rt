@@ -1,9 +1,10 @@
 //! Projection, by one pass from the leaves up.
 
-ghost use Rattle.std.specs.Prelude.{◌≡◌, ℕ, List, IfOk, false, Some, None, option_map};
+ghost use Rattle.std.specs.Prelude.{◌≡◌, ◌≤◌, ℕ, List, IfOk, false, Some, None, option_map};
 ghost use Rattle.scrib_types.specs.Trees.{GlobalTree, GlobalRec, Send, Recv};
 ghost use Rattle.scrib_types.specs.GlobalView.{global_of, global_branches};
 ghost use Rattle.scrib_types.specs.LocalView.{local_of};
+ghost use Rattle.scrib_types.specs.Nodes.{global_nodes};
 ghost use Rattle.scrib_local.specs.Surveys.{IsSight, IsOffer, AreOthers, offered, with_branch};
 
 use crate::merge::Merge;
@@ -47,7 +48,7 @@ struct Others {
 pub fn look(alloc: Global, global: &GlobalType, role: &Role) -> Result<Sight, AllocError>
     ensures { IfOk result (IsSight role.now (global_of global.now)) }
 {
-    match global {
+    match passed(global, role) {
         GlobalType::End => Ok(leaf(0, Local::End)),
         GlobalType::Var(i) => Ok(leaf(u64::from(*i) + 1, Local::Var(*i))),
         GlobalType::Rec(body) => {
@@ -76,6 +77,22 @@ pub fn look(alloc: Global, global: &GlobalType, role: &Role) -> Result<Sight, Al
             Ok(Sight { survey, local })
         }
     }
+}
+
+/// The type behind the communications in front that have one branch and in which the role has no part: it sees both
+/// alike.
+fn passed<'a>(global: &'a GlobalType, role: &Role) -> &'a GlobalType
+    ensures seen { (s : Sight) → IsSight role.now (global_of result.now) s → IsSight role.now (global_of global.now) s }
+    ensures within { global_nodes (global_of result.now) ≤ global_nodes (global_of global.now) }
+{
+    if let GlobalType::Comm { from, to, branches } = global {
+        if let [(_, follows)] = branches.as_slice() {
+            if !role.equal(from) && !role.equal(to) {
+                return passed(follows, role);
+            }
+        }
+    }
+    global
 }
 
 /// The branches as the role sees them, which has a part in their communication.

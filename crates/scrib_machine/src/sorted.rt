@@ -27,6 +27,9 @@ pub fn sorted(alloc: Global, edges: Vec<Edge>) -> Result<Vec<Edge>, AllocError>
     ensures same { IfOk result (λ list. IsPermutation edges.items list.items) }
     ensures sorted { IfOk result (λ list. AllPairs ComesBefore (layout.actions_of list.items)) }
 {
+    if edges.len() < 2 {
+        return Ok(edges);
+    }
     let mut list = with_texts(alloc, edges)?;
     list.sort_by(|a, b| a.text.as_slice().cmp(b.text.as_slice()))?;
     edges_of(alloc, list)

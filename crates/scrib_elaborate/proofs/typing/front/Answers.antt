@@ -13,10 +13,15 @@ returns c = λ root e kept s.
     let old = c.args.tasks.now.items in
     let standing = c.args.standing in
     let again = c.in_ok-again.again in
-    let g = made_of c.args.typed in
+    let statements = c.in_ok-typed.statements in
+    let g = made_of c.in_ok-typed.typed in
     let last = c.in-Some.last.now in
-    c.put.ensures root e kept (pushed_before ms root old c.push.new.self.items (Front again c.in-Some.rest) (scope_of standing) standing.depth (step_of last) g c.in_ok-push.ensures.items (front_step ms root (reverse old) standing again c.args.statements c.in-Some.rest last g e kept c.in-Some.ensures.cases.0 c.in_ok-again.ensures s))
+    let state = c.in_ok-typed.ensures ms root e (reverse old) kept s in
+    c.put.ensures root e kept (pushed_before ms root old c.push.new.self.items (Front again c.in-Some.rest) (scope_of standing) standing.depth (step_of last) g c.in_ok-push.ensures.items (front_step ms root (reverse old) standing again statements c.in-Some.rest last g e kept c.in-Some.ensures.cases.0 c.in_ok-again.ensures state))
 
 pub returns-in_default : goal.returns-in_default
 returns-in_default c = λ root e kept s.
-    front_done c.args.program.now.modules.now root (reverse c.args.tasks.now.items) c.args.standing c.args.statements (made_of c.args.typed) (nil_from_length c.args.statements.now c.in_default.ensures.cases) s
+    let ms = c.args.program.now.modules.now in
+    let old = reverse c.args.tasks.now.items in
+    let statements = c.in_ok-typed.statements in
+    front_done ms root old c.args.standing statements (made_of c.in_ok-typed.typed) (nil_from_length statements.now c.in_default.ensures.cases) (c.in_ok-typed.ensures ms root e old kept s)

@@ -1,33 +1,45 @@
-use Rattle.std.proofs.Common.{sym, ap, ◌∙◌, subst}
-use Rattle.scrib_types.specs.GlobalView.{global_of, global_branches, comm_of}
+use Rattle.std.proofs.Common.{◌*◌, ◌<◌, sym, ap, ◌∙◌, subst, arith, rules}
+use Rattle.scrib_types.specs.GlobalView.{global_of, global_branches, comm_of, global_views}
+use Rattle.scrib_types.specs.LocalView.{local_views}
+use Rattle.scrib_types.specs.Nodes.{global_nodes}
 use Rattle.scrib_local.specs.Surveys.{IsSight, IsOffer, AreOthers}
 use Rattle.scrib_local.proofs.Seen.{branches_more, branches_end, step, end, offer_step, offer_end, merge_step, merge_end, differ_step, differ_end}
-use Rattle.scrib_local.proofs.Parts.{several, sender, receiver, other}
+use Rattle.scrib_local.proofs.Parts.{several, sender, receiver, other, nodes_within}
 use Rattle.scrib_local.proofs.look.+look.Goals as goal
+
+pub look-returns-in-End : goal.look-returns-in-End
+look-returns-in-End t c = c.passed.ensures.seen _ (search (rules, global_views, local_views))
+
+pub look-returns-in-Var : goal.look-returns-in-Var
+look-returns-in-Var t c = c.passed.ensures.seen _ (search (rules, global_views, local_views))
 
 pub look-returns-then-equal : goal.look-returns-then-equal
 look-returns-then-equal t c =
     let g = ap global_of c.in-Comm.is ∙ comm_of c.in-Comm.from c.in-Comm.to c.in-Comm.branches in
     let seen = subst (λ bs. IsOffer c.args.role.now (global_branches bs) c.in_ok-offer-in-Comm.offer) c.as_slice.ensures c.in_ok-offer-in-Comm.ensures in
     let s = c.communication-survey.ensures in
-    subst (λ x. IsSight c.args.role.now x (record { survey = c.communication-survey.result; local = c.in_ok-local-in-Comm.local })) (sym g)
-    (sender c.args.role.now _ _ _ _ _ _ _ seen.survey (several c.in-Comm.branches _ c.len-several.ensures) s.depth s.joins _ (sym c.equal.ensures.test ∙ c.if-equal.true) s.occurs s.first seen.locals c.in_ok-local-in-Comm.ensures)
+    c.passed.ensures.seen _ (subst (λ x. IsSight c.args.role.now x (record { survey = c.communication-survey.result; local = c.in_ok-local-in-Comm.local })) (sym g)
+    (sender c.args.role.now _ _ _ _ _ _ _ seen.survey (several c.in-Comm.branches _ c.len-several.ensures) s.depth s.joins _ (sym c.equal.ensures.test ∙ c.if-equal.true) s.occurs s.first seen.locals c.in_ok-local-in-Comm.ensures))
 
 pub look-returns-then-equal-2 : goal.look-returns-then-equal-2
 look-returns-then-equal-2 t c =
     let g = ap global_of c.in-Comm.is ∙ comm_of c.in-Comm.from c.in-Comm.to c.in-Comm.branches in
     let seen = subst (λ bs. IsOffer c.args.role.now (global_branches bs) c.in_ok-offer-in-Comm-2.offer) c.as_slice-then-equal-2.ensures c.in_ok-offer-in-Comm-2.ensures in
     let s = c.communication-survey-then-equal-2.ensures in
-    subst (λ x. IsSight c.args.role.now x (record { survey = c.communication-survey-then-equal-2.result; local = c.in_ok-local-in-Comm-2.local })) (sym g)
-    (receiver c.args.role.now _ _ _ _ _ _ _ seen.survey (several c.in-Comm.branches _ c.len-several.ensures) s.depth s.joins _ (sym c.equal.ensures.test ∙ c.if-equal.false) (sym c.equal-in-Comm.ensures.test ∙ c.if-equal-2.true) s.occurs s.first seen.locals c.in_ok-local-in-Comm-2.ensures)
+    c.passed.ensures.seen _ (subst (λ x. IsSight c.args.role.now x (record { survey = c.communication-survey-then-equal-2.result; local = c.in_ok-local-in-Comm-2.local })) (sym g)
+    (receiver c.args.role.now _ _ _ _ _ _ _ seen.survey (several c.in-Comm.branches _ c.len-several.ensures) s.depth s.joins _ (sym c.equal.ensures.test ∙ c.if-equal.false) (sym c.equal-in-Comm.ensures.test ∙ c.if-equal-2.true) s.occurs s.first seen.locals c.in_ok-local-in-Comm-2.ensures))
 
 pub look-returns-in_ok-others-in-Comm : goal.look-returns-in_ok-others-in-Comm
 look-returns-in_ok-others-in-Comm t c =
     let g = ap global_of c.in-Comm.is ∙ comm_of c.in-Comm.from c.in-Comm.to c.in-Comm.branches in
     let seen = subst (λ bs. AreOthers c.args.role.now (global_branches bs) c.in_ok-others-in-Comm.others) c.as_slice-in-Comm.ensures c.in_ok-others-in-Comm.ensures in
     let s = c.communication-survey-in-Comm.ensures in
-    subst (λ x. IsSight c.args.role.now x (record { survey = c.communication-survey-in-Comm.result; local = c.into_local-local.result })) (sym g)
-    (other c.args.role.now _ _ _ _ _ _ _ seen.survey (several c.in-Comm.branches _ c.len-several.ensures) s.depth s.joins _ (sym c.equal.ensures.test ∙ c.if-equal.false) (sym c.equal-in-Comm.ensures.test ∙ c.if-equal-2.false) s.occurs s.first (c.differs-differ.ensures ∙ seen.differing) (c.into_local-local.ensures ∙ seen.merging))
+    c.passed.ensures.seen _ (subst (λ x. IsSight c.args.role.now x (record { survey = c.communication-survey-in-Comm.result; local = c.into_local-local.result })) (sym g)
+    (other c.args.role.now _ _ _ _ _ _ _ seen.survey (several c.in-Comm.branches _ c.len-several.ensures) s.depth s.joins _ (sym c.equal.ensures.test ∙ c.if-equal.false) (sym c.equal-in-Comm.ensures.test ∙ c.if-equal-2.false) s.occurs s.first (c.differs-differ.ensures ∙ seen.differing) (c.into_local-local.ensures ∙ seen.merging)))
+
+pub look_branches-look-requires : goal.look_branches-look-requires
+look_branches-look-requires t c =
+    let falls : 2 * global_nodes (global_of c.loop-message-item.result.1) < t = omega (arith, c.decreases, nodes_within c.args.branches.now c.loop-message.message-index c.loop-message-item.result c.loop-message-item.is c.loop-message-test.true) in (falls, tt)
 
 pub look_branches-loop-message-preserved : goal.look_branches-loop-message-preserved
 look_branches-loop-message-preserved t c =
@@ -48,6 +60,10 @@ look_branches-returns t c =
       survey = end c.args.role.now _ _ _ none so.surveyed;
       locals = offer_end c.args.role.now _ c.loop-message.locals _ none so.offered;
     }
+
+pub merge_branches-look-requires : goal.merge_branches-look-requires
+merge_branches-look-requires t c =
+    let falls : 2 * global_nodes (global_of c.loop-global-item.result.1) < t = omega (arith, c.decreases, nodes_within c.args.branches.now c.loop-global.global-index c.loop-global-item.result c.loop-global-item.is c.loop-global-test.true) in (falls, tt)
 
 pub merge_branches-loop-global-preserved : goal.merge_branches-loop-global-preserved
 merge_branches-loop-global-preserved t c =

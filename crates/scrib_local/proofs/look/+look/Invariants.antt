@@ -1,5 +1,6 @@
-use Rattle.std.proofs.Common.{◌≡◌, drop, option_and_then}
-use Rattle.scrib_types.specs.GlobalView.{global_branches}
+use Rattle.std.proofs.Common.{◌≡◌, ◌+◌, ◌*◌, drop, option_and_then}
+use Rattle.scrib_types.specs.GlobalView.{global_of, global_branches}
+use Rattle.scrib_types.specs.Nodes.{global_nodes, branch_nodes}
 use Rattle.scrib_types.specs.Projection.{branch_projections, merged}
 use Rattle.scrib_local.specs.Differences.{differ}
 use Rattle.scrib_local.specs.Merging.{merged_after, differ_after}
@@ -22,3 +23,12 @@ invariant-merge_branches-loop-global l =
       merging : merged_after l.merge (branch_projections l.role rest) ≡ option_and_then merged (branch_projections l.role (global_branches l.branches));
       differing : differ_after l.merge (branch_projections l.role rest) ≡ differ (branch_projections l.role (global_branches l.branches));
     }
+
+abbrev pub decreases-look : goal.decreases-look
+decreases-look l = 2 * global_nodes (global_of l.global.now)
+
+abbrev pub decreases-look_branches : goal.decreases-look_branches
+decreases-look_branches l = 2 * branch_nodes (global_branches l.branches.now) + 1
+
+abbrev pub decreases-merge_branches : goal.decreases-merge_branches
+decreases-merge_branches l = 2 * branch_nodes (global_branches l.branches.now) + 1
