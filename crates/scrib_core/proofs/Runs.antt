@@ -14,8 +14,7 @@ use Rattle.scrib_global.specs.Simulation.{IsJoinedRun}
 use Rattle.scrib_global.proofs.Runs.{simulates}
 use Rattle.scrib_global.proofs.Judged.{permitted_front}
 use Rattle.scrib_library.specs.Modules.{IsMeaning, MeansProtocols}
-use Rattle.scrib_core.specs.declared.conversation.Conversation.{Conversation}
-use Rattle.scrib_core.specs.World.{World, conversation}
+use Rattle.scrib_core.specs.World.{World, Conversation, conversation}
 use Rattle.scrib_core.specs.Runs.{IsPermittedRun, PermitsRuns}
 
 -- a log that offends isn't permitted

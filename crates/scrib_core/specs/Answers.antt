@@ -1,62 +1,87 @@
 -- The replies to a list of steps (this project's own).
-use Rattle.std.specs.Prelude.{◌≡◌, ℕ, ◌+◌, true, false, List, [], ◌∷◌, ◌++◌, length, Option, Some}
+use Rattle.std.specs.Prelude.{◌≡◌, ℕ, List, [], ◌∷◌, ◌++◌, length, Option, Some}
 use Rattle.scrib_types.specs.declared.event.Told.{Told}
 use Rattle.scrib_types.specs.declared.event.Verdict.{Verdict}
-use Rattle.scrib_types.specs.declared.event.Told.TheVariants.{Stale, Judged}
+use Rattle.scrib_types.specs.declared.event.Told.TheVariants as tell
 use Rattle.scrib_types.specs.Agreement.{Agreement}
 use Rattle.scrib_types.specs.Judgement.{Judges}
 use Rattle.scrib_parser.specs.declared.tree.ModuleTree.{ModuleTree}
 use Rattle.scrib_library.specs.Modules.{IsMeaning}
 use Rattle.scrib_library.specs.Edits.{Reads, IsChanges}
-use Rattle.scrib_core.specs.declared.conversation.Conversation.{Conversation}
 use Rattle.scrib_core.specs.declared.step.Step.{Step}
-use Rattle.scrib_core.specs.declared.step.Step.TheVariants.{Put, Open, Note, Ask}
+use Rattle.scrib_core.specs.declared.step.Step.TheVariants.{Put, Withdraw, Open, Note, Turn, Ask}
 use Rattle.scrib_core.specs.declared.reply.Edit.TheVariants as edit
 use Rattle.scrib_core.specs.declared.reply.Refusal.TheVariants.{AlreadyOpen, UnknownProtocol, TooManyConversations, NoConversation, Edit, LogFull, OutOfMemory}
 use Rattle.scrib_core.specs.declared.reply.Reply.{Reply}
 use Rattle.scrib_core.specs.declared.reply.Reply.TheVariants as reply
-use Rattle.scrib_core.specs.World.{World, conversation, Follows, Refuses, NeedsMemory}
-use Rattle.scrib_core.specs.Marks.{Marks, Remarks}
+use Rattle.scrib_core.specs.World.{World, Conversation, conversation, nothing, Follows, Refuses, NeedsMemory}
+use Rattle.scrib_core.specs.Marks.{Marks, unmarked, Fresh, IsStale, Remarks}
+
+-- the world, and which of its conversations are marked
+pub record State : Type 0 where
+  pub world : World
+  pub marks : Marks
+
+-- nothing is there, and nothing is marked
+abbrev pub initial : State
+initial = record { world = nothing; marks = unmarked }
 
 -- a fresh verdict: that of judging the conversation's whole log afresh against what its protocol means now
 abbrev pub IsFresh : List ModuleTree → Conversation → Verdict → Type 0
 IsFresh modules c v = (o : Option Agreement) × IsMeaning modules c.name o × Judges o c.log v
 
 -- what is told of a conversation: stale exactly where it is marked, and else a fresh verdict
-abbrev pub IsTold : World → Marks → ℕ → Told → Type 0
-IsTold w marks id Stale = marks id ≡ true
-IsTold w marks id (Judged v) =
-    (marks id ≡ false) × ((c : Conversation) × (conversation w id ≡ Some c) × IsFresh w.modules c v)
+abbrev pub IsTold : State → ℕ → Told → Type 0
+IsTold s id tell.Stale = IsStale (s.marks id)
+IsTold s id (tell.Judged v) =
+    (s.marks id ≡ Fresh) × ((c : Conversation) × (conversation s.world id ≡ Some c) × IsFresh s.world.modules c v)
 
--- what the reply to an accepted step says of the world before it and the world and the marks after it
-abbrev pub Replies : World → Step → Reply → World → Marks → Type 0
-Replies w (Put text) (reply.Edited e changes) v marks =
-    (e ≡ edit.Put) × ((m : ModuleTree) × Reads text m × (changes.module ≡ m.name)) × IsChanges w.modules v.modules changes.list
-Replies w (Put text) _ v marks = ⊥
-Replies w (Open id name) (reply.Opened i n) v marks = (i ≡ id) × (n ≡ name)
-Replies w (Open id name) _ v marks = ⊥
-Replies w (Note id e) (reply.Noted i place told) v marks =
-    (i ≡ id) × ((c : Conversation) × (conversation v id ≡ Some c) × (place ≡ length c.log)) × IsTold v marks id told
-Replies w (Note id e) _ v marks = ⊥
-Replies w (Ask id) (reply.Judged i name events told) v marks =
-    (i ≡ id) × ((c : Conversation) × (conversation v id ≡ Some c) × (name ≡ c.name) × (events ≡ length c.log)) × IsTold v marks id told
-Replies w (Ask id) _ v marks = ⊥
+-- what is told of a conversation with its name and the number of its events
+pub record IsJudged (s : State) (id : ℕ) (name : List (List ℕ)) (events : ℕ) (answer : Told) : Type 0 where
+  pub of : Conversation
+  pub there : conversation s.world id ≡ Some of
+  pub name_is : name ≡ of.name
+  pub events_are : events ≡ length of.log
+  pub told : IsTold s id answer
 
--- One step is answered: it is refused and nothing changes, or it is accepted, and its reply tells so.
-abbrev pub IsAnswered : World → Marks → Step → Reply → World → Marks → Type 0
-IsAnswered w old step (reply.Refused f) v new = Refuses w step f × (v ≡ w) × Remarks w old v new
-IsAnswered w old step (reply.Edited e changes) v new = Follows w step v × Replies w step (reply.Edited e changes) v new × Remarks w old v new
-IsAnswered w old step (reply.Opened i n) v new = Follows w step v × Replies w step (reply.Opened i n) v new × Remarks w old v new
-IsAnswered w old step (reply.Noted i place told) v new = Follows w step v × Replies w step (reply.Noted i place told) v new × Remarks w old v new
-IsAnswered w old step (reply.Judged i n events told) v new = Follows w step v × Replies w step (reply.Judged i n events told) v new × Remarks w old v new
+-- what the reply to an accepted step says of the world before it and of the state after it
+abbrev pub Replies : World → Step → Reply → State → Type 0
+Replies w (Put text) (reply.Edited e changes) s =
+    (e ≡ edit.Put) × ((m : ModuleTree) × Reads text m × (changes.module ≡ m.name)) × IsChanges w.modules s.world.modules changes.list
+Replies w (Put text) _ s = ⊥
+Replies w (Withdraw name) (reply.Edited e changes) s =
+    (e ≡ edit.Withdraw) × (changes.module ≡ name) × IsChanges w.modules s.world.modules changes.list
+Replies w (Withdraw name) _ s = ⊥
+Replies w (Open id name) (reply.Opened i n) s = (i ≡ id) × (n ≡ name)
+Replies w (Open id name) _ s = ⊥
+Replies w (Note id e) (reply.Noted i place told) s =
+    (i ≡ id) × ((c : Conversation) × (conversation s.world id ≡ Some c) × (place ≡ length c.log)) × IsTold s id told
+Replies w (Note id e) _ s = ⊥
+Replies w (Turn id) (reply.Judged i name events told) s = (i ≡ id) × IsJudged s id name events told
+Replies w (Turn id) _ s = ⊥
+Replies w (Ask id) (reply.Judged i name events told) s = (i ≡ id) × IsJudged s id name events told
+Replies w (Ask id) _ s = ⊥
 
--- Answered: there are a world and marks after each step such that each reply answers its step.
-abbrev pub Answers : World → Marks → List Step → List Reply → World → Marks → Type 0
-Answers w old [] [] v new = (v ≡ w) × (new ≡ old)
-Answers w old [] (r ∷ rs) v new = ⊥
-Answers w old (s ∷ ss) [] v new = ⊥
-Answers w old (s ∷ ss) (r ∷ rs) v new =
-    (u : World) × (mid : Marks) × IsAnswered w old s r u mid × Answers u mid ss rs v new
+-- the step is accepted, and its reply tells so
+pub record IsAccepted (s : State) (step : Step) (answer : Reply) (t : State) : Type 0 where
+  pub follows : Follows s.world step t.world
+  pub replies : Replies s.world step answer t
+  pub remarks : Remarks s.world s.marks step t.world t.marks
+
+-- One step is answered: it is refused and nothing changes, or it is accepted.
+abbrev pub IsAnswered : State → Step → Reply → State → Type 0
+IsAnswered s step (reply.Refused f) t = Refuses s.world step f × (t ≡ s)
+IsAnswered s step (reply.Edited e changes) t = IsAccepted s step (reply.Edited e changes) t
+IsAnswered s step (reply.Opened i n) t = IsAccepted s step (reply.Opened i n) t
+IsAnswered s step (reply.Noted i place told) t = IsAccepted s step (reply.Noted i place told) t
+IsAnswered s step (reply.Judged i n events told) t = IsAccepted s step (reply.Judged i n events told) t
+
+-- Answered: there is a state after each step such that each reply answers its step.
+abbrev pub Answers : State → List Step → List Reply → State → Type 0
+Answers s [] [] t = t ≡ s
+Answers s [] (r ∷ rs) t = ⊥
+Answers s (step ∷ steps) [] t = ⊥
+Answers s (step ∷ steps) (r ∷ rs) t = (u : State) × IsAnswered s step r u × Answers u steps rs t
 
 -- memory is refused to a step only where no other refusal is due
 abbrev pub IsDue : World → Step → Reply → Type 0

@@ -1,22 +1,88 @@
--- The world and the marks that a core holds, and what it shows of them (this project's own).
-use Rattle.std.specs.Prelude.{◌≡◌, ℕ, List, Option, Some, None}
+-- What a core holds, the world and the marks that it stands for, and what it shows of them (this project's own).
+use Rattle.std.specs.Prelude.{◌≡◌, ◌==◌, ℕ, ◌/◌, ◌<◌, Bool, cond, if◌then◌else◌, List, [], ◌∷◌, map, length, Option, Some, None, nat_eq}
+use Rattle.std.specs.Map.{lookup}
 use Rattle.std.specs.Option.{option_map}
 use Rattle.std.specs.Borrow.{Bor}
 use Rattle.scrib_types.specs.declared.event.Event.{Event}
+use Rattle.scrib_types.specs.declared.event.Verdict.{Verdict}
 use Rattle.scrib_types.specs.declared.protocol.Protocol.{Protocol}
 use Rattle.scrib_types.specs.Meaning.{agreement_of}
-use Rattle.scrib_library.specs.Modules.{IsMeaning}
-use Rattle.scrib_core.specs.declared.conversation.Conversation.{Conversation}
-use Rattle.scrib_core.specs.declared.monitor.Core.{Core}
-use Rattle.scrib_core.specs.World.{World, conversation}
-use Rattle.scrib_core.specs.Marks.{Marks, unmarked}
+use Rattle.scrib_types.specs.Agreement.{Agreement}
+use Rattle.scrib_elaborate.specs.Names.{dotted_eq}
+use Rattle.scrib_record.specs.declared.version.Version.{Version}
+use Rattle.scrib_record.specs.Stale.{Recorded, is_final}
+use Rattle.scrib_record.specs.Versions.{meaning_of, number_of}
+use Rattle.scrib_library.specs.Holdings.{Stamp, Holdings, HasNumber}
+use Rattle.scrib_library.specs.Modules.{Means, IsMeaning}
+use Rattle.scrib_core.specs.World.{World, Conversation, conversation}
+use Rattle.scrib_core.specs.Marks.{Mark, Marks, Fresh, Stale}
+use Rattle.scrib_core.specs.Answers.{State}
 
-abbrev pub world_of : Core → World
-world_of c = record { modules = c.library.modules; used = c.library.used; conversations = c.conversations.entries }
+-- the records of the conversations, under their ids, in the order in which they were opened
+abbrev pub Records : Type 0
+Records = List (ℕ × Recorded)
 
--- each verdict is made when it is told, so none is out of date
-abbrev pub marks_of : Core → Marks
-marks_of c = unmarked
+-- what contracts see of a core: what its library holds, and its records
+pub record Held : Type 0 where
+  pub library : Holdings
+  pub records : Records
+
+-- the record under the id, if any
+abbrev pub record_at : Records → ℕ → Option Recorded
+record_at rs id = lookup (nat_eq id) rs
+
+-- what a record says of its conversation
+abbrev pub conversation_of : Recorded → Conversation
+conversation_of r = record { name = r.name; log = r.log }
+
+abbrev pub world_of : Holdings → Records → World
+world_of h rs = record { modules = h.modules; used = h.used; conversations = map (λ e. (e.0, conversation_of e.1)) rs }
+
+-- the number of the name's version, if it has one
+abbrev pub number_at : List Stamp → List (List ℕ) → Option ℕ
+number_at [] name = None
+number_at (s ∷ ss) name = cond (dotted_eq name s.name) (Some s.number) (number_at ss name)
+
+-- The mark of a record that holds the version of this number, or none, where that of this number is present, or none.
+-- Under the present version a turn judges 256 events, so as many turns were made since the name changed.
+abbrev pub mark : (present held : Option ℕ) → Verdict → (judged events : ℕ) → Mark
+mark None None verdict judged events = Fresh
+mark None (Some l) verdict judged events = Stale 0
+mark (Some k) None verdict judged events = Stale 0
+mark (Some k) (Some l) verdict judged events =
+    if k == l then (if is_final verdict judged events then Fresh else Stale (judged / 256)) else Stale 0
+
+abbrev pub held_number : Recorded → Option ℕ
+held_number r = option_map number_of r.held
+
+-- the mark of the record: whether it is stale is read off the versions' numbers
+abbrev pub mark_of : Holdings → Recorded → Mark
+mark_of h r = mark (number_at h.stamps r.name) (held_number r) r.verdict r.judged (length r.log)
+
+-- the mark of the record that is there, if any
+abbrev pub mark_at : Holdings → Option Recorded → Mark
+mark_at h None = Fresh
+mark_at h (Some r) = mark_of h r
+
+abbrev pub marks_of : Holdings → Records → Marks
+marks_of h rs id = mark_at h (record_at rs id)
+
+-- the state that records stand for beside a library
+abbrev pub state : Holdings → Records → State
+state h rs = record { world = world_of h rs; marks = marks_of h rs }
+
+abbrev pub state_of : Held → State
+state_of c = state c.library c.records
+
+-- The version that the record holds was used before, and where its number is that of its name now, the name means what
+-- the version does.
+pub record IsKnown (h : Holdings) (r : Recorded) : Type 0 where
+  pub used : (v : Version) → r.held ≡ Some v → number_of v < h.used
+  pub means : (v : Version) → r.held ≡ Some v → HasNumber h r.name (number_of v) → Means h.modules r.name (meaning_of v)
+
+-- so it is of each record
+abbrev pub AreKnown : Holdings → Records → Type 0
+AreKnown h rs = (id : ℕ) (r : Recorded) → record_at rs id ≡ Some r → IsKnown h r
 
 -- nothing, where no conversation is open under the id; else what its protocol means now, and its log
 abbrev pub IsViewed : World → ℕ → Option (Option (Bor Protocol) × Bor (List Event)) → Type 0

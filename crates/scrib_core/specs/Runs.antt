@@ -7,8 +7,7 @@ use Rattle.scrib_types.specs.Agreement.{Agreement}
 use Rattle.scrib_types.specs.Judgement.{Judges}
 use Rattle.scrib_global.specs.Simulation.{IsJoinedRun}
 use Rattle.scrib_library.specs.Modules.{IsMeaning}
-use Rattle.scrib_core.specs.declared.conversation.Conversation.{Conversation}
-use Rattle.scrib_core.specs.World.{World, conversation}
+use Rattle.scrib_core.specs.World.{World, Conversation, conversation}
 
 -- A fresh verdict on the conversation is that it is permitted exactly where its protocol is in the library, whoever
 -- acted joined beforehand, and its sends and receptions are a run of the protocol's global type over

@@ -1,21 +1,26 @@
--- The plain world (this project's own): the accepted modules, how many names the accepted edits have added or replaced, and
--- for each conversation the name of its protocol and its events. It holds no verdict and no mark.
-use Rattle.std.specs.Prelude.{◌≡◌, ℕ, ◌+◌, ◌<◌, ◌≤◌, List, [], ◌∷◌, ◌++◌, length, Option, Some, None, nat_eq, IsSome}
+-- The plain world (this project's own): the accepted modules, how many names the accepted edits have added or replaced,
+-- and the conversations. It holds no verdict, no mark, no version and no state.
+use Rattle.std.specs.Prelude.{◌≡◌, ℕ, true, ◌+◌, ◌<◌, ◌≤◌, List, [], ◌∷◌, ◌++◌, length, Option, Some, None, nat_eq, IsSome}
 use Rattle.std.specs.Map.{lookup, set_value}
 use Rattle.scrib_types.specs.declared.event.Event.{Event}
 use Rattle.scrib_types.specs.Agreement.{Agreement}
 use Rattle.scrib_lexer.specs.Tokens.{max_text_bytes}
 use Rattle.scrib_parser.specs.declared.tree.ModuleTree.{ModuleTree}
+use Rattle.scrib_elaborate.specs.Names.{has_name, module_names}
 use Rattle.scrib_library.specs.declared.fault.EditFault.{EditFault}
 use Rattle.scrib_library.specs.declared.fault.EditFault.TheVariants as edit
 use Rattle.scrib_library.specs.Modules.{Means}
 use Rattle.scrib_library.specs.declared.changes.Change.{Change}
-use Rattle.scrib_library.specs.Edits.{IsPut, IsChanges, new_versions, PutFails}
-use Rattle.scrib_core.specs.declared.conversation.Conversation.{Conversation}
+use Rattle.scrib_library.specs.Edits.{IsPut, IsChanges, new_versions, PutFails, IsWithdrawal, WithdrawFails}
 use Rattle.scrib_core.specs.declared.step.Step.{Step}
-use Rattle.scrib_core.specs.declared.step.Step.TheVariants.{Put, Open, Note, Ask}
+use Rattle.scrib_core.specs.declared.step.Step.TheVariants.{Put, Withdraw, Open, Note, Turn, Ask}
 use Rattle.scrib_core.specs.declared.reply.Refusal.{Refusal}
 use Rattle.scrib_core.specs.declared.reply.Refusal.TheVariants.{AlreadyOpen, UnknownProtocol, TooManyConversations, NoConversation, Edit, LogFull, OutOfMemory}
+
+-- a conversation: the full name of its protocol, and its events, oldest first
+pub record Conversation : Type 0 where
+  pub name : List (List ℕ)
+  pub log : List Event
 
 pub record World : Type 0 where
   pub modules : List ModuleTree
@@ -55,24 +60,28 @@ pub record UsesVersions (w v : World) : Type 0 where
   pub count : v.used ≡ w.used + new_versions list
   pub few : v.used ≤ 65536
 
--- What an accepted step makes of the world: a put places the module of its text; an open adds an empty log; a
--- note appends its event; an ask changes nothing.
+-- What an accepted step makes of the world: a put places the module of its text; a withdrawal takes a module out; an
+-- open adds an empty log; a note appends its event; a turn and an ask change nothing.
 abbrev pub Follows : World → Step → World → Type 0
 Follows w (Put text) v = ((m : ModuleTree) × IsPut w.modules text m v.modules) × UsesVersions w v × (v.conversations ≡ w.conversations)
+Follows w (Withdraw name) v = IsWithdrawal w.modules name v.modules × (v.used ≡ w.used) × (v.conversations ≡ w.conversations)
 Follows w (Open id name) v =
     (conversation w id ≡ None) × ((a : Agreement) × Means w.modules name a) × (length w.conversations < 65536)
     × (v ≡ record { modules = w.modules; used = w.used; conversations = w.conversations ++ (id, opened name) ∷ [] })
 Follows w (Note id e) v =
     (c : Conversation) × (conversation w id ≡ Some c) × (length c.log < 65536)
     × (v ≡ record { modules = w.modules; used = w.used; conversations = set_value (nat_eq id) w.conversations (noted c e) })
+Follows w (Turn id) v = IsSome (conversation w id) × (v ≡ w)
 Follows w (Ask id) v = IsSome (conversation w id) × (v ≡ w)
 
--- no other refusal is due, so that the step needs memory; a put needs it to find any refusal but that its text
--- is too long
+-- No other refusal is due, so that the step needs memory. A put needs it to find any refusal but that its text is too
+-- long, and a withdrawal to name the module that imports its own.
 abbrev pub NeedsMemory : World → Step → Type 0
 NeedsMemory w (Put text) = length text ≤ max_text_bytes
+NeedsMemory w (Withdraw name) = has_name name (module_names w.modules) ≡ true
 NeedsMemory w (Open id name) = (conversation w id ≡ None) × ((a : Agreement) × Means w.modules name a) × (length w.conversations < 65536)
 NeedsMemory w (Note id e) = (c : Conversation) × (conversation w id ≡ Some c) × (length c.log < 65536)
+NeedsMemory w (Turn id) = IsSome (conversation w id)
 NeedsMemory w (Ask id) = IsSome (conversation w id)
 
 -- The step is refused for this, and for nothing that comes before it in this list. Memory may be refused to
@@ -95,6 +104,23 @@ Refuses w (Put text) (Edit (edit.StillImported by)) = ⊥
 Refuses w (Put text) (Edit edit.OutOfMemory) = ⊥
 Refuses w (Put text) LogFull = ⊥
 Refuses w (Put text) OutOfMemory = Unit {0}
+Refuses w (Withdraw name) AlreadyOpen = ⊥
+Refuses w (Withdraw name) UnknownProtocol = ⊥
+Refuses w (Withdraw name) TooManyConversations = ⊥
+Refuses w (Withdraw name) NoConversation = ⊥
+Refuses w (Withdraw name) (Edit (edit.Lex f)) = ⊥
+Refuses w (Withdraw name) (Edit (edit.Parse f)) = ⊥
+Refuses w (Withdraw name) (Edit edit.TooManyModules) = ⊥
+Refuses w (Withdraw name) (Edit (edit.ImportMissing other)) = ⊥
+Refuses w (Withdraw name) (Edit edit.TooManyProtocols) = ⊥
+Refuses w (Withdraw name) (Edit (edit.Elaborate f)) = ⊥
+Refuses w (Withdraw name) (Edit (edit.Project u)) = ⊥
+Refuses w (Withdraw name) (Edit edit.VersionsFull) = ⊥
+Refuses w (Withdraw name) (Edit edit.UnknownModule) = WithdrawFails w.modules name edit.UnknownModule
+Refuses w (Withdraw name) (Edit (edit.StillImported by)) = WithdrawFails w.modules name (edit.StillImported by)
+Refuses w (Withdraw name) (Edit edit.OutOfMemory) = ⊥
+Refuses w (Withdraw name) LogFull = ⊥
+Refuses w (Withdraw name) OutOfMemory = Unit {0}
 Refuses w (Open id name) AlreadyOpen = IsSome (conversation w id)
 Refuses w (Open id name) UnknownProtocol = (conversation w id ≡ None) × ((a : Agreement) → Means w.modules name a → ⊥)
 Refuses w (Open id name) TooManyConversations =
@@ -110,6 +136,13 @@ Refuses w (Note id e) NoConversation = conversation w id ≡ None
 Refuses w (Note id e) (Edit f) = ⊥
 Refuses w (Note id e) LogFull = (c : Conversation) × (conversation w id ≡ Some c) × NoteFails c LogFull
 Refuses w (Note id e) OutOfMemory = Unit {0}
+Refuses w (Turn id) AlreadyOpen = ⊥
+Refuses w (Turn id) UnknownProtocol = ⊥
+Refuses w (Turn id) TooManyConversations = ⊥
+Refuses w (Turn id) NoConversation = conversation w id ≡ None
+Refuses w (Turn id) (Edit f) = ⊥
+Refuses w (Turn id) LogFull = ⊥
+Refuses w (Turn id) OutOfMemory = Unit {0}
 Refuses w (Ask id) AlreadyOpen = ⊥
 Refuses w (Ask id) UnknownProtocol = ⊥
 Refuses w (Ask id) TooManyConversations = ⊥

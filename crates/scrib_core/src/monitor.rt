@@ -1,76 +1,100 @@
 //! The monitor.
 
-ghost use Rattle.std.specs.Prelude.{◌≡◌, ◌≢◌, IfOk, OnErr, Some, MatchOption};
-ghost use Rattle.scrib_core.specs.declared.step.Step.TheVariants.{Put, Open, Note, Ask};
-ghost use Rattle.scrib_core.specs.World.{nothing, Refuses, NeedsMemory};
-ghost use Rattle.scrib_core.specs.Answers.{IsAnswered, IsDue, Answers};
-ghost use Rattle.scrib_core.specs.Held.{world_of, marks_of, IsViewed};
+ghost use Rattle.std.specs.Prelude.{◌≡◌, IfOk, OnErr};
+ghost use Rattle.std.specs.Option.{option_map};
+ghost use Rattle.scrib_types.specs.Meaning.{agreement_of};
+ghost use Rattle.scrib_library.specs.Modules.{IsMeaning};
+ghost use Rattle.scrib_core.specs.declared.step.Step.TheVariants.{Put, Withdraw, Open, Note, Turn, Ask};
+ghost use Rattle.scrib_core.specs.Answers.{initial, IsAnswered, IsDue, Answers};
+ghost use Rattle.scrib_core.specs.Held.{state_of, IsViewed};
 ghost use Rattle.scrib_core.specs.Runs.{PermitsRuns};
+ghost use Rattle.scrib_core.specs.Telling.{reply_of};
 
-use crate::conversation::{Conversation, MAX_EVENTS, note, verdict_of};
+use crate::conversing::{ask, note, open, turn};
 use crate::reply::{Edit, Refusal, Reply};
 use crate::step::Step;
 use indexmap::IndexMap;
+use scrib_library::changes::Changes;
 use scrib_library::fault::EditFault;
 use scrib_library::library::Library;
-use scrib_types::event::{Event, Told};
+use scrib_record::record::{MAX_EVENTS, Record};
+use scrib_types::event::Event;
 use scrib_types::name::Dotted;
-use scrib_types::plain::Items;
 use scrib_types::protocol::Protocol;
 use std::alloc::{AllocError, Global};
+use std::marker::Model;
 
 /// The most open conversations.
 pub const MAX_CONVERSATIONS: usize = 65_536;
 
-/// The library and the open conversations, in the order in which they were opened.
+/// The library and the records of the open conversations, in the order in which they were opened. Contracts see what
+/// the library holds and the records, which stand for a world and its marks.
 #[derive(Drop)]
 pub struct Core {
     alloc: Global,
     library: Library,
-    conversations: IndexMap<u32, Conversation>,
+    records: IndexMap<u32, Record>,
+}
+
+impl Model for Core {
+    ghost use Rattle.std.specs.Coded.{codes};
+    ghost use Rattle.scrib_parser.specs.contracts.tree.Statement as statement;
+    ghost use Rattle.scrib_record.specs.contracts.version.Edition as version;
+    ghost use Rattle.scrib_core.specs.Held.{Held, AreKnown};
+
+    ghost Value = { Held };
+
+    ghost coded = { Prim.hlevel (codes, statement.the_row.coded, version.the_row.coded) };
+
+    ghost view = { λ c. record { library = c.library; records = c.records.entries } };
+
+    ghost invariant = { λ c. AreKnown c.library c.records.entries };
 }
 
 impl Core {
     /// A monitor with no module and no conversation.
     pub fn new(alloc: Global) -> Core
-        ensures { world_of result ≡ nothing }
+        ensures { state_of result ≡ initial }
     {
         Core {
             alloc,
             library: Library::new(alloc),
-            conversations: IndexMap::new(alloc),
+            records: IndexMap::new(alloc),
         }
     }
 
-    /// Makes one step and answers it. A refused step changes nothing.
+    /// Makes one step and answers it. A refused step changes nothing. What is told of a conversation that isn't marked
+    /// stale is the verdict on its whole log under what its protocol means now; it is marked only where that changed
+    /// since it was judged.
     #[tactic(auto, using(crate::proofs::Runs::permits_runs))]
     pub fn apply(&mut self, step: Step) -> Reply
-        ensures answered { IsAnswered (world_of self.old) (marks_of self.old) step result (world_of self.new) (marks_of self.new) }
-        ensures memory { IsDue (world_of self.old) step result }
-        ensures runs { PermitsRuns (world_of self.new) }
+        ensures answered { IsAnswered (state_of self.old) step result (state_of self.new) }
+        ensures memory { IsDue (state_of self.old).world step result }
+        ensures runs { PermitsRuns (state_of self.new).world }
     {
         let reply = match step {
             Step::Put { text } => self.put(text.as_slice()),
-            Step::Open { id, name } => self.open(id, name),
+            Step::Withdraw { name } => self.withdraw(&name),
+            Step::Open { id, name } => self.open(id, &name),
             Step::Note { id, event } => self.note(id, event),
+            Step::Turn { id } => self.turn(id),
             Step::Ask { id } => self.ask(id),
         };
         self.library.means_protocols();
         reply
     }
 
-    /// Makes the steps one after another and answers each. After them each conversation is permitted
-    /// exactly where whoever acted joined beforehand and its sends and receptions are a run of its
-    /// protocol's global type over first-in-first-out queues.
+    /// Makes the steps one after another and answers each. After them a fresh verdict on a conversation is that it is
+    /// permitted exactly where whoever acted joined beforehand and its sends and receptions are a run of its protocol's
+    /// global type over first-in-first-out queues.
     ///
     /// # Errors
     /// `AllocError` where there is no memory for all replies: then no step was made.
     #[tactic(auto, using(crate::proofs::Runs::permits_runs))]
     pub fn run(&mut self, steps: &[Step]) -> Result<Vec<Reply>, AllocError>
-        ensures answered { IfOk result (λ replies. Answers (world_of self.old) (marks_of self.old) steps.now replies.items
-            (world_of self.new) (marks_of self.new)) }
-        ensures err { OnErr result (world_of self.new ≡ world_of self.old) }
-        ensures runs { PermitsRuns (world_of self.new) }
+        ensures answered { IfOk result (λ replies. Answers (state_of self.old) steps.now replies.items (state_of self.new)) }
+        ensures err { OnErr result (state_of self.new ≡ state_of self.old) }
+        ensures runs { PermitsRuns (state_of self.new).world }
     {
         self.library.means_protocols();
         let mut replies = Vec::with_capacity(self.alloc, steps.len())?;
@@ -84,51 +108,36 @@ impl Core {
 
     /// A conversation's protocol, if the library has it, and its log.
     pub fn view(&self, id: u32) -> Option<(Option<&Protocol>, &[Event])>
-        ensures { IsViewed (world_of self.now) id result }
+        ensures { IsViewed (state_of self.now).world id result }
     {
-        let conversation = self.conversations.get(&id)?;
-        let protocol = match self.library.present(&conversation.name) {
-            None => None,
-            Some(version) => Some(version.protocol()),
-        };
-        Some((protocol, conversation.log.as_slice()))
+        let record = self.records.get(&id)?;
+        let protocol = protocol_of(&self.library, record.name());
+        Some((protocol, record.log()))
     }
 
     // Makes a step that is lent, of which it copies what is kept.
     fn apply_lent(&mut self, step: &Step) -> Reply
-        ensures answered { IsAnswered (world_of self.old) (marks_of self.old) step.now result (world_of self.new) (marks_of self.new) }
-        ensures memory { IsDue (world_of self.old) step.now result }
+        ensures answered { IsAnswered (state_of self.old) step.now result (state_of self.new) }
+        ensures memory { IsDue (state_of self.old).world step.now result }
     {
         match step {
             Step::Put { text } => self.put(text.as_slice()),
-            Step::Open { id, name } => self.open_lent(*id, name),
+            Step::Withdraw { name } => self.withdraw(name),
+            Step::Open { id, name } => self.open(*id, name),
             Step::Note { id, event } => self.note_lent(*id, event),
+            Step::Turn { id } => self.turn(*id),
             Step::Ask { id } => self.ask(*id),
         }
     }
 
-    fn open_lent(&mut self, id: u32, name: &Dotted) -> Reply
-        ensures answered { IsAnswered (world_of self.old) (marks_of self.old) (Open id name.now) result (world_of self.new) (marks_of self.new) }
-        ensures memory { IsDue (world_of self.old) (Open id name.now) result }
-    {
-        match self.open_refusal(id, name) {
-            Some(refusal) => return Reply::Refused(refusal),
-            None => {}
-        }
-        match name.copy() {
-            Ok(name) => self.open(id, name),
-            Err(_) => Reply::Refused(Refusal::OutOfMemory),
-        }
-    }
-
     fn note_lent(&mut self, id: u32, event: &Event) -> Reply
-        ensures answered { IsAnswered (world_of self.old) (marks_of self.old) (Note id event.now) result (world_of self.new) (marks_of self.new) }
-        ensures memory { IsDue (world_of self.old) (Note id event.now) result }
+        ensures answered { IsAnswered (state_of self.old) (Note id event.now) result (state_of self.new) }
+        ensures memory { IsDue (state_of self.old).world (Note id event.now) result }
     {
-        let Some(conversation) = self.conversations.get(&id) else {
+        let Some(record) = self.records.get(&id) else {
             return Reply::Refused(Refusal::NoConversation);
         };
-        if conversation.log.len() >= MAX_EVENTS {
+        if record.log().len() >= MAX_EVENTS {
             return Reply::Refused(Refusal::LogFull);
         }
         match event.copy() {
@@ -137,91 +146,83 @@ impl Core {
         }
     }
 
-    // Why the conversation can't be opened, want of memory apart.
-    fn open_refusal(&self, id: u32, name: &Dotted) -> Option<Refusal>
-        ensures told { MatchOption result (NeedsMemory (world_of self.now) (Open id name.now)) (Refuses (world_of self.now) (Open id name.now)) }
-        ensures other { result ≢ Some Refusal.OutOfMemory }
-    {
-        if self.conversations.contains_key(&id) {
-            return Some(Refusal::AlreadyOpen);
-        }
-        let Some(_version) = self.library.present(name) else {
-            return Some(Refusal::UnknownProtocol);
-        };
-        if self.conversations.len() >= MAX_CONVERSATIONS {
-            return Some(Refusal::TooManyConversations);
-        }
-        None
-    }
-
     fn put(&mut self, text: &[u8]) -> Reply
-        ensures answered { IsAnswered (world_of self.old) (marks_of self.old) (Put text.now) result (world_of self.new) (marks_of self.new) }
-        ensures memory { IsDue (world_of self.old) (Put text.now) result }
+        ensures answered { IsAnswered (state_of self.old) (Put text.now) result (state_of self.new) }
+        ensures memory { IsDue (state_of self.old).world (Put text.now) result }
     {
-        match self.library.put(text) {
-            Ok(changes) => Reply::Edited {
-                edit: Edit::Put,
-                changes,
-            },
-            Err(EditFault::OutOfMemory) => Reply::Refused(Refusal::OutOfMemory),
-            Err(fault) => Reply::Refused(Refusal::Edit(fault)),
-        }
+        self.library.are_numbered();
+        let edited = self.library.put(text);
+        self.library.are_numbered();
+        edit_reply(Edit::Put, edited)
     }
 
-    fn open(&mut self, id: u32, name: Dotted) -> Reply
-        ensures answered { IsAnswered (world_of self.old) (marks_of self.old) (Open id name) result (world_of self.new) (marks_of self.new) }
-        ensures memory { IsDue (world_of self.old) (Open id name) result }
+    fn withdraw(&mut self, name: &Dotted) -> Reply
+        ensures answered { IsAnswered (state_of self.old) (Withdraw name.now) result (state_of self.new) }
+        ensures memory { IsDue (state_of self.old).world (Withdraw name.now) result }
     {
-        match self.open_refusal(id, &name) {
-            Some(refusal) => return Reply::Refused(refusal),
-            None => {}
-        }
-        let Ok(told) = name.copy() else {
-            return Reply::Refused(Refusal::OutOfMemory);
-        };
-        let log = Items::new(self.alloc);
-        match self.conversations.insert(id, Conversation { name, log }) {
-            Ok(_) => Reply::Opened { id, name: told },
-            Err(_) => Reply::Refused(Refusal::OutOfMemory),
-        }
+        self.library.are_numbered();
+        let edited = self.library.withdraw(name);
+        self.library.are_numbered();
+        edit_reply(Edit::Withdraw, edited)
+    }
+
+    fn open(&mut self, id: u32, name: &Dotted) -> Reply
+        ensures answered { IsAnswered (state_of self.old) (Open id name.now) result (state_of self.new) }
+        ensures memory { IsDue (state_of self.old).world (Open id name.now) result }
+    {
+        self.library.are_numbered();
+        open(
+            self.alloc,
+            &self.library,
+            &mut self.records,
+            MAX_CONVERSATIONS,
+            id,
+            name,
+        )
     }
 
     fn note(&mut self, id: u32, event: Event) -> Reply
-        ensures answered { IsAnswered (world_of self.old) (marks_of self.old) (Note id event) result (world_of self.new) (marks_of self.new) }
-        ensures memory { IsDue (world_of self.old) (Note id event) result }
+        ensures answered { IsAnswered (state_of self.old) (Note id event) result (state_of self.new) }
+        ensures memory { IsDue (state_of self.old).world (Note id event) result }
     {
-        let Some(conversation) = self.conversations.get_mut(&id) else {
-            return Reply::Refused(Refusal::NoConversation);
-        };
-        match note(self.alloc, &self.library, conversation, event) {
-            Ok(verdict) => Reply::Noted {
-                id,
-                place: conversation.log.len(),
-                told: Told::Judged(verdict),
-            },
-            Err(refusal) => Reply::Refused(refusal),
-        }
+        self.library.are_numbered();
+        note(&self.library, &mut self.records, id, event)
+    }
+
+    fn turn(&mut self, id: u32) -> Reply
+        ensures answered { IsAnswered (state_of self.old) (Turn id) result (state_of self.new) }
+        ensures memory { IsDue (state_of self.old).world (Turn id) result }
+    {
+        self.library.are_numbered();
+        turn(&self.library, &mut self.records, id)
     }
 
     fn ask(&self, id: u32) -> Reply
-        ensures answered { IsAnswered (world_of self.now) (marks_of self.now) (Ask id) result (world_of self.now) (marks_of self.now) }
-        ensures memory { IsDue (world_of self.now) (Ask id) result }
+        ensures answered { IsAnswered (state_of self.now) (Ask id) result (state_of self.now) }
+        ensures memory { IsDue (state_of self.now).world (Ask id) result }
     {
-        let Some(conversation) = self.conversations.get(&id) else {
-            return Reply::Refused(Refusal::NoConversation);
-        };
-        let Ok(name) = conversation.name.copy() else {
-            return Reply::Refused(Refusal::OutOfMemory);
-        };
-        let log = conversation.log.as_slice();
-        match verdict_of(self.alloc, &self.library, &conversation.name, log) {
-            Ok(verdict) => Reply::Judged {
-                id,
-                name,
-                events: log.len(),
-                told: Told::Judged(verdict),
-            },
-            Err(_) => Reply::Refused(Refusal::OutOfMemory),
-        }
+        self.library.are_numbered();
+        ask(self.alloc, &self.library, &self.records, id)
+    }
+}
+
+// The protocol that the library has by the name, if it has one.
+fn protocol_of<'a>(library: &'a Library, name: &Dotted) -> Option<&'a Protocol>
+    ensures { IsMeaning library.now.modules name.now (option_map (λ p. agreement_of p.now) result) }
+{
+    match library.present(name) {
+        None => None,
+        Some(version) => Some(version.protocol()),
+    }
+}
+
+// The reply to an edit.
+fn edit_reply(edit: Edit, edited: Result<Changes, EditFault>) -> Reply
+    ensures { result ≡ reply_of edit edited }
+{
+    match edited {
+        Ok(changes) => Reply::Edited { edit, changes },
+        Err(EditFault::OutOfMemory) => Reply::Refused(Refusal::OutOfMemory),
+        Err(fault) => Reply::Refused(Refusal::Edit(fault)),
     }
 }

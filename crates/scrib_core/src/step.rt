@@ -9,10 +9,14 @@ use scrib_types::plain::Items;
 pub enum Step {
     /// Put the module of this text into the library.
     Put { text: Items<u8> },
+    /// Take the module of this name out of the library.
+    Withdraw { name: Dotted },
     /// Open a conversation of a protocol, by its full name.
     Open { id: u32, name: Dotted },
     /// Note an event of a conversation.
     Note { id: u32, event: Event },
+    /// Judge up to 256 further events of a conversation whose verdict is out of date.
+    Turn { id: u32 },
     /// Ask for the verdict on a conversation.
     Ask { id: u32 },
 }

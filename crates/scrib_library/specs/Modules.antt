@@ -57,6 +57,10 @@ abbrev pub MeansProtocols : List ModuleTree → Type 0
 MeansProtocols modules =
     (name : List (List ℕ)) (a : Agreement) → Means modules name a → is_protocol a.roles a.global ≡ true
 
+-- what the modules mean by a name is one thing
+abbrev pub MeansOnce : List ModuleTree → Type 0
+MeansOnce modules = (name : List (List ℕ)) (a b : Agreement) → Means modules name a → Means modules name b → a ≡ b
+
 -- how many protocols the modules declare
 abbrev pub protocol_count : List ModuleTree → ℕ
 protocol_count modules = sum_by (λ (m : ModuleTree). length m.protocols) modules

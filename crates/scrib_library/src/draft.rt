@@ -137,7 +137,7 @@ fn anew(
         locals,
         ..
     } = projected;
-    let version = Version::new(alloc, protocol, locals, number)?;
+    let version = Version::new(alloc, protocol, locals.as_slice(), number)?;
     Ok(VersionEdit {
         kind,
         name,

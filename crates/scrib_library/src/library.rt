@@ -4,7 +4,7 @@ ghost use Rattle.std.specs.Prelude.{◌≡◌, IfOk, IfErr, OnErr};
 ghost use Rattle.std.specs.Option.{option_map};
 ghost use Rattle.scrib_parser.specs.declared.tree.ModuleTree as parsed;
 ghost use Rattle.scrib_record.specs.Versions.{meaning_of, number_of};
-ghost use Rattle.scrib_library.specs.Modules.{IsMeaning, MeansProtocols};
+ghost use Rattle.scrib_library.specs.Modules.{IsMeaning, MeansProtocols, MeansOnce};
 ghost use Rattle.scrib_library.specs.Holdings.{no_holdings, IsNumber, AreNumbered};
 ghost use Rattle.scrib_library.specs.Edits.{IsPut, IsChanges, AreVersionsUsed, PutFails, IsWithdrawal, AreWithdrawn, WithdrawFails};
 
@@ -154,9 +154,11 @@ impl Library {
         let _versions = self.versions.as_slice();
     }
 
-    /// A law: each name that means something has a number of its own, below the count of used versions.
+    /// A law: a name means one thing, and each that means something has a number of its own, below the count of used
+    /// versions.
     pub fn are_numbered(&self)
-        ensures { AreNumbered self.now }
+        ensures once { MeansOnce self.now.modules }
+        ensures numbers { AreNumbered self.now }
     {
         let _versions = self.versions.as_slice();
     }

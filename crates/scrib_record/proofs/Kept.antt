@@ -3,7 +3,7 @@ use Rattle.std.proofs.Common.{◌≡◌, true, ℕ, suc, ◌+◌, ◌<◌, ◌�
 use Rattle.std.specs.Option.{option_map}
 use Rattle.std.proofs.lemmas.Bool.{cases_lt}
 use Rattle.std.proofs.lemmas.Bool.Decides.{nat_tests}
-use Rattle.std.proofs.lemmas.List.{append-nil, take_all, take-append-le, take-append-drop, take_more}
+use Rattle.std.proofs.lemmas.List.{append-nil, take_all, take-append-le, take-append-drop, take-take, take_more, length-take-le}
 use Rattle.std.proofs.lemmas.Option.{get_or_from_slice_get, slice_get_within}
 use Rattle.scrib_types.specs.declared.event.Action.{Action}
 use Rattle.scrib_types.specs.declared.event.Event.{Event}
@@ -79,51 +79,77 @@ final_judges (Some a) log k (Offence place role allowed) f j =
 final_judges (Some a) log k Withdrawn f j = absurd j
 
 -- what isn't stale has the verdict on the whole log under the present version
+final_further : (v : Verdict) (j k n : ℕ) → j ≤ k → is_final v j n ≡ true → is_final v k n ≡ true
+final_further Permitted j k n le f = grind (arith, nat_tests)
+final_further (Offence place role allowed) j k n le f = refl
+final_further Withdrawn j k n le f = refl
+
 pub fresh_judges : (present : Option Version) (log : List Event) (j : Judging) → IsKept log j → is_present present j.held ≡ true → is_final j.verdict j.judged (length log) ≡ true → Judges (option_map meaning_of present) log j.verdict
 fresh_judges present log j k p f =
     subst (λ o. Judges o log j.verdict) (sym (present_means present j.held p))
-    (final_judges (option_map meaning_of j.held) log j.judged j.verdict f (keeps_judges j.held (take j.judged log) j.verdict j.configuration k.keeps))
+    (final_judges (option_map meaning_of j.held) log j.reached j.verdict (final_further j.verdict j.judged j.reached (length log) k.behind f) (keeps_judges j.held (take j.reached log) j.verdict j.configuration k.keeps))
+
+-- the verdict on the events that are judged
+pub kept_judges : (log : List Event) (j : Judging) → IsKept log j → Judges (option_map meaning_of j.held) (take j.judged log) j.verdict
+kept_judges log j k = elim k.together [
+  | inl free ↦ by_open j.held j.verdict free k.keeps
+  | inr same ↦ subst (λ n. Judges (option_map meaning_of j.held) (take n log) j.verdict) (sym same) (keeps_judges j.held (take j.reached log) j.verdict j.configuration k.keeps)
+]
+  where
+    shorter : take j.judged (take j.reached log) ≡ take j.judged log
+    shorter = take-take j.judged j.reached log k.behind
+
+    by_open : (held : Option Version) (v : Verdict) → v ≡ Permitted → Keeps held (take j.reached log) v j.configuration → Judges (option_map meaning_of held) (take j.judged log) v
+    by_open None Permitted e h = absurd h
+    by_open (Some v) Permitted e h = subst (IsPermitted (meaning_of v)) shorter (h.1 j.judged (omega (arith, k.behind, length-take-le j.reached log k.within)))
+    by_open held (Offence place role allowed) e h = cc
+    by_open held Withdrawn e h = cc
 
 -- a longer log
 pub kept_longer : (log : List Event) (ys : List Event) (j : Judging) → IsKept log j → IsKept (log ++ ys) j
 kept_longer log ys j k = record {
   within = omega (arith, k.within, length-append log ys);
-  keeps = subst (λ (x : List Event). Keeps j.held x j.verdict j.configuration) (sym (take-append-le j.judged log ys k.within)) k.keeps;
+  behind = k.behind;
+  near = k.near;
+  together = k.together;
+  keeps = subst (λ (x : List Event). Keeps j.held x j.verdict j.configuration) (sym (take-append-le j.reached log ys k.within)) k.keeps;
 }
 
 -- what is kept as long as no offence is found
-pub kept_open : (log : List Event) (j : Judging) (v : Version) → IsKept log j → j.held ≡ Some v → j.verdict ≡ Permitted → Keeps (Some v) (take j.judged log) Permitted j.configuration
+pub kept_open : (log : List Event) (j : Judging) (v : Version) → IsKept log j → j.held ≡ Some v → j.verdict ≡ Permitted → Keeps (Some v) (take j.reached log) Permitted j.configuration
 kept_open log j v k h p =
-    subst (λ (x : Option Version). Keeps x (take j.judged log) Permitted j.configuration) h (subst (λ (x : Verdict). Keeps j.held (take j.judged log) x j.configuration) p k.keeps)
+    subst (λ (x : Option Version). Keeps x (take j.reached log) Permitted j.configuration) h (subst (λ (x : Verdict). Keeps j.held (take j.reached log) x j.configuration) p k.keeps)
+
+-- what is judged whole was made whole
+pub reached_all : (log : List Event) (j : Judging) → IsKept log j → j.verdict ≡ Permitted → is_final j.verdict j.judged (length log) ≡ true → j.reached ≡ length log
+reached_all log j k p f =
+    let whole : is_final Permitted j.judged (length log) ≡ true = subst (λ (x : Verdict). is_final x j.judged (length log) ≡ true) p f in
+    omega (arith, le_of (length log) j.judged whole, k.behind, k.within)
 
 pub kept_whole : (log : List Event) (j : Judging) (v : Version) → IsKept log j → j.held ≡ Some v → j.verdict ≡ Permitted → is_final j.verdict j.judged (length log) ≡ true → Keeps (Some v) log Permitted j.configuration
 kept_whole log j v k h p f =
-    let whole : is_final Permitted j.judged (length log) ≡ true = subst (λ (x : Verdict). is_final x j.judged (length log) ≡ true) p f in
-    subst (λ (x : List Event). Keeps (Some v) x Permitted j.configuration) (take_all j.judged log (le_of (length log) j.judged whole)) (kept_open log j v k h p)
-
--- the same, in another configuration of the same states and queues
-pub keeps_same : (held : Option Version) (log : List Event) (v : Verdict) (c d : Configuration) → IsSame c d → Keeps held log v c → Keeps held log v d
-keeps_same None log Permitted c d s k = k
-keeps_same None log (Offence place role allowed) c d s k = k
-keeps_same None log Withdrawn c d s k = k
-keeps_same (Some v) log Permitted c d s k = (stands_same (meaning_of v) v.machines log c d s k.0, k.1)
-keeps_same (Some v) log (Offence place role allowed) c d s k = k
-keeps_same (Some v) log Withdrawn c d s k = k
+    subst (λ (x : List Event). Keeps (Some v) x Permitted j.configuration) (take_all j.reached log (omega (arith, reached_all log j k p f))) (kept_open log j v k h p)
 
 -- one event more
 pub keeps_next : (v : Version) (log : List Event) (c d : Configuration) (e : Event) → Keeps (Some v) log Permitted c → IsNext (meaning_of v) v.machines log e d true → Keeps (Some v) (log ++ e ∷ []) Permitted d
 keeps_next v log c d e k n = (n.1, throughout_more (meaning_of v) log e k.1 n.0)
 
-pub kept_all : (log : List Event) (j : Judging) (n : ℕ) → n ≡ length log → j.judged ≡ n → Keeps j.held log j.verdict j.configuration → IsKept log j
-kept_all log j n long all k = record {
-  within = omega (arith, long, all);
-  keeps = subst (λ (x : List Event). Keeps j.held x j.verdict j.configuration) (sym (take_all j.judged log (omega (arith, long, all)))) k;
+pub kept_all : (log : List Event) (j : Judging) → j.judged ≡ length log → j.reached ≡ length log → Keeps j.held log j.verdict j.configuration → IsKept log j
+kept_all log j judged reached k = record {
+  within = omega (arith, reached);
+  behind = omega (arith, judged, reached);
+  near = omega (arith, judged, reached);
+  together = inr (omega (arith, judged, reached));
+  keeps = subst (λ (x : List Event). Keeps j.held x j.verdict j.configuration) (sym (take_all j.reached log (omega (arith, reached)))) k;
 }
 
 -- no event
-pub kept_start : (v w : Version) (log : List Event) (c : Configuration) → w ≡ v → Stands (meaning_of v) v.machines [] c → IsPermitted (meaning_of v) [] → IsKept log (record { held = Some w; judged = 0; configuration = c; verdict = Permitted })
+pub kept_start : (v w : Version) (log : List Event) (c : Configuration) → w ≡ v → Stands (meaning_of v) v.machines [] c → IsPermitted (meaning_of v) [] → IsKept log (record { held = Some w; judged = 0; reached = 0; configuration = c; verdict = Permitted })
 kept_start v w log c e st p = record {
   within = omega arith;
+  behind = omega arith;
+  near = omega arith;
+  together = inr refl;
   keeps = subst (λ (x : Version). Keeps (Some x) [] Permitted c) (sym e) (st, throughout_none (meaning_of v) p);
 }
 

@@ -1,14 +1,5 @@
-pub mod Traces
 pub mod Logs
 pub mod Queues
-pub mod Moves
-pub mod Places
-pub mod Seats
-pub mod Steps
-pub mod Start
-pub mod Judged
-pub mod Listed
-pub mod Offered
 pub mod Projections
 pub mod Compiled
 pub mod RolePlaces

@@ -8,7 +8,7 @@ use Rattle.std.specs.Bool.{Decides}
 use Rattle.scrib_types.specs.Agreement.{Agreement}
 use Rattle.scrib_record.specs.declared.version.Version.{Version}
 use Rattle.scrib_record.specs.Flat.{flat_form}
-use Rattle.scrib_record.specs.Versions.{meaning_of, number_of, HaveSameStamp}
+use Rattle.scrib_record.specs.Versions.{meaning_of, number_of, HaveSameStamp, AreOfOneStamp}
 use Rattle.scrib_record.specs.Stale.{same_stamp, is_present}
 use Rattle.scrib_record.proofs.ReadOnce.{same_form}
 
@@ -32,3 +32,10 @@ present_means None None h = refl
 present_means None (Some w) h = absurd (true≢false (sym h))
 present_means (Some v) None h = absurd (true≢false (sym h))
 present_means (Some v) (Some w) h = let same = (stamps_decided v w).0 h in ap (λ (a : Agreement). Some a) same.1
+
+-- what is present has the stamp of what is held
+pub of_one_stamp : (o p : Option Version) → is_present o p ≡ true → AreOfOneStamp o p
+of_one_stamp None None h = tt
+of_one_stamp None (Some w) h = true≢false (sym h)
+of_one_stamp (Some v) None h = true≢false (sym h)
+of_one_stamp (Some v) (Some w) h = (stamps_decided v w).0 h

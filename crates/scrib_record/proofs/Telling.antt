@@ -16,6 +16,7 @@ use Rattle.scrib_record.specs.Stale.{Recorded, is_present, is_final, is_stale}
 use Rattle.scrib_record.specs.Told.{IsTold, IsNoted, IsTurned}
 use Rattle.scrib_record.specs.Versions.{meaning_of}
 use Rattle.scrib_record.proofs.Kept.{fresh_judges}
+use Rattle.scrib_record.proofs.Stamps.{of_one_stamp}
 
 -- what contracts see of a record
 abbrev pub seen : List (List ℕ) → List Event → Judging → Recorded
@@ -99,18 +100,20 @@ turned_not present name log j answer k f e = record {
   name = refl;
   log = refl;
   present = (and_parts (is_present present j.held) (is_final j.verdict j.judged (length log)) f).0;
+  stamp = of_one_stamp present j.held (and_parts (is_present present j.held) (is_final j.verdict j.judged (length log)) f).0;
   further = inl (ap not f);
   most = λ s. let all = (and_parts (is_present present j.held) (is_final j.verdict j.judged (length log)) f).0 in rw all (omega arith);
   told = told_either present name log j answer k e;
 }
 
-pub turned_on : (present : Option Version) (name : List (List ℕ)) (log : List Event) (old new : Judging) (answer : Told) → is_fresh present log old ≡ false → IsTurnedTo present log old new → answer ≡ (if is_fresh present log new then Judged new.verdict else Stale) → IsTurned present (seen name log old) (seen name log new) answer
-turned_on present name log old new answer f h e = record {
+pub turned_on : (present : Option Version) (name : List (List ℕ)) (log : List Event) (old new : Judging) (answer : Told) → is_fresh present log old ≡ false → IsTurnedTo present log old new answer → IsTurned present (seen name log old) (seen name log new) answer
+turned_on present name log old new answer f h = record {
   fresh = λ s. absurd (true≢false (sym (ap not f) ∙ s));
   name = refl;
   log = refl;
   present = h.held;
+  stamp = of_one_stamp present new.held h.held;
   further = elim h.further [ inl w ↦ inl (rw (h.held, w) refl) | inr n ↦ inr n ];
   most = h.most;
-  told = told_either present name log new answer h.kept e;
+  told = told_either present name log new answer h.kept (h.told ∙ sym (ap (λ b. if b && is_final new.verdict new.judged (length log) then Judged new.verdict else Stale) h.held));
 }

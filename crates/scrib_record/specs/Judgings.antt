@@ -1,15 +1,17 @@
 -- What a record keeps of the events that are judged.
 -- Only contracts of private functions cite this file.
-use Rattle.std.specs.Prelude.{◌≡◌, ◌⊎◌, ℕ, true, ◌+◌, ◌≤◌, List, [], ◌∷◌, ◌++◌, length, take, slice_get, Option, Some, None, IsSome, if◌then◌else◌}
+use Rattle.std.specs.Prelude.{◌≡◌, ◌⊎◌, ℕ, true, ◌+◌, ◌<◌, ◌≤◌, List, [], ◌∷◌, ◌++◌, length, take, slice_get, Option, Some, None, IsSome, if◌then◌else◌}
 use Rattle.scrib_types.specs.declared.event.Event.{Event}
 use Rattle.scrib_types.specs.declared.event.Told.{Told}
-use Rattle.scrib_types.specs.declared.event.Told.TheVariants.{Judged}
+use Rattle.scrib_types.specs.declared.event.Told.TheVariants.{Judged, Stale}
 use Rattle.scrib_types.specs.declared.event.Verdict.{Verdict}
 use Rattle.scrib_types.specs.declared.event.Verdict.TheVariants.{Permitted, Offence, Withdrawn}
 use Rattle.scrib_types.specs.Agreement.{Agreement}
 use Rattle.scrib_types.specs.Judgement.{IsOffence}
 use Rattle.scrib_types.specs.Permitted.{IsPermitted}
 use Rattle.scrib_record.specs.declared.configuration.Configuration.{Configuration}
+use Rattle.scrib_record.specs.declared.judging.Halt.{Halt}
+use Rattle.scrib_record.specs.declared.judging.Halt.TheVariants.{AtEnd, Refused, NoMemory}
 use Rattle.scrib_record.specs.declared.judging.Judging.{Judging}
 use Rattle.scrib_record.specs.declared.version.Version.{Version}
 use Rattle.scrib_record.specs.Configurations.{Stands}
@@ -30,10 +32,14 @@ Keeps (Some v) log Permitted c = Stands (meaning_of v) v.machines log c × IsPer
 Keeps (Some v) log (Offence place role allowed) c = IsOffence (meaning_of v) log place role allowed
 Keeps (Some v) log Withdrawn c = ⊥
 
--- what is kept of the events of the log that are judged
+-- What is kept of the log: the verdict on the events that are judged, and the configuration to which so many events lead.
+-- These are the judged ones, and up to 256 more after a turn that found no memory on its way.
 pub record IsKept (log : List Event) (j : Judging) : Type 0 where
-  pub within : j.judged ≤ length log
-  pub keeps : Keeps j.held (take j.judged log) j.verdict j.configuration
+  pub within : j.reached ≤ length log
+  pub behind : j.judged ≤ j.reached
+  pub near : j.reached ≤ j.judged + 256
+  pub together : (j.verdict ≡ Permitted) ⊎ (j.judged ≡ j.reached)
+  pub keeps : Keeps j.held (take j.reached log) j.verdict j.configuration
 
 -- the same judgement of the same events
 pub record IsSameJudging (old new : Judging) : Type 0 where
@@ -53,30 +59,44 @@ pub record IsJudgedOn (log : List Event) (e : Event) (old new : Judging) (answer
   pub whole : is_final new.verdict new.judged (length log + 1) ≡ true
   pub told : answer ≡ Judged new.verdict
 
--- the verdict is on the whole log, or on 256 events more, and on no more than these
-pub record IsFurther (log : List Event) (old new : Judging) : Type 0 where
+-- what is told of a verdict on so many of this many events, under the present version
+abbrev pub told_of : Verdict → (judged events : ℕ) → Told
+told_of v judged events = if is_final v judged events then Judged v else Stale
+
+-- the verdict is on the whole log, or on 256 events more, and on no more than these, and it is told
+pub record IsFurther (log : List Event) (old new : Judging) (answer : Told) : Type 0 where
   pub kept : IsKept log new
   pub held : new.held ≡ old.held
   pub further : (is_final new.verdict new.judged (length log) ≡ true) ⊎ (new.judged ≡ old.judged + 256)
   pub most : new.judged ≤ old.judged + 256
+  pub told : answer ≡ told_of new.verdict new.judged (length log)
 
--- the judgement after a turn
-pub record IsTurnedTo (present : Option Version) (log : List Event) (old new : Judging) : Type 0 where
+-- the judgement after a turn, and what is told of it
+pub record IsTurnedTo (present : Option Version) (log : List Event) (old new : Judging) (answer : Told) : Type 0 where
   pub kept : IsKept log new
   pub held : is_present present new.held ≡ true
   pub further : (is_final new.verdict new.judged (length log) ≡ true) ⊎ (new.judged ≡ (if is_present present old.held then old.judged else 0) + 256)
   pub most : IsSome present → new.judged ≤ (if is_present present old.held then old.judged else 0) + 256
+  pub told : answer ≡ told_of new.verdict new.judged (length log)
 
 -- so many of the events may follow the log, one after another, and lead to the configuration
 pub record Runs (v : Version) (log events : List Event) (c : Configuration) (n : ℕ) : Type 0 where
   pub stands : Stands (meaning_of v) v.machines (log ++ take n events) c
   pub permitted : IsPermittedThroughout (meaning_of v) log → IsPermittedThroughout (meaning_of v) (log ++ take n events)
 
--- so many of the events may follow each log that leads to the old configuration, and the next one may not
-pub record RunsFrom (v : Version) (events : List Event) (old new : Configuration) (n : ℕ) : Type 0 where
+-- why a run of events ended after so many of them: at its end, at one that may not follow, or for want of memory
+abbrev pub Halts : Version → List Event → Configuration → ℕ → Halt → Type 0
+Halts v events c n AtEnd = n ≡ length events
+Halts v events c n Refused =
+    (n < length events)
+    × ((log : List Event) → Stands (meaning_of v) v.machines log c → (e : Event) → slice_get events n ≡ Some e → MayFollow (meaning_of v) (log ++ take n events) e → ⊥)
+Halts v events c n NoMemory = Unit {0}
+
+-- so many of the events may follow each log that leads to the old configuration
+pub record RunsFrom (v : Version) (events : List Event) (old new : Configuration) (n : ℕ) (halt : Halt) : Type 0 where
   pub within : n ≤ length events
   pub runs : (log : List Event) → Stands (meaning_of v) v.machines log old → Runs v log events new n
-  pub stops : (log : List Event) → Stands (meaning_of v) v.machines log old → (e : Event) → slice_get events n ≡ Some e → MayFollow (meaning_of v) (log ++ take n events) e → ⊥
+  pub halts : Halts v events old n halt
 
 -- the verdict at this place on each log that leads to the configuration, where the event may not follow it
 abbrev pub IsRefusal : Version → Configuration → ℕ → Event → Verdict → Type 0

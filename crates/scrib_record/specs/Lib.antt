@@ -1,9 +1,7 @@
 pub mod Configurations
-pub mod Courses
 pub mod Flat
 pub mod Following
 pub mod Judgings
-pub mod Listed
 pub mod RoleMachines
 pub mod Stale
 pub mod Told

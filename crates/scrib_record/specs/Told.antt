@@ -12,7 +12,7 @@ use Rattle.scrib_record.specs.declared.fault.NoteFault.{NoteFault}
 use Rattle.scrib_record.specs.declared.fault.NoteFault.TheVariants.{LogFull, OutOfMemory}
 use Rattle.scrib_record.specs.declared.version.Version.{Version}
 use Rattle.scrib_record.specs.Stale.{Recorded, is_stale, is_present}
-use Rattle.scrib_record.specs.Versions.{meaning_of}
+use Rattle.scrib_record.specs.Versions.{meaning_of, AreOfOneStamp}
 
 -- stale exactly where it is, and else the verdict on the whole log under the present version
 abbrev pub IsTold : Option Version → Recorded → Told → Type 0
@@ -55,6 +55,7 @@ pub record IsTurned (now : Option Version) (old new : Recorded) (answer : Told) 
   pub name : new.name ≡ old.name
   pub log : new.log ≡ old.log
   pub present : is_present now new.held ≡ true
+  pub stamp : AreOfOneStamp now new.held
   pub further : (is_stale now new ≡ false) ⊎ (new.judged ≡ judged_under now old + 256)
   pub most : IsSome now → new.judged ≤ judged_under now old + 256
   pub told : IsTold now new answer

@@ -49,16 +49,6 @@ impl Configuration {
         Ok(Configuration { seats, queues })
     }
 
-    /// The same configuration once more.
-    pub fn copy(&self) -> Result<Configuration, AllocError>
-        ensures { IfOk result (conf.IsSame self.now) }
-    {
-        let alloc = *self.seats.allocator();
-        let seats = Vec::from_slice(alloc, &self.seats)?;
-        let queues = self.queues.copy(alloc)?;
-        Ok(Configuration { seats, queues })
-    }
-
     /// Makes the event and returns whether it may follow. One that may not changes nothing.
     pub fn advance(&mut self, version: &Version, event: &Event) -> Result<bool, AllocError>
         requires { conf.IsReached (meaning_of version.now) version.now.machines self.old }

@@ -22,13 +22,26 @@ use std::alloc::{AllocError, Global};
 pub const TURN: usize = 256;
 
 /// How far a log is judged: the version that it is judged under, or none where it was judged withdrawn, how many of
-/// its events are judged, where they lead to, and the verdict on them.
+/// its events are judged, the verdict on them, and the configuration that so many of its events reached. A turn that
+/// found no memory judged nothing, but the events that it made stay made.
 #[derive(Drop)]
 pub struct Judging {
     pub held: Option<Version>,
     pub judged: usize,
+    pub reached: usize,
     pub configuration: Configuration,
     pub verdict: Verdict,
+}
+
+/// Why a run of events ended.
+#[derive(Clone, Copy, Debug, PartialEq, Eq)]
+pub enum Halt {
+    /// No event is left.
+    AtEnd,
+    /// The event that comes next may not follow.
+    Refused,
+    /// Memory was refused.
+    NoMemory,
 }
 
 impl Judging {
@@ -47,6 +60,7 @@ impl Judging {
         Ok(Judging {
             held,
             judged: 0,
+            reached: 0,
             configuration,
             verdict: Verdict::Permitted,
         })
@@ -61,6 +75,7 @@ impl Judging {
         Judging {
             held: None,
             judged: events,
+            reached: events,
             configuration: Configuration {
                 seats: Vec::new(alloc),
                 queues: Queues::new(alloc, 0),
@@ -105,76 +120,85 @@ impl Judging {
         };
         if self.configuration.advance(version, event)? {
             self.judged = log.len() + 1;
+            self.reached = log.len() + 1;
             return Ok(Told::Judged(Verdict::Permitted));
         }
         let verdict = offence(&self.configuration, version, log.len() + 1, event)?;
         let alloc = *self.configuration.seats.allocator();
         let told = copy_verdict(alloc, &verdict)?;
         self.judged = log.len() + 1;
+        self.reached = log.len() + 1;
         self.verdict = verdict;
         Ok(Told::Judged(told))
     }
 
-    /// The judgement after a turn: withdrawn where no version is present, and else of at most 256 events more, from
-    /// event 1 where another version is held.
-    pub fn turned(&self, present: Option<&Version>, log: &[Event]) -> Result<Judging, AllocError>
-        requires kept { kept.IsKept log.now self.now }
-        requires stale { (stale.is_present (option_copied present) self.now.held && stale.is_final self.now.verdict self.now.judged (length log.now)) ≢ true }
+    /// Makes a turn: judges the log withdrawn where no version is present, and else at most 256 events more, from event
+    /// 1 where another version is held. Without memory the judgement stays.
+    pub fn turn(&mut self, present: Option<&Version>, log: &[Event]) -> Result<Told, AllocError>
+        requires kept { kept.IsKept log.now self.old }
+        requires stale { (stale.is_present (option_copied present) self.old.held && stale.is_final self.old.verdict self.old.judged (length log.now)) ≢ true }
         requires room { length log.now ≤ 65536 }
-        ensures { IfOk result (kept.IsTurnedTo (option_copied present.entry) log.now self.now) }
+        ensures ok { IfOk result (kept.IsTurnedTo (option_copied present.entry) log.now self.old self.new) }
+        ensures kept { OnErr result (kept.IsKept log.now self.new) }
+        ensures same { OnErr result (kept.IsSameJudging self.old self.new) }
     {
+        let alloc = *self.configuration.seats.allocator();
         let Some(version) = present else {
-            let alloc = *self.configuration.seats.allocator();
-            return Ok(Judging::withdrawn(alloc, log.len()));
+            *self = Judging::withdrawn(alloc, log.len());
+            return Ok(Told::Judged(Verdict::Withdrawn));
         };
-        let mut judging = self.resumed(version)?;
-        judging.go_on(log)?;
-        Ok(judging)
-    }
-
-    /// From where a turn goes on: from a copy of this judgement where it holds the version, and else from event 1.
-    fn resumed(&self, version: &Version) -> Result<Judging, AllocError>
-        requires { stale.is_present (Some version.now) self.now.held ≡ true → self.now.verdict ≡ Permitted }
-        ensures kept { IfOk result (λ new. (log : List Event) → kept.IsKept log self.now → kept.IsKept log new) }
-        ensures held { IfOk result (λ new. stale.is_present (Some version.now) new.held ≡ true) }
-        ensures judged { IfOk result (λ new. new.judged ≡ (if stale.is_present (Some version.now) self.now.held then self.now.judged else 0)) }
-        ensures verdict { IfOk result (λ new. new.verdict ≡ Permitted) }
-    {
-        if !is_present(Some(version), &self.held) {
-            let alloc = *self.configuration.seats.allocator();
-            return Judging::start(alloc, version);
+        if is_present(present, &self.held) {
+            return self.go_on(log);
         }
-        let held = share(&self.held)?;
-        let configuration = self.configuration.copy()?;
-        Ok(Judging {
-            held,
-            judged: self.judged,
-            configuration,
-            verdict: Verdict::Permitted,
-        })
+        let mut anew = Judging::start(alloc, version)?;
+        let told = anew.go_on(log)?;
+        *self = anew;
+        Ok(told)
     }
 
     /// Judges at most 256 further events of the log, up to an offence.
-    fn go_on(&mut self, log: &[Event]) -> Result<(), AllocError>
+    fn go_on(&mut self, log: &[Event]) -> Result<Told, AllocError>
         requires kept { kept.IsKept log.now self.old }
         requires open { self.old.verdict ≡ Permitted }
         requires room { length log.now ≤ 65536 }
-        ensures { OnOk result (kept.IsFurther log.now self.old self.new) }
+        ensures ok { IfOk result (kept.IsFurther log.now self.old self.new) }
+        ensures kept { OnErr result (kept.IsKept log.now self.new) }
+        ensures same { OnErr result (kept.IsSameJudging self.old self.new) }
     {
         let Some(version) = &self.held else {
-            return Ok(());
+            return Ok(Told::Stale);
         };
         let end = log.len().min(self.judged + TURN);
-        let events = &log[self.judged..end];
-        let passed = run(&mut self.configuration, version, events)?;
-        if passed == events.len() {
-            self.judged = end;
-            return Ok(());
+        let (passed, halt) = run(&mut self.configuration, version, &log[self.reached..end]);
+        self.reached += passed;
+        match halt {
+            Halt::AtEnd => {
+                self.judged = end;
+                Ok(told_of(end == log.len()))
+            }
+            Halt::Refused => {
+                let place = self.reached + 1;
+                let verdict = offence(&self.configuration, version, place, &log[self.reached])?;
+                let alloc = *self.configuration.seats.allocator();
+                let told = copy_verdict(alloc, &verdict)?;
+                self.judged = place;
+                self.reached = place;
+                self.verdict = verdict;
+                Ok(Told::Judged(told))
+            }
+            Halt::NoMemory => Err(AllocError),
         }
-        let place = self.judged + passed + 1;
-        self.verdict = offence(&self.configuration, version, place, &events[passed])?;
-        self.judged = place;
-        Ok(())
+    }
+}
+
+/// What is told of events that are permitted, which are all of the log's or aren't.
+fn told_of(all: bool) -> Told
+    ensures { result ≡ (if all then Judged Permitted else Stale) }
+{
+    if all {
+        Told::Judged(Verdict::Permitted)
+    } else {
+        Told::Stale
     }
 }
 
@@ -199,31 +223,19 @@ fn is_final(verdict: &Verdict, judged: usize, events: usize) -> bool
     }
 }
 
-/// The same version once more, if there is one.
-fn share(held: &Option<Version>) -> Result<Option<Version>, AllocError>
-    ensures { IfOk result (λ copy. copy ≡ held.now) }
-{
-    match held {
-        Some(version) => Ok(Some(version.share()?)),
-        None => Ok(None),
-    }
-}
-
-/// Makes the events in order, up to the first that may not follow, and returns how many may.
-fn run(
-    configuration: &mut Configuration,
-    version: &Version,
-    events: &[Event],
-) -> Result<usize, AllocError>
+/// Makes the events in order, up to the first that may not follow, and returns how many were made and why no more.
+fn run(configuration: &mut Configuration, version: &Version, events: &[Event]) -> (usize, Halt)
     requires { conf.IsReached (meaning_of version.now) version.now.machines configuration.old }
-    ensures { IfOk result (kept.RunsFrom version.now events.now configuration.old configuration.new) }
+    ensures { kept.RunsFrom version.now events.now configuration.old configuration.new result.0 result.1 }
 {
     for (i, event) in events.iter().enumerate() {
-        if !configuration.advance(version, event)? {
-            return Ok(i);
+        match configuration.advance(version, event) {
+            Ok(true) => {}
+            Ok(false) => return (i, Halt::Refused),
+            Err(_) => return (i, Halt::NoMemory),
         }
     }
-    Ok(events.len())
+    (events.len(), Halt::AtEnd)
 }
 
 /// The verdict at this place of a log, where the event may not follow what leads to the configuration.

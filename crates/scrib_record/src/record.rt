@@ -109,13 +109,9 @@ impl Record {
         ensures err { OnErr result (self.new ≡ self.old) }
     {
         if !self.judging.is_stale(present, self.log.len()) {
-            let told = self.judging.told(present, self.log.len())?;
-            return Ok(told);
+            return self.judging.told(present, self.log.len());
         }
-        let judging = self.judging.turned(present, &self.log)?;
-        let told = judging.told(present, self.log.len())?;
-        self.judging = judging;
-        Ok(told)
+        self.judging.turn(present, &self.log)
     }
 
     /// What is told of the log, where this is the present version of its protocol or none is there. It takes no memory.

@@ -1,8 +1,7 @@
 //! Versions: protocols with what each role does in them, under the numbers of their stamps.
 
-ghost use Rattle.std.specs.Prelude.{◌≡◌, IsTrue};
+ghost use Rattle.std.specs.Prelude.{◌≡◌};
 ghost use Rattle.scrib_types.specs.Meaning.{agreement_of};
-ghost use Rattle.scrib_local.specs.Projections.{are_projections};
 ghost use Rattle.scrib_record.specs.Flat.{flat_form};
 
 use crate::flat::flat_form;
@@ -15,16 +14,14 @@ use std::alloc::{AllocError, Global};
 use std::marker::Model;
 use std::sync::Arc;
 
-/// What the copies of a version share: a protocol with its projection on each role and that projection's machine, in
-/// the order in which the roles are declared, the number of its stamp, and the flat form of what it means.
+/// What the copies of a version share: a protocol with the machine of its projection on each role, in the order in
+/// which the roles are declared, the number of its stamp, and the flat form of what it means.
 #[derive(Drop)]
 pub struct Edition {
     protocol: Protocol,
-    locals: Items<Local>,
     machines: Items<Machine>,
     number: u32,
     flat: Items<u8>,
-    pub ghost projected: { IsTrue (are_projections (agreement_of protocol).global (agreement_of protocol).roles locals) },
     pub ghost flattened: { flat ≡ flat_form (agreement_of protocol) },
 }
 
@@ -58,28 +55,25 @@ impl Version {
     ghost use Rattle.scrib_local.specs.Projections.{are_projections};
     ghost use Rattle.scrib_record.specs.Versions.{meaning_of, number_of, HaveSameStamp};
 
-    /// The version of a protocol under the number, with the protocol's projections on its roles, each of which is
-    /// compiled.
+    /// The version of a protocol under the number. The protocol's projections on its roles are compiled.
     ///
     /// # Errors
     /// `AllocError` where memory was refused.
     pub fn new(
         alloc: Global,
         protocol: Protocol,
-        locals: Items<Local>,
+        locals: &[Local],
         number: u32,
     ) -> Result<Version, AllocError>
-        requires projections { IsTrue (are_projections (agreement_of protocol).global (agreement_of protocol).roles locals) }
+        requires projections { IsTrue (are_projections (agreement_of protocol).global (agreement_of protocol).roles locals.now) }
         requires small { global_nodes (agreement_of protocol).global ≤ most_nodes }
         ensures meaning { IfOk result (λ version. meaning_of version ≡ agreement_of protocol) }
-        ensures locals { IfOk result (λ version. version.locals ≡ locals) }
         ensures number { IfOk result (λ version. number_of version ≡ number) }
     {
         let flat = flat_form(alloc, &protocol)?;
-        let machines = machines_of(alloc, &protocol, locals.as_slice())?;
+        let machines = machines_of(alloc, &protocol, locals)?;
         let edition = Edition {
             protocol,
-            locals,
             machines,
             number,
             flat,
@@ -104,14 +98,6 @@ impl Version {
         ensures { agreement_of result.now ≡ meaning_of self.now }
     {
         &self.edition.protocol
-    }
-
-    /// What each role does, in the order in which the roles are declared.
-    pub fn locals(&self) -> &[Local]
-        ensures locals { result.now ≡ self.now.locals }
-        ensures projections { IsTrue (are_projections (meaning_of self.now).global (meaning_of self.now).roles result.now) }
-    {
-        self.edition.locals.as_slice()
     }
 
     /// The machine of each role's projection, in the order in which the roles are declared.

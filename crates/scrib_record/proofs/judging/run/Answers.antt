@@ -4,29 +4,46 @@ use Rattle.scrib_record.specs.Configurations.{IsNext}
 use Rattle.scrib_record.specs.Following.{MayFollow}
 use Rattle.scrib_record.specs.Judgings.{Runs}
 use Rattle.scrib_record.specs.Versions.{meaning_of}
-use Rattle.scrib_record.proofs.Kept.{runs_none, runs_more, runs_stop, at_is, no_more}
+use Rattle.scrib_record.proofs.Kept.{runs_none, runs_more, runs_stop, at_is}
+use Rattle.scrib_record.proofs.Standing.{stands_same}
 use Rattle.scrib_record.proofs.judging.run.Goals as goal
 
 pub advance-requires : goal.advance-requires
 advance-requires c = let r = c.loop-i.invariant c.requires.0 c.requires.1 in (_, r.stands)
 
-pub returns-then-not-branch : goal.returns-then-not-branch
-returns-then-not-branch c =
+pub returns-in-Ok-false : goal.returns-in-Ok-false
+returns-in-Ok-false c =
     let v = c.args.version.now in
     let e = c.index-events-i.result in
     let events = c.args.events.now in
+    let i = c.loop-i.i in
     record {
       within = omega arith;
       runs = λ log st.
           let r = c.loop-i.invariant log st in
-          let next = subst (λ (b : Bool). IsNext (meaning_of v) v.machines (log ++ take c.loop-i.i events) e c.advance.new.self b) c.if-not-branch.true (c.in_ok-advance.ensures.ok (log ++ take c.loop-i.i events) r.stands) in
-          runs_stop v log events c.loop-i.configuration c.advance.new.self c.loop-i.i r next.1;
-      stops = λ log st f at.
+          let next = subst (λ (b : Bool). IsNext (meaning_of v) v.machines (log ++ take i events) e c.advance.new.self b) c.in-Ok-false.field-0-test (c.in-Ok-false.ensures.ok (log ++ take i events) r.stands) in
+          runs_stop v log events c.loop-i.configuration c.advance.new.self i r next.1;
+      halts = (
+        c.loop-i-test.true,
+        λ log st f at.
+            let r = c.loop-i.invariant log st in
+            let next = subst (λ (b : Bool). IsNext (meaning_of v) v.machines (log ++ take i events) e c.advance.new.self b) c.in-Ok-false.field-0-test (c.in-Ok-false.ensures.ok (log ++ take i events) r.stands) in
+            let P : Event → Type 0 = λ x. MayFollow (meaning_of v) (log ++ take i events) x → ⊥ in
+            subst P (at_is events i e f c.loop-i-test.true c.index-events-i.is at) next.0,
+      );
+    }
+
+pub returns-in-Err : goal.returns-in-Err
+returns-in-Err c =
+    let v = c.args.version.now in
+    let events = c.args.events.now in
+    let i = c.loop-i.i in
+    record {
+      within = omega arith;
+      runs = λ log st.
           let r = c.loop-i.invariant log st in
-          let next = subst (λ (b : Bool). IsNext (meaning_of v) v.machines (log ++ take c.loop-i.i events) e c.advance.new.self b) c.if-not-branch.true (c.in_ok-advance.ensures.ok (log ++ take c.loop-i.i events) r.stands) in
-          let same = at_is events c.loop-i.i e f c.loop-i-test.true c.index-events-i.is at in
-          let P : Event → Type 0 = λ x. MayFollow (meaning_of v) (log ++ take c.loop-i.i events) x → ⊥ in
-          subst P same next.0;
+          runs_stop v log events c.loop-i.configuration c.advance.new.self i r (stands_same (meaning_of v) v.machines (log ++ take i events) c.loop-i.configuration c.advance.new.self c.in-Err.ensures.err r.stands);
+      halts = tt;
     }
 
 pub loop-i-init : goal.loop-i-init
@@ -37,9 +54,10 @@ loop-i-preserved c log st =
     let v = c.args.version.now in
     let e = c.index-events-i.result in
     let events = c.args.events.now in
+    let i = c.loop-i.i in
     let r = c.loop-i.invariant log st in
-    let next = subst (λ (b : Bool). IsNext (meaning_of v) v.machines (log ++ take c.loop-i.i events) e c.advance.new.self b) c.if-not-branch.false (c.in_ok-advance.ensures.ok (log ++ take c.loop-i.i events) r.stands) in
-    runs_more v log events c.loop-i.configuration c.advance.new.self c.loop-i.i e c.loop-i-test.true c.index-events-i.is r next
+    let next = subst (λ (b : Bool). IsNext (meaning_of v) v.machines (log ++ take i events) e c.advance.new.self b) c.in-Ok-true.field-0-test (c.in-Ok-true.ensures.ok (log ++ take i events) r.stands) in
+    runs_more v log events c.loop-i.configuration c.advance.new.self i e c.loop-i-test.true c.index-events-i.is r next
 
 pub returns : goal.returns
 returns c =
@@ -49,5 +67,5 @@ returns c =
     record {
       within = omega arith;
       runs = λ log st. subst (Runs v log events c.loop-i.configuration) all (c.loop-i.invariant log st);
-      stops = λ log st f at. absurd (no_more events f at);
+      halts = omega arith;
     }

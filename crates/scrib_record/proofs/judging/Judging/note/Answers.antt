@@ -16,7 +16,7 @@ returns-then-branch-clause-ok c =
     let w = kept_whole log self v c.requires.kept c.in-Some-Permitted.is-0 c.in-Some-Permitted.is-1 c.requires.whole in
     let next = subst (λ (b : Bool). IsNext (meaning_of v) v.machines log c.args.event.now c.advance.new.self b) c.if-branch.true (c.in_ok-advance.ensures.ok log w.0) in
     let k = keeps_next v log self.configuration c.advance.new.self c.args.event.now w next in
-    judged_on log c.args.event.now self _ _ v refl c.in-Some-Permitted.is-0 refl
+    judged_on log c.args.event.now self _ _ v refl c.in-Some-Permitted.is-0 refl refl
     (subst (λ (x : Verdict). Keeps (Some v) (log ++ c.args.event.now ∷ []) x c.advance.new.self) (sym c.in-Some-Permitted.is-1) k) (ap Judged (sym c.in-Some-Permitted.is-1))
 
 pub offence-requires : goal.offence-requires
@@ -34,7 +34,7 @@ returns-in_err-verdict-2-clause-kept c =
     let log = c.args.log.now in
     let w = kept_whole log self v c.requires.kept c.in-Some-Permitted.is-0 c.in-Some-Permitted.is-1 c.requires.whole in
     let next = subst (λ (b : Bool). IsNext (meaning_of v) v.machines log c.args.event.now c.advance.new.self b) c.if-branch.false (c.in_ok-advance.ensures.ok log w.0) in
-    on_err _ _ (kept_again log self _ v c.requires.kept c.requires.whole c.in-Some-Permitted.is-0 c.in-Some-Permitted.is-1 refl refl refl next.1)
+    on_err _ _ (kept_again log self _ v c.requires.kept c.requires.whole c.in-Some-Permitted.is-0 c.in-Some-Permitted.is-1 refl refl refl refl next.1)
 
 pub returns-in_err-told-clause-kept : goal.returns-in_err-told-clause-kept
 returns-in_err-told-clause-kept c =
@@ -43,7 +43,7 @@ returns-in_err-told-clause-kept c =
     let log = c.args.log.now in
     let w = kept_whole log self v c.requires.kept c.in-Some-Permitted.is-0 c.in-Some-Permitted.is-1 c.requires.whole in
     let next = subst (λ (b : Bool). IsNext (meaning_of v) v.machines log c.args.event.now c.advance.new.self b) c.if-branch.false (c.in_ok-advance.ensures.ok log w.0) in
-    on_err _ _ (kept_again log self _ v c.requires.kept c.requires.whole c.in-Some-Permitted.is-0 c.in-Some-Permitted.is-1 refl refl refl next.1)
+    on_err _ _ (kept_again log self _ v c.requires.kept c.requires.whole c.in-Some-Permitted.is-0 c.in-Some-Permitted.is-1 refl refl refl refl next.1)
 
 pub returns-clause-ok : goal.returns-clause-ok
 returns-clause-ok c =
@@ -52,4 +52,4 @@ returns-clause-ok c =
     let log = c.args.log.now in
     let w = kept_whole log self v c.requires.kept c.in-Some-Permitted.is-0 c.in-Some-Permitted.is-1 c.requires.whole in
     let next = subst (λ (b : Bool). IsNext (meaning_of v) v.machines log c.args.event.now c.advance.new.self b) c.if-branch.false (c.in_ok-advance.ensures.ok log w.0) in
-    judged_on log c.args.event.now self _ _ v refl c.in-Some-Permitted.is-0 refl (c.in_ok-verdict-2.ensures log next.1 w.1 refl next.0 _) (ap Judged c.in_ok-told.ensures)
+    judged_on log c.args.event.now self _ _ v refl c.in-Some-Permitted.is-0 refl refl (c.in_ok-verdict-2.ensures log next.1 w.1 refl next.0 _) (ap Judged c.in_ok-told.ensures)

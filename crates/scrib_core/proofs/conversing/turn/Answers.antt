@@ -1,0 +1,16 @@
+use Rattle.std.proofs.Common.{◌≡◌, Some, sym, ap, refl, ◌∙◌}
+use Rattle.std.specs.Prelude.{IsSome}
+use Rattle.std.specs.Option.{option_copied_mut}
+use Rattle.scrib_core.specs.Held.{record_at}
+use Rattle.scrib_core.proofs.Kept.{kept, some_there}
+use Rattle.scrib_core.proofs.conversing.turn.Goals as goal
+
+pub returns-in_default-copy : goal.returns-in_default-copy
+returns-in_default-copy c =
+    let there : record_at c.args.records.now.entries c.args.id ≡ Some c.in-Some.record.now = sym c.get_mut.ensures.value ∙ ap option_copied_mut c.in-Some.is in
+    (some_there c.args.records.now.entries c.args.id c.in-Some.record.now there, kept c.args.records.now.entries _ c.args.id c.in-Some.record.now c.in-Some.record.now there (c.get_mut.follows.holds c.in-Some.record.now).0 refl)
+
+pub returns-in-Err : goal.returns-in-Err
+returns-in-Err c =
+    let there : record_at c.args.records.now.entries c.args.id ≡ Some c.in-Some.record.now = sym c.get_mut.ensures.value ∙ ap option_copied_mut c.in-Some.is in
+    (some_there c.args.records.now.entries c.args.id c.in-Some.record.now there, kept c.args.records.now.entries _ c.args.id c.in-Some.record.now c.turn.new.self there (c.get_mut.follows.holds c.turn.new.self).0 c.in-Err.ensures.err)

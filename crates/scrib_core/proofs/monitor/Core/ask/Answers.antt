@@ -1,0 +1,13 @@
+use Rattle.std.proofs.Common.{sym}
+use Rattle.scrib_core.proofs.Conversed.{ask_answered}
+use Rattle.scrib_core.proofs.monitor.Core.ask.Goals as goal
+
+pub returns-clause-answered : goal.returns-clause-answered
+returns-clause-answered c =
+    let made = ask_answered c.self.inside.library c.self.inside.records.entries c.are_numbered.ensures.numbers c.are_numbered.ensures.once c.self.invariant c.args.id c.ask.result c.ask.ensures in
+    rw (sym c.self.view_is) made.answered
+
+pub returns-clause-memory : goal.returns-clause-memory
+returns-clause-memory c =
+    let made = ask_answered c.self.inside.library c.self.inside.records.entries c.are_numbered.ensures.numbers c.are_numbered.ensures.once c.self.invariant c.args.id c.ask.result c.ask.ensures in
+    rw (sym c.self.view_is) made.due

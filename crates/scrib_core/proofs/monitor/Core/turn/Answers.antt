@@ -1,0 +1,16 @@
+use Rattle.std.proofs.Common.{sym}
+use Rattle.scrib_core.proofs.Conversed.{turn_answered}
+use Rattle.scrib_core.proofs.monitor.Core.turn.Goals as goal
+
+pub invariant_of-self : goal.invariant_of-self
+invariant_of-self c = (turn_answered c.self.inside.library c.self.inside.records.entries c.are_numbered.ensures.numbers c.are_numbered.ensures.once c.self.invariant c.args.id c.turn.new.records.entries c.turn.result c.turn.ensures).known
+
+pub returns-clause-answered : goal.returns-clause-answered
+returns-clause-answered c =
+    let made = turn_answered c.self.inside.library c.self.inside.records.entries c.are_numbered.ensures.numbers c.are_numbered.ensures.once c.self.invariant c.args.id c.turn.new.records.entries c.turn.result c.turn.ensures in
+    rw (sym c.self.view_is) made.answered
+
+pub returns-clause-memory : goal.returns-clause-memory
+returns-clause-memory c =
+    let made = turn_answered c.self.inside.library c.self.inside.records.entries c.are_numbered.ensures.numbers c.are_numbered.ensures.once c.self.invariant c.args.id c.turn.new.records.entries c.turn.result c.turn.ensures in
+    rw (sym c.self.view_is) made.due

@@ -1,0 +1,132 @@
+-- What opening, noting, turning and asking do to the records beside a library, each to the one of its id alone (this
+-- project's own).
+use Rattle.std.specs.Prelude.{◌≡◌, ℕ, ◌<◌, ◌≤◌, List, [], ◌∷◌, ◌++◌, length, Option, Some, None, nat_eq, IsSome}
+use Rattle.std.specs.Map.{set_value}
+use Rattle.std.specs.Option.{option_map}
+use Rattle.scrib_types.specs.declared.event.Event.{Event}
+use Rattle.scrib_types.specs.declared.event.Told.{Told}
+use Rattle.scrib_types.specs.declared.event.Verdict.TheVariants.{Permitted}
+use Rattle.scrib_types.specs.Agreement.{Agreement}
+use Rattle.scrib_record.specs.declared.version.Version.{Version}
+use Rattle.scrib_record.specs.Stale.{Recorded, IsLawful}
+use Rattle.scrib_record.specs.Told.{IsNoted, IsTurned, IsTold}
+use Rattle.scrib_record.specs.Versions.{meaning_of, number_of}
+use Rattle.scrib_library.specs.Holdings.{Holdings, IsNumber}
+use Rattle.scrib_library.specs.Modules.{Means, IsMeaning}
+use Rattle.scrib_core.specs.declared.reply.Refusal.{Refusal}
+use Rattle.scrib_core.specs.declared.reply.Refusal.TheVariants.{AlreadyOpen, UnknownProtocol, TooManyConversations, NoConversation, Edit, LogFull, OutOfMemory}
+use Rattle.scrib_core.specs.declared.reply.Reply.{Reply}
+use Rattle.scrib_core.specs.declared.reply.Reply.TheVariants as reply
+use Rattle.scrib_core.specs.Held.{Records, record_at}
+
+-- the version that the library has by the name, or none
+pub record IsPresent (h : Holdings) (name : List (List ℕ)) (present : Option Version) : Type 0 where
+  pub meaning : IsMeaning h.modules name (option_map meaning_of present)
+  pub number : IsNumber h name (option_map number_of present)
+
+-- the record of an empty log under the version
+abbrev pub begun : List (List ℕ) → Version → Recorded
+begun name v = record { name = name; log = []; held = Some v; judged = 0; verdict = Permitted }
+
+-- the library has the protocol, no conversation of the id is open, and fewer than `most` are: one is added
+pub record IsOpened (most : ℕ) (h : Holdings) (old : Records) (id : ℕ) (name : List (List ℕ)) (new : Records) : Type 0 where
+  pub absent : record_at old id ≡ None
+  pub version : Version
+  pub present : IsPresent h name (Some version)
+  pub room : length old < most
+  pub added : new ≡ old ++ (id, begun name version) ∷ []
+
+-- why none is opened, and for nothing that comes before it in this list
+abbrev pub OpenFails : (most : ℕ) → Holdings → Records → ℕ → List (List ℕ) → Refusal → Type 0
+OpenFails most h old id name AlreadyOpen = IsSome (record_at old id)
+OpenFails most h old id name UnknownProtocol = (record_at old id ≡ None) × ((a : Agreement) → Means h.modules name a → ⊥)
+OpenFails most h old id name TooManyConversations = (record_at old id ≡ None) × ((a : Agreement) × Means h.modules name a) × (most ≤ length old)
+OpenFails most h old id name NoConversation = ⊥
+OpenFails most h old id name (Edit f) = ⊥
+OpenFails most h old id name LogFull = ⊥
+OpenFails most h old id name OutOfMemory = (record_at old id ≡ None) × ((a : Agreement) × Means h.modules name a) × (length old < most)
+
+-- the record of the id took a note of the event
+pub record IsNotedAt (h : Holdings) (old : Records) (id : ℕ) (e : Event) (place : ℕ) (answer : Told) (new : Records) : Type 0 where
+  pub before : Recorded
+  pub there : record_at old id ≡ Some before
+  pub room : length before.log < 65536
+  pub present : Option Version
+  pub is_present : IsPresent h before.name present
+  pub after : Recorded
+  pub noted : IsNoted present before e after answer
+  pub lawful : IsLawful after
+  pub put : new ≡ set_value (nat_eq id) old after
+  pub place_is : place ≡ length after.log
+
+abbrev pub NoteFails : Records → ℕ → Refusal → Type 0
+NoteFails old id AlreadyOpen = ⊥
+NoteFails old id UnknownProtocol = ⊥
+NoteFails old id TooManyConversations = ⊥
+NoteFails old id NoConversation = record_at old id ≡ None
+NoteFails old id (Edit f) = ⊥
+NoteFails old id LogFull = (r : Recorded) × (record_at old id ≡ Some r) × (65536 ≤ length r.log)
+NoteFails old id OutOfMemory = (r : Recorded) × (record_at old id ≡ Some r) × (length r.log < 65536)
+
+-- the record of the id took a turn
+pub record IsTurnedAt (h : Holdings) (old : Records) (id : ℕ) (name : List (List ℕ)) (events : ℕ) (answer : Told) (new : Records) : Type 0 where
+  pub before : Recorded
+  pub there : record_at old id ≡ Some before
+  pub present : Option Version
+  pub is_present : IsPresent h before.name present
+  pub after : Recorded
+  pub turned : IsTurned present before after answer
+  pub lawful : IsLawful after
+  pub put : new ≡ set_value (nat_eq id) old after
+  pub name_is : name ≡ after.name
+  pub events_are : events ≡ length after.log
+
+-- this is told of the record of the id
+pub record IsAskedAt (h : Holdings) (rs : Records) (id : ℕ) (name : List (List ℕ)) (events : ℕ) (answer : Told) : Type 0 where
+  pub of : Recorded
+  pub there : record_at rs id ≡ Some of
+  pub present : Option Version
+  pub is_present : IsPresent h of.name present
+  pub told : IsTold present of answer
+  pub lawful : IsLawful of
+  pub name_is : name ≡ of.name
+  pub events_are : events ≡ length of.log
+
+-- why nothing is told: no record is there, or memory was refused
+abbrev pub TellFails : Records → ℕ → Refusal → Type 0
+TellFails rs id AlreadyOpen = ⊥
+TellFails rs id UnknownProtocol = ⊥
+TellFails rs id TooManyConversations = ⊥
+TellFails rs id NoConversation = record_at rs id ≡ None
+TellFails rs id (Edit f) = ⊥
+TellFails rs id LogFull = ⊥
+TellFails rs id OutOfMemory = IsSome (record_at rs id)
+
+-- the answers, by their replies; a refusal leaves the records
+abbrev pub AnswersOpen : (most : ℕ) → Holdings → Records → ℕ → List (List ℕ) → Reply → Records → Type 0
+AnswersOpen most h old id name (reply.Opened i n) new = (i ≡ id) × (n ≡ name) × IsOpened most h old id name new
+AnswersOpen most h old id name (reply.Refused f) new = OpenFails most h old id name f × (new ≡ old)
+AnswersOpen most h old id name (reply.Edited e changes) new = ⊥
+AnswersOpen most h old id name (reply.Noted i place told) new = ⊥
+AnswersOpen most h old id name (reply.Judged i n events told) new = ⊥
+
+abbrev pub AnswersNote : Holdings → Records → ℕ → Event → Reply → Records → Type 0
+AnswersNote h old id e (reply.Noted i place told) new = (i ≡ id) × IsNotedAt h old id e place told new
+AnswersNote h old id e (reply.Refused f) new = NoteFails old id f × (new ≡ old)
+AnswersNote h old id e (reply.Edited x changes) new = ⊥
+AnswersNote h old id e (reply.Opened i n) new = ⊥
+AnswersNote h old id e (reply.Judged i n events told) new = ⊥
+
+abbrev pub AnswersTurn : Holdings → Records → ℕ → Reply → Records → Type 0
+AnswersTurn h old id (reply.Judged i name events told) new = (i ≡ id) × IsTurnedAt h old id name events told new
+AnswersTurn h old id (reply.Refused f) new = TellFails old id f × (new ≡ old)
+AnswersTurn h old id (reply.Edited e changes) new = ⊥
+AnswersTurn h old id (reply.Opened i n) new = ⊥
+AnswersTurn h old id (reply.Noted i place told) new = ⊥
+
+abbrev pub AnswersAsk : Holdings → Records → ℕ → Reply → Type 0
+AnswersAsk h rs id (reply.Judged i name events told) = (i ≡ id) × IsAskedAt h rs id name events told
+AnswersAsk h rs id (reply.Refused f) = TellFails rs id f
+AnswersAsk h rs id (reply.Edited e changes) = ⊥
+AnswersAsk h rs id (reply.Opened i n) = ⊥
+AnswersAsk h rs id (reply.Noted i place told) = ⊥

@@ -1,0 +1,119 @@
+//! What is done to one conversation, beside a library: opening, noting, turning and asking.
+
+ghost use Rattle.std.specs.Prelude.{◌≡◌, IfOk};
+ghost use Rattle.scrib_core.specs.Conversing.{AnswersOpen, AnswersNote, AnswersTurn, AnswersAsk, begun};
+
+use crate::reply::{Refusal, Reply};
+use crate::telling::told_of;
+use indexmap::IndexMap;
+use scrib_library::library::Library;
+use scrib_record::fault::NoteFault;
+use scrib_record::record::Record;
+use scrib_record::version::Version;
+use scrib_types::event::Event;
+use scrib_types::name::Dotted;
+use std::alloc::{AllocError, Global};
+
+/// Opens a conversation of the protocol, where fewer than `most` are open. Answers `Opened`, or refuses with
+/// `AlreadyOpen`, `UnknownProtocol`, `TooManyConversations` or `OutOfMemory`, the first that is due, and changes nothing.
+pub fn open(
+    alloc: Global,
+    library: &Library,
+    records: &mut IndexMap<u32, Record>,
+    most: usize,
+    id: u32,
+    name: &Dotted,
+) -> Reply
+    ensures { AnswersOpen most library.now records.old.entries id name.now result records.new.entries }
+{
+    if records.contains_key(&id) {
+        return Reply::Refused(Refusal::AlreadyOpen);
+    }
+    let Some(version) = library.present(name) else {
+        return Reply::Refused(Refusal::UnknownProtocol);
+    };
+    if records.len() >= most {
+        return Reply::Refused(Refusal::TooManyConversations);
+    }
+    let (Ok(record), Ok(told)) = (begin(alloc, name, version), name.copy()) else {
+        return Reply::Refused(Refusal::OutOfMemory);
+    };
+    match records.insert(id, record) {
+        Ok(_) => Reply::Opened { id, name: told },
+        Err(_) => Reply::Refused(Refusal::OutOfMemory),
+    }
+}
+
+/// Notes the event. Answers `Noted`, or refuses with `NoConversation`, `LogFull` or `OutOfMemory`, the first that is
+/// due, and changes nothing.
+pub fn note(library: &Library, records: &mut IndexMap<u32, Record>, id: u32, event: Event) -> Reply
+    ensures { AnswersNote library.now records.old.entries id event result records.new.entries }
+{
+    let Some(record) = records.get_mut(&id) else {
+        return Reply::Refused(Refusal::NoConversation);
+    };
+    let present = library.present(record.name());
+    match record.note(present, event) {
+        Ok(told) => Reply::Noted {
+            id,
+            place: record.log().len(),
+            told,
+        },
+        Err(NoteFault::LogFull) => Reply::Refused(Refusal::LogFull),
+        Err(NoteFault::OutOfMemory) => Reply::Refused(Refusal::OutOfMemory),
+    }
+}
+
+/// Judges up to 256 further events of a conversation whose verdict is out of date. Answers `Judged`, or refuses with
+/// `NoConversation` or `OutOfMemory`, and changes nothing.
+pub fn turn(library: &Library, records: &mut IndexMap<u32, Record>, id: u32) -> Reply
+    ensures { AnswersTurn library.now records.old.entries id result records.new.entries }
+{
+    let Some(record) = records.get_mut(&id) else {
+        return Reply::Refused(Refusal::NoConversation);
+    };
+    let Ok(name) = record.name().copy() else {
+        return Reply::Refused(Refusal::OutOfMemory);
+    };
+    let present = library.present(&name);
+    match record.turn(present) {
+        Ok(told) => Reply::Judged {
+            id,
+            name,
+            events: record.log().len(),
+            told,
+        },
+        Err(_) => Reply::Refused(Refusal::OutOfMemory),
+    }
+}
+
+/// Tells what the verdict on a conversation is, or that it is out of date. Answers `Judged`, or refuses with
+/// `NoConversation` or `OutOfMemory`.
+pub fn ask(alloc: Global, library: &Library, records: &IndexMap<u32, Record>, id: u32) -> Reply
+    ensures { AnswersAsk library.now records.now.entries id result }
+{
+    let Some(record) = records.get(&id) else {
+        return Reply::Refused(Refusal::NoConversation);
+    };
+    let Ok(name) = record.name().copy() else {
+        return Reply::Refused(Refusal::OutOfMemory);
+    };
+    let answer = record.ask(library.present(&name));
+    match told_of(alloc, answer) {
+        Ok(told) => Reply::Judged {
+            id,
+            name,
+            events: record.log().len(),
+            told,
+        },
+        Err(_) => Reply::Refused(Refusal::OutOfMemory),
+    }
+}
+
+// The record of an empty log.
+fn begin(alloc: Global, name: &Dotted, version: &Version) -> Result<Record, AllocError>
+    ensures { IfOk result (λ new. new ≡ begun name.now version.now) }
+{
+    let name = name.copy()?;
+    Record::new(alloc, name, version)
+}

@@ -1,6 +1,0 @@
-pub mod Branches
-pub mod Does
-pub mod Forms
-pub mod Offered
-pub mod Offers
-pub mod Puts
