@@ -4,15 +4,13 @@ use Rattle.std.specs.Prelude.{IfSome, IfOk}
 use Rattle.std.specs.Io.KnownBytes.{Appends}
 use Rattle.scrib_core.specs.declared.step.Step.TheVariants.{Put}
 use Rattle.scrib_core.specs.declared.reply.Reply.{Reply}
-use Rattle.scrib_core.specs.World.{World}
-use Rattle.scrib_core.specs.Marks.{unmarked}
-use Rattle.scrib_core.specs.Answers.{IsAnswered}
+use Rattle.scrib_core.specs.Answers.{State, IsAnswered}
 use Rattle.scrib_cli.specs.Scripts.{AppendsPart, reply_line}
 use Rattle.scrib_cli.specs.Checks.{is_accepted, IsPutAnswered, IsChecked, IsPartChecked}
 
-module _ (text : List ℕ) (w v : World) (reply : Reply) (was now : Option (List ℕ)) (answered : IsAnswered w unmarked (Put text) reply v unmarked) where
+module _ (text : List ℕ) (w v : State) (reply : Reply) (was now : Option (List ℕ)) (answered : IsAnswered w (Put text) reply v) where
   put_answered : (input : List ℕ) → text ≡ take 1048577 input → IsPutAnswered input w reply v
-  put_answered input e = subst (λ (t : List ℕ). IsAnswered w unmarked (Put t) reply v unmarked) e answered
+  put_answered input e = subst (λ (t : List ℕ). IsAnswered w (Put t) reply v) e answered
 
   checked_so : (r : Option (List ℕ)) → IfSome r (λ input. text ≡ take 1048577 input) → (accepted : Bool) → (accepted ≡ is_accepted reply) × Appends was now (reply_line reply)
       → IfSome r (λ input. IsChecked input w accepted v was now)

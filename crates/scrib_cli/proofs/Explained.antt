@@ -10,6 +10,7 @@ use Rattle.scrib_types.specs.declared.protocol.Protocol.{Protocol}
 use Rattle.scrib_types.specs.Meaning.{agreement_of}
 use Rattle.scrib_library.specs.Modules.{IsMeaning}
 use Rattle.scrib_core.specs.World.{World}
+use Rattle.scrib_core.specs.Answers.{State}
 use Rattle.scrib_core.specs.Held.{IsViewed}
 use Rattle.scrib_global.specs.declared.explain.Flight.{Flight}
 use Rattle.scrib_global.specs.Offences.{Offends}
@@ -59,30 +60,30 @@ run_stopped None id was now h = search rules
 run_stopped (Some input) id was now h = inl (silent_appends was now h.0 h.1 h.2)
 
 -- no text was made
-pub untold : (r : Option (List ℕ)) (id : ℕ) (w : World) (was now : Option (List ℕ)) → Ran Silent r w was now → ExplainsPart r id was now
+pub untold : (r : Option (List ℕ)) (id : ℕ) (w : State) (was now : Option (List ℕ)) → Ran Silent r w was now → ExplainsPart r id was now
 untold None id w was now h = search rules
 untold (Some input) id w was now h = let whole = h.1 in inl (silent_appends was now h.0 whole.is h.2)
 
 -- the text was written in part
-pub told_part : (r : Option (List ℕ)) (id : ℕ) (w : World) (e : Explained) (text : List ℕ) (was mid now : Option (List ℕ)) → Ran Silent r w was mid
-    → Explanation w id e text → AppendsPart mid now text → ExplainsPart r id was now
+pub told_part : (r : Option (List ℕ)) (id : ℕ) (w : State) (e : Explained) (text : List ℕ) (was mid now : Option (List ℕ)) → Ran Silent r w was mid
+    → Explanation w.world id e text → AppendsPart mid now text → ExplainsPart r id was now
 told_part None id w e text was mid now h x part = search rules
 told_part (Some input) id w e text was mid now h x part =
     let whole = h.1 in
     let all : Appends was now ([] ++ part.0) = appends_more was mid now [] part.0 (silent_appends was mid h.0 whole.is h.2) part.3 in
-    inr (e, text, (whole.items, whole.replies, w, whole.marks, whole.spelled, whole.answered, whole.goes_on, x), (part.0, part.1, part.2, all))
+    inr (e, text, (whole.items, whole.replies, w, whole.spelled, whole.answered, whole.goes_on, x), (part.0, part.1, part.2, all))
 
 -- the text was written
-pub told_all : (r : Option (List ℕ)) (id : ℕ) (w : World) (e : Explained) (text : List ℕ) (was mid now end : Option (List ℕ)) → Ran Silent r w was mid
-    → Explanation w id e text → Appends mid now text → Keeps now end → ExplainsAll r id e was end
+pub told_all : (r : Option (List ℕ)) (id : ℕ) (w : State) (e : Explained) (text : List ℕ) (was mid now end : Option (List ℕ)) → Ran Silent r w was mid
+    → Explanation w.world id e text → Appends mid now text → Keeps now end → ExplainsAll r id e was end
 told_all None id w e text was mid now end h x all keeps = search rules
 told_all (Some input) id w e text was mid now end h x all keeps =
     let whole = h.1 in
     let told : Appends was now ([] ++ text) = appends_more was mid now [] text (silent_appends was mid h.0 whole.is h.2) all in
-    (text, (whole.items, whole.replies, w, whole.marks, whole.spelled, whole.answered, whole.goes_on, x), appends_kept was now end text told keeps)
+    (text, (whole.items, whole.replies, w, whole.spelled, whole.answered, whole.goes_on, x), appends_kept was now end text told keeps)
 
 -- the text was written, and then the flush failed
-pub told_unflushed : (r : Option (List ℕ)) (id : ℕ) (w : World) (e : Explained) (text : List ℕ) (was mid now end : Option (List ℕ)) → Ran Silent r w was mid
-    → Explanation w id e text → Appends mid now text → Keeps now end → ExplainsPart r id was end
+pub told_unflushed : (r : Option (List ℕ)) (id : ℕ) (w : State) (e : Explained) (text : List ℕ) (was mid now end : Option (List ℕ)) → Ran Silent r w was mid
+    → Explanation w.world id e text → Appends mid now text → Keeps now end → ExplainsPart r id was end
 told_unflushed r id w e text was mid now end h x all keeps =
     told_part r id w e text was mid end h x (text, [], sym (append-nil text), appends_kept mid now end text all keeps)

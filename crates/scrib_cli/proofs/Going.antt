@@ -1,5 +1,5 @@
 -- What a run keeps while it goes from one place of its script to another.
-use Rattle.std.proofs.Common.{◌≡◌, ◌≢◌, ◌<◌, ◌≤◌, ◌+◌, ◌-◌, inl, inr, ℕ, zero, suc, Bool, true, false, List, [], ◌∷◌, ◌++◌, ◌∙◌, Option, Some, None, take, drop, get_or, length, refl, sym, ap, subst, arith, add-one, lit≤, Vec, Global, Result, Ok, Err, eqb}
+use Rattle.std.proofs.Common.{◌≡◌, ◌≢◌, ◌<◌, ◌≤◌, ◌+◌, ◌-◌, inl, inr, ℕ, zero, suc, true, false, List, [], ◌∷◌, ◌++◌, ◌∙◌, Option, Some, None, take, drop, get_or, length, refl, sym, ap, subst, arith, add-one, lit≤, Result, Ok, Err, eqb}
 use Rattle.std.specs.Prelude.{option_map, IfOk, OnOk, OnErr}
 use Rattle.std.specs.Option.{is_some}
 use Rattle.std.specs.Io.KnownBytes.{Appends}
@@ -7,17 +7,17 @@ use Rattle.std.proofs.lemmas.Bool.{eqb-true}
 use Rattle.std.proofs.lemmas.List.{append_assoc, append-nil, take_all, length-take, length-drop}
 use Rattle.std.proofs.lemmas.List.Elements.{All-nil, All-append}
 use Rattle.scrib_core.specs.declared.step.Step.TheVariants.{Put}
-use Rattle.scrib_core.specs.World.{World}
-use Rattle.scrib_core.specs.Marks.{unmarked}
-use Rattle.scrib_core.specs.Answers.{IsAnswered}
-use Rattle.scrib_core.specs.Held.{world_of}
+use Rattle.scrib_core.specs.Answers.{State, IsAnswered}
+use Rattle.scrib_core.specs.Held.{state_of}
 use Rattle.scrib_script.specs.Says.{Says}
+use Rattle.scrib_script.specs.declared.format.Format.{Format}
 use Rattle.scrib_script.specs.declared.line.Line.{Line}
 use Rattle.scrib_script.specs.declared.line.Line.TheVariants as line
+use Rattle.scrib_cli.specs.declared.keeping.KeptText.{KeptText}
 use Rattle.scrib_cli.specs.declared.run.Run.{Run}
 use Rattle.scrib_cli.specs.declared.telling.Telling.{Telling}
-use Rattle.scrib_cli.specs.Scripts.{bare, text_end, reply_line}
-use Rattle.scrib_cli.specs.Progress.{NoLf, Whole, Leads, Short, most, text_of, Holds, place, Went, Stopped, LineEnded, said, CarriedOut, PartCarriedOut, unread, halfway, CarriedText, PartPut}
+use Rattle.scrib_cli.specs.Scripts.{Text, with_line, bare, text_end, reply_text, AppendsPart}
+use Rattle.scrib_cli.specs.Progress.{NoLf, Whole, Leads, Short, most, cut, as_text, text_of, Holds, place, Went, Stopped, LineEnded, said, CarriedOut, PartCarriedOut, unread, halfway, CarriedText, PartPut}
 use Rattle.scrib_cli.proofs.Bytes.{bare_last, length-bare, all_or_most, take_kept, take_kept_line, take_of_none, end_of_kept, end_is_kept}
 use Rattle.scrib_cli.proofs.Writes.{appends_none, appends_more}
 use Rattle.scrib_cli.proofs.Outputs.{begun, at, said_none, said_said, does_said, whole_does, whole_puts, whole_goes_on, leads_then, leads_part, leads_line, short_any, short_then, short_led}
@@ -33,8 +33,8 @@ few = lit≤ tt
 
 says_long : (a b : List ℕ) (said : Line) → 131072 < length a → 131072 < length b → Says a said → Says b said
 says_long a b line.Skipped la lb s = absurd (omega (arith, s.0))
-says_long a b line.Put la lb s = absurd (omega (arith, s.0))
-says_long a b (line.Step t) la lb s = absurd (omega (arith, s.0))
+says_long a b (line.Put f) la lb s = absurd (omega (arith, s.0))
+says_long a b (line.Step f t) la lb s = absurd (omega (arith, s.0))
 says_long a b line.Bad la lb s = inl lb
 
 -- what is kept of a line says what the line says
@@ -57,27 +57,27 @@ none_kept zero k h e = absurd (omega arith)
 none_kept (suc m) [] h e = refl
 none_kept (suc m) (x ∷ k) h e = cc
 
-most_map : (text : Option (List ℕ)) → most (option_map (take 1048577) text) ≡ most text
+most_map : (text : Option Text) → most (option_map cut text) ≡ most text
 most_map None = refl
 most_map (Some t) = refl
 
-pub most_some : {A : Type 0} (f : A → List ℕ) (o : Option A) → true ≡ is_some o → most (option_map f o) ≡ 1048577
+pub most_some : {A : Type 0} (f : A → Text) (o : Option A) → true ≡ is_some o → most (option_map f o) ≡ 1048577
 most_some f None e = cc
 most_some f (Some x) e = refl
 
-pub most_none : {A : Type 0} (f : A → List ℕ) (o : Option A) → false ≡ is_some o → most (option_map f o) ≡ 131074
+pub most_none : {A : Type 0} (f : A → Text) (o : Option A) → false ≡ is_some o → most (option_map f o) ≡ 131074
 most_none f None e = refl
 most_none f (Some x) e = cc
 
-pub text_inside : (r : Run) (v : Vec ℕ Global) → r.text ≡ Some v → text_of r ≡ Some v.items
-text_inside r v e = ap (option_map (λ (x : Vec ℕ Global). x.items)) e
+pub text_inside : (r : Run) (kept : KeptText) → r.text ≡ Some kept → text_of r ≡ Some (as_text kept)
+text_inside r kept e = ap (option_map as_text) e
 
 pub text_outside : (r : Run) → r.text ≡ None → text_of r ≡ None
-text_outside r e = ap (option_map (λ (x : Vec ℕ Global). x.items)) e
+text_outside r e = ap (option_map as_text) e
 
-begun_kept : (b : Bool) → begun b ≡ option_map (take 1048577) (begun b)
-begun_kept true = ap Some (sym (take_of_none 1048577))
-begun_kept false = refl
+begun_kept : (b : Option Format) → begun b ≡ option_map cut (begun b)
+begun_kept (Some f) = ap (λ (bytes : List ℕ). Some (record { bytes = bytes; format = f })) (sym (take_of_none 1048577))
+begun_kept None = refl
 
 -- one run and another
 pub went_then : (a b c : Run) (x y : List ℕ) (w0 w1 w2 : Option (List ℕ)) → Went a b x w0 w1 → Went b c y w1 w2 → Went a c (x ++ y) w0 w2
@@ -114,24 +114,24 @@ stopped_any a x w = record { so = λ text line h. ([], λ more. short_any a.tell
 
 -- a run with other counts only
 pub stopped_as : (a b : Run) (x : List ℕ) (was now : Option (List ℕ)) → Stopped a x was now
-    → text_of a ≡ text_of b → a.line.items ≡ b.line.items → a.lines ≡ b.lines → world_of a.core ≡ world_of b.core → a.telling ≡ b.telling → Stopped b x was now
-stopped_as a b x was now s text_is line_is lines_is world_is telling_is = record {
+    → text_of a ≡ text_of b → a.line.items ≡ b.line.items → a.lines ≡ b.lines → state_of a.core ≡ state_of b.core → a.telling ≡ b.telling → Stopped b x was now
+stopped_as a b x was now s text_is line_is lines_is state_is telling_is = record {
   so = λ text line h.
       let q = s.so text line (record { kept_text = text_is ∙ h.kept_text; kept_line = line_is ∙ h.kept_line; no_lf = h.no_lf }) in
       let short = q.1 in (
         q.0,
         λ more.
-            subst (λ (t : Telling). Short t (at (b.lines + 1) text line (world_of b.core)) (x ++ more) q.0) telling_is
-            (subst (λ (v : World). Short a.telling (at (b.lines + 1) text line v) (x ++ more) q.0) world_is
-            (subst (λ (i : ℕ). Short a.telling (at (i + 1) text line (world_of a.core)) (x ++ more) q.0) lines_is (short more))),
+            subst (λ (t : Telling). Short t (at (b.lines + 1) text line (state_of b.core)) (x ++ more) q.0) telling_is
+            (subst (λ (v : State). Short a.telling (at (b.lines + 1) text line v) (x ++ more) q.0) state_is
+            (subst (λ (i : ℕ). Short a.telling (at (i + 1) text line (state_of a.core)) (x ++ more) q.0) lines_is (short more))),
         q.2,
       );
 }
 
 -- bytes of a line came
-pub went_part : (old new : Run) (part : List ℕ) (w : Option (List ℕ)) → text_of new ≡ text_of old → world_of new.core ≡ world_of old.core → new.lines ≡ old.lines → new.telling ≡ old.telling
+pub went_part : (old new : Run) (part : List ℕ) (w : Option (List ℕ)) → text_of new ≡ text_of old → state_of new.core ≡ state_of old.core → new.lines ≡ old.lines → new.telling ≡ old.telling
     → (length old.line.items ≤ most (text_of old) → new.line.items ≡ take (most (text_of old)) (old.line.items ++ part)) → NoLf part → Went old new part w w
-went_part old new part w text_is world_is lines_is telling_is line_is no_lf = record {
+went_part old new part w text_is state_is lines_is telling_is line_is no_lf = record {
   telling = telling_is;
   goes = λ text line h.
       let m : most (text_of old) ≡ most text = ap most h.kept_text ∙ most_map text in
@@ -144,11 +144,11 @@ went_part old new part w text_is world_is lines_is telling_is line_is no_lf = re
         no_lf = All-append (λ b. b ≢ 10) line part h.no_lf no_lf;
       } in
       let n = old.lines + 1 in
-      let leads : Leads old.telling (place old text line) part [] (at n text (line ++ part) (world_of old.core)) = leads_part old.telling n text line part (world_of old.core) in
-      let at_world : Leads old.telling (place old text line) part [] (at n text (line ++ part) (world_of new.core)) =
-      subst (λ (v : World). Leads old.telling (place old text line) part [] (at n text (line ++ part) v)) (sym world_is) leads in
+      let leads : Leads old.telling (place old text line) part [] (at n text (line ++ part) (state_of old.core)) = leads_part old.telling n text line part (state_of old.core) in
+      let at_state : Leads old.telling (place old text line) part [] (at n text (line ++ part) (state_of new.core)) =
+      subst (λ (v : State). Leads old.telling (place old text line) part [] (at n text (line ++ part) v)) (sym state_is) leads in
       let at_number : Leads old.telling (place old text line) part [] (place new text (line ++ part)) =
-      subst (λ (i : ℕ). Leads old.telling (place old text line) part [] (at (i + 1) text (line ++ part) (world_of new.core))) (sym lines_is) at_world in
+      subst (λ (i : ℕ). Leads old.telling (place old text line) part [] (at (i + 1) text (line ++ part) (state_of new.core))) (sym lines_is) at_state in
       (text, line ++ part, [], holds, at_number, appends_none w);
 }
 
@@ -165,92 +165,95 @@ went_none a part e no_lf w = went_same a part w (no_items part (eqb-true (length
 
 -- a line ended
 module _ (old : Run) (was now : Option (List ℕ)) where
-  outer_at : (b : Bool) (v : World) → text_of old ≡ None → CarriedOut old.telling (old.lines + 1) (bare (old.line.items ++ 10 ∷ [])) (world_of old.core) b v was now
-      → (text : Option (List ℕ)) (line : List ℕ) → Holds old text line
-      → (text' : Option (List ℕ)) × (out : List ℕ) × (begun b ≡ option_map (take 1048577) text')
+  outer_at : (b : Option Format) (v : State) → text_of old ≡ None → CarriedOut old.telling (old.lines + 1) (bare (old.line.items ++ 10 ∷ [])) (state_of old.core) b v was now
+      → (text : Option Text) (line : List ℕ) → Holds old text line
+      → (text' : Option Text) × (out : List ℕ) × (begun b ≡ option_map cut text')
       × Leads old.telling (place old text line) (10 ∷ []) out (at (old.lines + 1 + 1) text' [] v) × Appends was now out
   outer_at b v outside carried None line h =
       let n = old.lines + 1 in
-      let w = world_of old.core in
+      let w = state_of old.core in
       let says : Says (bare (line ++ 10 ∷ [])) carried.word = says_kept line carried.word (subst (λ (t : List ℕ). Says (bare (t ++ 10 ∷ [])) carried.word) h.kept_line carried.says) in
       let is_said = does_said old.telling n w carried.word b v carried.out carried.does in
       let leads = leads_line old.telling n None (begun b) line w v carried.out h.no_lf is_said (λ ls after output more. whole_does old.telling n (line ++ 10 ∷ []) ls w after output carried.word b v carried.out says carried.does more) in
       (begun b, carried.out, begun_kept b, leads, carried.appends)
-  outer_at b v outside carried (Some t) line h = absurd (none_some (take 1048577 t) (sym outside ∙ h.kept_text))
+  outer_at b v outside carried (Some t) line h = absurd (none_some (cut t) (sym outside ∙ h.kept_text))
 
-  pub ended_outer : (b : Bool) (v : World) → text_of old ≡ None → CarriedOut old.telling (old.lines + 1) (bare (old.line.items ++ 10 ∷ [])) (world_of old.core) b v was now → LineEnded old (begun b) v was now
+  pub ended_outer : (b : Option Format) (v : State) → text_of old ≡ None → CarriedOut old.telling (old.lines + 1) (bare (old.line.items ++ 10 ∷ [])) (state_of old.core) b v was now → LineEnded old (begun b) v was now
   ended_outer b v outside carried = record { goes = outer_at b v outside carried }
 
-  inner_at : (kept : List ℕ) (after : Option (List ℕ)) (v : World) → text_of old ≡ Some kept → CarriedText old.telling kept old.line.items (world_of old.core) after v was now
-      → (text : Option (List ℕ)) (line : List ℕ) → Holds old text line
-      → (text' : Option (List ℕ)) × (out : List ℕ) × (after ≡ option_map (take 1048577) text')
+  inner_at : (kept : Text) (after : Option Text) (v : State) → text_of old ≡ Some kept → CarriedText old.telling kept old.line.items (state_of old.core) after v was now
+      → (text : Option Text) (line : List ℕ) → Holds old text line
+      → (text' : Option Text) × (out : List ℕ) × (after ≡ option_map cut text')
       × Leads old.telling (place old text line) (10 ∷ []) out (at (old.lines + 1 + 1) text' [] v) × Appends was now out
   inner_at kept after v inside carried None line h = absurd (none_some kept (sym h.kept_text ∙ inside))
   inner_at kept None v inside carried (Some t) line h =
       let n = old.lines + 1 in
-      let w = world_of old.core in
-      let same : kept ≡ take 1048577 t = some_same kept (take 1048577 t) (sym inside ∙ h.kept_text) in
+      let w = state_of old.core in
+      let same : kept ≡ cut t = some_same kept (cut t) (sym inside ∙ h.kept_text) in
       let is_end : bare (line ++ 10 ∷ []) ≡ text_end = end_of_kept 1048577 line few (subst (λ (x : List ℕ). bare (x ++ 10 ∷ []) ≡ text_end) h.kept_line carried.0) in
       let r = carried.1.0 in
-      let answered : IsAnswered (world_of old.core) unmarked (Put (take 1048577 t)) carried.1.0 v unmarked = subst (λ (x : List ℕ). IsAnswered (world_of old.core) unmarked (Put x) carried.1.0 v unmarked) same carried.1.1 in
+      let answered : IsAnswered (state_of old.core) (Put (take 1048577 t.bytes)) carried.1.0 v = subst (λ (x : Text). IsAnswered (state_of old.core) (Put x.bytes) carried.1.0 v) same carried.1.1 in
+      let appends : Appends was now (said old.telling (reply_text t.format r)) = subst (λ (x : Text). Appends was now (said old.telling (reply_text x.format carried.1.0))) same carried.1.3 in
       let goes_on = carried.1.2 in
-      let leads = leads_line old.telling n (Some t) None line w v (said old.telling (reply_line r)) h.no_lf (said_said old.telling (reply_line r))
+      let leads = leads_line old.telling n (Some t) None line w v (said old.telling (reply_text t.format r)) h.no_lf (said_said old.telling (reply_text t.format r))
       (λ ls after output more. whole_puts old.telling n (line ++ 10 ∷ []) ls w after output t r v is_end answered goes_on more) in
-      (None, said old.telling (reply_line r), refl, leads, carried.1.3)
+      (None, said old.telling (reply_text t.format r), refl, leads, appends)
   inner_at kept (Some after) v inside carried (Some t) line h =
       let n = old.lines + 1 in
-      let w = world_of old.core in
-      let same : kept ≡ take 1048577 t = some_same kept (take 1048577 t) (sym inside ∙ h.kept_text) in
+      let w = state_of old.core in
+      let same : kept ≡ cut t = some_same kept (cut t) (sym inside ∙ h.kept_text) in
       let ne : bare (line ++ 10 ∷ []) ≢ text_end = λ e. carried.0 (subst (λ (x : List ℕ). bare (x ++ 10 ∷ []) ≡ text_end) (sym h.kept_line) (end_is_kept 1048577 line few e)) in
-      let short : length kept ≤ 1048577 = omega (arith, ap length same, length-take 1048577 t) in
-      let after_is : after ≡ take 1048577 (t ++ (line ++ 10 ∷ [])) =
-      carried.1 short ∙ ap (λ (x : List ℕ). take 1048577 (x ++ (old.line.items ++ 10 ∷ []))) same ∙ ap (λ (x : List ℕ). take 1048577 (take 1048577 t ++ (x ++ 10 ∷ []))) h.kept_line ∙ take_kept_line 1048577 t line (10 ∷ []) in
-      let leads = leads_line old.telling n (Some t) (Some (t ++ (line ++ 10 ∷ []))) line w v [] h.no_lf (said_none old.telling)
-      (λ ls end output more. whole_goes_on old.telling n (line ++ 10 ∷ []) ls w end output t ne (subst (λ (x : World). Whole old.telling (n + 1) (Some (t ++ (line ++ 10 ∷ []))) ls x end output) carried.2 more)) in
-      (Some (t ++ (line ++ 10 ∷ [])), [], ap Some after_is, leads, carried.3)
+      let short : length kept.bytes ≤ 1048577 = omega (arith, ap (λ (x : Text). length x.bytes) same, length-take 1048577 t.bytes) in
+      let after_is : after ≡ cut (with_line t (line ++ 10 ∷ [])) =
+      carried.1 short ∙ ap (λ (x : Text). cut (with_line x (old.line.items ++ 10 ∷ []))) same
+      ∙ ap (λ (x : List ℕ). cut (with_line (cut t) (x ++ 10 ∷ []))) h.kept_line
+      ∙ ap (λ (bytes : List ℕ). record { bytes = bytes; format = t.format }) (take_kept_line 1048577 t.bytes line (10 ∷ [])) in
+      let leads = leads_line old.telling n (Some t) (Some (with_line t (line ++ 10 ∷ []))) line w v [] h.no_lf (said_none old.telling)
+      (λ ls end output more. whole_goes_on old.telling n (line ++ 10 ∷ []) ls w end output t ne (subst (λ (x : State). Whole old.telling (n + 1) (Some (with_line t (line ++ 10 ∷ []))) ls x end output) carried.2 more)) in
+      (Some (with_line t (line ++ 10 ∷ [])), [], ap Some after_is, leads, carried.3)
 
-  pub ended_inner : (kept : List ℕ) (after : Option (List ℕ)) (v : World) → text_of old ≡ Some kept → CarriedText old.telling kept old.line.items (world_of old.core) after v was now → LineEnded old after v was now
+  pub ended_inner : (kept : Text) (after : Option Text) (v : State) → text_of old ≡ Some kept → CarriedText old.telling kept old.line.items (state_of old.core) after v was now → LineEnded old after v was now
   ended_inner kept after v inside carried = record { goes = inner_at kept after v inside carried }
 
-  stopped_outer_at : text_of old ≡ None → PartCarriedOut old.telling (old.lines + 1) (bare (old.line.items ++ 10 ∷ [])) (world_of old.core) was now
-      → (text : Option (List ℕ)) (line : List ℕ) → Holds old text line
+  stopped_outer_at : text_of old ≡ None → PartCarriedOut old.telling (old.lines + 1) (bare (old.line.items ++ 10 ∷ [])) (state_of old.core) was now
+      → (text : Option Text) (line : List ℕ) → Holds old text line
       → (part : List ℕ) × ((more : List ℕ) → Short old.telling (place old text line) (10 ∷ [] ++ more) part) × Appends was now part
   stopped_outer_at outside (unread none) text line h = ([], λ more. short_any old.telling (place old text line) (10 ∷ [] ++ more), none)
   stopped_outer_at outside (halfway word b v out says does part) None line h =
       let n = old.lines + 1 in
-      let w = world_of old.core in
+      let w = state_of old.core in
       let says_whole : Says (bare (line ++ 10 ∷ [])) word = says_kept line word (subst (λ (t : List ℕ). Says (bare (t ++ 10 ∷ [])) word) h.kept_line says) in
       let is_said = does_said old.telling n w word b v out does in
       let leads = leads_line old.telling n None (begun b) line w v out h.no_lf is_said (λ ls after output more. whole_does old.telling n (line ++ 10 ∷ []) ls w after output word b v out says_whole does more) in
       (part.0, λ more. short_led old.telling (place old None line) (at (n + 1) (begun b) [] v) (10 ∷ []) more out part.0 part.1 leads part.2, part.3)
-  stopped_outer_at outside (halfway word b v out says does part) (Some t) line h = absurd (none_some (take 1048577 t) (sym outside ∙ h.kept_text))
+  stopped_outer_at outside (halfway word b v out says does part) (Some t) line h = absurd (none_some (cut t) (sym outside ∙ h.kept_text))
 
-  pub stopped_outer : text_of old ≡ None → PartCarriedOut old.telling (old.lines + 1) (bare (old.line.items ++ 10 ∷ [])) (world_of old.core) was now → Stopped old (10 ∷ []) was now
+  pub stopped_outer : text_of old ≡ None → PartCarriedOut old.telling (old.lines + 1) (bare (old.line.items ++ 10 ∷ [])) (state_of old.core) was now → Stopped old (10 ∷ []) was now
   stopped_outer outside p = record { so = stopped_outer_at outside p }
 
-  stopped_inner_at : (kept : List ℕ) (v : World) → text_of old ≡ Some kept → PartPut old.telling kept old.line.items (world_of old.core) v was now
-      → (text : Option (List ℕ)) (line : List ℕ) → Holds old text line
+  stopped_inner_at : (kept : Text) (v : State) → text_of old ≡ Some kept → PartPut old.telling kept old.line.items (state_of old.core) v was now
+      → (text : Option Text) (line : List ℕ) → Holds old text line
       → (part : List ℕ) × ((more : List ℕ) → Short old.telling (place old text line) (10 ∷ [] ++ more) part) × Appends was now part
   stopped_inner_at kept v inside (inl none) text line h = ([], λ more. short_any old.telling (place old text line) (10 ∷ [] ++ more), none)
   stopped_inner_at kept v inside (inr put) None line h = absurd (none_some kept (sym h.kept_text ∙ inside))
   stopped_inner_at kept v inside (inr put) (Some t) line h =
       let n = old.lines + 1 in
-      let w = world_of old.core in
-      let same : kept ≡ take 1048577 t = some_same kept (take 1048577 t) (sym inside ∙ h.kept_text) in
+      let w = state_of old.core in
+      let same : kept ≡ cut t = some_same kept (cut t) (sym inside ∙ h.kept_text) in
       let is_end : bare (line ++ 10 ∷ []) ≡ text_end = end_of_kept 1048577 line few (subst (λ (x : List ℕ). bare (x ++ 10 ∷ []) ≡ text_end) h.kept_line put.0) in
       let r = put.1.0 in
       let goes_on = put.1.2 in
-      let part = put.1.3 in
-      let answered : IsAnswered (world_of old.core) unmarked (Put (take 1048577 t)) put.1.0 v unmarked = subst (λ (x : List ℕ). IsAnswered (world_of old.core) unmarked (Put x) put.1.0 v unmarked) same put.1.1 in
-      let leads = leads_line old.telling n (Some t) None line w v (said old.telling (reply_line r)) h.no_lf (said_said old.telling (reply_line r))
+      let part : AppendsPart was now (said old.telling (reply_text t.format r)) = subst (λ (x : Text). AppendsPart was now (said old.telling (reply_text x.format put.1.0))) same put.1.3 in
+      let answered : IsAnswered (state_of old.core) (Put (take 1048577 t.bytes)) put.1.0 v = subst (λ (x : Text). IsAnswered (state_of old.core) (Put x.bytes) put.1.0 v) same put.1.1 in
+      let leads = leads_line old.telling n (Some t) None line w v (said old.telling (reply_text t.format r)) h.no_lf (said_said old.telling (reply_text t.format r))
       (λ ls after output more. whole_puts old.telling n (line ++ 10 ∷ []) ls w after output t r v is_end answered goes_on more) in
-      (part.0, λ more. short_led old.telling (place old (Some t) line) (at (n + 1) None [] v) (10 ∷ []) more (said old.telling (reply_line r)) part.0 part.1 leads part.2, part.3)
+      (part.0, λ more. short_led old.telling (place old (Some t) line) (at (n + 1) None [] v) (10 ∷ []) more (said old.telling (reply_text t.format r)) part.0 part.1 leads part.2, part.3)
 
-  pub stopped_inner : (kept : List ℕ) (v : World) → text_of old ≡ Some kept → PartPut old.telling kept old.line.items (world_of old.core) v was now → Stopped old (10 ∷ []) was now
+  pub stopped_inner : (kept : Text) (v : State) → text_of old ≡ Some kept → PartPut old.telling kept old.line.items (state_of old.core) v was now → Stopped old (10 ∷ []) was now
   stopped_inner kept v inside p = record { so = stopped_inner_at kept v inside p }
 
 -- the next line begins
-pub went_line : (old new : Run) (after : Option (List ℕ)) (was now : Option (List ℕ)) → LineEnded old after (world_of new.core) was now
+pub went_line : (old new : Run) (after : Option Text) (was now : Option (List ℕ)) → LineEnded old after (state_of new.core) was now
     → text_of new ≡ after → new.line.items ≡ [] → new.lines ≡ old.lines + 1 → new.telling ≡ old.telling → Went old new (10 ∷ []) was now
 went_line old new after was now ended text_is line_is lines_is telling_is = record {
   telling = telling_is;
@@ -262,16 +265,16 @@ went_line old new after was now ended text_is line_is lines_is telling_is = reco
         no_lf = All-nil (λ b. b ≢ 10);
       } in
       let leads : Leads old.telling (place old text line) (10 ∷ []) p.1 (place new p.0 []) =
-      subst (λ (i : ℕ). Leads old.telling (place old text line) (10 ∷ []) p.1 (at (i + 1) p.0 [] (world_of new.core))) (sym lines_is) p.3 in
+      subst (λ (i : ℕ). Leads old.telling (place old text line) (10 ∷ []) p.1 (at (i + 1) p.0 [] (state_of new.core))) (sym lines_is) p.3 in
       (p.0, [], p.1, holds, leads, p.4);
 }
 
-pub ended_text : {E : Type 0} (r : Result (Option (Vec ℕ Global)) E) (old : Run) (was now : Option (List ℕ)) (kept l : List ℕ) (v : World) → text_of old ≡ Some kept → l ≡ old.line.items
-    → IfOk r (λ after. CarriedText old.telling kept l (world_of old.core) (option_map (λ (x : Vec ℕ Global). x.items) after) v was now)
-    → IfOk r (λ after. LineEnded old (option_map (λ (x : Vec ℕ Global). x.items) after) v was now)
+pub ended_text : {E : Type 0} (r : Result (Option KeptText) E) (old : Run) (was now : Option (List ℕ)) (kept : Text) (l : List ℕ) (v : State) → text_of old ≡ Some kept → l ≡ old.line.items
+    → IfOk r (λ after. CarriedText old.telling kept l (state_of old.core) (option_map as_text after) v was now)
+    → IfOk r (λ after. LineEnded old (option_map as_text after) v was now)
 ended_text (Ok after) old was now kept l v inside same carried =
-    let texts = option_map (λ (x : Vec ℕ Global). x.items) after in
-    ended_inner old was now kept texts v inside (subst (λ (t : List ℕ). CarriedText old.telling kept t (world_of old.core) (option_map (λ (x : Vec ℕ Global). x.items) after) v was now) same carried)
+    let texts = option_map as_text after in
+    ended_inner old was now kept texts v inside (subst (λ (t : List ℕ). CarriedText old.telling kept t (state_of old.core) (option_map as_text after) v was now) same carried)
 ended_text (Err e) old was now kept l v inside same carried = tt
 
 -- so far these bytes of a piece were taken in, and the rest is left

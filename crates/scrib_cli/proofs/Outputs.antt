@@ -1,43 +1,41 @@
 -- What is spelled and written from a place of a script on.
-use Rattle.std.proofs.Common.{◌≡◌, ◌≢◌, ◌+◌, inl, inr, ℕ, Bool, true, false, List, [], ◌∷◌, ◌++◌, ◌∙◌, Option, Some, None, take, refl, sym, ap, subst}
-use Rattle.std.proofs.lemmas.Bool.{false≢true}
+use Rattle.std.proofs.Common.{◌≡◌, ◌≢◌, ◌+◌, inl, inr, ℕ, List, [], ◌∷◌, ◌++◌, ◌∙◌, Option, Some, None, take, refl, sym, ap, subst}
 use Rattle.std.proofs.lemmas.List.{append_assoc, append-nil}
 use Rattle.std.proofs.lemmas.List.Elements.{All-nil, All-cons}
 use Rattle.scrib_core.specs.declared.step.Step.{Step}
-use Rattle.scrib_core.specs.declared.step.Step.TheVariants.{Put, Open, Note, Ask}
+use Rattle.scrib_core.specs.declared.step.Step.TheVariants.{Put, Withdraw, Open, Note, Turn, Ask}
 use Rattle.scrib_core.specs.declared.reply.Reply.{Reply}
 use Rattle.scrib_core.specs.declared.reply.Reply.TheVariants.{Refused}
 use Rattle.scrib_core.specs.declared.reply.Refusal.TheVariants.{OutOfMemory}
 use Rattle.scrib_core.specs.World.{World, Refuses}
-use Rattle.scrib_core.specs.Marks.{unmarked, Remarks}
-use Rattle.scrib_core.specs.Answers.{IsAnswered}
+use Rattle.scrib_core.specs.Answers.{State, IsAnswered}
 use Rattle.scrib_script.specs.Says.{Says}
+use Rattle.scrib_script.specs.declared.format.Format.{Format}
 use Rattle.scrib_script.specs.declared.line.Line.{Line}
 use Rattle.scrib_script.specs.declared.line.Line.TheVariants as line
 use Rattle.scrib_script.proofs.Decisions.{same_bytes, line_said}
 use Rattle.scrib_cli.specs.declared.telling.Telling.{Telling}
 use Rattle.scrib_cli.specs.declared.telling.Telling.TheVariants.{Printed, Silent}
-use Rattle.scrib_cli.specs.Scripts.{Makes, BadLine, EndOfText, ends, skips, makes, is_bad, begins, goes_on, puts, stops, lines, bare, text_end, bad_line, end_of_text, reply_line, written}
+use Rattle.scrib_cli.specs.Scripts.{Makes, BadLine, EndOfText, Text, empty_text, with_line, ends, skips, makes, is_bad, begins, goes_on, puts, stops, lines, bare, text_end, bad_line, end_of_text, reply_text, written}
 use Rattle.scrib_cli.specs.Progress.{NoLf, Place, Whole, WholeFrom, Leads, Short, Does, said, GoesOn}
 use Rattle.scrib_cli.proofs.Bytes.{lines_lf, lines_last}
 
 -- a module text that begins after a line, if one does
-abbrev pub begun : Bool → Option (List ℕ)
-begun true = Some []
-begun false = None
+abbrev pub begun : Option Format → Option Text
+begun (Some f) = Some (empty_text f)
+begun None = None
 
 -- memory may be refused at any step
 refuses_memory : (w : World) (s : Step) → Refuses w s OutOfMemory
 refuses_memory w (Put text) = tt
+refuses_memory w (Withdraw name) = tt
 refuses_memory w (Open id name) = tt
 refuses_memory w (Note id e) = tt
+refuses_memory w (Turn id) = tt
 refuses_memory w (Ask id) = tt
 
-unmarked_stays : (w : World) → Remarks w unmarked w unmarked
-unmarked_stays w = (λ id c there marked. absurd (false≢true marked), λ id. refl)
-
-pub answered_by_refusal : (w : World) (s : Step) → IsAnswered w unmarked s (Refused OutOfMemory) w unmarked
-answered_by_refusal w s = (refuses_memory w s, refl, unmarked_stays w)
+pub answered_by_refusal : (w : State) (s : Step) → IsAnswered w s (Refused OutOfMemory) w
+answered_by_refusal w s = (refuses_memory w.world s, refl)
 
 -- what is told, piece by piece
 pub said_then : (t : Telling) (a b x : List ℕ) → x ≡ said t b → said t a ++ x ≡ said t (a ++ b)
@@ -57,150 +55,142 @@ said_both Printed a b d e = refl
 said_both Silent a b d e = ap (λ (u : List ℕ). u ++ b) d ∙ e
 
 -- one line more in front
-module _ (t : Telling) (n : ℕ) (l : List ℕ) (ls : List (List ℕ)) (w after : World) (output : List ℕ) where
+module _ (t : Telling) (n : ℕ) (l : List ℕ) (ls : List (List ℕ)) (w after : State) (output : List ℕ) where
   pub whole_skips : Says (bare l) line.Skipped → Whole t (n + 1) None ls w after output → Whole t n None (l ∷ ls) w after output
   whole_skips says h = record {
     items = h.items;
     replies = h.replies;
-    marks = h.marks;
     spelled = skips n l ls h.items says h.spelled;
     answered = h.answered;
     goes_on = h.goes_on;
     is = h.is;
   }
 
-  pub whole_makes : (s : Step) (r : Reply) (v : World) → Says (bare l) (line.Step s) → IsAnswered w unmarked s r v unmarked → GoesOn t r
-      → Whole t (n + 1) None ls v after output → Whole t n None (l ∷ ls) w after (said t (reply_line r) ++ output)
-  whole_makes s r v says answered on h = record {
-    items = Makes s ∷ h.items;
+  pub whole_makes : (f : Format) (s : Step) (r : Reply) (v : State) → Says (bare l) (line.Step f s) → IsAnswered w s r v → GoesOn t r
+      → Whole t (n + 1) None ls v after output → Whole t n None (l ∷ ls) w after (said t (reply_text f r) ++ output)
+  whole_makes f s r v says answered on h = record {
+    items = Makes f s ∷ h.items;
     replies = r ∷ h.replies;
-    marks = h.marks;
-    spelled = makes n l ls h.items s says h.spelled;
-    answered = (v, unmarked, answered, h.answered);
+    spelled = makes n l ls h.items f s says h.spelled;
+    answered = (v, answered, h.answered);
     goes_on = All-cons (GoesOn t) r h.replies on h.goes_on;
-    is = said_then t (reply_line r) (written h.items h.replies) output h.is;
+    is = said_then t (reply_text f r) (written h.items h.replies) output h.is;
   }
 
   pub whole_is_bad : Says (bare l) line.Bad → Whole t (n + 1) None ls w after output → Whole t n None (l ∷ ls) w after (said t (bad_line n) ++ output)
   whole_is_bad says h = record {
     items = BadLine n ∷ h.items;
     replies = h.replies;
-    marks = h.marks;
     spelled = is_bad n l ls h.items says h.spelled;
     answered = h.answered;
     goes_on = h.goes_on;
     is = said_then t (bad_line n) (written h.items h.replies) output h.is;
   }
 
-  pub whole_begins : Says (bare l) line.Put → Whole t (n + 1) (Some []) ls w after output → Whole t n None (l ∷ ls) w after output
-  whole_begins says h = record {
+  pub whole_begins : (f : Format) → Says (bare l) (line.Put f) → Whole t (n + 1) (Some (empty_text f)) ls w after output → Whole t n None (l ∷ ls) w after output
+  whole_begins f says h = record {
     items = h.items;
     replies = h.replies;
-    marks = h.marks;
-    spelled = begins n l ls h.items says h.spelled;
+    spelled = begins n l ls h.items f says h.spelled;
     answered = h.answered;
     goes_on = h.goes_on;
     is = h.is;
   }
 
-  pub whole_goes_on : (text : List ℕ) → bare l ≢ text_end → Whole t (n + 1) (Some (text ++ l)) ls w after output → Whole t n (Some text) (l ∷ ls) w after output
+  pub whole_goes_on : (text : Text) → bare l ≢ text_end → Whole t (n + 1) (Some (with_line text l)) ls w after output → Whole t n (Some text) (l ∷ ls) w after output
   whole_goes_on text ne h = record {
     items = h.items;
     replies = h.replies;
-    marks = h.marks;
     spelled = goes_on n text l ls h.items ne h.spelled;
     answered = h.answered;
     goes_on = h.goes_on;
     is = h.is;
   }
 
-  pub whole_puts : (text : List ℕ) (r : Reply) (v : World) → bare l ≡ text_end → IsAnswered w unmarked (Put (take 1048577 text)) r v unmarked → GoesOn t r
-      → Whole t (n + 1) None ls v after output → Whole t n (Some text) (l ∷ ls) w after (said t (reply_line r) ++ output)
+  pub whole_puts : (text : Text) (r : Reply) (v : State) → bare l ≡ text_end → IsAnswered w (Put (take 1048577 text.bytes)) r v → GoesOn t r
+      → Whole t (n + 1) None ls v after output → Whole t n (Some text) (l ∷ ls) w after (said t (reply_text text.format r) ++ output)
   whole_puts text r v e answered on h = record {
-    items = Makes (Put (take 1048577 text)) ∷ h.items;
+    items = Makes text.format (Put (take 1048577 text.bytes)) ∷ h.items;
     replies = r ∷ h.replies;
-    marks = h.marks;
     spelled = puts n text l ls h.items e h.spelled;
-    answered = (v, unmarked, answered, h.answered);
+    answered = (v, answered, h.answered);
     goes_on = All-cons (GoesOn t) r h.replies on h.goes_on;
-    is = said_then t (reply_line r) (written h.items h.replies) output h.is;
+    is = said_then t (reply_text text.format r) (written h.items h.replies) output h.is;
   }
 
-pub whole_ends : (t : Telling) (n : ℕ) (w : World) → Whole t n None [] w w []
+pub whole_ends : (t : Telling) (n : ℕ) (w : State) → Whole t n None [] w w []
 whole_ends t n w = record {
   items = [];
   replies = [];
-  marks = unmarked;
   spelled = ends n;
-  answered = (refl, refl);
+  answered = refl;
   goes_on = All-nil (GoesOn t);
   is = said_none t;
 }
 
-pub whole_stops : (t : Telling) (n : ℕ) (text : List ℕ) (w : World) → Whole t n (Some text) [] w w (said t end_of_text)
+pub whole_stops : (t : Telling) (n : ℕ) (text : Text) (w : State) → Whole t n (Some text) [] w w (said t end_of_text)
 whole_stops t n text w = record {
   items = EndOfText ∷ [];
   replies = [];
-  marks = unmarked;
   spelled = stops n text;
-  answered = (refl, refl);
+  answered = refl;
   goes_on = All-nil (GoesOn t);
   is = ap (said t) (sym (append-nil end_of_text));
 }
 
 -- what is written for a line
-pub does_said : (t : Telling) (n : ℕ) (w : World) (word : Line) (begins_text : Bool) (v : World) (out : List ℕ) → Does t n word w begins_text v out → out ≡ said t out
+pub does_said : (t : Telling) (n : ℕ) (w : State) (word : Line) (begins_text : Option Format) (v : State) (out : List ℕ) → Does t n word w begins_text v out → out ≡ said t out
 does_said t n w line.Skipped b v out d = d.2 ∙ said_none t ∙ ap (said t) (sym d.2)
-does_said t n w line.Put b v out d = d.2 ∙ said_none t ∙ ap (said t) (sym d.2)
-does_said t n w (line.Step s) b v out d = d.1.3 ∙ said_said t (reply_line d.1.0) ∙ ap (said t) (sym d.1.3)
+does_said t n w (line.Put f) b v out d = d.2 ∙ said_none t ∙ ap (said t) (sym d.2)
+does_said t n w (line.Step f s) b v out d = d.1.3 ∙ said_said t (reply_text f d.1.0) ∙ ap (said t) (sym d.1.3)
 does_said t n w line.Bad b v out d = d.2 ∙ said_said t (bad_line n) ∙ ap (said t) (sym d.2)
 
 -- a line that is carried out, outside module texts
-pub whole_does : (t : Telling) (n : ℕ) (l : List ℕ) (ls : List (List ℕ)) (w after : World) (output : List ℕ) (word : Line) (begins_text : Bool) (v : World) (out : List ℕ)
+pub whole_does : (t : Telling) (n : ℕ) (l : List ℕ) (ls : List (List ℕ)) (w after : State) (output : List ℕ) (word : Line) (begins_text : Option Format) (v : State) (out : List ℕ)
     → Says (bare l) word → Does t n word w begins_text v out → Whole t (n + 1) (begun begins_text) ls v after output → Whole t n None (l ∷ ls) w after (out ++ output)
 whole_does t n l ls w after output line.Skipped b v out says d h =
     let at_none : Whole t (n + 1) None ls w after output = rw (d.0, d.1) at h in
     rw d.2 (whole_skips t n l ls w after output says at_none)
-whole_does t n l ls w after output line.Put b v out says d h =
-    let at_text : Whole t (n + 1) (Some []) ls w after output = rw (d.0, d.1) at h in
-    rw d.2 (whole_begins t n l ls w after output says at_text)
-whole_does t n l ls w after output (line.Step s) b v out says d h =
+whole_does t n l ls w after output (line.Put f) b v out says d h =
+    let at_text : Whole t (n + 1) (Some (empty_text f)) ls w after output = rw (d.0, d.1) at h in
+    rw d.2 (whole_begins t n l ls w after output f says at_text)
+whole_does t n l ls w after output (line.Step f s) b v out says d h =
     let at_none : Whole t (n + 1) None ls v after output = rw d.0 at h in
-    rw d.1.3 (whole_makes t n l ls w after output s d.1.0 v says d.1.1 d.1.2 at_none)
+    rw d.1.3 (whole_makes t n l ls w after output f s d.1.0 v says d.1.1 d.1.2 at_none)
 whole_does t n l ls w after output line.Bad b v out says d h =
     let at_none : Whole t (n + 1) None ls w after output = rw (d.0, d.1) at h in
     rw d.2 (whole_is_bad t n l ls w after output says at_none)
 
 -- an output of these lines, wherever they stand
 abbrev pub IsWritten : List (List ℕ) → Type 0
-IsWritten ls = (n : ℕ) (text : Option (List ℕ)) (w : World) → (after : World) × (output : List ℕ) × Whole Printed n text ls w after output
+IsWritten ls = (n : ℕ) (text : Option Text) (w : State) → (after : State) × (output : List ℕ) × Whole Printed n text ls w after output
 
-written_said : (l : List ℕ) (ls : List (List ℕ)) → IsWritten ls → (n : ℕ) (w : World) → (word : Line) → Says (bare l) word → (after : World) × (output : List ℕ) × Whole Printed n None (l ∷ ls) w after output
+written_said : (l : List ℕ) (ls : List (List ℕ)) → IsWritten ls → (n : ℕ) (w : State) → (word : Line) → Says (bare l) word → (after : State) × (output : List ℕ) × Whole Printed n None (l ∷ ls) w after output
 written_said l ls more n w line.Skipped says = let p = more (n + 1) None w in (p.0, p.1, whole_skips Printed n l ls w p.0 p.1 says p.2)
-written_said l ls more n w line.Put says = let p = more (n + 1) (Some []) w in (p.0, p.1, whole_begins Printed n l ls w p.0 p.1 says p.2)
-written_said l ls more n w (line.Step s) says =
+written_said l ls more n w (line.Put f) says = let p = more (n + 1) (Some (empty_text f)) w in (p.0, p.1, whole_begins Printed n l ls w p.0 p.1 f says p.2)
+written_said l ls more n w (line.Step f s) says =
     let p = more (n + 1) None w in
-    (p.0, reply_line (Refused OutOfMemory) ++ p.1, whole_makes Printed n l ls w p.0 p.1 s (Refused OutOfMemory) w says (answered_by_refusal w s) tt p.2)
+    (p.0, reply_text f (Refused OutOfMemory) ++ p.1, whole_makes Printed n l ls w p.0 p.1 f s (Refused OutOfMemory) w says (answered_by_refusal w s) tt p.2)
 written_said l ls more n w line.Bad says = let p = more (n + 1) None w in (p.0, bad_line n ++ p.1, whole_is_bad Printed n l ls w p.0 p.1 says p.2)
 
-written_inside : (l : List ℕ) (ls : List (List ℕ)) → IsWritten ls → (n : ℕ) (text : List ℕ) (w : World) → (after : World) × (output : List ℕ) × Whole Printed n (Some text) (l ∷ ls) w after output
+written_inside : (l : List ℕ) (ls : List (List ℕ)) → IsWritten ls → (n : ℕ) (text : Text) (w : State) → (after : State) × (output : List ℕ) × Whole Printed n (Some text) (l ∷ ls) w after output
 written_inside l ls more n text w = elim (same_bytes (bare l) text_end) [
   | inl e ↦
       let p = more (n + 1) None w in
-      let answered = answered_by_refusal w (Put (take 1048577 text)) in
-      (p.0, reply_line (Refused OutOfMemory) ++ p.1, whole_puts Printed n l ls w p.0 p.1 text (Refused OutOfMemory) w e answered tt p.2)
-  | inr ne ↦ let p = more (n + 1) (Some (text ++ l)) w in (p.0, p.1, whole_goes_on Printed n l ls w p.0 p.1 text ne p.2)
+      let answered = answered_by_refusal w (Put (take 1048577 text.bytes)) in
+      (p.0, reply_text text.format (Refused OutOfMemory) ++ p.1, whole_puts Printed n l ls w p.0 p.1 text (Refused OutOfMemory) w e answered tt p.2)
+  | inr ne ↦ let p = more (n + 1) (Some (with_line text l)) w in (p.0, p.1, whole_goes_on Printed n l ls w p.0 p.1 text ne p.2)
 ]
 
 -- an output of any lines, with memory refused at each of their steps
 pub is_written : (ls : List (List ℕ)) → IsWritten ls
-is_written [] = λ n text w. elim text as (λ t. (after : World) × (output : List ℕ) × Whole Printed n t [] w after output) [
+is_written [] = λ n text w. elim text as (λ t. (after : State) × (output : List ℕ) × Whole Printed n t [] w after output) [
   | None ↦ (w, [], whole_ends Printed n w)
   | Some t ↦ (w, end_of_text, whole_stops Printed n t w)
 ]
 is_written (l ∷ ls) =
     let more = is_written ls in
-    λ n text w. elim text as (λ t. (after : World) × (output : List ℕ) × Whole Printed n t (l ∷ ls) w after output) [
+    λ n text w. elim text as (λ t. (after : State) × (output : List ℕ) × Whole Printed n t (l ∷ ls) w after output) [
       | None ↦ let p = line_said (bare l) in written_said l ls more n w p.0 p.1
       | Some t ↦ written_inside l ls more n t w
     ]
@@ -218,19 +208,19 @@ leads_then t p q r a b x y f g = record {
       subst (λ (u : List ℕ). WholeFrom t p (a ++ b ++ more) after u) (sym (append_assoc x y output)) at_bytes;
 }
 
-abbrev pub at : ℕ → Option (List ℕ) → List ℕ → World → Place
-at n text k w = record { number = n; text = text; line = k; world = w }
+abbrev pub at : ℕ → Option Text → List ℕ → State → Place
+at n text k w = record { number = n; text = text; line = k; state = w }
 
 -- bytes of a line
-pub leads_part : (t : Telling) (n : ℕ) (text : Option (List ℕ)) (k part : List ℕ) (w : World) → Leads t (at n text k w) part [] (at n text (k ++ part) w)
+pub leads_part : (t : Telling) (n : ℕ) (text : Option Text) (k part : List ℕ) (w : State) → Leads t (at n text k w) part [] (at n text (k ++ part) w)
 leads_part t n text k part w = record {
   is_said = said_none t;
   goes = λ more after output h. subst (λ (u : List ℕ). Whole t n text (lines u) w after output) (append_assoc k part more) h;
 }
 
 -- the end of a line
-pub leads_line : (t : Telling) (n : ℕ) (text next : Option (List ℕ)) (k : List ℕ) (w v : World) (out : List ℕ) → NoLf k → out ≡ said t out
-    → ((ls : List (List ℕ)) (after : World) (output : List ℕ) → Whole t (n + 1) next ls v after output → Whole t n text ((k ++ 10 ∷ []) ∷ ls) w after (out ++ output))
+pub leads_line : (t : Telling) (n : ℕ) (text next : Option Text) (k : List ℕ) (w v : State) (out : List ℕ) → NoLf k → out ≡ said t out
+    → ((ls : List (List ℕ)) (after : State) (output : List ℕ) → Whole t (n + 1) next ls v after output → Whole t n text ((k ++ 10 ∷ []) ∷ ls) w after (out ++ output))
     → Leads t (at n text k w) (10 ∷ []) out (at (n + 1) next [] v)
 leads_line t n text next k w v out no_lf is_said step = record {
   is_said = is_said;
@@ -238,7 +228,7 @@ leads_line t n text next k w v out no_lf is_said step = record {
 }
 
 -- bytes that are all read, and a last line
-pub whole_last : (t : Telling) (n : ℕ) (text : Option (List ℕ)) (k : List ℕ) (w after : World) (out : List ℕ) → NoLf k → ((k ≡ []) → ⊥)
+pub whole_last : (t : Telling) (n : ℕ) (text : Option Text) (k : List ℕ) (w after : State) (out : List ℕ) → NoLf k → ((k ≡ []) → ⊥)
     → Whole t n text (k ∷ []) w after out → WholeFrom t (at n text k w) [] after out
 whole_last t n text [] w after out no_lf some h = absurd (some refl)
 whole_last t n text (b ∷ k) w after out no_lf some h =
@@ -248,7 +238,7 @@ whole_last t n text (b ∷ k) w after out no_lf some h =
 -- What an output begins with where nothing was written.
 pub short_any : (t : Telling) (p : Place) (bytes : List ℕ) → Short t p bytes []
 short_any Printed p bytes =
-    let any = is_written (lines (p.line ++ bytes)) p.number p.text p.world in
+    let any = is_written (lines (p.line ++ bytes)) p.number p.text p.state in
     record { after = any.0; output = any.1; rest = any.1; whole = any.2; is = refl }
 short_any Silent p bytes = refl
 
@@ -283,6 +273,6 @@ short_led t p q a more x part after f e =
     short_part t p (a ++ more) part (after ++ []) (subst (λ (u : List ℕ). Short t p (a ++ more) u) (append-nil x ∙ e ∙ ap (λ (u : List ℕ). part ++ u) (sym (append-nil after))) all)
 
 -- where the output is known
-pub short_whole : (t : Telling) (p : Place) (bytes : List ℕ) (after : World) (output part rest : List ℕ) → WholeFrom t p bytes after output → output ≡ part ++ rest → Short t p bytes part
+pub short_whole : (t : Telling) (p : Place) (bytes : List ℕ) (after : State) (output part rest : List ℕ) → WholeFrom t p bytes after output → output ≡ part ++ rest → Short t p bytes part
 short_whole Printed p bytes after output part rest h e = record { after = after; output = output; rest = rest; whole = h; is = e }
 short_whole Silent p bytes after output part rest h e = none_before part rest (sym e ∙ h.is)

@@ -4,9 +4,7 @@ use Rattle.std.specs.Io.KnownBytes.{Appends}
 use Rattle.scrib_core.specs.declared.step.Step.TheVariants.{Put}
 use Rattle.scrib_core.specs.declared.reply.Reply.{Reply}
 use Rattle.scrib_core.specs.declared.reply.Reply.TheVariants.{Edited, Opened, Noted, Judged, Refused}
-use Rattle.scrib_core.specs.World.{World}
-use Rattle.scrib_core.specs.Marks.{unmarked}
-use Rattle.scrib_core.specs.Answers.{IsAnswered}
+use Rattle.scrib_core.specs.Answers.{State, IsAnswered}
 use Rattle.scrib_cli.specs.Scripts.{AppendsPart, reply_line}
 
 -- whether an edit was accepted
@@ -19,15 +17,15 @@ is_accepted (Refused refusal) = false
 
 -- The put of a module text is answered so, and this is the world after it. Of the text the first 1,048,577 bytes are
 -- put.
-abbrev pub IsPutAnswered : List ℕ → World → Reply → World → Type 0
-IsPutAnswered input w r after = IsAnswered w unmarked (Put (take 1_048_577 input)) r after unmarked
+abbrev pub IsPutAnswered : List ℕ → State → Reply → State → Type 0
+IsPutAnswered input w r after = IsAnswered w (Put (take 1_048_577 input)) r after
 
 -- the module text was put, and the line of the reply written
-abbrev pub IsChecked : List ℕ → World → Bool → World → (was now : Option (List ℕ)) → Type 0
+abbrev pub IsChecked : List ℕ → State → Bool → State → (was now : Option (List ℕ)) → Type 0
 IsChecked input w accepted after was now =
     (r : Reply) × IsPutAnswered input w r after × (accepted ≡ is_accepted r) × Appends was now (reply_line r)
 
 -- nothing was put or written, or the module text was put and a beginning of the reply's line written
-abbrev pub IsPartChecked : List ℕ → World → World → (was now : Option (List ℕ)) → Type 0
+abbrev pub IsPartChecked : List ℕ → State → State → (was now : Option (List ℕ)) → Type 0
 IsPartChecked input w after was now =
     ((after ≡ w) × Appends was now []) ⊎ ((r : Reply) × IsPutAnswered input w r after × AppendsPart was now (reply_line r))

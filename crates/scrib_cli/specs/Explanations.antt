@@ -3,13 +3,11 @@ use Rattle.std.specs.Prelude.{◌≡◌, ◌≢◌, ℕ, ◌+◌, List, [], ◌�
 use Rattle.std.specs.Fmt.{decimal}
 use Rattle.scrib_types.specs.Agreement.{Agreement}
 use Rattle.scrib_library.specs.Modules.{Means, IsMeaning}
-use Rattle.scrib_core.specs.declared.conversation.Conversation.{Conversation}
 use Rattle.scrib_core.specs.declared.reply.Reply.{Reply}
 use Rattle.scrib_core.specs.declared.reply.Reply.TheVariants as reply
 use Rattle.scrib_core.specs.declared.reply.Refusal.TheVariants.{OutOfMemory}
-use Rattle.scrib_core.specs.World.{World, conversation, nothing}
-use Rattle.scrib_core.specs.Marks.{Marks, unmarked}
-use Rattle.scrib_core.specs.Answers.{Answers}
+use Rattle.scrib_core.specs.World.{World, Conversation, conversation}
+use Rattle.scrib_core.specs.Answers.{State, initial, Answers}
 use Rattle.scrib_global.specs.declared.explain.Flight.{Flight}
 use Rattle.scrib_global.specs.Offences.{Offends}
 use Rattle.scrib_global.specs.Explained.{IsExplained}
@@ -40,6 +38,6 @@ pub data Explanation (w : World) (id : ℕ) : Explained → List ℕ → Type 0 
 -- them, and the conversation is explained in the world after them.
 abbrev pub IsExplanation : List ℕ → ℕ → Explained → List ℕ → Type 0
 IsExplanation input id e output =
-    (items : List Item) × (replies : List Reply) × (w : World) × (marks : Marks)
-    × Spells 1 None (lines input) items × Answers nothing unmarked (steps_of items) replies w marks
-    × All (λ r. r ≢ reply.Refused OutOfMemory) replies × Explanation w id e output
+    (items : List Item) × (replies : List Reply) × (s : State)
+    × Spells 1 None (lines input) items × Answers initial (steps_of items) replies s
+    × All (λ r. r ≢ reply.Refused OutOfMemory) replies × Explanation s.world id e output

@@ -5,16 +5,18 @@ use Rattle.std.specs.Fmt.{decimal}
 use Rattle.scrib_core.specs.declared.step.Step.{Step}
 use Rattle.scrib_core.specs.declared.step.Step.TheVariants.{Put}
 use Rattle.scrib_core.specs.declared.reply.Reply.{Reply}
-use Rattle.scrib_core.specs.World.{World, nothing}
-use Rattle.scrib_core.specs.Marks.{Marks, unmarked}
-use Rattle.scrib_core.specs.Answers.{Answers}
+use Rattle.scrib_core.specs.Answers.{State, initial, Answers}
 use Rattle.scrib_report.specs.Lines.{line_of}
+use Rattle.scrib_report.specs.Json.{json_text}
 use Rattle.scrib_script.specs.Says.{Says}
+use Rattle.scrib_script.specs.declared.format.Format.{Format}
+use Rattle.scrib_script.specs.declared.format.Format.TheVariants as format
 use Rattle.scrib_script.specs.declared.line.Line.TheVariants as line
 
--- what a script spells in order: steps, numbers of lines that say nothing, and an end inside a module text
+-- what a script spells in order: steps with the formats of their replies, numbers of lines that say nothing, and an
+-- end inside a module text
 pub data Item : Type 0 where
-  Makes : Step → Item
+  Makes : Format → Step → Item
   BadLine : ℕ → Item
   EndOfText : Item
 
@@ -44,22 +46,35 @@ bare (b ∷ bs) = if is_end (b ∷ bs) then [] else b ∷ bare bs
 abbrev pub text_end : List ℕ
 text_end = codes "%%"
 
+-- a module text as far as it came, and the format of the reply to its put
+pub record Text : Type 0 where
+  pub bytes : List ℕ
+  pub format : Format
+
+-- a module text before its first line
+abbrev pub empty_text : Format → Text
+empty_text f = record { bytes = []; format = f }
+
+-- a module text with one line more
+abbrev pub with_line : Text → List ℕ → Text
+with_line text l = record { bytes = text.bytes ++ l; format = text.format }
+
 -- What lines spell, the first of which is line n of its script. It stands outside module texts, or inside one of
 -- which so much came before it. Of a text the first 1,048,577 bytes are put.
-pub data Spells : ℕ → Option (List ℕ) → List (List ℕ) → List Item → Type 0 where
+pub data Spells : ℕ → Option Text → List (List ℕ) → List Item → Type 0 where
   ends : (n : ℕ) → Spells n None [] []
   skips : (n : ℕ) (l : List ℕ) (ls : List (List ℕ)) (items : List Item) → Says (bare l) line.Skipped → Spells (n + 1) None ls items → Spells n None (l ∷ ls) items
-  makes : (n : ℕ) (l : List ℕ) (ls : List (List ℕ)) (items : List Item) (s : Step) → Says (bare l) (line.Step s) → Spells (n + 1) None ls items → Spells n None (l ∷ ls) (Makes s ∷ items)
+  makes : (n : ℕ) (l : List ℕ) (ls : List (List ℕ)) (items : List Item) (f : Format) (s : Step) → Says (bare l) (line.Step f s) → Spells (n + 1) None ls items → Spells n None (l ∷ ls) (Makes f s ∷ items)
   is_bad : (n : ℕ) (l : List ℕ) (ls : List (List ℕ)) (items : List Item) → Says (bare l) line.Bad → Spells (n + 1) None ls items → Spells n None (l ∷ ls) (BadLine n ∷ items)
-  begins : (n : ℕ) (l : List ℕ) (ls : List (List ℕ)) (items : List Item) → Says (bare l) line.Put → Spells (n + 1) (Some []) ls items → Spells n None (l ∷ ls) items
-  goes_on : (n : ℕ) (text l : List ℕ) (ls : List (List ℕ)) (items : List Item) → bare l ≢ text_end → Spells (n + 1) (Some (text ++ l)) ls items → Spells n (Some text) (l ∷ ls) items
-  puts : (n : ℕ) (text l : List ℕ) (ls : List (List ℕ)) (items : List Item) → bare l ≡ text_end → Spells (n + 1) None ls items → Spells n (Some text) (l ∷ ls) (Makes (Put (take 1_048_577 text)) ∷ items)
-  stops : (n : ℕ) (text : List ℕ) → Spells n (Some text) [] (EndOfText ∷ [])
+  begins : (n : ℕ) (l : List ℕ) (ls : List (List ℕ)) (items : List Item) (f : Format) → Says (bare l) (line.Put f) → Spells (n + 1) (Some (empty_text f)) ls items → Spells n None (l ∷ ls) items
+  goes_on : (n : ℕ) (text : Text) (l : List ℕ) (ls : List (List ℕ)) (items : List Item) → bare l ≢ text_end → Spells (n + 1) (Some (with_line text l)) ls items → Spells n (Some text) (l ∷ ls) items
+  puts : (n : ℕ) (text : Text) (l : List ℕ) (ls : List (List ℕ)) (items : List Item) → bare l ≡ text_end → Spells (n + 1) None ls items → Spells n (Some text) (l ∷ ls) (Makes text.format (Put (take 1_048_577 text.bytes)) ∷ items)
+  stops : (n : ℕ) (text : Text) → Spells n (Some text) [] (EndOfText ∷ [])
 
 -- the steps among what is spelled
 abbrev pub steps_of : List Item → List Step
 steps_of [] = []
-steps_of (Makes s ∷ items) = s ∷ steps_of items
+steps_of (Makes f s ∷ items) = s ∷ steps_of items
 steps_of (BadLine n ∷ items) = steps_of items
 steps_of (EndOfText ∷ items) = steps_of items
 
@@ -71,24 +86,29 @@ bad_line n = codes "refused BadLine " ++ decimal n ++ 10 ∷ []
 abbrev pub end_of_text : List ℕ
 end_of_text = codes "refused EndOfText" ++ 10 ∷ []
 
--- what is written for a reply
+-- the line of a reply
 abbrev pub reply_line : Reply → List ℕ
 reply_line r = line_of r ++ 10 ∷ []
+
+-- what is written for a reply in this format
+abbrev pub reply_text : Format → Reply → List ℕ
+reply_text format.Line r = reply_line r
+reply_text format.Json r = json_text r ++ 10 ∷ []
 
 -- what is written for what is spelled, whose steps have these replies
 abbrev pub written : List Item → List Reply → List ℕ
 written [] rs = []
-written (Makes s ∷ items) [] = []
-written (Makes s ∷ items) (r ∷ rs) = reply_line r ++ written items rs
+written (Makes f s ∷ items) [] = []
+written (Makes f s ∷ items) (r ∷ rs) = reply_text f r ++ written items rs
 written (BadLine n ∷ items) rs = bad_line n ++ written items rs
 written (EndOfText ∷ items) rs = end_of_text ++ written items rs
 
--- An output of a script: the lines of replies that answer its steps over a new monitor, and those of what says nothing
--- at their places.
+-- An output of a script: the texts of replies that answer its steps over a new monitor, and the lines of what says
+-- nothing at their places.
 abbrev pub IsOutput : List ℕ → List ℕ → Type 0
 IsOutput input output =
-    (items : List Item) × (replies : List Reply) × (w : World) × (marks : Marks)
-    × Spells 1 None (lines input) items × Answers nothing unmarked (steps_of items) replies w marks
+    (items : List Item) × (replies : List Reply) × (w : State)
+    × Spells 1 None (lines input) items × Answers initial (steps_of items) replies w
     × (output ≡ written items replies)
 
 -- a beginning of the bytes was appended to what the writer holds

@@ -11,6 +11,7 @@ ghost use Rattle.scrib_cli.specs.Scripts.{AppendsPart, reply_line};
 ghost use Rattle.scrib_cli.specs.Projections.{IsAnswer, FaultTells, IsTextOf, IsPrinted, IsGraphOf, projects};
 ghost use Rattle.scrib_cli.specs.ProjectionSteps.{HasMachine};
 
+use crate::carrying::reply_text;
 use crate::explaining::refusal;
 use crate::fault::ScriptFault;
 use crate::form::Form;
@@ -21,7 +22,7 @@ use scrib_library::fault::EditFault;
 use scrib_local::text::text;
 use scrib_machine::compile::compile;
 use scrib_machine::graph::graph_text;
-use scrib_report::line::line;
+use scrib_script::format::Format;
 use scrib_types::local::Local;
 use scrib_types::plain::Items;
 use std::alloc::{AllocError, Global};
@@ -104,14 +105,5 @@ fn fault_line(alloc: Global, fault: EditFault) -> Result<Vec<u8>, AllocError>
     ensures { IfOk result (λ line. line.items ≡ reply_line (Refused (Edit fault))) }
 {
     let reply = Reply::Refused(Refusal::Edit(fault));
-    whole_line(alloc, &reply)
-}
-
-/// The line of a reply, with its end.
-fn whole_line(alloc: Global, reply: &Reply) -> Result<Vec<u8>, AllocError>
-    ensures { IfOk result (λ text. text.items ≡ reply_line reply.now) }
-{
-    let mut text = line(alloc, reply)?;
-    text.push(b'\n')?;
-    Ok(text)
+    reply_text(alloc, &reply, Format::Line)
 }

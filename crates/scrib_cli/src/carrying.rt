@@ -2,23 +2,26 @@
 
 ghost use Rattle.std.specs.Prelude.{◌≡◌, ◌≢◌, ◌↔◌, IsTrue, OnOk, OnErr, IfOk, option_map};
 ghost use Rattle.std.specs.Io.KnownBytes.{Appends};
-ghost use Rattle.scrib_core.specs.Held.{world_of};
+ghost use Rattle.scrib_core.specs.Held.{state_of};
+ghost use Rattle.scrib_core.specs.declared.step.Step.TheVariants.{Put};
 ghost use Rattle.scrib_core.specs.declared.reply.Reply.TheVariants.{Refused};
 ghost use Rattle.scrib_core.specs.declared.reply.Refusal.TheVariants.{OutOfMemory};
-ghost use Rattle.scrib_cli.specs.Scripts.{AppendsPart, bad_line, reply_line, text_end};
-ghost use Rattle.scrib_cli.specs.Progress.{said, Answered, PartMade, CarriedOut, PartCarriedOut, CarriedText, PartPut};
+ghost use Rattle.scrib_cli.specs.Scripts.{AppendsPart, bad_line, reply_text, text_end};
+ghost use Rattle.scrib_cli.specs.Progress.{said, as_text, Answered, PartMade, CarriedOut, PartCarriedOut, CarriedText, PartPut};
 
 use crate::fault::ScriptFault;
-use crate::keeping::{before_end, keep};
+use crate::keeping::{KeptText, before_end, keep};
 use crate::telling::Telling;
 use crate::writing::write_out;
 use scrib_core::monitor::Core;
 use scrib_core::reply::{Refusal, Reply};
 use scrib_core::step::Step;
+use scrib_report::json::json;
 use scrib_report::line::line;
+use scrib_script::format::Format;
 use scrib_script::line::{Line, line_of};
 use scrib_types::plain::Items;
-use std::alloc::Global;
+use std::alloc::{AllocError, Global};
 use std::io::Write;
 
 /// What is kept of a module text: one byte more than it may have.
@@ -31,35 +34,64 @@ pub fn is_text_end(bytes: &[u8]) -> bool
     bytes == b"%%".as_slice()
 }
 
-/// Makes the step and writes its reply's line, or in silence sees that it had memory.
+/// Makes the step and writes its reply in this format, or in silence sees that it had memory.
 pub fn make_step<W: Write>(
     alloc: Global,
     core: &mut Core,
     step: Step,
+    format: Format,
     telling: Telling,
     writer: &mut W,
 ) -> Result<(), ScriptFault>
-    ensures ok { OnOk result (Answered telling (world_of core.old) step (world_of core.new) (W.contents writer.old) (W.contents writer.new)) }
-    ensures err { OnErr result (PartMade telling (world_of core.old) step (world_of core.new) (W.contents writer.old) (W.contents writer.new)) }
+    ensures ok { OnOk result (Answered telling format (state_of core.old) step (state_of core.new) (W.contents writer.old) (W.contents writer.new)) }
+    ensures err { OnErr result (PartMade telling format (state_of core.old) step (state_of core.new) (W.contents writer.old) (W.contents writer.new)) }
 {
     let reply = core.apply(step);
     match telling {
-        Telling::Printed => write_reply(alloc, &reply, writer),
+        Telling::Printed => write_reply(alloc, &reply, format, writer),
         Telling::Silent => check_memory(&reply),
     }
 }
 
-/// Writes the reply's line.
+/// Puts the module text that is kept and writes the reply, or in silence sees that it had memory.
+pub fn put_text<W: Write>(
+    alloc: Global,
+    core: &mut Core,
+    text: KeptText,
+    telling: Telling,
+    writer: &mut W,
+) -> Result<(), ScriptFault>
+    ensures ok { OnOk result (Answered telling text.format (state_of core.old) (Put text.bytes.items) (state_of core.new) (W.contents writer.old) (W.contents writer.new)) }
+    ensures err { OnErr result (PartMade telling text.format (state_of core.old) (Put text.bytes.items) (state_of core.new) (W.contents writer.old) (W.contents writer.new)) }
+{
+    let KeptText { bytes, format } = text;
+    let text = Items::from_vec(bytes);
+    make_step(alloc, core, Step::Put { text }, format, telling, writer)
+}
+
+/// The reply in this format, with the LF behind it.
+pub fn reply_text(alloc: Global, reply: &Reply, format: Format) -> Result<Vec<u8>, AllocError>
+    ensures { IfOk result (λ text. text.items ≡ reply_text format reply.now) }
+{
+    let mut text = match format {
+        Format::Line => line(alloc, reply)?,
+        Format::Json => json(alloc, reply)?,
+    };
+    text.push(b'\n')?;
+    Ok(text)
+}
+
+/// Writes the reply in this format.
 pub fn write_reply<W: Write>(
     alloc: Global,
     reply: &Reply,
+    format: Format,
     writer: &mut W,
 ) -> Result<(), ScriptFault>
-    ensures ok { OnOk result (Appends (W.contents writer.old) (W.contents writer.new) (reply_line reply.now)) }
-    ensures err { OnErr result (AppendsPart (W.contents writer.old) (W.contents writer.new) (reply_line reply.now)) }
+    ensures ok { OnOk result (Appends (W.contents writer.old) (W.contents writer.new) (reply_text format reply.now)) }
+    ensures err { OnErr result (AppendsPart (W.contents writer.old) (W.contents writer.new) (reply_text format reply.now)) }
 {
-    let mut text = line(alloc, reply)?;
-    text.push(b'\n')?;
+    let text = reply_text(alloc, reply, format)?;
     write_out(writer, text.as_slice())
 }
 
@@ -99,8 +131,8 @@ fn tell_bad_line<W: Write>(
     }
 }
 
-/// Does what the line outside module texts of this number and these bytes says. Returns whether a
-/// module text begins after it.
+/// Does what the line outside module texts of this number and these bytes says. Where a module text begins after it,
+/// returns how the reply to its put is printed.
 pub fn carry_out<W: Write>(
     alloc: Global,
     core: &mut Core,
@@ -108,21 +140,21 @@ pub fn carry_out<W: Write>(
     bytes: &[u8],
     telling: Telling,
     writer: &mut W,
-) -> Result<bool, ScriptFault>
-    ensures ok { IfOk result (λ begins. CarriedOut telling number bytes.now (world_of core.old) begins (world_of core.new)
+) -> Result<Option<Format>, ScriptFault>
+    ensures ok { IfOk result (λ begins. CarriedOut telling number bytes.now (state_of core.old) begins (state_of core.new)
         (W.contents writer.old) (W.contents writer.new)) }
-    ensures err { OnErr result (PartCarriedOut telling number bytes.now (world_of core.old) (W.contents writer.old) (W.contents writer.new)) }
+    ensures err { OnErr result (PartCarriedOut telling number bytes.now (state_of core.old) (W.contents writer.old) (W.contents writer.new)) }
 {
     match line_of(alloc, bytes)? {
-        Line::Skipped => Ok(false),
-        Line::Put => Ok(true),
-        Line::Step(step) => {
-            make_step(alloc, core, step, telling, writer)?;
-            Ok(false)
+        Line::Skipped => Ok(None),
+        Line::Put(format) => Ok(Some(format)),
+        Line::Step(format, step) => {
+            make_step(alloc, core, step, format, telling, writer)?;
+            Ok(None)
         }
         Line::Bad => {
             tell_bad_line(alloc, number, telling, writer)?;
-            Ok(false)
+            Ok(None)
         }
     }
 }
@@ -132,21 +164,20 @@ pub fn carry_out<W: Write>(
 pub fn carry_text<W: Write>(
     alloc: Global,
     core: &mut Core,
-    mut text: Vec<u8>,
+    mut text: KeptText,
     line: &[u8],
     telling: Telling,
     writer: &mut W,
-) -> Result<Option<Vec<u8>>, ScriptFault>
-    ensures ok { IfOk result (λ after. CarriedText telling text.items line.now (world_of core.old) (option_map (λ v. v.items) after) (world_of core.new)
+) -> Result<Option<KeptText>, ScriptFault>
+    ensures ok { IfOk result (λ after. CarriedText telling (as_text text) line.now (state_of core.old) (option_map as_text after) (state_of core.new)
         (W.contents writer.old) (W.contents writer.new)) }
-    ensures err { OnErr result (PartPut telling text.items line.now (world_of core.old) (world_of core.new) (W.contents writer.old) (W.contents writer.new)) }
+    ensures err { OnErr result (PartPut telling (as_text text) line.now (state_of core.old) (state_of core.new) (W.contents writer.old) (W.contents writer.new)) }
 {
     if is_text_end(before_end(line)) {
-        let text = Items::from_vec(text);
-        make_step(alloc, core, Step::Put { text }, telling, writer)?;
+        put_text(alloc, core, text, telling, writer)?;
         return Ok(None);
     }
-    keep(&mut text, line, KEPT_TEXT_BYTES)?;
-    keep(&mut text, b"\n", KEPT_TEXT_BYTES)?;
+    keep(&mut text.bytes, line, KEPT_TEXT_BYTES)?;
+    keep(&mut text.bytes, b"\n", KEPT_TEXT_BYTES)?;
     Ok(Some(text))
 }

@@ -2,7 +2,7 @@
 
 ghost use Rattle.std.specs.Prelude.{◌≡◌, IfOk, OnErr, IfSome};
 ghost use Rattle.std.specs.Io.KnownBytes.{Appends};
-ghost use Rattle.scrib_core.specs.Held.{world_of};
+ghost use Rattle.scrib_core.specs.Held.{state_of};
 ghost use Rattle.scrib_cli.specs.Checks.{IsChecked, IsPartChecked, is_accepted};
 ghost use Rattle.scrib_cli.specs.Scripts.{AppendsPart, reply_line};
 
@@ -13,6 +13,7 @@ use crate::writing::flush_out;
 pub use scrib_core::monitor::Core;
 use scrib_core::reply::Reply;
 use scrib_core::step::Step;
+use scrib_script::format::Format;
 use std::alloc::Global;
 use std::io::{Read, Write};
 
@@ -32,9 +33,9 @@ pub fn check_module<R: Read, W: Write>(
     writer: &mut W,
 ) -> Result<bool, ScriptFault>
     ensures ok { IfOk result (λ accepted. IfSome (R.remaining reader.old) (λ input.
-        IsChecked input (world_of core.old) accepted (world_of core.new) (W.contents writer.old) (W.contents writer.new))) }
+        IsChecked input (state_of core.old) accepted (state_of core.new) (W.contents writer.old) (W.contents writer.new))) }
     ensures err { OnErr result (IfSome (R.remaining reader.old) (λ input.
-        IsPartChecked input (world_of core.old) (world_of core.new) (W.contents writer.old) (W.contents writer.new))) }
+        IsPartChecked input (state_of core.old) (state_of core.new) (W.contents writer.old) (W.contents writer.new))) }
 {
     let text = read_text(alloc, reader)?;
     let reply = core.apply(Step::Put { text });
@@ -46,7 +47,7 @@ fn tell_reply<W: Write>(alloc: Global, reply: &Reply, writer: &mut W) -> Result<
     ensures ok { IfOk result (λ accepted. (accepted ≡ is_accepted reply.now) × Appends (W.contents writer.old) (W.contents writer.new) (reply_line reply.now)) }
     ensures err { OnErr result (AppendsPart (W.contents writer.old) (W.contents writer.new) (reply_line reply.now)) }
 {
-    write_reply(alloc, reply, writer)?;
+    write_reply(alloc, reply, Format::Line, writer)?;
     flush_out(writer)?;
     Ok(is_accepted(reply))
 }

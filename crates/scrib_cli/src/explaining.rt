@@ -2,7 +2,7 @@
 
 ghost use Rattle.std.specs.Prelude.{◌≡◌, ◌++◌, IfOk, codes};
 ghost use Rattle.std.specs.Fmt.{decimal};
-ghost use Rattle.scrib_core.specs.Held.{world_of};
+ghost use Rattle.scrib_core.specs.Held.{state_of};
 ghost use Rattle.scrib_cli.specs.Explanations.{Explanation, flight_lines, refusal_line};
 
 use crate::fault::ScriptFault;
@@ -28,7 +28,7 @@ pub(crate) fn explanation(
     core: &Core,
     id: u32,
 ) -> Result<(Explained, Vec<u8>), ScriptFault>
-    ensures { IfOk result (λ r. Explanation (world_of core.now) id r.0 r.1.items) }
+    ensures { IfOk result (λ r. Explanation (state_of core.now).world id r.0 r.1.items) }
 {
     let Some((protocol, log)) = core.view(id) else {
         let text = refusal(alloc, b"NoConversation")?;

@@ -4,7 +4,17 @@ ghost use Rattle.std.specs.Prelude.{◌≡◌, ◌≤◌, ◌<◌, ◌++◌, ◌
 ghost use Rattle.scrib_cli.specs.Scripts.{bare};
 ghost use Rattle.scrib_cli.specs.Progress.{NoLf};
 
+use scrib_script::format::Format;
 use std::alloc::AllocError;
+
+/// What is kept of a module text.
+#[derive(Drop)]
+pub struct KeptText {
+    /// Its first bytes.
+    pub bytes: Vec<u8>,
+    /// How the reply to its put is printed.
+    pub format: Format,
+}
 
 /// Adds the bytes to the kept ones, up to this many.
 pub fn keep(kept: &mut Vec<u8>, bytes: &[u8], most: usize) -> Result<(), AllocError>

@@ -2,14 +2,12 @@
 
 ghost use Rattle.std.specs.Prelude.{◌≤◌};
 
-use crate::carrying::{carry_out, carry_text, is_text_end, make_step};
+use crate::carrying::{carry_out, carry_text, is_text_end, put_text};
 use crate::fault::ScriptFault;
-use crate::keeping::{before_end, keep, next_lf};
+use crate::keeping::{KeptText, before_end, keep, next_lf};
 use crate::telling::Telling;
 use crate::writing::tell;
 use scrib_core::monitor::Core;
-use scrib_core::step::Step;
-use scrib_types::plain::Items;
 use std::alloc::Global;
 use std::io::Write;
 
@@ -32,7 +30,7 @@ pub struct Run {
     core: Core,
     telling: Telling,
     // The module text so far, inside one.
-    text: Option<Vec<u8>>,
+    text: Option<KeptText>,
     // The line so far.
     line: Vec<u8>,
     // How many lines ended.
@@ -44,16 +42,16 @@ pub struct Run {
 
 impl Run {
     ghost use Rattle.std.specs.Prelude.{◌≡◌, ◌<◌, ◌∷◌, [], ℕ, List, Option, None, IfOk, OnOk, OnErr, option_map};
-    ghost use Rattle.scrib_core.specs.World.{nothing};
-    ghost use Rattle.scrib_core.specs.Held.{world_of};
-    ghost use Rattle.scrib_cli.specs.Progress.{Holds, Went, Stopped, LineEnded, LastLine, Ended, Failed, NoLf};
+    ghost use Rattle.scrib_core.specs.Answers.{initial};
+    ghost use Rattle.scrib_core.specs.Held.{state_of};
+    ghost use Rattle.scrib_cli.specs.Progress.{as_text, Holds, Went, Stopped, LineEnded, LastLine, Ended, Failed, NoLf};
 
     /// A run before its first byte.
     pub fn new(alloc: Global, telling: Telling) -> Run
         ensures telling { result.telling ≡ telling }
         ensures holds { Holds result None [] }
         ensures lines { result.lines ≡ 0 }
-        ensures world { world_of result.core ≡ nothing }
+        ensures state { state_of result.core ≡ initial }
     {
         Run {
             alloc,
@@ -68,7 +66,7 @@ impl Run {
 
     /// The monitor of the steps so far.
     pub fn into_core(self) -> Core
-        ensures { world_of result ≡ world_of self.core }
+        ensures { state_of result ≡ state_of self.core }
     {
         self.core
     }
@@ -89,7 +87,7 @@ impl Run {
 
     /// Carries out the last line, which no LF ended.
     pub fn finish<W: Write>(&mut self, writer: &mut W) -> Result<(), ScriptFault>
-        ensures ok { OnOk result (Ended self.old (world_of self.new.core) (W.contents writer.old) (W.contents writer.new)) }
+        ensures ok { OnOk result (Ended self.old (state_of self.new.core) (W.contents writer.old) (W.contents writer.new)) }
         ensures err { OnErr result (Failed self.old (W.contents writer.old) (W.contents writer.new)) }
     {
         let telling = self.telling;
@@ -102,7 +100,7 @@ impl Run {
     // Carries out the last line, which no LF ended. Returns whether the script ends inside a module
     // text.
     fn last_line<W: Write>(&mut self, writer: &mut W) -> Result<bool, ScriptFault>
-        ensures ok { IfOk result (λ in_text. LastLine self.old in_text (world_of self.new.core) (W.contents writer.old) (W.contents writer.new)) }
+        ensures ok { IfOk result (λ in_text. LastLine self.old in_text (state_of self.new.core) (W.contents writer.old) (W.contents writer.new)) }
         ensures err { OnErr result (Failed self.old (W.contents writer.old) (W.contents writer.new)) }
     {
         let Some(text) = self.text.take() else {
@@ -110,26 +108,20 @@ impl Run {
                 return Ok(false);
             }
             let line = self.line.as_slice();
-            return carry_out(
+            let begins = carry_out(
                 self.alloc,
                 &mut self.core,
                 self.lines + 1,
                 line,
                 self.telling,
                 writer,
-            );
+            )?;
+            return Ok(begins.is_some());
         };
         if !is_text_end(self.line.as_slice()) {
             return Ok(true);
         }
-        let text = Items::from_vec(text);
-        make_step(
-            self.alloc,
-            &mut self.core,
-            Step::Put { text },
-            self.telling,
-            writer,
-        )?;
+        put_text(self.alloc, &mut self.core, text, self.telling, writer)?;
         Ok(false)
     }
 
@@ -165,9 +157,9 @@ impl Run {
 
     // Carries out the line that an LF ended. Returns what is kept of the module text that goes on
     // after it, if one does.
-    fn carry_line<W: Write>(&mut self, writer: &mut W) -> Result<Option<Vec<u8>>, ScriptFault>
+    fn carry_line<W: Write>(&mut self, writer: &mut W) -> Result<Option<KeptText>, ScriptFault>
         requires { self.old.lines < 16777216 }
-        ensures ok { IfOk result (λ after. LineEnded self.old (option_map (λ v. v.items) after) (world_of self.new.core) (W.contents writer.old) (W.contents writer.new)) }
+        ensures ok { IfOk result (λ after. LineEnded self.old (option_map as_text after) (state_of self.new.core) (W.contents writer.old) (W.contents writer.new)) }
         ensures err { OnErr result (Stopped self.old (10 ∷ []) (W.contents writer.old) (W.contents writer.new)) }
         ensures lines { OnOk result (self.new.lines ≡ self.old.lines) }
         ensures telling { OnOk result (self.new.telling ≡ self.old.telling) }
@@ -175,17 +167,19 @@ impl Run {
         let Some(text) = self.text.take() else {
             let line = before_end(self.line.as_slice());
             let number = self.lines + 1;
-            if carry_out(
+            let begins = carry_out(
                 self.alloc,
                 &mut self.core,
                 number,
                 line,
                 self.telling,
                 writer,
-            )? {
-                return Ok(Some(Vec::new(self.alloc)));
-            }
-            return Ok(None);
+            )?;
+            let Some(format) = begins else {
+                return Ok(None);
+            };
+            let bytes = Vec::new(self.alloc);
+            return Ok(Some(KeptText { bytes, format }));
         };
         carry_text(
             self.alloc,

@@ -2,7 +2,7 @@
 
 ghost use Rattle.std.specs.Prelude.{◌≡◌, ◌<◌, ◌≢◌, ℕ, List, IfOk, OnOk, OnErr, IfSome, length};
 ghost use Rattle.std.specs.Io.KnownBytes.{Appends};
-ghost use Rattle.scrib_core.specs.Held.{world_of};
+ghost use Rattle.scrib_core.specs.Held.{state_of};
 ghost use Rattle.scrib_cli.specs.Scripts.{IsOutput, AppendsPart};
 ghost use Rattle.scrib_cli.specs.Progress.{Ran, RanShort};
 
@@ -15,8 +15,9 @@ use scrib_core::monitor::Core;
 use std::alloc::Global;
 use std::io::{ErrorKind, Read, Write};
 
-/// Reads a script, makes its steps over a new monitor, and writes the line of each reply, however
-/// the reads and writes are cut. At the end the writer is flushed.
+/// Reads a script, makes its steps over a new monitor, and writes each reply as the step's line asks, as a line of text
+/// or, behind `json`, as a line that is one JSON object, however the reads and writes are cut. At the end the writer is
+/// flushed.
 ///
 /// # Errors
 /// What was written by then is a beginning of the script's output.
@@ -46,7 +47,7 @@ pub(crate) fn run_whole<R: Read, W: Write>(
     reader: &mut R,
     writer: &mut W,
 ) -> Result<Core, ScriptFault>
-    ensures ok { IfOk result (λ core. Ran telling (R.remaining reader.old) (world_of core) (W.contents writer.old) (W.contents writer.new)) }
+    ensures ok { IfOk result (λ core. Ran telling (R.remaining reader.old) (state_of core) (W.contents writer.old) (W.contents writer.new)) }
     ensures err { OnErr result (RanShort telling (R.remaining reader.old) (W.contents writer.old) (W.contents writer.new)) }
 {
     let mut piece = vec![in alloc; 0u8; PIECE_BYTES]?;
@@ -62,7 +63,7 @@ fn run_by_pieces<R: Read, W: Write>(
     piece: &mut [u8],
 ) -> Result<Core, ScriptFault>
     requires { 0 < length piece.old }
-    ensures ok { IfOk result (λ core. Ran telling (R.remaining reader.old) (world_of core) (W.contents writer.old) (W.contents writer.new)) }
+    ensures ok { IfOk result (λ core. Ran telling (R.remaining reader.old) (state_of core) (W.contents writer.old) (W.contents writer.new)) }
     ensures err { OnErr result (RanShort telling (R.remaining reader.old) (W.contents writer.old) (W.contents writer.new)) }
 {
     let mut run = Run::new(alloc, telling);

@@ -59,15 +59,26 @@ unfoldable pub told_text : Told → List ℕ
 told_text Stale = codes "stale"
 told_text (Judged v) = verdict_text v
 
--- ` +demo.A`: added, ` -demo.B`: withdrawn, ` ~demo.C`: replaced
-abbrev pub sign_of : ChangeKind → List ℕ
-sign_of change.Added = codes " +"
-sign_of change.Withdrawn = codes " -"
-sign_of change.Replaced = codes " ~"
+-- what is told in one word: `permitted`, `offence`, `withdrawn` or `stale`
+abbrev pub told_word : Told → List ℕ
+told_word Stale = codes "stale"
+told_word (Judged Permitted) = codes "permitted"
+told_word (Judged Withdrawn) = codes "withdrawn"
+told_word (Judged (Offence place role allowed)) = codes "offence"
 
+abbrev pub sign_of : ChangeKind → List ℕ
+sign_of change.Added = codes "+"
+sign_of change.Withdrawn = codes "-"
+sign_of change.Replaced = codes "~"
+
+-- `+demo.A`: added, `-demo.B`: withdrawn, `~demo.C`: replaced
+abbrev pub change_text : Change → List ℕ
+change_text c = sign_of c.kind ++ dotted_text c.name
+
+-- each change after a blank
 abbrev pub change_texts : List Change → List ℕ
 change_texts [] = []
-change_texts (c ∷ cs) = sign_of c.kind ++ dotted_text c.name ++ change_texts cs
+change_texts (c ∷ cs) = codes " " ++ change_text c ++ change_texts cs
 
 abbrev pub changes_text : List Change → List ℕ
 changes_text [] = codes " no change"
@@ -139,13 +150,13 @@ refusal_text (refusal.Edit f) = edit_fault_text f
 refusal_text refusal.LogFull = codes "LogFull"
 refusal_text refusal.OutOfMemory = codes "OutOfMemory"
 
-abbrev pub edit_text : Edit → List ℕ
-edit_text which.Put = codes "put "
-edit_text which.Withdraw = codes "withdraw "
+abbrev pub edit_word : Edit → List ℕ
+edit_word which.Put = codes "put"
+edit_word which.Withdraw = codes "withdraw"
 
 -- `put demo: +demo.Hello`, `open 1: demo.Hello`, `1.3 permitted`, `1 permitted`, `refused NoConversation`
 unfoldable pub line_of : Reply → List ℕ
-line_of (reply.Edited e changes) = edit_text e ++ dotted_text changes.module ++ codes ":" ++ changes_text changes.list
+line_of (reply.Edited e changes) = edit_word e ++ codes " " ++ dotted_text changes.module ++ codes ":" ++ changes_text changes.list
 line_of (reply.Opened id name) = codes "open " ++ decimal id ++ codes ": " ++ dotted_text name
 line_of (reply.Noted id place told) = decimal id ++ codes "." ++ decimal place ++ codes " " ++ told_text told
 line_of (reply.Judged id name events told) = decimal id ++ codes " " ++ told_text told

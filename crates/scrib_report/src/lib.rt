@@ -1,7 +1,9 @@
-//! The printed text of replies, and of messages in flight.
+//! The printed text of replies, of verdicts and of messages in flight, and the JSON of replies.
 #![tactic(auto)]
 
+mod edit;
 mod fault;
 pub mod flight;
+pub mod json;
 pub mod line;
-mod verdict;
+pub mod verdict;

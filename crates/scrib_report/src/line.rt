@@ -3,38 +3,20 @@
 ghost use Rattle.std.specs.Prelude.{◌≡◌, ◌++◌, IfOk, OnOk};
 ghost use Rattle.scrib_report.specs.Lines as lines;
 
+use crate::edit::{edit_word, push_change};
 use crate::fault::push_refusal;
 use crate::verdict::push_told;
-use scrib_core::reply::{Edit, Reply};
-use scrib_library::changes::{Change, ChangeKind};
+use scrib_core::reply::Reply;
+use scrib_library::changes::Change;
 use scrib_types::text::{push_bytes, push_dotted, push_number};
 use std::alloc::{AllocError, Global};
-
-fn push_edit(out: &mut Vec<u8>, edit: Edit) -> Result<(), AllocError>
-    ensures { OnOk result (out.new.items ≡ out.old.items ++ lines.edit_text edit) }
-{
-    match edit {
-        Edit::Put => push_bytes(out, b"put "),
-        Edit::Withdraw => push_bytes(out, b"withdraw "),
-    }
-}
-
-fn push_sign(out: &mut Vec<u8>, kind: ChangeKind) -> Result<(), AllocError>
-    ensures { OnOk result (out.new.items ≡ out.old.items ++ lines.sign_of kind) }
-{
-    match kind {
-        ChangeKind::Added => push_bytes(out, b" +"),
-        ChangeKind::Withdrawn => push_bytes(out, b" -"),
-        ChangeKind::Replaced => push_bytes(out, b" ~"),
-    }
-}
 
 fn push_each_change(out: &mut Vec<u8>, changes: &[Change]) -> Result<(), AllocError>
     ensures { OnOk result (out.new.items ≡ out.old.items ++ lines.change_texts changes.now) }
 {
     for change in changes {
-        push_sign(out, change.kind)?;
-        push_dotted(out, &change.name)?;
+        push_bytes(out, b" ")?;
+        push_change(out, change)?;
     }
     Ok(())
 }
@@ -54,7 +36,8 @@ fn push_line(out: &mut Vec<u8>, reply: &Reply) -> Result<(), AllocError>
 {
     match reply {
         Reply::Edited { edit, changes } => {
-            push_edit(out, *edit)?;
+            push_bytes(out, edit_word(*edit).as_bytes())?;
+            push_bytes(out, b" ")?;
             push_dotted(out, &changes.module)?;
             push_bytes(out, b":")?;
             push_changes(out, changes.list.as_slice())

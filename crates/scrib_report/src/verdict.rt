@@ -1,12 +1,12 @@
 //! The text of what is told of a conversation.
 
-ghost use Rattle.std.specs.Prelude.{◌≡◌, ◌++◌, OnOk};
+ghost use Rattle.std.specs.Prelude.{◌≡◌, ◌++◌, IfOk, OnOk};
 ghost use Rattle.scrib_report.specs.Lines as lines;
 
 use scrib_types::event::{Action, Told, Verdict};
 use scrib_types::name::Role;
 use scrib_types::text::{push_action, push_bytes, push_number};
-use std::alloc::AllocError;
+use std::alloc::{AllocError, Global};
 
 fn push_further_actions(out: &mut Vec<u8>, actions: &[Action]) -> Result<(), AllocError>
     ensures { OnOk result (out.new.items ≡ out.old.items ++ lines.further_actions actions.now) }
@@ -68,4 +68,29 @@ pub(crate) fn push_told(out: &mut Vec<u8>, told: &Told) -> Result<(), AllocError
         Told::Stale => push_bytes(out, b"stale"),
         Told::Judged(verdict) => push_verdict(out, verdict),
     }
+}
+
+/// What is told in one word: `permitted`, `offence`, `withdrawn` or `stale`.
+pub(crate) fn told_word(told: &Told) -> &'static str
+    ensures { result.now ≡ lines.told_word told.now }
+{
+    match told {
+        Told::Stale => "stale",
+        Told::Judged(Verdict::Permitted) => "permitted",
+        Told::Judged(Verdict::Offence { .. }) => "offence",
+        Told::Judged(Verdict::Withdrawn) => "withdrawn",
+    }
+}
+
+/// What is told, as `stale`, `permitted`, `withdrawn` or `offence at 3 by A, allowed: B!hello(), B!x()`, in
+/// ASCII bytes, without a line feed.
+///
+/// # Errors
+/// `AllocError` where memory for the text was refused.
+pub fn verdict(alloc: Global, told: &Told) -> Result<Vec<u8>, AllocError>
+    ensures { IfOk result (λ text. text.items ≡ lines.told_text told.now) }
+{
+    let mut out = Vec::new(alloc);
+    push_told(&mut out, told)?;
+    Ok(out)
 }

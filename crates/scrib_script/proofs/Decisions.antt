@@ -15,14 +15,17 @@ use Rattle.scrib_types.specs.Names.{is_name}
 use Rattle.scrib_types.specs.Texts.{joined_by, dotted_text, dotted_texts, operator_text}
 use Rattle.scrib_core.specs.declared.step.Step.{Step}
 use Rattle.scrib_core.specs.declared.step.Step.TheVariants as step
+use Rattle.scrib_script.specs.declared.format.Format.{Format}
+use Rattle.scrib_script.specs.declared.format.Format.TheVariants as format
 use Rattle.scrib_script.specs.declared.line.Line.{Line}
 use Rattle.scrib_script.specs.declared.line.Line.TheVariants as line
 use Rattle.scrib_script.specs.Fields.{fields, Finds, IsNumber, is_dotted, IsDottedText, IsMessageText, IsOperatorText, IsPayloadText, IsCut}
-use Rattle.scrib_script.specs.Steps.{IsExchange, Makes, MakesStep}
-use Rattle.scrib_script.specs.Says.{Says, IsSkipped, IsPutLine}
+use Rattle.scrib_script.specs.Steps.{IsExchange, Makes, Withdraws, MakesStep}
+use Rattle.scrib_script.specs.Says.{Says, IsSkipped, IsPutLine, Asks}
 use Rattle.scrib_script.proofs.Pieces.{pieces, dotted-pieces, dotted-read, payload-pieces, payload-read}
+use Rattle.scrib_script.proofs.Formats.{no_put, no_step}
 use Rattle.scrib_script.proofs.Printed.{message-cut, cut-message, cut-once}
-use Rattle.scrib_script.proofs.Steps.{no-open, no-join, no-send, no-recv, no-ask, no-word, no-short, found-step}
+use Rattle.scrib_script.proofs.Steps.{no-open, no-join, no-send, no-recv, no-turn, no-ask, no-word, no-short, no-number, found-withdrawal, found-step}
 
 -- it holds or it doesn't
 abbrev pub Decided : Type 0 → Type 0
@@ -303,6 +306,10 @@ module _ (id : ℕ) (fs : List (List ℕ)) where
   recv_step None none = (None, no-recv id fs (λ from to m h. none (from, to, m) h))
   recv_step (Some e) h = (Some (step.Note id (event.Received e.0 e.1 e.2)), (refl, refl, h))
 
+turn_step : (id : ℕ) (fs : List (List ℕ)) → Found (Makes (codes "turn") id fs)
+turn_step id [] = (Some (step.Turn id), (refl, refl, refl))
+turn_step id (f ∷ fs) = (None, no-turn id (f ∷ fs) (λ e. cc))
+
 ask_step : (id : ℕ) (fs : List (List ℕ)) → Found (Makes (codes "ask") id fs)
 ask_step id [] = (Some (step.Ask id), (refl, refl, refl))
 ask_step id (f ∷ fs) = (None, no-ask id (f ∷ fs) (λ e. cc))
@@ -321,25 +328,48 @@ word_step word id fs = elim (same_bytes word (codes "open")) [
       | inl e ↦ let sends = exchange_found fs in worded word (codes "send") id fs e (send_step id fs sends.0 sends.1)
       | inr send_no ↦ elim (same_bytes word (codes "recv")) [
         | inl e ↦ let receives = exchange_found fs in worded word (codes "recv") id fs e (recv_step id fs receives.0 receives.1)
-        | inr recv_no ↦ elim (same_bytes word (codes "ask")) [
-          | inl e ↦ worded word (codes "ask") id fs e (ask_step id fs)
-          | inr ask_no ↦ (None, no-word word id fs open_no join_no send_no recv_no ask_no)
+        | inr recv_no ↦ elim (same_bytes word (codes "turn")) [
+          | inl e ↦ worded word (codes "turn") id fs e (turn_step id fs)
+          | inr turn_no ↦ elim (same_bytes word (codes "ask")) [
+            | inl e ↦ worded word (codes "ask") id fs e (ask_step id fs)
+            | inr ask_no ↦ (None, no-word word id fs open_no join_no send_no recv_no turn_no ask_no)
+          ]
         ]
       ]
     ]
   ]
 ]
 
-step_from : (word number : List ℕ) (fs : List (List ℕ)) (o : Option ℕ) → Finds (IsNumber number) o → Found (MakesStep (word ∷ number ∷ fs))
-step_from word number fs None none = (None, λ s h. none h.0 h.1)
-step_from word number fs (Some id) n =
-    let made = word_step word id fs in (made.0, found-step word number fs id n made.0 made.1)
+step_from : (word number : List ℕ) (fs : List (List ℕ)) → (word ≡ codes "withdraw" → ⊥) → (o : Option ℕ) → Finds (IsNumber number) o → Found (MakesStep (word ∷ number ∷ fs))
+step_from word number fs other None none = (None, no-number word number fs other none)
+step_from word number fs other (Some id) n =
+    let made = word_step word id fs in (made.0, found-step word number fs id other n made.0 made.1)
+
+-- the withdrawal that a name makes without further fields
+pub no_withdrawal : (text : List ℕ) (fs : List (List ℕ)) → ((name : List (List ℕ)) → (fs ≡ []) × IsDottedText text name → ⊥) → (s : Step) → Withdraws text fs s → ⊥
+no_withdrawal text fs none (step.Withdraw name) h = none name h
+no_withdrawal text fs none (step.Put t) h = h
+no_withdrawal text fs none (step.Open i name) h = h
+no_withdrawal text fs none (step.Note i e) h = h
+no_withdrawal text fs none (step.Turn i) h = h
+no_withdrawal text fs none (step.Ask i) h = h
+
+withdrawal_from : (text : List ℕ) (o : Option (List (List ℕ))) → Finds (IsDottedText text) o → Found (Withdraws text [])
+withdrawal_from text None none = (None, no_withdrawal text [] (λ name h. none name h.1))
+withdrawal_from text (Some name) d = (Some (step.Withdraw name), (refl, d))
+
+withdrawal_found : (text : List ℕ) (fs : List (List ℕ)) → Found (Withdraws text fs)
+withdrawal_found text [] = let name = dotted_found text in withdrawal_from text name.0 name.1
+withdrawal_found text (f ∷ fs) = (None, no_withdrawal text (f ∷ fs) (λ name h. let e : f ∷ fs ≡ [] = h.0 in cc))
 
 -- the step that fields make
 step_found : (fs : List (List ℕ)) → Found (MakesStep fs)
 step_found [] = (None, no-short [] (omega arith))
 step_found (word ∷ []) = (None, no-short (word ∷ []) (omega arith))
-step_found (word ∷ number ∷ fs) = let id = number_found number in step_from word number fs id.0 id.1
+step_found (word ∷ first ∷ fs) = elim (same_bytes word (codes "withdraw")) [
+  | inl e ↦ let made = withdrawal_found first fs in (made.0, found-withdrawal word first fs e made.0 made.1)
+  | inr other ↦ let id = number_found first in step_from word first fs other id.0 id.1
+]
 
 is_skipped : (fs : List (List ℕ)) → Decided (IsSkipped fs)
 is_skipped [] = inl tt
@@ -354,15 +384,30 @@ is_put (word ∷ []) = elim (same_bytes word (codes "put")) [
 ]
 is_put (a ∷ b ∷ fs) = inr (λ e. let h : a ∷ b ∷ fs ≡ codes "put" ∷ [] = e in cc)
 
-said_within : (bytes : List ℕ) → length bytes ≤ 131072 → Decided (IsSkipped (fields bytes)) → Decided (IsPutLine (fields bytes)) → (o : Option Step) → Finds (MakesStep (fields bytes)) o → (said : Line) × Says bytes said
-said_within bytes fits (inl s) p o k = (line.Skipped, (fits, s))
-said_within bytes fits (inr ns) (inl p) o k = (line.Put, (fits, p))
-said_within bytes fits (inr ns) (inr np) None none = (line.Bad, inr (ns, np, none))
-said_within bytes fits (inr ns) (inr np) (Some s) k = (line.Step s, (fits, k))
+-- the format that fields ask for
+abbrev Asked : List (List ℕ) → Type 0
+Asked fs = (f : Format) × (rest : List (List ℕ)) × Asks fs f rest
+
+asked : (fs : List (List ℕ)) → Asked fs
+asked [] = (format.Line, [], (refl, λ more e. let h : [] ≡ codes "json" ∷ more = e in cc))
+asked (word ∷ fs) = elim (same_bytes word (codes "json")) [
+  | inl e ↦ (format.Json, fs, ap (λ (w : List ℕ). w ∷ fs) e)
+  | inr n ↦ (format.Line, word ∷ fs, (refl, λ more e. n (let h : word ∷ fs ≡ codes "json" ∷ more = e in cc)))
+]
+
+said_within : (bytes : List ℕ) → length bytes ≤ 131072 → Decided (IsSkipped (fields bytes)) → (a : Asked (fields bytes)) → Decided (IsPutLine a.1) → (o : Option Step) → Finds (MakesStep a.1) o → (said : Line) × Says bytes said
+said_within bytes fits (inl s) a p o k = (line.Skipped, (fits, s))
+said_within bytes fits (inr ns) a (inl p) o k = (line.Put a.0, (fits, (a.1, a.2, p)))
+said_within bytes fits (inr ns) a (inr np) None none =
+    (line.Bad, inr (ns, no_put (fields bytes) a.1 a.0 a.2 np, no_step (fields bytes) a.1 a.0 a.2 none))
+said_within bytes fits (inr ns) a (inr np) (Some s) k = (line.Step a.0 s, (fits, (a.1, a.2, k)))
 
 -- what a line says
 pub line_said : (bytes : List ℕ) → (said : Line) × Says bytes said
 line_said bytes = elim (cases_lt 131072 (length bytes)) [
   | inl long ↦ (line.Bad, inl long)
-  | inr fits ↦ let made = step_found (fields bytes) in said_within bytes fits (is_skipped (fields bytes)) (is_put (fields bytes)) made.0 made.1
+  | inr fits ↦
+      let a = asked (fields bytes) in
+      let made = step_found a.1 in
+      said_within bytes fits (is_skipped (fields bytes)) a (is_put a.1) made.0 made.1
 ]

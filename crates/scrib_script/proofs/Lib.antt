@@ -1,5 +1,6 @@
 pub mod Decisions
 pub mod Digits
+pub mod Formats
 pub mod Pieces
 pub mod Printed
 pub mod Steps

@@ -1,5 +1,5 @@
 -- The step that the fields of a line make (this project's own).
-use Rattle.std.specs.Prelude.{◌≡◌, ℕ, List, [], ◌∷◌, IsTrue, codes}
+use Rattle.std.specs.Prelude.{◌≡◌, ◌⊎◌, ℕ, List, [], ◌∷◌, IsTrue, codes}
 use Rattle.scrib_types.specs.declared.message.Message.{Message}
 use Rattle.scrib_types.specs.declared.event.Event.TheVariants as event
 use Rattle.scrib_types.specs.Names.{is_name}
@@ -15,6 +15,7 @@ IsExchange fs from to m =
 -- the word, the id and the fields behind them make the step
 abbrev pub Makes : List ℕ → ℕ → List (List ℕ) → Step → Type 0
 Makes word id fs (step.Put text) = ⊥
+Makes word id fs (step.Withdraw name) = ⊥
 Makes word id fs (step.Open i name) =
     (word ≡ codes "open") × (i ≡ id) × ((text : List ℕ) × (fs ≡ text ∷ []) × IsDottedText text name)
 Makes word id fs (step.Note i (event.Join role)) =
@@ -22,10 +23,21 @@ Makes word id fs (step.Note i (event.Join role)) =
 Makes word id fs (step.Note i (event.Sent from to m)) = (word ≡ codes "send") × (i ≡ id) × IsExchange fs from to m
 Makes word id fs (step.Note i (event.Received from to m)) =
     (word ≡ codes "recv") × (i ≡ id) × IsExchange fs from to m
+Makes word id fs (step.Turn i) = (word ≡ codes "turn") × (i ≡ id) × (fs ≡ [])
 Makes word id fs (step.Ask i) = (word ≡ codes "ask") × (i ≡ id) × (fs ≡ [])
 
--- the fields make the step: a word, an id in digits, and further fields
+-- the field behind `withdraw` is the module's name, and no field follows it
+abbrev pub Withdraws : List ℕ → List (List ℕ) → Step → Type 0
+Withdraws text fs (step.Withdraw name) = (fs ≡ []) × IsDottedText text name
+Withdraws text fs (step.Put t) = ⊥
+Withdraws text fs (step.Open i name) = ⊥
+Withdraws text fs (step.Note i e) = ⊥
+Withdraws text fs (step.Turn i) = ⊥
+Withdraws text fs (step.Ask i) = ⊥
+
+-- the fields make the step: `withdraw` and a name, or a word, an id in digits, and further fields
 abbrev pub MakesStep : List (List ℕ) → Step → Type 0
 MakesStep [] s = ⊥
 MakesStep (word ∷ []) s = ⊥
-MakesStep (word ∷ number ∷ fs) s = (id : ℕ) × IsNumber number id × Makes word id fs s
+MakesStep (word ∷ first ∷ fs) s =
+    ((word ≡ codes "withdraw") × Withdraws first fs s) ⊎ ((id : ℕ) × IsNumber first id × Makes word id fs s)

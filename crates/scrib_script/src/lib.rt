@@ -2,6 +2,7 @@
 #![tactic(auto)]
 
 mod fields;
+pub mod format;
 pub mod line;
 mod step;
 mod text;

@@ -1,9 +1,10 @@
 //! Lines of a script.
 
 ghost use Rattle.std.specs.Prelude.{◌↔◌, IfOk, IsTrue, map};
-ghost use Rattle.scrib_script.specs.Says.{Says, IsSkipped, IsPutLine};
+ghost use Rattle.scrib_script.specs.Says.{Says, IsSkipped, IsPutLine, Asks};
 
 use crate::fields::fields_of;
+use crate::format::Format;
 use crate::step::step_of;
 use scrib_core::step::Step;
 use std::alloc::{AllocError, Global};
@@ -16,10 +17,10 @@ pub const MAX_LINE_BYTES: usize = 131_072;
 pub enum Line {
     /// A line without fields, or a comment.
     Skipped,
-    /// The text of a module follows.
-    Put,
-    /// A step.
-    Step(Step),
+    /// The text of a module follows, and the reply to its put is printed so.
+    Put(Format),
+    /// A step, and how its reply is printed.
+    Step(Format, Step),
     /// None of these.
     Bad,
 }
@@ -39,11 +40,12 @@ pub fn line_of(alloc: Global, bytes: &[u8]) -> Result<Line, AllocError>
     if is_skipped(fields) {
         return Ok(Line::Skipped);
     }
-    if is_put(fields) {
-        return Ok(Line::Put);
+    let (format, words) = format_of(fields);
+    if is_put(words) {
+        return Ok(Line::Put(format));
     }
-    match step_of(alloc, fields)? {
-        Some(step) => Ok(Line::Step(step)),
+    match step_of(alloc, words)? {
+        Some(step) => Ok(Line::Step(format, step)),
         None => Ok(Line::Bad),
     }
 }
@@ -55,6 +57,16 @@ fn is_skipped(fields: &[&[u8]]) -> bool
     match fields {
         [] => true,
         [first, ..] => first.first() == Some(&b'#'),
+    }
+}
+
+// The format that the fields ask for, and the fields behind that.
+fn format_of<'a, 'b>(fields: &'a [&'b [u8]]) -> (Format, &'a [&'b [u8]])
+    ensures { Asks (map (λ field. field.now) fields.now) result.0 (map (λ field. field.now) result.1.now) }
+{
+    match fields {
+        [word, rest @ ..] if *word == b"json".as_slice() => (Format::Json, rest),
+        _ => (Format::Line, fields),
     }
 }
 

@@ -2,7 +2,7 @@
 
 ghost use Rattle.std.specs.Prelude.{IfOk, map, codes};
 ghost use Rattle.scrib_script.specs.Fields.{Finds};
-ghost use Rattle.scrib_script.specs.Steps.{Makes, MakesStep, IsExchange};
+ghost use Rattle.scrib_script.specs.Steps.{Makes, Withdraws, MakesStep, IsExchange};
 
 use crate::text::{dotted_of, message_of, number_of};
 use scrib_core::step::Step;
@@ -23,10 +23,13 @@ struct Exchange {
 pub(crate) fn step_of(alloc: Global, fields: &[&[u8]]) -> Result<Option<Step>, AllocError>
     ensures { IfOk result (Finds (MakesStep (map (λ field. field.now) fields.now))) }
 {
-    let [word, number, rest @ ..] = fields else {
+    let [word, first, rest @ ..] = fields else {
         return Ok(None);
     };
-    let Some(id) = number_of(number) else {
+    if *word == b"withdraw".as_slice() {
+        return withdraw_of(alloc, first, rest);
+    }
+    let Some(id) = number_of(first) else {
         return Ok(None);
     };
     step_with(alloc, word, id, rest)
@@ -53,10 +56,26 @@ fn step_with(
     if word == b"recv".as_slice() {
         return recv_of(alloc, id, fields);
     }
+    if word == b"turn".as_slice() && fields.is_empty() {
+        return Ok(Some(Step::Turn { id }));
+    }
     if word == b"ask".as_slice() && fields.is_empty() {
         return Ok(Some(Step::Ask { id }));
     }
     Ok(None)
+}
+
+// The withdrawal of the module of this name, if there are no further fields.
+fn withdraw_of(alloc: Global, text: &[u8], fields: &[&[u8]]) -> Result<Option<Step>, AllocError>
+    ensures { IfOk result (Finds (Withdraws text.now (map (λ field. field.now) fields.now))) }
+{
+    if !fields.is_empty() {
+        return Ok(None);
+    }
+    let Some(name) = dotted_of(alloc, text)? else {
+        return Ok(None);
+    };
+    Ok(Some(Step::Withdraw { name }))
 }
 
 fn open_of(alloc: Global, id: u32, fields: &[&[u8]]) -> Result<Option<Step>, AllocError>

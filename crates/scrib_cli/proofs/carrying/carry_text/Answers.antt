@@ -7,13 +7,14 @@ use Rattle.scrib_cli.proofs.carrying.carry_text.Goals as goal
 
 pub returns-clause-ok : goal.returns-clause-ok
 returns-clause-ok g c =
-    let text = c.args.text.items in
+    let text = c.args.text.bytes.items in
     let line = c.args.line.now in (
       λ e. false≢true (sym c.if-is_text_end.false ∙ c.is_text_end.ensures.1 (c.before_end.ensures ∙ e)),
       λ h.
-          let first : c.keep.new.kept.items ≡ take 1048577 (c.args.text.items ++ c.args.line.now) = c.in_ok-keep.ensures (omega (arith, h, c.args.text.ok.0)) in
-          let short : vec_len c.keep.new.kept ≤ 1048577 = omega (arith, ap length first, length-take 1048577 (c.args.text.items ++ c.args.line.now), c.keep.new.kept.ok.0) in
-          c.in_ok-keep-2.ensures short ∙ ap (λ (t : List ℕ). take 1048577 (t ++ 10 ∷ [])) first ∙ take_kept 1048577 (text ++ line) (10 ∷ []) ∙ ap (take 1048577) (append_assoc text line (10 ∷ [])),
+          let first : c.keep.new.kept.items ≡ take 1048577 (c.args.text.bytes.items ++ c.args.line.now) = c.in_ok-keep.ensures (omega (arith, h, c.args.text.bytes.ok.0)) in
+          let short : vec_len c.keep.new.kept ≤ 1048577 = omega (arith, ap length first, length-take 1048577 (c.args.text.bytes.items ++ c.args.line.now), c.keep.new.kept.ok.0) in
+          let all = c.in_ok-keep-2.ensures short ∙ ap (λ (t : List ℕ). take 1048577 (t ++ 10 ∷ [])) first ∙ take_kept 1048577 (text ++ line) (10 ∷ []) ∙ ap (take 1048577) (append_assoc text line (10 ∷ [])) in
+          ap (λ (bytes : List ℕ). record { bytes = bytes; format = c.args.text.format }) all,
       refl,
       appends_none (g.W.Write.contents c.args.writer.now),
     )

@@ -1,15 +1,15 @@
 use Rattle.std.proofs.Common.{◌<◌, length, take, sym, subst, arith}
 use Rattle.std.specs.Io.KnownBytes.{IsAtEnd}
 use Rattle.std.proofs.lemmas.Result.{err_from_is_err_and}
-use Rattle.scrib_core.specs.World.{World}
-use Rattle.scrib_core.specs.Held.{world_of}
+use Rattle.scrib_core.specs.Answers.{State}
+use Rattle.scrib_core.specs.Held.{state_of}
 use Rattle.scrib_cli.specs.Progress.{Ran}
 use Rattle.scrib_cli.proofs.Ending.{reaches_none, reaches_kept, reaches_end, reaches_went, reached_end, end_failed, read_failed, piece_failed}
 use Rattle.scrib_cli.proofs.run_script.run_by_pieces.Goals as goal
 
 pub loop-init : goal.loop-init
 loop-init g c =
-    reaches_none c.args.telling c.new-run.result (g.R.Read.remaining c.args.reader.now) (g.W.Write.contents c.args.writer.now) c.new-run.ensures.telling c.new-run.ensures.holds c.new-run.ensures.lines c.new-run.ensures.world
+    reaches_none c.args.telling c.new-run.result (g.R.Read.remaining c.args.reader.now) (g.W.Write.contents c.args.writer.now) c.new-run.ensures.telling c.new-run.ensures.holds c.new-run.ensures.lines c.new-run.ensures.state
 
 pub loop-preserved-then-eq : goal.loop-preserved-then-eq
 loop-preserved-then-eq g c =
@@ -36,8 +36,8 @@ returns-then-n-eq0-clause-ok g c =
     let some : 0 < length c.read.new.buf = omega (arith, c.read.auto.buf, c.loop.auto.piece, c.requires) in
     let at_end : IsAtEnd (g.R.Read.remaining c.read.new.self) = c.in-Ok.ensures.bytes.1 c.if-n-eq0.true some in
     let reached = reaches_end c.args.telling c.loop.run r0 (g.R.Read.remaining c.loop.reader) (g.R.Read.remaining c.read.new.self) w0 (g.W.Write.contents c.loop.writer) c.in-Ok.n c.read.new.buf c.loop.invariant c.in-Ok.ensures.bytes.0 c.if-n-eq0.true in
-    let ran = reached_end c.args.telling c.loop.run (world_of c.finish.new.self.core) r0 (g.R.Read.remaining c.read.new.self) w0 (g.W.Write.contents c.loop.writer) (g.W.Write.contents c.finish.new.writer) reached at_end c.in_ok-finish.ensures.ok in
-    subst (λ (v : World). Ran c.args.telling (g.R.Read.remaining c.args.reader.now) v (g.W.Write.contents c.args.writer.now) (g.W.Write.contents c.finish.new.writer)) (sym c.into_core.ensures) ran
+    let ran = reached_end c.args.telling c.loop.run (state_of c.finish.new.self.core) r0 (g.R.Read.remaining c.read.new.self) w0 (g.W.Write.contents c.loop.writer) (g.W.Write.contents c.finish.new.writer) reached at_end c.in_ok-finish.ensures.ok in
+    subst (λ (v : State). Ran c.args.telling (g.R.Read.remaining c.args.reader.now) v (g.W.Write.contents c.args.writer.now) (g.W.Write.contents c.finish.new.writer)) (sym c.into_core.ensures) ran
 
 pub returns-in_err-take_piece-clause-err : goal.returns-in_err-take_piece-clause-err
 returns-in_err-take_piece-clause-err g c =

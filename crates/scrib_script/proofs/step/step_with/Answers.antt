@@ -9,3 +9,9 @@ returns-then-is_empty c =
     let empty : length c.args.fields.now ≡ 0 = grind (arith, nat_tests, c.is_empty.ensures, c.if-is_empty.true) in
     let same = slice_eq-Decides Decides-eqb _ _ _ c.eq-5.ensures in
     (same.0 c.if-eq-5.true ∙ c.as_slice-5.ensures, refl, ap (map (λ field. field.now)) (nil_from_length c.args.fields.now empty))
+
+pub returns-then-is_empty-2 : goal.returns-then-is_empty-2
+returns-then-is_empty-2 c =
+    let empty : length c.args.fields.now ≡ 0 = grind (arith, nat_tests, c.is_empty-then-eq-6.ensures, c.if-is_empty-2.true) in
+    let same = slice_eq-Decides Decides-eqb _ _ _ c.eq-6.ensures in
+    (same.0 c.if-eq-6.true ∙ c.as_slice-6.ensures, refl, ap (map (λ field. field.now)) (nil_from_length c.args.fields.now empty))

@@ -1,5 +1,5 @@
 use Rattle.std.proofs.Common.{Bool, true, subst}
-use Rattle.scrib_core.specs.Held.{world_of}
+use Rattle.scrib_core.specs.Held.{state_of}
 use Rattle.std.proofs.lemmas.Result.{err_from_is_err_and}
 use Rattle.scrib_cli.specs.Progress.{LastLine}
 use Rattle.scrib_cli.proofs.Ending.{ended_tail, failed_tail}
@@ -8,10 +8,10 @@ use Rattle.scrib_cli.proofs.run.Run.finish.Goals as goal
 pub returns-in_err-tell-clause-err : goal.returns-in_err-tell-clause-err
 returns-in_err-tell-clause-err g c =
     let p = err_from_is_err_and c.from_residual-in_err-tell.result c.from_residual-in_err-tell.ensures.1 in
-    let last = subst (λ (b : Bool). LastLine c.args.self.now b (world_of c.last_line.new.self.core) (g.W.Write.contents c.args.writer.now) (g.W.Write.contents c.last_line.new.writer)) c.if-branch.true c.in_ok-last_line.ensures.ok in
-    rw p.1 (failed_tail c.args.self.now true (world_of c.last_line.new.self.core) (g.W.Write.contents c.args.writer.now) (g.W.Write.contents c.last_line.new.writer) (g.W.Write.contents c.tell.new.writer) last c.in_err-tell.ensures.err)
+    let last = subst (λ (b : Bool). LastLine c.args.self.now b (state_of c.last_line.new.self.core) (g.W.Write.contents c.args.writer.now) (g.W.Write.contents c.last_line.new.writer)) c.if-branch.true c.in_ok-last_line.ensures.ok in
+    rw p.1 (failed_tail c.args.self.now true (state_of c.last_line.new.self.core) (g.W.Write.contents c.args.writer.now) (g.W.Write.contents c.last_line.new.writer) (g.W.Write.contents c.tell.new.writer) last c.in_err-tell.ensures.err)
 
 pub returns-in_ok-tell-clause-ok : goal.returns-in_ok-tell-clause-ok
 returns-in_ok-tell-clause-ok g c =
-    let last = subst (λ (b : Bool). LastLine c.args.self.now b (world_of c.last_line.new.self.core) (g.W.Write.contents c.args.writer.now) (g.W.Write.contents c.last_line.new.writer)) c.if-branch.true c.in_ok-last_line.ensures.ok in
-    ended_tail c.args.self.now true (world_of c.last_line.new.self.core) (g.W.Write.contents c.args.writer.now) (g.W.Write.contents c.last_line.new.writer) (g.W.Write.contents c.tell.new.writer) last c.in_ok-tell.ensures.ok
+    let last = subst (λ (b : Bool). LastLine c.args.self.now b (state_of c.last_line.new.self.core) (g.W.Write.contents c.args.writer.now) (g.W.Write.contents c.last_line.new.writer)) c.if-branch.true c.in_ok-last_line.ensures.ok in
+    ended_tail c.args.self.now true (state_of c.last_line.new.self.core) (g.W.Write.contents c.args.writer.now) (g.W.Write.contents c.last_line.new.writer) (g.W.Write.contents c.tell.new.writer) last c.in_ok-tell.ensures.ok

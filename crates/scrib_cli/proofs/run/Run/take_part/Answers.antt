@@ -1,5 +1,5 @@
 use Rattle.std.proofs.Common.{◌≡◌, ◌∙◌, ℕ, refl, sym, subst, take, ◌++◌, arith}
-use Rattle.scrib_cli.specs.Progress.{most, text_of}
+use Rattle.scrib_cli.specs.Progress.{most, as_text, text_of}
 use Rattle.scrib_cli.proofs.Going.{went_part, went_none, most_some, most_none}
 use Rattle.scrib_cli.proofs.run.Run.take_part.Goals as goal
 use Rattle.scrib_cli.proofs.run.Run.take_part.Goals.{then-is_some, else-is_some}
@@ -13,9 +13,9 @@ returns c =
     let part = c.args.part.now in
     elim c.if-is_some.branch [
       | then-is_some w ↦
-          let e : c.if-is_some.most ≡ most (text_of c.args.self.now) = w.most-is ∙ sym (most_some (λ v. v.items) c.args.self.now.text w.if-is_some.ensures) in
+          let e : c.if-is_some.most ≡ most (text_of c.args.self.now) = w.most-is ∙ sym (most_some as_text c.args.self.now.text w.if-is_some.ensures) in
           λ x. went_part self _ part x refl refl refl refl (λ h. subst (λ (n : ℕ). c.keep.new.kept.items ≡ take n (c.args.self.now.line.items ++ c.args.part.now)) e (c.in_ok-keep.ensures (omega (arith, h, e, c.args.self.now.line.ok.0)))) c.requires
       | else-is_some w ↦
-          let e : c.if-is_some.most ≡ most (text_of c.args.self.now) = w.most-is ∙ sym (most_none (λ v. v.items) c.args.self.now.text w.if-is_some.ensures) in
+          let e : c.if-is_some.most ≡ most (text_of c.args.self.now) = w.most-is ∙ sym (most_none as_text c.args.self.now.text w.if-is_some.ensures) in
           λ x. went_part self _ part x refl refl refl refl (λ h. subst (λ (n : ℕ). c.keep.new.kept.items ≡ take n (c.args.self.now.line.items ++ c.args.part.now)) e (c.in_ok-keep.ensures (omega (arith, h, e, c.args.self.now.line.ok.0)))) c.requires
     ]

@@ -1,0 +1,47 @@
+-- The members of replies: each key goes to its place in the order of bytes, and none has a float.
+use Rattle.std.proofs.Common.{◌≡◌, ℕ, List, [], ◌∷◌, false, codes, map, refl}
+use Rattle.serde_json.specs.Data.{string, Members, member, put}
+use Rattle.serde_json.specs.View.{items_of}
+use Rattle.serde_json.specs.Written.{has_float, items_have_float, members_have_float}
+use Rattle.scrib_types.specs.declared.event.Verdict.TheVariants.{Permitted, Offence, Withdrawn}
+use Rattle.scrib_types.specs.declared.event.Told.{Told}
+use Rattle.scrib_types.specs.declared.event.Told.TheVariants.{Stale, Judged}
+use Rattle.scrib_types.specs.Texts.{action_text}
+use Rattle.scrib_core.specs.declared.reply.Reply.{Reply}
+use Rattle.scrib_core.specs.declared.reply.Reply.TheVariants as reply
+use Rattle.scrib_report.specs.Lines.{change_text}
+use Rattle.scrib_report.specs.Json.{natural, offence_then, verdict_member, json_of}
+
+pub noted_in_order : (id place : ℕ) (told : Told)
+    → put (codes "place") (natural place) (put (codes "conversation") (natural id) (offence_then told (verdict_member told)))
+    ≡ offence_then told (member (codes "conversation") (natural id) (member (codes "place") (natural place) (verdict_member told)))
+noted_in_order id place Stale = refl
+noted_in_order id place (Judged Permitted) = refl
+noted_in_order id place (Judged (Offence at by allowed)) = refl
+noted_in_order id place (Judged Withdrawn) = refl
+
+pub judged_in_order : (id : ℕ) (name : List ℕ) (events : ℕ) (told : Told)
+    → put (codes "protocol") (string name) (put (codes "events") (natural events) (put (codes "conversation") (natural id) (offence_then told (verdict_member told))))
+    ≡ offence_then told (member (codes "conversation") (natural id) (member (codes "events") (natural events) (member (codes "protocol") (string name) (verdict_member told))))
+judged_in_order id name events Stale = refl
+judged_in_order id name events (Judged Permitted) = refl
+judged_in_order id name events (Judged (Offence at by allowed)) = refl
+judged_in_order id name events (Judged Withdrawn) = refl
+
+texts_have_no_float : {A : Type 0} (text : A → List ℕ) (as_ : List A) → items_have_float (items_of (map (λ a. string (text a)) as_)) ≡ false
+texts_have_no_float text [] = refl
+texts_have_no_float text (a ∷ as_) = texts_have_no_float text as_
+
+told_has_no_float : (told : Told) (ms : Members) → members_have_float ms ≡ false → members_have_float (offence_then told ms) ≡ false
+told_has_no_float Stale ms h = h
+told_has_no_float (Judged Permitted) ms h = h
+told_has_no_float (Judged Withdrawn) ms h = h
+told_has_no_float (Judged (Offence place role allowed)) ms h = rw (texts_have_no_float action_text allowed) h
+
+pub json_has_no_float : (r : Reply) → has_float (json_of r) ≡ false
+unfolding json_of
+json_has_no_float (reply.Edited e changes) = rw (texts_have_no_float change_text changes.list)
+json_has_no_float (reply.Opened id name) = refl
+json_has_no_float (reply.Noted id place told) = told_has_no_float told _ refl
+json_has_no_float (reply.Judged id name events told) = told_has_no_float told _ refl
+json_has_no_float (reply.Refused f) = refl

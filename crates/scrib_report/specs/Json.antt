@@ -1,0 +1,72 @@
+-- The JSON of replies (this project's own). What a JSON value is and which text it has are the words of `serde_json`:
+-- `Data`, and `compact_text`, which writes the members of an object in the order in which they stand. So the keys below
+-- stand in the order of their bytes.
+use Rattle.std.specs.Prelude.{ℕ, List, codes, map}
+use Rattle.serde_json.specs.Data.{Data, number, unsigned, string, array, object, Members, no_members, member}
+use Rattle.serde_json.specs.View.{items_of}
+use Rattle.serde_json.specs.Written.{compact_text}
+use Rattle.scrib_types.specs.declared.event.Action.{Action}
+use Rattle.scrib_types.specs.declared.event.Verdict.TheVariants.{Permitted, Offence, Withdrawn}
+use Rattle.scrib_types.specs.declared.event.Told.{Told}
+use Rattle.scrib_types.specs.declared.event.Told.TheVariants.{Stale, Judged}
+use Rattle.scrib_types.specs.Texts.{dotted_text, action_text}
+use Rattle.scrib_library.specs.declared.changes.Change.{Change}
+use Rattle.scrib_core.specs.declared.reply.Reply.{Reply}
+use Rattle.scrib_core.specs.declared.reply.Reply.TheVariants as reply
+use Rattle.scrib_report.specs.Lines.{change_text, edit_word, told_word, refusal_text}
+
+abbrev pub natural : ℕ → Data
+natural n = number (unsigned n)
+
+-- `"+demo.Hello"`
+abbrev pub change_item : Change → Data
+change_item c = string (change_text c)
+
+-- `["+demo.Hello"]`
+abbrev pub changes_array : List Change → Data
+changes_array cs = array (items_of (map change_item cs))
+
+-- `"B!hello()"`
+abbrev pub action_item : Action → Data
+action_item a = string (action_text a)
+
+-- `["B!hello()","B!x()"]`
+abbrev pub actions_array : List Action → Data
+actions_array as_ = array (items_of (map action_item as_))
+
+-- the members, and of an offence before them `"allowed":[],"at":3,"by":"B"`: what was allowed, its place and its role
+abbrev pub offence_then : Told → Members → Members
+offence_then Stale ms = ms
+offence_then (Judged Permitted) ms = ms
+offence_then (Judged Withdrawn) ms = ms
+offence_then (Judged (Offence place role allowed)) ms =
+    member (codes "allowed") (actions_array allowed) (member (codes "at") (natural place) (member (codes "by") (string role) ms))
+
+-- `"verdict":"permitted"`
+abbrev pub verdict_member : Told → Members
+verdict_member told = member (codes "verdict") (string (told_word told)) no_members
+
+-- `{"conversation":1,"place":3,"verdict":"permitted"}`
+abbrev pub noted_object : ℕ → ℕ → Told → Data
+noted_object id place told =
+    object (offence_then told (member (codes "conversation") (natural id) (member (codes "place") (natural place) (verdict_member told))))
+
+-- `{"conversation":1,"events":2,"protocol":"demo.Hello","verdict":"permitted"}`
+abbrev pub judged_object : ℕ → List (List ℕ) → ℕ → Told → Data
+judged_object id name events told =
+    object (offence_then told (member (codes "conversation") (natural id) (member (codes "events") (natural events) (member (codes "protocol") (string (dotted_text name)) (verdict_member told)))))
+
+-- the others: `{"changes":["+demo.Hello"],"edit":"put","module":"demo"}`, `{"conversation":1,"opened":"demo.Hello"}` and
+-- `{"refused":"LogFull"}`
+unfoldable pub json_of : Reply → Data
+json_of (reply.Edited e changes) =
+    object (member (codes "changes") (changes_array changes.list) (member (codes "edit") (string (edit_word e)) (member (codes "module") (string (dotted_text changes.module)) no_members)))
+json_of (reply.Opened id name) =
+    object (member (codes "conversation") (natural id) (member (codes "opened") (string (dotted_text name)) no_members))
+json_of (reply.Noted id place told) = noted_object id place told
+json_of (reply.Judged id name events told) = judged_object id name events told
+json_of (reply.Refused f) = object (member (codes "refused") (string (refusal_text f)) no_members)
+
+-- the object with no blank between its parts
+abbrev pub json_text : Reply → List ℕ
+json_text r = compact_text (json_of r)

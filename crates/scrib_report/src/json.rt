@@ -1,0 +1,179 @@
+//! The JSON of replies.
+
+ghost use Rattle.std.specs.Prelude.{◌≡◌, IfOk};
+ghost use Rattle.serde_json.specs.Data.{string};
+ghost use Rattle.serde_json.specs.View.{view, members_view};
+ghost use Rattle.scrib_types.specs.Texts.{dotted_text};
+ghost use Rattle.scrib_report.specs.Lines.{refusal_text};
+ghost use Rattle.scrib_report.specs.Json as objects;
+
+use crate::edit::{edit_word, push_change};
+use crate::fault::push_refusal;
+use crate::verdict::told_word;
+use scrib_core::reply::{Refusal, Reply};
+use scrib_library::changes::Change;
+use scrib_types::event::{Action, Told, Verdict};
+use scrib_types::name::{Dotted, Role};
+use scrib_types::text::{push_action, push_dotted};
+use serde_json::{Map, Value, json, put};
+use std::alloc::{AllocError, Global};
+
+// A text as JSON. Names are ASCII, and so is each text here; since no contract of a name says so, it is
+// tested that the text is UTF-8.
+fn text_value(text: Vec<u8>) -> Result<Value, AllocError>
+    ensures { IfOk result (λ value. view value ≡ string text.items) }
+{
+    match String::from_utf8(text) {
+        Ok(text) => Ok(Value::String(text)),
+        Err(_) => Err(AllocError),
+    }
+}
+
+fn role_value(alloc: Global, role: &Role) -> Result<Value, AllocError>
+    ensures { IfOk result (λ value. view value ≡ string role.now) }
+{
+    text_value(Vec::from_slice(alloc, role.as_bytes())?)
+}
+
+fn dotted_value(alloc: Global, name: &Dotted) -> Result<Value, AllocError>
+    ensures { IfOk result (λ value. view value ≡ string (dotted_text name.now)) }
+{
+    let mut text = Vec::new(alloc);
+    push_dotted(&mut text, name)?;
+    text_value(text)
+}
+
+fn refusal_value(alloc: Global, refusal: &Refusal) -> Result<Value, AllocError>
+    ensures { IfOk result (λ value. view value ≡ string (refusal_text refusal.now)) }
+{
+    let mut text = Vec::new(alloc);
+    push_refusal(&mut text, refusal)?;
+    text_value(text)
+}
+
+fn change_value(alloc: Global, change: &Change) -> Result<Value, AllocError>
+    ensures { IfOk result (λ value. view value ≡ objects.change_item change.now) }
+{
+    let mut text = Vec::new(alloc);
+    push_change(&mut text, change)?;
+    text_value(text)
+}
+
+fn changes_value(alloc: Global, changes: &[Change]) -> Result<Value, AllocError>
+    ensures { IfOk result (λ value. view value ≡ objects.changes_array changes.now) }
+{
+    let mut values = Vec::new(alloc);
+    for change in changes {
+        values.push(change_value(alloc, change)?)?;
+    }
+    Ok(Value::Array(values))
+}
+
+fn action_value(alloc: Global, action: &Action) -> Result<Value, AllocError>
+    ensures { IfOk result (λ value. view value ≡ objects.action_item action.now) }
+{
+    let mut text = Vec::new(alloc);
+    push_action(&mut text, action)?;
+    text_value(text)
+}
+
+fn actions_value(alloc: Global, actions: &[Action]) -> Result<Value, AllocError>
+    ensures { IfOk result (λ value. view value ≡ objects.actions_array actions.now) }
+{
+    let mut values = Vec::new(alloc);
+    for action in actions {
+        values.push(action_value(alloc, action)?)?;
+    }
+    Ok(Value::Array(values))
+}
+
+// The members that say what is told.
+fn told_members(alloc: Global, told: &Told) -> Result<Map<String, Value>, AllocError>
+    ensures { IfOk result (λ members. members_view members.entries
+        ≡ objects.offence_then told.now (objects.verdict_member told.now)) }
+{
+    let mut members = Map::new(alloc);
+    if let Told::Judged(
+        Verdict::Offence {
+            place,
+            role,
+            allowed,
+        },
+    ) = told
+    {
+        let allowed = actions_value(alloc, allowed.as_slice())?;
+        put(&mut members, alloc, "allowed", allowed)?;
+        put(&mut members, alloc, "at", Value::from(*place))?;
+        put(&mut members, alloc, "by", role_value(alloc, role)?)?;
+    }
+    let word = Value::try_from_str(alloc, told_word(told))?;
+    put(&mut members, alloc, "verdict", word)?;
+    Ok(members)
+}
+
+#[tactic(auto, using(crate::proofs::Members::noted_in_order))]
+fn noted_value(alloc: Global, id: u32, place: usize, told: &Told) -> Result<Value, AllocError>
+    ensures { IfOk result (λ value. view value ≡ objects.noted_object id place told.now) }
+{
+    let mut members = told_members(alloc, told)?;
+    put(&mut members, alloc, "conversation", Value::from(id))?;
+    put(&mut members, alloc, "place", Value::from(place))?;
+    Ok(Value::Object(members))
+}
+
+#[tactic(auto, using(crate::proofs::Members::judged_in_order))]
+fn judged_value(
+    alloc: Global,
+    id: u32,
+    name: &Dotted,
+    events: usize,
+    told: &Told,
+) -> Result<Value, AllocError>
+    ensures { IfOk result (λ value. view value ≡ objects.judged_object id name.now events told.now) }
+{
+    let mut members = told_members(alloc, told)?;
+    put(&mut members, alloc, "conversation", Value::from(id))?;
+    put(&mut members, alloc, "events", Value::from(events))?;
+    put(&mut members, alloc, "protocol", dotted_value(alloc, name)?)?;
+    Ok(Value::Object(members))
+}
+
+#[tactic(auto, unfolding(crate::specs::Json::json_of))]
+fn reply_value(alloc: Global, reply: &Reply) -> Result<Value, AllocError>
+    ensures { IfOk result (λ value. view value ≡ objects.json_of reply.now) }
+{
+    match reply {
+        Reply::Edited { edit, changes } => {
+            let list = changes_value(alloc, changes.list.as_slice())?;
+            let module = dotted_value(alloc, &changes.module)?;
+            json!(in alloc; {"changes": list, "edit": edit_word(*edit), "module": module})
+        }
+        Reply::Opened { id, name } => {
+            let name = dotted_value(alloc, name)?;
+            json!(in alloc; {"conversation": *id, "opened": name})
+        }
+        Reply::Noted { id, place, told } => noted_value(alloc, *id, *place, told),
+        Reply::Judged {
+            id,
+            name,
+            events,
+            told,
+        } => judged_value(alloc, *id, name, *events, told),
+        Reply::Refused(refusal) => {
+            let text = refusal_value(alloc, refusal)?;
+            json!(in alloc; {"refused": text})
+        }
+    }
+}
+
+/// The reply as one compact JSON object, its keys in the order of their bytes, in ASCII bytes, without a line
+/// feed.
+///
+/// # Errors
+/// `AllocError` where memory for the text was refused.
+#[tactic(auto, using(crate::proofs::Members::json_has_no_float))]
+pub fn json(alloc: Global, reply: &Reply) -> Result<Vec<u8>, AllocError>
+    ensures { IfOk result (λ text. text.items ≡ objects.json_text reply.now) }
+{
+    reply_value(alloc, reply)?.to_vec(alloc)
+}
