@@ -1,0 +1,6 @@
+pub mod Indexes
+pub mod Keeping
+pub mod Receipting
+pub mod Strays
+pub mod Sweeping
+pub mod Touching

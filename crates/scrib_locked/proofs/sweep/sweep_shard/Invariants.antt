@@ -1,0 +1,10 @@
+use Rattle.std.proofs.Common.{◌≡◌, ◌≤◌}
+use Rattle.scrib_locked.proofs.Sweeping.{IsSweptSoFar}
+use Rattle.scrib_locked.proofs.sweep.sweep_shard.Given as goal
+
+abbrev pub invariant-loop-id : goal.invariant-loop-id
+invariant-loop-id l = record {
+  swept : IsSweptSoFar l.library l.id-items l.id-index l.initial.shard.records l.shard.records;
+  limit : l.shard.most ≡ l.initial.shard.most;
+  turns : l.swept.judged ≤ l.swept.turns;
+}

@@ -1,0 +1,6 @@
+pub mod Shards
+pub mod Receipts
+pub mod Passes
+pub mod Locked
+pub mod Passing
+pub mod Sweeping

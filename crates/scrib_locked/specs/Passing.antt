@@ -1,0 +1,35 @@
+-- What notes and questions by a pass do in a shard, and why they are refused (this project's own).
+use Rattle.std.specs.Prelude.{◌≡◌, Some, All}
+use Rattle.scrib_types.specs.declared.event.Event.{Event}
+use Rattle.scrib_types.specs.declared.event.Told.{Told}
+use Rattle.scrib_library.specs.Holdings.{Holdings}
+use Rattle.scrib_core.specs.Held.{Records}
+use Rattle.scrib_core.specs.Conversing.{IsNotedAt, NoteFails, TellFails}
+use Rattle.scrib_locked.specs.declared.stepping.Noted.{Noted}
+use Rattle.scrib_locked.specs.declared.passing.PassRefusal.{PassRefusal}
+use Rattle.scrib_locked.specs.declared.passing.PassRefusal.TheVariants.{Mismatch, Step}
+use Rattle.scrib_locked.specs.Shards.{ShardHeld, log_at}
+use Rattle.scrib_locked.specs.Locked.{IsAskedFor}
+use Rattle.scrib_locked.specs.Receipts.{StandsIn, IsLeastStray}
+use Rattle.scrib_locked.specs.Passes.{PassHeld, newest_of}
+
+-- the newest receipt stood, and the event was noted in the pass's conversation
+pub record IsNotedBy (h : Holdings) (old : ShardHeld) (p : PassHeld) (e : Event) (n : Noted) (new : ShardHeld) : Type 0 where
+  pub stood : All (StandsIn (log_at old.records p.conversation)) (newest_of p.receipts)
+  pub noted : IsNotedAt h old.records p.conversation e n.place n.told new.records
+  pub limit : new.most ≡ old.most
+
+-- why the note is refused: the newest receipt doesn't stand, or else the step is refused
+abbrev pub PassNoteFails : Records → PassHeld → PassRefusal → Type 0
+PassNoteFails rs p (Mismatch id place) = (id ≡ p.conversation) × IsLeastStray (log_at rs p.conversation) (newest_of p.receipts) (Some place)
+PassNoteFails rs p (Step f) = All (StandsIn (log_at rs p.conversation)) (newest_of p.receipts) × NoteFails rs p.conversation f
+
+-- each receipt stood, and this is told of the pass's conversation
+pub record IsAskedBy (h : Holdings) (rs : Records) (p : PassHeld) (answer : Told) : Type 0 where
+  pub stood : All (StandsIn (log_at rs p.conversation)) p.receipts
+  pub asked : IsAskedFor h rs p.conversation answer
+
+-- why the question is refused: a receipt doesn't stand, the least place being told, or else the step is refused
+abbrev pub PassAskFails : Records → PassHeld → PassRefusal → Type 0
+PassAskFails rs p (Mismatch id place) = (id ≡ p.conversation) × IsLeastStray (log_at rs p.conversation) p.receipts (Some place)
+PassAskFails rs p (Step f) = All (StandsIn (log_at rs p.conversation)) p.receipts × TellFails rs p.conversation f

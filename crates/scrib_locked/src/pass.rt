@@ -1,0 +1,79 @@
+//! Passes, and the receipts of what was noted by them.
+
+ghost use Rattle.std.specs.Prelude.{◌≡◌, ◌-◌, [], true, drop, length};
+ghost use Rattle.scrib_locked.specs.Passes.{newest_of, rises};
+
+use scrib_types::event::Event;
+use std::alloc::{AllocError, Global};
+use std::marker::Model;
+
+/// That an event was noted: the event, and its place in the log of its conversation, from 1.
+#[derive(Drop)]
+pub struct Receipt {
+    pub place: usize,
+    pub event: Event,
+}
+
+/// The right to note events of one conversation. A pass has a receipt of each event that was noted by it, oldest first, so
+/// that their places rise. It can't be cloned. Contracts see the conversation and the receipts.
+#[derive(Drop)]
+pub struct Pass {
+    pub(crate) conversation: u32,
+    pub(crate) receipts: Vec<Receipt>,
+}
+
+impl Model for Pass {
+    ghost use Rattle.std.specs.Prelude.{◌≡◌, true};
+    ghost use Rattle.scrib_locked.specs.Passes.{PassHeld, rises};
+
+    ghost Value = { PassHeld };
+
+    ghost view = { λ p. record { conversation = p.conversation; receipts = p.receipts.items } };
+
+    ghost invariant = { λ p. rises 0 p.receipts.items ≡ true };
+}
+
+impl Pass {
+    /// A pass to the conversation, by which nothing was noted.
+    pub(crate) fn new(alloc: Global, conversation: u32) -> Pass
+        ensures { result ≡ record { conversation = conversation; receipts = [] } }
+    {
+        Pass {
+            conversation,
+            receipts: Vec::new(alloc),
+        }
+    }
+
+    /// The id of the conversation.
+    pub fn conversation(&self) -> u32
+        ensures { result ≡ self.now.conversation }
+    {
+        self.conversation
+    }
+
+    /// The receipts, oldest first. Their number is the share of the pass.
+    pub fn receipts(&self) -> &[Receipt]
+        ensures all { result.now ≡ self.now.receipts }
+        ensures rise { rises 0 self.now.receipts ≡ true }
+    {
+        self.receipts.as_slice()
+    }
+
+    /// The newest receipt, alone, or none.
+    pub fn newest(&self) -> &[Receipt]
+        ensures { result.now ≡ newest_of self.now.receipts }
+    {
+        let older = self.receipts.len().saturating_sub(1);
+        &self.receipts[older..]
+    }
+
+    /// Makes room for one receipt more, so that a note needn't. The pass stays as it is.
+    ///
+    /// # Errors
+    /// `AllocError` where memory was refused.
+    pub fn reserve(&mut self) -> Result<(), AllocError>
+        ensures { self.new ≡ self.old }
+    {
+        self.receipts.reserve(1)
+    }
+}

@@ -1,0 +1,10 @@
+//! The end of a service: what its passes were told against what its shards hold.
+#![tactic(auto)]
+
+mod differing;
+pub mod ended;
+pub mod fault;
+mod places;
+pub mod settle;
+pub mod shares;
+mod tally;

@@ -1,0 +1,70 @@
+-- What a call that takes a lock says of what it found there: that there were such values (this project's own).
+use Rattle.std.specs.Prelude.{◌≡◌, ℕ, List}
+use Rattle.scrib_types.specs.declared.event.Told.{Told}
+use Rattle.scrib_parser.specs.declared.tree.ModuleTree.{ModuleTree}
+use Rattle.scrib_library.specs.declared.changes.Changes.{Changes}
+use Rattle.scrib_library.specs.declared.fault.EditFault.{EditFault}
+use Rattle.scrib_library.specs.Holdings.{Holdings}
+use Rattle.scrib_library.specs.Edits.{IsPut, IsChanges, AreVersionsUsed, PutFails, IsWithdrawal, WithdrawFails}
+use Rattle.scrib_core.specs.declared.reply.Refusal.{Refusal}
+use Rattle.scrib_core.specs.Held.{Records}
+use Rattle.scrib_core.specs.Conversing.{IsOpened, OpenFails, TellFails}
+use Rattle.scrib_locked.specs.declared.passing.PassRefusal.{PassRefusal}
+use Rattle.scrib_locked.specs.Shards.{ShardHeld}
+use Rattle.scrib_locked.specs.Locked.{ConnectFails, IsTurnedFor}
+use Rattle.scrib_locked.specs.Passes.{PassHeld}
+use Rattle.scrib_locked.specs.Passing.{PassNoteFails, PassAskFails}
+use Rattle.scrib_locked.specs.Sweeping.{AreTouched}
+
+-- some library, and what a put of the text made of it
+pub record IsPutSome (text : List ℕ) (changes : Changes) : Type 0 where
+  pub old : Holdings
+  pub new : Holdings
+  pub put : (m : ModuleTree) × IsPut old.modules text m new.modules × (changes.module ≡ m.name) × IsChanges old.modules new.modules changes.list
+  pub versions : AreVersionsUsed old new changes.list
+
+-- some library, in which a put of the text has the fault
+abbrev pub PutFailsSome : List ℕ → EditFault → Type 0
+PutFailsSome text f = (h : Holdings) × PutFails h.modules h.used text f
+
+-- some library, and what a withdrawal of the module made of it
+pub record IsWithdrawnSome (name : List (List ℕ)) (changes : Changes) : Type 0 where
+  pub old : Holdings
+  pub new : Holdings
+  pub withdrawn : IsWithdrawal old.modules name new.modules
+  pub home : changes.module ≡ name
+  pub changed : IsChanges old.modules new.modules changes.list
+
+abbrev pub WithdrawFailsSome : List (List ℕ) → EditFault → Type 0
+WithdrawFailsSome name f = (h : Holdings) × WithdrawFails h.modules name f
+
+-- some library and shard, in which the conversation was opened
+pub record IsOpenedSome (id : ℕ) (name : List (List ℕ)) : Type 0 where
+  pub library : Holdings
+  pub shard : ShardHeld
+  pub new : Records
+  pub opened : IsOpened shard.most library shard.records id name new
+
+abbrev pub OpenFailsSome : ℕ → List (List ℕ) → Refusal → Type 0
+OpenFailsSome id name f = (h : Holdings) × (s : ShardHeld) × OpenFails s.most h s.records id name f
+
+abbrev pub ConnectFailsSome : ℕ → Refusal → Type 0
+ConnectFailsSome id f = (rs : Records) × ConnectFails rs id f
+
+-- some records, in which the note by the pass is refused for this
+abbrev pub NoteFailsSome : PassHeld → PassRefusal → Type 0
+NoteFailsSome p f = (rs : Records) × PassNoteFails rs p f
+
+-- some library and records, in which the turn was taken
+abbrev pub IsTurnedSome : ℕ → Told → Type 0
+IsTurnedSome id answer = (h : Holdings) × (old : Records) × (new : Records) × IsTurnedFor h old id answer new
+
+abbrev pub TellFailsSome : ℕ → Refusal → Type 0
+TellFailsSome id f = (rs : Records) × TellFails rs id f
+
+abbrev pub AskFailsSome : PassHeld → PassRefusal → Type 0
+AskFailsSome p f = (rs : Records) × PassAskFails rs p f
+
+-- some library and records, of which these are stale
+abbrev pub IsTouchedSome : List ℕ → Type 0
+IsTouchedSome ids = (h : Holdings) × (rs : Records) × AreTouched h rs ids

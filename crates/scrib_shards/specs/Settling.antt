@@ -1,0 +1,25 @@
+-- What a settled service says of what its locks held (this project's own).
+use Rattle.std.specs.Prelude.{◌<◌, ◌≤◌, List, length}
+use Rattle.scrib_library.specs.Holdings.{Holdings}
+use Rattle.scrib_locked.specs.Shards.{ShardHeld}
+use Rattle.scrib_locked.specs.Passes.{PassHeld}
+use Rattle.scrib_settle.specs.declared.ended.Ended.{Ended}
+use Rattle.scrib_settle.specs.declared.fault.SettleFault.{SettleFault}
+use Rattle.scrib_settle.specs.Settled.{IsSettled, IsFault}
+
+-- the values of 1 to 64 shards
+pub record AreShards (shards : List ShardHeld) : Type 0 where
+  pub some : 0 < length shards
+  pub few : length shards ≤ 64
+
+-- there were shards that the passes settle under the library, to this list
+pub record IsSettledSome (h : Holdings) (passes : List PassHeld) (list : List Ended) : Type 0 where
+  pub shards : List ShardHeld
+  pub are : AreShards shards
+  pub settled : IsSettled h shards passes list
+
+-- there were shards that the passes don't settle, for this
+pub record IsFaultSome (passes : List PassHeld) (f : SettleFault) : Type 0 where
+  pub shards : List ShardHeld
+  pub are : AreShards shards
+  pub fault : IsFault shards passes f

@@ -1,0 +1,15 @@
+//! Gates, by which a test sees a call while it holds its locks.
+
+/// What is done once in each note and each turn, while the locks are held and before the reply.
+pub trait Gate {
+    /// The call holds the lock of the shard of this number, from 0.
+    fn hold(&self, shard: usize);
+}
+
+/// A gate that does nothing.
+#[derive(Clone, Copy)]
+pub struct OpenGate;
+
+impl Gate for OpenGate {
+    fn hold(&self, _shard: usize) {}
+}

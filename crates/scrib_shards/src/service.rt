@@ -1,0 +1,220 @@
+//! The service.
+
+ghost use Rattle.std.specs.Prelude.{◌≡◌, ◌⊎◌, ◌↔◌, ◌<◌, ◌≤◌, [], IfOk, IfErr, OnOk, OnErr, IsErrOf, vec_len, vec_capacity};
+ghost use Rattle.scrib_locked.specs.Passes.{IsReceipted, IsAnsweredOn};
+ghost use Rattle.scrib_shards.specs.Called.{IsPutSome, PutFailsSome, IsWithdrawnSome, WithdrawFailsSome, IsOpenedSome, OpenFailsSome, ConnectFailsSome, NoteFailsSome, IsTurnedSome, TellFailsSome, AskFailsSome};
+
+use crate::gate::Gate;
+use scrib_core::monitor::MAX_CONVERSATIONS;
+use scrib_core::reply::Refusal;
+use scrib_library::changes::Changes;
+use scrib_library::fault::EditFault;
+use scrib_library::library::Library;
+use scrib_locked::locked::connect_locked;
+use scrib_locked::pass::Pass;
+use scrib_locked::passing::{PassRefusal, ask_by_pass, note_by_pass};
+use scrib_locked::shard::Shard;
+use scrib_locked::stepping::{Noted, open_step, turn_step};
+use scrib_settle::shares::MAX_SHARDS;
+use scrib_types::event::{Event, Told};
+use scrib_types::name::Dotted;
+use std::alloc::Global;
+use std::sync::{Mutex, RwLock, Wait};
+
+/// Why a service isn't made.
+#[derive(Drop)]
+pub enum ServiceFault {
+    /// There are to be none, or more than 64 shards.
+    BadShards,
+    /// Memory was refused.
+    OutOfMemory,
+}
+
+/// A library behind a lock for reading and writing, and 1 to 64 shards, each behind a lock of its own. An edit takes the
+/// library's lock for writing; each other call takes it for reading, where it needs the library, and then the lock of
+/// its conversation's shard, whose number is the id modulo the number of shards.
+#[derive(Drop)]
+pub struct Service {
+    pub(crate) alloc: Global,
+    pub(crate) library: RwLock<Library>,
+    pub(crate) shards: Vec<Mutex<Shard>>,
+    // room for the values of all shards, so that settling needs none
+    pub(crate) spare: Vec<Shard>,
+    pub ghost some: { 0 < vec_len shards },
+    pub ghost few: { vec_len shards ≤ 64 },
+    pub ghost empty: { vec_len spare ≡ 0 },
+    pub ghost room: { vec_len shards ≤ vec_capacity spare },
+}
+
+impl Service {
+    /// A service of so many shards, without modules and conversations. All shards together may have 65,536 conversations,
+    /// each the same number.
+    ///
+    /// # Errors
+    /// `BadShards` exactly where there are to be none or more than 64; `OutOfMemory` where memory was refused.
+    pub fn new(alloc: Global, shards: usize) -> Result<Service, ServiceFault>
+        ensures made { IfOk result (λ s. vec_len s.shards ≡ shards) }
+        ensures bad { IsErrOf result ServiceFault.BadShards ↔ ((shards ≡ 0) ⊎ (64 < shards)) }
+    {
+        if shards == 0 || shards > MAX_SHARDS {
+            return Err(ServiceFault::BadShards);
+        }
+        let most = MAX_CONVERSATIONS / shards;
+        let (Ok(mut locks), Ok(spare)) = (
+            Vec::with_capacity(alloc, shards),
+            Vec::with_capacity(alloc, shards),
+        ) else {
+            return Err(ServiceFault::OutOfMemory);
+        };
+        for _ in 0..shards {
+            locks.push_reserved(Mutex::new(Shard::new(alloc, most)));
+        }
+        let library = RwLock::new(Library::new(alloc));
+        Ok(made(alloc, library, locks, spare))
+    }
+
+    /// How many shards there are.
+    pub fn shards(&self) -> usize
+        ensures is { result ≡ vec_len self.now.shards }
+        ensures some { 0 < result }
+        ensures few { result ≤ 64 }
+    {
+        self.shards.len()
+    }
+
+    // The shard of a conversation.
+    fn shard_of(&self, id: u32) -> usize
+        ensures { result < vec_len self.now.shards }
+    {
+        id as usize % self.shards.len()
+    }
+
+    /// Puts the module that the text is, in place of the one of its name if there is one, and answers what changed.
+    ///
+    /// # Errors
+    /// The first fault of `EditFault`'s list that the put has; `OutOfMemory` where memory was refused. Nothing changes.
+    pub fn put(&self, rt: &impl Wait, text: &[u8]) -> Result<Changes, EditFault>
+        ensures ok { IfOk result (IsPutSome text.now) }
+        ensures fault { IfErr result (PutFailsSome text.now) }
+    {
+        self.library.write(rt).put(text)
+    }
+
+    /// Takes the module of this name out, and answers what changed.
+    ///
+    /// # Errors
+    /// `UnknownModule` where there is no module of the name, else `StillImported` where another module imports it;
+    /// `OutOfMemory` where memory was refused. Nothing changes.
+    pub fn withdraw(&self, rt: &impl Wait, name: &Dotted) -> Result<Changes, EditFault>
+        ensures ok { IfOk result (IsWithdrawnSome name.now) }
+        ensures fault { IfErr result (WithdrawFailsSome name.now) }
+    {
+        self.library.write(rt).withdraw(name)
+    }
+
+    /// Opens a conversation of the protocol.
+    ///
+    /// # Errors
+    /// `AlreadyOpen`, `UnknownProtocol`, `TooManyConversations` where its shard is full, or `OutOfMemory`, the first that
+    /// is due. Nothing changes.
+    pub fn open(&self, rt: &impl Wait, id: u32, name: &Dotted) -> Result<(), Refusal>
+        ensures ok { OnOk result (IsOpenedSome id name.now) }
+        ensures fault { IfErr result (OpenFailsSome id name.now) }
+    {
+        let at = self.shard_of(id);
+        let library = self.library.read(rt);
+        let mut shard = self.shards[at].lock(rt);
+        open_step(&library, &mut shard, id, name)
+    }
+
+    /// A pass to a conversation, by which nothing was noted.
+    ///
+    /// # Errors
+    /// `NoConversation` where none is open under the id.
+    pub fn connect(&self, rt: &impl Wait, id: u32) -> Result<Pass, Refusal>
+        ensures ok { IfOk result (λ p. p ≡ record { conversation = id; receipts = [] }) }
+        ensures fault { IfErr result (ConnectFailsSome id) }
+    {
+        let shard = self.shards[self.shard_of(id)].lock(rt);
+        connect_locked(&shard, id)
+    }
+
+    /// Notes the event in the pass's conversation, of which the pass then has the receipt. Where a verdict is told, it is
+    /// that on a log of as many events as the place says, which ends with the event and has the newest earlier receipt at
+    /// its place.
+    ///
+    /// # Errors
+    /// `Mismatch` where the newest receipt doesn't stand at its place, else `NoConversation`, `LogFull` or `OutOfMemory`,
+    /// the first that is due. Nothing changes, nor does the pass.
+    pub fn note<G: Gate>(
+        &self,
+        rt: &impl Wait,
+        pass: &mut Pass,
+        event: Event,
+        gate: &G,
+    ) -> Result<Noted, PassRefusal>
+        ensures ok { IfOk result (λ n. IsReceipted pass.old event n pass.new) }
+        ensures fault { IfErr result (NoteFailsSome pass.old) }
+        ensures err { OnErr result (pass.new ≡ pass.old) }
+    {
+        // room is found before the locks are taken; where there is none, the note itself is refused
+        let _ = pass.reserve();
+        let at = self.shard_of(pass.conversation());
+        let library = self.library.read(rt);
+        let mut shard = self.shards[at].lock(rt);
+        let noted = note_by_pass(&library, &mut shard, pass, event);
+        gate.hold(at);
+        noted
+    }
+
+    /// Judges up to 256 further events of a conversation whose verdict is out of date, and tells what is told then.
+    ///
+    /// # Errors
+    /// `NoConversation` or `OutOfMemory`. Nothing changes.
+    pub fn turn<G: Gate>(&self, rt: &impl Wait, id: u32, gate: &G) -> Result<Told, Refusal>
+        ensures ok { IfOk result (IsTurnedSome id) }
+        ensures fault { IfErr result (TellFailsSome id) }
+    {
+        let at = self.shard_of(id);
+        let library = self.library.read(rt);
+        let mut shard = self.shards[at].lock(rt);
+        let turned = turn_step(&library, &mut shard, id);
+        gate.hold(at);
+        turned
+    }
+
+    /// What is told of the pass's conversation, whose log has all its receipts.
+    ///
+    /// # Errors
+    /// `Mismatch` with the least place where a receipt doesn't stand, else `NoConversation` or `OutOfMemory`.
+    pub fn ask(&self, rt: &impl Wait, pass: &Pass) -> Result<Told, PassRefusal>
+        ensures ok { IfOk result (IsAnsweredOn pass.now.receipts) }
+        ensures fault { IfErr result (AskFailsSome pass.now) }
+    {
+        let at = self.shard_of(pass.conversation());
+        let library = self.library.read(rt);
+        let shard = self.shards[at].lock(rt);
+        ask_by_pass(&library, &shard, pass)
+    }
+}
+
+// A service of these parts, with room for the values of its shards.
+pub(crate) fn made(
+    alloc: Global,
+    library: RwLock<Library>,
+    shards: Vec<Mutex<Shard>>,
+    spare: Vec<Shard>,
+) -> Service
+    requires some { 0 < vec_len shards }
+    requires few { vec_len shards ≤ 64 }
+    requires empty { vec_len spare ≡ 0 }
+    requires room { vec_len shards ≤ vec_capacity spare }
+    ensures { vec_len result.shards ≡ vec_len shards }
+{
+    Service {
+        alloc,
+        library,
+        shards,
+        spare,
+    }
+}

@@ -1,0 +1,103 @@
+//! The end of a service.
+
+ghost use Rattle.std.specs.Prelude.{◌≡◌, ◌≤◌, IfOk, IfErr, vec_len, vec_capacity};
+ghost use Rattle.std.specs.Option.{option_map};
+ghost use Rattle.scrib_record.specs.Versions.{meaning_of, number_of};
+ghost use Rattle.scrib_library.specs.Holdings.{IsNumber};
+ghost use Rattle.scrib_library.specs.Modules.{IsMeaning};
+ghost use Rattle.scrib_shards.specs.Settling.{IsSettledSome, IsFaultSome};
+
+use crate::service::{Service, made};
+use scrib_library::library::Library;
+use scrib_locked::pass::Pass;
+use scrib_locked::shard::Shard;
+use scrib_record::version::Version;
+use scrib_settle::ended::Ended;
+use scrib_settle::fault::SettleFault;
+use scrib_settle::settle::settle_parts;
+use scrib_types::name::Dotted;
+use std::sync::{Mutex, RwLock};
+
+/// A service at its end: the library, and every conversation by rising id.
+#[derive(Drop)]
+pub struct Settled {
+    pub library: Library,
+    pub list: Vec<Ended>,
+}
+
+impl Settled {
+    /// The version of a protocol that is there at the end, by its full name.
+    pub fn present(&self, name: &Dotted) -> Option<&Version>
+        ensures meaning { IsMeaning self.now.library.modules name.now (option_map (λ v. meaning_of v.now) result) }
+        ensures number { IsNumber self.now.library name.now (option_map (λ v. number_of v.now) result) }
+    {
+        self.library.present(name)
+    }
+}
+
+impl Service {
+    /// Ends the service: every conversation, where the passes have exactly one receipt for each place of each log, which
+    /// is equal to the entry there, and none besides.
+    ///
+    /// # Errors
+    /// `PassesMissing` for the least shard whose passes have other than its number of receipts; else `Mismatch` for the
+    /// least conversation and its least place that differs; or else `OutOfMemory`, which may also come in place of
+    /// `Mismatch`. The service and the passes come back.
+    pub fn settle(self, passes: Vec<Pass>) -> Result<Settled, (SettleFault, Service, Vec<Pass>)>
+        ensures settled { IfOk result (λ s. IsSettledSome s.library passes.items s.list.items) }
+        ensures fault { IfErr result (λ e. IsFaultSome passes.items e.0) }
+        ensures passes { IfErr result (λ e. e.2 ≡ passes) }
+    {
+        let Service {
+            alloc,
+            library,
+            shards,
+            spare,
+        } = self;
+        let library = library.into_inner();
+        let (values, locks) = unlock_all(shards, spare);
+        match settle_parts(alloc, &library, values.as_slice(), passes.as_slice()) {
+            Ok(list) => Ok(Settled { library, list }),
+            Err(fault) => {
+                let (locks, spare) = lock_all(locks, values);
+                let service = made(alloc, RwLock::new(library), locks, spare);
+                Err((fault, service, passes))
+            }
+        }
+    }
+}
+
+// The values behind the locks, in order, for which there is room, and the emptied list of locks.
+fn unlock_all(
+    mut locks: Vec<Mutex<Shard>>,
+    mut values: Vec<Shard>,
+) -> (Vec<Shard>, Vec<Mutex<Shard>>)
+    requires empty { vec_len values ≡ 0 }
+    requires room { vec_len locks ≤ vec_capacity values }
+    ensures all { vec_len result.0 ≡ vec_len locks }
+    ensures values { vec_len locks ≤ vec_capacity result.0 }
+    ensures empty { vec_len result.1 ≡ 0 }
+    ensures room { vec_len locks ≤ vec_capacity result.1 }
+{
+    while let Some(lock) = locks.pop() {
+        values.push_reserved(lock.into_inner());
+    }
+    values.reverse();
+    (values, locks)
+}
+
+// Locks of the values, in order, for which there is room, and the emptied list of values.
+fn lock_all(mut locks: Vec<Mutex<Shard>>, mut values: Vec<Shard>) -> (Vec<Mutex<Shard>>, Vec<Shard>)
+    requires empty { vec_len locks ≡ 0 }
+    requires room { vec_len values ≤ vec_capacity locks }
+    requires back { vec_len values ≤ vec_capacity values }
+    ensures all { vec_len result.0 ≡ vec_len values }
+    ensures empty { vec_len result.1 ≡ 0 }
+    ensures room { vec_len values ≤ vec_capacity result.1 }
+{
+    values.reverse();
+    while let Some(value) = values.pop() {
+        locks.push_reserved(Mutex::new(value));
+    }
+    (locks, values)
+}

@@ -1,0 +1,45 @@
+//! What is out of date in a service, and a sweep of all its shards.
+
+ghost use Rattle.std.specs.Prelude.{◌<◌, ◌≤◌, IfOk, vec_len};
+ghost use Rattle.scrib_shards.specs.Called.{IsTouchedSome};
+
+use crate::service::Service;
+use scrib_locked::sweep::{Swept, sweep_shard, touched_locked};
+use std::alloc::AllocError;
+use std::sync::Wait;
+
+impl Service {
+    /// The conversations of the shard of this number whose verdict is out of date, by rising id.
+    ///
+    /// # Errors
+    /// `AllocError` where memory was refused.
+    pub fn touched(&self, rt: &impl Wait, shard: usize) -> Result<Vec<u32>, AllocError>
+        requires { shard < vec_len self.now.shards }
+        ensures { IfOk result (λ ids. IsTouchedSome ids.items) }
+    {
+        let library = self.library.read(rt);
+        let shard = self.shards[shard].lock(rt);
+        touched_locked(&library, &shard)
+    }
+
+    /// Brings the verdict of each conversation up to date, shard after shard, with at most 256 turns of each
+    /// conversation. It takes no lock.
+    ///
+    /// # Errors
+    /// `AllocError` where memory was refused. Each turn that was made before stays.
+    pub fn sweep_shards(&mut self) -> Result<Swept, AllocError>
+        ensures { IfOk result (λ s. s.judged ≤ s.turns) }
+    {
+        let library = self.library.get_mut();
+        let mut swept = Swept {
+            turns: 0,
+            judged: 0,
+        };
+        for shard in self.shards.iter_mut() {
+            let more = sweep_shard(library, shard.get_mut())?;
+            swept.turns = swept.turns.saturating_add(more.turns);
+            swept.judged = swept.judged.saturating_add(more.judged);
+        }
+        Ok(swept)
+    }
+}
