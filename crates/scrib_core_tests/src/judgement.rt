@@ -1,10 +1,9 @@
-//! Judgements of logs, each by the program's way and by the plain definitions.
+//! What the core tells of logs, against the judgement by the definitions.
 
 use crate::making::{event, library, put, step, version};
 use scrib_core::monitor::Core;
 use scrib_core::reply::Reply;
 use scrib_global::judge::judge_whole;
-use scrib_record::judge::judge;
 use scrib_types::event::{Event, Told, Verdict};
 use scrib_types::text::{push_action, push_bytes, push_number};
 use std::alloc::Global;
@@ -130,15 +129,7 @@ const VERDICTS: [(&str, &[&str], &str); 14] = [
     (EMPTY, &["join 1 A", "send 1 A B x()"], "offence at 2 by A:"),
 ];
 
-fn log(alloc: Global, lines: &[&str]) -> Result<Vec<Event>, Fail> {
-    let mut log = Vec::new(alloc);
-    for line in lines {
-        log.push(event(alloc, line)?)?;
-    }
-    Ok(log)
-}
-
-fn told(alloc: Global, verdict: &Verdict) -> Result<Vec<u8>, Fail> {
+pub(crate) fn told(alloc: Global, verdict: &Verdict) -> Result<Vec<u8>, Fail> {
     let mut text = Vec::new(alloc);
     match verdict {
         Verdict::Permitted => push_bytes(&mut text, b"permitted")?,
@@ -162,40 +153,11 @@ fn told(alloc: Global, verdict: &Verdict) -> Result<Vec<u8>, Fail> {
     Ok(text)
 }
 
-fn judged(alloc: Global, text: &str, log: &[Event]) -> Result<Vec<u8>, Fail> {
-    let library = library(alloc, text)?;
-    let verdict = judge(alloc, version(alloc, &library)?, log)?;
-    told(alloc, &verdict)
-}
-
-// The same, by the definitions.
+// The verdict by the definitions.
 fn judged_whole(alloc: Global, text: &str, log: &[Event]) -> Result<Vec<u8>, Fail> {
     let library = library(alloc, text)?;
     let verdict = judge_whole(alloc, version(alloc, &library)?.protocol(), log)?;
     told(alloc, &verdict)
-}
-
-#[test]
-fn logs_are_permitted_or_offend(rt: HostRuntime) -> Result<(), Fail> {
-    for (text, lines, want) in &VERDICTS {
-        let log = log(rt.alloc(), lines)?;
-        let verdict = judged(rt.alloc(), text, &log)?;
-        assert_eq!(rt; verdict.as_slice(), want.as_bytes());
-    }
-    Ok(())
-}
-
-#[test]
-fn by_the_definitions_verdicts_are_the_same(rt: HostRuntime) -> Result<(), Fail> {
-    for (text, lines, _) in &VERDICTS {
-        let log = log(rt.alloc(), lines)?;
-        for n in 0..log.len() + 1 {
-            let verdict = judged(rt.alloc(), text, &log[..n])?;
-            let whole = judged_whole(rt.alloc(), text, &log[..n])?;
-            assert_eq!(rt; verdict.as_slice(), whole.as_slice(), "of {n} events");
-        }
-    }
-    Ok(())
 }
 
 // The core with the module, in which conversation 1 of its protocol is open.
@@ -219,15 +181,17 @@ fn noted(alloc: Global, core: &mut Core, line: &str) -> Result<Vec<u8>, Fail> {
 
 #[test]
 fn after_each_event_the_core_tells_the_same(rt: HostRuntime) -> Result<(), Fail> {
-    for (text, lines, _) in &VERDICTS {
+    for (text, lines, want) in &VERDICTS {
         let mut log = Vec::new(rt.alloc());
         let mut core = opened(rt.alloc(), text)?;
+        let mut last = Vec::new(rt.alloc());
         for line in *lines {
-            let verdict = noted(rt.alloc(), &mut core, line)?;
+            last = noted(rt.alloc(), &mut core, line)?;
             log.push(event(rt.alloc(), line)?)?;
             let whole = judged_whole(rt.alloc(), text, &log)?;
-            assert_eq!(rt; verdict.as_slice(), whole.as_slice(), "after {line}");
+            assert_eq!(rt; last.as_slice(), whole.as_slice(), "after {line}");
         }
+        assert_eq!(rt; last.as_slice(), want.as_bytes());
     }
     Ok(())
 }

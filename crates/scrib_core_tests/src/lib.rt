@@ -5,6 +5,8 @@
 #[cfg(test)]
 mod edits;
 #[cfg(test)]
+mod generated;
+#[cfg(test)]
 mod judgement;
 #[cfg(test)]
 mod making;
@@ -12,5 +14,3 @@ mod making;
 mod monitor;
 #[cfg(test)]
 mod versions;
-#[cfg(test)]
-mod withdrawals;

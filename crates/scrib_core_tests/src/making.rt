@@ -47,7 +47,7 @@ pub(crate) fn put(alloc: Global, text: &str) -> Result<Step, Fail> {
 /// The step that the line of a script says.
 pub(crate) fn step(alloc: Global, line: &str) -> Result<Step, Fail> {
     let line = line_of(alloc, line.as_bytes())?;
-    let Line::Step(step) = line else {
+    let Line::Step(_, step) = line else {
         return Err(Fail::new("no step"));
     };
     Ok(step)
@@ -56,7 +56,7 @@ pub(crate) fn step(alloc: Global, line: &str) -> Result<Step, Fail> {
 /// The event that the line of a script notes.
 pub(crate) fn event(alloc: Global, line: &str) -> Result<Event, Fail> {
     let line = line_of(alloc, line.as_bytes())?;
-    let Line::Step(Step::Note { id: _, event }) = line else {
+    let Line::Step(_, Step::Note { id: _, event }) = line else {
         return Err(Fail::new("no event"));
     };
     Ok(event)
