@@ -7,22 +7,30 @@ use Rattle.scrib_types.specs.declared.event.Event.{Event}
 use Rattle.scrib_types.specs.declared.event.Told.{Told}
 use Rattle.scrib_types.specs.declared.event.Verdict.TheVariants.{Permitted}
 use Rattle.scrib_types.specs.Agreement.{Agreement}
+use Rattle.scrib_record.specs.declared.comparison.Comparison.{Comparison}
+use Rattle.scrib_record.specs.declared.comparison.Comparison.TheVariants.{Whole, Numbers}
 use Rattle.scrib_record.specs.declared.version.Version.{Version}
 use Rattle.scrib_record.specs.Stale.{Recorded, IsLawful}
 use Rattle.scrib_record.specs.Told.{IsNoted, IsTurned, IsTold}
 use Rattle.scrib_record.specs.Versions.{meaning_of, number_of}
 use Rattle.scrib_library.specs.Holdings.{Holdings, IsNumber}
-use Rattle.scrib_library.specs.Modules.{Means, IsMeaning}
+use Rattle.scrib_library.specs.Modules.{Means, IsMeaning, MeansOnce}
 use Rattle.scrib_core.specs.declared.reply.Refusal.{Refusal}
 use Rattle.scrib_core.specs.declared.reply.Refusal.TheVariants.{AlreadyOpen, UnknownProtocol, TooManyConversations, NoConversation, Edit, LogFull, OutOfMemory}
 use Rattle.scrib_core.specs.declared.reply.Reply.{Reply}
 use Rattle.scrib_core.specs.declared.reply.Reply.TheVariants as reply
-use Rattle.scrib_core.specs.Held.{Records, record_at}
+use Rattle.scrib_core.specs.Held.{Records, record_at, AreKnown}
 
 -- the version that the library has by the name, or none
 pub record IsPresent (h : Holdings) (name : List (List ℕ)) (present : Option Version) : Type 0 where
   pub meaning : IsMeaning h.modules name (option_map meaning_of present)
   pub number : IsNumber h name (option_map number_of present)
+
+-- The comparison serves for the versions of the library and of the records: by numbers alone, where a version of a
+-- record is the one that its number was given to.
+abbrev pub ServesBeside : Comparison → Holdings → Records → Type 0
+ServesBeside Whole h rs = Unit {0}
+ServesBeside Numbers h rs = AreKnown h rs × MeansOnce h.modules
 
 -- the record of an empty log under the version
 abbrev pub begun : List (List ℕ) → Version → Recorded

@@ -1,12 +1,13 @@
 //! What is done to one conversation, beside a library: opening, noting, turning and asking.
 
 ghost use Rattle.std.specs.Prelude.{◌≡◌, IfOk};
-ghost use Rattle.scrib_core.specs.Conversing.{AnswersOpen, AnswersNote, AnswersTurn, AnswersAsk, begun};
+ghost use Rattle.scrib_core.specs.Conversing.{AnswersOpen, AnswersNote, AnswersTurn, AnswersAsk, ServesBeside, begun};
 
 use crate::reply::{Refusal, Reply};
 use crate::telling::told_of;
 use indexmap::IndexMap;
 use scrib_library::library::Library;
+use scrib_record::comparison::Comparison;
 use scrib_record::fault::NoteFault;
 use scrib_record::record::Record;
 use scrib_record::version::Version;
@@ -46,14 +47,21 @@ pub fn open(
 
 /// Notes the event. Answers `Noted`, or refuses with `NoConversation`, `LogFull` or `OutOfMemory`, the first that is
 /// due, and changes nothing.
-pub fn note(library: &Library, records: &mut IndexMap<u32, Record>, id: u32, event: Event) -> Reply
+pub fn note(
+    library: &Library,
+    records: &mut IndexMap<u32, Record>,
+    comparison: Comparison,
+    id: u32,
+    event: Event,
+) -> Reply
+    requires { ServesBeside comparison library.now records.old.entries }
     ensures { AnswersNote library.now records.old.entries id event result records.new.entries }
 {
     let Some(record) = records.get_mut(&id) else {
         return Reply::Refused(Refusal::NoConversation);
     };
     let present = library.present(record.name());
-    match record.note(present, event) {
+    match record.note(present, comparison, event) {
         Ok(told) => Reply::Noted {
             id,
             place: record.log().len(),
@@ -66,7 +74,13 @@ pub fn note(library: &Library, records: &mut IndexMap<u32, Record>, id: u32, eve
 
 /// Judges up to 256 further events of a conversation whose verdict is out of date. Answers `Judged`, or refuses with
 /// `NoConversation` or `OutOfMemory`, and changes nothing.
-pub fn turn(library: &Library, records: &mut IndexMap<u32, Record>, id: u32) -> Reply
+pub fn turn(
+    library: &Library,
+    records: &mut IndexMap<u32, Record>,
+    comparison: Comparison,
+    id: u32,
+) -> Reply
+    requires { ServesBeside comparison library.now records.old.entries }
     ensures { AnswersTurn library.now records.old.entries id result records.new.entries }
 {
     let Some(record) = records.get_mut(&id) else {
@@ -76,7 +90,7 @@ pub fn turn(library: &Library, records: &mut IndexMap<u32, Record>, id: u32) -> 
         return Reply::Refused(Refusal::OutOfMemory);
     };
     let present = library.present(&name);
-    match record.turn(present) {
+    match record.turn(present, comparison) {
         Ok(told) => Reply::Judged {
             id,
             name,
@@ -89,7 +103,14 @@ pub fn turn(library: &Library, records: &mut IndexMap<u32, Record>, id: u32) -> 
 
 /// Tells what the verdict on a conversation is, or that it is out of date. Answers `Judged`, or refuses with
 /// `NoConversation` or `OutOfMemory`.
-pub fn ask(alloc: Global, library: &Library, records: &IndexMap<u32, Record>, id: u32) -> Reply
+pub fn ask(
+    alloc: Global,
+    library: &Library,
+    records: &IndexMap<u32, Record>,
+    comparison: Comparison,
+    id: u32,
+) -> Reply
+    requires { ServesBeside comparison library.now records.now.entries }
     ensures { AnswersAsk library.now records.now.entries id result }
 {
     let Some(record) = records.get(&id) else {
@@ -98,7 +119,7 @@ pub fn ask(alloc: Global, library: &Library, records: &IndexMap<u32, Record>, id
     let Ok(name) = record.name().copy() else {
         return Reply::Refused(Refusal::OutOfMemory);
     };
-    let answer = record.ask(library.present(&name));
+    let answer = record.ask(library.present(&name), comparison);
     match told_of(alloc, answer) {
         Ok(told) => Reply::Judged {
             id,

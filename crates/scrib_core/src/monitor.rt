@@ -17,6 +17,7 @@ use indexmap::IndexMap;
 use scrib_library::changes::Changes;
 use scrib_library::fault::EditFault;
 use scrib_library::library::Library;
+use scrib_record::comparison::Comparison;
 use scrib_record::record::{MAX_EVENTS, Record};
 use scrib_types::event::Event;
 use scrib_types::name::Dotted;
@@ -186,7 +187,13 @@ impl Core {
         ensures memory { IsDue (state_of self.old).world (Note id event) result }
     {
         self.library.are_numbered();
-        note(&self.library, &mut self.records, id, event)
+        note(
+            &self.library,
+            &mut self.records,
+            Comparison::Numbers,
+            id,
+            event,
+        )
     }
 
     fn turn(&mut self, id: u32) -> Reply
@@ -194,7 +201,7 @@ impl Core {
         ensures memory { IsDue (state_of self.old).world (Turn id) result }
     {
         self.library.are_numbered();
-        turn(&self.library, &mut self.records, id)
+        turn(&self.library, &mut self.records, Comparison::Numbers, id)
     }
 
     fn ask(&self, id: u32) -> Reply
@@ -202,7 +209,13 @@ impl Core {
         ensures memory { IsDue (state_of self.now).world (Ask id) result }
     {
         self.library.are_numbered();
-        ask(self.alloc, &self.library, &self.records, id)
+        ask(
+            self.alloc,
+            &self.library,
+            &self.records,
+            Comparison::Numbers,
+            id,
+        )
     }
 }
 

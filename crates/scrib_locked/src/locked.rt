@@ -13,6 +13,7 @@ use crate::standing::least_stray;
 use scrib_core::conversing::{ask, note, open, turn};
 use scrib_core::reply::{Refusal, Reply};
 use scrib_library::library::Library;
+use scrib_record::comparison::Comparison;
 use scrib_types::event::Event;
 use scrib_types::name::Dotted;
 
@@ -39,7 +40,7 @@ pub fn note_locked(library: &Library, shard: &mut Shard, id: u32, event: Event) 
     ensures answered { AnswersNote library.now shard.old.records id event result shard.new.records }
     ensures limit { shard.new.most ≡ shard.old.most }
 {
-    let reply = note(library, &mut shard.records, id, event);
+    let reply = note(library, &mut shard.records, Comparison::Whole, id, event);
     shard.book += entries_of(&reply);
     reply
 }
@@ -50,7 +51,7 @@ pub fn turn_locked(library: &Library, shard: &mut Shard, id: u32) -> Reply
     ensures answered { AnswersTurn library.now shard.old.records id result shard.new.records }
     ensures limit { shard.new.most ≡ shard.old.most }
 {
-    turn(library, &mut shard.records, id)
+    turn(library, &mut shard.records, Comparison::Whole, id)
 }
 
 /// Tells what the verdict on a conversation is, or that it is out of date. Answers `Judged`, or refuses with
@@ -58,7 +59,7 @@ pub fn turn_locked(library: &Library, shard: &mut Shard, id: u32) -> Reply
 pub fn ask_locked(library: &Library, shard: &Shard, id: u32) -> Reply
     ensures { AnswersAsk library.now shard.now.records id result }
 {
-    ask(shard.alloc, library, &shard.records, id)
+    ask(shard.alloc, library, &shard.records, Comparison::Whole, id)
 }
 
 /// A pass to a conversation, by which nothing was noted.

@@ -8,6 +8,7 @@ use crate::shard::Shard;
 use crate::stepping::turn_step;
 use scrib_library::library::Library;
 use scrib_record::answer::Answer;
+use scrib_record::comparison::Comparison;
 use scrib_record::record::Record;
 use scrib_types::event::Told;
 use std::alloc::AllocError;
@@ -93,7 +94,7 @@ fn is_touched(library: &Library, record: &Record) -> bool
     ensures stale { IsTrue result → IsStaleNow library.now record.now }
     ensures fresh { IsFalse result → IsFreshNow library.now record.now }
 {
-    match record.ask(library.present(record.name())) {
+    match record.ask(library.present(record.name()), Comparison::Whole) {
         Answer::Stale => true,
         _ => false,
     }

@@ -22,6 +22,12 @@ stamps_decided v w =
 pub stamp_test : (r : Bool) (v w : Version) → (IsTrue r ↔ HaveSameStamp v w) → r ≡ same_stamp v w
 stamp_test r v w h = same_from_decides r (same_stamp v w) h (stamps_decided v w)
 
+-- so do their numbers, where the same number says that the meanings are the same
+pub numbers_test : (v w : Version) → (number_of v ≡ number_of w → meaning_of v ≡ meaning_of w) → (number_of v == number_of w) ≡ same_stamp v w
+numbers_test v w serves =
+    let decides = Decides-eqb (number_of v) (number_of w) in
+    same_from_decides (number_of v == number_of w) (same_stamp v w) (λ t. let e = decides.0 t in (e, serves e), λ s. decides.1 s.0) (stamps_decided v w)
+
 pub present_itself : (o : Option Version) → is_present o o ≡ true
 present_itself None = refl
 present_itself (Some v) = (stamps_decided v v).1 (refl, refl)

@@ -1,3 +1,4 @@
+pub mod Comparisons
 pub mod Configurations
 pub mod Flat
 pub mod Following

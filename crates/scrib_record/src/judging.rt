@@ -5,12 +5,14 @@ ghost use Rattle.std.specs.Option.{option_copied};
 ghost use Rattle.scrib_types.specs.declared.event.Event.{Event};
 ghost use Rattle.scrib_types.specs.declared.event.Told.TheVariants.{Stale, Judged};
 ghost use Rattle.scrib_types.specs.declared.event.Verdict.TheVariants.{Permitted};
+ghost use Rattle.scrib_record.specs.Comparisons.{ServesFor};
 ghost use Rattle.scrib_record.specs.Configurations as conf;
 ghost use Rattle.scrib_record.specs.Judgings as kept;
 ghost use Rattle.scrib_record.specs.Stale as stale;
 ghost use Rattle.scrib_record.specs.Versions.{meaning_of};
 
 use crate::choices::choices;
+use crate::comparison::Comparison;
 use crate::configuration::Configuration;
 use crate::copies::copy_verdict;
 use crate::version::Version;
@@ -85,17 +87,25 @@ impl Judging {
     }
 
     /// Whether the verdict is out of date for a log of so many events. It takes no memory.
-    pub fn is_stale(&self, present: Option<&Version>, events: usize) -> bool
+    pub fn is_stale(&self, present: Option<&Version>, comparison: Comparison, events: usize) -> bool
+        requires { ServesFor comparison (option_copied present) self.now.held }
         ensures { result ≡ not (stale.is_present (option_copied present.entry) self.now.held && stale.is_final self.now.verdict self.now.judged events) }
     {
-        !(is_present(present, &self.held) && is_final(&self.verdict, self.judged, events))
+        !(is_present(present, &self.held, comparison)
+            && is_final(&self.verdict, self.judged, events))
     }
 
     /// What is told of a log of so many events.
-    pub fn told(&self, present: Option<&Version>, events: usize) -> Result<Told, AllocError>
+    pub fn told(
+        &self,
+        present: Option<&Version>,
+        comparison: Comparison,
+        events: usize,
+    ) -> Result<Told, AllocError>
+        requires { ServesFor comparison (option_copied present) self.now.held }
         ensures { IfOk result (λ told. told ≡ (if stale.is_present (option_copied present.entry) self.now.held && stale.is_final self.now.verdict self.now.judged events then Judged self.now.verdict else Stale)) }
     {
-        if self.is_stale(present, events) {
+        if self.is_stale(present, comparison, events) {
             return Ok(Told::Stale);
         }
         let alloc = *self.configuration.seats.allocator();
@@ -134,7 +144,13 @@ impl Judging {
 
     /// Makes a turn: judges the log withdrawn where no version is present, and else at most 256 events more, from event
     /// 1 where another version is held. Without memory the judgement stays.
-    pub fn turn(&mut self, present: Option<&Version>, log: &[Event]) -> Result<Told, AllocError>
+    pub fn turn(
+        &mut self,
+        present: Option<&Version>,
+        comparison: Comparison,
+        log: &[Event],
+    ) -> Result<Told, AllocError>
+        requires serves { ServesFor comparison (option_copied present) self.old.held }
         requires kept { kept.IsKept log.now self.old }
         requires stale { (stale.is_present (option_copied present) self.old.held && stale.is_final self.old.verdict self.old.judged (length log.now)) ≢ true }
         requires room { length log.now ≤ 65536 }
@@ -147,7 +163,7 @@ impl Judging {
             *self = Judging::withdrawn(alloc, log.len());
             return Ok(Told::Judged(Verdict::Withdrawn));
         };
-        if is_present(present, &self.held) {
+        if is_present(present, &self.held, comparison) {
             return self.go_on(log);
         }
         let mut anew = Judging::start(alloc, version)?;
@@ -203,11 +219,15 @@ fn told_of(all: bool) -> Told
 }
 
 /// Whether what is held is the present version, or none where there is none.
-fn is_present(present: Option<&Version>, held: &Option<Version>) -> bool
+fn is_present(present: Option<&Version>, held: &Option<Version>, comparison: Comparison) -> bool
+    requires { ServesFor comparison (option_copied present) held.now }
     ensures { result ≡ stale.is_present (option_copied present.entry) held.now }
 {
     match (present, held) {
-        (Some(version), Some(held)) => version.same_stamp(held),
+        (Some(version), Some(held)) => match comparison {
+            Comparison::Whole => version.same_stamp(held),
+            Comparison::Numbers => version.number() == held.number(),
+        },
         (None, None) => true,
         _ => false,
     }

@@ -3,6 +3,7 @@
 
 pub mod answer;
 mod choices;
+pub mod comparison;
 mod configuration;
 mod copies;
 pub mod fault;

@@ -3,10 +3,12 @@
 ghost use Rattle.std.specs.Prelude.{◌≡◌, ◌<◌, [], Some, IfOk, IfErr, OnErr, OnOk, length};
 ghost use Rattle.std.specs.Option.{option_copied};
 ghost use Rattle.scrib_types.specs.declared.event.Verdict.TheVariants.{Permitted};
+ghost use Rattle.scrib_record.specs.Comparisons.{ServesFor};
 ghost use Rattle.scrib_record.specs.Stale.{Recorded, IsLawful};
 ghost use Rattle.scrib_record.specs.Told.{IsAnswer, IsNoted, IsTurned, NoteFails};
 
 use crate::answer::Answer;
+use crate::comparison::Comparison;
 use crate::fault::NoteFault;
 use crate::judging::Judging;
 use crate::version::Version;
@@ -79,7 +81,13 @@ impl Record {
     ///
     /// # Errors
     /// `LogFull` where the log has 65,536 events, and else `OutOfMemory` where memory was refused. Nothing changes.
-    pub fn note(&mut self, present: Option<&Version>, event: Event) -> Result<Told, NoteFault>
+    pub fn note(
+        &mut self,
+        present: Option<&Version>,
+        comparison: Comparison,
+        event: Event,
+    ) -> Result<Told, NoteFault>
+        requires { ServesFor comparison (option_copied present) self.old.held }
         ensures ok { IfOk result (IsNoted (option_copied present.entry) self.old event self.new) }
         ensures room { OnOk result (length self.old.log < 65536) }
         ensures fault { IfErr result (NoteFails self.old) }
@@ -89,7 +97,7 @@ impl Record {
             return Err(NoteFault::LogFull);
         }
         self.log.reserve(1)?;
-        if self.judging.is_stale(present, self.log.len()) {
+        if self.judging.is_stale(present, comparison, self.log.len()) {
             self.log.push_reserved(event);
             return Ok(Told::Stale);
         }
@@ -104,21 +112,27 @@ impl Record {
     ///
     /// # Errors
     /// `AllocError` where memory was refused. Nothing changes.
-    pub fn turn(&mut self, present: Option<&Version>) -> Result<Told, AllocError>
+    pub fn turn(
+        &mut self,
+        present: Option<&Version>,
+        comparison: Comparison,
+    ) -> Result<Told, AllocError>
+        requires { ServesFor comparison (option_copied present) self.old.held }
         ensures ok { IfOk result (IsTurned (option_copied present.entry) self.old self.new) }
         ensures err { OnErr result (self.new ≡ self.old) }
     {
-        if !self.judging.is_stale(present, self.log.len()) {
-            return self.judging.told(present, self.log.len());
+        if !self.judging.is_stale(present, comparison, self.log.len()) {
+            return self.judging.told(present, comparison, self.log.len());
         }
-        self.judging.turn(present, &self.log)
+        self.judging.turn(present, comparison, &self.log)
     }
 
     /// What is told of the log, where this is the present version of its protocol or none is there. It takes no memory.
-    pub fn ask(&self, present: Option<&Version>) -> Answer<'_>
+    pub fn ask(&self, present: Option<&Version>, comparison: Comparison) -> Answer<'_>
+        requires { ServesFor comparison (option_copied present) self.now.held }
         ensures { IsAnswer (option_copied present.entry) self.now result }
     {
-        if self.judging.is_stale(present, self.log.len()) {
+        if self.judging.is_stale(present, comparison, self.log.len()) {
             return Answer::Stale;
         }
         match &self.judging.verdict {

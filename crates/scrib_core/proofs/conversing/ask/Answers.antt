@@ -2,8 +2,16 @@ use Rattle.std.proofs.Common.{◌≡◌, ℕ, List, Some, length, refl, sym, ap,
 use Rattle.std.specs.Option.{option_copied}
 use Rattle.scrib_core.specs.Held.{record_at}
 use Rattle.scrib_core.specs.Conversing.{IsPresent}
+use Rattle.scrib_core.proofs.Comparing.{serves_for}
 use Rattle.scrib_core.proofs.Told.{told_from, present_copied}
 use Rattle.scrib_core.proofs.conversing.ask.Goals as goal
+
+pub ask-answer-requires : goal.ask-answer-requires
+ask-answer-requires c =
+    let there : record_at c.args.records.now.entries c.args.id ≡ Some c.in-Some.record.now = sym c.get.ensures.value ∙ ap option_copied c.in-Some.is in
+    let name : c.in-Ok.name ≡ c.in-Some.record.now.name = c.in-Ok.ensures ∙ c.name.ensures in
+    let here = subst (λ (n : List (List ℕ)). IsPresent c.args.library.now n (option_copied c.present.result)) name (present_copied c.args.library.now c.in-Ok.name c.present.result c.present.ensures.meaning c.present.ensures.number) in
+    serves_for c.args.comparison c.args.library.now c.args.records.now.entries c.args.id c.in-Some.record.now (option_copied c.present.result) c.requires there here
 
 pub returns-in-Ok-told_of : goal.returns-in-Ok-told_of
 returns-in-Ok-told_of c =
