@@ -210,6 +210,17 @@ came_went t run new seen piece w0 w w' c went =
       appends = appends_more w0 w w' c.out q.2 c.appends q.5;
     }
 
+came_flushed : (t : Telling) (run : Run) (seen : List ℕ) (w0 w w' : Option (List ℕ)) → Came t run seen w0 w → Keeps w w' → Came t run seen w0 w'
+came_flushed t run seen w0 w w' c keeps = record {
+  telling = c.telling;
+  text = c.text;
+  line = c.line;
+  out = c.out;
+  holds = c.holds;
+  leads = c.leads;
+  appends = appends_kept w0 w w' c.out c.appends keeps;
+}
+
 -- all was read and carried out
 pub ran : (t : Telling) (run : Run) (seen : List ℕ) (v : State) (r0 r w0 w w' : Option (List ℕ)) → Came t run seen w0 w → Consumes r0 r seen → IsAtEnd r → Ended run v w w' → Ran t r0 v w0 w'
 ran t run seen v None r w0 w w' c read at_end ended = search rules
@@ -262,6 +273,10 @@ reaches_none t run r w telling holds no_lines no_state = record { seen = []; rea
 -- a read that gave nothing
 pub reaches_kept : (t : Telling) (run : Run) (r0 r r' w0 w : Option (List ℕ)) → Reaches t run r0 r w0 w → Keeps r r' → Reaches t run r0 r' w0 w
 reaches_kept t run r0 r r' w0 w h keeps = record { seen = h.seen; read = consumes_kept r0 r r' h.seen h.read keeps; came = h.came }
+
+-- what was written was flushed
+pub reaches_flushed : (t : Telling) (run : Run) (r0 r w0 w w' : Option (List ℕ)) → Reaches t run r0 r w0 w → Keeps w w' → Reaches t run r0 r w0 w'
+reaches_flushed t run r0 r w0 w w' h keeps = record { seen = h.seen; read = h.read; came = came_flushed t run h.seen w0 w w' h.came keeps }
 
 pub reaches_end : (t : Telling) (run : Run) (r0 r r' w0 w : Option (List ℕ)) (n : ℕ) (piece : List ℕ) → Reaches t run r0 r w0 w → Consumes r r' (take n piece) → n ≡ 0 → Reaches t run r0 r' w0 w
 reaches_end t run r0 r r' w0 w n piece h read none =

@@ -16,8 +16,8 @@ use Rattle.scrib_script.specs.declared.line.Line.TheVariants as line
 use Rattle.scrib_cli.specs.declared.keeping.KeptText.{KeptText}
 use Rattle.scrib_cli.specs.declared.run.Run.{Run}
 use Rattle.scrib_cli.specs.declared.telling.Telling.{Telling}
-use Rattle.scrib_cli.specs.Scripts.{Text, with_line, bare, text_end, reply_text, AppendsPart}
-use Rattle.scrib_cli.specs.Progress.{NoLf, Whole, Leads, Short, most, cut, as_text, text_of, Holds, place, Went, Stopped, LineEnded, said, CarriedOut, PartCarriedOut, unread, halfway, CarriedText, PartPut}
+use Rattle.scrib_cli.specs.Scripts.{Text, empty_text, with_line, bare, text_end, reply_text, AppendsPart}
+use Rattle.scrib_cli.specs.Progress.{NoLf, Place, Whole, Leads, Short, most, cut, as_text, text_of, Holds, place, Went, Stopped, LineEnded, said, CarriedOut, PartCarriedOut, unread, halfway, CarriedText, PartPut}
 use Rattle.scrib_cli.proofs.Bytes.{bare_last, length-bare, all_or_most, take_kept, take_kept_line, take_of_none, end_of_kept, end_is_kept}
 use Rattle.scrib_cli.proofs.Writes.{appends_none, appends_more}
 use Rattle.scrib_cli.proofs.Outputs.{begun, at, said_none, said_said, does_said, whole_does, whole_puts, whole_goes_on, leads_then, leads_part, leads_line, short_any, short_then, short_led}
@@ -78,6 +78,10 @@ text_outside r e = ap (option_map as_text) e
 begun_kept : (b : Option Format) → begun b ≡ option_map cut (begun b)
 begun_kept (Some f) = ap (λ (bytes : List ℕ). Some (record { bytes = bytes; format = f })) (sym (take_of_none 1048577))
 begun_kept None = refl
+
+pub begun_is : (b : Option Format) → option_map empty_text b ≡ begun b
+begun_is (Some f) = refl
+begun_is None = refl
 
 -- one run and another
 pub went_then : (a b c : Run) (x y : List ℕ) (w0 w1 w2 : Option (List ℕ)) → Went a b x w0 w1 → Went b c y w1 w2 → Went a c (x ++ y) w0 w2
@@ -252,6 +256,62 @@ module _ (old : Run) (was now : Option (List ℕ)) where
   pub stopped_inner : (kept : Text) (v : State) → text_of old ≡ Some kept → PartPut old.telling kept old.line.items (state_of old.core) v was now → Stopped old (10 ∷ []) was now
   stopped_inner kept v inside p = record { so = stopped_inner_at kept v inside p }
 
+-- A line that lies whole in a piece, outside module texts.
+module _ (old : Run) (k : List ℕ) (outside : text_of old ≡ None) (empty : old.line.items ≡ []) (no_lf : NoLf k) (was now : Option (List ℕ)) where
+  -- what leads to its end leads there from the place before it
+  from_empty : (line out : List ℕ) (q : Place) → take 131074 line ≡ [] → Leads old.telling (at (old.lines + 1) None k (state_of old.core)) (10 ∷ []) out q
+      → Leads old.telling (at (old.lines + 1) None line (state_of old.core)) (k ++ 10 ∷ []) out q
+  from_empty line out q none leads =
+      let n = old.lines + 1 in
+      let w = state_of old.core in
+      let begins : Leads old.telling (at (old.lines + 1) None line (state_of old.core)) k [] (at (old.lines + 1) None k (state_of old.core)) =
+      subst (λ (l : List ℕ). Leads old.telling (at (old.lines + 1) None line (state_of old.core)) k [] (at (old.lines + 1) None l (state_of old.core))) (ap (λ (l : List ℕ). l ++ k) (none_kept 131074 line (lit≤ tt) none)) (leads_part old.telling n None line k w) in
+      leads_then old.telling (at n None line w) (at n None k w) q k (10 ∷ []) [] out begins leads
+
+  whole_at : (b : Option Format) (v : State) → CarriedOut old.telling (old.lines + 1) (bare (k ++ 10 ∷ [])) (state_of old.core) b v was now
+      → (text : Option Text) (line : List ℕ) → Holds old text line
+      → (text' : Option Text) × (out : List ℕ) × (begun b ≡ option_map cut text')
+      × Leads old.telling (place old text line) (k ++ 10 ∷ []) out (at (old.lines + 1 + 1) text' [] v) × Appends was now out
+  whole_at b v carried None line h =
+      let n = old.lines + 1 in
+      let w = state_of old.core in
+      let is_said = does_said old.telling n w carried.word b v carried.out carried.does in
+      let leads = leads_line old.telling n None (begun b) k w v carried.out no_lf is_said (λ ls after output more. whole_does old.telling n (k ++ 10 ∷ []) ls w after output carried.word b v carried.out carried.says carried.does more) in
+      (begun b, carried.out, begun_kept b, from_empty line carried.out (at (old.lines + 1 + 1) (begun b) [] v) (sym h.kept_line ∙ empty) leads, carried.appends)
+  whole_at b v carried (Some t) line h = absurd (none_some (cut t) (sym outside ∙ h.kept_text))
+
+  pub went_whole : (new : Run) (b : Option Format) → CarriedOut old.telling (old.lines + 1) (bare (k ++ 10 ∷ [])) (state_of old.core) b (state_of new.core) was now
+      → text_of new ≡ begun b → new.line.items ≡ [] → new.lines ≡ old.lines + 1 → new.telling ≡ old.telling → Went old new (k ++ 10 ∷ []) was now
+  went_whole new b carried text_is line_is lines_is telling_is = record {
+    telling = telling_is;
+    goes = λ text line h.
+        let p = whole_at b (state_of new.core) carried text line h in
+        let holds : Holds new p.0 [] = record {
+          kept_text = text_is ∙ p.2;
+          kept_line = line_is ∙ sym (take_of_none (most p.0));
+          no_lf = All-nil (λ b. b ≢ 10);
+        } in
+        let leads : Leads old.telling (place old text line) (k ++ 10 ∷ []) p.1 (place new p.0 []) =
+        subst (λ (i : ℕ). Leads old.telling (place old text line) (k ++ 10 ∷ []) p.1 (at (i + 1) p.0 [] (state_of new.core))) (sym lines_is) p.3 in
+        (p.0, [], p.1, holds, leads, p.4);
+  }
+
+  stopped_whole_at : PartCarriedOut old.telling (old.lines + 1) (bare (k ++ 10 ∷ [])) (state_of old.core) was now
+      → (text : Option Text) (line : List ℕ) → Holds old text line
+      → (part : List ℕ) × ((more : List ℕ) → Short old.telling (place old text line) (k ++ 10 ∷ [] ++ more) part) × Appends was now part
+  stopped_whole_at (unread none) text line h = ([], λ more. short_any old.telling (place old text line) (k ++ 10 ∷ [] ++ more), none)
+  stopped_whole_at (halfway word b v out says does part) None line h =
+      let n = old.lines + 1 in
+      let w = state_of old.core in
+      let is_said = does_said old.telling n w word b v out does in
+      let leads = leads_line old.telling n None (begun b) k w v out no_lf is_said (λ ls after output more. whole_does old.telling n (k ++ 10 ∷ []) ls w after output word b v out says does more) in
+      let all = from_empty line out (at (n + 1) (begun b) [] v) (sym h.kept_line ∙ empty) leads in
+      (part.0, λ more. short_led old.telling (place old None line) (at (n + 1) (begun b) [] v) (k ++ 10 ∷ []) more out part.0 part.1 all part.2, part.3)
+  stopped_whole_at (halfway word b v out says does part) (Some t) line h = absurd (none_some (cut t) (sym outside ∙ h.kept_text))
+
+  pub stopped_whole : PartCarriedOut old.telling (old.lines + 1) (bare (k ++ 10 ∷ [])) (state_of old.core) was now → Stopped old (k ++ 10 ∷ []) was now
+  stopped_whole p = record { so = stopped_whole_at p }
+
 -- the next line begins
 pub went_line : (old new : Run) (after : Option Text) (was now : Option (List ℕ)) → LineEnded old after (state_of new.core) was now
     → text_of new ≡ after → new.line.items ≡ [] → new.lines ≡ old.lines + 1 → new.telling ≡ old.telling → Went old new (10 ∷ []) was now
@@ -295,16 +355,16 @@ at_lf_suc (x ∷ rest) (suc i) h e = ap (λ (t : List ℕ). x ∷ t) (at_lf_suc 
 at_lf : (rest : List ℕ) (i : ℕ) → i < length rest → get_or rest i 0 ≡ 10 → rest ≡ take i rest ++ 10 ∷ drop (i + 1) rest
 at_lf rest i h e = subst (λ (n : ℕ). rest ≡ take i rest ++ 10 ∷ drop n rest) (sym (add-one i)) (at_lf_suc rest i h e)
 
-pub took_line : (old mid part new : Run) (piece rest : List ℕ) (i : ℕ) (w0 w1 w2 : Option (List ℕ)) → Took old mid piece rest w0 w1 → i < length rest → get_or rest i 0 ≡ 10
-    → Went mid part (take i rest) w1 w1 → Went part new (10 ∷ []) w1 w2 → Took old new piece (drop (i + 1) rest) w0 w2
-took_line old mid part new piece rest i w0 w1 w2 t within lf first then =
+pub took_line : (old mid new : Run) (piece rest : List ℕ) (i : ℕ) (w0 w1 w2 : Option (List ℕ)) → Took old mid piece rest w0 w1 → i < length rest → get_or rest i 0 ≡ 10
+    → Went mid new (take i rest ++ 10 ∷ []) w1 w2 → Took old new piece (drop (i + 1) rest) w0 w2
+took_line old mid new piece rest i w0 w1 w2 t within lf went =
     let line = take i rest in
     let after = drop (i + 1) rest in
     let all : piece ≡ t.done ++ (take i rest ++ 10 ∷ drop (i + 1) rest) = t.is ∙ ap (λ (x : List ℕ). t.done ++ x) (at_lf rest i within lf) in
     record {
-      done = t.done ++ take i rest ++ 10 ∷ [];
-      is = all ∙ sym (append_assoc t.done line (10 ∷ after)) ∙ sym (append_assoc (t.done ++ line) (10 ∷ []) after);
-      went = went_then old part new (t.done ++ line) (10 ∷ []) w0 w1 w2 (went_then old mid part t.done line w0 w1 w1 t.went first) then;
+      done = t.done ++ (take i rest ++ 10 ∷ []);
+      is = all ∙ ap (λ (x : List ℕ). t.done ++ x) (sym (append_assoc line (10 ∷ []) after)) ∙ sym (append_assoc t.done (line ++ 10 ∷ []) after);
+      went = went_then old mid new t.done (line ++ 10 ∷ []) w0 w1 w2 t.went went;
     }
 
 -- the last part of a piece
@@ -316,15 +376,14 @@ pub stopped_took : (old mid : Run) (piece rest : List ℕ) (w0 w1 : Option (List
 stopped_took old mid piece rest w0 w1 t = subst (λ (x : List ℕ). Stopped old x w0 w1) (sym t.is) (stopped_then old mid t.done rest w0 w1 w1 t.went (stopped_any mid rest w1))
 
 -- the line failed
-pub stopped_line : (old mid part : Run) (piece rest : List ℕ) (i : ℕ) (w0 w1 w2 : Option (List ℕ)) → Took old mid piece rest w0 w1 → i < length rest → get_or rest i 0 ≡ 10
-    → Went mid part (take i rest) w1 w1 → Stopped part (10 ∷ []) w1 w2 → Stopped old piece w0 w2
-stopped_line old mid part piece rest i w0 w1 w2 t within lf first s =
+pub stopped_line : (old mid : Run) (piece rest : List ℕ) (i : ℕ) (w0 w1 w2 : Option (List ℕ)) → Took old mid piece rest w0 w1 → i < length rest → get_or rest i 0 ≡ 10
+    → Stopped mid (take i rest ++ 10 ∷ []) w1 w2 → Stopped old piece w0 w2
+stopped_line old mid piece rest i w0 w1 w2 t within lf s =
     let line = take i rest in
     let after = drop (i + 1) rest in
     let all : piece ≡ t.done ++ (take i rest ++ 10 ∷ drop (i + 1) rest) = t.is ∙ ap (λ (x : List ℕ). t.done ++ x) (at_lf rest i within lf) in
-    let same : piece ≡ t.done ++ take i rest ++ (10 ∷ [] ++ drop (i + 1) rest) = all ∙ sym (append_assoc t.done line (10 ∷ after)) in
-    subst (λ (x : List ℕ). Stopped old x w0 w2) (sym same)
-    (stopped_then old part (t.done ++ line) (10 ∷ [] ++ after) w0 w1 w2 (went_then old mid part t.done line w0 w1 w1 t.went first) (stopped_more part (10 ∷ []) after w1 w2 s))
+    let same : piece ≡ t.done ++ (take i rest ++ 10 ∷ [] ++ drop (i + 1) rest) = all ∙ ap (λ (x : List ℕ). t.done ++ x) (sym (append_assoc line (10 ∷ []) after)) in
+    subst (λ (x : List ℕ). Stopped old x w0 w2) (sym same) (stopped_then old mid t.done (line ++ 10 ∷ [] ++ after) w0 w1 w2 t.went (stopped_more mid (line ++ 10 ∷ []) after w1 w2 s))
 
 pub on_ok_any : {T E P : Type 0} (r : Result T E) → P → OnOk r P
 on_ok_any (Ok x) p = p

@@ -19,7 +19,8 @@ use scrib_core::step::Step;
 use scrib_report::json::json;
 use scrib_report::line::line;
 use scrib_script::format::Format;
-use scrib_script::line::{Line, line_of};
+use scrib_script::line::Line;
+use scrib_script::reader::Reader;
 use scrib_types::plain::Items;
 use std::alloc::{AllocError, Global};
 use std::io::Write;
@@ -135,6 +136,7 @@ fn tell_bad_line<W: Write>(
 /// returns how the reply to its put is printed.
 pub fn carry_out<W: Write>(
     alloc: Global,
+    reader: &mut Reader,
     core: &mut Core,
     number: u32,
     bytes: &[u8],
@@ -145,7 +147,7 @@ pub fn carry_out<W: Write>(
         (W.contents writer.old) (W.contents writer.new)) }
     ensures err { OnErr result (PartCarriedOut telling number bytes.now (state_of core.old) (W.contents writer.old) (W.contents writer.new)) }
 {
-    match line_of(alloc, bytes)? {
+    match reader.line(bytes)? {
         Line::Skipped => Ok(None),
         Line::Put(format) => Ok(Some(format)),
         Line::Step(format, step) => {

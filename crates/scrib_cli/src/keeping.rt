@@ -1,11 +1,12 @@
 //! What is kept of lines and texts.
 
 ghost use Rattle.std.specs.Prelude.{◌≡◌, ◌≤◌, ◌<◌, ◌++◌, ◌∷◌, [], ℕ, OnOk, MatchOption, vec_len, length, take, slice_index};
-ghost use Rattle.scrib_cli.specs.Scripts.{bare};
-ghost use Rattle.scrib_cli.specs.Progress.{NoLf};
+ghost use Rattle.std.specs.Option.{option_map};
+ghost use Rattle.scrib_cli.specs.Scripts.{bare, empty_text};
+ghost use Rattle.scrib_cli.specs.Progress.{NoLf, as_text};
 
 use scrib_script::format::Format;
-use std::alloc::AllocError;
+use std::alloc::{AllocError, Global};
 
 /// What is kept of a module text.
 #[derive(Drop)]
@@ -14,6 +15,19 @@ pub struct KeptText {
     pub bytes: Vec<u8>,
     /// How the reply to its put is printed.
     pub format: Format,
+}
+
+/// What is kept of the module text that begins, if one does: nothing yet.
+pub fn begun_text(alloc: Global, begins: Option<Format>) -> Option<KeptText>
+    ensures { option_map as_text result ≡ option_map empty_text begins }
+{
+    match begins {
+        None => None,
+        Some(format) => {
+            let bytes = Vec::new(alloc);
+            Some(KeptText { bytes, format })
+        }
+    }
 }
 
 /// Adds the bytes to the kept ones, up to this many.

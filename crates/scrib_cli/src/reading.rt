@@ -10,7 +10,7 @@ use std::alloc::Global;
 use std::io::{ErrorKind, Read};
 
 /// How many bytes are read at once.
-pub(crate) const PIECE_BYTES: usize = 8192;
+const PIECE_BYTES: usize = 8192;
 
 /// Reads a module text to its end, and returns its first 1,048,577 bytes: a longer one is refused whatever it holds.
 ///

@@ -4,10 +4,11 @@ ghost use Rattle.std.specs.Prelude.{◌≤◌};
 
 use crate::carrying::{carry_out, carry_text, is_text_end, put_text};
 use crate::fault::ScriptFault;
-use crate::keeping::{KeptText, before_end, keep, next_lf};
+use crate::keeping::{KeptText, before_end, begun_text, keep, next_lf};
 use crate::telling::Telling;
 use crate::writing::tell;
 use scrib_core::monitor::Core;
+use scrib_script::reader::Reader;
 use std::alloc::Global;
 use std::io::Write;
 
@@ -27,6 +28,7 @@ const KEPT_LINE_BYTES: usize = 131_074;
 #[derive(Drop)]
 pub struct Run {
     alloc: Global,
+    reader: Reader,
     core: Core,
     telling: Telling,
     // The module text so far, inside one.
@@ -41,7 +43,7 @@ pub struct Run {
 }
 
 impl Run {
-    ghost use Rattle.std.specs.Prelude.{◌≡◌, ◌<◌, ◌∷◌, [], ℕ, List, Option, None, IfOk, OnOk, OnErr, option_map};
+    ghost use Rattle.std.specs.Prelude.{◌≡◌, ◌<◌, ◌∷◌, ◌++◌, [], ℕ, List, Option, None, IfOk, OnOk, OnErr, option_map};
     ghost use Rattle.scrib_core.specs.Answers.{initial};
     ghost use Rattle.scrib_core.specs.Held.{state_of};
     ghost use Rattle.scrib_cli.specs.Progress.{as_text, Holds, Went, Stopped, LineEnded, LastLine, Ended, Failed, NoLf};
@@ -55,6 +57,7 @@ impl Run {
     {
         Run {
             alloc,
+            reader: Reader::new(alloc),
             core: Core::new(alloc),
             telling,
             text: None,
@@ -78,8 +81,7 @@ impl Run {
     {
         let mut rest = piece;
         while let Some(at) = next_lf(rest) {
-            self.take_part(&rest[..at])?;
-            self.end_line(writer)?;
+            self.take_line(writer, &rest[..at])?;
             rest = &rest[at + 1..];
         }
         self.take_part(rest)
@@ -110,6 +112,7 @@ impl Run {
             let line = self.line.as_slice();
             let begins = carry_out(
                 self.alloc,
+                &mut self.reader,
                 &mut self.core,
                 self.lines + 1,
                 line,
@@ -123,6 +126,42 @@ impl Run {
         }
         put_text(self.alloc, &mut self.core, text, self.telling, writer)?;
         Ok(false)
+    }
+
+    // Takes the last bytes of a line and its LF in, and carries the line out.
+    fn take_line<W: Write>(&mut self, writer: &mut W, part: &[u8]) -> Result<(), ScriptFault>
+        requires { NoLf part.now }
+        ensures ok { OnOk result (Went self.old self.new (part.now ++ 10 ∷ []) (W.contents writer.old) (W.contents writer.new)) }
+        ensures err { OnErr result (Stopped self.old (part.now ++ 10 ∷ []) (W.contents writer.old) (W.contents writer.new)) }
+    {
+        if self.text.is_none() && self.line.is_empty() {
+            return self.pass_line(writer, part);
+        }
+        self.take_part(part)?;
+        self.end_line(writer)
+    }
+
+    // Carries out a line that lies whole in its piece, so that no copy of it is kept.
+    fn pass_line<W: Write>(&mut self, writer: &mut W, line: &[u8]) -> Result<(), ScriptFault>
+        requires text { self.old.text ≡ None }
+        requires line { self.old.line.items ≡ [] }
+        requires no_lf { NoLf line.now }
+        ensures ok { OnOk result (Went self.old self.new (line.now ++ 10 ∷ []) (W.contents writer.old) (W.contents writer.new)) }
+        ensures err { OnErr result (Stopped self.old (line.now ++ 10 ∷ []) (W.contents writer.old) (W.contents writer.new)) }
+    {
+        self.bytes = self.counted(line.len() + 1)?;
+        let begins = carry_out(
+            self.alloc,
+            &mut self.reader,
+            &mut self.core,
+            self.lines + 1,
+            before_end(line),
+            self.telling,
+            writer,
+        )?;
+        self.text = begun_text(self.alloc, begins);
+        self.lines += 1;
+        Ok(())
     }
 
     // Takes bytes of a line in.
@@ -169,17 +208,14 @@ impl Run {
             let number = self.lines + 1;
             let begins = carry_out(
                 self.alloc,
+                &mut self.reader,
                 &mut self.core,
                 number,
                 line,
                 self.telling,
                 writer,
             )?;
-            let Some(format) = begins else {
-                return Ok(None);
-            };
-            let bytes = Vec::new(self.alloc);
-            return Ok(Some(KeptText { bytes, format }));
+            return Ok(begun_text(self.alloc, begins));
         };
         carry_text(
             self.alloc,

@@ -7,7 +7,6 @@ ghost use Rattle.scrib_cli.specs.Scripts.{IsOutput, AppendsPart};
 ghost use Rattle.scrib_cli.specs.Progress.{Ran, RanShort};
 
 pub use crate::fault::ScriptFault;
-use crate::reading::PIECE_BYTES;
 use crate::run::Run;
 use crate::telling::Telling;
 use crate::writing::flush_out;
@@ -15,9 +14,12 @@ use scrib_core::monitor::Core;
 use std::alloc::Global;
 use std::io::{ErrorKind, Read, Write};
 
+// How many bytes of a script are read at once.
+const SCRIPT_PIECE_BYTES: usize = 65_536;
+
 /// Reads a script, makes its steps over a new monitor, and writes each reply as the step's line asks, as a line of text
-/// or, behind `json`, as a line that is one JSON object, however the reads and writes are cut. At the end the writer is
-/// flushed.
+/// or, behind `json`, as a line that is one JSON object, however the reads and writes are cut. The writer is flushed
+/// before each read, so that nothing that was answered waits for further input, and at the end.
 ///
 /// # Errors
 /// What was written by then is a beginning of the script's output.
@@ -50,11 +52,12 @@ pub(crate) fn run_whole<R: Read, W: Write>(
     ensures ok { IfOk result (λ core. Ran telling (R.remaining reader.old) (state_of core) (W.contents writer.old) (W.contents writer.new)) }
     ensures err { OnErr result (RanShort telling (R.remaining reader.old) (W.contents writer.old) (W.contents writer.new)) }
 {
-    let mut piece = vec![in alloc; 0u8; PIECE_BYTES]?;
+    let mut piece = vec![in alloc; 0u8; SCRIPT_PIECE_BYTES]?;
     run_by_pieces(alloc, telling, reader, writer, piece.as_mut_slice())
 }
 
-// Runs a script that is read by pieces into this buffer.
+// Runs a script that is read by pieces into this buffer. Each is answered, and its replies flushed, before
+// the next is read.
 fn run_by_pieces<R: Read, W: Write>(
     alloc: Global,
     telling: Telling,
@@ -82,6 +85,7 @@ fn run_by_pieces<R: Read, W: Write>(
             return Ok(run.into_core());
         }
         run.take_piece(writer, &piece[..n])?;
+        flush_out(writer)?;
     }
     Err(ScriptFault::Read)
 }

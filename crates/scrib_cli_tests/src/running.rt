@@ -1,3 +1,4 @@
+mod at_once;
 mod explaining;
 
 use scrib_cli::run_script::{ScriptFault, run_script};

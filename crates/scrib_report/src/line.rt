@@ -11,6 +11,9 @@ use scrib_library::changes::Change;
 use scrib_types::text::{push_bytes, push_dotted, push_number};
 use std::alloc::{AllocError, Global};
 
+// Room for the line of a permitted event, and for the line feed behind it, so that the text is made in one piece.
+const USUAL_BYTES: usize = 64;
+
 fn push_each_change(out: &mut Vec<u8>, changes: &[Change]) -> Result<(), AllocError>
     ensures { OnOk result (out.new.items ≡ out.old.items ++ lines.change_texts changes.now) }
 {
@@ -74,7 +77,7 @@ fn push_line(out: &mut Vec<u8>, reply: &Reply) -> Result<(), AllocError>
 pub fn line(alloc: Global, reply: &Reply) -> Result<Vec<u8>, AllocError>
     ensures { IfOk result (λ text. text.items ≡ lines.line_of reply.now) }
 {
-    let mut out = Vec::new(alloc);
+    let mut out = Vec::with_capacity(alloc, USUAL_BYTES)?;
     push_line(&mut out, reply)?;
     Ok(out)
 }

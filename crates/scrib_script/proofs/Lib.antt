@@ -1,3 +1,4 @@
+mod Heads
 pub mod Decisions
 pub mod Digits
 pub mod Formats

@@ -1,3 +1,4 @@
 pub mod Fields
 pub mod Steps
 pub mod Says
+pub mod Heads

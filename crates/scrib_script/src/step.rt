@@ -2,22 +2,14 @@
 
 ghost use Rattle.std.specs.Prelude.{IfOk, map, codes};
 ghost use Rattle.scrib_script.specs.Fields.{Finds};
-ghost use Rattle.scrib_script.specs.Steps.{Makes, Withdraws, MakesStep, IsExchange};
+ghost use Rattle.scrib_script.specs.Steps.{Makes, Withdraws, MakesStep};
 
-use crate::text::{dotted_of, message_of, number_of};
+use crate::exchange::{Exchange, exchange_of};
+use crate::text::{dotted_of, number_of};
 use scrib_core::step::Step;
 use scrib_types::event::Event;
-use scrib_types::name::{Name, Role};
-use scrib_types::shared_message::SharedMessage;
+use scrib_types::name::Name;
 use std::alloc::{AllocError, Global};
-
-// Who sends what to whom.
-#[derive(Drop)]
-struct Exchange {
-    from: Role,
-    to: Role,
-    message: SharedMessage,
-}
 
 // The step that the fields make, if they make one.
 pub(crate) fn step_of(alloc: Global, fields: &[&[u8]]) -> Result<Option<Step>, AllocError>
@@ -123,23 +115,4 @@ fn recv_of(alloc: Global, id: u32, fields: &[&[u8]]) -> Result<Option<Step>, All
     let Exchange { from, to, message } = exchange;
     let event = Event::Received { from, to, message };
     Ok(Some(Step::Note { id, event }))
-}
-
-// The sender, the receiver and the message that the fields are, if they are these.
-fn exchange_of(alloc: Global, fields: &[&[u8]]) -> Result<Option<Exchange>, AllocError>
-    ensures { IfOk result (Finds (λ e. IsExchange (map (λ field. field.now) fields.now) e.from e.to e.message)) }
-{
-    let [from, to, text] = fields else {
-        return Ok(None);
-    };
-    let Some(from) = Name::from_bytes(alloc, from)? else {
-        return Ok(None);
-    };
-    let Some(to) = Name::from_bytes(alloc, to)? else {
-        return Ok(None);
-    };
-    let Some(message) = message_of(alloc, text)? else {
-        return Ok(None);
-    };
-    Ok(Some(Exchange { from, to, message }))
 }

@@ -10,7 +10,7 @@ use Rattle.scrib_cli.proofs.carrying.carry_out.Goals as goal
 pub returns-in_err-make_step-in-Step-clause-err : goal.returns-in_err-make_step-in-Step-clause-err
 returns-in_err-make_step-in-Step-clause-err g c =
     let p = err_from_is_err_and c.from_residual-in_err-make_step-in-Step.result c.from_residual-in_err-make_step-in-Step.ensures.1 in
-    let says : Says c.args.bytes.now (line.Step c.in-Step.format c.in-Step.step) = rw c.in-Step.is at c.in_ok-line_of.ensures in
+    let says : Says c.args.bytes.now (line.Step c.in-Step.format c.in-Step.step) = rw c.in-Step.is at c.in_ok-line.ensures in
     let made : PartMade c.args.telling c.in-Step.format (state_of c.args.core.now) c.in-Step.step (state_of c.make_step.new.core) (g.W.Write.contents c.args.writer.now) (g.W.Write.contents c.make_step.new.writer) =
     c.in_err-make_step-in-Step.ensures.err in
     let failed : PartCarriedOut c.args.telling c.args.number c.args.bytes.now (state_of c.args.core.now) (g.W.Write.contents c.args.writer.now) (g.W.Write.contents c.make_step.new.writer) = elim made [
@@ -22,5 +22,5 @@ returns-in_err-make_step-in-Step-clause-err g c =
 pub returns-in_err-tell_bad_line-in-Bad-clause-err : goal.returns-in_err-tell_bad_line-in-Bad-clause-err
 returns-in_err-tell_bad_line-in-Bad-clause-err g c =
     let p = err_from_is_err_and c.from_residual-in_err-tell_bad_line-in-Bad.result c.from_residual-in_err-tell_bad_line-in-Bad.ensures.1 in
-    let says : Says c.args.bytes.now line.Bad = rw c.in-Bad.is at c.in_ok-line_of.ensures in
+    let says : Says c.args.bytes.now line.Bad = rw c.in-Bad.is at c.in_ok-line.ensures in
     rw p.1 (halfway line.Bad None (state_of c.args.core.now) (said c.args.telling (bad_line c.args.number)) says (refl, refl, refl) c.in_err-tell_bad_line-in-Bad.ensures.err)

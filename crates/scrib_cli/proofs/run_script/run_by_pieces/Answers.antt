@@ -4,7 +4,7 @@ use Rattle.std.proofs.lemmas.Result.{err_from_is_err_and}
 use Rattle.scrib_core.specs.Answers.{State}
 use Rattle.scrib_core.specs.Held.{state_of}
 use Rattle.scrib_cli.specs.Progress.{Ran}
-use Rattle.scrib_cli.proofs.Ending.{reaches_none, reaches_kept, reaches_end, reaches_went, reached_end, end_failed, read_failed, piece_failed}
+use Rattle.scrib_cli.proofs.Ending.{reaches_none, reaches_kept, reaches_flushed, reaches_end, reaches_went, reached_end, end_failed, read_failed, piece_failed}
 use Rattle.scrib_cli.proofs.run_script.run_by_pieces.Goals as goal
 
 pub loop-init : goal.loop-init
@@ -45,10 +45,19 @@ returns-in_err-take_piece-clause-err g c =
     rw p.1 (piece_failed c.args.telling c.loop.run (g.R.Read.remaining c.args.reader.now) (g.R.Read.remaining c.loop.reader) (g.R.Read.remaining c.read.new.self) (g.W.Write.contents c.args.writer.now) (g.W.Write.contents c.loop.writer) (g.W.Write.contents c.take_piece.new.writer) (take c.in-Ok.n c.read.new.buf)
     c.loop.invariant c.in-Ok.ensures.bytes.0 c.in_err-take_piece.ensures.err)
 
+pub returns-in_err-flush_out-clause-err : goal.returns-in_err-flush_out-clause-err
+returns-in_err-flush_out-clause-err g c =
+    let p = err_from_is_err_and c.from_residual-in_err-flush_out.result c.from_residual-in_err-flush_out.ensures.1 in
+    let went = reaches_went c.args.telling c.loop.run c.take_piece.new.self (g.R.Read.remaining c.args.reader.now) (g.R.Read.remaining c.loop.reader) (g.R.Read.remaining c.read.new.self) (g.W.Write.contents c.args.writer.now) (g.W.Write.contents c.loop.writer) (g.W.Write.contents c.take_piece.new.writer) (take c.in-Ok.n c.read.new.buf)
+    c.loop.invariant c.in-Ok.ensures.bytes.0 c.in_ok-take_piece.ensures.ok in
+    let flushed = reaches_flushed c.args.telling c.take_piece.new.self (g.R.Read.remaining c.args.reader.now) (g.R.Read.remaining c.read.new.self) (g.W.Write.contents c.args.writer.now) (g.W.Write.contents c.take_piece.new.writer) (g.W.Write.contents c.flush_out.new.writer) went c.flush_out.ensures.kept in
+    rw p.1 (read_failed c.args.telling c.take_piece.new.self (g.R.Read.remaining c.args.reader.now) (g.R.Read.remaining c.read.new.self) (g.W.Write.contents c.args.writer.now) (g.W.Write.contents c.flush_out.new.writer) flushed)
+
 pub loop-preserved : goal.loop-preserved
 loop-preserved g c =
-    reaches_went c.args.telling c.loop.run c.take_piece.new.self (g.R.Read.remaining c.args.reader.now) (g.R.Read.remaining c.loop.reader) (g.R.Read.remaining c.read.new.self) (g.W.Write.contents c.args.writer.now) (g.W.Write.contents c.loop.writer) (g.W.Write.contents c.take_piece.new.writer) (take c.in-Ok.n c.read.new.buf)
-    c.loop.invariant c.in-Ok.ensures.bytes.0 c.in_ok-take_piece.ensures.ok
+    let went = reaches_went c.args.telling c.loop.run c.take_piece.new.self (g.R.Read.remaining c.args.reader.now) (g.R.Read.remaining c.loop.reader) (g.R.Read.remaining c.read.new.self) (g.W.Write.contents c.args.writer.now) (g.W.Write.contents c.loop.writer) (g.W.Write.contents c.take_piece.new.writer) (take c.in-Ok.n c.read.new.buf)
+    c.loop.invariant c.in-Ok.ensures.bytes.0 c.in_ok-take_piece.ensures.ok in
+    reaches_flushed c.args.telling c.take_piece.new.self (g.R.Read.remaining c.args.reader.now) (g.R.Read.remaining c.read.new.self) (g.W.Write.contents c.args.writer.now) (g.W.Write.contents c.take_piece.new.writer) (g.W.Write.contents c.flush_out.new.writer) went c.flush_out.ensures.kept
 
 pub returns-clause-err : goal.returns-clause-err
 returns-clause-err g c =

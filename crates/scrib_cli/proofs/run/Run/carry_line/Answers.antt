@@ -1,10 +1,9 @@
 use Rattle.std.proofs.Common.{◌≡◌, ◌∙◌, ◌+◌, ℕ, List, Option, Some, None, [], ◌∷◌, ◌++◌, sym, ap, subst}
 use Rattle.std.proofs.lemmas.Result.{err_from_is_err_and, on_err_weaker}
 use Rattle.scrib_core.specs.Held.{state_of}
-use Rattle.scrib_script.specs.declared.format.Format.{Format}
-use Rattle.scrib_cli.specs.Scripts.{bare}
+use Rattle.scrib_cli.specs.Scripts.{Text, bare}
 use Rattle.scrib_cli.specs.Progress.{as_text, text_of, LineEnded, CarriedOut, PartCarriedOut, PartPut}
-use Rattle.scrib_cli.proofs.Going.{text_inside, text_outside, ended_outer, ended_text, stopped_outer, stopped_inner}
+use Rattle.scrib_cli.proofs.Going.{begun_is, text_inside, text_outside, ended_outer, ended_text, stopped_outer, stopped_inner}
 use Rattle.scrib_cli.proofs.run.Run.carry_line.Goals as goal
 
 pub returns-in_err-begins-clause-err : goal.returns-in_err-begins-clause-err
@@ -15,27 +14,16 @@ returns-in_err-begins-clause-err g c =
     let part = subst (λ (t : List ℕ). PartCarriedOut c.args.self.now.telling (c.args.self.now.lines + 1) t (state_of c.args.self.now.core) (g.W.Write.contents c.args.writer.now) (g.W.Write.contents c.carry_out.new.writer)) bytes c.in_err-begins.ensures.err in
     rw p.1 (stopped_outer c.args.self.now (g.W.Write.contents c.args.writer.now) (g.W.Write.contents c.carry_out.new.writer) outside part)
 
-pub returns-in_default-begins-clause-ok : goal.returns-in_default-begins-clause-ok
-returns-in_default-begins-clause-ok g c =
-    let was = g.W.Write.contents c.args.writer.now in
-    let now = g.W.Write.contents c.carry_out.new.writer in
-    let outside : text_of c.args.self.now ≡ None = text_outside c.args.self.now (sym c.take.ensures.value ∙ c.in_default.is) in
-    let bytes : c.before_end-line.result.now ≡ bare (c.args.self.now.line.items ++ 10 ∷ []) = c.before_end-line.ensures ∙ ap (λ (t : List ℕ). bare (t ++ 10 ∷ [])) c.as_slice.ensures.value in
-    let at_bytes = subst (λ (t : List ℕ). CarriedOut c.args.self.now.telling (c.args.self.now.lines + 1) t (state_of c.args.self.now.core) c.in_ok-begins.begins (state_of c.carry_out.new.core) (g.W.Write.contents c.args.writer.now) (g.W.Write.contents c.carry_out.new.writer)) bytes c.in_ok-begins.ensures.ok in
-    let carried = subst (λ (b : Option Format). CarriedOut c.args.self.now.telling (c.args.self.now.lines + 1) (bare (c.args.self.now.line.items ++ 10 ∷ [])) (state_of c.args.self.now.core) b (state_of c.carry_out.new.core) (g.W.Write.contents c.args.writer.now) (g.W.Write.contents c.carry_out.new.writer)) c.in_default-begins.is at_bytes in
-    ended_outer c.args.self.now was now None (state_of c.carry_out.new.core) outside carried
-
 pub returns-in_default-clause-ok : goal.returns-in_default-clause-ok
 returns-in_default-clause-ok g c =
     let was = g.W.Write.contents c.args.writer.now in
     let now = g.W.Write.contents c.carry_out.new.writer in
-    let format = c.in-Some-begins.format in
+    let begins = c.in_ok-begins.begins in
     let outside : text_of c.args.self.now ≡ None = text_outside c.args.self.now (sym c.take.ensures.value ∙ c.in_default.is) in
     let bytes : c.before_end-line.result.now ≡ bare (c.args.self.now.line.items ++ 10 ∷ []) = c.before_end-line.ensures ∙ ap (λ (t : List ℕ). bare (t ++ 10 ∷ [])) c.as_slice.ensures.value in
-    let at_bytes = subst (λ (t : List ℕ). CarriedOut c.args.self.now.telling (c.args.self.now.lines + 1) t (state_of c.args.self.now.core) c.in_ok-begins.begins (state_of c.carry_out.new.core) (g.W.Write.contents c.args.writer.now) (g.W.Write.contents c.carry_out.new.writer)) bytes c.in_ok-begins.ensures.ok in
-    let carried = subst (λ (b : Option Format). CarriedOut c.args.self.now.telling (c.args.self.now.lines + 1) (bare (c.args.self.now.line.items ++ 10 ∷ [])) (state_of c.args.self.now.core) b (state_of c.carry_out.new.core) (g.W.Write.contents c.args.writer.now) (g.W.Write.contents c.carry_out.new.writer)) c.in-Some-begins.is at_bytes in
-    subst (λ (t : List ℕ). LineEnded c.args.self.now (Some (record { bytes = t; format = c.in-Some-begins.format })) (state_of c.carry_out.new.core) (g.W.Write.contents c.args.writer.now) (g.W.Write.contents c.carry_out.new.writer)) (sym c.new-bytes.ensures.items)
-    (ended_outer c.args.self.now was now (Some format) (state_of c.carry_out.new.core) outside carried)
+    let carried = subst (λ (t : List ℕ). CarriedOut c.args.self.now.telling (c.args.self.now.lines + 1) t (state_of c.args.self.now.core) c.in_ok-begins.begins (state_of c.carry_out.new.core) (g.W.Write.contents c.args.writer.now) (g.W.Write.contents c.carry_out.new.writer)) bytes c.in_ok-begins.ensures.ok in
+    subst (λ (t : Option Text). LineEnded c.args.self.now t (state_of c.carry_out.new.core) (g.W.Write.contents c.args.writer.now) (g.W.Write.contents c.carry_out.new.writer)) (sym (c.begun_text.ensures ∙ begun_is begins))
+    (ended_outer c.args.self.now was now begins (state_of c.carry_out.new.core) outside carried)
 
 pub returns-clause-ok : goal.returns-clause-ok
 returns-clause-ok g c =

@@ -1,0 +1,50 @@
+//! Who sends what to whom, as the fields of a line say it.
+
+ghost use Rattle.std.specs.Prelude.{◌≡◌, IfOk, map};
+ghost use Rattle.scrib_script.specs.Fields.{Finds};
+ghost use Rattle.scrib_script.specs.Steps.{IsExchange};
+
+use crate::text::message_of;
+use scrib_types::name::{Name, Role};
+use scrib_types::shared_message::SharedMessage;
+use std::alloc::{AllocError, Global};
+
+/// Who sends what to whom.
+#[derive(Drop)]
+pub(crate) struct Exchange {
+    pub from: Role,
+    pub to: Role,
+    pub message: SharedMessage,
+}
+
+impl Exchange {
+    /// An equal exchange, which shares its names and its message.
+    pub fn copy(&self) -> Result<Exchange, AllocError>
+        ensures { IfOk result (λ copy. copy ≡ self.now) }
+    {
+        Ok(Exchange {
+            from: self.from.copy()?,
+            to: self.to.copy()?,
+            message: self.message.copy()?,
+        })
+    }
+}
+
+/// The sender, the receiver and the message that the fields are, if they are these.
+pub(crate) fn exchange_of(alloc: Global, fields: &[&[u8]]) -> Result<Option<Exchange>, AllocError>
+    ensures { IfOk result (Finds (λ e. IsExchange (map (λ field. field.now) fields.now) e.from e.to e.message)) }
+{
+    let [from, to, text] = fields else {
+        return Ok(None);
+    };
+    let Some(from) = Name::from_bytes(alloc, from)? else {
+        return Ok(None);
+    };
+    let Some(to) = Name::from_bytes(alloc, to)? else {
+        return Ok(None);
+    };
+    let Some(message) = message_of(alloc, text)? else {
+        return Ok(None);
+    };
+    Ok(Some(Exchange { from, to, message }))
+}

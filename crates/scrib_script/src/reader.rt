@@ -1,0 +1,114 @@
+//! Reading the lines of a script, one after another.
+
+ghost use Rattle.std.specs.Prelude.{◌≡◌, ◌<◌, ◌++◌, ◌∷◌, ℕ, List, IfOk, IfSome, MatchOption, length, slice_index};
+ghost use Rattle.scrib_script.specs.Fields.{IsNumber};
+ghost use Rattle.scrib_script.specs.Says.{Says};
+ghost use Rattle.scrib_script.specs.declared.format.Format.TheVariants as format;
+ghost use Rattle.scrib_script.specs.declared.line.Line.TheVariants as line;
+ghost use Rattle.scrib_script.specs.Heads.{IsHead, act_word, act_step};
+
+use crate::exchange::Exchange;
+use crate::exchanges::Exchanges;
+use crate::format::Format;
+use crate::line::{Line, MAX_LINE_BYTES, line_of};
+use crate::text::number_of;
+use scrib_core::step::Step;
+use scrib_types::event::Event;
+use std::alloc::{AllocError, Global};
+
+/// What is done with the message of an exchange.
+#[derive(Clone, Copy)]
+enum Act {
+    Send,
+    Receive,
+}
+
+/// A line of an exchange before its names are read.
+#[derive(Clone, Copy)]
+struct Head<'a> {
+    act: Act,
+    id: u32,
+    // What stands behind the id.
+    text: &'a [u8],
+}
+
+/// Reads the lines of a script. What was once read of an exchange is found again by its text.
+#[derive(Drop)]
+pub struct Reader {
+    alloc: Global,
+    exchanges: Exchanges,
+}
+
+impl Reader {
+    /// A reader before the first line.
+    pub fn new(alloc: Global) -> Reader {
+        Reader {
+            alloc,
+            exchanges: Exchanges::new(alloc),
+        }
+    }
+
+    /// What the line of these bytes, without their end, says.
+    ///
+    /// # Errors
+    /// `AllocError` where memory for the fields or for the step was refused.
+    pub fn line(&mut self, bytes: &[u8]) -> Result<Line, AllocError>
+        ensures { IfOk result (Says bytes.now) }
+    {
+        let Some(head) = head_of(bytes) else {
+            return line_of(self.alloc, bytes);
+        };
+        match self.exchanges.read(head.text)? {
+            Some(exchange) => Ok(noted(head.act, head.id, exchange)),
+            None => line_of(self.alloc, bytes),
+        }
+    }
+}
+
+/// The note of a send or of a reception.
+fn noted(act: Act, id: u32, exchange: Exchange) -> Line
+    ensures { result ≡ line.Step format.Line (act_step act id exchange.from exchange.to exchange.message) }
+{
+    let Exchange { from, to, message } = exchange;
+    let event = match act {
+        Act::Send => Event::Sent { from, to, message },
+        Act::Receive => Event::Received { from, to, message },
+    };
+    Line::Step(Format::Line, Step::Note { id, event })
+}
+
+/// The act and the id that a line begins with, where it is spelled with single blanks.
+fn head_of(bytes: &[u8]) -> Option<Head<'_>>
+    ensures { IfSome result (λ head. IsHead bytes.now head.act head.id head.text.now) }
+{
+    if bytes.len() > MAX_LINE_BYTES {
+        return None;
+    }
+    let (act, rest) = act_of(bytes)?;
+    let at = first_blank(rest)?;
+    let id = number_of(&rest[..at])?;
+    Some(Head {
+        act,
+        id,
+        text: &rest[at + 1..],
+    })
+}
+
+/// The act that a line begins with, and what stands behind the blank after it.
+fn act_of(bytes: &[u8]) -> Option<(Act, &[u8])>
+    ensures { IfSome result (λ cut. bytes.now ≡ act_word cut.0 ++ 32 ∷ cut.1.now) }
+{
+    match bytes {
+        [b's', b'e', b'n', b'd', b' ', rest @ ..] => Some((Act::Send, rest)),
+        [b'r', b'e', b'c', b'v', b' ', rest @ ..] => Some((Act::Receive, rest)),
+        _ => None,
+    }
+}
+
+/// The place of the first blank.
+fn first_blank(bytes: &[u8]) -> Option<usize>
+    ensures within { IfSome result (λ at. at < length bytes.now) }
+    ensures blank { IfSome result (λ at. slice_index bytes.now at ≡ 32) }
+{
+    bytes.iter().position(|byte| *byte == b' ')
+}
