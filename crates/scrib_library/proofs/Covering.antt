@@ -18,13 +18,14 @@ use Rattle.scrib_library.specs.declared.meanings.NamedMeaning.{NamedMeaning}
 use Rattle.scrib_library.specs.declared.changes.ChangeKind.{ChangeKind}
 use Rattle.scrib_library.specs.declared.changes.ChangeKind.TheVariants.{Added, Replaced, Withdrawn}
 use Rattle.scrib_library.specs.declared.changes.Change.{Change}
-use Rattle.scrib_library.specs.Modules.{name_of, Means, IsMeaning, AreMeant, AreImportsThere, AreWellFormed}
+use Rattle.scrib_library.specs.Modules.{name_of, Means, IsMeaning, AreImportsThere, AreWellFormed}
 use Rattle.scrib_library.specs.Holdings.{HasNumber}
 use Rattle.scrib_library.specs.Listed.{AreInOrder}
 use Rattle.scrib_library.specs.Edits.{Changes, IsChanges, AreVersionsUsed, RunsOut}
 use Rattle.scrib_library.specs.Stored.{version_names, HasVersion, IsVersion, AreVersions, AreCounted, IsSpelled}
 use Rattle.scrib_library.specs.Elaborated.{meant, meaning_names}
 use Rattle.scrib_library.specs.Drafts.{shown, edit_names, meaning_before, IsKind, IsChangedBy, IsUnchanged, IsDraft, IsOverdrawn, AreMade}
+use Rattle.scrib_library.specs.Plans.{IsCovered}
 use Rattle.scrib_library.proofs.Lists.{Contains-nil, Contains-head_at, Contains-tail, Contains-cases, Contains-map, Contains-map_back}
 use Rattle.scrib_library.proofs.Orders.{once}
 use Rattle.scrib_library.proofs.Places.{either}
@@ -42,13 +43,6 @@ among n (m ∷ ms) =
         | inr non ↦ inr (λ p. elim (Contains-cases m ms n p) [ inl e ↦ (let t : dotted_eq n m ≡ true = (dotted_eq-Decides n m).1 (sym e) in cc) | inr q ↦ non q ])
       ]
     ]
-
--- These are the meanings of names after an edit, each other name means what it did before, and all that is declared
--- means something.
-pub record IsCovered (before after : List ModuleTree) (ys : List NamedMeaning) : Type 0 where
-  pub same : (n : List (List ℕ)) → (Contains (meaning_names ys) n → ⊥) → (a : Agreement) → Means before n a ↔ Means after n a
-  pub means : (y : NamedMeaning) → Contains ys y → IsMeaning after y.name (meant y)
-  pub meant_all : AreMeant after
 
 -- a name with one version has no other
 one_before : (vs : List NamedVersion) → AreInOrder (version_names vs) → (n : List (List ℕ)) (b : Option Version) (w : Version) → IsVersion vs n b → HasVersion vs n w → b ≡ Some w

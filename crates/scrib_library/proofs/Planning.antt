@@ -3,7 +3,7 @@ use Rattle.std.proofs.Common.{◌≡◌, ◌≢◌, ℕ, zero, suc, ◌<◌, tru
 use Rattle.std.specs.Prelude.{◌↔◌}
 use Rattle.std.specs.List.{Contains}
 use Rattle.std.proofs.Math.ListN.{length-set}
-use Rattle.std.proofs.lemmas.List.{same_from_push, take-append-drop, get_or-set_same}
+use Rattle.std.proofs.lemmas.List.{same_from_push, take-append-drop, get_or-set_same, set-get_or}
 use Rattle.std.proofs.lemmas.List.Elements.{Contains-append_left}
 use Rattle.scrib_types.specs.Agreement.{Agreement}
 use Rattle.scrib_parser.specs.declared.tree.ModuleTree.{ModuleTree}
@@ -28,8 +28,8 @@ use Rattle.scrib_library.specs.Edits.{Reads, HasRoom, ModuleFails, PutFails, IsP
 use Rattle.scrib_library.specs.Stored.{IsSpelled, IsLibrary}
 use Rattle.scrib_library.specs.Elaborated.{meant, meaning_names, IsMeant, AreMeanings, AreElaborable, IsRefusal}
 use Rattle.scrib_library.specs.Drafts.{AreMade, StopsDraft}
-use Rattle.scrib_library.specs.Plans.{IsPlan, StopsPut}
-use Rattle.scrib_library.proofs.Lists.{Contains-set_cases, Contains-map_back}
+use Rattle.scrib_library.specs.Plans.{IsCovered, Covers, IsPlan, StopsMeanings, StopsPut}
+use Rattle.scrib_library.proofs.Lists.{Contains-nil, Contains-set_cases, Contains-map_back}
 use Rattle.scrib_library.proofs.Orders.{get_or_any}
 use Rattle.scrib_library.proofs.Places.{either, with_module-cases, imports_kept, declared-back, declared-there}
 use Rattle.scrib_library.proofs.Naming.{distinct_with}
@@ -37,7 +37,7 @@ use Rattle.scrib_library.proofs.Spelling.{spelled}
 use Rattle.scrib_library.proofs.Refusals.{put_refused}
 use Rattle.scrib_library.proofs.Meant.{declared_of, declared_means, means_declared, holdings}
 use Rattle.scrib_library.proofs.Elaborating.{elaborable_from}
-use Rattle.scrib_library.proofs.Covering.{among, IsCovered, well_formed, runs_out, changes_told, versions_after, counted_after, versions_used}
+use Rattle.scrib_library.proofs.Covering.{among, well_formed, runs_out, changes_told, versions_after, counted_after, versions_used}
 
 -- ---- the module that is replaced
 
@@ -182,9 +182,6 @@ module _ (m : ModuleTree) (before after : List ModuleTree) (p : Placed) (placed 
         ]
 
     module _ (ys : List NamedMeaning) (meanings : AreMeanings after entries ys) where
-      pub sorted_meanings : AreInOrder (meaning_names ys)
-      sorted_meanings = let P : List (List (List ℕ)) → Type 0 = λ l. AreInOrder l in subst P (sym meanings.names) touched.sorted
-
       pub covered : IsCovered before after ys
       covered = record {
         same = λ n non a. same_outside n (λ q. non (let P : List (List (List ℕ)) → Type 0 = λ l. Contains l n in subst P (sym meanings.names) q)) a;
@@ -218,7 +215,7 @@ module _ (m : ModuleTree) (before after : List ModuleTree) (p : Placed) (placed 
         | inr q ↦ library.spelled t q
       ]
 
-  -- why there are no meanings, or no versions of them, is why the put fails
+  -- why there are no meanings is why the put fails
   module _ (room : HasRoom m after) (names : List (List (List ℕ))) (affected : AreAffected after m.name names) (entries : List Entry) (touched : AreTouched after names p.replaced entries) where
     pub refused_meanings : (f : EditFault) → IsRefusal after entries f → ModuleFails before used m after f
     refused_meanings (edit.Elaborate f) k = (room, k.1)
@@ -233,38 +230,30 @@ module _ (m : ModuleTree) (before after : List ModuleTree) (p : Placed) (placed 
     refused_meanings (edit.Lex f) k = absurd k
     refused_meanings (edit.Parse f) k = absurd k
 
-    module _ (ys : List NamedMeaning) (meanings : AreMeanings after entries ys) where
-      covers_all : IsCovered before after ys
-      covers_all = covered names affected entries touched ys meanings
-
-      in_order : AreInOrder (meaning_names ys)
-      in_order = sorted_meanings names affected entries touched ys meanings
-
-      pub refused_draft : IsSpelled m → (f : EditFault) → StopsDraft versions ys used f → ModuleFails before used m after f
-      refused_draft new edit.VersionsFull k = (
-        room,
-        well_formed before after versions library.stored ys in_order covers_all (imports_after room),
-        runs_out before after versions library.stored ys in_order covers_all library.spelled (spelled_after new) used k.0 k.1,
-      )
-      refused_draft new edit.OutOfMemory k = tt
-      refused_draft new edit.TooManyModules k = absurd k
-      refused_draft new edit.UnknownModule k = absurd k
-      refused_draft new (edit.StillImported n) k = absurd k
-      refused_draft new (edit.ImportMissing n) k = absurd k
-      refused_draft new edit.TooManyProtocols k = absurd k
-      refused_draft new (edit.Elaborate g) k = absurd k
-      refused_draft new (edit.Project u) k = absurd k
-      refused_draft new (edit.Lex g) k = absurd k
-      refused_draft new (edit.Parse g) k = absurd k
+  -- or of versions of them
+  module _ (room : HasRoom m after) (ys : List NamedMeaning) (in_order : AreInOrder (meaning_names ys)) (covers : IsCovered before after ys) where
+    pub refused_draft : IsSpelled m → (f : EditFault) → StopsDraft versions ys used f → ModuleFails before used m after f
+    refused_draft new edit.VersionsFull k = (
+      room,
+      well_formed before after versions library.stored ys in_order covers (imports_after room),
+      runs_out before after versions library.stored ys in_order covers library.spelled (spelled_after new) used k.0 k.1,
+    )
+    refused_draft new edit.OutOfMemory k = tt
+    refused_draft new edit.TooManyModules k = absurd k
+    refused_draft new edit.UnknownModule k = absurd k
+    refused_draft new (edit.StillImported n) k = absurd k
+    refused_draft new (edit.ImportMissing n) k = absurd k
+    refused_draft new edit.TooManyProtocols k = absurd k
+    refused_draft new (edit.Elaborate g) k = absurd k
+    refused_draft new (edit.Project u) k = absurd k
+    refused_draft new (edit.Lex g) k = absurd k
+    refused_draft new (edit.Parse g) k = absurd k
 
 -- ---- a put that is planned
 
 module _ (m : ModuleTree) (before after : List ModuleTree) (p : Placed) (placed : IsPlaced m before after p) (versions : List NamedVersion) (used : ℕ) (library : IsLibrary before versions used) (text : List ℕ) (read : Reads text m) (plan : Plan) (h : IsPlan m after p.replaced versions used plan) where
   covers : IsCovered before after h.meanings
-  covers = covered m before after p placed versions used library h.names h.affected h.entries h.touched h.meanings h.meant
-
-  sorted : AreInOrder (meaning_names h.meanings)
-  sorted = sorted_meanings m before after p placed versions used library h.names h.affected h.entries h.touched h.meanings h.meant
+  covers = h.covered before p versions used placed refl library
 
   all_spelled : (t : ModuleTree) → Contains after t → IsSpelled t
   all_spelled = spelled_after m before after p placed versions used library (spelled text m read)
@@ -272,14 +261,14 @@ module _ (m : ModuleTree) (before after : List ModuleTree) (p : Placed) (placed 
   pub changes_then : IsChanges before after plan.changes.list
   changes_then =
       let P : List Change → Type 0 = λ l. IsChanges before after l in
-      subst P (sym h.planned.list) (changes_told before after versions library.stored h.meanings sorted covers used plan.edits.items plan.used h.planned.draft library.spelled all_spelled)
+      subst P (sym h.planned.list) (changes_told before after versions library.stored h.meanings h.sorted covers used plan.edits.items plan.used h.planned.draft library.spelled all_spelled)
 
   pub put_then : IsPut before text m after
   put_then = record {
     read = read;
     placed = placed.put;
     room = h.room;
-    meant = well_formed before after versions library.stored h.meanings sorted covers (imports_after m before after p placed versions used library h.room);
+    meant = well_formed before after versions library.stored h.meanings h.sorted covers (imports_after m before after p placed versions used library h.room);
   }
 
   module _ (news : List NamedVersion) (made : AreMade versions plan.edits.items news) where
@@ -288,28 +277,56 @@ module _ (m : ModuleTree) (before after : List ModuleTree) (p : Placed) (placed 
       distinct = distinct_after m before after p placed versions used library;
       imports = imports_after m before after p placed versions used library h.room;
       spelled = all_spelled;
-      stored = versions_after before after versions library.stored h.meanings sorted covers used plan.edits.items plan.used h.planned.draft news made;
-      counted = counted_after before after versions library.stored h.meanings sorted covers used plan.edits.items plan.used h.planned.draft news made library.counted;
+      stored = versions_after before after versions library.stored h.meanings h.sorted covers used plan.edits.items plan.used h.planned.draft news made;
+      counted = counted_after before after versions library.stored h.meanings h.sorted covers used plan.edits.items plan.used h.planned.draft news made library.counted;
     }
 
     pub used_then : AreVersionsUsed (holdings before versions used) (holdings after news plan.used) plan.changes.list
     used_then =
         let P : List Change → Type 0 = λ l. AreVersionsUsed (holdings before versions used) (holdings after news plan.used) l in
-        subst P (sym h.planned.list) (versions_used before after versions library.stored h.meanings sorted covers used plan.edits.items plan.used h.planned.draft news made library.counted)
+        subst P (sym h.planned.list) (versions_used before after versions library.stored h.meanings h.sorted covers used plan.edits.items plan.used h.planned.draft news made library.counted)
 
--- ---- why a put isn't planned
+-- ---- the meanings of a put, and why there are none
 
-module _ (m : ModuleTree) (after : List ModuleTree) (gone : Option ModuleTree) (versions : List NamedVersion) (used : ℕ) (room : HasRoom m after) (names : List (List (List ℕ))) (affected : AreAffected after m.name names) (entries : List Entry) (touched : AreTouched after names gone entries) where
+module _ (m : ModuleTree) (after : List ModuleTree) (gone : Option ModuleTree) (names : List (List (List ℕ))) (affected : AreAffected after m.name names) (entries : List Entry) (touched : AreTouched after names gone entries) where
   abbrev Touched : Option ModuleTree → Type 0
   Touched o = AreTouched after names o entries
 
-  pub stopped_meanings : (f : EditFault) → IsRefusal after entries f → StopsPut m after gone versions used f
-  stopped_meanings f k before placed h g spelled library =
+  pub covering : (ys : List NamedMeaning) → AreMeanings after entries ys → AreInOrder (meaning_names ys) × Covers m after gone ys
+  covering ys meanings = (
+    (let P : List (List (List ℕ)) → Type 0 = λ l. AreInOrder l in subst P (sym meanings.names) touched.sorted),
+    λ before placed versions used h g library. covered m before after placed h versions used library names affected entries (subst Touched (sym g) touched) ys meanings,
+  )
+
+  pub stopped_meanings : HasRoom m after → (f : EditFault) → IsRefusal after entries f → StopsMeanings m after gone f
+  stopped_meanings room f k before placed versions used h g library =
       refused_meanings m before after placed h versions used library room names affected entries (subst Touched (sym g) touched) f k
 
-  pub stopped_draft : (ys : List NamedMeaning) → AreMeanings after entries ys → (f : EditFault) → StopsDraft versions ys used f → StopsPut m after gone versions used f
-  stopped_draft ys meanings f k before placed h g spelled library =
-      refused_draft m before after placed h versions used library room names affected entries (subst Touched (sym g) touched) ys meanings spelled f k
+-- where the module is the one that stood there, nothing changes
+before_same : (m : ModuleTree) (before after : List ModuleTree) (p : Placed) → IsPlaced m before after p → p.replaced ≡ Some m → before ≡ after
+before_same m before after p h is =
+    sym (before_set m before after p h m is) ∙ ap (set after p.at) (sym (h.there m)) ∙ set-get_or after p.at m
+
+pub covering_nothing : (m : ModuleTree) (after : List ModuleTree) (former : Option ModuleTree) → former ≡ Some m → Covers m after former []
+covering_nothing m after former same before p versions used placed g library =
+    let is = before_same m before after p placed (g ∙ same) in
+    let P : List ModuleTree → Type 0 = λ l. IsCovered before l [] in
+    subst P is (record {
+      same = λ n non a. (λ h. h, λ h. h);
+      means = λ y c. absurd (Contains-nil y c);
+      meant_all = λ d q.
+          let w = Contains-map_back (λ (v : NamedVersion). v.name) versions (name_of d) (library.stored.listed.complete d q) in
+          (meaning_of w.0.version, declared_means before d w.0.name (meaning_of w.0.version) (library.stored.sound w.0 w.1) w.2);
+    })
+
+-- why a put isn't planned
+module _ (m : ModuleTree) (after : List ModuleTree) (gone : Option ModuleTree) (versions : List NamedVersion) (used : ℕ) where
+  pub stopped : (f : EditFault) → StopsMeanings m after gone f → StopsPut m after gone versions used f
+  stopped f k before placed h g spelled library = k before placed versions used h g library
+
+  pub stopped_draft : HasRoom m after → (ys : List NamedMeaning) → AreInOrder (meaning_names ys) → Covers m after gone ys → (f : EditFault) → StopsDraft versions ys used f → StopsPut m after gone versions used f
+  stopped_draft room ys sorted covers f k before placed h g spelled library =
+      refused_draft m before after placed h versions used library room ys sorted (covers before placed versions used h g library) spelled f k
 
 -- ---- and why it isn't made
 

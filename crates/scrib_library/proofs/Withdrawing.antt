@@ -32,7 +32,8 @@ use Rattle.scrib_library.proofs.Lists.{Contains-nil, Contains-head, Contains-tai
 use Rattle.scrib_library.proofs.Places.{either, declared-back, declared-there}
 use Rattle.scrib_library.proofs.Naming.{named_once, distinct_without, without-back, without-other, imports_stay, place_has, place_there, place_named}
 use Rattle.scrib_library.proofs.Meant.{declared_of, declared_means, means_declared, holdings}
-use Rattle.scrib_library.proofs.Covering.{IsCovered, well_formed, changes_told, versions_after, counted_after, versions_used}
+use Rattle.scrib_library.specs.Plans.{IsCovered}
+use Rattle.scrib_library.proofs.Covering.{well_formed, changes_told, versions_after, counted_after, versions_used}
 
 -- ---- names that mean nothing any more
 

@@ -13,4 +13,5 @@ mod plan;
 mod read;
 mod removal;
 mod room;
+mod same;
 mod versions;

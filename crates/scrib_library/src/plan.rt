@@ -1,12 +1,13 @@
 //! What an edit of a module does.
 
-ghost use Rattle.std.specs.Prelude.{◌≡◌, ◌+◌, ◌≤◌, IfOk, IfErr, vec_len, vec_capacity};
+ghost use Rattle.std.specs.Prelude.{◌≡◌, ◌+◌, ◌≤◌, Some, IsTrue, IfOk, IfErr, vec_len, vec_capacity};
 ghost use Rattle.std.specs.Option.{option_copied};
 ghost use Rattle.scrib_library.specs.Listed.{AreInOrder};
 ghost use Rattle.scrib_library.specs.Stored.{version_names};
 ghost use Rattle.scrib_library.specs.Elaborated.{meaning_names};
 ghost use Rattle.scrib_library.specs.Drafts.{StopsDraft};
-ghost use Rattle.scrib_library.specs.Plans.{IsPlanFor, IsPlan, StopsPut};
+ghost use Rattle.scrib_library.specs.Edits.{HasRoom};
+ghost use Rattle.scrib_library.specs.Plans.{IsPlanFor, IsPlan, Covers, StopsMeanings, StopsPut};
 ghost use Rattle.scrib_library.specs.Withdrawals.{IsRemovalPlan};
 ghost use Rattle.scrib_library.specs.declared.fault.EditFault.TheVariants.{OutOfMemory};
 
@@ -17,6 +18,7 @@ use crate::draft::{Draft, changes_in, draft_of};
 use crate::fault::EditFault;
 use crate::meanings::{NamedMeaning, dropped, meanings_of};
 use crate::room::check_room;
+use crate::same::same_module;
 use crate::versions::{NamedVersion, VersionEdit};
 use scrib_elaborate::modules::Modules;
 use scrib_parser::tree::ModuleTree;
@@ -53,12 +55,44 @@ pub fn plan_put(
     ensures room { IfOk result (λ p. vec_len versions.new + vec_len p.edits ≤ vec_capacity versions.new) }
     ensures kept { versions.new.items ≡ versions.old.items }
 {
+    check_room(alloc, modules.as_slice(), new)?;
+    let meanings = meanings_after(alloc, modules, new, gone)?;
+    plan_edits(alloc, &new.name, versions, meanings, used)
+}
+
+/// What the names mean, in order, that the put of the new module in place of the one that is gone can have changed:
+/// none where the two are the same.
+///
+/// # Errors
+/// `Elaborate` or `Project`, the first that the put has; `OutOfMemory` where memory was refused.
+fn meanings_after(
+    alloc: Global,
+    modules: &Modules,
+    new: &ModuleTree,
+    gone: Option<&ModuleTree>,
+) -> Result<Vec<NamedMeaning>, EditFault>
+    requires { HasRoom new.now modules.now }
+    ensures sorted { IfOk result (λ ys. AreInOrder (meaning_names ys.items)) }
+    ensures ok { IfOk result (λ ys. Covers new.now modules.now (option_copied gone.entry) ys.items) }
+    ensures fault { IfErr result (StopsMeanings new.now modules.now (option_copied gone.entry)) }
+{
+    if is_same(new, gone) {
+        return Ok(Vec::new(alloc));
+    }
     let trees = modules.as_slice();
-    check_room(alloc, trees, new)?;
     let affected = affected(alloc, trees, &new.name)?;
     let entries = touched(alloc, trees, &affected, gone)?;
-    let meanings = meanings_of(alloc, modules, entries)?;
-    plan_edits(alloc, &new.name, versions, meanings, used)
+    meanings_of(alloc, modules, entries)
+}
+
+/// Whether the module that is gone is this one.
+fn is_same(new: &ModuleTree, gone: Option<&ModuleTree>) -> bool
+    ensures { IsTrue result → option_copied gone.entry ≡ Some new.now }
+{
+    match gone {
+        Some(gone) => same_module(gone, new),
+        None => false,
+    }
 }
 
 /// What it does that the module is taken out, where the versions are those before.

@@ -1,0 +1,54 @@
+use Rattle.std.proofs.Common.{List, subst}
+use Rattle.std.specs.Option.{option_copied}
+use Rattle.std.proofs.lemmas.Result.{IfOk-weaker, IfErr-weaker}
+use Rattle.scrib_parser.specs.declared.tree.ModuleTree.{ModuleTree}
+use Rattle.scrib_library.specs.declared.meanings.NamedMeaning.{NamedMeaning}
+use Rattle.scrib_library.specs.Affected.{names_now, AreAffected}
+use Rattle.scrib_library.specs.Entries.{AreTouched}
+use Rattle.scrib_library.specs.Listed.{AreInOrder}
+use Rattle.scrib_library.specs.Elaborated.{meaning_names, AreMeanings, IsRefusal}
+use Rattle.scrib_library.specs.Plans.{Covers, StopsMeanings}
+use Rattle.scrib_library.proofs.Planning.{covering, covering_nothing, stopped_meanings}
+use Rattle.scrib_library.proofs.plan.meanings_after.Goals as goal
+
+pub returns-then-is_same-clause-ok : goal.returns-then-is_same-clause-ok
+returns-then-is_same-clause-ok c =
+    let P : List NamedMeaning → Type 0 = λ ys. Covers c.args.new.now c.args.modules.now (option_copied c.args.gone) ys in
+    rw c.new.ensures.items (covering_nothing c.args.new.now c.args.modules.now (option_copied c.args.gone) (c.is_same.ensures c.if-is_same.true))
+
+pub returns-clause-sorted : goal.returns-clause-sorted
+returns-clause-sorted c =
+    let m = c.args.new.now in
+    let gone = option_copied c.args.gone in
+    let es = c.in_ok-entries.entries.items in
+    let names = names_now c.in_ok-affected.affected.items in
+    let Q : List ModuleTree → Type 0 = λ ms. AreAffected ms m.name names in
+    let R : List ModuleTree → Type 0 = λ ms. AreTouched ms names gone es in
+    let named = rw c.deref.ensures.value at c.in_ok-entries.ensures in
+    let all = covering m c.args.modules.now gone names (subst Q c.as_slice-trees.ensures c.in_ok-affected.ensures) es (subst R c.as_slice-trees.ensures named) in
+    IfOk-weaker c.meanings_of.result (λ ys. AreMeanings c.args.modules.now es ys.items) (λ ys. AreInOrder (meaning_names ys.items)) (λ ys h. (all ys.items h).0) c.meanings_of.ensures.ok
+
+pub returns-clause-ok : goal.returns-clause-ok
+returns-clause-ok c =
+    let m = c.args.new.now in
+    let gone = option_copied c.args.gone in
+    let es = c.in_ok-entries.entries.items in
+    let names = names_now c.in_ok-affected.affected.items in
+    let Q : List ModuleTree → Type 0 = λ ms. AreAffected ms m.name names in
+    let R : List ModuleTree → Type 0 = λ ms. AreTouched ms names gone es in
+    let named = rw c.deref.ensures.value at c.in_ok-entries.ensures in
+    let all = covering m c.args.modules.now gone names (subst Q c.as_slice-trees.ensures c.in_ok-affected.ensures) es (subst R c.as_slice-trees.ensures named) in
+    IfOk-weaker c.meanings_of.result (λ ys. AreMeanings c.args.modules.now es ys.items) (λ ys. Covers m c.args.modules.now gone ys.items) (λ ys h. (all ys.items h).1) c.meanings_of.ensures.ok
+
+pub returns-clause-fault : goal.returns-clause-fault
+returns-clause-fault c =
+    let m = c.args.new.now in
+    let gone = option_copied c.args.gone in
+    let es = c.in_ok-entries.entries.items in
+    let names = names_now c.in_ok-affected.affected.items in
+    let Q : List ModuleTree → Type 0 = λ ms. AreAffected ms m.name names in
+    let R : List ModuleTree → Type 0 = λ ms. AreTouched ms names gone es in
+    let named = rw c.deref.ensures.value at c.in_ok-entries.ensures in
+    IfErr-weaker c.meanings_of.result (IsRefusal c.args.modules.now es) (StopsMeanings m c.args.modules.now gone)
+    (stopped_meanings m c.args.modules.now gone names (subst Q c.as_slice-trees.ensures c.in_ok-affected.ensures) es (subst R c.as_slice-trees.ensures named) c.requires)
+    c.meanings_of.ensures.fault
