@@ -1,5 +1,5 @@
 -- From entries to what their protocols mean, and to the projections.
-use Rattle.std.proofs.Common.{◌≡◌, ℕ, true, List, ◌∷◌, [], ◌++◌, Option, Some, None, Err, inl, inr, sym, ◌∙◌, subst}
+use Rattle.std.proofs.Common.{◌≡◌, ℕ, true, List, ◌∷◌, [], ◌++◌, Option, Some, None, Err, inl, inr, sym, ap, ◌∙◌, subst}
 use Rattle.std.specs.List.{Contains}
 use Rattle.std.specs.Option.{option_map}
 use Rattle.std.proofs.lemmas.Bool.{false≢true}
@@ -7,6 +7,7 @@ use Rattle.std.proofs.lemmas.List.{map-append}
 use Rattle.std.proofs.lemmas.List.Elements.{Contains-push_cases}
 use Rattle.scrib_types.specs.Agreement.{Agreement}
 use Rattle.scrib_parser.specs.declared.tree.ModuleTree.{ModuleTree}
+use Rattle.scrib_parser.specs.declared.tree.ProtocolDeclaration.{ProtocolDeclaration}
 use Rattle.scrib_elaborate.specs.declared.fault.ElaborateFault.{ElaborateFault}
 use Rattle.scrib_elaborate.specs.declared.fault.ElaborateFault.TheVariants as elaborate
 use Rattle.scrib_elaborate.specs.declared.elaborated.Elaborated.{Elaborated}
@@ -31,7 +32,7 @@ use Rattle.scrib_library.proofs.Orders.{once}
 
 -- ---- elaboration
 
-pub broken_entry : (ms : List ModuleTree) (e : Entry) (f : ElaborateFault) → e.stands ≡ true → FailsAt ms e.home.now e.protocol.now f → IsBrokenEntry ms e (edit_fault_of_elaborate f)
+pub broken_entry : (ms : List ModuleTree) (e : Entry) (f : ElaborateFault) → e.stands ≡ true → FailsAt ms e.home.now.name e.protocol.now.name f → IsBrokenEntry ms e (edit_fault_of_elaborate f)
 broken_entry ms e elaborate.OutOfMemory s k = tt
 broken_entry ms e (elaborate.Broken f) s k = (s, k)
 
@@ -52,8 +53,8 @@ module _ (ms : List ModuleTree) (es : List Entry) where
   not_elaborated stand e (edit.Elaborate f) there k =
       let s = stand e there k.0 in
       let P : List (List ℕ) → Type 0 = λ home. IsBroken ms home s.declaration.protocol.name f in
-      let Q : List ℕ → Type 0 = λ name. IsBroken ms e.home.now name f in
-      ((e, there, k.0), (s.declaration, s.there, subst P s.entry.home (subst Q s.entry.protocol k.1)))
+      let Q : List ℕ → Type 0 = λ name. IsBroken ms e.home.now.name name f in
+      ((e, there, k.0), (s.declaration, s.there, subst P (ap (λ (x : ModuleTree). x.name) s.entry.home) (subst Q (ap (λ (x : ProtocolDeclaration). x.name) s.entry.protocol) k.1)))
   not_elaborated stand e edit.OutOfMemory there k = tt
   not_elaborated stand e (edit.Project u) there k = absurd k
   not_elaborated stand e edit.TooManyModules there k = absurd k
@@ -99,7 +100,7 @@ module _ (xs : List NamedElaborated) where
 -- ---- both
 
 module _ (ms : List ModuleTree) (es : List Entry) where
-  stands_meant : (e : Entry) (o : Option Agreement) → e.stands ≡ true → IsMeant ms e o → (a : Agreement) × Elaborates ms e.home.now e.protocol.now a
+  stands_meant : (e : Entry) (o : Option Agreement) → e.stands ≡ true → IsMeant ms e o → (a : Agreement) × Elaborates ms e.home.now.name e.protocol.now.name a
   stands_meant e None s k = absurd (false≢true (sym k ∙ s))
   stands_meant e (Some a) s k = (a, k.1)
 
@@ -142,11 +143,11 @@ module _ (ms : List ModuleTree) (es : List Entry) where
         let P : Option Elaborated → Type 0 = λ o. IsMeant ms m.entry (option_map meaning_of o) in
         let Q : Option Elaborated → Type 0 = λ o. HasSites ms m.entry o in
         let e = subst P k.is m.found.means in
-        let at = k.place ms m.entry.home.now m.entry.protocol.now (subst Q k.is m.found.sites) in
+        let at = k.place ms m.entry.home.now.name m.entry.protocol.now.name (subst Q k.is m.found.sites) in
         let s = stand m.entry m.there e.0 in
         let R : List (List ℕ) → Type 0 = λ home. Elaborates ms home s.declaration.protocol.name (meaning_of k.elaborated) × IsPlaced ms home s.declaration.protocol.name g u in
-        let S : List ℕ → Type 0 = λ name. Elaborates ms m.entry.home.now name (meaning_of k.elaborated) × IsPlaced ms m.entry.home.now name g u in
-        let both = subst R s.entry.home (subst S s.entry.protocol (e.1, at)) in
+        let S : List ℕ → Type 0 = λ name. Elaborates ms m.entry.home.now.name name (meaning_of k.elaborated) × IsPlaced ms m.entry.home.now.name name g u in
+        let both = subst R (ap (λ (x : ModuleTree). x.name) s.entry.home) (subst S (ap (λ (x : ProtocolDeclaration). x.name) s.entry.protocol) (e.1, at)) in
         ((m.entry, m.there, e.0), elaborable_by sorted xs h, (s.declaration, meaning_of k.elaborated, s.there, both.0, k.first, both.1))
     no_meanings sorted stand edit.OutOfMemory k = tt
     no_meanings sorted stand (edit.Elaborate f) k = absurd k

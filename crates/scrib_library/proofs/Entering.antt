@@ -94,6 +94,7 @@ module _ (names : List (List (List ℕ))) where
     sorted = λ i j d lt last. absurd (omega (arith, last));
     complete = λ d p. absurd (Contains-nil d p);
     stand = λ e p. absurd (Contains-nil e p);
+    within = λ e p. absurd (Contains-nil e p);
     sound = λ e p. absurd (Contains-nil e p);
   }
 
@@ -108,6 +109,7 @@ module _ (names : List (List (List ℕ))) where
             | inr e ↦ absurd (other (let P : ModuleTree → Type 0 = λ x. Contains names x.name in subst P (sym e) named))
           ];
       stand = h.stand;
+      within = h.within;
       sound = λ e p s.
           let r = h.sound e p s in
           let b = declared-back (take i ms) r.declaration r.there in
@@ -118,8 +120,8 @@ module _ (names : List (List (List ℕ))) where
           };
     }
 
-    pub entries_more : (fs : List Entry) → AreEntered m true es m.protocols fs → AreEntries (take (i + 1) ms) names fs
-    entries_more fs new = record {
+    pub entries_more : Contains names m.name → (fs : List Entry) → AreEntered m true es m.protocols fs → AreEntries (take (i + 1) ms) names fs
+    entries_more one fs new = record {
       sorted = new.sorted;
       complete = λ d p named.
           let b = declared-back (take (i + 1) ms) d p in
@@ -131,6 +133,7 @@ module _ (names : List (List (List ℕ))) where
                 subst Q e (new.entered d.protocol (subst P (sym e) b.1)))
           ];
       stand = λ e p. elim (new.sound e p) [ inl r ↦ h.stand e r | inr r ↦ r.stood ];
+      within = λ e p. elim (new.sound e p) [ inl r ↦ h.within e r | inr r ↦ (let P : ModuleTree → Type 0 = λ x. Contains names x.name in subst P (sym r.entry.home) one) ];
       sound = λ e p s. elim (new.sound e p) [
         | inl r ↦ (
             let k = h.sound e r s in
@@ -150,11 +153,11 @@ module _ (names : List (List (List ℕ))) where
 
   -- ---- and the one that is gone
 
-  entry_name : (d : Declaration) (e : Entry) → IsEntryOf d e → e.name ≡ full_name e.home.now e.protocol.now
-  entry_name d e h = h.named ∙ sym (λ i. full_name (h.home i) (h.protocol i))
+  entry_name : (d : Declaration) (e : Entry) → IsEntryOf d e → e.name ≡ full_name e.home.now.name e.protocol.now.name
+  entry_name d e h = h.named ∙ sym (λ i. full_name (h.home i).name (h.protocol i).name)
 
   module _ (ms : List ModuleTree) (es : List Entry) (h : AreEntries ms names es) where
-    standing_name : (e : Entry) → Contains es e → e.name ≡ full_name e.home.now e.protocol.now
+    standing_name : (e : Entry) → Contains es e → e.name ≡ full_name e.home.now.name e.protocol.now.name
     standing_name e p = let k = h.sound e p (h.stand e p) in entry_name k.declaration e k.entry
 
     pub touched_none : AreTouched ms names None es
@@ -164,6 +167,7 @@ module _ (names : List (List (List ℕ))) where
       named = standing_name;
       dropped = λ m p e q. absurd (cc);
       sound = h.sound;
+      within = λ e p s. h.within e p;
       fallen = λ e p s. absurd (false≢true (sym s ∙ h.stand e p));
     }
 
@@ -180,6 +184,7 @@ module _ (names : List (List (List ℕ))) where
           let P : ModuleTree → Type 0 = λ x. Contains x.protocols p → Contains (entry_names fs) (full_name x.name p.name) in
           subst P same (new.entered p) q;
       sound = λ e p s. elim (new.sound e p) [ inl r ↦ h.sound e r s | inr r ↦ absurd (false≢true (sym r.stood ∙ s)) ];
+      within = λ e p s. elim (new.sound e p) [ inl r ↦ h.within e r | inr r ↦ absurd (false≢true (sym r.stood ∙ s)) ];
       fallen = λ e p s. elim (new.sound e p) [
         | inl r ↦ absurd (false≢true (sym s ∙ h.stand e r))
         | inr r ↦ (

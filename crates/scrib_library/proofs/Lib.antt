@@ -6,6 +6,8 @@ pub mod Texts
 pub mod Meant
 pub mod Affecting
 pub mod Entering
+pub mod Sifting
+pub mod Calling
 pub mod Making
 pub mod Drafting
 pub mod Spelling

@@ -37,7 +37,7 @@ meant y = option_map (λ (p : ProjectedProtocol). agreement_of p.protocol) y.pro
 -- the entry's protocol means this; nothing where it doesn't stand any more
 abbrev pub IsMeant : List ModuleTree → Entry → Option Agreement → Type 0
 IsMeant modules e None = e.stands ≡ false
-IsMeant modules e (Some a) = (e.stands ≡ true) × Elaborates modules e.home.now e.protocol.now a
+IsMeant modules e (Some a) = (e.stands ≡ true) × Elaborates modules e.home.now.name e.protocol.now.name a
 
 pub record IsMeaningOf (modules : List ModuleTree) (es : List Entry) (name : List (List ℕ)) (o : Option Agreement) : Type 0 where
   pub entry : Entry
@@ -50,7 +50,7 @@ pub record IsMeaningOf (modules : List ModuleTree) (es : List Entry) (name : Lis
 -- the joins of what was elaborated of the entry's protocol, if anything, are those of its type
 abbrev pub HasSites : List ModuleTree → Entry → Option Elaborated → Type 0
 HasSites modules e None = Unit {0}
-HasSites modules e (Some p) = AreSites modules e.home.now e.protocol.now p
+HasSites modules e (Some p) = AreSites modules e.home.now.name e.protocol.now.name p
 
 pub record IsFoundFor (modules : List ModuleTree) (e : Entry) (x : NamedElaborated) : Type 0 where
   pub named : x.name ≡ e.name
@@ -58,7 +58,7 @@ pub record IsFoundFor (modules : List ModuleTree) (e : Entry) (x : NamedElaborat
   pub sites : HasSites modules e x.elaborated
 
 abbrev pub IsBrokenEntry : List ModuleTree → Entry → EditFault → Type 0
-IsBrokenEntry modules e (edit.Elaborate f) = (e.stands ≡ true) × IsBroken modules e.home.now e.protocol.now f
+IsBrokenEntry modules e (edit.Elaborate f) = (e.stands ≡ true) × IsBroken modules e.home.now.name e.protocol.now.name f
 IsBrokenEntry modules e edit.OutOfMemory = Unit {0}
 IsBrokenEntry modules e other = ⊥
 
@@ -115,7 +115,7 @@ SomeStands es = (e : Entry) × Contains es e × (e.stands ≡ true)
 -- the protocol of each entry that stands means something
 abbrev pub AreElaborable : List ModuleTree → List Entry → Type 0
 AreElaborable modules es =
-    (e : Entry) → Contains es e → e.stands ≡ true → (a : Agreement) × Elaborates modules e.home.now e.protocol.now a
+    (e : Entry) → Contains es e → e.stands ≡ true → (a : Agreement) × Elaborates modules e.home.now.name e.protocol.now.name a
 
 abbrev pub StopsProjection : List NamedElaborated → EditFault → Type 0
 StopsProjection xs (edit.Project u) = (x : NamedElaborated) × Contains xs x × IsUnprojected x u

@@ -13,8 +13,8 @@ entry_names es = map (λ (e : Entry). e.name) es
 
 -- the entry is that of the declared protocol
 pub record IsEntryOf (d : Declaration) (e : Entry) : Type 0 where
-  pub home : e.home.now ≡ d.home.name
-  pub protocol : e.protocol.now ≡ d.protocol.name
+  pub home : e.home.now ≡ d.home
+  pub protocol : e.protocol.now ≡ d.protocol
   pub named : e.name ≡ name_of d
 
 -- one of the modules declares its protocol
@@ -47,6 +47,7 @@ pub record AreEntries (modules : List ModuleTree) (names : List (List (List ℕ)
   pub sorted : AreInOrder (entry_names es)
   pub complete : (d : Declaration) → Contains (declarations modules) d → Contains names d.home.name → Contains (entry_names es) (name_of d)
   pub stand : (e : Entry) → Contains es e → e.stands ≡ true
+  pub within : (e : Entry) → Contains es e → Contains names e.home.now.name
   pub sound : AreStanding modules es
 
 -- an entry of a protocol that isn't declared any more
@@ -59,7 +60,8 @@ pub record IsDropped (gone : ModuleTree) (modules : List ModuleTree) (names : Li
 pub record AreTouched (modules : List ModuleTree) (names : List (List (List ℕ))) (gone : Option ModuleTree) (es : List Entry) : Type 0 where
   pub sorted : AreInOrder (entry_names es)
   pub complete : (d : Declaration) → Contains (declarations modules) d → Contains names d.home.name → Contains (entry_names es) (name_of d)
-  pub named : (e : Entry) → Contains es e → e.name ≡ full_name e.home.now e.protocol.now
+  pub named : (e : Entry) → Contains es e → e.name ≡ full_name e.home.now.name e.protocol.now.name
   pub dropped : (m : ModuleTree) (p : ProtocolDeclaration) → gone ≡ Some m → Contains m.protocols p → Contains (entry_names es) (full_name m.name p.name)
   pub sound : AreStanding modules es
+  pub within : (e : Entry) → Contains es e → e.stands ≡ true → Contains names e.home.now.name
   pub fallen : (e : Entry) → Contains es e → e.stands ≡ false → (m : ModuleTree) × (gone ≡ Some m) × IsDropped m modules names e

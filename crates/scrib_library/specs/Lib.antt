@@ -5,6 +5,7 @@ pub mod Edits
 pub mod Listed
 pub mod Affected
 pub mod Entries
+pub mod Calls
 pub mod Stored
 pub mod Elaborated
 pub mod Drafts

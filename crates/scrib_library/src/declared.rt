@@ -8,15 +8,15 @@ ghost use Rattle.scrib_library.specs.Entries.{entry_names, AreEntries, AreEntere
 
 use crate::affected::is_one_of;
 use crate::names::{compare, full_name};
-use scrib_parser::tree::ModuleTree;
-use scrib_types::name::{Dotted, Name};
+use scrib_parser::tree::{ModuleTree, ProtocolDeclaration};
+use scrib_types::name::Dotted;
 use std::alloc::{AllocError, Global};
 
-/// A protocol: the name of its module, its own, its full name, and whether its module declares it still.
+/// A protocol: its module, its declaration there, its full name, and whether its module declares it still.
 #[derive(Drop)]
 pub struct Entry<'a> {
-    pub home: &'a Dotted,
-    pub protocol: &'a Name,
+    pub home: &'a ModuleTree,
+    pub protocol: &'a ProtocolDeclaration,
     pub name: Dotted,
     pub stands: bool,
 }
@@ -75,8 +75,8 @@ pub fn enter<'a>(
         let name = full_name(alloc, &tree.name, &declaration.name)?;
         if let Err(place) = place_of(entries, &name) {
             let entry = Entry {
-                home: &tree.name,
-                protocol: &declaration.name,
+                home: tree,
+                protocol: declaration,
                 name,
                 stands,
             };
@@ -87,7 +87,7 @@ pub fn enter<'a>(
 }
 
 /// The place of the entry of this name, or the place for it.
-fn place_of(entries: &[Entry], name: &Dotted) -> Result<usize, usize>
+pub fn place_of(entries: &[Entry], name: &Dotted) -> Result<usize, usize>
     requires { AreInOrder (entry_names entries.now) }
     ensures found { IfOk result (IsAt (entry_names entries.now) name.now) }
     ensures gap { IfErr result (IsGap (entry_names entries.now) name.now) }

@@ -2,6 +2,7 @@
 #![tactic(auto)]
 
 mod affected;
+mod calls;
 pub mod changes;
 mod declared;
 mod draft;
@@ -10,6 +11,7 @@ pub mod library;
 mod meanings;
 mod names;
 mod plan;
+mod reaching;
 mod read;
 mod removal;
 mod room;

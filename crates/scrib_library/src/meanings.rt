@@ -110,7 +110,7 @@ fn elaborate_entry(elaborator: &mut Elaborator, entry: Entry) -> Result<NamedEla
     } = entry;
     let mut elaborated = None;
     if stands {
-        elaborated = Some(elaborator.elaborate(home, protocol)?);
+        elaborated = Some(elaborator.elaborate(&home.name, &protocol.name)?);
     }
     Ok(NamedElaborated { name, elaborated })
 }

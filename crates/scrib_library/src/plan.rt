@@ -17,6 +17,7 @@ use crate::declared::touched;
 use crate::draft::{Draft, changes_in, draft_of};
 use crate::fault::EditFault;
 use crate::meanings::{NamedMeaning, dropped, meanings_of};
+use crate::reaching::reaching;
 use crate::room::check_room;
 use crate::same::same_module;
 use crate::versions::{NamedVersion, VersionEdit};
@@ -82,7 +83,8 @@ fn meanings_after(
     let trees = modules.as_slice();
     let affected = affected(alloc, trees, &new.name)?;
     let entries = touched(alloc, trees, &affected, gone)?;
-    meanings_of(alloc, modules, entries)
+    let reached = reaching(alloc, &new.name, entries)?;
+    meanings_of(alloc, modules, reached)
 }
 
 /// Whether the module that is gone is this one.

@@ -16,6 +16,6 @@ loop-tree-preserved c =
     let es = c.loop-tree.entries.items in
     let P : List Entry → Type 0 = λ l. AreEntries (take (i + 1) ms) names l in
     elim c.if-is_one_of.branch [
-      | then-is_one_of+in_ok-enter w ↦ subst P (sym (ap (λ v. v.items) w.entries-is)) (entries_more names ms i t es c.loop-tree-test.true c.tree-item.is c.loop-tree.invariant w.enter.new.entries.items w.in_ok-enter.ensures)
+      | then-is_one_of+in_ok-enter w ↦ subst P (sym (ap (λ v. v.items) w.entries-is)) (entries_more names ms i t es c.loop-tree-test.true c.tree-item.is c.loop-tree.invariant (c.is_one_of.ensures.0 w.if-is_one_of.true) w.enter.new.entries.items w.in_ok-enter.ensures)
       | else-is_one_of w ↦ subst P (sym (ap (λ v. v.items) w.entries-is)) (entries_same names ms i t es c.loop-tree-test.true c.tree-item.is c.loop-tree.invariant (λ p. false≢true (sym w.if-is_one_of.false ∙ c.is_one_of.ensures.1 p)))
     ]

@@ -1,0 +1,110 @@
+//! Which protocols the statements of another call.
+
+ghost use Rattle.std.specs.Prelude.{◌≡◌, false};
+ghost use Rattle.std.specs.Option.{option_copied};
+ghost use Rattle.scrib_elaborate.specs.SourceView.{body_of, blocks_of, step_of};
+ghost use Rattle.scrib_elaborate.specs.Names.{dotted_eq, known_by, imported, looked_in};
+ghost use Rattle.scrib_library.specs.Calls.{EachCall, EachCallAt, EachCallOf, IsOther};
+
+use scrib_parser::tree::{Block, Import, ModuleTree, Statement};
+use scrib_types::name::{Dotted, Name};
+
+/// Whether a call in the statements, which stand in this module, is of the protocol of this name in the module of
+/// this name.
+#[cycle(calls)]
+pub fn calls_in(at: &ModuleTree, body: &[Statement], home: &Dotted, name: &Name) -> bool
+    ensures { result ≡ false → EachCall (IsOther at.now home.now name.now) (body_of body.now) }
+{
+    for statement in body {
+        if calls_at(at, statement, home, name) {
+            return true;
+        }
+    }
+    false
+}
+
+#[cycle(calls)]
+fn calls_of(at: &ModuleTree, blocks: &[Block], home: &Dotted, name: &Name) -> bool
+    ensures { result ≡ false → EachCallOf (IsOther at.now home.now name.now) (blocks_of blocks.now) }
+{
+    for block in blocks {
+        if calls_in(at, block.body.as_slice(), home, name) {
+            return true;
+        }
+    }
+    false
+}
+
+#[cycle(calls)]
+#[tactic(auto, using(scrib_elaborate::specs::SourceView::statement_views))]
+fn calls_at(at: &ModuleTree, statement: &Statement, home: &Dotted, name: &Name) -> bool
+    ensures { result ≡ false → EachCallAt (IsOther at.now home.now name.now) (step_of statement.now) }
+{
+    match statement {
+        Statement::Message { .. } => false,
+        Statement::Choice { branches, .. } => calls_of(at, branches.as_slice(), home, name),
+        Statement::Rec { body, .. } => calls_in(at, body.as_slice(), home, name),
+        Statement::Continue { .. } => false,
+        Statement::Do { protocol, .. } => is_of(at, protocol, home, name),
+    }
+}
+
+/// Whether a call of this path, which stands in this module, is of the protocol of this name in the module of this
+/// name.
+fn is_of(at: &ModuleTree, path: &Dotted, home: &Dotted, name: &Name) -> bool
+    ensures { result ≡ false → IsOther at.now home.now name.now path.now }
+{
+    let names = path.as_slice();
+    let last = names.len() - 1;
+    if !names[last].equal(name) {
+        return false;
+    }
+    match looked_in(at, &names[..last]) {
+        Some(module) => module.equal(home),
+        None => false,
+    }
+}
+
+/// The name of the module in which a call looks whose path has these names in front of the protocol's.
+fn looked_in<'a>(at: &'a ModuleTree, front: &[Name]) -> Option<&'a Dotted>
+    ensures { option_copied result ≡ looked_in at.now front.now }
+{
+    if front.is_empty() {
+        return Some(&at.name);
+    }
+    imported(at.imports.as_slice(), front)
+}
+
+fn imported<'a>(imports: &'a [Import], front: &[Name]) -> Option<&'a Dotted>
+    ensures { option_copied result ≡ imported imports.now front.now }
+{
+    for import in imports {
+        if is_known_by(import, front) {
+            return Some(&import.module);
+        }
+    }
+    None
+}
+
+fn is_known_by(import: &Import, front: &[Name]) -> bool
+    ensures { result ≡ dotted_eq front.now (known_by import.now) }
+{
+    match &import.known_as {
+        Some(name) => front.len() == 1 && front[0].equal(name),
+        None => are_same(front, import.module.as_slice()),
+    }
+}
+
+fn are_same(a: &[Name], b: &[Name]) -> bool
+    ensures { result ≡ dotted_eq a.now b.now }
+{
+    if a.len() != b.len() {
+        return false;
+    }
+    for i in 0..a.len() {
+        if !a[i].equal(&b[i]) {
+            return false;
+        }
+    }
+    true
+}
