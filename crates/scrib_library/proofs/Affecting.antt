@@ -2,12 +2,13 @@
 use Rattle.std.proofs.Common.{◌≡◌, ℕ, zero, suc, ◌+◌, ◌<◌, ◌≤◌, List, [], ◌∷◌, ◌++◌, length, get_or, take, ◌⊎◌, inl, inr, refl, sym, ap, ◌∙◌, subst, arith}
 use Rattle.std.specs.Borrow.{Bor}
 use Rattle.std.specs.List.{Contains, remove}
-use Rattle.std.proofs.lemmas.List.{take_more, take_all, map-append, length-map, get_or-map}
+use Rattle.std.proofs.Math.ListN.{length-append}
+use Rattle.std.proofs.lemmas.List.{take_more, take_all, take-append-le, map-append, length-map, get_or-map}
 use Rattle.std.proofs.lemmas.List.Elements.{Contains-push, Contains-push_cases, Contains-append_left}
 use Rattle.scrib_parser.specs.declared.tree.ModuleTree.{ModuleTree}
 use Rattle.scrib_parser.specs.declared.tree.Import.{Import}
 use Rattle.scrib_library.specs.Affected.{names_now, trees_now, ImportsSome, AreAffected, AreSorted}
-use Rattle.scrib_library.proofs.Lists.{Contains-head_at, Contains-remove_cases, map-remove}
+use Rattle.scrib_library.proofs.Lists.{Contains-head_at, Contains-remove_cases, Contains-remove_back, map-remove}
 
 module _ (ms : List ModuleTree) (edited : List (List ℕ)) where
   pub sorted_first : (waiting : List ModuleTree) (names : List (List (List ℕ))) → names ≡ edited ∷ [] → ((m : ModuleTree) → Contains ms m → Contains waiting m ⊎ (m.name ≡ edited)) → AreSorted ms edited waiting names
@@ -104,3 +105,32 @@ sorted_moved ms edited ws ns i r n h lt at named =
     let P : List ModuleTree → Type 0 = λ l. AreSorted ms edited l (names_now (ns ++ n ∷ [])) in
     let Q : List (List (List ℕ)) → Type 0 = λ l. AreSorted ms edited (remove (trees_now ws) i) l in
     subst P (sym trees) (subst Q (sym names) (sorted_more ms edited (trees_now ws) (names_now ns) i r.now h (omega (arith, lt, long)) here))
+
+-- ---- those that wait, and the names that none of them imports
+
+abbrev pub ImportNone : List (Bor ModuleTree) → List (Bor (List (List ℕ))) → Type 0
+ImportNone ws ns = (m : ModuleTree) → Contains (trees_now ws) m → ImportsSome (names_now ns) m → ⊥
+
+module _ (ws : List (Bor ModuleTree)) (ns : List (Bor (List (List ℕ)))) (at : ℕ) (h : ImportNone ws (take at ns)) where
+  pub none_removed : (i : ℕ) (n : Bor (List (List ℕ))) → i < length ws → at ≤ length ns → ImportNone (remove ws i) (take at (ns ++ n ∷ []))
+  none_removed i n lt le m p s =
+      let long = length-map ws (λ (x : Bor ModuleTree). x.now) in
+      let P : List ModuleTree → Type 0 = λ l. Contains l m in
+      let Q : List (Bor (List (List ℕ))) → Type 0 = λ l. ImportsSome (names_now l) m in
+      h m (Contains-remove_back (trees_now ws) i m (omega (arith, lt, long)) (subst P (map-remove (λ (x : Bor ModuleTree). x.now) ws i) p)) (subst Q (take-append-le at ns (n ∷ []) le) s)
+
+  pub none_next : (r : Bor (List (List ℕ))) → at < length ns → r ≡ get_or ns at r → ImportNone ws (r ∷ []) → ImportNone ws (take (at + 1) ns)
+  none_next r lt is none m p s =
+      let all : names_now (take (at + 1) ns) ≡ names_now (take at ns) ++ r.now ∷ [] =
+      ap names_now (take_more ns at r lt ∙ ap (λ z. take at ns ++ z ∷ []) (sym is)) ∙ map-append (λ (x : Bor (List (List ℕ))). x.now) (take at ns) (r ∷ []) in
+      let P : List (List (List ℕ)) → Type 0 = λ l. Contains l s.by.module in
+      elim (Contains-push_cases (names_now (take at ns)) r.now s.by.module (subst P all s.named)) [
+        | inl q ↦ h m p (record { by = s.by; imports = s.imports; named = q })
+        | inr same ↦ none m p (record { by = s.by; imports = s.imports; named = Contains-head_at r.now [] s.by.module same })
+      ]
+
+  pub none_all : length ns ≤ at → ImportNone ws ns
+  none_all le m p s = h m p (let Q : List (Bor (List (List ℕ))) → Type 0 = λ l. ImportsSome (names_now l) m in subst Q (sym (take_all at ns le)) s)
+
+pub within_more : {X : Type 0} (xs : List X) (x : X) (at : ℕ) → at ≤ length xs → at ≤ length (xs ++ x ∷ [])
+within_more xs x at le = omega (arith, le, length-append xs (x ∷ []))

@@ -22,9 +22,16 @@ pub fn affected<'a>(
     let mut waiting = others(alloc, modules, edited)?;
     let mut names = Vec::new(alloc);
     names.push(edited)?;
-    while let Some(at) = place_of_importer(&waiting, &names) {
-        let tree = waiting.remove(at);
-        names.push(&tree.name)?;
+    // Each name is compared with the imports of those that wait, and no more once none of them imports it.
+    let mut at = 0;
+    while at < names.len() {
+        match place_of_importer(&waiting, &[names[at]]) {
+            Some(place) => {
+                let tree = waiting.remove(place);
+                names.push(&tree.name)?;
+            }
+            None => at += 1,
+        }
     }
     Ok(names)
 }
