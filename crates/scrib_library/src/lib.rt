@@ -7,6 +7,7 @@ pub mod changes;
 mod declared;
 mod draft;
 pub mod fault;
+mod hints;
 pub mod library;
 mod meanings;
 mod names;

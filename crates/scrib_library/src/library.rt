@@ -10,10 +10,11 @@ ghost use Rattle.scrib_library.specs.Edits.{IsPut, IsChanges, AreVersionsUsed, P
 
 use crate::changes::Changes;
 use crate::fault::EditFault;
+use crate::hints::Hints;
 use crate::plan::{Plan, plan_put, plan_withdrawal};
 use crate::read::read;
 use crate::removal::free_place;
-use crate::versions::{NamedVersion, make_all, version_of};
+use crate::versions::{NamedVersion, make_all, version_near};
 use scrib_elaborate::modules::Modules;
 use scrib_record::version::Version;
 use scrib_types::name::Dotted;
@@ -37,6 +38,8 @@ pub struct Library {
     modules: Modules,
     versions: Vec<NamedVersion>,
     used: u32,
+    // Where versions are looked for first.
+    hints: Hints,
 }
 
 impl Model for Library {
@@ -64,6 +67,7 @@ impl Library {
             modules: Modules::new(alloc),
             versions: Vec::new(alloc),
             used: 0,
+            hints: Hints::new(alloc),
         }
     }
 
@@ -80,6 +84,7 @@ impl Library {
         ensures err { OnErr result (self.new ≡ self.old) }
     {
         let tree = read(self.alloc, text)?;
+        self.hints.make_room(self.alloc)?;
         let placed = self.modules.put(tree)?;
         let new = &self.modules.as_slice()[placed.at];
         let gone = placed.replaced.as_ref();
@@ -98,6 +103,7 @@ impl Library {
                     changes,
                 } = plan;
                 make_all(&mut self.versions, edits);
+                self.hints.renew(&self.versions);
                 self.used = used;
                 Ok(changes)
             }
@@ -128,6 +134,7 @@ impl Library {
         let plan = plan_withdrawal(self.alloc, gone, &mut self.versions, self.used)?;
         let Plan { edits, changes, .. } = plan;
         make_all(&mut self.versions, edits);
+        self.hints.renew(&self.versions);
         self.modules.take_out(at);
         Ok(changes)
     }
@@ -137,7 +144,7 @@ impl Library {
         ensures meaning { IsMeaning self.now.modules name.now (option_map (λ v. meaning_of v.now) result) }
         ensures number { IsNumber self.now name.now (option_map (λ v. number_of v.now) result) }
     {
-        version_of(&self.versions, name)
+        version_near(&self.versions, self.hints.place_of(name), name)
     }
 
     /// How many versions were ever used.

@@ -38,6 +38,23 @@ pub fn version_of<'a>(versions: &'a [NamedVersion], name: &Dotted) -> Option<&'a
     }
 }
 
+/// The version of the protocol of this name, which is looked for at this place first.
+pub fn version_near<'a>(
+    versions: &'a [NamedVersion],
+    place: usize,
+    name: &Dotted,
+) -> Option<&'a Version>
+    requires { AreInOrder (version_names versions.now) }
+    ensures { IsVersion versions.now name.now (option_copied result) }
+{
+    if let Some(named) = versions.get(place) {
+        if named.name.equal(name) {
+            return Some(&named.version);
+        }
+    }
+    version_of(versions, name)
+}
+
 /// Makes the edits, which are of different names, where there is room for them.
 pub fn make_all(versions: &mut Vec<NamedVersion>, edits: Vec<VersionEdit>)
     requires versions { AreInOrder (version_names versions.old.items) }

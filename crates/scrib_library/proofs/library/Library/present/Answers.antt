@@ -10,14 +10,14 @@ use Rattle.scrib_library.proofs.library.Library.present.Goals as goal
 
 pub returns-clause-meaning : goal.returns-clause-meaning
 returns-clause-meaning c =
-    let r = c.version_of.result in
+    let r = c.version_near.result in
     let P : List NamedVersion → Type 0 = λ l. IsVersion l c.args.name.now (option_copied r) in
     let Q : Holdings → Type 0 = λ h. IsMeaning h.modules c.args.name.now (option_map (λ v. meaning_of v.now) r) in
-    subst Q c.self.view_is (answered_now c.self.inside.modules c.self.inside.versions.items c.self.invariant.stored c.args.name.now r (subst P c.deref.ensures.value c.version_of.ensures))
+    subst Q c.self.view_is (answered_now c.self.inside.modules c.self.inside.versions.items c.self.invariant.stored c.args.name.now r (subst P c.deref.ensures.value c.version_near.ensures))
 
 pub returns-clause-number : goal.returns-clause-number
 returns-clause-number c =
-    let r = c.version_of.result in
+    let r = c.version_near.result in
     let P : List NamedVersion → Type 0 = λ l. IsVersion l c.args.name.now (option_copied r) in
     let Q : Holdings → Type 0 = λ h. IsNumber h c.args.name.now (option_map (λ v. number_of v.now) r) in
-    subst Q c.self.view_is (numbered_now c.self.inside.modules c.self.inside.versions.items c.self.inside.used c.args.name.now r (subst P c.deref.ensures.value c.version_of.ensures))
+    subst Q c.self.view_is (numbered_now c.self.inside.modules c.self.inside.versions.items c.self.inside.used c.args.name.now r (subst P c.deref.ensures.value c.version_near.ensures))
