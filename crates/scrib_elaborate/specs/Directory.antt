@@ -3,18 +3,18 @@
 use Rattle.std.specs.Prelude.{◌≡◌, ◌≢◌, ℕ, ◌+◌, ◌*◌, ◌%◌, ◌<◌, List, [], ◌∷◌, length, slice_get, Option, Some}
 use Rattle.scrib_elaborate.specs.Names.{Declaration}
 
--- the bytes, mixed into a number below the size
-abbrev pub mixed : (size so_far : ℕ) → List ℕ → ℕ
-mixed size h [] = h
-mixed size h (b ∷ bs) = mixed size ((h * 33 + b) % size) bs
+-- the bytes, mixed into a number below 2^32
+abbrev pub mixed : (so_far : ℕ) → List ℕ → ℕ
+mixed h [] = h
+mixed h (b ∷ bs) = mixed ((h * 33 + b) % 4294967296) bs
 
-abbrev pub mixed_all : (size so_far : ℕ) → List (List ℕ) → ℕ
-mixed_all size h [] = h
-mixed_all size h (n ∷ ns) = mixed_all size (mixed size h n) ns
+abbrev pub mixed_all : (so_far : ℕ) → List (List ℕ) → ℕ
+mixed_all h [] = h
+mixed_all h (n ∷ ns) = mixed_all (mixed h n) ns
 
 -- the slot of the protocol of this name, in the module of this name
 abbrev pub slot_of : (size : ℕ) → (home : List (List ℕ)) (name : List ℕ) → ℕ
-slot_of size home name = mixed_all size (mixed size 0 name) home
+slot_of size home name = mixed_all (mixed 0 name) home % size
 
 abbrev pub slot_for : (size : ℕ) → Declaration → ℕ
 slot_for size d = slot_of size d.home.name d.protocol.name

@@ -36,23 +36,22 @@ pub fn slot_of(size: usize, home: &Dotted, name: &Name) -> usize
     ensures slot { result ≡ spec.slot_of size home.now name.now }
     ensures within { result < size }
 {
-    let mut slot = mixed(size, 0, name.as_bytes());
+    let mut number = mixed(0, name.as_bytes());
     for part in home.as_slice() {
-        slot = mixed(size, slot, part.as_bytes());
+        number = mixed(number, part.as_bytes());
     }
-    slot
+    number % size
 }
 
-// The bytes, mixed into the number.
-fn mixed(size: usize, so_far: usize, bytes: &[u8]) -> usize
-    requires within { so_far < size }
-    requires few { size < 2 ^ 48 }
-    ensures mixed { result ≡ spec.mixed size so_far bytes.now }
-    ensures within { result < size }
+// The bytes, mixed into the number, which stays below a power of two: a remainder by it costs little.
+fn mixed(so_far: usize, bytes: &[u8]) -> usize
+    requires { so_far < 2 ^ 32 }
+    ensures mixed { result ≡ spec.mixed so_far bytes.now }
+    ensures within { result < 2 ^ 32 }
 {
-    let mut slot = so_far;
+    let mut number = so_far;
     for byte in bytes {
-        slot = (slot * 33 + usize::from(*byte)) % size;
+        number = (number * 33 + usize::from(*byte)) % 4_294_967_296;
     }
-    slot
+    number
 }

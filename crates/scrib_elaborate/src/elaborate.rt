@@ -241,12 +241,10 @@ fn find_root(
         (IsFound (shown declared.now) (is_called «module».now protocol.now))
         (FailsAt modules.now «module».now protocol.now) }
 {
-    if !has_module(modules, module) {
-        return Err(absent(alloc, module, FaultKind::NoModule));
-    }
     match directory.find(declared, module, protocol) {
         Some(root) => Ok(root),
-        None => Err(absent(alloc, module, FaultKind::NoProtocol)),
+        None if has_module(modules, module) => { Err(absent(alloc, module, FaultKind::NoProtocol)) }
+        None => Err(absent(alloc, module, FaultKind::NoModule)),
     }
 }
 
