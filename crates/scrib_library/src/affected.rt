@@ -4,6 +4,7 @@ ghost use Rattle.std.specs.Prelude.{◌≡◌, ◌<◌, ◌⊎◌, length, Match
 ghost use Rattle.scrib_parser.specs.declared.tree.ModuleTree as parsed;
 ghost use Rattle.scrib_library.specs.Affected.{names_now, trees_now, ImportsSome, AreAffected};
 
+use crate::names::same;
 use scrib_parser::tree::ModuleTree;
 use scrib_types::name::Dotted;
 use std::alloc::{AllocError, Global};
@@ -46,7 +47,7 @@ fn others<'a>(
 {
     let mut others = Vec::with_capacity(alloc, modules.len())?;
     for tree in modules {
-        if !name.equal(&tree.name) {
+        if !same(name, &tree.name) {
             others.push(tree)?;
         }
     }
@@ -84,7 +85,7 @@ pub fn is_one_of(names: &[&Dotted], name: &Dotted) -> bool
     ensures { IsTrue result ↔ Contains (names_now names.now) name.now }
 {
     for other in names {
-        if name.equal(other) {
+        if same(name, other) {
             return true;
         }
     }

@@ -1,6 +1,6 @@
 //! Full names of protocols, and their order.
 
-ghost use Rattle.std.specs.Prelude.{◌≡◌, IfOk};
+ghost use Rattle.std.specs.Prelude.{◌≡◌, ◌↔◌, IsTrue, IfOk};
 ghost use Rattle.std.specs.Ordering.{nat_cmp};
 ghost use Rattle.std.specs.Cmp.Lexicographic.{slice_cmp};
 ghost use Rattle.scrib_library.specs.Modules as spec;
@@ -16,6 +16,15 @@ pub fn compare(a: &Dotted, b: &Dotted) -> Ordering
     ensures { result ≡ name_cmp a.now b.now }
 {
     compare_all(a.as_slice(), b.as_slice())
+}
+
+/// Whether the two are the same. Their last names are compared first, since names of modules often begin alike.
+pub fn same(a: &Dotted, b: &Dotted) -> bool
+    ensures { IsTrue result ↔ (a.now ≡ b.now) }
+{
+    let x = a.as_slice();
+    let y = b.as_slice();
+    x[x.len() - 1].equal(&y[y.len() - 1]) && a.equal(b)
 }
 
 /// The name of the protocol behind that of its module.
