@@ -1,13 +1,13 @@
 #!/usr/bin/env python3
-"""Times the built program on large libraries and module texts.
+"""Times the built program on large libraries, module texts and logs.
 
     bench.py [--beside PROGRAM]
 
 Run it from anywhere, after `make run`. It prints, for each script, its bytes, the seconds of processor time that
 `scribmon watch` took and the most memory that it held (15 to 20 MB where it held less: this script has that much
 itself); with --beside the same of another program that takes the same command and script, run in turn with the
-first on the same machine, and whether both wrote the same. The best of three runs counts. It is no test: it
-compares nothing but outputs.
+first on the same machine, and whether both wrote the same. The best of three runs counts. From the two scripts of
+events it prints what one event more costs in time and in memory. It is no test: it compares nothing but outputs.
 """
 
 import argparse
@@ -98,6 +98,16 @@ def silent_chain():
     return put("module s; global protocol P(role A, role B) {\n" + chain + "a() from A to B; }")
 
 
+def events(logs):
+    """So many logs of 62,500 events each, one after the other: sends and receptions of a loop of two roles."""
+    script = [put("module loop; global protocol P(role A, role B) {\nrec X { ask(Int) from A to B; answer(Str) from B to A; continue X; }\n}")]
+    for i in range(logs):
+        script.append("open %d loop.P\njoin %d A\njoin %d B\n" % (i, i, i))
+        turn = "send %d A B ask(Int)\nrecv %d A B ask(Int)\nsend %d B A answer(Str)\nrecv %d B A answer(Str)\n" % (i, i, i, i)
+        script.append(turn * (62_500 // 4))
+    return "".join(script)
+
+
 SCRIPTS = [
     ("wide type", nodes),
     ("silent chain", silent_chain),
@@ -107,6 +117,8 @@ SCRIPTS = [
     ("edits alone", lambda: edits_of_one(1)),
     ("edits among", lambda: edits_of_one(255)),
     ("nested calls", nested_calls),
+    ("1 M events", lambda: events(16)),
+    ("2 M events", lambda: events(32)),
 ]
 
 
@@ -121,26 +133,38 @@ def run_once(program, path):
         return usage.ru_utime + usage.ru_stime, usage.ru_maxrss, out.read()
 
 
+def measure(programs, path):
+    """For each program its seconds, the least of three runs, and its KiB, the most; and whether all wrote the same."""
+    runs = [[run_once(program, path) for program in programs] for _ in range(RUNS)]
+    same = len({output for run in runs for _, _, output in run}) == 1
+    return [(min(run[i][0] for run in runs), max(run[i][1] for run in runs)) for i in range(len(programs))], same
+
+
+def print_event_costs(fewer, more):
+    """What one of a million further events costs each program."""
+    cells = []
+    for (seconds, memory), (more_seconds, more_memory) in zip(fewer, more):
+        cells.append("%5.0f ns %5.1f bytes" % ((more_seconds - seconds) * 1e3, (more_memory - memory) * 1024 / 1e6))
+    print("an event more: " + "  | ".join(cells))
+
+
 def main():
     parser = argparse.ArgumentParser(description=__doc__, formatter_class=argparse.RawDescriptionHelpFormatter)
     parser.add_argument("--beside", help="another program to run in turn with this one")
     beside = parser.parse_args().beside
     programs = [PROGRAM] + ([beside] if beside else [])
+    costs = {}
     with tempfile.TemporaryDirectory() as folder:
         for name, make in SCRIPTS:
             path = os.path.join(folder, "script")
             with open(path, "w", encoding="ascii") as script:
                 pieces = make()
                 script.writelines([pieces] if isinstance(pieces, str) else pieces)
-            runs = [[run_once(program, path) for program in programs] for _ in range(RUNS)]
-            cells = []
-            for i in range(len(programs)):
-                seconds = min(run[i][0] for run in runs)
-                memory = max(run[i][1] for run in runs)
-                cells.append("%8.3f s %8d KiB" % (seconds, memory))
-            same = len({run[i][2] for run in runs for i in range(len(programs))}) == 1
+            costs[name], same = measure(programs, path)
+            cells = ["%8.3f s %8d KiB" % cost for cost in costs[name]]
             note = "" if len(programs) == 1 else ("  same output" if same else "  OUTPUTS DIFFER")
             print("%-14s %9d bytes %s%s" % (name, os.path.getsize(path), "  | ".join(cells), note), flush=True)
+    print_event_costs(costs["1 M events"], costs["2 M events"])
 
 
 if __name__ == "__main__":
