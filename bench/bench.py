@@ -11,6 +11,7 @@ events it prints what one event more costs in time and in memory. It is no test:
 """
 
 import argparse
+import hashlib
 import os
 import random
 import subprocess
@@ -100,12 +101,11 @@ def silent_chain():
 
 def events(logs):
     """So many logs of 62,500 events each, one after the other: sends and receptions of a loop of two roles."""
-    script = [put("module loop; global protocol P(role A, role B) {\nrec X { ask(Int) from A to B; answer(Str) from B to A; continue X; }\n}")]
+    yield put("module loop; global protocol P(role A, role B) {\nrec X { ask(Int) from A to B; answer(Str) from B to A; continue X; }\n}")
     for i in range(logs):
-        script.append("open %d loop.P\njoin %d A\njoin %d B\n" % (i, i, i))
+        yield "open %d loop.P\njoin %d A\njoin %d B\n" % (i, i, i)
         turn = "send %d A B ask(Int)\nrecv %d A B ask(Int)\nsend %d B A answer(Str)\nrecv %d B A answer(Str)\n" % (i, i, i, i)
-        script.append(turn * (62_500 // 4))
-    return "".join(script)
+        yield turn * (62_500 // 4)
 
 
 SCRIPTS = [
@@ -123,14 +123,16 @@ SCRIPTS = [
 
 
 def run_once(program, path):
-    """Seconds of processor time, KiB at most, and the output."""
+    """Seconds of processor time, KiB at most, and a digest of the output, which is not kept: a child's most memory
+    begins with what this process held."""
     with tempfile.TemporaryFile() as out:
         child = subprocess.Popen([program, "watch", path], stdout=out)
         _, status, usage = os.wait4(child.pid, 0)
         out.seek(0)
         if status != 0:
             sys.exit("%s: status %d" % (program, status))
-        return usage.ru_utime + usage.ru_stime, usage.ru_maxrss, out.read()
+        digest = hashlib.sha256(out.read()).digest()
+        return usage.ru_utime + usage.ru_stime, usage.ru_maxrss, digest
 
 
 def measure(programs, path):
