@@ -1,5 +1,6 @@
 mod at_once;
 mod explaining;
+mod failing;
 
 use scrib_cli::run_script::{ScriptFault, run_script};
 use std::alloc::{AllocError, Global};
