@@ -1,1 +1,2 @@
 mod Members
+mod Totals

@@ -6,4 +6,5 @@ mod fault;
 pub mod flight;
 pub mod json;
 pub mod line;
+pub mod table;
 pub mod verdict;
