@@ -1,0 +1,180 @@
+//! Generated lists of steps, which a service and a core answer alike.
+
+use crate::connected::Connected;
+use crate::fault::RowsFault;
+use crate::lines::push_line;
+use crate::making::{CHOICE, LOOP, put, step_of};
+use scrib_core::monitor::Core;
+use scrib_core::step::Step;
+use scrib_report::line::line;
+use scrib_shards::service::Service;
+use scrib_types::text::{push_bytes, push_number};
+use std::alloc::Global;
+use std::sync::Wait;
+
+const LISTS: u64 = 16;
+
+const STEPS: usize = 500;
+
+const CALLED: &str = "module lib; global protocol P(role A, role B) { a() from A to B; }";
+
+const CALLED_LATER: &str = "module lib; global protocol P(role A, role B) { a(Int) from A to B; }";
+
+const CALLING: &str =
+    "module use; import lib; global protocol Q(role A, role B) { do lib.P(A, B); }";
+
+const TEXTS: [&str; 5] = [CALLED, CALLED_LATER, CALLING, LOOP, CHOICE];
+
+const OPENED: [&str; 4] = ["open 0 use.Q", "open 1 lib.P", "open 2 k.K", "open 3 k.K"];
+
+const WITHDRAWN: [&str; 3] = ["withdraw use", "withdraw lib", "withdraw k"];
+
+// What is done with a conversation whatever went before.
+const OTHERS: [&str; 8] = [
+    "ask",
+    "turn",
+    "ask",
+    "turn",
+    "join A",
+    "join C",
+    "send A B b()",
+    "recv A B a(Int)",
+];
+
+// What its roles do in turn.
+const EXCHANGED: [&str; 2] = ["send A B a()", "recv A B a()"];
+
+// What replies must tell of somewhere, so that the lists aren't idle.
+const TOLD: [&str; 6] = [
+    "permitted",
+    "offence at",
+    "stale",
+    "withdrawn",
+    "refused StillImported use",
+    "~lib.P ~use.Q",
+];
+
+// Numbers without a pattern that matters: x = 1664525 x + 1013904223 modulo 2^32, of which the upper half counts.
+#[derive(Drop)]
+struct Numbers {
+    last: u32,
+}
+
+impl Numbers {
+    fn next(&mut self) -> u32 {
+        self.last = self
+            .last
+            .wrapping_mul(1_664_525)
+            .wrapping_add(1_013_904_223);
+        self.last >> 16
+    }
+
+    fn once_in(&mut self, times: u32) -> bool {
+        self.next().checked_rem(times) == Some(0)
+    }
+
+    fn one_of<'a>(&mut self, texts: &[&'a str]) -> Result<&'a str, RowsFault> {
+        let at = (self.next() as usize)
+            .checked_rem(texts.len())
+            .ok_or(RowsFault::BadRow)?;
+        Ok(texts[at])
+    }
+}
+
+// The line with the conversation's id behind its word.
+fn line_with(alloc: Global, text: &str, id: u32) -> Result<Step, RowsFault> {
+    let (word, rest) = text.split_once(' ').unwrap_or((text, ""));
+    let line = format!(in alloc; "{word} {id} {rest}")?;
+    step_of(alloc, line.as_bytes())
+}
+
+// A further step on one of the conversations, of which so many were made.
+fn next_step(alloc: Global, numbers: &mut Numbers, made: usize) -> Result<Step, RowsFault> {
+    if numbers.once_in(20) {
+        return put(alloc, numbers.one_of(&TEXTS)?);
+    }
+    if numbers.once_in(40) {
+        return step_of(alloc, numbers.one_of(&WITHDRAWN)?.as_bytes());
+    }
+    let id = numbers.next() & 3;
+    if numbers.once_in(3) {
+        return line_with(alloc, numbers.one_of(&OTHERS)?, id);
+    }
+    line_with(alloc, EXCHANGED[made % 2], id)
+}
+
+// A list of steps: three modules, four conversations that two roles join, and what the numbers say.
+fn list_of(alloc: Global, numbers: &mut Numbers) -> Result<Vec<Step>, RowsFault> {
+    let mut steps = Vec::new(alloc);
+    for text in [CALLED, CALLING, LOOP] {
+        steps.push(put(alloc, text)?)?;
+    }
+    for text in &OPENED {
+        steps.push(step_of(alloc, text.as_bytes())?)?;
+    }
+    for id in 0..4 {
+        steps.push(line_with(alloc, "join A", id)?)?;
+        steps.push(line_with(alloc, "join B", id)?)?;
+    }
+    for made in steps.len()..STEPS {
+        steps.push(next_step(alloc, numbers, made)?)?;
+    }
+    Ok(steps)
+}
+
+// The lines of a service's replies to the steps, which are made one by one.
+fn by_service(
+    rt: &impl Wait,
+    alloc: Global,
+    shards: usize,
+    steps: &[Step],
+) -> Result<Vec<u8>, RowsFault> {
+    let mut connected = Connected::new(alloc, Service::new(alloc, shards)?);
+    let mut lines = Vec::new(alloc);
+    for step in steps {
+        push_line(&mut lines, connected.make(rt, step)?.as_slice())?;
+    }
+    Ok(lines)
+}
+
+// The lines of a core's replies.
+fn by_core(alloc: Global, steps: &[Step]) -> Result<Vec<u8>, RowsFault> {
+    let mut lines = Vec::new(alloc);
+    for reply in Core::new(alloc).run(steps)?.as_slice() {
+        push_line(&mut lines, line(alloc, reply)?.as_slice())?;
+    }
+    Ok(lines)
+}
+
+/// Tells how many steps there were in all lists, in how many lists a service of so many shards answered as a core does,
+/// byte for byte, and what no reply told of that some should.
+pub(crate) fn push_generated(
+    rt: &impl Wait,
+    alloc: Global,
+    shards: usize,
+    out: &mut Vec<u8>,
+) -> Result<(), RowsFault> {
+    let mut numbers = Numbers { last: 1 };
+    let (mut steps, mut alike) = (0u64, 0u64);
+    let mut lines = Vec::new(alloc);
+    for _ in 0..LISTS {
+        let list = list_of(alloc, &mut numbers)?;
+        let told = by_service(rt, alloc, shards, list.as_slice())?;
+        let is_alike = told.as_slice() == by_core(alloc, list.as_slice())?.as_slice();
+        steps = steps.saturating_add(list.len() as u64);
+        alike = alike.saturating_add(u64::from(is_alike));
+        push_bytes(&mut lines, told.as_slice())?;
+    }
+    push_number(out, steps)?;
+    push_bytes(out, b" steps, alike in ")?;
+    push_number(out, alike)?;
+    push_line(out, b" lists")?;
+    let lines = String::from_utf8(lines).ok().ok_or(RowsFault::BadRow)?;
+    for text in &TOLD {
+        if !lines.contains(text) {
+            push_bytes(out, b"never told: ")?;
+            push_line(out, text.as_bytes())?;
+        }
+    }
+    Ok(())
+}

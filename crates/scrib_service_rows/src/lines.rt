@@ -1,0 +1,134 @@
+//! Lines that tell what a service answers.
+
+use crate::fault::RowsFault;
+use scrib_core::reply::{Edit, Refusal, Reply};
+use scrib_library::changes::Changes;
+use scrib_library::fault::EditFault;
+use scrib_report::line::line;
+use scrib_report::table::table;
+use scrib_report::verdict::verdict;
+use scrib_shards::fault::SettleFault;
+use scrib_shards::passing::PassRefusal;
+use scrib_shards::settled::Settled;
+use scrib_shards::stepping::Noted;
+use scrib_types::event::Told;
+use scrib_types::text::{push_bytes, push_number};
+use std::alloc::Global;
+
+/// Adds the text as a line.
+pub(crate) fn push_line(out: &mut Vec<u8>, text: &[u8]) -> Result<(), RowsFault> {
+    push_bytes(out, text)?;
+    push_bytes(out, b"\n")?;
+    Ok(())
+}
+
+/// The answer to an edit.
+pub(crate) fn edited(
+    alloc: Global,
+    edit: Edit,
+    answer: Result<Changes, EditFault>,
+) -> Result<Vec<u8>, RowsFault> {
+    let reply = match answer {
+        Ok(changes) => Reply::Edited { edit, changes },
+        Err(fault) => Reply::Refused(Refusal::Edit(fault)),
+    };
+    Ok(line(alloc, &reply)?)
+}
+
+/// The answer to a note.
+pub(crate) fn noted(
+    alloc: Global,
+    id: u32,
+    answer: Result<Noted, PassRefusal>,
+) -> Result<Vec<u8>, RowsFault> {
+    match answer {
+        Ok(Noted { place, told }) => Ok(line(alloc, &Reply::Noted { id, place, told })?),
+        Err(refusal) => refused_by_pass(alloc, refusal),
+    }
+}
+
+/// The answer to a question by a pass.
+pub(crate) fn asked(
+    alloc: Global,
+    id: u32,
+    answer: Result<Told, PassRefusal>,
+) -> Result<Vec<u8>, RowsFault> {
+    match answer {
+        Ok(told) => judged(alloc, id, &told),
+        Err(refusal) => refused_by_pass(alloc, refusal),
+    }
+}
+
+/// The answer to a turn.
+pub(crate) fn turned(
+    alloc: Global,
+    id: u32,
+    answer: Result<Told, Refusal>,
+) -> Result<Vec<u8>, RowsFault> {
+    match answer {
+        Ok(told) => judged(alloc, id, &told),
+        Err(refusal) => refused(alloc, refusal),
+    }
+}
+
+/// The line of a refused step.
+pub(crate) fn refused(alloc: Global, refusal: Refusal) -> Result<Vec<u8>, RowsFault> {
+    Ok(line(alloc, &Reply::Refused(refusal))?)
+}
+
+/// What settling answers: the table, or the line of the fault.
+pub(crate) fn push_settled(
+    alloc: Global,
+    out: &mut Vec<u8>,
+    settled: &Settled,
+) -> Result<(), RowsFault> {
+    push_bytes(out, table(alloc, settled.list.as_slice())?.as_slice())?;
+    Ok(())
+}
+
+/// The line of a refused settling.
+pub(crate) fn push_fault(out: &mut Vec<u8>, fault: &SettleFault) -> Result<(), RowsFault> {
+    match fault {
+        SettleFault::PassesMissing { shard } => {
+            push_bytes(out, b"refused PassesMissing ")?;
+            push_number(out, *shard as u64)?;
+        }
+        SettleFault::Mismatch {
+            conversation,
+            place,
+        } => push_mismatch(out, *conversation, *place)?,
+        SettleFault::OutOfMemory => push_bytes(out, b"refused OutOfMemory")?,
+    }
+    push_bytes(out, b"\n")?;
+    Ok(())
+}
+
+fn judged(alloc: Global, id: u32, told: &Told) -> Result<Vec<u8>, RowsFault> {
+    let mut text = Vec::new(alloc);
+    push_number(&mut text, u64::from(id))?;
+    push_bytes(&mut text, b" ")?;
+    push_bytes(&mut text, verdict(alloc, told)?.as_slice())?;
+    Ok(text)
+}
+
+fn refused_by_pass(alloc: Global, refusal: PassRefusal) -> Result<Vec<u8>, RowsFault> {
+    match refusal {
+        PassRefusal::Mismatch {
+            conversation,
+            place,
+        } => {
+            let mut text = Vec::new(alloc);
+            push_mismatch(&mut text, conversation, place)?;
+            Ok(text)
+        }
+        PassRefusal::Step(refusal) => refused(alloc, refusal),
+    }
+}
+
+fn push_mismatch(out: &mut Vec<u8>, conversation: u32, place: usize) -> Result<(), RowsFault> {
+    push_bytes(out, b"refused Mismatch ")?;
+    push_number(out, u64::from(conversation))?;
+    push_bytes(out, b" ")?;
+    push_number(out, place as u64)?;
+    Ok(())
+}

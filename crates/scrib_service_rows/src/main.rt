@@ -1,0 +1,83 @@
+//! Runs worked examples of the service. Each has a title line that begins with `== `, a line with a command, and for
+//! `service 2` the script that a service of two shards runs, on one thread, beside a core. The output is each title with
+//! what the command writes. The other commands are rows of this program.
+#![tactic(auto)]
+
+mod connected;
+mod fault;
+mod generated;
+mod lines;
+mod making;
+mod meeting;
+mod script;
+mod several;
+mod threads;
+
+use crate::fault::RowsFault;
+use crate::generated::push_generated;
+use crate::lines::push_line;
+use crate::meeting::push_meeting;
+use crate::script::run_script;
+use crate::several::{push_full_shard, push_strangers, push_swept};
+use crate::threads::push_threads;
+use scrib_types::text::push_bytes;
+use std::alloc::Global;
+use std::io;
+use std::io::Write;
+use std::process::ExitCode;
+use std::sync::Wait;
+use std::thread::Threads;
+
+// Obeys the command over what follows its line.
+fn obey<R: Threads + Wait + Sync>(
+    rt: &R,
+    alloc: Global,
+    command: &str,
+    body: &str,
+    out: &mut Vec<u8>,
+) -> Result<(), RowsFault> {
+    let (word, number) = command.split_once(' ').ok_or(RowsFault::BadRow)?;
+    let number: usize = number.parse().ok().ok_or(RowsFault::BadRow)?;
+    match word {
+        "service" => run_script(rt, alloc, number, body, out),
+        "full" => push_full_shard(rt, alloc, number, out),
+        "strangers" => push_strangers(rt, alloc, number, out),
+        "swept" => push_swept(rt, alloc, number, out),
+        "generated" => push_generated(rt, alloc, number, out),
+        "threads" => push_threads(rt, alloc, number, out),
+        "meeting" => push_meeting(rt, alloc, number, out),
+        _ => Err(RowsFault::BadRow),
+    }
+}
+
+// Runs one example, from its title on.
+fn tell<R: Threads + Wait + Sync>(
+    rt: &R,
+    alloc: Global,
+    example: &str,
+    out: &mut Vec<u8>,
+) -> Result<(), RowsFault> {
+    let (title, rest) = example.split_once('\n').ok_or(RowsFault::BadRow)?;
+    let (command, body) = rest.split_once('\n').ok_or(RowsFault::BadRow)?;
+    push_bytes(out, b"== ")?;
+    push_line(out, title.as_bytes())?;
+    obey(rt, alloc, command, body, out)
+}
+
+fn run<R: Threads + Wait + Sync + Print + Input + AllocGlobal>(rt: &R) -> Result<(), RowsFault> {
+    let alloc = rt.alloc();
+    let text = io::read_to_string(alloc, rt.reader())?;
+    let mut out = Vec::new(alloc);
+    for example in text.as_str().split("== ").skip(1) {
+        tell(rt, alloc, example, &mut out)?;
+    }
+    io::writer(rt).write_all(out.as_slice())?;
+    Ok(())
+}
+
+fn main(rt: HostRuntime) -> ExitCode {
+    match run(&rt) {
+        Ok(()) => ExitCode::SUCCESS,
+        Err(_) => ExitCode::from(1),
+    }
+}

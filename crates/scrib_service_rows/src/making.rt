@@ -1,0 +1,67 @@
+//! What rows are made of.
+
+use crate::fault::RowsFault;
+use scrib_core::step::Step;
+use scrib_script::line::{Line, line_of};
+use scrib_shards::service::Service;
+use scrib_types::event::Event;
+use scrib_types::name::Dotted;
+use scrib_types::plain::Items;
+use std::alloc::Global;
+use std::sync::Wait;
+
+/// A protocol of two messages.
+pub(crate) const DEMO: &str =
+    "module demo; global protocol Hello(role A, role B) { hello() from A to B; bye() from B to A; }";
+
+/// A protocol of one message, over and over.
+pub(crate) const LOOP: &str =
+    "module k; global protocol K(role A, role B) { rec X { a() from A to B; continue X; } }";
+
+/// The same protocol with another message.
+pub(crate) const CHOICE: &str =
+    "module k; global protocol K(role A, role B) { rec X { choice at A { a() from A to B; continue X; } or { b() from A to B; continue X; } } }";
+
+/// The step that a line of a script says.
+pub(crate) fn step_of(alloc: Global, text: &[u8]) -> Result<Step, RowsFault> {
+    match line_of(alloc, text)? {
+        Line::Step(_, step) => Ok(step),
+        _ => Err(RowsFault::BadRow),
+    }
+}
+
+/// The event that a line of a script notes.
+pub(crate) fn event_of(alloc: Global, text: &str) -> Result<Event, RowsFault> {
+    match step_of(alloc, text.as_bytes())? {
+        Step::Note { event, .. } => Ok(event),
+        _ => Err(RowsFault::BadRow),
+    }
+}
+
+/// The put of a module of this text.
+pub(crate) fn put(alloc: Global, text: &str) -> Result<Step, RowsFault> {
+    let text = Items::from_slice(alloc, text.as_bytes())?;
+    Ok(Step::Put { text })
+}
+
+/// The name of a protocol, from its text.
+pub(crate) fn name_of(alloc: Global, text: &str) -> Result<Dotted, RowsFault> {
+    let line = format!(in alloc; "open 0 {text}")?;
+    match step_of(alloc, line.as_bytes())? {
+        Step::Open { name, .. } => Ok(name),
+        _ => Err(RowsFault::BadRow),
+    }
+}
+
+/// A service of so many shards with the module, in which conversations 0 and 1 of its protocol are open if they are
+/// asked for.
+pub(crate) fn service(
+    rt: &impl Wait,
+    alloc: Global,
+    shards: usize,
+    module: &str,
+) -> Result<Service, RowsFault> {
+    let service = Service::new(alloc, shards)?;
+    service.put(rt, module.as_bytes())?;
+    Ok(service)
+}

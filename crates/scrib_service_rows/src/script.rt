@@ -1,0 +1,66 @@
+//! Scripts that a service and a core run, one beside the other.
+
+use crate::connected::Connected;
+use crate::fault::RowsFault;
+use crate::lines::push_line;
+use crate::making::{put, step_of};
+use scrib_core::monitor::Core;
+use scrib_core::step::Step;
+use scrib_report::line::line;
+use scrib_shards::service::{Service, ServiceFault};
+use scrib_types::text::push_bytes;
+use std::alloc::Global;
+use std::sync::Wait;
+
+// Adds the steps of the lines.
+fn push_steps(alloc: Global, steps: &mut Vec<Step>, lines: &str) -> Result<(), RowsFault> {
+    for text in lines.split('\n') {
+        if !text.is_empty() {
+            steps.push(step_of(alloc, text.as_bytes())?)?;
+        }
+    }
+    Ok(())
+}
+
+// The steps of a script.
+fn steps_of(alloc: Global, script: &str) -> Result<Vec<Step>, RowsFault> {
+    let mut steps = Vec::new(alloc);
+    for part in script.split("%%\n") {
+        match part.split_once("put\n") {
+            Some((lines, text)) => {
+                push_steps(alloc, &mut steps, lines)?;
+                steps.push(put(alloc, text)?)?;
+            }
+            None => push_steps(alloc, &mut steps, part)?,
+        }
+    }
+    Ok(steps)
+}
+
+/// Runs the script on a service of so many shards and on a core; adds the lines of the service's replies, with those of
+/// the core's where they differ, and at last what settling answers.
+pub(crate) fn run_script(
+    rt: &impl Wait,
+    alloc: Global,
+    shards: usize,
+    script: &str,
+    out: &mut Vec<u8>,
+) -> Result<(), RowsFault> {
+    let service = match Service::new(alloc, shards) {
+        Ok(service) => service,
+        Err(ServiceFault::BadShards) => return push_line(out, b"refused BadShards"),
+        Err(fault) => return Err(fault.into()),
+    };
+    let mut connected = Connected::new(alloc, service);
+    let mut core = Core::new(alloc);
+    for step in steps_of(alloc, script)? {
+        let told = connected.make(rt, &step)?;
+        let by_core = line(alloc, &core.apply(step))?;
+        push_line(out, told.as_slice())?;
+        if told.as_slice() != by_core.as_slice() {
+            push_bytes(out, b"but the core: ")?;
+            push_line(out, by_core.as_slice())?;
+        }
+    }
+    connected.settle(out)
+}

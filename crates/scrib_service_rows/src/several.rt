@@ -1,0 +1,125 @@
+//! Rows with more than one service, or with a call that no script makes.
+
+use crate::fault::RowsFault;
+use crate::lines::{asked, noted, push_fault, push_line, push_settled, refused};
+use crate::making::{CHOICE, DEMO, LOOP, event_of, name_of, service};
+use scrib_shards::gate::OpenGate;
+use scrib_shards::pass::Pass;
+use scrib_shards::service::Service;
+use scrib_types::text::{push_bytes, push_number};
+use std::alloc::Global;
+use std::sync::Wait;
+
+/// Opens conversations of the first of so many shards until one is refused, and tells how many are open, the id that was
+/// refused, and why.
+pub(crate) fn push_full_shard(
+    rt: &impl Wait,
+    alloc: Global,
+    shards: usize,
+    out: &mut Vec<u8>,
+) -> Result<(), RowsFault> {
+    let service = service(rt, alloc, shards, DEMO)?;
+    let name = name_of(alloc, "demo.Hello")?;
+    for (count, id) in (0..=65_536_u32).step_by(shards).enumerate() {
+        if let Err(refusal) = service.open(rt, id, &name) {
+            push_number(out, count as u64)?;
+            push_bytes(out, b" open\n")?;
+            push_number(out, u64::from(id))?;
+            push_bytes(out, b": ")?;
+            return push_line(out, refused(alloc, refusal)?.as_slice());
+        }
+    }
+    push_line(out, b"no end")
+}
+
+// Notes and asks by passes of another service, of which one has a receipt.
+fn push_foreign(
+    rt: &impl Wait,
+    alloc: Global,
+    there: &Service,
+    here: &Service,
+    out: &mut Vec<u8>,
+) -> Result<Pass, RowsFault> {
+    let mut used = there.connect(rt, 0)?;
+    let mut unused = there.connect(rt, 0)?;
+    there.note(rt, &mut used, event_of(alloc, "join 0 A")?, &OpenGate)?;
+    for pass in [&mut used, &mut unused] {
+        let event = event_of(alloc, "join 0 B")?;
+        let answer = here.note(rt, pass, event, &OpenGate);
+        push_line(out, noted(alloc, 0, answer)?.as_slice())?;
+        push_line(out, asked(alloc, 0, here.ask(rt, pass))?.as_slice())?;
+    }
+    Ok(used)
+}
+
+/// A pass of one service is shown to another of so many shards, where its conversation isn't open: notes and questions
+/// are refused. Then the conversation is opened there, an event is noted by a pass of its own, and settling is refused
+/// with the foreign pass alone, and then with both.
+pub(crate) fn push_strangers(
+    rt: &impl Wait,
+    alloc: Global,
+    shards: usize,
+    out: &mut Vec<u8>,
+) -> Result<(), RowsFault> {
+    let there = service(rt, alloc, shards, DEMO)?;
+    let here = service(rt, alloc, shards, DEMO)?;
+    let name = name_of(alloc, "demo.Hello")?;
+    there.open(rt, 0, &name)?;
+    let foreign = push_foreign(rt, alloc, &there, &here, out)?;
+    here.open(rt, 0, &name)?;
+    let mut own = here.connect(rt, 0)?;
+    here.note(rt, &mut own, event_of(alloc, "join 0 B")?, &OpenGate)?;
+    let mut passes = Vec::new(alloc);
+    passes.push(foreign)?;
+    let (here, mut passes) = match here.settle(passes) {
+        Ok(settled) => return push_settled(alloc, out, &settled),
+        Err((fault, here, passes)) => {
+            push_fault(out, &fault)?;
+            (here, passes)
+        }
+    };
+    passes.push(own)?;
+    match here.settle(passes) {
+        Ok(settled) => push_settled(alloc, out, &settled),
+        Err((fault, _, _)) => push_fault(out, &fault),
+    }
+}
+
+// The ids of the conversations of the shards whose verdict is out of date.
+fn push_touched(rt: &impl Wait, service: &Service, out: &mut Vec<u8>) -> Result<(), RowsFault> {
+    push_bytes(out, b"touched:")?;
+    for shard in 0..service.shards() {
+        for id in service.touched(rt, shard)?.as_slice() {
+            push_bytes(out, b" ")?;
+            push_number(out, u64::from(*id))?;
+        }
+    }
+    push_line(out, b"")
+}
+
+fn push_sweep(service: &mut Service, out: &mut Vec<u8>) -> Result<(), RowsFault> {
+    let swept = service.sweep_shards()?;
+    push_number(out, swept.turns)?;
+    push_bytes(out, b" turns, ")?;
+    push_number(out, swept.judged)?;
+    push_line(out, b" judged")
+}
+
+/// After an edit the conversations of its protocol are out of date, and others aren't; a sweep brings them up to date.
+pub(crate) fn push_swept(
+    rt: &impl Wait,
+    alloc: Global,
+    shards: usize,
+    out: &mut Vec<u8>,
+) -> Result<(), RowsFault> {
+    let mut service = service(rt, alloc, shards, LOOP)?;
+    service.put(rt, DEMO.as_bytes())?;
+    for (id, text) in [(0, "k.K"), (1, "k.K"), (2, "demo.Hello")] {
+        service.open(rt, id, &name_of(alloc, text)?)?;
+    }
+    service.put(rt, CHOICE.as_bytes())?;
+    push_touched(rt, &service, out)?;
+    push_sweep(&mut service, out)?;
+    push_touched(rt, &service, out)?;
+    push_sweep(&mut service, out)
+}
