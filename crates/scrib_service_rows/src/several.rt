@@ -20,7 +20,7 @@ pub(crate) fn push_full_shard(
 ) -> Result<(), RowsFault> {
     let service = service(rt, alloc, shards, DEMO)?;
     let name = name_of(alloc, "demo.Hello")?;
-    for (count, id) in (0..=65_536_u32).step_by(shards).enumerate() {
+    for (count, id) in (0..=65_536_u32).step_by(service.shards()).enumerate() {
         if let Err(refusal) = service.open(rt, id, &name) {
             push_number(out, count as u64)?;
             push_bytes(out, b" open\n")?;
@@ -32,7 +32,21 @@ pub(crate) fn push_full_shard(
     push_line(out, b"no end")
 }
 
-// Notes and asks by passes of another service, of which one has a receipt.
+// Notes and asks by a pass of another service.
+fn push_answers(
+    rt: &impl Wait,
+    alloc: Global,
+    service: &Service,
+    pass: &mut Pass,
+    out: &mut Vec<u8>,
+) -> Result<(), RowsFault> {
+    let event = event_of(alloc, "join 0 B")?;
+    let answer = service.note(rt, pass, event, &OpenGate);
+    push_line(out, noted(alloc, 0, answer)?.as_slice())?;
+    push_line(out, asked(alloc, 0, service.ask(rt, pass))?.as_slice())
+}
+
+// Two passes of one service, of which the first has a receipt, are shown to another service.
 fn push_foreign(
     rt: &impl Wait,
     alloc: Global,
@@ -42,13 +56,10 @@ fn push_foreign(
 ) -> Result<Pass, RowsFault> {
     let mut used = there.connect(rt, 0)?;
     let mut unused = there.connect(rt, 0)?;
-    there.note(rt, &mut used, event_of(alloc, "join 0 A")?, &OpenGate)?;
-    for pass in [&mut used, &mut unused] {
-        let event = event_of(alloc, "join 0 B")?;
-        let answer = here.note(rt, pass, event, &OpenGate);
-        push_line(out, noted(alloc, 0, answer)?.as_slice())?;
-        push_line(out, asked(alloc, 0, here.ask(rt, pass))?.as_slice())?;
-    }
+    let event = event_of(alloc, "join 0 A")?;
+    there.note(rt, &mut used, event, &OpenGate)?;
+    push_answers(rt, alloc, here, &mut used, out)?;
+    push_answers(rt, alloc, here, &mut unused, out)?;
     Ok(used)
 }
 
@@ -68,7 +79,8 @@ pub(crate) fn push_strangers(
     let foreign = push_foreign(rt, alloc, &there, &here, out)?;
     here.open(rt, 0, &name)?;
     let mut own = here.connect(rt, 0)?;
-    here.note(rt, &mut own, event_of(alloc, "join 0 B")?, &OpenGate)?;
+    let event = event_of(alloc, "join 0 B")?;
+    here.note(rt, &mut own, event, &OpenGate)?;
     let mut passes = Vec::new(alloc);
     passes.push(foreign)?;
     let (here, mut passes) = match here.settle(passes) {

@@ -28,7 +28,8 @@ fn note_events(
     service: &Service,
     pass: &mut Pass,
 ) -> Result<(), RowsFault> {
-    service.note(rt, pass, event_of(alloc, "join 0 A")?, &OpenGate)?;
+    let joined = event_of(alloc, "join 0 A")?;
+    service.note(rt, pass, joined, &OpenGate)?;
     let sent = event_of(alloc, "send 0 A B a()")?;
     for _ in 1..EVENTS {
         service.note(rt, pass, sent.copy()?, &OpenGate)?;
@@ -88,7 +89,7 @@ fn converse<R: Threads + Wait + Sync>(
     rt: &R,
     alloc: Global,
     service: &Service,
-) -> Result<[Pass; 2], RowsFault> {
+) -> Result<(Pass, Pass), RowsFault> {
     let name = name_of(alloc, "k.K")?;
     service.open(rt, 0, &name)?;
     service.open(rt, 1, &name)?;
@@ -97,7 +98,7 @@ fn converse<R: Threads + Wait + Sync>(
     if !is_edited || !first.is_granted || !second.is_granted {
         return Err(RowsFault::Refused);
     }
-    Ok([first.pass, second.pass])
+    Ok((first.pass, second.pass))
 }
 
 /// Two threads note the events of a conversation each, while a third edits their protocol; the last edit brings the
@@ -110,7 +111,7 @@ pub(crate) fn push_threads<R: Threads + Wait + Sync>(
     out: &mut Vec<u8>,
 ) -> Result<(), RowsFault> {
     let service = service(rt, alloc, shards, LOOP)?;
-    let [first, second] = converse(rt, alloc, &service)?;
+    let (first, second) = converse(rt, alloc, &service)?;
     for _ in 0..4 {
         service.turn(rt, 0, &OpenGate)?;
         service.turn(rt, 1, &OpenGate)?;
