@@ -13,11 +13,11 @@ use Rattle.scrib_script.specs.declared.format.Format.{Format}
 use Rattle.scrib_cli.specs.declared.run.Run.{Run}
 use Rattle.scrib_cli.specs.declared.telling.Telling.{Telling}
 use Rattle.scrib_cli.specs.declared.telling.Telling.TheVariants.{Printed}
-use Rattle.scrib_cli.specs.Scripts.{IsOutput, AppendsPart, Text, empty_text, with_line, lines, bare, text_end, end_of_text, reply_text}
-use Rattle.scrib_cli.specs.Progress.{NoLf, Whole, WholeFrom, Leads, Short, Ran, RanShort, start, cut, text_of, Holds, place, Went, Stopped, LastLine, Ended, Failed, tail, said, CarriedOut, PartCarriedOut, unread, halfway, Answered, PartAnswered}
+use Rattle.scrib_cli.specs.Scripts.{IsOutput, AppendsPart, Text, empty_text, with_line, lines, bare, text_end}
+use Rattle.scrib_cli.specs.Progress.{NoLf, Whole, WholeFrom, Leads, Short, Ran, RanShort, start, cut, text_of, Holds, place, Went, Stopped, LastLine, Ended, Failed, tail, told_reply, told_end, CarriedOut, PartCarriedOut, unread, halfway, Answered, PartAnswered}
 use Rattle.scrib_cli.proofs.Bytes.{bare_last, last_of_kept, last_is_kept}
 use Rattle.scrib_cli.proofs.Writes.{appends_none, appends_more, appends_kept, consumes_none, consumes_more, consumes_kept}
-use Rattle.scrib_cli.proofs.Outputs.{begun, at, said_none, whole_does, whole_puts, whole_goes_on, whole_ends, whole_stops, whole_last, leads_none, leads_then, short_any, short_then, short_whole}
+use Rattle.scrib_cli.proofs.Outputs.{begun, at, whole_does, whole_puts, whole_goes_on, whole_ends, whole_stops, whole_last, leads_none, leads_then, short_any, short_then, short_whole}
 use Rattle.scrib_cli.proofs.Going.{none_some, some_same, few, says_last, none_kept}
 
 no_items : (xs : List ℕ) → length xs ≡ 0 → xs ≡ []
@@ -31,26 +31,26 @@ pub line_is_some : (v : Vec ℕ Global) → false ≡ eqb (vec_len v) 0 → v.it
 line_is_some v e h = eqb-false (vec_len v) 0 (sym e) (v.ok.0 ∙ ap length h)
 
 -- nothing comes after a line that begins a text or not
-whole_tail : (t : Telling) (n : ℕ) (b : Option Format) (v : State) → Whole t n (begun b) [] v v (said t (tail (is_some b)))
+whole_tail : (t : Telling) (n : ℕ) (b : Option Format) (v : State) → Whole t n (begun b) [] v v (tail t (is_some b))
 whole_tail t n (Some f) v = whole_stops t n (empty_text f) v
-whole_tail t n None v = subst (λ (u : List ℕ). Whole t n None [] v v u) (said_none t) (whole_ends t n v)
+whole_tail t n None v = whole_ends t n v
 
 -- a module text that doesn't end
-whole_unended : (m : Telling) (n : ℕ) (t : Text) (k : List ℕ) (w : State) → NoLf k → k ≢ text_end → WholeFrom m (at n (Some t) k w) [] w (said m end_of_text)
+whole_unended : (m : Telling) (n : ℕ) (t : Text) (k : List ℕ) (w : State) → NoLf k → k ≢ text_end → WholeFrom m (at n (Some t) k w) [] w (told_end m)
 whole_unended m n t [] w no_lf ne = whole_stops m n t w
 whole_unended m n t (b ∷ k) w no_lf ne =
     let bare_ne : bare (b ∷ k) ≢ text_end = λ e. ne (sym (bare_last (b ∷ k) no_lf) ∙ e) in
-    whole_last m n (Some t) (b ∷ k) w w (said m end_of_text) no_lf (λ e. cc) (whole_goes_on m n (b ∷ k) [] w w (said m end_of_text) t bare_ne (whole_stops m (n + 1) (with_line t (b ∷ k)) w))
+    whole_last m n (Some t) (b ∷ k) w w (told_end m) no_lf (λ e. cc) (whole_goes_on m n (b ∷ k) [] w w (told_end m) t bare_ne (whole_stops m (n + 1) (with_line t (b ∷ k)) w))
 
 module _ (old : Run) (was now : Option (List ℕ)) where
   -- no line is left
-  empty_at : text_of old ≡ None → old.line.items ≡ [] → (text : Option Text) (line : List ℕ) → Holds old text line → (out : List ℕ) × WholeFrom old.telling (place old text line) [] (state_of old.core) (out ++ said old.telling (tail false)) × Appends was was out
+  empty_at : text_of old ≡ None → old.line.items ≡ [] → (text : Option Text) (line : List ℕ) → Holds old text line → (out : List ℕ) × WholeFrom old.telling (place old text line) [] (state_of old.core) (out ++ tail old.telling false) × Appends was was out
   empty_at outside no_line None line h =
       let n = old.lines + 1 in
       let w = state_of old.core in
       let line_is : line ≡ [] = none_kept 131074 line (lit≤ tt) (sym h.kept_line ∙ no_line) in
-      let ends : WholeFrom old.telling (at n None [] w) [] w (said old.telling (tail false)) = whole_tail old.telling n None w in
-      ([], subst (λ (k : List ℕ). WholeFrom old.telling (at n None k w) [] w (said old.telling (tail false))) (sym line_is) ends, appends_none was)
+      let ends : WholeFrom old.telling (at n None [] w) [] w (tail old.telling false) = whole_tail old.telling n None w in
+      ([], subst (λ (k : List ℕ). WholeFrom old.telling (at n None k w) [] w (tail old.telling false)) (sym line_is) ends, appends_none was)
   empty_at outside no_line (Some t) line h = absurd (none_some (cut t) (sym outside ∙ h.kept_text))
 
   pub last_empty : text_of old ≡ None → old.line.items ≡ [] → LastLine old false (state_of old.core) was was
@@ -61,13 +61,13 @@ module _ (old : Run) (was now : Option (List ℕ)) where
   some_line line some kept e = some (kept ∙ ap (take 131074) e)
 
   outer_at : (b : Option Format) (v : State) → text_of old ≡ None → (old.line.items ≡ [] → ⊥) → CarriedOut old.telling (old.lines + 1) old.line.items (state_of old.core) b v was now
-      → (text : Option Text) (line : List ℕ) → Holds old text line → (out : List ℕ) × WholeFrom old.telling (place old text line) [] v (out ++ said old.telling (tail (is_some b))) × Appends was now out
+      → (text : Option Text) (line : List ℕ) → Holds old text line → (out : List ℕ) × WholeFrom old.telling (place old text line) [] v (out ++ tail old.telling (is_some b)) × Appends was now out
   outer_at b v outside some carried None line h =
       let n = old.lines + 1 in
       let w = state_of old.core in
       let says : Says (bare line) carried.word = says_last line carried.word h.no_lf (subst (λ (t : List ℕ). Says t carried.word) h.kept_line carried.says) in
-      let whole = whole_does old.telling n line [] w v (said old.telling (tail (is_some b))) carried.word b v carried.out says carried.does (whole_tail old.telling (n + 1) b v) in
-      (carried.out, whole_last old.telling n None line w v (carried.out ++ said old.telling (tail (is_some b))) h.no_lf (some_line line some h.kept_line) whole, carried.appends)
+      let whole = whole_does old.telling n line [] w v (tail old.telling (is_some b)) carried.word b v carried.out says carried.does (whole_tail old.telling (n + 1) b v) in
+      (carried.out, whole_last old.telling n None line w v (carried.out ++ tail old.telling (is_some b)) h.no_lf (some_line line some h.kept_line) whole, carried.appends)
   outer_at b v outside some carried (Some t) line h = absurd (none_some (cut t) (sym outside ∙ h.kept_text))
 
   pub last_outer : (b : Option Format) (v : State) → text_of old ≡ None → (old.line.items ≡ [] → ⊥) → CarriedOut old.telling (old.lines + 1) old.line.items (state_of old.core) b v was now → LastLine old (is_some b) v was now
@@ -80,10 +80,10 @@ module _ (old : Run) (was now : Option (List ℕ)) where
       let n = old.lines + 1 in
       let w = state_of old.core in
       let says_whole : Says (bare line) word = says_last line word h.no_lf (subst (λ (t : List ℕ). Says t word) h.kept_line says) in
-      let end = said old.telling (tail (is_some b)) in
-      let whole = whole_does old.telling n line [] w v (said old.telling (tail (is_some b))) word b v out says_whole does (whole_tail old.telling (n + 1) b v) in
-      let all = whole_last old.telling n None line w v (out ++ said old.telling (tail (is_some b))) h.no_lf (some_line line some h.kept_line) whole in
-      (part.0, short_whole old.telling (place old None line) [] v (out ++ said old.telling (tail (is_some b))) part.0 (part.1 ++ end) all (ap (λ (t : List ℕ). t ++ said old.telling (tail (is_some b))) part.2 ∙ append_assoc part.0 part.1 end), part.3)
+      let end = tail old.telling (is_some b) in
+      let whole = whole_does old.telling n line [] w v (tail old.telling (is_some b)) word b v out says_whole does (whole_tail old.telling (n + 1) b v) in
+      let all = whole_last old.telling n None line w v (out ++ tail old.telling (is_some b)) h.no_lf (some_line line some h.kept_line) whole in
+      (part.0, short_whole old.telling (place old None line) [] v (out ++ tail old.telling (is_some b)) part.0 (part.1 ++ end) all (ap (λ (t : List ℕ). t ++ tail old.telling (is_some b)) part.2 ∙ append_assoc part.0 part.1 end), part.3)
   failed_outer_at outside some (halfway word b v out says does part) (Some t) line h = absurd (none_some (cut t) (sym outside ∙ h.kept_text))
 
   pub failed_outer : text_of old ≡ None → (old.line.items ≡ [] → ⊥) → PartCarriedOut old.telling (old.lines + 1) old.line.items (state_of old.core) was now → Failed old was now
@@ -91,7 +91,7 @@ module _ (old : Run) (was now : Option (List ℕ)) where
 
   -- the last line goes on a module text
   inside_at : (kept : Text) → text_of old ≡ Some kept → old.line.items ≢ text_end
-      → (text : Option Text) (line : List ℕ) → Holds old text line → (out : List ℕ) × WholeFrom old.telling (place old text line) [] (state_of old.core) (out ++ said old.telling (tail true)) × Appends was was out
+      → (text : Option Text) (line : List ℕ) → Holds old text line → (out : List ℕ) × WholeFrom old.telling (place old text line) [] (state_of old.core) (out ++ tail old.telling true) × Appends was was out
   inside_at kept inside ne None line h = absurd (none_some kept (sym h.kept_text ∙ inside))
   inside_at kept inside ne (Some t) line h =
       let ne_line : line ≢ text_end = λ e. ne (h.kept_line ∙ last_is_kept 1048577 line few e) in
@@ -102,25 +102,25 @@ module _ (old : Run) (was now : Option (List ℕ)) where
 
   -- the last line ends a module text
   put_whole : (kept t : Text) (line : List ℕ) (v : State) → (p : Answered old.telling kept.format (state_of old.core) (Put kept.bytes) v was now) → kept ≡ cut t → line ≡ text_end → NoLf line
-      → WholeFrom old.telling (at (old.lines + 1) (Some t) line (state_of old.core)) [] v (said old.telling (reply_text t.format p.0) ++ [])
+      → WholeFrom old.telling (at (old.lines + 1) (Some t) line (state_of old.core)) [] v (told_reply old.telling t.format p.0 ++ [])
   put_whole kept t line v p same is_end no_lf =
       let n = old.lines + 1 in
       let w = state_of old.core in
       let answered : IsAnswered (state_of old.core) (Put (take 1048577 t.bytes)) p.0 v = subst (λ (x : Text). IsAnswered (state_of old.core) (Put x.bytes) p.0 v) same p.1 in
       let ends : bare line ≡ text_end = bare_last line no_lf ∙ is_end in
       let goes_on = p.2 in
-      whole_last old.telling n (Some t) line w v (said old.telling (reply_text t.format p.0) ++ []) no_lf (λ e. let d : [] ≡ text_end = sym e ∙ is_end in cc)
+      whole_last old.telling n (Some t) line w v (told_reply old.telling t.format p.0 ++ []) no_lf (λ e. let d : [] ≡ text_end = sym e ∙ is_end in cc)
       (whole_puts old.telling n line [] w v [] t p.0 v ends answered goes_on (whole_ends old.telling (n + 1) v))
 
   put_at : (kept : Text) (v : State) → text_of old ≡ Some kept → old.line.items ≡ text_end → Answered old.telling kept.format (state_of old.core) (Put kept.bytes) v was now
-      → (text : Option Text) (line : List ℕ) → Holds old text line → (out : List ℕ) × WholeFrom old.telling (place old text line) [] v (out ++ said old.telling (tail false)) × Appends was now out
+      → (text : Option Text) (line : List ℕ) → Holds old text line → (out : List ℕ) × WholeFrom old.telling (place old text line) [] v (out ++ tail old.telling false) × Appends was now out
   put_at kept v inside is_end p None line h = absurd (none_some kept (sym h.kept_text ∙ inside))
   put_at kept v inside is_end p (Some t) line h =
       let same : kept ≡ cut t = some_same kept (cut t) (sym inside ∙ h.kept_text) in
       let ends : line ≡ text_end = last_of_kept 1048577 line few (sym h.kept_line ∙ is_end) in
       let whole = put_whole kept t line v p same ends h.no_lf in
-      let appends : Appends was now (said old.telling (reply_text t.format p.0)) = subst (λ (x : Text). Appends was now (said old.telling (reply_text x.format p.0))) same p.3 in
-      (said old.telling (reply_text t.format p.0), subst (λ (u : List ℕ). WholeFrom old.telling (at (old.lines + 1) (Some t) line (state_of old.core)) [] v (said old.telling (reply_text t.format p.0) ++ u)) (said_none old.telling) whole, appends)
+      let appends : Appends was now (told_reply old.telling t.format p.0) = subst (λ (x : Text). Appends was now (told_reply old.telling x.format p.0)) same p.3 in
+      (told_reply old.telling t.format p.0, whole, appends)
 
   pub last_put : (kept : Text) (v : State) → text_of old ≡ Some kept → old.line.items ≡ text_end → Answered old.telling kept.format (state_of old.core) (Put kept.bytes) v was now → LastLine old false v was now
   last_put kept v inside is_end p = record { so = put_at kept v inside is_end p }
@@ -142,33 +142,33 @@ failed_put_at old was now kept v inside is_end p (Some t) line h =
     let same : kept ≡ cut t = some_same kept (cut t) (sym inside ∙ h.kept_text) in
     let ends : line ≡ text_end = last_of_kept 1048577 line few (sym h.kept_line ∙ is_end) in
     let goes_on = p.2 in
-    let part : AppendsPart was now (said old.telling (reply_text t.format p.0)) = subst (λ (x : Text). AppendsPart was now (said old.telling (reply_text x.format p.0))) same p.3 in
-    let whole : WholeFrom old.telling (place old (Some t) line) [] v (said old.telling (reply_text t.format p.0) ++ []) = put_whole old None None kept t line v (p.0, p.1, goes_on, tt) same ends h.no_lf in
-    (part.0, short_whole old.telling (place old (Some t) line) [] v (said old.telling (reply_text t.format p.0) ++ []) part.0 part.1 whole (append-nil (said old.telling (reply_text t.format p.0)) ∙ part.2), part.3)
+    let part : AppendsPart was now (told_reply old.telling t.format p.0) = subst (λ (x : Text). AppendsPart was now (told_reply old.telling x.format p.0)) same p.3 in
+    let whole : WholeFrom old.telling (place old (Some t) line) [] v (told_reply old.telling t.format p.0 ++ []) = put_whole old None None kept t line v (p.0, p.1, goes_on, tt) same ends h.no_lf in
+    (part.0, short_whole old.telling (place old (Some t) line) [] v (told_reply old.telling t.format p.0 ++ []) part.0 part.1 whole (append-nil (told_reply old.telling t.format p.0) ∙ part.2), part.3)
 
 pub failed_put : (old : Run) (was now : Option (List ℕ)) (kept : Text) (v : State) → text_of old ≡ Some kept → old.line.items ≡ text_end → PartAnswered old.telling kept.format (state_of old.core) (Put kept.bytes) v was now → Failed old was now
 failed_put old was now kept v inside is_end p = record { so = failed_put_at old was now kept v inside is_end p }
 
 -- the end after the last line
-pub ended_tail : (old : Run) (b : Bool) (v : State) (was mid now : Option (List ℕ)) → LastLine old b v was mid → Appends mid now (said old.telling (tail b)) → Ended old v was now
+pub ended_tail : (old : Run) (b : Bool) (v : State) (was mid now : Option (List ℕ)) → LastLine old b v was mid → Appends mid now (tail old.telling b) → Ended old v was now
 ended_tail old b v was mid now l a = record {
-  so = λ text line h. let p = l.so text line h in (p.0 ++ said old.telling (tail b), p.1, appends_more was mid now p.0 (said old.telling (tail b)) p.2 a);
+  so = λ text line h. let p = l.so text line h in (p.0 ++ tail old.telling b, p.1, appends_more was mid now p.0 (tail old.telling b) p.2 a);
 }
 
 pub ended_outside : (old : Run) (b : Bool) (v : State) (was now : Option (List ℕ)) → b ≡ false → LastLine old b v was now → Ended old v was now
 ended_outside old b v was now e l = record {
   so = λ text line h.
       let p = l.so text line h in
-      let none : said old.telling (tail b) ≡ [] = ap (λ (c : Bool). said old.telling (tail c)) e ∙ sym (said_none old.telling) in
+      let none : tail old.telling b ≡ [] = ap (tail old.telling) e in
       (p.0, subst (λ (u : List ℕ). WholeFrom old.telling (place old text line) [] v u) (ap (λ (u : List ℕ). p.0 ++ u) none ∙ append-nil p.0) p.1, p.2);
 }
 
-pub failed_tail : (old : Run) (b : Bool) (v : State) (was mid now : Option (List ℕ)) → LastLine old b v was mid → AppendsPart mid now (said old.telling (tail b)) → Failed old was now
+pub failed_tail : (old : Run) (b : Bool) (v : State) (was mid now : Option (List ℕ)) → LastLine old b v was mid → AppendsPart mid now (tail old.telling b) → Failed old was now
 failed_tail old b v was mid now l part = record {
   so = λ text line h.
       let p = l.so text line h in (
         p.0 ++ part.0,
-        short_whole old.telling (place old text line) [] v (p.0 ++ said old.telling (tail b)) (p.0 ++ part.0) part.1 p.1 (ap (λ (t : List ℕ). p.0 ++ t) part.2 ∙ sym (append_assoc p.0 part.0 part.1)),
+        short_whole old.telling (place old text line) [] v (p.0 ++ tail old.telling b) (p.0 ++ part.0) part.1 p.1 (ap (λ (t : List ℕ). p.0 ++ t) part.2 ∙ sym (append_assoc p.0 part.0 part.1)),
         appends_more was mid now p.0 part.0 p.2 part.3,
       );
 }
@@ -311,30 +311,30 @@ pub never_started : (t : Telling) (r0 w0 : Option (List ℕ)) → RanShort t r0 
 never_started t None w0 = search rules
 never_started t (Some input) w0 = ([], short_any t start input, appends_none w0)
 
--- all of an output was written
-abbrev pub Writes : Option (List ℕ) → Option (List ℕ) → Option (List ℕ) → Type 0
-Writes r old new = IfSome r (λ input. (output : List ℕ) × IsOutput input output × Appends old new output)
+-- all of an output in this format was written
+abbrev pub Writes : Format → Option (List ℕ) → Option (List ℕ) → Option (List ℕ) → Type 0
+Writes o r old new = IfSome r (λ input. (output : List ℕ) × IsOutput o input output × Appends old new output)
 
--- a beginning of an output was written
-abbrev pub WritesPart : Option (List ℕ) → Option (List ℕ) → Option (List ℕ) → Type 0
-WritesPart r old new = IfSome r (λ input. (output : List ℕ) × IsOutput input output × AppendsPart old new output)
+-- a beginning of an output in this format was written
+abbrev pub WritesPart : Format → Option (List ℕ) → Option (List ℕ) → Option (List ℕ) → Type 0
+WritesPart o r old new = IfSome r (λ input. (output : List ℕ) × IsOutput o input output × AppendsPart old new output)
 
-whole_output : (input : List ℕ) (v : State) (output : List ℕ) → Whole Printed 1 None (lines input) initial v output → IsOutput input output
-whole_output input v output h = (h.items, h.replies, v, h.spelled, h.answered, h.is)
+whole_output : (o : Format) (input : List ℕ) (v : State) (output : List ℕ) → Whole (Printed o) 1 None (lines input) initial v output → IsOutput o input output
+whole_output o input v output h = (h.items, h.replies, v, h.spelled, h.answered, h.is)
 
 -- what was written stays after a flush
-pub flushed : (r : Option (List ℕ)) (v : State) (was mid now : Option (List ℕ)) → Ran Printed r v was mid → Keeps mid now → Writes r was now
-flushed None v was mid now h keeps = search rules
-flushed (Some input) v was mid now h keeps = (h.0, whole_output input v h.0 h.1, appends_kept was mid now h.0 h.2 keeps)
+pub flushed : (o : Format) (r : Option (List ℕ)) (v : State) (was mid now : Option (List ℕ)) → Ran (Printed o) r v was mid → Keeps mid now → Writes o r was now
+flushed o None v was mid now h keeps = search rules
+flushed o (Some input) v was mid now h keeps = (h.0, whole_output o input v h.0 h.1, appends_kept was mid now h.0 h.2 keeps)
 
 -- a flush that fails after all was written
-pub flush_failed : (r : Option (List ℕ)) (v : State) (was mid now : Option (List ℕ)) → Ran Printed r v was mid → Keeps mid now → WritesPart r was now
-flush_failed None v was mid now h keeps = search rules
-flush_failed (Some input) v was mid now h keeps = (h.0, whole_output input v h.0 h.1, (h.0, [], sym (append-nil h.0), appends_kept was mid now h.0 h.2 keeps))
+pub flush_failed : (o : Format) (r : Option (List ℕ)) (v : State) (was mid now : Option (List ℕ)) → Ran (Printed o) r v was mid → Keeps mid now → WritesPart o r was now
+flush_failed o None v was mid now h keeps = search rules
+flush_failed o (Some input) v was mid now h keeps = (h.0, whole_output o input v h.0 h.1, (h.0, [], sym (append-nil h.0), appends_kept was mid now h.0 h.2 keeps))
 
 -- a script failed to be run
-pub run_failed : (r : Option (List ℕ)) (was now : Option (List ℕ)) → RanShort Printed r was now → WritesPart r was now
-run_failed None was now h = search rules
-run_failed (Some input) was now h =
+pub run_failed : (o : Format) (r : Option (List ℕ)) (was now : Option (List ℕ)) → RanShort (Printed o) r was now → WritesPart o r was now
+run_failed o None was now h = search rules
+run_failed o (Some input) was now h =
     let s = h.1 in
-    (s.output, whole_output input s.after s.output s.whole, (h.0, s.rest, s.is, h.2))
+    (s.output, whole_output o input s.after s.output s.whole, (h.0, s.rest, s.is, h.2))

@@ -16,11 +16,11 @@ use Rattle.scrib_script.specs.declared.line.Line.TheVariants as line
 use Rattle.scrib_cli.specs.declared.keeping.KeptText.{KeptText}
 use Rattle.scrib_cli.specs.declared.run.Run.{Run}
 use Rattle.scrib_cli.specs.declared.telling.Telling.{Telling}
-use Rattle.scrib_cli.specs.Scripts.{Text, empty_text, with_line, bare, text_end, reply_text, AppendsPart}
-use Rattle.scrib_cli.specs.Progress.{NoLf, Place, Whole, Leads, Short, most, cut, as_text, text_of, Holds, place, Went, Stopped, LineEnded, said, CarriedOut, PartCarriedOut, unread, halfway, CarriedText, PartPut}
+use Rattle.scrib_cli.specs.Scripts.{Text, empty_text, with_line, bare, text_end, AppendsPart}
+use Rattle.scrib_cli.specs.Progress.{NoLf, Place, Whole, Leads, Short, most, cut, as_text, text_of, Holds, place, Went, Stopped, LineEnded, told_reply, CarriedOut, PartCarriedOut, unread, halfway, CarriedText, PartPut}
 use Rattle.scrib_cli.proofs.Bytes.{bare_last, length-bare, all_or_most, take_kept, take_kept_line, take_of_none, end_of_kept, end_is_kept}
 use Rattle.scrib_cli.proofs.Writes.{appends_none, appends_more}
-use Rattle.scrib_cli.proofs.Outputs.{begun, at, said_none, said_said, does_said, whole_does, whole_puts, whole_goes_on, leads_then, leads_part, leads_line, short_any, short_then, short_led}
+use Rattle.scrib_cli.proofs.Outputs.{begun, at, said_none, reply_said, does_said, whole_does, whole_puts, whole_goes_on, leads_then, leads_part, leads_line, short_any, short_then, short_led}
 
 pub none_some : {A : Type 0} (x : A) → None ≡ Some x → ⊥
 none_some x e = cc
@@ -197,11 +197,11 @@ module _ (old : Run) (was now : Option (List ℕ)) where
       let is_end : bare (line ++ 10 ∷ []) ≡ text_end = end_of_kept 1048577 line few (subst (λ (x : List ℕ). bare (x ++ 10 ∷ []) ≡ text_end) h.kept_line carried.0) in
       let r = carried.1.0 in
       let answered : IsAnswered (state_of old.core) (Put (take 1048577 t.bytes)) carried.1.0 v = subst (λ (x : Text). IsAnswered (state_of old.core) (Put x.bytes) carried.1.0 v) same carried.1.1 in
-      let appends : Appends was now (said old.telling (reply_text t.format r)) = subst (λ (x : Text). Appends was now (said old.telling (reply_text x.format carried.1.0))) same carried.1.3 in
+      let appends : Appends was now (told_reply old.telling t.format r) = subst (λ (x : Text). Appends was now (told_reply old.telling x.format carried.1.0)) same carried.1.3 in
       let goes_on = carried.1.2 in
-      let leads = leads_line old.telling n (Some t) None line w v (said old.telling (reply_text t.format r)) h.no_lf (said_said old.telling (reply_text t.format r))
+      let leads = leads_line old.telling n (Some t) None line w v (told_reply old.telling t.format r) h.no_lf (reply_said old.telling t.format r)
       (λ ls after output more. whole_puts old.telling n (line ++ 10 ∷ []) ls w after output t r v is_end answered goes_on more) in
-      (None, said old.telling (reply_text t.format r), refl, leads, appends)
+      (None, told_reply old.telling t.format r, refl, leads, appends)
   inner_at kept (Some after) v inside carried (Some t) line h =
       let n = old.lines + 1 in
       let w = state_of old.core in
@@ -247,11 +247,11 @@ module _ (old : Run) (was now : Option (List ℕ)) where
       let is_end : bare (line ++ 10 ∷ []) ≡ text_end = end_of_kept 1048577 line few (subst (λ (x : List ℕ). bare (x ++ 10 ∷ []) ≡ text_end) h.kept_line put.0) in
       let r = put.1.0 in
       let goes_on = put.1.2 in
-      let part : AppendsPart was now (said old.telling (reply_text t.format r)) = subst (λ (x : Text). AppendsPart was now (said old.telling (reply_text x.format put.1.0))) same put.1.3 in
+      let part : AppendsPart was now (told_reply old.telling t.format r) = subst (λ (x : Text). AppendsPart was now (told_reply old.telling x.format put.1.0)) same put.1.3 in
       let answered : IsAnswered (state_of old.core) (Put (take 1048577 t.bytes)) put.1.0 v = subst (λ (x : Text). IsAnswered (state_of old.core) (Put x.bytes) put.1.0 v) same put.1.1 in
-      let leads = leads_line old.telling n (Some t) None line w v (said old.telling (reply_text t.format r)) h.no_lf (said_said old.telling (reply_text t.format r))
+      let leads = leads_line old.telling n (Some t) None line w v (told_reply old.telling t.format r) h.no_lf (reply_said old.telling t.format r)
       (λ ls after output more. whole_puts old.telling n (line ++ 10 ∷ []) ls w after output t r v is_end answered goes_on more) in
-      (part.0, λ more. short_led old.telling (place old (Some t) line) (at (n + 1) None [] v) (10 ∷ []) more (said old.telling (reply_text t.format r)) part.0 part.1 leads part.2, part.3)
+      (part.0, λ more. short_led old.telling (place old (Some t) line) (at (n + 1) None [] v) (10 ∷ []) more (told_reply old.telling t.format r) part.0 part.1 leads part.2, part.3)
 
   pub stopped_inner : (kept : Text) (v : State) → text_of old ≡ Some kept → PartPut old.telling kept old.line.items (state_of old.core) v was now → Stopped old (10 ∷ []) was now
   stopped_inner kept v inside p = record { so = stopped_inner_at kept v inside p }

@@ -8,7 +8,7 @@ use Rattle.scrib_core.specs.Answers.{State, IsAnswered}
 use Rattle.scrib_script.specs.declared.format.Format.{Format}
 use Rattle.scrib_cli.specs.declared.telling.Telling.{Telling}
 use Rattle.scrib_cli.specs.declared.telling.Telling.TheVariants.{Printed, Silent}
-use Rattle.scrib_cli.specs.Scripts.{AppendsPart, reply_text}
+use Rattle.scrib_cli.specs.Scripts.{AppendsPart, reply_format, reply_text}
 use Rattle.scrib_cli.specs.Progress.{Answered, PartMade}
 use Rattle.scrib_cli.proofs.Writes.{appends_none}
 
@@ -16,5 +16,7 @@ module _ (t : Telling) (f : Format) (w v : State) (s : Step) (r : Reply) (was no
   pub answered_silently : t ≡ Silent → r ≢ Refused OutOfMemory → Answered t f w s v was was
   answered_silently e ne = subst (λ (u : Telling). Answered u f w s v was was) (sym e) (r, answered, ne, appends_none was)
 
-  pub part_printed : t ≡ Printed → AppendsPart was now (reply_text f r) → PartMade t f w s v was now
-  part_printed e part = subst (λ (u : Telling). PartMade u f w s v was now) (sym e) (inr (r, answered, tt, part))
+  pub part_printed : (o x : Format) → t ≡ Printed o → x ≡ reply_format o f → AppendsPart was now (reply_text x r) → PartMade t f w s v was now
+  part_printed o x e format_is part =
+      let part_as : AppendsPart was now (reply_text (reply_format o f) r) = subst (λ (y : Format). AppendsPart was now (reply_text y r)) format_is part in
+      subst (λ (u : Telling). PartMade u f w s v was now) (sym e) (inr (r, answered, tt, part_as))

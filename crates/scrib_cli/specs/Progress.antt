@@ -11,13 +11,14 @@ use Rattle.scrib_core.specs.Answers.{State, initial, IsAnswered, Answers}
 use Rattle.scrib_core.specs.Held.{state_of}
 use Rattle.scrib_script.specs.Says.{Says}
 use Rattle.scrib_script.specs.declared.format.Format.{Format}
+use Rattle.scrib_script.specs.declared.format.Format.TheVariants as format
 use Rattle.scrib_script.specs.declared.line.Line.{Line}
 use Rattle.scrib_script.specs.declared.line.Line.TheVariants as line
 use Rattle.scrib_cli.specs.declared.keeping.KeptText.{KeptText}
 use Rattle.scrib_cli.specs.declared.run.Run.{Run}
 use Rattle.scrib_cli.specs.declared.telling.Telling.{Telling}
 use Rattle.scrib_cli.specs.declared.telling.Telling.TheVariants.{Printed, Silent}
-use Rattle.scrib_cli.specs.Scripts.{Item, Text, with_line, Spells, lines, bare, text_end, steps_of, written, bad_line, end_of_text, reply_text, AppendsPart}
+use Rattle.scrib_cli.specs.Scripts.{Item, Text, with_line, Spells, lines, bare, text_end, steps_of, written, bad_line, end_of_text, reply_format, reply_text, AppendsPart}
 
 -- no byte of these is an LF
 abbrev pub NoLf : List ℕ → Type 0
@@ -33,12 +34,29 @@ pub record Place : Type 0 where
 
 -- what is told of these bytes: in silence nothing
 abbrev pub said : Telling → List ℕ → List ℕ
-said Printed bytes = bytes
+said (Printed o) bytes = bytes
 said Silent bytes = []
+
+-- the format of the output; in silence any would do
+abbrev pub output_format : Telling → Format
+output_format (Printed o) = o
+output_format Silent = format.Line
+
+-- what is told of a reply whose line asks for this format
+abbrev pub told_reply : Telling → Format → Reply → List ℕ
+told_reply t f r = said t (reply_text (reply_format (output_format t) f) r)
+
+-- what is told of a line that says nothing
+abbrev pub told_bad_line : Telling → ℕ → List ℕ
+told_bad_line t n = said t (bad_line (output_format t) n)
+
+-- what is told of an end inside a module text
+abbrev pub told_end : Telling → List ℕ
+told_end t = said t (end_of_text (output_format t))
 
 -- a run goes on after this reply: in silence, unless memory was refused to its step
 abbrev pub GoesOn : Telling → Reply → Type 0
-GoesOn Printed r = Unit {0}
+GoesOn (Printed o) r = Unit {0}
 GoesOn Silent r = r ≢ Refused OutOfMemory
 
 -- The output of lines from number n on, inside this module text or outside one, in this world, and the world after
@@ -49,7 +67,7 @@ pub record Whole (t : Telling) (n : ℕ) (text : Option Text) (ls : List (List �
   pub spelled : Spells n text ls items
   pub answered : Answers w (steps_of items) replies after
   pub goes_on : All (GoesOn t) replies
-  pub is : output ≡ said t (written items replies)
+  pub is : output ≡ said t (written (output_format t) items replies)
 
 -- the output, where `bytes` are all that comes from here on
 abbrev pub WholeFrom : Telling → Place → List ℕ → State → List ℕ → Type 0
@@ -60,17 +78,17 @@ pub record Leads (t : Telling) (p : Place) (bytes out : List ℕ) (q : Place) : 
   pub is_said : out ≡ said t out
   pub goes : (more : List ℕ) (after : State) (output : List ℕ) → WholeFrom t q more after output → WholeFrom t p (bytes ++ more) after (out ++ output)
 
--- an output begins so, where `bytes` are all that comes from here on
-pub record Begins (p : Place) (bytes part : List ℕ) : Type 0 where
+-- an output in this format begins so, where `bytes` are all that comes from here on
+pub record Begins (o : Format) (p : Place) (bytes part : List ℕ) : Type 0 where
   pub after : State
   pub output : List ℕ
   pub rest : List ℕ
-  pub whole : WholeFrom Printed p bytes after output
+  pub whole : WholeFrom (Printed o) p bytes after output
   pub is : output ≡ part ++ rest
 
 -- this much was written where a run failed: a beginning of an output, and in silence nothing
 abbrev pub Short : Telling → Place → List ℕ → List ℕ → Type 0
-Short Printed p bytes part = Begins p bytes part
+Short (Printed o) p bytes part = Begins o p bytes part
 Short Silent p bytes part = part ≡ []
 
 -- a whole script was run, and the world after it
@@ -129,15 +147,15 @@ pub record LineEnded (old : Run) (after : Option Text) (v : State) (was now : Op
       × Leads old.telling (place old text line) (10 ∷ []) out (record { number = old.lines + 1 + 1; text = text'; line = []; state = v })
       × Appends was now out
 
--- what is written where the script ends, inside a module text or outside
-abbrev pub tail : Bool → List ℕ
-tail true = end_of_text
-tail false = []
+-- what is told where the script ends, inside a module text or outside
+abbrev pub tail : Telling → Bool → List ℕ
+tail t true = told_end t
+tail t false = []
 
 -- the run carried out its last line, and stands inside a module text or outside, in this world
 pub record LastLine (old : Run) (in_text : Bool) (after : State) (was now : Option (List ℕ)) : Type 0 where
   pub so : (text : Option Text) (line : List ℕ) → Holds old text line
-      → (out : List ℕ) × WholeFrom old.telling (place old text line) [] after (out ++ said old.telling (tail in_text)) × Appends was now out
+      → (out : List ℕ) × WholeFrom old.telling (place old text line) [] after (out ++ tail old.telling in_text) × Appends was now out
 
 -- the run wrote all of its output, and this is the world after it
 pub record Ended (old : Run) (after : State) (was now : Option (List ℕ)) : Type 0 where
@@ -155,8 +173,8 @@ abbrev pub Does : Telling → ℕ → Line → State → Option Format → State
 Does t n line.Skipped w begins v out = (begins ≡ None) × (v ≡ w) × (out ≡ [])
 Does t n (line.Put f) w begins v out = (begins ≡ Some f) × (v ≡ w) × (out ≡ [])
 Does t n (line.Step f s) w begins v out =
-    (begins ≡ None) × ((r : Reply) × IsAnswered w s r v × GoesOn t r × (out ≡ said t (reply_text f r)))
-Does t n line.Bad w begins v out = (begins ≡ None) × (v ≡ w) × (out ≡ said t (bad_line n))
+    (begins ≡ None) × ((r : Reply) × IsAnswered w s r v × GoesOn t r × (out ≡ told_reply t f r))
+Does t n line.Bad w begins v out = (begins ≡ None) × (v ≡ w) × (out ≡ told_bad_line t n)
 
 -- the line of these bytes was carried out
 pub record CarriedOut (t : Telling) (n : ℕ) (bytes : List ℕ) (w : State) (begins : Option Format) (v : State) (was now : Option (List ℕ)) : Type 0 where
@@ -166,13 +184,13 @@ pub record CarriedOut (t : Telling) (n : ℕ) (bytes : List ℕ) (w : State) (be
   pub does : Does t n word w begins v out
   pub appends : Appends was now out
 
--- the step was answered, and its reply was written in this format
+-- the step was answered, and its reply was told to a line that asks for this format
 abbrev pub Answered : Telling → Format → State → Step → State → Option (List ℕ) → Option (List ℕ) → Type 0
-Answered t f w s v was now = (r : Reply) × IsAnswered w s r v × GoesOn t r × Appends was now (said t (reply_text f r))
+Answered t f w s v was now = (r : Reply) × IsAnswered w s r v × GoesOn t r × Appends was now (told_reply t f r)
 
--- the step was answered, and a beginning of its reply was written
+-- the step was answered, and a beginning of what is told of its reply was written
 abbrev pub PartAnswered : Telling → Format → State → Step → State → Option (List ℕ) → Option (List ℕ) → Type 0
-PartAnswered t f w s v was now = (r : Reply) × IsAnswered w s r v × GoesOn t r × AppendsPart was now (said t (reply_text f r))
+PartAnswered t f w s v was now = (r : Reply) × IsAnswered w s r v × GoesOn t r × AppendsPart was now (told_reply t f r)
 
 -- the step failed: nothing was written, or a beginning of its reply
 abbrev pub PartMade : Telling → Format → State → Step → State → Option (List ℕ) → Option (List ℕ) → Type 0

@@ -11,10 +11,10 @@ ghost use Rattle.scrib_cli.specs.Scripts.{AppendsPart, reply_line};
 ghost use Rattle.scrib_cli.specs.Projections.{IsAnswer, FaultTells, IsTextOf, IsPrinted, IsGraphOf, projects};
 ghost use Rattle.scrib_cli.specs.ProjectionSteps.{HasMachine};
 
-use crate::carrying::reply_text;
 use crate::explaining::refusal;
 use crate::fault::ScriptFault;
 use crate::form::Form;
+use crate::printing::reply_text;
 use crate::projection::{Projection, projection_of};
 use crate::writing::{flush_out, write_out};
 use scrib_core::reply::{Refusal, Reply};

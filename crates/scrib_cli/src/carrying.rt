@@ -1,28 +1,25 @@
 //! Carries out steps and lines, and writes what they are answered.
 
 ghost use Rattle.std.specs.Prelude.{◌≡◌, ◌≢◌, ◌↔◌, IsTrue, OnOk, OnErr, IfOk, option_map};
-ghost use Rattle.std.specs.Io.KnownBytes.{Appends};
 ghost use Rattle.scrib_core.specs.Held.{state_of};
 ghost use Rattle.scrib_core.specs.declared.step.Step.TheVariants.{Put};
 ghost use Rattle.scrib_core.specs.declared.reply.Reply.TheVariants.{Refused};
 ghost use Rattle.scrib_core.specs.declared.reply.Refusal.TheVariants.{OutOfMemory};
-ghost use Rattle.scrib_cli.specs.Scripts.{AppendsPart, bad_line, reply_text, text_end};
-ghost use Rattle.scrib_cli.specs.Progress.{said, as_text, Answered, PartMade, CarriedOut, PartCarriedOut, CarriedText, PartPut};
+ghost use Rattle.scrib_cli.specs.Scripts.{text_end};
+ghost use Rattle.scrib_cli.specs.Progress.{as_text, Answered, PartMade, CarriedOut, PartCarriedOut, CarriedText, PartPut};
 
 use crate::fault::ScriptFault;
 use crate::keeping::{KeptText, before_end, keep};
+use crate::printing::{reply_format, tell_bad_line, write_reply};
 use crate::telling::Telling;
-use crate::writing::write_out;
 use scrib_core::monitor::Core;
 use scrib_core::reply::{Refusal, Reply};
 use scrib_core::step::Step;
-use scrib_report::json::json;
-use scrib_report::line::line;
 use scrib_script::format::Format;
 use scrib_script::line::Line;
 use scrib_script::reader::Reader;
 use scrib_types::plain::Items;
-use std::alloc::{AllocError, Global};
+use std::alloc::Global;
 use std::io::Write;
 
 /// What is kept of a module text: one byte more than it may have.
@@ -35,7 +32,7 @@ pub fn is_text_end(bytes: &[u8]) -> bool
     bytes == b"%%".as_slice()
 }
 
-/// Makes the step and writes its reply in this format, or in silence sees that it had memory.
+/// Makes the step and writes its reply to a line that asks for this format, or in silence sees that it had memory.
 pub fn make_step<W: Write>(
     alloc: Global,
     core: &mut Core,
@@ -49,7 +46,9 @@ pub fn make_step<W: Write>(
 {
     let reply = core.apply(step);
     match telling {
-        Telling::Printed => write_reply(alloc, &reply, format, writer),
+        Telling::Printed(output) => {
+            write_reply(alloc, &reply, reply_format(output, format), writer)
+        }
         Telling::Silent => check_memory(&reply),
     }
 }
@@ -70,32 +69,6 @@ pub fn put_text<W: Write>(
     make_step(alloc, core, Step::Put { text }, format, telling, writer)
 }
 
-/// The reply in this format, with the LF behind it.
-pub fn reply_text(alloc: Global, reply: &Reply, format: Format) -> Result<Vec<u8>, AllocError>
-    ensures { IfOk result (λ text. text.items ≡ reply_text format reply.now) }
-{
-    let mut text = match format {
-        Format::Line => line(alloc, reply)?,
-        Format::Json => json(alloc, reply)?,
-    };
-    text.push(b'\n')?;
-    Ok(text)
-}
-
-/// Writes the reply in this format.
-pub fn write_reply<W: Write>(
-    alloc: Global,
-    reply: &Reply,
-    format: Format,
-    writer: &mut W,
-) -> Result<(), ScriptFault>
-    ensures ok { OnOk result (Appends (W.contents writer.old) (W.contents writer.new) (reply_text format reply.now)) }
-    ensures err { OnErr result (AppendsPart (W.contents writer.old) (W.contents writer.new) (reply_text format reply.now)) }
-{
-    let text = reply_text(alloc, reply, format)?;
-    write_out(writer, text.as_slice())
-}
-
 /// Refuses a reply that tells of want of memory.
 fn check_memory(reply: &Reply) -> Result<(), ScriptFault>
     ensures ok { OnOk result (reply.now ≢ Refused OutOfMemory) }
@@ -104,31 +77,6 @@ fn check_memory(reply: &Reply) -> Result<(), ScriptFault>
     match reply {
         Reply::Refused(Refusal::OutOfMemory) => Err(ScriptFault::OutOfMemory),
         _ => Ok(()),
-    }
-}
-
-/// Writes that the line of this number says nothing.
-fn refuse_line<W: Write>(alloc: Global, number: u32, writer: &mut W) -> Result<(), ScriptFault>
-    ensures ok { OnOk result (Appends (W.contents writer.old) (W.contents writer.new) (bad_line number)) }
-    ensures err { OnErr result (AppendsPart (W.contents writer.old) (W.contents writer.new) (bad_line number)) }
-{
-    let text = format!(in alloc; "refused BadLine {number}\n")?;
-    write_out(writer, text.as_bytes())
-}
-
-/// Writes that the line of this number says nothing, or nothing in silence.
-fn tell_bad_line<W: Write>(
-    alloc: Global,
-    number: u32,
-    telling: Telling,
-    writer: &mut W,
-) -> Result<(), ScriptFault>
-    ensures ok { OnOk result (Appends (W.contents writer.old) (W.contents writer.new) (said telling (bad_line number))) }
-    ensures err { OnErr result (AppendsPart (W.contents writer.old) (W.contents writer.new) (said telling (bad_line number))) }
-{
-    match telling {
-        Telling::Printed => refuse_line(alloc, number, writer),
-        Telling::Silent => Ok(()),
     }
 }
 

@@ -6,8 +6,8 @@ ghost use Rattle.scrib_core.specs.Held.{state_of};
 ghost use Rattle.scrib_cli.specs.Checks.{IsChecked, IsPartChecked, is_accepted};
 ghost use Rattle.scrib_cli.specs.Scripts.{AppendsPart, reply_line};
 
-use crate::carrying::write_reply;
 pub use crate::fault::ScriptFault;
+use crate::printing::write_reply;
 use crate::reading::read_text;
 use crate::writing::flush_out;
 pub use scrib_core::monitor::Core;

@@ -13,6 +13,7 @@ pub mod id;
 mod keeping;
 pub mod machine;
 mod modules;
+mod printing;
 pub mod project;
 mod projection;
 pub mod reading;

@@ -5,8 +5,8 @@ ghost use Rattle.std.specs.Prelude.{◌≤◌};
 use crate::carrying::{carry_out, carry_text, is_text_end, put_text};
 use crate::fault::ScriptFault;
 use crate::keeping::{KeptText, before_end, begun_text, keep, next_lf};
+use crate::printing::tell_end;
 use crate::telling::Telling;
-use crate::writing::tell;
 use scrib_core::monitor::Core;
 use scrib_script::reader::Reader;
 use std::alloc::Global;
@@ -94,7 +94,7 @@ impl Run {
     {
         let telling = self.telling;
         if self.last_line(writer)? {
-            tell(telling, writer, b"refused EndOfText\n")?;
+            tell_end(telling, writer)?;
         }
         Ok(())
     }

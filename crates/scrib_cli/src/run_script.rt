@@ -11,15 +11,18 @@ use crate::run::Run;
 use crate::telling::Telling;
 use crate::writing::flush_out;
 use scrib_core::monitor::Core;
+pub use scrib_script::format::Format;
 use std::alloc::Global;
 use std::io::{ErrorKind, Read, Write};
 
 // How many bytes of a script are read at once.
 const SCRIPT_PIECE_BYTES: usize = 65_536;
 
-/// Reads a script, makes its steps over a new monitor, and writes each reply as the step's line asks, as a line of text
-/// or, behind `json`, as a line that is one JSON object, however the reads and writes are cut. The writer is flushed
-/// before each read, so that nothing that was answered waits for further input, and at the end.
+/// Reads a script, makes its steps over a new monitor, and writes each reply in this format, as a line of text or as a
+/// line that is one JSON object, however the reads and writes are cut. A step whose line begins with `json` has its
+/// reply in JSON either way. A line that says nothing and an end inside a module text are told in this format too, as
+/// `refused BadLine 3` and `refused EndOfText`, or as `{"line":3,"refused":"BadLine"}` and `{"refused":"EndOfText"}`.
+/// The writer is flushed before each read, so that nothing that was answered waits for further input, and at the end.
 ///
 /// # Errors
 /// What was written by then is a beginning of the script's output.
@@ -30,15 +33,16 @@ const SCRIPT_PIECE_BYTES: usize = 65_536;
 ///   is refused in its reply, and the script goes on.
 pub fn run_script<R: Read, W: Write>(
     alloc: Global,
+    format: Format,
     reader: &mut R,
     writer: &mut W,
 ) -> Result<(), ScriptFault>
-    ensures ok { OnOk result (IfSome (R.remaining reader.old) (λ input. (output : List ℕ) × IsOutput input output
+    ensures ok { OnOk result (IfSome (R.remaining reader.old) (λ input. (output : List ℕ) × IsOutput format input output
         × Appends (W.contents writer.old) (W.contents writer.new) output)) }
-    ensures err { OnErr result (IfSome (R.remaining reader.old) (λ input. (output : List ℕ) × IsOutput input output
+    ensures err { OnErr result (IfSome (R.remaining reader.old) (λ input. (output : List ℕ) × IsOutput format input output
         × AppendsPart (W.contents writer.old) (W.contents writer.new) output)) }
 {
-    let _core = run_whole(alloc, Telling::Printed, reader, writer)?;
+    let _core = run_whole(alloc, Telling::Printed(format), reader, writer)?;
     flush_out(writer)
 }
 

@@ -4,10 +4,8 @@ ghost use Rattle.std.specs.Prelude.{◌≡◌, IfErr, OnOk, OnErr};
 ghost use Rattle.std.specs.Io.KnownBytes.{Appends, Keeps};
 ghost use Rattle.scrib_cli.specs.declared.fault.ScriptFault.TheVariants as fault;
 ghost use Rattle.scrib_cli.specs.Scripts.{AppendsPart};
-ghost use Rattle.scrib_cli.specs.Progress.{said};
 
 use crate::fault::ScriptFault;
-use crate::telling::Telling;
 use std::io::{ErrorKind, Write};
 
 /// Writes the bytes in order. Where a write fails, a beginning of them was written.
@@ -32,17 +30,6 @@ pub fn write_out<W: Write>(writer: &mut W, bytes: &[u8]) -> Result<(), ScriptFau
         }
     }
     Err(ScriptFault::Write)
-}
-
-/// Writes the bytes, or nothing in silence.
-pub fn tell<W: Write>(telling: Telling, writer: &mut W, bytes: &[u8]) -> Result<(), ScriptFault>
-    ensures ok { OnOk result (Appends (W.contents writer.old) (W.contents writer.new) (said telling bytes.now)) }
-    ensures err { OnErr result (AppendsPart (W.contents writer.old) (W.contents writer.new) (said telling bytes.now)) }
-{
-    match telling {
-        Telling::Printed => write_out(writer, bytes),
-        Telling::Silent => Ok(()),
-    }
 }
 
 /// Flushes what was written.

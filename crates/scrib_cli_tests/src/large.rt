@@ -1,7 +1,7 @@
 //! Scripts that are too large to be written down, and the lines that they give.
 
 use crate::demonstration::DEMO;
-use scrib_cli::run_script::run_script;
+use scrib_cli::run_script::{Format, run_script};
 use std::alloc::Global;
 use std::process::Abort;
 use std::test::Fail;
@@ -10,7 +10,7 @@ use std::test::Fail;
 fn output_of(rt: &impl Abort, alloc: Global, script: &[u8]) -> Result<Vec<u8>, Fail> {
     let mut reader = script;
     let mut written = Vec::new(alloc);
-    assert!(rt; run_script(alloc, &mut reader, &mut written).is_ok());
+    assert!(rt; run_script(alloc, Format::Line, &mut reader, &mut written).is_ok());
     Ok(written)
 }
 

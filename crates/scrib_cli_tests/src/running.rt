@@ -1,8 +1,9 @@
+mod as_json;
 mod at_once;
 mod explaining;
 mod failing;
 
-use scrib_cli::run_script::{ScriptFault, run_script};
+use scrib_cli::run_script::{Format, ScriptFault, run_script};
 use std::alloc::{AllocError, Global};
 use std::io;
 use std::io::{ErrorKind, Read, Write};
@@ -80,7 +81,7 @@ fn outcome(
         calls: 0,
         fails_at: write,
     };
-    let result = run_script(alloc, &mut reader, &mut page);
+    let result = run_script(alloc, Format::Line, &mut reader, &mut page);
     let Page {
         output,
         size: _,

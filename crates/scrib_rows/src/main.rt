@@ -7,7 +7,7 @@ use scrib_cli::explain_script::explain_script;
 use scrib_cli::id::id_of;
 use scrib_cli::machine::machine_text;
 use scrib_cli::project::project_text;
-use scrib_cli::run_script::{ScriptFault, run_script};
+use scrib_cli::run_script::{Format, ScriptFault, run_script};
 use scrib_types::plain::Items;
 use std::alloc::{AllocError, AllocFailed, Global};
 use std::io;
@@ -70,7 +70,7 @@ fn obey<W: Write>(
     let mut words = command.split_whitespace();
     let mut reader = body.as_bytes();
     match (words.next(), words.next(), words.next()) {
-        (Some("watch"), None, None) => run_script(alloc, &mut reader, writer)?,
+        (Some("watch"), None, None) => run_script(alloc, Format::Line, &mut reader, writer)?,
         (Some("explain"), Some(id), None) => {
             let id = id_of(id).ok_or(RowsFault::NoCommand)?;
             explain_script(alloc, &mut reader, id, writer)?;

@@ -9,7 +9,7 @@ use scrib_cli::id::id_of;
 use scrib_cli::machine::machine_text;
 use scrib_cli::project::project_text;
 use scrib_cli::reading::{Items, read_text};
-use scrib_cli::run_script::{ScriptFault, run_script};
+use scrib_cli::run_script::{Format, ScriptFault, run_script};
 use std::alloc::{AllocError, Global};
 use std::io::{BufWriter, Read, Write};
 use std::process::ExitCode;
@@ -64,8 +64,13 @@ fn machine_command<'a>(alloc: Global) -> Result<Command<'a>, AllocError> {
 }
 
 fn watch_command<'a>(alloc: Global) -> Result<Command<'a>, AllocError> {
+    let json = Arg::new(alloc, "json")
+        .long("json")
+        .help("Print each line of the output as one JSON object")
+        .action(ArgAction::SetTrue);
     Command::new(alloc, "watch")
         .about("Runs a script of edits and events, and prints a line for each reply")
+        .arg(json)?
         .arg(file_arg(alloc))
 }
 
@@ -211,25 +216,36 @@ fn machine(
     machine_text(alloc, asked.protocol, asked.role, texts, &mut writer)
 }
 
+// The format of what a script doesn't ask for by itself.
+fn format_of(matches: &ArgMatches) -> Format {
+    if matches.get_flag("json") {
+        Format::Json
+    } else {
+        Format::Line
+    }
+}
+
 fn watch_reader<R: Read>(
     rt: &(impl Print + AllocGlobal),
+    format: Format,
     reader: &mut R,
 ) -> Result<(), ScriptFault> {
     let alloc = rt.alloc();
     let Ok(mut writer) = BufWriter::new(alloc, io::writer(rt)) else {
         return Err(ScriptFault::OutOfMemory);
     };
-    run_script(alloc, reader, &mut writer)
+    run_script(alloc, format, reader, &mut writer)
 }
 
 fn watch(
     rt: &(impl Print + Input + Files + AllocGlobal),
     matches: &ArgMatches,
 ) -> Result<(), ScriptFault> {
+    let format = format_of(matches);
     match matches.get_str("FILE") {
-        None => watch_reader(rt, &mut rt.reader()),
+        None => watch_reader(rt, format, &mut rt.reader()),
         Some(path) => match fs::open(rt, path) {
-            Ok(mut file) => watch_reader(rt, &mut file),
+            Ok(mut file) => watch_reader(rt, format, &mut file),
             Err(_) => Err(ScriptFault::Read),
         },
     }

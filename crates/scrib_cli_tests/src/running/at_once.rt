@@ -1,7 +1,7 @@
 //! Replies that are flushed before the next line is waited for.
 
 use super::DEMO;
-use scrib_cli::run_script::run_script;
+use scrib_cli::run_script::{Format, run_script};
 use std::cell::Cell;
 use std::io;
 use std::io::{Read, Write};
@@ -62,7 +62,7 @@ fn flushes_each_reply_before_the_next_read(rt: HostRuntime) -> Result<(), Fail> 
         written: 0,
         flushed: &flushed,
     };
-    run_script(rt.alloc(), &mut reader, &mut writer)?;
+    run_script(rt.alloc(), Format::Line, &mut reader, &mut writer)?;
     let want = [0usize, 0, 0, 22, 41, 55, 69, 83, 97, 111, 125];
     assert_eq!(rt; reader.before.as_slice(), want.as_slice());
     Ok(())

@@ -6,7 +6,7 @@ use Rattle.scrib_cli.proofs.carrying.make_step.Goals as goal
 pub returns-in-Printed-clause-err : goal.returns-in-Printed-clause-err
 returns-in-Printed-clause-err g c =
     on_err_weaker c.write_reply.result
-    (part_printed c.args.telling c.args.format (state_of c.args.core.now) (state_of c.apply-reply.new.self) c.args.step c.apply-reply.result (g.W.Write.contents c.args.writer.now) (g.W.Write.contents c.write_reply.new.writer) c.apply-reply.ensures.answered c.in-Printed.is)
+    (part_printed c.args.telling c.args.format (state_of c.args.core.now) (state_of c.apply-reply.new.self) c.args.step c.apply-reply.result (g.W.Write.contents c.args.writer.now) (g.W.Write.contents c.write_reply.new.writer) c.apply-reply.ensures.answered c.in-Printed.output c.reply_format.result c.in-Printed.is c.reply_format.ensures)
     c.write_reply.ensures.err
 
 pub returns-clause-ok : goal.returns-clause-ok

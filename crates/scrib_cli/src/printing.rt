@@ -1,0 +1,114 @@
+//! What is written of replies, of lines that say nothing, and of an end inside a module text, as lines of text or as
+//! JSON.
+
+ghost use Rattle.std.specs.Prelude.{◌≡◌, OnOk, OnErr, IfOk, string_bytes};
+ghost use Rattle.std.specs.Io.KnownBytes.{Appends};
+ghost use Rattle.scrib_cli.specs.Scripts.{AppendsPart, bad_line, end_of_text, reply_format, reply_text};
+ghost use Rattle.scrib_cli.specs.Progress.{told_bad_line, told_end};
+
+use crate::fault::ScriptFault;
+use crate::telling::Telling;
+use crate::writing::write_out;
+use scrib_core::reply::Reply;
+use scrib_report::json::json;
+use scrib_report::line::line;
+use scrib_script::format::Format;
+use std::alloc::{AllocError, Global};
+use std::io::Write;
+
+/// The format of a reply, from those of its output and of its line: JSON where either is.
+pub fn reply_format(output: Format, asked: Format) -> Format
+    ensures { result ≡ reply_format output asked }
+{
+    match output {
+        Format::Line => asked,
+        Format::Json => Format::Json,
+    }
+}
+
+/// The reply in this format, with the LF behind it.
+pub fn reply_text(alloc: Global, reply: &Reply, format: Format) -> Result<Vec<u8>, AllocError>
+    ensures { IfOk result (λ text. text.items ≡ reply_text format reply.now) }
+{
+    let mut text = match format {
+        Format::Line => line(alloc, reply)?,
+        Format::Json => json(alloc, reply)?,
+    };
+    text.push(b'\n')?;
+    Ok(text)
+}
+
+/// Writes the reply in this format.
+pub fn write_reply<W: Write>(
+    alloc: Global,
+    reply: &Reply,
+    format: Format,
+    writer: &mut W,
+) -> Result<(), ScriptFault>
+    ensures ok { OnOk result (Appends (W.contents writer.old) (W.contents writer.new) (reply_text format reply.now)) }
+    ensures err { OnErr result (AppendsPart (W.contents writer.old) (W.contents writer.new) (reply_text format reply.now)) }
+{
+    let text = reply_text(alloc, reply, format)?;
+    write_out(writer, text.as_slice())
+}
+
+/// What is written in this format for the line of this number, which says nothing.
+fn bad_line(alloc: Global, number: u32, format: Format) -> Result<String, AllocError>
+    ensures { IfOk result (λ text. string_bytes text ≡ bad_line format number) }
+{
+    match format {
+        Format::Line => format!(in alloc; "refused BadLine {number}\n"),
+        Format::Json => format!(in alloc; "{{\"line\":{number},\"refused\":\"BadLine\"}}\n"),
+    }
+}
+
+/// Writes in this format that the line of this number says nothing.
+fn refuse_line<W: Write>(
+    alloc: Global,
+    number: u32,
+    format: Format,
+    writer: &mut W,
+) -> Result<(), ScriptFault>
+    ensures ok { OnOk result (Appends (W.contents writer.old) (W.contents writer.new) (bad_line format number)) }
+    ensures err { OnErr result (AppendsPart (W.contents writer.old) (W.contents writer.new) (bad_line format number)) }
+{
+    let text = bad_line(alloc, number, format)?;
+    write_out(writer, text.as_bytes())
+}
+
+/// Writes that the line of this number says nothing, or nothing in silence.
+pub fn tell_bad_line<W: Write>(
+    alloc: Global,
+    number: u32,
+    telling: Telling,
+    writer: &mut W,
+) -> Result<(), ScriptFault>
+    ensures ok { OnOk result (Appends (W.contents writer.old) (W.contents writer.new) (told_bad_line telling number)) }
+    ensures err { OnErr result (AppendsPart (W.contents writer.old) (W.contents writer.new) (told_bad_line telling number)) }
+{
+    match telling {
+        Telling::Printed(format) => refuse_line(alloc, number, format, writer),
+        Telling::Silent => Ok(()),
+    }
+}
+
+/// What is written in this format for an end inside a module text.
+fn end_of_text(format: Format) -> &'static [u8]
+    ensures { result.now ≡ end_of_text format }
+{
+    match format {
+        Format::Line => b"refused EndOfText\n",
+        Format::Json => b"{\"refused\":\"EndOfText\"}\n",
+    }
+}
+
+/// Writes that the script ends inside a module text, or nothing in silence.
+pub fn tell_end<W: Write>(telling: Telling, writer: &mut W) -> Result<(), ScriptFault>
+    ensures ok { OnOk result (Appends (W.contents writer.old) (W.contents writer.new) (told_end telling)) }
+    ensures err { OnErr result (AppendsPart (W.contents writer.old) (W.contents writer.new) (told_end telling)) }
+{
+    match telling {
+        Telling::Printed(format) => write_out(writer, end_of_text(format)),
+        Telling::Silent => Ok(()),
+    }
+}
