@@ -2,7 +2,7 @@
 
 use super::{DEMO, Page, Pieces, outcome};
 use scrib_cli::check::{Core, check_module};
-use scrib_cli::run_script::{ScriptFault, run_script};
+use scrib_cli::run_script::{Format, ScriptFault, run_script};
 use std::alloc::Global;
 use std::test::Fail;
 
@@ -31,7 +31,7 @@ fn page(alloc: Global, size: usize, fails_at: u32) -> Page {
 fn calls_of_script(alloc: Global, size: usize) -> Result<(u32, u32), ScriptFault> {
     let mut reader = pieces(DEMO, size, 0);
     let mut writer = page(alloc, size, 0);
-    run_script(alloc, &mut reader, &mut writer)?;
+    run_script(alloc, Format::Line, &mut reader, &mut writer)?;
     Ok((reader.calls, writer.calls))
 }
 
