@@ -7,16 +7,18 @@ ghost use Rattle.scrib_parser.specs.Reading.{left, Gives, begins, same_kind, beg
 use crate::fault::{LeftOutWord, ParseFault};
 use crate::messages::RecentMessages;
 use crate::names::RecentNames;
+use crate::sorts::RecentSorts;
 use scrib_lexer::token::{Keyword, Token, TokenKind};
 use scrib_types::name::Name;
 use scrib_types::spot::Spot;
 use std::alloc::Global;
 
-/// The tokens that are left to read, and names and messages that were read, to be shared.
+/// The tokens that are left to read, and names, dotted names and messages that were read, to be shared.
 #[derive(Drop)]
 pub(crate) struct Cursor<'t, 'a> {
     pub(crate) rest: &'t [Token<'a>],
     pub(crate) names: RecentNames,
+    pub(crate) sorts: RecentSorts,
     pub(crate) messages: RecentMessages,
 }
 

@@ -7,4 +7,5 @@ mod messages;
 mod names;
 pub mod parse;
 mod places;
+mod sorts;
 pub mod tree;

@@ -4,7 +4,7 @@ ghost use Rattle.std.specs.Prelude.{◌≡◌, IfOk};
 
 use crate::places;
 use scrib_types::message::Message;
-use scrib_types::name::{Dotted, Name};
+use scrib_types::name::Name;
 use scrib_types::shared_message::SharedMessage;
 use std::alloc::{AllocError, Global};
 
@@ -57,15 +57,7 @@ fn hash_of(message: &Message) -> usize {
         None => 0,
     };
     for sort in message.payload.as_slice() {
-        hash = hash_sort(hash, sort);
-    }
-    hash
-}
-
-fn hash_sort(before: usize, sort: &Dotted) -> usize {
-    let mut hash = before;
-    for name in sort.as_slice() {
-        hash = places::hash_on(hash, name.as_bytes());
+        hash = places::hash_dotted(hash, sort);
     }
     hash
 }

@@ -1,16 +1,23 @@
 //! Names that a text had before, to be shared by those that are the same.
 
-ghost use Rattle.std.specs.Prelude.{◌≡◌, IfOk, Some, None, if◌then◌else◌};
+ghost use Rattle.std.specs.Prelude.{◌≡◌, IsTrue, IfOk, Some, None, if◌then◌else◌};
 ghost use Rattle.scrib_types.specs.Names as names;
 
 use crate::places;
-use scrib_types::name::{Name, is_name};
+use scrib_types::name::Name;
 use std::alloc::{AllocError, Global};
+
+/// A name that a text had before.
+#[derive(Drop)]
+struct KnownName {
+    name: Name,
+    ghost named: { IsTrue (names.is_name name) },
+}
 
 /// Names that a text had before, so that one that comes again takes no memory.
 #[derive(Drop)]
 pub(crate) struct RecentNames {
-    places: Vec<Option<Name>>,
+    places: Vec<Option<KnownName>>,
 }
 
 impl RecentNames {
@@ -31,26 +38,18 @@ impl RecentNames {
         ensures { IfOk result (λ name. name ≡ (if names.is_name bytes.now then Some bytes.now else None)) }
     {
         let at = places::place(places::hash_on(0, bytes), self.places.len());
-        if at >= self.places.len() || !is_name(bytes) {
+        if at >= self.places.len() {
             return Name::from_bytes(alloc, bytes);
         }
         if let Some(kept) = &self.places[at] {
-            if kept.as_bytes() == bytes {
-                return Ok(Some(kept.copy()?));
+            if kept.name.as_bytes() == bytes {
+                return Ok(Some(kept.name.copy()?));
             }
         }
-        let name = Name::from_bytes(alloc, bytes)?;
-        self.places[at] = copy_of(&name)?;
-        Ok(name)
-    }
-}
-
-/// The name once more, where there is one.
-fn copy_of(name: &Option<Name>) -> Result<Option<Name>, AllocError>
-    ensures { IfOk result (λ copy. copy ≡ name.now) }
-{
-    match name {
-        Some(name) => Ok(Some(name.copy()?)),
-        None => Ok(None),
+        let Some(name) = Name::from_bytes(alloc, bytes)? else {
+            return Ok(None);
+        };
+        self.places[at] = Some(KnownName { name: name.copy()? });
+        Ok(Some(name))
     }
 }

@@ -10,6 +10,7 @@ use crate::cursor::{Cursor, left_out_declaration};
 use crate::fault::ParseFault;
 use crate::messages::RecentMessages;
 use crate::names::RecentNames;
+use crate::sorts::RecentSorts;
 use crate::tree::{Block, Import, ModuleTree, ProtocolDeclaration, RoleDeclaration, Statement};
 use scrib_lexer::token::{Keyword, Token, TokenKind};
 use scrib_types::message::{Message, Payload};
@@ -52,6 +53,7 @@ fn whole(alloc: Global, tokens: &[Token]) -> Result<ModuleTree, ParseFault>
     let mut tokens = Cursor {
         rest: tokens,
         names: RecentNames::new(alloc, tokens.len())?,
+        sorts: RecentSorts::new(alloc, tokens.len())?,
         messages: RecentMessages::new(alloc, tokens.len())?,
     };
     let tree = module_tree(alloc, MAX_LEVELS, &mut tokens)?;
@@ -470,7 +472,8 @@ fn dotted_from(alloc: Global, first: Name, tokens: &mut Cursor) -> Result<Dotted
         tokens.take(TokenKind::Dot)?;
         names.push(tokens.name(alloc)?)?;
     }
-    Ok(Dotted::from_vec(alloc, names)?)
+    let dotted = Dotted::from_vec(alloc, names)?;
+    Ok(tokens.sorts.share(dotted)?)
 }
 
 /// The list, which a tree keeps long: without spare room, where memory for the smaller list is given.

@@ -1,6 +1,7 @@
 //! Tables of what a text had before. Each thing has the place that its bytes give, until another comes there:
 //! which ones are kept is left open.
 
+use scrib_types::name::Dotted;
 use std::alloc::{AllocError, Global};
 
 /// For how many tokens of a text there is a place.
@@ -29,6 +30,15 @@ pub(crate) fn hash_on(before: usize, bytes: &[u8]) -> usize {
     let mut hash = before;
     for byte in bytes {
         hash = hash.wrapping_mul(31).wrapping_add(*byte as usize);
+    }
+    hash
+}
+
+/// The hash of the dotted name behind what has this hash.
+pub(crate) fn hash_dotted(before: usize, dotted: &Dotted) -> usize {
+    let mut hash = before;
+    for name in dotted.as_slice() {
+        hash = hash_on(hash, name.as_bytes());
     }
     hash
 }
