@@ -55,7 +55,7 @@ fn push_names(out: &mut Vec<u8>, names: &[Name]) -> Result<(), AllocError>
     ensures { OnOk result (out.new.items ≡ out.old.items ++ flat.names_bytes names.now) }
 {
     for name in names {
-        push_bytes(out, &[1])?;
+        out.push(1)?;
         push_name(out, name)?;
     }
     push_bytes(out, &[0])
@@ -66,7 +66,7 @@ fn push_payload(out: &mut Vec<u8>, sorts: &[Dotted]) -> Result<(), AllocError>
     ensures { OnOk result (out.new.items ≡ out.old.items ++ flat.payload_bytes sorts.now) }
 {
     for sort in sorts {
-        push_bytes(out, &[1])?;
+        out.push(1)?;
         push_names(out, sort.as_slice())?;
     }
     push_bytes(out, &[0])
@@ -78,7 +78,7 @@ fn push_operator(out: &mut Vec<u8>, op: &Option<Name>) -> Result<(), AllocError>
 {
     match op {
         Some(name) => {
-            push_bytes(out, &[1])?;
+            out.push(1)?;
             push_name(out, name)
         }
         None => push_bytes(out, &[0]),
@@ -101,21 +101,21 @@ fn push_global(out: &mut Vec<u8>, global: &GlobalType) -> Result<(), AllocError>
 {
     match global {
         GlobalType::End => {
-            push_bytes(out, &[0])?;
+            out.push(0)?;
             Ok(())
         }
         GlobalType::Var(i) => {
-            push_bytes(out, &[1])?;
+            out.push(1)?;
             push_number(out, u64::from(*i))?;
             Ok(())
         }
         GlobalType::Rec(body) => {
-            push_bytes(out, &[2])?;
+            out.push(2)?;
             push_global(out, body.get())?;
             Ok(())
         }
         GlobalType::Comm { from, to, branches } => {
-            push_bytes(out, &[3])?;
+            out.push(3)?;
             push_name(out, from)?;
             push_name(out, to)?;
             push_branches(out, branches.as_slice())?;
@@ -133,10 +133,10 @@ fn push_branches(
     ensures { OnOk result (out.new.items ≡ out.old.items ++ flat.branches_bytes (global_branches branches.now)) }
 {
     for (message, global) in branches {
-        push_bytes(out, &[1])?;
+        out.push(1)?;
         push_message(out, message.get())?;
         push_global(out, global)?;
     }
-    push_bytes(out, &[0])?;
+    out.push(0)?;
     Ok(())
 }
