@@ -11,6 +11,9 @@ use scrib_types::event::Action;
 use scrib_types::text::push_action;
 use std::alloc::{AllocError, Global};
 
+/// Room for the printed text that most actions have.
+const USUAL_TEXT: usize = 32;
+
 /// An edge, with the printed text of its action.
 #[derive(Drop)]
 struct Printed {
@@ -63,7 +66,7 @@ fn edges_of(alloc: Global, list: Vec<Printed>) -> Result<Vec<Edge>, AllocError>
 fn text_of(alloc: Global, action: &Action) -> Result<Vec<u8>, AllocError>
     ensures { IfOk result (λ text. text.items ≡ action_text action.now) }
 {
-    let mut text = Vec::new(alloc);
+    let mut text = Vec::with_capacity(alloc, USUAL_TEXT)?;
     push_action(&mut text, action)?;
     Ok(text)
 }
