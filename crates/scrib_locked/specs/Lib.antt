@@ -1,3 +1,4 @@
+pub mod Indexing
 pub mod Shards
 pub mod Receipts
 pub mod Passes

@@ -5,6 +5,7 @@ use Rattle.std.specs.Map.{keys_of, values_of}
 use Rattle.scrib_types.specs.declared.event.Event.{Event}
 use Rattle.scrib_record.specs.Stale.{Recorded, IsLawful}
 use Rattle.scrib_core.specs.Held.{Records, record_at}
+use Rattle.scrib_locked.specs.Indexing.{Listing, IsIndex}
 
 -- how many conversations the shard may have, and the records of those that it has, under their ids, in the order in
 -- which they were opened
@@ -38,9 +39,10 @@ pub record IsKept (s : ShardHeld) : Type 0 where
   pub limited : length s.records ≤ s.most
   pub few : s.most ≤ 65536
 
--- what is stored with the records: their limit, and their book
-pub record IsStored (most : ℕ) (rs : Records) (book : ℕ) : Type 0 where
+-- what is stored with the records: their limit, their index, and their book
+pub record IsStored (most : ℕ) (rs : Records) (index : Listing) (book : ℕ) : Type 0 where
   pub counted : book ≡ book_of rs
+  pub indexed : IsIndex index rs
   pub lawful : AreWithin rs
   pub limited : length rs ≤ most
   pub few : most ≤ 65536

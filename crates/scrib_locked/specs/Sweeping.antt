@@ -1,5 +1,6 @@
 -- Conversations whose verdict is out of date, and sweeps, after which none is (this project's own).
-use Rattle.std.specs.Prelude.{◌≡◌, ◌⊎◌, ℕ, true, false, List, Option, Some, All, Contains}
+use Rattle.std.specs.Prelude.{◌≡◌, ◌⊎◌, ℕ, Bool, true, false, List, Option, Some, None, All, Contains}
+use Rattle.std.specs.List.{filter}
 use Rattle.std.specs.List.Sorted.{IsStrictlyIncreasing}
 use Rattle.std.specs.Map.{keys_of}
 use Rattle.scrib_record.specs.declared.version.Version.{Version}
@@ -14,6 +15,15 @@ IsStaleNow h r = (present : Option Version) × IsPresent h r.name present × (is
 
 abbrev pub IsFreshNow : Holdings → Recorded → Type 0
 IsFreshNow h r = (present : Option Version) × IsPresent h r.name present × (is_stale present r ≡ false)
+
+-- there is a record, and it is stale under this version, or none
+abbrev pub is_touched_of : Option Version → Option Recorded → Bool
+is_touched_of present None = false
+is_touched_of present (Some r) = is_stale present r
+
+-- those of the ids whose record is stale under this version, or none
+abbrev pub touched_of : Option Version → Records → List ℕ → List ℕ
+touched_of present rs ids = filter (λ id. is_touched_of present (record_at rs id)) ids
 
 -- exactly the ids of the records that are stale, rising
 pub record AreTouched (h : Holdings) (rs : Records) (ids : List ℕ) : Type 0 where

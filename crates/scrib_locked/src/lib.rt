@@ -1,6 +1,7 @@
 //! What the calls of a service do while they hold its locks: on a library, the value of one shard, and passes.
 #![tactic(auto)]
 
+pub mod index;
 pub mod locked;
 pub mod pass;
 pub mod passing;

@@ -7,6 +7,7 @@ ghost use Rattle.scrib_locked.specs.Locked.{ConnectFails, IsConnected, entries_o
 ghost use Rattle.scrib_locked.specs.Receipts.{IsLeastStray};
 ghost use Rattle.scrib_locked.specs.Shards.{log_at};
 
+use crate::index::list;
 use crate::pass::{Pass, Receipt};
 use crate::shard::Shard;
 use crate::standing::least_stray;
@@ -24,14 +25,23 @@ pub fn open_locked(library: &Library, shard: &mut Shard, id: u32, name: &Dotted)
     ensures limit { shard.new.most ≡ shard.old.most }
 {
     library.means_protocols();
-    open(
+    let reply = open(
         shard.alloc,
         library,
         &mut shard.records,
         shard.most,
         id,
         name,
-    )
+    );
+    let Reply::Opened { .. } = &reply else {
+        return reply;
+    };
+    if list(&mut shard.index, shard.alloc, name, id).is_err() {
+        // what isn't listed isn't open
+        shard.records.pop();
+        return Reply::Refused(Refusal::OutOfMemory);
+    }
+    reply
 }
 
 /// Notes the event. Answers `Noted`, or refuses with `NoConversation`, `LogFull` or `OutOfMemory`, the first that is

@@ -4,7 +4,7 @@ ghost use Rattle.std.specs.Prelude.{◌≡◌, ◌-◌, [], true, drop, length};
 ghost use Rattle.scrib_locked.specs.Passes.{newest_of, rises};
 
 use scrib_types::event::Event;
-use std::alloc::{AllocError, Global};
+use std::alloc::Global;
 use std::marker::Model;
 
 /// That an event was noted: the event, and its place in the log of its conversation, from 1.
@@ -65,15 +65,5 @@ impl Pass {
     {
         let older = self.receipts.len().saturating_sub(1);
         &self.receipts[older..]
-    }
-
-    /// Makes room for one receipt more, so that a note needn't. The pass stays as it is.
-    ///
-    /// # Errors
-    /// `AllocError` where memory was refused.
-    pub fn reserve(&mut self) -> Result<(), AllocError>
-        ensures { self.new ≡ self.old }
-    {
-        self.receipts.reserve(1)
     }
 }

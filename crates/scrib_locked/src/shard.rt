@@ -6,18 +6,21 @@ ghost use Rattle.scrib_record.specs.Stale.{Recorded};
 ghost use Rattle.scrib_core.specs.Held.{record_at};
 ghost use Rattle.scrib_locked.specs.Shards.{IsKept, book_of};
 
+use crate::index::ProtocolName;
 use indexmap::IndexMap;
 use scrib_record::record::Record;
 use std::alloc::Global;
 use std::marker::Model;
 
 /// The records of some conversations, in the order in which they were opened, of which there is a limit of the shard's
-/// own, and its book, which is how many events their logs have. Contracts see the limit and the records.
+/// own, an index that lists them by protocol, and a book, which is how many events their logs have. Contracts see the
+/// limit and the records.
 #[derive(Drop)]
 pub struct Shard {
     pub(crate) alloc: Global,
     pub(crate) most: usize,
     pub(crate) records: IndexMap<u32, Record>,
+    pub(crate) index: IndexMap<ProtocolName, Vec<u32>>,
     pub(crate) book: u64,
 }
 
@@ -32,7 +35,7 @@ impl Model for Shard {
 
     ghost view = { λ s. record { most = s.most; records = s.records.entries } };
 
-    ghost invariant = { λ s. IsStored s.most s.records.entries s.book };
+    ghost invariant = { λ s. IsStored s.most s.records.entries s.index.entries s.book };
 }
 
 impl Shard {
@@ -45,6 +48,7 @@ impl Shard {
             alloc,
             most,
             records: IndexMap::new(alloc),
+            index: IndexMap::new(alloc),
             book: 0,
         }
     }

@@ -1,8 +1,9 @@
 //! Conversations whose verdict is out of date, and sweeps, after which none is.
 
-ghost use Rattle.std.specs.Prelude.{◌≡◌, ◌≤◌, IsTrue, IsFalse, IsSome, IfOk, OnOk};
+ghost use Rattle.std.specs.Prelude.{◌≡◌, ◌≤◌, ◌++◌, IsSome, IfOk, OnOk};
+ghost use Rattle.std.specs.Option.{option_copied};
 ghost use Rattle.scrib_core.specs.Held.{record_at};
-ghost use Rattle.scrib_locked.specs.Sweeping.{IsStaleNow, IsFreshNow, IsFreshAt, AreTouched, AreSame, AreSameBut, AreSwept};
+ghost use Rattle.scrib_locked.specs.Sweeping.{is_touched_of, touched_of, IsFreshAt, AreTouched, AreSame, AreSameBut, AreSwept};
 
 use crate::shard::Shard;
 use crate::stepping::turn_step;
@@ -10,6 +11,7 @@ use scrib_library::library::Library;
 use scrib_record::answer::Answer;
 use scrib_record::comparison::Comparison;
 use scrib_record::record::Record;
+use scrib_record::version::Version;
 use scrib_types::event::Told;
 use std::alloc::AllocError;
 
@@ -31,15 +33,33 @@ pub struct Swept {
 pub fn touched_locked(library: &Library, shard: &Shard) -> Result<Vec<u32>, AllocError>
     ensures { IfOk result (λ ids. AreTouched library.now shard.now.records ids.items) }
 {
+    let _conversations = shard.len();
     let mut ids = Vec::new(shard.alloc);
-    for index in 0..shard.len() {
-        let (id, record) = shard.at(index);
-        if is_touched(library, record) {
-            ids.push(id)?;
+    for place in 0..shard.index.len() {
+        if let Some((key, listed)) = shard.index.get_index(place) {
+            push_touched(library.present(&key.name), shard, listed, &mut ids)?;
         }
     }
     ids.sort_unstable();
     Ok(ids)
+}
+
+// Pushes those of the conversations whose verdict is out of date, where this is the present version of their protocol,
+// or none is there.
+fn push_touched(
+    present: Option<&Version>,
+    shard: &Shard,
+    listed: &[u32],
+    ids: &mut Vec<u32>,
+) -> Result<(), AllocError>
+    ensures { OnOk result (ids.new.items ≡ ids.old.items ++ touched_of (option_copied present.entry) shard.now.records listed.now) }
+{
+    for id in listed {
+        if is_touched(present, shard.record(*id)) {
+            ids.push(*id)?;
+        }
+    }
+    Ok(())
 }
 
 /// Brings the verdict of each conversation of the shard up to date, with at most 256 turns of each.
@@ -89,13 +109,13 @@ fn sweep_conversation(library: &Library, shard: &mut Shard, id: u32) -> Result<u
     unreachable!()
 }
 
-// Whether the record's verdict is out of date.
-fn is_touched(library: &Library, record: &Record) -> bool
-    ensures stale { IsTrue result → IsStaleNow library.now record.now }
-    ensures fresh { IsFalse result → IsFreshNow library.now record.now }
+// Whether there is a record whose verdict is out of date, where this is the present version of its protocol, or none is
+// there.
+fn is_touched(present: Option<&Version>, conversation: Option<&Record>) -> bool
+    ensures { result ≡ is_touched_of (option_copied present.entry) (option_copied conversation.entry) }
 {
-    match record.ask(library.present(record.name()), Comparison::Whole) {
-        Answer::Stale => true,
-        _ => false,
-    }
+    let Some(record) = conversation else {
+        return false;
+    };
+    matches!(record.ask(present, Comparison::Whole), Answer::Stale)
 }

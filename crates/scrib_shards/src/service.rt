@@ -157,8 +157,6 @@ impl Service {
         ensures fault { IfErr result (NoteFailsSome pass.old) }
         ensures err { OnErr result (pass.new ≡ pass.old) }
     {
-        // room is found before the locks are taken; where there is none, the note itself is refused
-        let _ = pass.reserve();
         let at = self.shard_of(pass.conversation());
         let library = self.library.read(rt);
         let mut shard = self.shards[at].lock(rt);

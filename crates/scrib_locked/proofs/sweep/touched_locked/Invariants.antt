@@ -1,5 +1,5 @@
-use Rattle.scrib_locked.proofs.Touching.{AreTouchedBelow}
+use Rattle.scrib_locked.proofs.Touching.{AreTouchedUnder}
 use Rattle.scrib_locked.proofs.sweep.touched_locked.Given as goal
 
-abbrev pub invariant-loop-index : goal.invariant-loop-index
-invariant-loop-index l = AreTouchedBelow l.library l.shard.records l.index l.ids.items
+abbrev pub invariant-loop-place : goal.invariant-loop-place
+invariant-loop-place l = AreTouchedUnder l.library l.shard.records l.shard-inside.index.entries l.place l.ids.items
