@@ -2,6 +2,7 @@
 #![tactic(auto)]
 
 pub mod conversing;
+pub mod law;
 pub mod monitor;
 pub mod reply;
 pub mod step;
