@@ -1,0 +1,9 @@
+use Rattle.std.proofs.Common.{◌≤◌, ◌*◌}
+use Rattle.scrib_rejudge.proofs.turns.sweep_shard.Given as goal
+
+abbrev pub invariant-loop-id : goal.invariant-loop-id
+invariant-loop-id g l = record {
+  each : l.id-index ≤ l.swept.turns;
+  few : l.swept.turns ≤ 256 * l.id-index;
+  judged : l.swept.judged ≤ l.id-index;
+}
