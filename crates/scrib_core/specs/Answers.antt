@@ -96,3 +96,10 @@ IsDue w step (reply.Edited e changes) = Unit {0}
 IsDue w step (reply.Opened i n) = Unit {0}
 IsDue w step (reply.Noted i place told) = Unit {0}
 IsDue w step (reply.Judged i n events told) = Unit {0}
+
+-- Answered, and memory is refused to no step to which another refusal is due.
+abbrev pub AnswersAsDue : State → List Step → List Reply → State → Type 0
+AnswersAsDue s [] [] t = t ≡ s
+AnswersAsDue s [] (r ∷ rs) t = ⊥
+AnswersAsDue s (step ∷ steps) [] t = ⊥
+AnswersAsDue s (step ∷ steps) (r ∷ rs) t = (u : State) × IsAnswered s step r u × IsDue s.world step r × AnswersAsDue u steps rs t

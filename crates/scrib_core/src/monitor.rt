@@ -5,7 +5,7 @@ ghost use Rattle.std.specs.Option.{option_map};
 ghost use Rattle.scrib_types.specs.Meaning.{agreement_of};
 ghost use Rattle.scrib_library.specs.Modules.{IsMeaning};
 ghost use Rattle.scrib_core.specs.declared.step.Step.TheVariants.{Put, Withdraw, Open, Note, Turn, Ask};
-ghost use Rattle.scrib_core.specs.Answers.{initial, IsAnswered, IsDue, Answers};
+ghost use Rattle.scrib_core.specs.Answers.{initial, IsAnswered, IsDue, AnswersAsDue};
 ghost use Rattle.scrib_core.specs.Held.{state_of, IsViewed};
 ghost use Rattle.scrib_core.specs.Runs.{PermitsRuns};
 ghost use Rattle.scrib_core.specs.Telling.{reply_of};
@@ -93,7 +93,7 @@ impl Core {
     /// `AllocError` where there is no memory for all replies: then no step was made.
     #[tactic(auto, using(crate::proofs::Runs::permits_runs))]
     pub fn run(&mut self, steps: &[Step]) -> Result<Vec<Reply>, AllocError>
-        ensures answered { IfOk result (λ replies. Answers (state_of self.old) steps.now replies.items (state_of self.new)) }
+        ensures answered { IfOk result (λ replies. AnswersAsDue (state_of self.old) steps.now replies.items (state_of self.new)) }
         ensures err { OnErr result (state_of self.new ≡ state_of self.old) }
         ensures runs { PermitsRuns (state_of self.new).world }
     {

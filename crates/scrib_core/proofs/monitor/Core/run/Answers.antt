@@ -2,7 +2,7 @@ use Rattle.std.proofs.Common.{◌≡◌, ◌<◌, ◌+◌, ◌++◌, ◌∷◌, 
 use Rattle.std.proofs.lemmas.List.{take_more}
 use Rattle.scrib_core.specs.declared.step.Step.{Step}
 use Rattle.scrib_core.specs.declared.reply.Reply.{Reply}
-use Rattle.scrib_core.specs.Answers.{IsAnswered, Answers}
+use Rattle.scrib_core.specs.Answers.{IsAnswered, IsDue, AnswersAsDue}
 use Rattle.scrib_core.specs.Held.{world_of, state_of}
 use Rattle.scrib_core.proofs.Runs.{permits_runs}
 use Rattle.scrib_core.proofs.Steps.{answers_push}
@@ -16,7 +16,7 @@ loop-step-preserved c =
     let taken : take (c.loop-step.step-index + 1) c.args.steps.now ≡ take c.loop-step.step-index c.args.steps.now ++ c.step-item.result ∷ [] =
     take_more steps i c.step-item.result within ∙ ap (λ (s : Step). take i steps ++ s ∷ []) (sym c.step-item.is) in
     let more = answers_push (take i steps) c.loop-step.replies.items (state_of c.args.self.now) (state_of c.loop-step.self) (state_of c.apply_lent-reply.new.self) c.step-item.result c.apply_lent-reply.result
-    c.loop-step.invariant.answered c.apply_lent-reply.ensures.answered in
+    c.loop-step.invariant.answered c.apply_lent-reply.ensures.answered c.apply_lent-reply.ensures.memory in
     record {
       answered = rw (taken, c.push_reserved.ensures.items) more;
       room = omega (arith, c.push_reserved.ensures.capacity, c.loop-step.invariant.room);
