@@ -8,3 +8,4 @@ pub mod Explained
 pub mod KeptTexts
 pub mod Checked
 pub mod Projected
+pub mod Filed

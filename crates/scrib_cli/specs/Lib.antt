@@ -4,3 +4,4 @@ pub mod Explanations
 pub mod Checks
 pub mod Projections
 pub mod ProjectionSteps
+pub mod Commands

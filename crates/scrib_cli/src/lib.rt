@@ -4,6 +4,7 @@
 mod answer;
 mod carrying;
 pub mod check;
+pub mod commands;
 pub mod explain_script;
 mod explaining;
 pub mod fault;

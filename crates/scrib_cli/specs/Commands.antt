@@ -1,0 +1,59 @@
+-- What the commands do with their files, and what the program ends with (this project's own). `text` is what is known of
+-- files, from their paths.
+use Rattle.std.specs.Prelude.{◌≡◌, ◌⊎◌, ⊤, ℕ, Bool, true, false, ◌&&◌, List, [], ◌∷◌, take, Option, Some, None, Result, Ok, Err, IfSome, codes}
+use Rattle.std.specs.Borrow.{Bor}
+use Rattle.std.specs.Io.KnownBytes.{Appends}
+use Rattle.scrib_core.specs.Answers.{State}
+use Rattle.scrib_cli.specs.Checks.{IsChecked, IsPartChecked}
+use Rattle.scrib_cli.specs.declared.explaining.Explained.{Explained}
+use Rattle.scrib_cli.specs.declared.explaining.Explained.TheVariants.{Flights, Refused}
+use Rattle.scrib_cli.specs.declared.fault.ScriptFault.{ScriptFault}
+use Rattle.scrib_cli.specs.declared.fault.ScriptFault.TheVariants as fault
+
+-- The module texts of these files were put in order, each into the world after those before it, and their lines
+-- written one after the other; and whether all of them were accepted.
+abbrev pub AreChecked : (text : List ℕ → Option (List ℕ)) → (paths : List (Bor (List ℕ))) → State → Bool → State → (was now : Option (List ℕ)) → Type 0
+AreChecked text [] w accepted after was now = (accepted ≡ true) × (after ≡ w) × Appends was now []
+AreChecked text (p ∷ ps) w accepted after was now =
+    (first : Bool) × (others : Bool) × (v : State) × (mid : Option (List ℕ)) × (accepted ≡ (first && others))
+    × IfSome (text p.now) (λ input. IsChecked input w first v was mid) × AreChecked text ps v others after mid now
+
+-- Some of the files, from the first on, were checked so, and of the next nothing was written or a beginning of its
+-- line.
+abbrev pub ArePartChecked : (text : List ℕ → Option (List ℕ)) → (paths : List (Bor (List ℕ))) → State → (was now : Option (List ℕ)) → Type 0
+ArePartChecked text [] w was now = Appends was now []
+ArePartChecked text (p ∷ ps) w was now =
+    Appends was now [] ⊎ IfSome (text p.now) (λ input. (after : State) × IsPartChecked input w after was now)
+    ⊎ ((first : Bool) × (v : State) × (mid : Option (List ℕ)) × IfSome (text p.now) (λ input. IsChecked input w first v was mid)
+    × ArePartChecked text ps v mid now)
+
+-- the module texts of these files, of each its first 1,048,577 bytes, up to the first that can't be opened or read, for
+-- which `None` stands
+abbrev pub AreRead : (text : List ℕ → Option (List ℕ)) → (paths : List (Bor (List ℕ))) → List (Option (List ℕ)) → Type 0
+AreRead text [] [] = ⊤
+AreRead text [] (t ∷ ts) = ⊥
+AreRead text (p ∷ ps) [] = ⊥
+AreRead text (p ∷ ps) (None ∷ ts) = ts ≡ []
+AreRead text (p ∷ ps) (Some t ∷ ts) = IfSome (text p.now) (λ input. t ≡ take 1_048_577 input) × AreRead text ps ts
+
+-- what is known of a script: it is in the file of this path, or the input where no path is named
+abbrev pub source : (text : List ℕ → Option (List ℕ)) → (path : Option (List ℕ)) → (input : Option (List ℕ)) → Option (List ℕ)
+source text None input = input
+source text (Some p) input = text p
+
+-- whether an explanation is what is in flight
+abbrev pub is_flights : Explained → Bool
+is_flights Flights = true
+is_flights Refused = false
+
+-- the exit status of a command: 0 where it did all that it was to do, 1 where it printed a refusal or failed
+abbrev pub status_of : Result Bool ScriptFault → ℕ
+status_of (Ok true) = 0
+status_of (Ok false) = 1
+status_of (Err f) = 1
+
+-- what standard error is told of a fault
+abbrev pub fault_text : ScriptFault → List ℕ
+fault_text fault.Read = codes "scribmon: read fault"
+fault_text fault.Write = codes "scribmon: write fault"
+fault_text fault.OutOfMemory = codes "scribmon: out of memory"

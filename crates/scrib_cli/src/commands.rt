@@ -1,0 +1,10 @@
+//! The commands of the program, over files and standard input.
+
+pub mod check;
+pub mod explain;
+pub mod folder;
+pub mod machine;
+pub mod project;
+mod reading;
+pub mod status;
+pub mod watch;

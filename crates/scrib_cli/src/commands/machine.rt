@@ -1,0 +1,27 @@
+//! Printing the machine of a role in a protocol of the modules of some files.
+
+use crate::commands::folder::Folder;
+use crate::commands::reading::read_files;
+use crate::fault::ScriptFault;
+use crate::machine::machine_text;
+use std::alloc::Global;
+use std::io::Write;
+
+/// Does what `machine_text` does, over the module texts of these files. Returns whether it wrote a machine.
+///
+/// # Errors
+/// Nothing was written by then, or a beginning of what was to be written.
+/// - `Read` where the protocol has a full name and the first file that is no module can't be opened or read.
+/// - `Write` where the writer fails.
+/// - `OutOfMemory` where memory was refused.
+pub fn machine_files<F: Folder, W: Write>(
+    alloc: Global,
+    protocol: &str,
+    role: &str,
+    folder: &F,
+    paths: &[&str],
+    writer: &mut W,
+) -> Result<bool, ScriptFault> {
+    let texts = read_files(alloc, folder, paths)?;
+    machine_text(alloc, protocol, role, texts.as_slice(), writer)
+}
