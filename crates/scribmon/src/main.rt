@@ -3,18 +3,20 @@
 
 use clap::error::ErrorKind;
 use clap::{Arg, ArgAction, ArgMatches, Command, Error};
-use scrib_cli::check::{Core, check_module};
-use scrib_cli::explain_script::{Explained, explain_script};
+use scrib_cli::commands::check::check_files;
+use scrib_cli::commands::explain::explain;
+use scrib_cli::commands::folder::SystemFiles;
+use scrib_cli::commands::machine::machine_files;
+use scrib_cli::commands::project::project_files;
+use scrib_cli::commands::status::{fault_text, status_of};
+use scrib_cli::commands::watch::watch;
 use scrib_cli::id::id_of;
-use scrib_cli::machine::machine_text;
-use scrib_cli::project::project_text;
-use scrib_cli::reading::{Items, read_text};
-use scrib_cli::run_script::{Format, ScriptFault, run_script};
+use scrib_cli::run_script::{Format, ScriptFault};
 use std::alloc::{AllocError, Global};
-use std::io::{BufWriter, Read, Write};
+use std::io::{BufWriter, Write};
 use std::process::ExitCode;
 use std::rt::{Env, Files};
-use std::{env, fs, io};
+use std::{env, io};
 
 fn file_arg<'a>(alloc: Global) -> Arg<'a> {
     Arg::new(alloc, "FILE").help("The script; standard input where none is named")
@@ -107,115 +109,6 @@ fn command<'a>(alloc: Global) -> Result<Command<'a>, AllocError> {
     with_scripts(alloc, line)
 }
 
-// Puts the file's module. Returns whether it was accepted.
-fn check_file<W: Write>(
-    rt: &(impl Files + AllocGlobal),
-    path: &str,
-    core: &mut Core,
-    writer: &mut W,
-) -> Result<bool, ScriptFault> {
-    let Ok(mut file) = fs::open(rt, path) else {
-        return Err(ScriptFault::Read);
-    };
-    check_module(rt.alloc(), core, &mut file, writer)
-}
-
-// Puts the files' modules in order, until one can't be read. Returns whether all of them were accepted.
-fn check(
-    rt: &(impl Print + Files + AllocGlobal),
-    matches: &ArgMatches,
-) -> Result<bool, ScriptFault> {
-    let alloc = rt.alloc();
-    let Ok(mut writer) = BufWriter::new(alloc, io::writer(rt)) else {
-        return Err(ScriptFault::OutOfMemory);
-    };
-    let mut core = Core::new(alloc);
-    let mut accepted = true;
-    for path in matches.get_strs("FILE").unwrap_or(&[]) {
-        if !check_file(rt, path, &mut core, &mut writer)? {
-            accepted = false;
-        }
-    }
-    Ok(accepted)
-}
-
-// The file's module text, or `None` where it can't be opened or read.
-fn text_of(rt: &(impl Files + AllocGlobal), path: &str) -> Result<Option<Items<u8>>, ScriptFault> {
-    let Ok(mut file) = fs::open(rt, path) else {
-        return Ok(None);
-    };
-    match read_text(rt.alloc(), &mut file) {
-        Ok(text) => Ok(Some(text)),
-        Err(ScriptFault::Read) => Ok(None),
-        Err(fault) => Err(fault),
-    }
-}
-
-// The files' module texts in order, up to the first that can't be read.
-fn texts_of(
-    rt: &(impl Files + AllocGlobal),
-    matches: &ArgMatches,
-) -> Result<Vec<Option<Items<u8>>>, ScriptFault> {
-    let mut texts = Vec::new(rt.alloc());
-    for path in matches.get_strs("FILE").unwrap_or(&[]) {
-        let text = text_of(rt, path)?;
-        let is_last = text.is_none();
-        texts.push(text)?;
-        if is_last {
-            return Ok(texts);
-        }
-    }
-    Ok(texts)
-}
-
-// What a command on a role asks: the protocol and the role that it names, and the texts of its files.
-#[derive(Drop)]
-struct Question<'a> {
-    protocol: &'a str,
-    role: &'a str,
-    texts: Vec<Option<Items<u8>>>,
-}
-
-fn asked_of<'a>(
-    rt: &(impl Files + AllocGlobal),
-    matches: &'a ArgMatches,
-) -> Result<Question<'a>, ScriptFault> {
-    let texts = texts_of(rt, matches)?;
-    Ok(Question {
-        protocol: matches.get_str("PROTOCOL").unwrap_or(""),
-        role: matches.get_str("ROLE").unwrap_or(""),
-        texts,
-    })
-}
-
-// Returns whether the role's local type was printed.
-fn project(
-    rt: &(impl Print + Files + AllocGlobal),
-    matches: &ArgMatches,
-) -> Result<bool, ScriptFault> {
-    let alloc = rt.alloc();
-    let asked = asked_of(rt, matches)?;
-    let Ok(mut writer) = BufWriter::new(alloc, io::writer(rt)) else {
-        return Err(ScriptFault::OutOfMemory);
-    };
-    let texts = asked.texts.as_slice();
-    project_text(alloc, asked.protocol, asked.role, texts, &mut writer)
-}
-
-// Returns whether the role's machine was printed.
-fn machine(
-    rt: &(impl Print + Files + AllocGlobal),
-    matches: &ArgMatches,
-) -> Result<bool, ScriptFault> {
-    let alloc = rt.alloc();
-    let asked = asked_of(rt, matches)?;
-    let Ok(mut writer) = BufWriter::new(alloc, io::writer(rt)) else {
-        return Err(ScriptFault::OutOfMemory);
-    };
-    let texts = asked.texts.as_slice();
-    machine_text(alloc, asked.protocol, asked.role, texts, &mut writer)
-}
-
 // The format of what a script doesn't ask for by itself.
 fn format_of(matches: &ArgMatches) -> Format {
     if matches.get_flag("json") {
@@ -223,68 +116,6 @@ fn format_of(matches: &ArgMatches) -> Format {
     } else {
         Format::Line
     }
-}
-
-fn watch_reader<R: Read>(
-    rt: &(impl Print + AllocGlobal),
-    format: Format,
-    reader: &mut R,
-) -> Result<(), ScriptFault> {
-    let alloc = rt.alloc();
-    let Ok(mut writer) = BufWriter::new(alloc, io::writer(rt)) else {
-        return Err(ScriptFault::OutOfMemory);
-    };
-    run_script(alloc, format, reader, &mut writer)
-}
-
-fn watch(
-    rt: &(impl Print + Input + Files + AllocGlobal),
-    matches: &ArgMatches,
-) -> Result<(), ScriptFault> {
-    let format = format_of(matches);
-    match matches.get_str("FILE") {
-        None => watch_reader(rt, format, &mut rt.reader()),
-        Some(path) => match fs::open(rt, path) {
-            Ok(mut file) => watch_reader(rt, format, &mut file),
-            Err(_) => Err(ScriptFault::Read),
-        },
-    }
-}
-
-fn explain_reader<R: Read>(
-    rt: &(impl Print + AllocGlobal),
-    reader: &mut R,
-    id: u32,
-) -> Result<Explained, ScriptFault> {
-    let alloc = rt.alloc();
-    let Ok(mut writer) = BufWriter::new(alloc, io::writer(rt)) else {
-        return Err(ScriptFault::OutOfMemory);
-    };
-    explain_script(alloc, reader, id, &mut writer)
-}
-
-fn explain(
-    rt: &(impl Print + Input + Files + AllocGlobal),
-    matches: &ArgMatches,
-    id: u32,
-) -> Result<Explained, ScriptFault> {
-    match matches.get_str("FILE") {
-        None => explain_reader(rt, &mut rt.reader(), id),
-        Some(path) => match fs::open(rt, path) {
-            Ok(mut file) => explain_reader(rt, &mut file, id),
-            Err(_) => Err(ScriptFault::Read),
-        },
-    }
-}
-
-fn told_fault(rt: &impl Eprint, fault: &ScriptFault) -> ExitCode {
-    let text = match fault {
-        ScriptFault::Read => "scribmon: read fault",
-        ScriptFault::Write => "scribmon: write fault",
-        ScriptFault::OutOfMemory => "scribmon: out of memory",
-    };
-    let _ = rt.eprintln(text);
-    ExitCode::from(1)
 }
 
 fn told_usage(rt: &(impl Print + Eprint), error: &Error) -> ExitCode {
@@ -304,41 +135,52 @@ fn refused_id(rt: &(impl Print + Eprint + AllocGlobal)) -> io::Result<ExitCode> 
     Ok(told_usage(rt, &error))
 }
 
-// A refusal that was printed is a status of 1.
-fn told_answer(rt: &impl Eprint, answer: Result<bool, ScriptFault>) -> ExitCode {
-    match answer {
-        Ok(true) => ExitCode::SUCCESS,
-        Ok(false) => ExitCode::from(1),
-        Err(fault) => told_fault(rt, &fault),
+// Tells what a command answered.
+fn told(rt: &impl Eprint, answer: &Result<bool, ScriptFault>) -> ExitCode {
+    if let Err(fault) = answer {
+        let _ = rt.eprintln(fault_text(fault));
     }
+    ExitCode::from(status_of(answer))
 }
 
-fn run_watch(
-    rt: &(impl Print + Eprint + Input + Files + AllocGlobal),
+// What a command other than `explain` answers.
+fn answer<W: Write>(
+    rt: &(impl Input + Files + AllocGlobal),
+    name: &str,
     matches: &ArgMatches,
-) -> ExitCode {
-    match watch(rt, matches) {
-        Ok(()) => ExitCode::SUCCESS,
-        Err(fault) => told_fault(rt, &fault),
+    writer: &mut W,
+) -> Result<bool, ScriptFault> {
+    let alloc = rt.alloc();
+    let files = SystemFiles(rt);
+    let paths = matches.get_strs("FILE").unwrap_or(&[]);
+    if name == "check" {
+        return check_files(alloc, &files, paths, writer);
     }
+    if name == "watch" {
+        let path = matches.get_str("FILE");
+        let format = format_of(matches);
+        return watch(alloc, format, &files, path, &mut rt.reader(), writer);
+    }
+    let protocol = matches.get_str("PROTOCOL").unwrap_or("");
+    let role = matches.get_str("ROLE").unwrap_or("");
+    if name == "project" {
+        return project_files(alloc, protocol, role, &files, paths, writer);
+    }
+    machine_files(alloc, protocol, role, &files, paths, writer)
 }
 
-// A refusal that was printed is a status of 1.
-fn run_explain(
+fn explain_by_id<W: Write>(
     rt: &(impl Print + Eprint + Input + Files + AllocGlobal),
     matches: &ArgMatches,
+    writer: &mut W,
 ) -> io::Result<ExitCode> {
-    let Some(word) = matches.get_str("ID") else {
+    let Some(id) = id_of(matches.get_str("ID").unwrap_or("")) else {
         return refused_id(rt);
     };
-    let Some(id) = id_of(word) else {
-        return refused_id(rt);
-    };
-    match explain(rt, matches, id) {
-        Ok(Explained::Flights) => Ok(ExitCode::SUCCESS),
-        Ok(Explained::Refused) => Ok(ExitCode::from(1)),
-        Err(fault) => Ok(told_fault(rt, &fault)),
-    }
+    let files = SystemFiles(rt);
+    let path = matches.get_str("FILE");
+    let explained = explain(rt.alloc(), id, &files, path, &mut rt.reader(), writer);
+    Ok(told(rt, &explained))
 }
 
 // Does what the command line asks for.
@@ -346,13 +188,13 @@ fn obey(
     rt: &(impl Print + Eprint + Input + Files + AllocGlobal),
     matches: &ArgMatches,
 ) -> io::Result<ExitCode> {
+    let Ok(mut writer) = BufWriter::new(rt.alloc(), io::writer(rt)) else {
+        return Ok(told(rt, &Err(ScriptFault::OutOfMemory)));
+    };
     match matches.subcommand() {
-        Some(("check", matches)) => Ok(told_answer(rt, check(rt, matches))),
-        Some(("project", matches)) => Ok(told_answer(rt, project(rt, matches))),
-        Some(("machine", matches)) => Ok(told_answer(rt, machine(rt, matches))),
-        Some(("watch", matches)) => Ok(run_watch(rt, matches)),
-        Some(("explain", matches)) => run_explain(rt, matches),
-        _ => Ok(ExitCode::from(2)),
+        Some(("explain", matches)) => explain_by_id(rt, matches, &mut writer),
+        Some((name, matches)) => Ok(told(rt, &answer(rt, name, matches, &mut writer))),
+        None => Ok(ExitCode::from(2)),
     }
 }
 
