@@ -1,8 +1,17 @@
 //! Runs worked examples. Each has a title line that begins with `== `, a line with a command of `scribmon` and
 //! its words (`watch`, `explain 1`, `project demo.Hello A`, `machine demo.Hello A`), and the script or the module texts
-//! of the command. The output is each title with what the command writes.
+//! of the command. After the word `files` stands a command as the program takes it, with files of the folder that this is
+//! run in, and behind it standard input. The output is each title with what the command writes, and after `files` what
+//! standard error is told, and the exit status.
 #![tactic(auto)]
 
+use scrib_cli::commands::check::check_files;
+use scrib_cli::commands::explain::explain;
+use scrib_cli::commands::folder::SystemFiles;
+use scrib_cli::commands::machine::machine_files;
+use scrib_cli::commands::project::project_files;
+use scrib_cli::commands::status::{fault_text, status_of};
+use scrib_cli::commands::watch::watch;
 use scrib_cli::explain_script::explain_script;
 use scrib_cli::id::id_of;
 use scrib_cli::machine::machine_text;
@@ -13,6 +22,7 @@ use std::alloc::{AllocError, AllocFailed, Global};
 use std::io;
 use std::io::{BufWriter, Write};
 use std::process::ExitCode;
+use std::rt::Files;
 
 // Why the examples end early.
 #[derive(Drop)]
@@ -88,22 +98,79 @@ fn obey<W: Write>(
     Ok(())
 }
 
+// What the command of these words answers, over the files that they name or this input.
+fn answer<W: Write>(
+    rt: &(impl Files + AllocGlobal),
+    words: &[&str],
+    mut input: &[u8],
+    writer: &mut W,
+) -> Result<Result<bool, ScriptFault>, RowsFault> {
+    let alloc = rt.alloc();
+    let files = SystemFiles(rt);
+    let reader = &mut input;
+    let answer = match words {
+        ["check", paths @ ..] => check_files(alloc, &files, paths, writer),
+        ["project", protocol, role, paths @ ..] => {
+            project_files(alloc, protocol, role, &files, paths, writer)
+        }
+        ["machine", protocol, role, paths @ ..] => {
+            machine_files(alloc, protocol, role, &files, paths, writer)
+        }
+        ["watch", path @ ..] => {
+            let path = path.first().copied();
+            watch(alloc, Format::Line, &files, path, reader, writer)
+        }
+        ["explain", id, path @ ..] => {
+            let id = id_of(id).ok_or(RowsFault::NoCommand)?;
+            explain(alloc, id, &files, path.first().copied(), reader, writer)
+        }
+        _ => return Err(RowsFault::NoCommand),
+    };
+    Ok(answer)
+}
+
+// Runs a command over files, and tells what the program would end with.
+fn obey_files<W: Write>(
+    rt: &(impl Files + AllocGlobal),
+    command: &str,
+    input: &str,
+    writer: &mut W,
+) -> Result<(), RowsFault> {
+    let alloc = rt.alloc();
+    let words: Vec<&str> = command.split_whitespace().collect(alloc)?;
+    let answer = answer(rt, &words, input.as_bytes(), writer)?;
+    if let Err(fault) = &answer {
+        let text = format!(in alloc; "{}\n", fault_text(fault))?;
+        writer.write_all(text.as_bytes())?;
+    }
+    let text = format!(in alloc; "status {}\n", status_of(&answer))?;
+    writer.write_all(text.as_bytes())?;
+    Ok(())
+}
+
 // Runs one example, from its title on.
-fn tell<W: Write>(alloc: Global, example: &str, writer: &mut W) -> Result<(), RowsFault> {
+fn tell<W: Write>(
+    rt: &(impl Files + AllocGlobal),
+    example: &str,
+    writer: &mut W,
+) -> Result<(), RowsFault> {
     let (title, rest) = example.split_once('\n').ok_or(RowsFault::NoCommand)?;
     let (command, body) = rest.split_once('\n').ok_or(RowsFault::NoCommand)?;
     writer.write_all(b"== ")?;
     writer.write_all(title.as_bytes())?;
     writer.write_all(b"\n")?;
-    obey(alloc, command, body, writer)
+    match command.strip_prefix("files ") {
+        Some(command) => obey_files(rt, command, body, writer),
+        None => obey(rt.alloc(), command, body, writer),
+    }
 }
 
-fn run(rt: &(impl Print + Input + AllocGlobal)) -> Result<(), RowsFault> {
+fn run(rt: &(impl Print + Input + Files + AllocGlobal)) -> Result<(), RowsFault> {
     let alloc = rt.alloc();
     let text = io::read_to_string(alloc, rt.reader())?;
     let mut writer = BufWriter::new(alloc, io::writer(rt))?;
     for example in text.as_str().split("== ").skip(1) {
-        tell(alloc, example, &mut writer)?;
+        tell(rt, example, &mut writer)?;
     }
     writer.flush()?;
     Ok(())
