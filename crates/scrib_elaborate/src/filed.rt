@@ -26,7 +26,7 @@ impl Directory {
     pub fn new(alloc: Global, declared: &[Declared]) -> Result<Directory, AllocError>
         ensures { IfOk result (λ d. spec.IsDirectory (shown declared.now) d.slots.items) }
     {
-        let size = declared.len().min(MAX_FILED) * 8 + 1;
+        let size = declared.len().min(MAX_FILED) * 16 + 1;
         let mut slots = empty(alloc, size)?;
         for (place, one) in declared.iter().enumerate() {
             let slot = slot_of(size, &one.home.name, &one.protocol.name);

@@ -6,7 +6,7 @@ use Rattle.scrib_elaborate.proofs.directory.Directory.new.Goals as goal
 pub loop-place-preserved : goal.loop-place-preserved
 loop-place-preserved c =
     let ds = c.args.declared.now in
-    let size = c.min.result * 8 + 1 in
+    let size = c.min.result * 16 + 1 in
     let one = c.index-declared-place.result in
     let s = c.slot_of-slot.result in
     let slots = c.loop-place.slots.items in
