@@ -7,7 +7,8 @@ use Rattle.std.proofs.lemmas.List.{take_more, take_all, take-append-le, map-appe
 use Rattle.std.proofs.lemmas.List.Elements.{Contains-push, Contains-push_cases, Contains-append_left}
 use Rattle.scrib_parser.specs.declared.tree.ModuleTree.{ModuleTree}
 use Rattle.scrib_parser.specs.declared.tree.Import.{Import}
-use Rattle.scrib_library.specs.Affected.{names_now, trees_now, ImportsSome, AreAffected, AreSorted}
+use Rattle.scrib_library.specs.declared.sieve.Sieved.{Sieved}
+use Rattle.scrib_library.specs.Affected.{names_now, waiting_trees, ImportsSome, AreAffected, AreSorted}
 use Rattle.scrib_library.proofs.Lists.{Contains-head_at, Contains-remove_cases, Contains-remove_back, map-remove}
 
 module _ (ms : List ModuleTree) (edited : List (List ℕ)) where
@@ -81,43 +82,43 @@ some_imported names m is same k i lt at named =
     record { by = i; imports = subst P same (k, lt, sym at); named = named }
 
 -- one more module that imports none of the names
-pub none_waiting_more : (names : List (List (List ℕ))) (rs : List (Bor ModuleTree)) (k : ℕ) (r : Bor ModuleTree) → k < length rs → r ≡ get_or rs k r → ((m : ModuleTree) → Contains (trees_now (take k rs)) m → ImportsSome names m → ⊥) → (ImportsSome names r.now → ⊥)
-    → (m : ModuleTree) → Contains (trees_now (take (k + 1) rs)) m → ImportsSome names m → ⊥
+pub none_waiting_more : (names : List (List (List ℕ))) (rs : List Sieved) (k : ℕ) (r : Sieved) → k < length rs → r ≡ get_or rs k r → ((m : ModuleTree) → Contains (waiting_trees (take k rs)) m → ImportsSome names m → ⊥) → (ImportsSome names r.tree.now → ⊥)
+    → (m : ModuleTree) → Contains (waiting_trees (take (k + 1) rs)) m → ImportsSome names m → ⊥
 none_waiting_more names rs k r lt at h non m p s =
-    let e : trees_now (take (k + 1) rs) ≡ trees_now (take k rs) ++ r.now ∷ [] =
-    ap trees_now (take_more rs k r lt ∙ ap (λ z. take k rs ++ z ∷ []) (sym at)) ∙ map-append (λ (x : Bor ModuleTree). x.now) (take k rs) (r ∷ []) in
+    let e : waiting_trees (take (k + 1) rs) ≡ waiting_trees (take k rs) ++ r.tree.now ∷ [] =
+    ap waiting_trees (take_more rs k r lt ∙ ap (λ z. take k rs ++ z ∷ []) (sym at)) ∙ map-append (λ (x : Sieved). x.tree.now) (take k rs) (r ∷ []) in
     let P : List ModuleTree → Type 0 = λ l. Contains l m in
-    elim (Contains-push_cases (trees_now (take k rs)) r.now m (subst P e p)) [
+    elim (Contains-push_cases (waiting_trees (take k rs)) r.tree.now m (subst P e p)) [
       | inl q ↦ h m q s
       | inr is ↦ non (let Q : ModuleTree → Type 0 = λ x. ImportsSome names x in subst Q (sym is) s)
     ]
 
-pub none_waiting : (names : List (List (List ℕ))) (rs : List (Bor ModuleTree)) (k : ℕ) → length rs ≤ k → ((m : ModuleTree) → Contains (trees_now (take k rs)) m → ImportsSome names m → ⊥) → (m : ModuleTree) → Contains (trees_now rs) m → ImportsSome names m → ⊥
-none_waiting names rs k le h m p = let P : List (Bor ModuleTree) → Type 0 = λ l. Contains (trees_now l) m in h m (subst P (sym (take_all k rs le)) p)
+pub none_waiting : (names : List (List (List ℕ))) (rs : List Sieved) (k : ℕ) → length rs ≤ k → ((m : ModuleTree) → Contains (waiting_trees (take k rs)) m → ImportsSome names m → ⊥) → (m : ModuleTree) → Contains (waiting_trees rs) m → ImportsSome names m → ⊥
+none_waiting names rs k le h m p = let P : List Sieved → Type 0 = λ l. Contains (waiting_trees l) m in h m (subst P (sym (take_all k rs le)) p)
 
 -- a module that waits no longer, where the lists are of references
-pub sorted_moved : (ms : List ModuleTree) (edited : List (List ℕ)) (ws : List (Bor ModuleTree)) (ns : List (Bor (List (List ℕ)))) (i : ℕ) (r : Bor ModuleTree) (n : Bor (List (List ℕ))) → AreSorted ms edited (trees_now ws) (names_now ns) → i < length ws → r ≡ get_or ws i r → n.now ≡ r.now.name → AreSorted ms edited (trees_now (remove ws i)) (names_now (ns ++ n ∷ []))
+pub sorted_moved : (ms : List ModuleTree) (edited : List (List ℕ)) (ws : List Sieved) (ns : List (Bor (List (List ℕ)))) (i : ℕ) (r : Sieved) (n : Bor (List (List ℕ))) → AreSorted ms edited (waiting_trees ws) (names_now ns) → i < length ws → r ≡ get_or ws i r → n.now ≡ r.tree.now.name → AreSorted ms edited (waiting_trees (remove ws i)) (names_now (ns ++ n ∷ []))
 sorted_moved ms edited ws ns i r n h lt at named =
-    let trees : trees_now (remove ws i) ≡ remove (trees_now ws) i = map-remove (λ (x : Bor ModuleTree). x.now) ws i in
-    let names : names_now (ns ++ n ∷ []) ≡ names_now ns ++ r.now.name ∷ [] = map-append (λ (x : Bor (List (List ℕ))). x.now) ns (n ∷ []) ∙ ap (λ (x : List (List ℕ)). names_now ns ++ x ∷ []) named in
-    let long = length-map ws (λ (x : Bor ModuleTree). x.now) in
-    let here : r.now ≡ get_or (trees_now ws) i r.now = ap (λ (x : Bor ModuleTree). x.now) at ∙ sym (get_or-map (λ (x : Bor ModuleTree). x.now) ws i r r.now lt) in
+    let trees : waiting_trees (remove ws i) ≡ remove (waiting_trees ws) i = map-remove (λ (x : Sieved). x.tree.now) ws i in
+    let names : names_now (ns ++ n ∷ []) ≡ names_now ns ++ r.tree.now.name ∷ [] = map-append (λ (x : Bor (List (List ℕ))). x.now) ns (n ∷ []) ∙ ap (λ (x : List (List ℕ)). names_now ns ++ x ∷ []) named in
+    let long = length-map ws (λ (x : Sieved). x.tree.now) in
+    let here : r.tree.now ≡ get_or (waiting_trees ws) i r.tree.now = ap (λ (x : Sieved). x.tree.now) at ∙ sym (get_or-map (λ (x : Sieved). x.tree.now) ws i r r.tree.now lt) in
     let P : List ModuleTree → Type 0 = λ l. AreSorted ms edited l (names_now (ns ++ n ∷ [])) in
-    let Q : List (List (List ℕ)) → Type 0 = λ l. AreSorted ms edited (remove (trees_now ws) i) l in
-    subst P (sym trees) (subst Q (sym names) (sorted_more ms edited (trees_now ws) (names_now ns) i r.now h (omega (arith, lt, long)) here))
+    let Q : List (List (List ℕ)) → Type 0 = λ l. AreSorted ms edited (remove (waiting_trees ws) i) l in
+    subst P (sym trees) (subst Q (sym names) (sorted_more ms edited (waiting_trees ws) (names_now ns) i r.tree.now h (omega (arith, lt, long)) here))
 
 -- ---- those that wait, and the names that none of them imports
 
-abbrev pub ImportNone : List (Bor ModuleTree) → List (Bor (List (List ℕ))) → Type 0
-ImportNone ws ns = (m : ModuleTree) → Contains (trees_now ws) m → ImportsSome (names_now ns) m → ⊥
+abbrev pub ImportNone : List Sieved → List (Bor (List (List ℕ))) → Type 0
+ImportNone ws ns = (m : ModuleTree) → Contains (waiting_trees ws) m → ImportsSome (names_now ns) m → ⊥
 
-module _ (ws : List (Bor ModuleTree)) (ns : List (Bor (List (List ℕ)))) (at : ℕ) (h : ImportNone ws (take at ns)) where
+module _ (ws : List Sieved) (ns : List (Bor (List (List ℕ)))) (at : ℕ) (h : ImportNone ws (take at ns)) where
   pub none_removed : (i : ℕ) (n : Bor (List (List ℕ))) → i < length ws → at ≤ length ns → ImportNone (remove ws i) (take at (ns ++ n ∷ []))
   none_removed i n lt le m p s =
-      let long = length-map ws (λ (x : Bor ModuleTree). x.now) in
+      let long = length-map ws (λ (x : Sieved). x.tree.now) in
       let P : List ModuleTree → Type 0 = λ l. Contains l m in
       let Q : List (Bor (List (List ℕ))) → Type 0 = λ l. ImportsSome (names_now l) m in
-      h m (Contains-remove_back (trees_now ws) i m (omega (arith, lt, long)) (subst P (map-remove (λ (x : Bor ModuleTree). x.now) ws i) p)) (subst Q (take-append-le at ns (n ∷ []) le) s)
+      h m (Contains-remove_back (waiting_trees ws) i m (omega (arith, lt, long)) (subst P (map-remove (λ (x : Sieved). x.tree.now) ws i) p)) (subst Q (take-append-le at ns (n ∷ []) le) s)
 
   pub none_next : (r : Bor (List (List ℕ))) → at < length ns → r ≡ get_or ns at r → ImportNone ws (r ∷ []) → ImportNone ws (take (at + 1) ns)
   none_next r lt is none m p s =

@@ -4,6 +4,7 @@ pub mod Searching
 pub mod Places
 pub mod Texts
 pub mod Meant
+pub mod Sieving
 pub mod Affecting
 pub mod Entering
 pub mod Sifting

@@ -4,13 +4,14 @@ use Rattle.std.specs.Prelude.{◌⊎◌, ℕ, List, map, Contains}
 use Rattle.std.specs.Borrow.{Bor}
 use Rattle.scrib_parser.specs.declared.tree.ModuleTree.{ModuleTree}
 use Rattle.scrib_parser.specs.declared.tree.Import.{Import}
+use Rattle.scrib_library.specs.declared.sieve.Sieved.{Sieved}
 
 -- names without where they lie in memory
 abbrev pub names_now : List (Bor (List (List ℕ))) → List (List (List ℕ))
 names_now rs = map (λ (r : Bor (List (List ℕ))). r.now) rs
 
-abbrev pub trees_now : List (Bor ModuleTree) → List ModuleTree
-trees_now rs = map (λ (r : Bor ModuleTree). r.now) rs
+abbrev pub waiting_trees : List Sieved → List ModuleTree
+waiting_trees ws = map (λ (w : Sieved). w.tree.now) ws
 
 -- it imports a module of such a name
 pub record ImportsSome (names : List (List (List ℕ))) (m : ModuleTree) : Type 0 where

@@ -3,6 +3,7 @@ pub mod Modules
 pub mod Holdings
 pub mod Edits
 pub mod Listed
+pub mod Sieve
 pub mod Affected
 pub mod Entries
 pub mod Calls

@@ -1,10 +1,11 @@
 //! The modules whose protocols an edit can change: the edited one, and those that reach it by imports.
 
-ghost use Rattle.std.specs.Prelude.{◌≡◌, ◌<◌, ◌⊎◌, length, MatchOption, IfOk, IsTrue, Contains, ◌↔◌};
+ghost use Rattle.std.specs.Prelude.{◌≡◌, ◌<◌, ◌⊎◌, ◌∷◌, [], length, MatchOption, IfOk, IsTrue, Contains, ◌↔◌};
 ghost use Rattle.scrib_parser.specs.declared.tree.ModuleTree as parsed;
-ghost use Rattle.scrib_library.specs.Affected.{names_now, trees_now, ImportsSome, AreAffected};
+ghost use Rattle.scrib_library.specs.Affected.{names_now, waiting_trees, ImportsSome, AreAffected};
 
 use crate::names::same;
+use crate::sieve::{Sieved, bit_of, may_have, sieve_of};
 use scrib_parser::tree::ModuleTree;
 use scrib_types::name::Dotted;
 use std::alloc::{AllocError, Global};
@@ -26,10 +27,10 @@ pub fn affected<'a>(
     // Each name is compared with the imports of those that wait, and no more once none of them imports it.
     let mut at = 0;
     while at < names.len() {
-        match place_of_importer(&waiting, &[names[at]]) {
+        match place_of_importer(&waiting, names[at]) {
             Some(place) => {
-                let tree = waiting.remove(place);
-                names.push(&tree.name)?;
+                let importer = waiting.remove(place);
+                names.push(&importer.tree.name)?;
             }
             None => at += 1,
         }
@@ -42,26 +43,28 @@ fn others<'a>(
     alloc: Global,
     modules: &'a [ModuleTree],
     name: &Dotted,
-) -> Result<Vec<&'a ModuleTree>, AllocError>
-    ensures { IfOk result (λ others. (m : parsed.ModuleTree) → Contains modules.now m → Contains (trees_now others.items) m ⊎ (m.name ≡ name.now)) }
+) -> Result<Vec<Sieved<'a>>, AllocError>
+    ensures { IfOk result (λ others. (m : parsed.ModuleTree) → Contains modules.now m → Contains (waiting_trees others.items) m ⊎ (m.name ≡ name.now)) }
 {
     let mut others = Vec::with_capacity(alloc, modules.len())?;
     for tree in modules {
         if !same(name, &tree.name) {
-            others.push(tree)?;
+            let sieve = sieve_of(tree.imports.as_slice());
+            others.push(Sieved { tree, sieve })?;
         }
     }
     Ok(others)
 }
 
-/// The place of the first of the modules that imports one of these names.
-fn place_of_importer(waiting: &[&ModuleTree], names: &[&Dotted]) -> Option<usize>
+/// The place of the first of the modules that imports the one of this name. The sieves spare most comparisons.
+fn place_of_importer(waiting: &[Sieved], name: &Dotted) -> Option<usize>
     ensures { MatchOption result
-        ((m : parsed.ModuleTree) → Contains (trees_now waiting.now) m → ImportsSome (names_now names.now) m → ⊥)
+        ((m : parsed.ModuleTree) → Contains (waiting_trees waiting.now) m → ImportsSome (name.now ∷ []) m → ⊥)
         (λ at. at < length waiting.now) }
 {
-    for (at, tree) in waiting.iter().enumerate() {
-        if imports_some(tree, names) {
+    let bit = bit_of(name);
+    for (at, one) in waiting.iter().enumerate() {
+        if may_have(one.sieve, bit) && imports_some(one.tree, &[name]) {
             return Some(at);
         }
     }

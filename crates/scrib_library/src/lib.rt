@@ -17,4 +17,5 @@ mod read;
 mod removal;
 mod room;
 mod same;
+mod sieve;
 mod versions;

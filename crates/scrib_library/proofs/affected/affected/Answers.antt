@@ -1,5 +1,5 @@
 use Rattle.std.proofs.Common.{refl, ap, arith}
-use Rattle.scrib_library.specs.Affected.{names_now, trees_now}
+use Rattle.scrib_library.specs.Affected.{names_now, waiting_trees}
 use Rattle.scrib_library.proofs.Lists.{Contains-nil}
 use Rattle.scrib_library.proofs.Affecting.{sorted_first, sorted_moved, sorted_all, none_removed, none_next, none_all, within_more}
 use Rattle.scrib_library.proofs.affected.affected.Goals as goal
@@ -7,14 +7,14 @@ use Rattle.scrib_library.proofs.affected.affected.Goals as goal
 pub loop-at-init : goal.loop-at-init
 loop-at-init c =
     let items = rw c.new-names.ensures.items at c.in_ok-push.ensures.items in
-    (sorted_first c.args.modules.now c.args.edited.now (trees_now c.in_ok-waiting.waiting.items) (names_now c.push.new.self.items) (ap names_now items) c.in_ok-waiting.ensures, λ m p s. Contains-nil s.by.module s.named, omega arith)
+    (sorted_first c.args.modules.now c.args.edited.now (waiting_trees c.in_ok-waiting.waiting.items) (names_now c.push.new.self.items) (ap names_now items) c.in_ok-waiting.ensures, λ m p s. Contains-nil s.by.module s.named, omega arith)
 
 pub loop-at-preserved-in-Continue-branch-3 : goal.loop-at-preserved-in-Continue-branch-3
 loop-at-preserved-in-Continue-branch-3 c =
     let lt = rw c.deref.ensures.value at c.in-Some.ensures in
     let le = c.loop-at.invariant.2 in
-    rw (c.remove-tree.ensures.items, c.in_ok-push-in-Some.ensures.items) (
-      sorted_moved c.args.modules.now c.args.edited.now c.loop-at.waiting.items c.loop-at.names.items c.in-Some.place c.remove-tree.result _ c.loop-at.invariant.0 lt c.remove-tree.ensures.value refl,
+    rw (c.remove-importer.ensures.items, c.in_ok-push-in-Some.ensures.items) (
+      sorted_moved c.args.modules.now c.args.edited.now c.loop-at.waiting.items c.loop-at.names.items c.in-Some.place c.remove-importer.result _ c.loop-at.invariant.0 lt c.remove-importer.ensures.value refl,
       none_removed c.loop-at.waiting.items c.loop-at.names.items c.loop-at.at c.loop-at.invariant.1 c.in-Some.place _ lt le,
       within_more c.loop-at.names.items _ c.loop-at.at le,
     )
@@ -30,4 +30,4 @@ loop-at-preserved c =
 
 pub returns : goal.returns
 returns c =
-    sorted_all c.args.modules.now c.args.edited.now (trees_now c.loop-at.waiting.items) (names_now c.loop-at.names.items) c.loop-at.invariant.0 (none_all c.loop-at.waiting.items c.loop-at.names.items c.loop-at.at c.loop-at.invariant.1 (omega (arith, c.loop-at-test.false, c.len.ensures)))
+    sorted_all c.args.modules.now c.args.edited.now (waiting_trees c.loop-at.waiting.items) (names_now c.loop-at.names.items) c.loop-at.invariant.0 (none_all c.loop-at.waiting.items c.loop-at.names.items c.loop-at.at c.loop-at.invariant.1 (omega (arith, c.loop-at-test.false, c.len.ensures)))

@@ -1,0 +1,47 @@
+-- What a sieve lacks isn't among the names that it was made of.
+use Rattle.std.proofs.Common.{◌≡◌, ℕ, ◌+◌, ◌*◌, ◌^◌, ◌%◌, ◌<◌, ◌≤◌, List, [], ◌∷◌, length, get_or, take, inl, inr, sym, ap, ◌∙◌, subst, arith}
+use Rattle.std.specs.Int.{bit_at}
+use Rattle.std.specs.Int.Bits.{bit_or}
+use Rattle.std.specs.List.{Contains}
+use Rattle.std.proofs.lemmas.Nat.Bits.{bit_at_or, bit_at-lt, bit_at-pow_same}
+use Rattle.std.proofs.lemmas.List.{take_all}
+use Rattle.scrib_parser.specs.declared.tree.Import.{Import}
+use Rattle.scrib_parser.specs.declared.tree.ModuleTree.{ModuleTree}
+use Rattle.scrib_library.specs.Affected.{ImportsSome}
+use Rattle.scrib_library.specs.Sieve.{bit_of, IsSieve, LacksBit}
+use Rattle.scrib_library.proofs.Lists.{Contains-nil, Contains-cases}
+use Rattle.scrib_library.proofs.Entering.{taken_cases}
+
+-- a bit of one of two is one of both
+or_left : (a b k : ℕ) → bit_at a k ≡ 1 → bit_at (bit_or a b) k ≡ 1
+or_left a b k e = let both = bit_at_or a b k in let low = bit_at-lt b k in omega (arith, both, e, low)
+
+or_right : (a b k : ℕ) → bit_at b k ≡ 1 → bit_at (bit_or a b) k ≡ 1
+or_right a b k e = let both = bit_at_or a b k in let low = bit_at-lt a k in omega (arith, both, e, low)
+
+-- one import more
+pub sieve_more : (is : List Import) (k : ℕ) (i : Import) (old new : ℕ) → k < length is → i ≡ get_or is k i → IsSieve (take k is) old → new ≡ bit_or old (2 ^ bit_of i.module) → IsSieve (take (k + 1) is) new
+sieve_more is k i old new lt at h is_new j p =
+    let b = 2 ^ bit_of i.module in
+    let P : ℕ → Type 0 = λ s. bit_at s (bit_of j.module) ≡ 1 in
+    subst P (sym is_new) (elim (taken_cases is k i lt at j p) [
+      | inl q ↦ or_left old b (bit_of j.module) (h j q)
+      | inr e ↦ (let Q : Import → Type 0 = λ x. bit_at (bit_or old b) (bit_of x.module) ≡ 1 in subst Q e (or_right old b (bit_of i.module) (bit_at-pow_same (bit_of i.module))))
+    ])
+
+pub sieve_all : (is : List Import) (k s : ℕ) → length is ≤ k → IsSieve (take k is) s → IsSieve is s
+sieve_all is k s le h = let P : List Import → Type 0 = λ l. IsSieve l s in subst P (take_all k is le) h
+
+pub sieve_none : (is : List Import) (s : ℕ) → IsSieve (take 0 is) s
+sieve_none is s j p = absurd (Contains-nil j p)
+
+-- a module of whose sieve the name's bit lacks doesn't import it
+pub sifted_out : (m : ModuleTree) (s : ℕ) (name : List (List ℕ)) → IsSieve m.imports s → LacksBit s (bit_of name) → ImportsSome (name ∷ []) m → ⊥
+sifted_out m s name h lacks i =
+    elim (Contains-cases name [] i.by.module i.named) [
+      | inl e ↦ (
+          let P : List (List ℕ) → Type 0 = λ n. bit_at s (bit_of n) ≡ 1 in
+          let has = subst P (sym e) (h i.by i.imports) in
+          absurd (omega (arith, has, lacks)))
+      | inr p ↦ Contains-nil i.by.module p
+    ]

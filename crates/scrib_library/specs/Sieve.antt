@@ -1,0 +1,22 @@
+-- Sieves of names: which bits they have.
+-- Only contracts of private functions cite this file.
+use Rattle.std.specs.Prelude.{◌≡◌, ℕ, ◌+◌, ◌*◌, ◌%◌, List, [], ◌∷◌, Contains}
+use Rattle.std.specs.Int.{bit_at}
+use Rattle.scrib_parser.specs.declared.tree.Import.{Import}
+use Rattle.scrib_elaborate.specs.Names.{last_name}
+
+-- the bytes, mixed into a number below 64
+abbrev pub mixed : (so_far : ℕ) → List ℕ → ℕ
+mixed h [] = h
+mixed h (b ∷ bs) = mixed ((h * 5 + b) % 64) bs
+
+-- the bit of the name
+abbrev pub bit_of : List (List ℕ) → ℕ
+bit_of name = mixed 0 (last_name name)
+
+-- it has the bit of each imported module's name
+abbrev pub IsSieve : List Import → ℕ → Type 0
+IsSieve is s = (i : Import) → Contains is i → bit_at s (bit_of i.module) ≡ 1
+
+abbrev pub LacksBit : (sieve bit : ℕ) → Type 0
+LacksBit s b = bit_at s b ≡ 0
