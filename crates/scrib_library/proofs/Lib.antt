@@ -15,6 +15,8 @@ pub mod Spelling
 pub mod Refusals
 pub mod Covering
 pub mod Elaborating
+pub mod Replacing
+pub mod Changing
 pub mod Planning
 pub mod Naming
 pub mod Withdrawing
