@@ -30,6 +30,7 @@ mod Begun
 pub mod Moved
 mod TypesKept
 mod Slots
+mod Filing
 mod Steps
 mod Joined
 mod Finished

@@ -1,14 +1,16 @@
 -- A directory tells the first declared protocol of a name.
-use Rattle.std.proofs.Common.{◌≡◌, ◌⊎◌, inl, inr, leb, ℕ, zero, suc, ◌+◌, ◌<◌, Bool, true, false, List, [], ◌∷◌, length, get_or, set, replicate, is_some, Option, Some, None, refl, sym, ap, ◌∙◌, subst, ⊎_elim, arith}
+use Rattle.std.proofs.Common.{◌≡◌, ◌⊎◌, inl, inr, leb, ℕ, zero, suc, ◌+◌, ◌<◌, Bool, true, false, List, [], ◌∷◌, ◌++◌, length, get_or, set, replicate, Option, Some, None, refl, sym, ap, ◌∙◌, subst, ⊎_elim, arith}
 use Rattle.std.specs.List.{slice_get}
 use Rattle.std.specs.Str.{bytes_eq}
-use Rattle.std.proofs.lemmas.Bool.{false≢true, and_parts, and_from, leb-true, leb-false}
-use Rattle.std.proofs.lemmas.List.{length-set}
+use Rattle.std.proofs.lemmas.Bool.{and_parts, and_from, leb-true, leb-false}
+use Rattle.std.proofs.lemmas.List.{length-set, length-append, length-map}
 use Rattle.std.proofs.lemmas.Option.{slice_get_read}
 use Rattle.std.proofs.lemmas.Slice.Eq.{bytes_eq-Decides}
 use Rattle.scrib_elaborate.specs.declared.declared.Declared.{Declared}
-use Rattle.scrib_elaborate.specs.Directory.{slot_of, slot_for, IsFirstOf, IsDirectory, IsFilled}
-use Rattle.scrib_elaborate.specs.Names.{Declaration, dotted_eq, first_where, is_called}
+use Rattle.scrib_elaborate.specs.Directory.{slot_of, slot_for, IsFirstOf, IsDirectory, IsFilled, IsFiled, IsTaken}
+use Rattle.scrib_parser.specs.declared.tree.ModuleTree.{ModuleTree}
+use Rattle.scrib_parser.specs.declared.tree.ProtocolDeclaration.{ProtocolDeclaration}
+use Rattle.scrib_elaborate.specs.Names.{Declaration, declared_in, dotted_eq, first_where, is_called}
 use Rattle.scrib_elaborate.specs.Table.{declaration_of, shown, IsFound, IsNamed}
 use Rattle.scrib_elaborate.proofs.Distinct.{dotted_eq-Decides}
 use Rattle.scrib_elaborate.proofs.GivenRoles.{true_or_false}
@@ -54,6 +56,7 @@ empty_slot (suc n) (suc s) k e = empty_slot n s k e
 pub none_filed : (ds : List Declaration) (size : ℕ) (slots : List (Option ℕ)) → length slots ≡ size → slots ≡ replicate size None → IsFilled ds size 0 slots
 none_filed ds size slots long e = record {
   long = long;
+  within = λ s k h. absurd (empty_slot size s k (subst (λ xs. slice_get xs s ≡ Some (Some k)) e h));
   first = λ s k h. absurd (empty_slot size s k (subst (λ xs. slice_get xs s ≡ Some (Some k)) e h));
   taken = λ j d h l. absurd (omega (arith, l));
 }
@@ -65,10 +68,10 @@ set_some (y ∷ xs) zero (suc p) x n e = (x, e)
 set_some (y ∷ xs) (suc i) zero x n e = (x, e)
 set_some (y ∷ xs) (suc i) (suc p) x n e = set_some xs i p x n e
 
-set_here : (xs : List (Option ℕ)) (i n : ℕ) → i < length xs → slice_get (set xs i (Some n)) i ≡ Some (Some n)
-set_here [] i n l = absurd (omega (arith, l))
-set_here (y ∷ xs) zero n l = refl
-set_here (y ∷ xs) (suc i) n l = set_here xs i n (omega (arith, l))
+set_here : (xs : List (Option ℕ)) (i n : ℕ) (o : Option ℕ) → slice_get xs i ≡ Some o → slice_get (set xs i (Some n)) i ≡ Some (Some n)
+set_here [] i n o e = absurd (cc e)
+set_here (y ∷ xs) zero n o e = refl
+set_here (y ∷ xs) (suc i) n o e = set_here xs i n o e
 
 -- one of the first n, or the next
 last_or_before : (j n : ℕ) → j < n + 1 → (j < n) ⊎ (j ≡ n)
@@ -79,9 +82,10 @@ last_or_before j n l = case (leb n j) refl
     case false e = inl (leb-false n j e)
 
 -- the slot was free
-pub one_filed : (ds : List Declaration) (size n s : ℕ) (c : Declaration) (slots : List (Option ℕ)) → slice_get ds n ≡ Some c → s ≡ slot_for size c → slice_get slots s ≡ Some None → s < length slots → IsFilled ds size n slots → IsFilled ds size (n + 1) (set slots s (Some n))
-one_filed ds size n s c slots here at free low f = record {
+one_filed : (ds : List Declaration) (size n s : ℕ) (c : Declaration) (slots : List (Option ℕ)) → slice_get ds n ≡ Some c → s ≡ slot_for size c → slice_get slots s ≡ Some None → IsFilled ds size n slots → IsFilled ds size (n + 1) (set slots s (Some n))
+one_filed ds size n s c slots here at free f = record {
   long = length-set slots s (Some n) ∙ f.long;
+  within = λ p k h. ⊎_elim (λ x. let same : n ≡ k = cc (x.1) in omega (arith, same)) (λ x. omega (arith, f.within p k x.1)) (get_set slots s (Some n) p (Some k) h);
   first = λ p k h. ⊎_elim (λ x. fresh p k x.0 (let same : n ≡ k = cc (x.1) in same)) (λ x. f.first p k x.1) (get_set slots s (Some n) p (Some k) h);
   taken = λ j d e l. ⊎_elim (λ x. let t = f.taken j d e x in set_some slots s (slot_for size d) t.0 n t.1) (λ x. next j d e x) (last_or_before j n l);
 }
@@ -96,12 +100,13 @@ one_filed ds size n s c slots here at free low f = record {
     next j d e x =
         let both : slice_get ds n ≡ Some d = ap (slice_get ds) (sym x) ∙ e in
         let same : c ≡ d = cc (here, both) in
-        (n, ap (slice_get (set slots s (Some n))) (sym (at ∙ ap (slot_for size) same)) ∙ set_here slots s n low)
+        (n, ap (slice_get (set slots s (Some n))) (sym (at ∙ ap (slot_for size) same)) ∙ set_here slots s n None free)
 
 -- it was taken
-pub kept_filed : (ds : List Declaration) (size n s k : ℕ) (c : Declaration) (slots : List (Option ℕ)) → slice_get ds n ≡ Some c → s ≡ slot_for size c → slice_get slots s ≡ Some (Some k) → IsFilled ds size n slots → IsFilled ds size (n + 1) slots
+kept_filed : (ds : List Declaration) (size n s k : ℕ) (c : Declaration) (slots : List (Option ℕ)) → slice_get ds n ≡ Some c → s ≡ slot_for size c → slice_get slots s ≡ Some (Some k) → IsFilled ds size n slots → IsFilled ds size (n + 1) slots
 kept_filed ds size n s k c slots here at there f = record {
   long = f.long;
+  within = λ p k h. omega (arith, f.within p k h);
   first = f.first;
   taken = λ j d e l. ⊎_elim (λ x. f.taken j d e x) (λ x. next j d e x) (last_or_before j n l);
 }
@@ -112,37 +117,74 @@ kept_filed ds size n s k c slots here at there f = record {
         let same : c ≡ d = cc (here, both) in
         (k, ap (slice_get slots) (sym (at ∙ ap (slot_for size) same)) ∙ there)
 
+-- one protocol more, whether its slot was free or taken
+pub next_filed : (ds : List Declaration) (size n : ℕ) (c : Declaration) (slots new : List (Option ℕ)) → slice_get ds n ≡ Some c → IsTaken slots n (slot_for (length slots) c) new → IsFilled ds size n slots → IsFilled ds size (n + 1) new
+next_filed ds size n c slots new here t f =
+    let at = ap (λ z. slot_for z c) f.long in
+    let s = slot_for (length slots) c in
+    ⊎_elim (λ x. subst (IsFilled ds size (n + 1)) (sym x.1) (one_filed ds size n s c slots here at x.0 f))
+    (λ x. subst (IsFilled ds size (n + 1)) (sym x.2) (kept_filed ds size n s x.0 c slots here at x.1 f)) t
+
 -- all are filed
 pub all_filed : (ds : List Declaration) (size : ℕ) (n : ℕ) (slots : List (Option ℕ)) → IsFilled ds size n slots → IsDirectory ds slots
 all_filed ds size n slots f s k h = subst (λ z. IsFirstOf ds z s k) (sym f.long) (f.first s k h)
 
--- a slot, as it is read
+-- without slots it tells nothing
+pub filed_directory : (ds : List Declaration) (slots : List (Option ℕ)) (n : ℕ) → IsFiled ds slots n → IsDirectory ds slots
+filed_directory ds slots n h s k e = all_filed ds (length slots) (length ds) slots (h (has_one slots s (Some k) e)).0 s k e
+  where
+    has_one : (xs : List (Option ℕ)) (i : ℕ) (o : Option ℕ) → slice_get xs i ≡ Some o → 0 < length xs
+    has_one [] i o h = absurd (cc h)
+    has_one (x ∷ xs) i o h = omega arith
 
-none_of : (o : Option ℕ) → is_some o ≡ false → o ≡ None
-none_of None e = refl
-none_of (Some k) e = absurd (false≢true (sym e))
-
-some_of : (o : Option ℕ) → is_some o ≡ true → (k : ℕ) × (o ≡ Some k)
-some_of None e = absurd (false≢true e)
-some_of (Some k) e = (k, refl)
+pub none_kept : (ds : List Declaration) (slots : List (Option ℕ)) (n : ℕ) → slots ≡ [] → IsFiled ds slots n
+none_kept ds slots n e l = absurd (omega (arith, l, ap length e))
 
 pub read_at : {X : Type 0} (xs : List X) (i : ℕ) (x : X) → i < length xs → x ≡ get_or xs i x → slice_get xs i ≡ Some x
 read_at xs i x l e = slice_get_read xs (length xs) i x refl l e
 
--- one protocol more
-pub free_filed : (ds : List Declared) (size n s : ℕ) (c : Declared) (o : Option ℕ) (slots new : List (Option ℕ)) → n < length ds → c ≡ get_or ds n c → s ≡ slot_for size (declaration_of c) → s < size → o ≡ get_or slots s o → is_some o ≡ false → new ≡ set slots s (Some n)
-    → IsFilled (shown ds) size n slots → IsFilled (shown ds) size (n + 1) new
-free_filed ds size n s c o slots new l e at low read free is f =
-    let there = there_shown ds n c (read_at ds n c l e) in
-    let within : s < length slots = omega (arith, low, f.long) in
-    let none : slice_get slots s ≡ Some None = read_at slots s o within read ∙ ap Some (none_of o free) in
-    subst (IsFilled (shown ds) size (n + 1)) (sym is) (one_filed (shown ds) size n s (declaration_of c) slots there at none within f)
+pub next_declared : (ds : List Declared) (size n : ℕ) (c : Declared) (slots new : List (Option ℕ)) → n < length ds → c ≡ get_or ds n c → IsTaken slots n (slot_for (length slots) (declaration_of c)) new → IsFilled (shown ds) size n slots → IsFilled (shown ds) size (n + 1) new
+next_declared ds size n c slots new l e t f = next_filed (shown ds) size n (declaration_of c) slots new (there_shown ds n c (read_at ds n c l e)) t f
 
-pub taken_filed : (ds : List Declared) (size n s : ℕ) (c : Declared) (o : Option ℕ) (slots new : List (Option ℕ)) → n < length ds → c ≡ get_or ds n c → s ≡ slot_for size (declaration_of c) → s < size → o ≡ get_or slots s o → is_some o ≡ true → new ≡ slots
-    → IsFilled (shown ds) size n slots → IsFilled (shown ds) size (n + 1) new
-taken_filed ds size n s c o slots new l e at low read taken is f =
-    let there = there_shown ds n c (read_at ds n c l e) in
-    let within : s < length slots = omega (arith, low, f.long) in
-    let some = some_of o taken in
-    let full : slice_get slots s ≡ Some (Some some.0) = read_at slots s o within read ∙ ap Some some.1 in
-    subst (IsFilled (shown ds) size (n + 1)) (sym is) (kept_filed (shown ds) size n s some.0 (declaration_of c) slots there at full f)
+-- the protocols of one module more
+
+get_before : {X : Type 0} (xs ys : List X) (j : ℕ) (x : X) → j < length xs → slice_get (xs ++ ys) j ≡ Some x → slice_get xs j ≡ Some x
+get_before [] ys j x l e = absurd (omega (arith, l))
+get_before (y ∷ xs) ys zero x l e = e
+get_before (y ∷ xs) ys (suc j) x l e = get_before xs ys j x (omega (arith, l)) e
+
+get_after : {X : Type 0} (xs ys : List X) (i : ℕ) (x : X) → slice_get ys i ≡ Some x → slice_get (xs ++ ys) (length xs + i) ≡ Some x
+get_after [] ys i x e =
+    let same : i ≡ 0 + i = omega arith in
+    subst (λ n. slice_get ys n ≡ Some x) same e
+get_after (y ∷ xs) ys i x e =
+    let same : suc (length xs + i) ≡ suc (length xs) + i = omega arith in
+    subst (λ n. slice_get (y ∷ (xs ++ ys)) n ≡ Some x) same (get_after xs ys i x e)
+
+pub filed_before : (ds es : List Declaration) (size : ℕ) (slots : List (Option ℕ)) → IsFilled ds size (length ds) slots → IsFilled (ds ++ es) size (length ds + 0) slots
+filed_before ds es size slots f = record {
+  long = f.long;
+  within = λ s k h. omega (arith, f.within s k h);
+  first = λ s k h j d e l. f.first s k h j d (get_before ds es j d (omega (arith, l, f.within s k h)) e) l;
+  taken = λ j d e l. let low : j < length ds = omega (arith, l) in f.taken j d (get_before ds es j d low e) low;
+}
+
+declared_at : (home : ModuleTree) (ps : List ProtocolDeclaration) (i : ℕ) (p : ProtocolDeclaration) → slice_get ps i ≡ Some p → slice_get (declared_in home ps) i ≡ Some (record { home = home; protocol = p })
+declared_at home [] i p e = absurd (cc e)
+declared_at home (q ∷ ps) zero p e =
+    let same : q ≡ p = cc e in
+    ap (λ x. Some (record { home = home; protocol = x })) same
+declared_at home (q ∷ ps) (suc i) p e = declared_at home ps i p e
+
+pub next_added : (ds : List Declaration) (home : ModuleTree) (size i place : ℕ) (p : ProtocolDeclaration) (slots new : List (Option ℕ)) → i < length home.protocols → p ≡ get_or home.protocols i p → place ≡ length ds + i → IsTaken slots place (slot_of (length slots) home.name p.name) new
+    → IsFilled (ds ++ declared_in home home.protocols) size (length ds + i) slots → IsFilled (ds ++ declared_in home home.protocols) size (length ds + (i + 1)) new
+next_added ds home size i place p slots new l e at t f =
+    let es = declared_in home home.protocols in
+    let d : Declaration = record { home = home; protocol = p } in
+    let here = get_after ds es i d (declared_at home home.protocols i p (read_at home.protocols i p l e)) in
+    let taken = subst (λ z. IsTaken slots z (slot_for (length slots) d) new) at t in
+    let more : length ds + i + 1 ≡ length ds + (i + 1) = omega arith in
+    subst (λ z. IsFilled (ds ++ es) size z new) more (next_filed (ds ++ es) size (length ds + i) d slots new here taken f)
+
+pub added_count : (ds : List Declaration) (home : ModuleTree) → length (ds ++ declared_in home home.protocols) ≡ length ds + length home.protocols
+added_count ds home = length-append ds (declared_in home home.protocols) ∙ ap (λ n. length ds + n) (length-map home.protocols (λ p. record { home = home; protocol = p }))

@@ -1,6 +1,6 @@
 -- Where a directory of declared protocols looks for one (this project's own).
 -- Only contracts of private functions cite this file.
-use Rattle.std.specs.Prelude.{◌≡◌, ◌≢◌, ℕ, ◌+◌, ◌*◌, ◌%◌, ◌<◌, List, [], ◌∷◌, length, slice_get, Option, Some}
+use Rattle.std.specs.Prelude.{◌≡◌, ◌≢◌, ◌⊎◌, ℕ, ◌+◌, ◌*◌, ◌%◌, ◌<◌, List, [], ◌∷◌, length, slice_get, slice_set, Option, Some, None}
 use Rattle.scrib_elaborate.specs.Names.{Declaration}
 
 -- the bytes, mixed into a number below 2^32
@@ -30,5 +30,15 @@ IsDirectory ds slots = (s k : ℕ) → slice_get slots s ≡ Some (Some k) → I
 -- so it is of the first n protocols, each of which has its slot taken
 pub record IsFilled (ds : List Declaration) (size n : ℕ) (slots : List (Option ℕ)) : Type 0 where
   pub long : length slots ≡ size
+  pub within : (s k : ℕ) → slice_get slots s ≡ Some (Some k) → k < n
   pub first : (s k : ℕ) → slice_get slots s ≡ Some (Some k) → IsFirstOf ds size s k
   pub taken : (j : ℕ) (d : Declaration) → slice_get ds j ≡ Some d → j < n → (k : ℕ) × (slice_get slots (slot_for size d) ≡ Some (Some k))
+
+-- where there are slots, these protocols are filed, all of them, and so many
+abbrev pub IsFiled : List Declaration → (slots : List (Option ℕ)) → (filed : ℕ) → Type 0
+IsFiled ds slots n = 0 < length slots → IsFilled ds (length slots) (length ds) slots × (n ≡ length ds)
+
+-- the slot tells the place if it was free, and what it told if it was taken
+abbrev pub IsTaken : List (Option ℕ) → (place slot : ℕ) → List (Option ℕ) → Type 0
+IsTaken before k s after =
+    ((slice_get before s ≡ Some None) × (after ≡ slice_set before s (Some k))) ⊎ ((o : ℕ) × (slice_get before s ≡ Some (Some o)) × (after ≡ before))

@@ -7,11 +7,12 @@ use scrib_types::name::{Dotted, Name};
 use std::alloc::{AllocError, Global};
 
 /// Slots, by a number that is mixed of the names' bytes, each with the place of the first declared protocol that has
-/// it: a look-up looks at one slot, and through the whole table only where another protocol has the slot or none.
+/// it: a look-up looks at one slot, and through the whole table only where another protocol has the slot or none. There
+/// may be no slots; where there are some, so many protocols are filed.
 #[derive(Drop)]
 pub struct Directory {
     pub slots: Vec<Option<usize>>,
-    pub ghost some: { 0 < length slots.items },
+    pub filed: usize,
     pub ghost few: { length slots.items < 2 ^ 48 },
 }
 

@@ -58,7 +58,7 @@ pub struct Elaborator<'a> {
     alloc: Global,
     modules: &'a Modules,
     declared: Vec<Declared<'a>>,
-    directory: Directory,
+    directory: &'a Directory,
     states: Vec<State>,
     known: Vec<Option<Typed<'a>>>,
 }
@@ -76,7 +76,7 @@ impl<'a> Model for Elaborator<'a> {
 
     ghost view = { λ e. e.modules.now };
 
-    ghost invariant = { λ e. IsTabled e.modules.now e.declared.items e.directory.slots.items e.states.items e.known.items };
+    ghost invariant = { λ e. IsTabled e.modules.now e.declared.items e.directory.now.slots.items e.states.items e.known.items };
 }
 
 impl<'a> Elaborator<'a> {
@@ -88,14 +88,13 @@ impl<'a> Elaborator<'a> {
         ensures { IfOk result (λ e. e ≡ modules.entry.now) }
     {
         let declared = all_declared(alloc, modules)?;
-        let directory = Directory::new(alloc, &declared)?;
         let states = unwalked(alloc, declared.len())?;
         let known = unknown(alloc, declared.len())?;
         Ok(Elaborator {
             alloc,
             modules,
             declared,
-            directory,
+            directory: modules.directory(),
             states,
             known,
         })
@@ -120,7 +119,7 @@ impl<'a> Elaborator<'a> {
             self.alloc,
             self.modules.as_slice(),
             &self.declared,
-            &self.directory,
+            self.directory,
             &mut self.states,
             &mut self.known,
             module,

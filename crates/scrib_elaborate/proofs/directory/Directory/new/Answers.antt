@@ -1,16 +1,19 @@
-use Rattle.std.proofs.Common.{◌+◌, ◌*◌, ap}
-use Rattle.scrib_elaborate.proofs.Slots.{free_filed, taken_filed}
-use Rattle.scrib_elaborate.proofs.directory.Directory.new.Goals.{then-is_none, else-is_none}
+use Rattle.std.proofs.Common.{◌≡◌, ◌+◌, ◌*◌, length, sym, subst, arith}
+use Rattle.std.proofs.lemmas.List.{length-map}
+use Rattle.scrib_elaborate.specs.Directory.{IsFilled}
+use Rattle.scrib_elaborate.specs.Table.{declaration_of, shown}
+use Rattle.scrib_elaborate.proofs.Slots.{next_declared}
 use Rattle.scrib_elaborate.proofs.directory.Directory.new.Goals as goal
 
 pub loop-place-preserved : goal.loop-place-preserved
 loop-place-preserved c =
+    next_declared c.args.declared.now (c.min.result * 16 + 1) c.loop-place.place c.index-declared-place.result c.loop-place.slots.items c.take_slot.new.slots.items c.loop-place-test.true c.index-declared-place.is c.take_slot.ensures.taken c.loop-place.invariant
+
+pub returns : goal.returns
+returns c = λ l.
     let ds = c.args.declared.now in
-    let size = c.min.result * 16 + 1 in
-    let one = c.index-declared-place.result in
-    let s = c.slot_of-slot.result in
     let slots = c.loop-place.slots.items in
-    elim c.if-is_none.branch [
-      | then-is_none w ↦ free_filed ds size c.loop-place.place s one c.index.result.now slots _ c.loop-place-test.true c.index-declared-place.is c.slot_of-slot.ensures.slot c.slot_of-slot.ensures.within c.index.ensures w.if-is_none.ensures (ap (λ v. v.items) w.slots-is) c.loop-place.invariant
-      | else-is_none w ↦ taken_filed ds size c.loop-place.place s one c.index.result.now slots _ c.loop-place-test.true c.index-declared-place.is c.slot_of-slot.ensures.slot c.slot_of-slot.ensures.within c.index.ensures w.if-is_none.ensures (ap (λ v. v.items) w.slots-is) c.loop-place.invariant
-    ]
+    let f = c.loop-place.invariant in
+    let long : length (shown ds) ≡ length ds = length-map ds declaration_of in
+    let end : c.loop-place.place ≡ length (shown ds) = omega (arith, long, c.loop-place-test.false, c.loop-place.auto) in
+    (subst (λ z. IsFilled (shown ds) (length slots) z slots) end (subst (λ z. IsFilled (shown ds) z c.loop-place.place slots) (sym f.long) f), sym long)

@@ -1,4 +1,4 @@
-use Rattle.std.proofs.Common.{◌≡◌, length, rules, subst}
+use Rattle.std.proofs.Common.{◌≡◌, length, rules, subst, sym}
 use Rattle.scrib_elaborate.specs.Directory.{IsDirectory}
 use Rattle.scrib_elaborate.specs.Table.{shown}
 use Rattle.scrib_elaborate.specs.Walking.{AreUnwalked}
@@ -14,7 +14,7 @@ invariant_of-result c =
     let fresh = subst (λ n. AreUnwalked n c.in_ok-states.states.items) long c.in_ok-states.ensures in
     record {
       all = c.in_ok-declared.ensures.all;
-      filed = subst (λ xs. IsDirectory (shown xs) c.in_ok-directory.directory.slots.items) c.deref.ensures.value c.in_ok-directory.ensures;
+      filed = subst (λ xs. IsDirectory xs c.directory.result.now.slots.items) (sym c.in_ok-declared.ensures.all) c.directory.ensures;
       settled = c.in_ok-declared.ensures.settled;
       idle = idle_before ms ds c.in_ok-states.states.items fresh;
       known = none_known ms (shown ds) c.in_ok-known.known.items c.in_ok-known.ensures;
