@@ -8,8 +8,13 @@ use Rattle.std.proofs.lemmas.List.Elements.{Contains-push, Contains-push_cases, 
 use Rattle.scrib_parser.specs.declared.tree.ModuleTree.{ModuleTree}
 use Rattle.scrib_parser.specs.declared.tree.Import.{Import}
 use Rattle.scrib_library.specs.declared.sieve.Sieved.{Sieved}
-use Rattle.scrib_library.specs.Affected.{names_now, waiting_trees, ImportsSome, AreAffected, AreSorted}
+use Rattle.scrib_library.specs.Affected.{names_now, waiting_trees, ImportsSome, AreAffected}
 use Rattle.scrib_library.proofs.Lists.{Contains-head_at, Contains-remove_cases, Contains-remove_back, map-remove}
+
+-- each module waits, or its name is among these, as the edited one is
+pub record AreSorted (modules : List ModuleTree) (edited : List (List ℕ)) (waiting : List ModuleTree) (names : List (List (List ℕ))) : Type 0 where
+  pub edited_itself : Contains names edited
+  pub each : (m : ModuleTree) → Contains modules m → Contains waiting m ⊎ Contains names m.name
 
 module _ (ms : List ModuleTree) (edited : List (List ℕ)) where
   pub sorted_first : (waiting : List ModuleTree) (names : List (List (List ℕ))) → names ≡ edited ∷ [] → ((m : ModuleTree) → Contains ms m → Contains waiting m ⊎ (m.name ≡ edited)) → AreSorted ms edited waiting names

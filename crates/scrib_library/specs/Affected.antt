@@ -1,6 +1,6 @@
 -- The modules whose protocols an edit can change.
 -- Only contracts of private functions cite this file.
-use Rattle.std.specs.Prelude.{◌⊎◌, ℕ, List, map, Contains}
+use Rattle.std.specs.Prelude.{ℕ, List, map, Contains}
 use Rattle.std.specs.Borrow.{Bor}
 use Rattle.scrib_parser.specs.declared.tree.ModuleTree.{ModuleTree}
 use Rattle.scrib_parser.specs.declared.tree.Import.{Import}
@@ -23,8 +23,3 @@ pub record ImportsSome (names : List (List (List ℕ))) (m : ModuleTree) : Type 
 pub record AreAffected (modules : List ModuleTree) (edited : List (List ℕ)) (names : List (List (List ℕ))) : Type 0 where
   pub edited_itself : Contains names edited
   pub closed : (m : ModuleTree) → Contains modules m → ImportsSome names m → Contains names m.name
-
--- each module waits, or its name is among these, as the edited one is
-pub record AreSorted (modules : List ModuleTree) (edited : List (List ℕ)) (waiting : List ModuleTree) (names : List (List (List ℕ))) : Type 0 where
-  pub edited_itself : Contains names edited
-  pub each : (m : ModuleTree) → Contains modules m → Contains waiting m ⊎ Contains names m.name
