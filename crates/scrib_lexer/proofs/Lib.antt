@@ -5,3 +5,4 @@ pub mod Front
 pub mod Wrong
 pub mod Read
 pub mod Steps
+pub mod Lines

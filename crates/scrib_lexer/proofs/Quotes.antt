@@ -13,7 +13,7 @@ or_parts false b e = (refl, e)
 
 -- ---- lines
 
-in_line-push : (bytes : List ℕ) (b : ℕ) → in_line bytes ≡ true → is_line_feed b ≡ false → in_line (bytes ++ b ∷ []) ≡ true
+pub in_line-push : (bytes : List ℕ) (b : ℕ) → in_line bytes ≡ true → is_line_feed b ≡ false → in_line (bytes ++ b ∷ []) ≡ true
 in_line-push [] b w h = rw h refl
 in_line-push (a ∷ bytes) b w h =
     let p = and_parts (not (is_line_feed a)) (in_line bytes) w in rw (p.0, in_line-push bytes b p.1 h) refl

@@ -56,6 +56,13 @@ spot_after-in_line before (b ∷ bytes) h =
     let one = spot_after-push before b ∙ spot_past-in_line (spot_after before) b (not-true (is_line_feed b) p.0) in
     ap spot_after (sym (append_assoc before (b ∷ []) bytes)) ∙ spot_after-in_line (before ++ b ∷ []) bytes p.1 ∙ ap (λ s. spot_on s (length bytes)) one ∙ spot_on-on (spot_after before) 1 (length bytes) (length (b ∷ bytes)) (omega arith)
 
+-- bytes without a line feed
+pub past_line : (spot : Spot) (bytes : List ℕ) → in_line bytes ≡ true → spot_past_all spot bytes ≡ spot_on spot (length bytes)
+past_line spot [] h = sym (spot_on-zero spot)
+past_line spot (b ∷ bytes) h =
+    let p = and_parts (not (is_line_feed b)) (in_line bytes) h in
+    past_line (spot_past spot b) bytes p.1 ∙ ap (λ s. spot_on s (length bytes)) (spot_past-in_line spot b (not-true (is_line_feed b) p.0)) ∙ spot_on-on spot 1 (length bytes) (length (b ∷ bytes)) (omega arith)
+
 pub line-le : (before : List ℕ) → (spot_after before).line ≤ length before + 1
 line-le before = omega (arith, count_by-le-length is_line_feed before)
 

@@ -8,6 +8,7 @@ ghost use Rattle.scrib_lexer.specs.Lexeme.{Lexeme, lexemes_of};
 ghost use Rattle.scrib_lexer.specs.Tokens.{IsTokens, LexGives, LexFails, FailsAt};
 ghost use Rattle.scrib_lexer.specs.Words as words;
 ghost use Rattle.scrib_lexer.specs.Pieces as pieces;
+ghost use Rattle.scrib_lexer.specs.Pieces.{IsElement};
 ghost use Rattle.scrib_lexer.specs.Steps.{IsFrontElement, IsFrontFault, mark_of, close_in, quote_in, spot_past, spot_past_all};
 
 use crate::fault::LexFault;
@@ -47,6 +48,7 @@ pub fn lex<'a>(alloc: Global, text: &'a [u8]) -> Result<Vec<Token<'a>>, LexFault
     while start < text.len() {
         let (element, len) = front_element(&text[start..], spot)?;
         let bytes = &text[start..start + len];
+        let behind = past_element(element, spot, bytes);
         if let Element::Token(kind) = element {
             tokens.push(Token {
                 kind,
@@ -55,7 +57,7 @@ pub fn lex<'a>(alloc: Global, text: &'a [u8]) -> Result<Vec<Token<'a>>, LexFault
                 spot,
             })?;
         }
-        spot = past_all(spot, bytes);
+        spot = behind;
         start += len;
     }
     Ok(tokens)
@@ -142,6 +144,23 @@ fn front_comment(text: &[u8], at: Spot) -> Result<(Element, usize), LexFault>
             None => Err(LexFault::OpenComment { at }),
         },
         _ => Err(LexFault::BadByte { at }),
+    }
+}
+
+/// The place behind the element, of which the first byte is at the place. A token holds no line feed, so its bytes
+/// aren't read once more.
+fn past_element(element: Element, spot: Spot, bytes: &[u8]) -> Spot
+    requires element { IsElement element bytes.now }
+    requires line { spot.line + length bytes.now < 2 ^ 32 }
+    requires column { spot.column + length bytes.now < 2 ^ 32 }
+    ensures { result ≡ spot_past_all spot bytes.now }
+{
+    match element {
+        Element::Token(_) => Spot {
+            line: spot.line,
+            column: spot.column + bytes.len() as u32,
+        },
+        _ => past_all(spot, bytes),
     }
 }
 

@@ -2,6 +2,7 @@ use Rattle.std.proofs.Common.{◌≡◌, ◌+◌, ◌-◌, take, drop, sym, ap, 
 use Rattle.std.proofs.lemmas.List.{take_rest, length-take-le, length-take, length-drop}
 use Rattle.std.proofs.lemmas.Result.{err_from_is_err_and}
 use Rattle.scrib_lexer.specs.Lexeme.{lexemes_of}
+use Rattle.scrib_lexer.specs.Pieces.{IsElement}
 use Rattle.scrib_lexer.specs.Steps.{spot_past_all}
 use Rattle.scrib_lexer.proofs.Spots.{column-le}
 use Rattle.scrib_lexer.proofs.Read.{IsRead, read_token, read_other, spot_more, fault_here, placed, is_faulty, no_tokens, fails_as, refused_as, end_found, end_only, no_fault}
@@ -37,8 +38,8 @@ returns-in_err-element-clause-refused c f m h =
     let here = fault_here text c.loop-start.start _ _ c.in_err-element.field-0.0 (omega arith) c.loop-start.invariant.place c.loop-start.invariant.read w in
     rw (p.1, p.2) (refused_as text c.in_err-element.field-0.0 f (fails_as text c.in_err-element.field-0.0 f n.0 n.1 here m h))
 
-pub past_all-spot-requires-clause-column : goal.past_all-spot-requires-clause-column
-past_all-spot-requires-clause-column c =
+pub past_element-behind-requires-clause-column : goal.past_element-behind-requires-clause-column
+past_element-behind-requires-clause-column c =
     let i = c.loop-start.start in
     let len = c.in_ok-element.len in
     let text = c.args.text.now in
@@ -61,7 +62,7 @@ loop-start-preserved c =
     ] in
     record {
       within = omega (arith, length-drop i text, f.within);
-      place = c.past_all-spot.ensures ∙ (λ j. spot_past_all (c.loop-start.invariant.place j) (bytes j)) ∙ sym (spot_more text i len);
+      place = c.past_element-behind.ensures ∙ (λ j. spot_past_all (c.loop-start.invariant.place j) (bytes j)) ∙ sym (spot_more text i len);
       read = more;
     }
 
@@ -72,3 +73,12 @@ returns-clause-only c ts h =
 pub returns-clause-refused : goal.returns-clause-refused
 returns-clause-refused c f n h =
     absurd (no_fault c.args.text.now _ f n (end_found c.args.text.now c.loop-start.start _ (omega arith) c.loop-start-test.false c.loop-start.invariant.read) h)
+
+pub past_element-behind-requires-clause-element : goal.past_element-behind-requires-clause-element
+past_element-behind-requires-clause-element c =
+    let i = c.loop-start.start in
+    let len = c.in_ok-element.len in
+    let text = c.args.text.now in
+    let f = rw take_rest at c.in_ok-element.ensures.found in
+    let bytes : take (i + len - i) (drop i text) ≡ take len (drop i text) = ap (λ n. take n (drop i text)) (omega arith) in
+    subst (λ b. IsElement c.in_ok-element.element b) (sym bytes) f.whole
