@@ -1,6 +1,7 @@
 //! The tokens that are left to read.
 
 ghost use Rattle.std.specs.Prelude.{◌≡◌};
+ghost use Rattle.scrib_lexer.specs.Lexeme.{lexemes_of};
 ghost use Rattle.scrib_parser.specs.LeftOut as left_out;
 ghost use Rattle.scrib_parser.specs.Reading.{left, Gives, begins, same_kind, begins_statement, begins_declaration, deep_fault, token_of, paren_behind, placed_name_of, name_of};
 
@@ -27,10 +28,7 @@ impl<'t, 'a> Cursor<'t, 'a> {
     pub(crate) fn next_is(&self, kind: TokenKind) -> bool
         ensures { result ≡ begins (same_kind kind) (left self.now) }
     {
-        match self.rest {
-            [] => false,
-            [token, ..] => kind == token.kind,
-        }
+        first_is(self.rest, kind)
     }
 
     /// Whether the next token begins a statement.
@@ -132,6 +130,16 @@ impl<'t, 'a> Cursor<'t, 'a> {
     {
         let (name, _) = self.placed_name(alloc)?;
         Ok(name)
+    }
+}
+
+/// Whether the first of the tokens is of this kind.
+fn first_is(tokens: &[Token], kind: TokenKind) -> bool
+    ensures { result ≡ begins (same_kind kind) (lexemes_of tokens.now) }
+{
+    match tokens {
+        [] => false,
+        [token, ..] => kind == token.kind,
     }
 }
 

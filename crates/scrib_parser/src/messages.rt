@@ -57,7 +57,7 @@ fn hash_of(message: &Message) -> usize {
         None => 0,
     };
     for sort in message.payload.as_slice() {
-        hash = places::hash_dotted(hash, sort);
+        hash = places::hash_names(hash, sort.as_slice());
     }
     hash
 }

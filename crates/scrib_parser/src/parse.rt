@@ -22,7 +22,7 @@ use std::alloc::Global;
 /// The most levels of blocks, a protocol's own being the first.
 pub const MAX_LEVELS: usize = 64;
 
-/// Room for the receivers, the types or the parts of a dotted name that most statements have.
+/// Room for the receivers or the types that most statements have.
 const FEW: usize = 2;
 
 /// The module that the tokens are. The tree keeps the text's order; a type declaration leaves nothing in it.
@@ -466,14 +466,13 @@ fn dotted(alloc: Global, tokens: &mut Cursor) -> Result<Dotted, ParseFault>
 fn dotted_from(alloc: Global, first: Name, tokens: &mut Cursor) -> Result<Dotted, ParseFault>
     ensures { Gives result (left tokens.new) (reading.dotted_from first (left tokens.old)) }
 {
-    let mut names = Vec::with_capacity(alloc, FEW)?;
+    let mut names = tokens.sorts.room(alloc);
     names.push(first)?;
     while tokens.next_is(TokenKind::Dot) {
         tokens.take(TokenKind::Dot)?;
         names.push(tokens.name(alloc)?)?;
     }
-    let dotted = Dotted::from_vec(alloc, names)?;
-    Ok(tokens.sorts.share(dotted)?)
+    Ok(tokens.sorts.share(alloc, names)?)
 }
 
 /// The list, which a tree keeps long: without spare room, where memory for the smaller list is given.

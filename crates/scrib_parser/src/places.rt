@@ -1,7 +1,7 @@
 //! Tables of what a text had before. Each thing has the place that its bytes give, until another comes there:
 //! which ones are kept is left open.
 
-use scrib_types::name::Dotted;
+use scrib_types::name::Name;
 use std::alloc::{AllocError, Global};
 
 /// For how many tokens of a text there is a place.
@@ -34,10 +34,10 @@ pub(crate) fn hash_on(before: usize, bytes: &[u8]) -> usize {
     hash
 }
 
-/// The hash of the dotted name behind what has this hash.
-pub(crate) fn hash_dotted(before: usize, dotted: &Dotted) -> usize {
+/// The hash of the names behind what has this hash.
+pub(crate) fn hash_names(before: usize, names: &[Name]) -> usize {
     let mut hash = before;
-    for name in dotted.as_slice() {
+    for name in names {
         hash = hash_on(hash, name.as_bytes());
     }
     hash
