@@ -1,5 +1,5 @@
 -- Where a directory of declared protocols looks for one (this project's own).
--- Only contracts of private functions cite this file.
+-- Only contracts of private functions and the invariant of `Modules` cite this file.
 use Rattle.std.specs.Prelude.{◌≡◌, ◌≢◌, ◌⊎◌, ℕ, ◌+◌, ◌*◌, ◌%◌, ◌<◌, List, [], ◌∷◌, length, slice_get, slice_set, Option, Some, None}
 use Rattle.scrib_elaborate.specs.Names.{Declaration}
 
