@@ -1,19 +1,21 @@
 -- What a call that takes a lock says of what it found there: that there were such values (this project's own).
 use Rattle.std.specs.Prelude.{◌≡◌, ℕ, List}
+use Rattle.scrib_types.specs.declared.event.Event.{Event}
 use Rattle.scrib_types.specs.declared.event.Told.{Told}
 use Rattle.scrib_parser.specs.declared.tree.ModuleTree.{ModuleTree}
 use Rattle.scrib_library.specs.declared.changes.Changes.{Changes}
 use Rattle.scrib_library.specs.declared.fault.EditFault.{EditFault}
 use Rattle.scrib_library.specs.Holdings.{Holdings}
-use Rattle.scrib_library.specs.Edits.{IsPut, IsChanges, AreVersionsUsed, PutFails, IsWithdrawal, WithdrawFails}
+use Rattle.scrib_library.specs.Edits.{IsPut, IsChanges, AreVersionsUsed, PutFails, IsWithdrawal, AreWithdrawn, WithdrawFails}
 use Rattle.scrib_core.specs.declared.reply.Refusal.{Refusal}
 use Rattle.scrib_core.specs.Held.{Records}
 use Rattle.scrib_core.specs.Conversing.{IsOpened, OpenFails, TellFails}
 use Rattle.scrib_locked.specs.declared.passing.PassRefusal.{PassRefusal}
+use Rattle.scrib_locked.specs.declared.stepping.Noted.{Noted}
 use Rattle.scrib_locked.specs.Shards.{ShardHeld}
-use Rattle.scrib_locked.specs.Locked.{ConnectFails, IsTurnedFor}
+use Rattle.scrib_locked.specs.Locked.{IsConnected, ConnectFails, IsTurnedFor}
 use Rattle.scrib_locked.specs.Passes.{PassHeld}
-use Rattle.scrib_locked.specs.Passing.{PassNoteFails, PassAskFails}
+use Rattle.scrib_locked.specs.Passing.{IsNotedBy, PassNoteFails, IsAskedBy, PassAskFails}
 use Rattle.scrib_locked.specs.Sweeping.{AreTouched}
 
 -- some library, and what a put of the text made of it
@@ -34,6 +36,9 @@ pub record IsWithdrawnSome (name : List (List ℕ)) (changes : Changes) : Type 0
   pub withdrawn : IsWithdrawal old.modules name new.modules
   pub home : changes.module ≡ name
   pub changed : IsChanges old.modules new.modules changes.list
+  pub kinds : AreWithdrawn changes.list
+  pub versions : AreVersionsUsed old new changes.list
+  pub unused : new.used ≡ old.used
 
 abbrev pub WithdrawFailsSome : List (List ℕ) → EditFault → Type 0
 WithdrawFailsSome name f = (h : Holdings) × WithdrawFails h.modules name f
@@ -48,8 +53,16 @@ pub record IsOpenedSome (id : ℕ) (name : List (List ℕ)) : Type 0 where
 abbrev pub OpenFailsSome : ℕ → List (List ℕ) → Refusal → Type 0
 OpenFailsSome id name f = (h : Holdings) × (s : ShardHeld) × OpenFails s.most h s.records id name f
 
+-- some records, to one of which this is a new pass
+abbrev pub IsConnectedSome : ℕ → PassHeld → Type 0
+IsConnectedSome id p = (rs : Records) × IsConnected rs id p
+
 abbrev pub ConnectFailsSome : ℕ → Refusal → Type 0
 ConnectFailsSome id f = (rs : Records) × ConnectFails rs id f
+
+-- some library and shard, in which the event was noted by the pass
+abbrev pub IsNotedSome : PassHeld → Event → Noted → Type 0
+IsNotedSome p e n = (h : Holdings) × (old : ShardHeld) × (new : ShardHeld) × IsNotedBy h old p e n new
 
 -- some records, in which the note by the pass is refused for this
 abbrev pub NoteFailsSome : PassHeld → PassRefusal → Type 0
@@ -61,6 +74,10 @@ IsTurnedSome id answer = (h : Holdings) × (old : Records) × (new : Records) ×
 
 abbrev pub TellFailsSome : ℕ → Refusal → Type 0
 TellFailsSome id f = (rs : Records) × TellFails rs id f
+
+-- some library and records, of which this is told to the pass
+abbrev pub IsAskedSome : PassHeld → Told → Type 0
+IsAskedSome p answer = (h : Holdings) × (rs : Records) × IsAskedBy h rs p answer
 
 abbrev pub AskFailsSome : PassHeld → PassRefusal → Type 0
 AskFailsSome p f = (rs : Records) × PassAskFails rs p f

@@ -1,5 +1,5 @@
 -- What a settled service says of what its locks held (this project's own).
-use Rattle.std.specs.Prelude.{◌<◌, ◌≤◌, List, length}
+use Rattle.std.specs.Prelude.{◌≡◌, ℕ, ◌<◌, ◌≤◌, List, length}
 use Rattle.scrib_library.specs.Holdings.{Holdings}
 use Rattle.scrib_locked.specs.Shards.{ShardHeld}
 use Rattle.scrib_locked.specs.Passes.{PassHeld}
@@ -7,19 +7,20 @@ use Rattle.scrib_settle.specs.declared.ended.Ended.{Ended}
 use Rattle.scrib_settle.specs.declared.fault.SettleFault.{SettleFault}
 use Rattle.scrib_settle.specs.Settled.{IsSettled, IsFault}
 
--- the values of 1 to 64 shards
-pub record AreShards (shards : List ShardHeld) : Type 0 where
+-- the values of so many shards, 1 to 64
+pub record AreShards (count : ℕ) (shards : List ShardHeld) : Type 0 where
+  pub all : length shards ≡ count
   pub some : 0 < length shards
   pub few : length shards ≤ 64
 
--- there were shards that the passes settle under the library, to this list
-pub record IsSettledSome (h : Holdings) (passes : List PassHeld) (list : List Ended) : Type 0 where
+-- there were so many shards that the passes settle under the library, to this list
+pub record IsSettledSome (count : ℕ) (h : Holdings) (passes : List PassHeld) (list : List Ended) : Type 0 where
   pub shards : List ShardHeld
-  pub are : AreShards shards
+  pub are : AreShards count shards
   pub settled : IsSettled h shards passes list
 
--- there were shards that the passes don't settle, for this
-pub record IsFaultSome (passes : List PassHeld) (f : SettleFault) : Type 0 where
+-- there were so many shards that the passes don't settle, for this
+pub record IsFaultSome (count : ℕ) (passes : List PassHeld) (f : SettleFault) : Type 0 where
   pub shards : List ShardHeld
-  pub are : AreShards shards
+  pub are : AreShards count shards
   pub fault : IsFault shards passes f

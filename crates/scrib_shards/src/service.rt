@@ -2,7 +2,7 @@
 
 ghost use Rattle.std.specs.Prelude.{◌≡◌, ◌⊎◌, ◌↔◌, ◌<◌, ◌≤◌, [], IfOk, IfErr, OnOk, OnErr, IsErrOf, vec_len, vec_capacity};
 ghost use Rattle.scrib_locked.specs.Passes.{IsReceipted, IsAnsweredOn};
-ghost use Rattle.scrib_shards.specs.Called.{IsPutSome, PutFailsSome, IsWithdrawnSome, WithdrawFailsSome, IsOpenedSome, OpenFailsSome, ConnectFailsSome, NoteFailsSome, IsTurnedSome, TellFailsSome, AskFailsSome};
+ghost use Rattle.scrib_shards.specs.Called.{IsPutSome, PutFailsSome, IsWithdrawnSome, WithdrawFailsSome, IsOpenedSome, OpenFailsSome, IsConnectedSome, ConnectFailsSome, IsNotedSome, NoteFailsSome, IsTurnedSome, TellFailsSome, IsAskedSome, AskFailsSome};
 
 use crate::gate::Gate;
 use scrib_core::monitor::MAX_CONVERSATIONS;
@@ -132,7 +132,8 @@ impl Service {
     /// # Errors
     /// `NoConversation` where none is open under the id.
     pub fn connect(&self, rt: &impl Wait, id: u32) -> Result<Pass, Refusal>
-        ensures ok { IfOk result (λ p. p ≡ record { conversation = id; receipts = [] }) }
+        ensures ok { IfOk result (IsConnectedSome id) }
+        ensures new { IfOk result (λ p. p ≡ record { conversation = id; receipts = [] }) }
         ensures fault { IfErr result (ConnectFailsSome id) }
     {
         let shard = self.shards[self.shard_of(id)].lock(rt);
@@ -153,7 +154,8 @@ impl Service {
         event: Event,
         gate: &G,
     ) -> Result<Noted, PassRefusal>
-        ensures ok { IfOk result (λ n. IsReceipted pass.old event n pass.new) }
+        ensures ok { IfOk result (IsNotedSome pass.old event) }
+        ensures receipted { IfOk result (λ n. IsReceipted pass.old event n pass.new) }
         ensures fault { IfErr result (NoteFailsSome pass.old) }
         ensures err { OnErr result (pass.new ≡ pass.old) }
     {
@@ -186,7 +188,8 @@ impl Service {
     /// # Errors
     /// `Mismatch` with the least place where a receipt doesn't stand, else `NoConversation` or `OutOfMemory`.
     pub fn ask(&self, rt: &impl Wait, pass: &Pass) -> Result<Told, PassRefusal>
-        ensures ok { IfOk result (IsAnsweredOn pass.now.receipts) }
+        ensures ok { IfOk result (IsAskedSome pass.now) }
+        ensures answered { IfOk result (IsAnsweredOn pass.now.receipts) }
         ensures fault { IfErr result (AskFailsSome pass.now) }
     {
         let at = self.shard_of(pass.conversation());

@@ -42,10 +42,11 @@ impl Service {
     /// # Errors
     /// `PassesMissing` for the least shard whose passes have other than its number of receipts; else `Mismatch` for the
     /// least conversation and its least place that differs; or else `OutOfMemory`, which may also come in place of
-    /// `Mismatch`. The service and the passes come back.
+    /// `Mismatch`. The service and the passes come back, with as many shards.
     pub fn settle(self, passes: Vec<Pass>) -> Result<Settled, (SettleFault, Service, Vec<Pass>)>
-        ensures settled { IfOk result (λ s. IsSettledSome s.library passes.items s.list.items) }
-        ensures fault { IfErr result (λ e. IsFaultSome passes.items e.0) }
+        ensures settled { IfOk result (λ s. IsSettledSome (vec_len self.shards) s.library passes.items s.list.items) }
+        ensures fault { IfErr result (λ e. IsFaultSome (vec_len self.shards) passes.items e.0) }
+        ensures shards { IfErr result (λ e. vec_len e.1.shards ≡ vec_len self.shards) }
         ensures passes { IfErr result (λ e. e.2 ≡ passes) }
     {
         let Service {
