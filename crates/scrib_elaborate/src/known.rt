@@ -24,7 +24,7 @@ use std::alloc::{AllocError, Global};
 pub fn unknown<'a>(alloc: Global, count: usize) -> Result<Vec<Option<Typed<'a>>>, AllocError>
     ensures { IfOk result (λ known. AreUnknown known.items) }
 {
-    let mut known = Vec::new(alloc);
+    let mut known = Vec::with_capacity(alloc, count)?;
     for _ in 0..count {
         known.push(None)?;
     }

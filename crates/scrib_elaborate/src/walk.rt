@@ -220,7 +220,7 @@ pub fn fault_in(alloc: Global, home: &ModuleTree, rule: BrokenRule) -> Elaborate
 pub fn unwalked(alloc: Global, count: usize) -> Result<Vec<State>, AllocError>
     ensures { IfOk result (λ states. AreUnwalked count states.items) }
 {
-    let mut states = Vec::new(alloc);
+    let mut states = Vec::with_capacity(alloc, count)?;
     for _ in 0..count {
         states.push(State::Unwalked)?;
     }
