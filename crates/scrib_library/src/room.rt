@@ -9,6 +9,7 @@ ghost use Rattle.scrib_library.specs.Edits.{HasRoom, ModuleFails};
 
 use crate::fault::EditFault;
 use crate::library::{MAX_MODULES, MAX_PROTOCOLS};
+use crate::names::same;
 use scrib_parser::tree::{Import, ModuleTree};
 use scrib_types::name::Dotted;
 use std::alloc::Global;
@@ -52,7 +53,7 @@ fn has_module(modules: &[ModuleTree], name: &Dotted) -> bool
     ensures { result ≡ has_name name.now (module_names modules.now) }
 {
     for tree in modules {
-        if name.equal(&tree.name) {
+        if same(name, &tree.name) {
             return true;
         }
     }
