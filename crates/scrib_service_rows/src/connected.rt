@@ -1,7 +1,7 @@
 //! A service, used by one thread as a core is.
 
 use crate::fault::RowsFault;
-use crate::lines::{asked, edited, noted, push_fault, push_settled, refused, turned};
+use crate::lines::{asked, edited, noted, push_settling, refused, turned};
 use scrib_core::reply::{Edit, Reply};
 use scrib_core::step::Step;
 use scrib_report::line::line;
@@ -94,9 +94,6 @@ impl Connected {
             service,
             passes,
         } = self;
-        match service.settle(passes) {
-            Ok(settled) => push_settled(alloc, out, &settled),
-            Err((fault, _, _)) => push_fault(out, &fault),
-        }
+        push_settling(alloc, service, passes, out)
     }
 }

@@ -2,6 +2,7 @@
 
 use scrib_core::reply::Refusal;
 use scrib_library::fault::EditFault;
+use scrib_rejudge::workers::SweepFault;
 use scrib_shards::passing::PassRefusal;
 use scrib_shards::service::ServiceFault;
 use std::alloc::{AllocError, AllocFailed};
@@ -40,6 +41,12 @@ impl From<Refusal> for RowsFault {
 
 impl From<PassRefusal> for RowsFault {
     fn from(_refusal: PassRefusal) -> RowsFault {
+        RowsFault::Refused
+    }
+}
+
+impl From<SweepFault> for RowsFault {
+    fn from(_fault: SweepFault) -> RowsFault {
         RowsFault::Refused
     }
 }

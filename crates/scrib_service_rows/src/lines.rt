@@ -8,7 +8,9 @@ use scrib_report::line::line;
 use scrib_report::table::table;
 use scrib_report::verdict::verdict;
 use scrib_shards::fault::SettleFault;
+use scrib_shards::pass::Pass;
 use scrib_shards::passing::PassRefusal;
+use scrib_shards::service::Service;
 use scrib_shards::settled::Settled;
 use scrib_shards::stepping::Noted;
 use scrib_types::event::Told;
@@ -76,7 +78,7 @@ pub(crate) fn refused(alloc: Global, refusal: Refusal) -> Result<Vec<u8>, RowsFa
     Ok(line(alloc, &Reply::Refused(refusal))?)
 }
 
-/// What settling answers: the table, or the line of the fault.
+/// What settling answers: the table.
 pub(crate) fn push_settled(
     alloc: Global,
     out: &mut Vec<u8>,
@@ -84,6 +86,19 @@ pub(crate) fn push_settled(
 ) -> Result<(), RowsFault> {
     push_bytes(out, table(alloc, settled.list.as_slice())?.as_slice())?;
     Ok(())
+}
+
+/// Settles the service with the passes, and adds the table, or the line of the fault.
+pub(crate) fn push_settling(
+    alloc: Global,
+    service: Service,
+    passes: Vec<Pass>,
+    out: &mut Vec<u8>,
+) -> Result<(), RowsFault> {
+    match service.settle(passes) {
+        Ok(settled) => push_settled(alloc, out, &settled),
+        Err((fault, _, _)) => push_fault(out, &fault),
+    }
 }
 
 /// The line of a refused settling.

@@ -1,6 +1,6 @@
-//! Runs worked examples of the service. Each has a title line that begins with `== `, a line with a command, and for
-//! `service 2` the script that a service of two shards runs, on one thread, beside a core. The output is each title with
-//! what the command writes. The other commands are rows of this program.
+//! Runs worked examples of the service and of its sweeps. Each has a title line that begins with `== `, a line with a
+//! command, and for `service 2` the script that a service of two shards runs, on one thread, beside a core. The output
+//! is each title with what the command writes. The other commands are rows of this program.
 #![tactic(auto)]
 
 mod connected;
@@ -11,6 +11,7 @@ mod making;
 mod meeting;
 mod script;
 mod several;
+mod sweeps;
 mod threads;
 
 use crate::fault::RowsFault;
@@ -18,8 +19,11 @@ use crate::generated::push_generated;
 use crate::lines::push_line;
 use crate::meeting::push_meeting;
 use crate::script::run_script;
-use crate::several::{push_full_shard, push_strangers, push_swept};
-use crate::threads::push_threads;
+use crate::several::{push_full_shard, push_strangers};
+use crate::sweeps::{
+    push_noticed, push_numbers_of_workers, push_one_worker, push_swept, push_two_workers,
+};
+use crate::threads::{push_threads, push_threads_swept};
 use scrib_types::text::push_bytes;
 use std::alloc::Global;
 use std::io;
@@ -46,6 +50,11 @@ fn obey<R: Threads + Wait + Sync>(
         "generated" => push_generated(rt, alloc, number, out),
         "threads" => push_threads(rt, alloc, number, out),
         "meeting" => push_meeting(rt, alloc, number, out),
+        "one-worker" => push_one_worker(rt, alloc, number, out),
+        "numbers-of-workers" => push_numbers_of_workers(rt, alloc, number, out),
+        "notices" => push_noticed(rt, alloc, number, out),
+        "two-workers" => push_two_workers(rt, alloc, number, out),
+        "threads-swept" => push_threads_swept(rt, alloc, number, out),
         _ => Err(RowsFault::BadRow),
     }
 }

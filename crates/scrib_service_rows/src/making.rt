@@ -53,8 +53,7 @@ pub(crate) fn name_of(alloc: Global, text: &str) -> Result<Dotted, RowsFault> {
     }
 }
 
-/// A service of so many shards with the module, in which conversations 0 and 1 of its protocol are open if they are
-/// asked for.
+/// A service of so many shards with the module.
 pub(crate) fn service(
     rt: &impl Wait,
     alloc: Global,
@@ -63,5 +62,21 @@ pub(crate) fn service(
 ) -> Result<Service, RowsFault> {
     let service = Service::new(alloc, shards)?;
     service.put(rt, module.as_bytes())?;
+    Ok(service)
+}
+
+/// A service of so many shards with two modules and three conversations, of which 0 and 1 have a protocol of the module
+/// that was edited since, and 2 one of the other.
+pub(crate) fn edited_service(
+    rt: &impl Wait,
+    alloc: Global,
+    shards: usize,
+) -> Result<Service, RowsFault> {
+    let service = service(rt, alloc, shards, LOOP)?;
+    service.put(rt, DEMO.as_bytes())?;
+    for (id, text) in [(0, "k.K"), (1, "k.K"), (2, "demo.Hello")] {
+        service.open(rt, id, &name_of(alloc, text)?)?;
+    }
+    service.put(rt, CHOICE.as_bytes())?;
     Ok(service)
 }

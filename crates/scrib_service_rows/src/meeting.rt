@@ -1,7 +1,7 @@
 //! A note that stays in its gate while another shard answers.
 
 use crate::fault::RowsFault;
-use crate::lines::{push_line, push_settled};
+use crate::lines::{push_line, push_settling};
 use crate::making::{DEMO, event_of, name_of, service};
 use scrib_shards::gate::{Gate, OpenGate};
 use scrib_shards::pass::Pass;
@@ -24,8 +24,8 @@ struct Meeting {
     seen: AtomicU64,
 }
 
-// Looks until the flag is set, and counts that in `seen`.
-fn look_for(flag: &AtomicU64, seen: &AtomicU64) {
+/// Looks until the flag is set, and counts that in `seen`.
+pub(crate) fn look_for(flag: &AtomicU64, seen: &AtomicU64) {
     for _ in 0..LOOKS {
         if flag.load(Ordering::SeqCst) == 1 {
             seen.fetch_add(1, Ordering::SeqCst);
@@ -115,8 +115,5 @@ pub(crate) fn push_meeting<R: Threads + Wait + Sync>(
     if meeting.seen.load(Ordering::SeqCst) == 2 {
         push_line(out, b"each saw the other")?;
     }
-    match service.settle(passes) {
-        Ok(settled) => push_settled(alloc, out, &settled),
-        Err(_) => push_line(out, b"not settled"),
-    }
+    push_settling(alloc, service, passes, out)
 }

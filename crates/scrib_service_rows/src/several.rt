@@ -1,8 +1,8 @@
 //! Rows with more than one service, or with a call that no script makes.
 
 use crate::fault::RowsFault;
-use crate::lines::{asked, noted, push_fault, push_line, push_settled, refused};
-use crate::making::{CHOICE, DEMO, LOOP, event_of, name_of, service};
+use crate::lines::{asked, noted, push_fault, push_line, push_settled, push_settling, refused};
+use crate::making::{DEMO, event_of, name_of, service};
 use scrib_shards::gate::OpenGate;
 use scrib_shards::pass::Pass;
 use scrib_shards::service::Service;
@@ -91,47 +91,5 @@ pub(crate) fn push_strangers(
         }
     };
     passes.push(own)?;
-    match here.settle(passes) {
-        Ok(settled) => push_settled(alloc, out, &settled),
-        Err((fault, _, _)) => push_fault(out, &fault),
-    }
-}
-
-// The ids of the conversations of the shards whose verdict is out of date.
-fn push_touched(rt: &impl Wait, service: &Service, out: &mut Vec<u8>) -> Result<(), RowsFault> {
-    push_bytes(out, b"touched:")?;
-    for shard in 0..service.shards() {
-        for id in service.touched(rt, shard)?.as_slice() {
-            push_bytes(out, b" ")?;
-            push_number(out, u64::from(*id))?;
-        }
-    }
-    push_line(out, b"")
-}
-
-fn push_sweep(service: &mut Service, out: &mut Vec<u8>) -> Result<(), RowsFault> {
-    let swept = service.sweep_shards()?;
-    push_number(out, swept.turns)?;
-    push_bytes(out, b" turns, ")?;
-    push_number(out, swept.judged)?;
-    push_line(out, b" judged")
-}
-
-/// After an edit the conversations of its protocol are out of date, and others aren't; a sweep brings them up to date.
-pub(crate) fn push_swept(
-    rt: &impl Wait,
-    alloc: Global,
-    shards: usize,
-    out: &mut Vec<u8>,
-) -> Result<(), RowsFault> {
-    let mut service = service(rt, alloc, shards, LOOP)?;
-    service.put(rt, DEMO.as_bytes())?;
-    for (id, text) in [(0, "k.K"), (1, "k.K"), (2, "demo.Hello")] {
-        service.open(rt, id, &name_of(alloc, text)?)?;
-    }
-    service.put(rt, CHOICE.as_bytes())?;
-    push_touched(rt, &service, out)?;
-    push_sweep(&mut service, out)?;
-    push_touched(rt, &service, out)?;
-    push_sweep(&mut service, out)
+    push_settling(alloc, here, passes, out)
 }

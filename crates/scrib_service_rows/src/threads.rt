@@ -1,8 +1,10 @@
 //! Two threads that note events, and a third that edits, on one service.
 
 use crate::fault::RowsFault;
-use crate::lines::{push_fault, push_settled};
+use crate::lines::{push_fault, push_settled, push_settling};
 use crate::making::{CHOICE, LOOP, event_of, name_of, service};
+use scrib_rejudge::alone::sweep_alone;
+use scrib_rejudge::workers::sweep;
 use scrib_shards::gate::OpenGate;
 use scrib_shards::pass::Pass;
 use scrib_shards::service::Service;
@@ -126,8 +128,26 @@ pub(crate) fn push_threads<R: Threads + Wait + Sync>(
         }
     };
     passes.push(second)?;
-    match service.settle(passes) {
-        Ok(settled) => push_settled(alloc, out, &settled),
-        Err((fault, _, _)) => push_fault(out, &fault),
+    push_settling(alloc, service, passes, out)
+}
+
+/// The same threads on a service of two shards. Tells what is settled after a sweep by so many workers, or by one
+/// thread that has the service alone where there are none.
+pub(crate) fn push_threads_swept<R: Threads + Wait + Sync>(
+    rt: &R,
+    alloc: Global,
+    workers: usize,
+    out: &mut Vec<u8>,
+) -> Result<(), RowsFault> {
+    let mut service = service(rt, alloc, 2, LOOP)?;
+    let (first, second) = converse(rt, alloc, &service)?;
+    if workers == 0 {
+        sweep_alone(&mut service)?;
+    } else {
+        sweep(rt, alloc, &service, workers, &OpenGate)?;
     }
+    let mut passes = Vec::new(alloc);
+    passes.push(first)?;
+    passes.push(second)?;
+    push_settling(alloc, service, passes, out)
 }

@@ -1,7 +1,9 @@
-//! Sweeps by workers and by notices.
+//! Sweeps of all shards at once, by workers and by notices.
 
 use crate::fault::RowsFault;
-use crate::making::{CHOICE, service};
+use crate::lines::push_line;
+use crate::making::{LOOP, edited_service, service};
+use crate::meeting::look_for;
 use crossbeam_channel::unbounded;
 use scrib_rejudge::Swept;
 use scrib_rejudge::notices::{Notice, serve_notices};
@@ -12,60 +14,71 @@ use scrib_types::text::{push_bytes, push_number};
 use std::alloc::Global;
 use std::sync::Wait;
 use std::sync::atomic::{AtomicU64, Ordering};
-use std::thread;
 use std::thread::Threads;
 
-// How often a thread looks for another before it goes on alone.
-const LOOKS: u64 = 10_000_000;
+// The ids of the conversations of the shards whose verdict is out of date.
+fn push_touched(rt: &impl Wait, service: &Service, out: &mut Vec<u8>) -> Result<(), RowsFault> {
+    push_bytes(out, b"touched:")?;
+    for shard in 0..service.shards() {
+        for id in service.touched(rt, shard)?.as_slice() {
+            push_bytes(out, b" ")?;
+            push_number(out, u64::from(*id))?;
+        }
+    }
+    push_line(out, b"")
+}
 
-/// Tells what was swept, as a line.
-pub(crate) fn push_swept(out: &mut Vec<u8>, swept: Swept) -> Result<(), RowsFault> {
+// Tells what was swept, as a line.
+fn push_counts(out: &mut Vec<u8>, swept: Swept) -> Result<(), RowsFault> {
     push_number(out, swept.turns)?;
     push_bytes(out, b" turns, ")?;
     push_number(out, swept.judged)?;
-    push_bytes(out, b" judged\n")?;
-    Ok(())
+    push_line(out, b" judged")
 }
 
-// Tells which conversations of the first shard are out of date, as a line.
-fn push_touched(rt: &impl Wait, service: &Service, out: &mut Vec<u8>) -> Result<(), RowsFault> {
-    push_bytes(out, b"touched:")?;
-    for id in service.touched(rt, 0)? {
-        push_bytes(out, b" ")?;
-        push_number(out, u64::from(id))?;
-    }
-    push_bytes(out, b"\n")?;
-    Ok(())
+/// After an edit the conversations of its protocol are out of date, and others aren't; a sweep brings them up to date.
+pub(crate) fn push_swept(
+    rt: &impl Wait,
+    alloc: Global,
+    shards: usize,
+    out: &mut Vec<u8>,
+) -> Result<(), RowsFault> {
+    let mut service = edited_service(rt, alloc, shards)?;
+    push_touched(rt, &service, out)?;
+    push_counts(out, service.sweep_shards()?)?;
+    push_touched(rt, &service, out)?;
+    push_counts(out, service.sweep_shards()?)
 }
 
-/// What an edit leaves out of date in a service of one shard, what one worker makes of that, and then of what is left.
+/// What an edit leaves out of date, what one worker makes of that, and then of what is left.
 pub(crate) fn push_one_worker<R: Threads + Wait + Sync>(
     rt: &R,
     alloc: Global,
+    shards: usize,
     out: &mut Vec<u8>,
 ) -> Result<(), RowsFault> {
-    let service = service(rt, alloc, 1, 3)?;
-    service.put(rt, CHOICE.as_bytes())?;
+    let service = edited_service(rt, alloc, shards)?;
     push_touched(rt, &service, out)?;
-    push_swept(out, sweep(rt, alloc, &service, 1, &OpenGate)?)?;
+    push_counts(out, sweep(rt, alloc, &service, 1, &OpenGate)?)?;
     push_touched(rt, &service, out)?;
-    push_swept(out, sweep(rt, alloc, &service, 1, &OpenGate)?)
+    push_counts(out, sweep(rt, alloc, &service, 1, &OpenGate)?)
 }
 
-/// What is refused of sweeps by so many workers, from none to 17.
+/// What is refused of sweeps by so many workers, from none to the most.
 pub(crate) fn push_numbers_of_workers<R: Threads + Wait + Sync>(
     rt: &R,
     alloc: Global,
+    most: usize,
     out: &mut Vec<u8>,
 ) -> Result<(), RowsFault> {
-    let service = service(rt, alloc, 1, 0)?;
-    for workers in 0..18 {
+    let service = service(rt, alloc, 1, LOOP)?;
+    for workers in 0..=most {
         match sweep(rt, alloc, &service, workers, &OpenGate) {
             Ok(_) => {}
             Err(SweepFault::BadWorkers) => {
                 push_bytes(out, b"refused BadWorkers ")?;
                 push_number(out, workers as u64)?;
-                push_bytes(out, b"\n")?;
+                push_line(out, b"")?;
             }
             Err(fault) => return Err(fault.into()),
         }
@@ -77,10 +90,10 @@ pub(crate) fn push_numbers_of_workers<R: Threads + Wait + Sync>(
 pub(crate) fn push_noticed(
     rt: &impl Wait,
     alloc: Global,
+    shards: usize,
     out: &mut Vec<u8>,
 ) -> Result<(), RowsFault> {
-    let service = service(rt, alloc, 2, 3)?;
-    service.put(rt, CHOICE.as_bytes())?;
+    let service = edited_service(rt, alloc, shards)?;
     let (outbox, inbox) = unbounded(alloc)?;
     for shard in [0, 1, 7] {
         if outbox.send(rt, Notice { shard }).is_err() {
@@ -88,7 +101,7 @@ pub(crate) fn push_noticed(
         }
     }
     drop(outbox);
-    push_swept(out, serve_notices(rt, &service, &inbox, &OpenGate)?)
+    push_counts(out, serve_notices(rt, &service, &inbox, &OpenGate)?)
 }
 
 // Where the workers of two shards meet: each stays in its gate until the other has entered its own.
@@ -104,13 +117,7 @@ impl Gate for Crossing {
             return;
         }
         self.entered[shard].store(1, Ordering::SeqCst);
-        for _ in 0..LOOKS {
-            if self.entered[1 - shard].load(Ordering::SeqCst) == 1 {
-                self.met.fetch_add(1, Ordering::SeqCst);
-                return;
-            }
-            thread::yield_now();
-        }
+        look_for(&self.entered[1 - shard], &self.met);
     }
 }
 
@@ -118,17 +125,16 @@ impl Gate for Crossing {
 pub(crate) fn push_two_workers<R: Threads + Wait + Sync>(
     rt: &R,
     alloc: Global,
+    shards: usize,
     out: &mut Vec<u8>,
 ) -> Result<(), RowsFault> {
-    let service = service(rt, alloc, 2, 2)?;
-    service.put(rt, CHOICE.as_bytes())?;
+    let service = edited_service(rt, alloc, shards)?;
     let gate = Crossing {
         entered: [AtomicU64::new(0), AtomicU64::new(0)],
         met: AtomicU64::new(0),
     };
-    push_swept(out, sweep(rt, alloc, &service, 2, &gate)?)?;
+    push_counts(out, sweep(rt, alloc, &service, 2, &gate)?)?;
     push_bytes(out, b"met: ")?;
     push_number(out, gate.met.load(Ordering::SeqCst))?;
-    push_bytes(out, b"\n")?;
-    Ok(())
+    push_line(out, b"")
 }
