@@ -1,3 +1,4 @@
 pub mod Json
 pub mod Lines
 pub mod Table
+pub mod Services

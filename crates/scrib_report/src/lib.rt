@@ -6,5 +6,6 @@ mod fault;
 pub mod flight;
 pub mod json;
 pub mod line;
+pub mod service;
 pub mod table;
 pub mod verdict;
