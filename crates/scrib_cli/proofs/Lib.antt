@@ -1,8 +1,5 @@
-pub mod Bytes
 pub mod Writes
-pub mod Outputs
-pub mod Going
-pub mod Ending
+pub mod Running
 pub mod Tellings
 pub mod Explained
 pub mod KeptTexts

@@ -56,4 +56,5 @@ status_of (Err f) = 1
 abbrev pub fault_text : ScriptFault → List ℕ
 fault_text fault.Read = codes "scribmon: read fault"
 fault_text fault.Write = codes "scribmon: write fault"
+fault_text fault.Settle = codes "scribmon: the service did not settle"
 fault_text fault.OutOfMemory = codes "scribmon: out of memory"

@@ -37,12 +37,14 @@ AreAddedOrFail before texts after (Some f) = FailsAmong texts f
 abbrev pub StopsAmong : List (Option (List ℕ)) → ScriptFault → Type 0
 StopsAmong texts fault.Read = StopsUnread texts
 StopsAmong texts fault.Write = ⊥
+StopsAmong texts fault.Settle = ⊥
 StopsAmong texts fault.OutOfMemory = ⊤
 
 -- the protocol has a full name and the first text that is no module can't be read, or memory was refused
 abbrev pub StopsReading : (texts : List (Option (List ℕ))) (protocol : List ℕ) → ScriptFault → Type 0
 StopsReading texts protocol fault.Read = ((name : FullName) × IsFullName protocol name) × StopsUnread texts
 StopsReading texts protocol fault.Write = ⊥
+StopsReading texts protocol fault.Settle = ⊥
 StopsReading texts protocol fault.OutOfMemory = ⊤
 
 -- the name is one of the roles

@@ -126,4 +126,5 @@ IsAnswer form texts protocol role does_so text =
 abbrev pub FaultTells : Form → (texts : List (Option (List ℕ))) (protocol role : List ℕ) → ScriptFault → Type 0
 FaultTells form texts protocol role fault.Read = ((name : FullName) × IsFullName protocol name) × StopsUnread texts
 FaultTells form texts protocol role fault.Write = (does_so : Bool) × (text : List ℕ) × IsAnswer form texts protocol role does_so text
+FaultTells form texts protocol role fault.Settle = ⊥
 FaultTells form texts protocol role fault.OutOfMemory = ⊤

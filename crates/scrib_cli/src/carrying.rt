@@ -1,39 +1,24 @@
-//! Carries out steps and lines, and writes what they are answered.
+//! Carries out what a script spells, and writes what is answered.
 
-ghost use Rattle.std.specs.Prelude.{◌≡◌, ◌≢◌, ◌↔◌, IsTrue, OnOk, OnErr, IfOk, option_map};
+ghost use Rattle.std.specs.Prelude.{◌≡◌, ◌≢◌, OnOk, OnErr};
 ghost use Rattle.scrib_core.specs.Held.{state_of};
-ghost use Rattle.scrib_core.specs.declared.step.Step.TheVariants.{Put};
 ghost use Rattle.scrib_core.specs.declared.reply.Reply.TheVariants.{Refused};
 ghost use Rattle.scrib_core.specs.declared.reply.Refusal.TheVariants.{OutOfMemory};
-ghost use Rattle.scrib_cli.specs.Scripts.{text_end};
-ghost use Rattle.scrib_cli.specs.Progress.{as_text, Answered, PartMade, CarriedOut, PartCarriedOut, CarriedText, PartPut};
+ghost use Rattle.scrib_cli.specs.Progress.{Answered, PartMade, IsTold, IsPartTold};
 
 use crate::fault::ScriptFault;
-use crate::keeping::{KeptText, before_end, keep};
-use crate::printing::{reply_format, tell_bad_line, write_reply};
+use crate::printing::{reply_format, tell_bad_line, tell_end, write_reply};
 use crate::telling::Telling;
 use scrib_core::monitor::Core;
 use scrib_core::reply::{Refusal, Reply};
 use scrib_core::step::Step;
 use scrib_script::format::Format;
-use scrib_script::line::Line;
-use scrib_script::reader::Reader;
-use scrib_types::plain::Items;
+use scrib_script::item::Item;
 use std::alloc::Global;
 use std::io::Write;
 
-/// What is kept of a module text: one byte more than it may have.
-pub const KEPT_TEXT_BYTES: usize = 1_048_577;
-
-/// Whether this is the line that ends a module text.
-pub fn is_text_end(bytes: &[u8]) -> bool
-    ensures { IsTrue result ↔ (bytes.now ≡ text_end) }
-{
-    bytes == b"%%".as_slice()
-}
-
 /// Makes the step and writes its reply to a line that asks for this format, or in silence sees that it had memory.
-pub fn make_step<W: Write>(
+fn make_step<W: Write>(
     alloc: Global,
     core: &mut Core,
     step: Step,
@@ -53,22 +38,6 @@ pub fn make_step<W: Write>(
     }
 }
 
-/// Puts the module text that is kept and writes the reply, or in silence sees that it had memory.
-pub fn put_text<W: Write>(
-    alloc: Global,
-    core: &mut Core,
-    text: KeptText,
-    telling: Telling,
-    writer: &mut W,
-) -> Result<(), ScriptFault>
-    ensures ok { OnOk result (Answered telling text.format (state_of core.old) (Put text.bytes.items) (state_of core.new) (W.contents writer.old) (W.contents writer.new)) }
-    ensures err { OnErr result (PartMade telling text.format (state_of core.old) (Put text.bytes.items) (state_of core.new) (W.contents writer.old) (W.contents writer.new)) }
-{
-    let KeptText { bytes, format } = text;
-    let text = Items::from_vec(bytes);
-    make_step(alloc, core, Step::Put { text }, format, telling, writer)
-}
-
 /// Refuses a reply that tells of want of memory.
 fn check_memory(reply: &Reply) -> Result<(), ScriptFault>
     ensures ok { OnOk result (reply.now ≢ Refused OutOfMemory) }
@@ -80,54 +49,21 @@ fn check_memory(reply: &Reply) -> Result<(), ScriptFault>
     }
 }
 
-/// Does what the line outside module texts of this number and these bytes says. Where a module text begins after it,
-/// returns how the reply to its put is printed.
-pub fn carry_out<W: Write>(
-    alloc: Global,
-    reader: &mut Reader,
-    core: &mut Core,
-    number: u32,
-    bytes: &[u8],
-    telling: Telling,
-    writer: &mut W,
-) -> Result<Option<Format>, ScriptFault>
-    ensures ok { IfOk result (λ begins. CarriedOut telling number bytes.now (state_of core.old) begins (state_of core.new)
-        (W.contents writer.old) (W.contents writer.new)) }
-    ensures err { OnErr result (PartCarriedOut telling number bytes.now (state_of core.old) (W.contents writer.old) (W.contents writer.new)) }
-{
-    match reader.line(bytes)? {
-        Line::Skipped => Ok(None),
-        Line::Put(format) => Ok(Some(format)),
-        Line::Step(format, step) => {
-            make_step(alloc, core, step, format, telling, writer)?;
-            Ok(None)
-        }
-        Line::Bad => {
-            tell_bad_line(alloc, number, telling, writer)?;
-            Ok(None)
-        }
-    }
-}
-
-/// Adds the line to the module text that is kept so far and returns it, or puts the text where the
-/// line is its end.
-pub fn carry_text<W: Write>(
+/// Makes the step that the item is, and tells what is answered; or tells of a line that says nothing, or of an end
+/// inside a module text.
+pub fn tell_item<W: Write>(
     alloc: Global,
     core: &mut Core,
-    mut text: KeptText,
-    line: &[u8],
+    item: Item,
     telling: Telling,
     writer: &mut W,
-) -> Result<Option<KeptText>, ScriptFault>
-    ensures ok { IfOk result (λ after. CarriedText telling (as_text text) line.now (state_of core.old) (option_map as_text after) (state_of core.new)
-        (W.contents writer.old) (W.contents writer.new)) }
-    ensures err { OnErr result (PartPut telling (as_text text) line.now (state_of core.old) (state_of core.new) (W.contents writer.old) (W.contents writer.new)) }
+) -> Result<(), ScriptFault>
+    ensures ok { OnOk result (IsTold telling item (state_of core.old) (state_of core.new) (W.contents writer.old) (W.contents writer.new)) }
+    ensures err { OnErr result (IsPartTold telling item (state_of core.old) (W.contents writer.old) (W.contents writer.new)) }
 {
-    if is_text_end(before_end(line)) {
-        put_text(alloc, core, text, telling, writer)?;
-        return Ok(None);
+    match item {
+        Item::Step(format, step) => make_step(alloc, core, step, format, telling, writer),
+        Item::BadLine(number) => tell_bad_line(alloc, number, telling, writer),
+        Item::EndOfText => tell_end(telling, writer),
     }
-    keep(&mut text.bytes, line, KEPT_TEXT_BYTES)?;
-    keep(&mut text.bytes, b"\n", KEPT_TEXT_BYTES)?;
-    Ok(Some(text))
 }

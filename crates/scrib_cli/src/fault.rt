@@ -1,5 +1,6 @@
 //! Why a script ended early.
 
+use scrib_script::fault::SpellFault;
 use std::alloc::{AllocError, AllocFailed};
 use thiserror::Error;
 
@@ -12,6 +13,9 @@ pub enum ScriptFault {
     /// The writer failed.
     #[error("the output was not written")]
     Write,
+    /// The passes of a service's connections didn't account for each event of its logs. `run` alone answers it.
+    #[error("the service did not settle")]
+    Settle,
     /// Memory for a line or a reply's text was refused.
     #[error("out of memory")]
     OutOfMemory,
@@ -36,5 +40,14 @@ impl<T: Drop> From<AllocFailed<T>> for ScriptFault {
 
     fn from(_e: AllocFailed<T>) -> ScriptFault {
         ScriptFault::OutOfMemory
+    }
+}
+
+impl From<SpellFault> for ScriptFault {
+    fn from(e: SpellFault) -> ScriptFault {
+        match e {
+            SpellFault::TooLong => ScriptFault::Read,
+            SpellFault::OutOfMemory => ScriptFault::OutOfMemory,
+        }
     }
 }

@@ -53,7 +53,10 @@ pub fn write_reply<W: Write>(
 }
 
 /// What is written in this format for the line of this number, which says nothing.
-fn bad_line(alloc: Global, number: u32, format: Format) -> Result<String, AllocError>
+///
+/// # Errors
+/// `AllocError` where memory was refused.
+pub fn bad_line(alloc: Global, number: u32, format: Format) -> Result<String, AllocError>
     ensures { IfOk result (λ text. string_bytes text ≡ bad_line format number) }
 {
     match format {
@@ -93,7 +96,7 @@ pub fn tell_bad_line<W: Write>(
 }
 
 /// What is written in this format for an end inside a module text.
-fn end_of_text(format: Format) -> &'static [u8]
+pub fn end_of_text(format: Format) -> &'static [u8]
     ensures { result.now ≡ end_of_text format }
 {
     match format {

@@ -2,9 +2,8 @@
 
 ghost use Rattle.std.specs.Prelude.{◌≡◌, ◌<◌, IfOk, IfSome, length, take};
 
-use crate::carrying::KEPT_TEXT_BYTES;
 use crate::fault::ScriptFault;
-use crate::keeping::keep;
+use scrib_script::keeping::{KEPT_TEXT_BYTES, keep};
 pub use scrib_types::plain::Items;
 use std::alloc::Global;
 use std::io::{ErrorKind, Read};

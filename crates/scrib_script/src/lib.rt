@@ -1,11 +1,16 @@
-//! What a line of a script says.
+//! What a script spells.
 #![tactic(auto)]
 
 mod exchange;
 mod exchanges;
+pub mod fault;
 mod fields;
 pub mod format;
+pub mod item;
+pub mod keeping;
 pub mod line;
-pub mod reader;
+mod reader;
+pub mod script;
+mod spelling;
 mod step;
 mod text;

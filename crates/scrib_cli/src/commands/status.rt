@@ -23,6 +23,7 @@ pub fn fault_text(fault: &ScriptFault) -> &'static str
     match fault {
         ScriptFault::Read => "scribmon: read fault",
         ScriptFault::Write => "scribmon: write fault",
+        ScriptFault::Settle => "scribmon: the service did not settle",
         ScriptFault::OutOfMemory => "scribmon: out of memory",
     }
 }

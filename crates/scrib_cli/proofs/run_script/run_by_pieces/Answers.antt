@@ -4,12 +4,12 @@ use Rattle.std.proofs.lemmas.Result.{err_from_is_err_and}
 use Rattle.scrib_core.specs.Answers.{State}
 use Rattle.scrib_core.specs.Held.{state_of}
 use Rattle.scrib_cli.specs.Progress.{Ran}
-use Rattle.scrib_cli.proofs.Ending.{reaches_none, reaches_kept, reaches_flushed, reaches_end, reaches_went, reached_end, end_failed, read_failed, piece_failed}
+use Rattle.scrib_cli.proofs.Running.{reaches_none, reaches_kept, reaches_flushed, reaches_end, reaches_went, reached_end, end_failed, read_failed, piece_failed}
 use Rattle.scrib_cli.proofs.run_script.run_by_pieces.Goals as goal
 
 pub loop-init : goal.loop-init
 loop-init g c =
-    reaches_none c.args.telling c.new-run.result (g.R.Read.remaining c.args.reader.now) (g.W.Write.contents c.args.writer.now) c.new-run.ensures.telling c.new-run.ensures.holds c.new-run.ensures.lines c.new-run.ensures.state
+    reaches_none c.args.telling c.new-run.result (g.R.Read.remaining c.args.reader.now) (g.W.Write.contents c.args.writer.now) c.new-run.ensures
 
 pub loop-preserved-then-eq : goal.loop-preserved-then-eq
 loop-preserved-then-eq g c =

@@ -1,6 +1,5 @@
 use Rattle.scrib_core.specs.Held.{state_of}
-use Rattle.scrib_cli.proofs.Going.{on_ok_any, on_err_any}
-use Rattle.scrib_cli.proofs.Ending.{flushed, flush_failed}
+use Rattle.scrib_cli.proofs.Running.{on_ok_any, on_err_any, flushed, flush_failed}
 use Rattle.scrib_cli.proofs.run_script.run_script.Goals as goal
 
 pub returns-clause-ok : goal.returns-clause-ok

@@ -1,5 +1,5 @@
 use Rattle.std.proofs.lemmas.Result.{err_from_is_err_and}
-use Rattle.scrib_cli.proofs.Ending.{never_started}
+use Rattle.scrib_cli.proofs.Running.{never_started}
 use Rattle.scrib_cli.proofs.run_script.run_whole.Goals as goal
 
 pub returns-in_err-piece-clause-err : goal.returns-in_err-piece-clause-err

@@ -1,17 +1,21 @@
-use Rattle.std.proofs.Common.{Bool, true, subst}
+use Rattle.std.proofs.Common.{[], ◌∷◌, subst, ap, Option}
+use Rattle.std.proofs.lemmas.Result.{err_from_is_err_and, on_ok_weaker, on_err_weaker}
 use Rattle.scrib_core.specs.Held.{state_of}
-use Rattle.std.proofs.lemmas.Result.{err_from_is_err_and}
-use Rattle.scrib_cli.specs.Progress.{LastLine}
-use Rattle.scrib_cli.proofs.Ending.{ended_tail, failed_tail}
+use Rattle.scrib_script.specs.declared.item.Item.{Item}
+use Rattle.scrib_script.specs.Scripts.{listed}
+use Rattle.scrib_script.specs.Standing.{EndsIn}
+use Rattle.scrib_cli.proofs.Running.{on_err_any, ended_none, ended_item, failed_last, failed_none}
 use Rattle.scrib_cli.proofs.run.Run.finish.Goals as goal
 
-pub returns-in_err-tell_end-clause-err : goal.returns-in_err-tell_end-clause-err
-returns-in_err-tell_end-clause-err g c =
-    let p = err_from_is_err_and c.from_residual-in_err-tell_end.result c.from_residual-in_err-tell_end.ensures.1 in
-    let last = subst (λ (b : Bool). LastLine c.args.self.now b (state_of c.last_line.new.self.core) (g.W.Write.contents c.args.writer.now) (g.W.Write.contents c.last_line.new.writer)) c.if-branch.true c.in_ok-last_line.ensures.ok in
-    rw p.1 (failed_tail c.args.self.now true (state_of c.last_line.new.self.core) (g.W.Write.contents c.args.writer.now) (g.W.Write.contents c.last_line.new.writer) (g.W.Write.contents c.tell_end.new.writer) last c.in_err-tell_end.ensures.err)
+pub returns-in_err-item-clause-err : goal.returns-in_err-item-clause-err
+returns-in_err-item-clause-err g c = on_err_any c.from_residual.result (failed_none c.args.self.now (g.W.Write.contents c.args.writer.now))
 
-pub returns-in_ok-tell_end-clause-ok : goal.returns-in_ok-tell_end-clause-ok
-returns-in_ok-tell_end-clause-ok g c =
-    let last = subst (λ (b : Bool). LastLine c.args.self.now b (state_of c.last_line.new.self.core) (g.W.Write.contents c.args.writer.now) (g.W.Write.contents c.last_line.new.writer)) c.if-branch.true c.in_ok-last_line.ensures.ok in
-    ended_tail c.args.self.now true (state_of c.last_line.new.self.core) (g.W.Write.contents c.args.writer.now) (g.W.Write.contents c.last_line.new.writer) (g.W.Write.contents c.tell_end.new.writer) last c.in_ok-tell_end.ensures.ok
+pub returns-in-Some-clause-ok : goal.returns-in-Some-clause-ok
+returns-in-Some-clause-ok g c =
+    let ends = subst (λ (o : Option Item). EndsIn c.args.self.now.script (listed o)) c.in-Some.is c.in_ok-item.ensures in
+    on_ok_weaker c.tell_item.result (ended_item c.args.self.now c.in-Some.item (state_of c.tell_item.new.core) (g.W.Write.contents c.args.writer.now) (g.W.Write.contents c.tell_item.new.writer) ends) c.tell_item.ensures.ok
+
+pub returns-in-Some-clause-err : goal.returns-in-Some-clause-err
+returns-in-Some-clause-err g c =
+    let ends = subst (λ (o : Option Item). EndsIn c.args.self.now.script (listed o)) c.in-Some.is c.in_ok-item.ensures in
+    on_err_weaker c.tell_item.result (failed_last c.args.self.now c.in-Some.item (g.W.Write.contents c.args.writer.now) (g.W.Write.contents c.tell_item.new.writer) ends) c.tell_item.ensures.err

@@ -1,30 +1,29 @@
-use Rattle.std.proofs.Common.{◌+◌, ℕ, List, sym, subst}
-use Rattle.std.proofs.lemmas.Result.{err_from_is_err_and, on_ok_weaker}
-use Rattle.scrib_cli.proofs.Going.{Took, took_none, took_line, took_all, stopped_took, stopped_line, on_err_any, slice_rest}
+use Rattle.std.proofs.Common.{[], ◌∷◌, List, Option, Some, refl, sym, subst}
+use Rattle.scrib_core.specs.Held.{state_of}
+use Rattle.scrib_script.specs.declared.item.Item.{Item}
+use Rattle.scrib_script.specs.Scripts.{listed}
+use Rattle.scrib_script.specs.Standing.{TakesFront}
+use Rattle.scrib_cli.proofs.Running.{Carried, on_err_any, took_item, stopped_took, stopped_item}
 use Rattle.scrib_cli.proofs.run.Run.take_piece.Goals as goal
 
-pub loop-at-init : goal.loop-at-init
-loop-at-init g c = took_none c.args.self.now c.args.piece.now (g.W.Write.contents c.args.writer.now)
+pub returns-in_err-item-clause-err : goal.returns-in_err-item-clause-err
+returns-in_err-item-clause-err g c =
+    on_err_any c.from_residual.result (stopped_took c.args.self.now c.loop-rest.self c.args.piece.now c.loop-rest.rest.now (g.W.Write.contents c.args.writer.now) (g.W.Write.contents c.loop-rest.writer) c.loop-rest.invariant)
 
-pub returns-in_err-take_line-clause-err : goal.returns-in_err-take_line-clause-err
-returns-in_err-take_line-clause-err g c =
-    let p = err_from_is_err_and c.from_residual.result c.from_residual.ensures.1 in
-    rw p.1 (stopped_line c.args.self.now c.loop-at.self c.args.piece.now c.loop-at.rest.now c.in-Some.at (g.W.Write.contents c.args.writer.now) (g.W.Write.contents c.loop-at.writer) (g.W.Write.contents c.take_line.new.writer)
-    c.loop-at.invariant c.in-Some.ensures.within c.in-Some.ensures.lf c.in_err-take_line.ensures.err)
+pub returns-in_err-tell_item-clause-err : goal.returns-in_err-tell_item-clause-err
+returns-in_err-tell_item-clause-err g c =
+    let takes = subst (λ (o : Option Item). TakesFront c.loop-rest.self.script c.next_item.new.self c.loop-rest.rest.now c.in_ok-item.after.now (listed o)) c.in-Some.is c.in_ok-item.ensures.taken in
+    on_err_any c.from_residual-in_err-tell_item.result
+    (stopped_item c.args.self.now c.loop-rest.self c.next_item.new.self c.args.piece.now c.loop-rest.rest.now c.in_ok-item.after.now c.in-Some.item (g.W.Write.contents c.args.writer.now) (g.W.Write.contents c.loop-rest.writer) (g.W.Write.contents c.tell_item.new.writer)
+    c.loop-rest.invariant takes c.in_err-tell_item.ensures.err)
 
-pub loop-at-preserved : goal.loop-at-preserved
-loop-at-preserved g c =
-    let took = took_line c.args.self.now c.loop-at.self c.take_line.new.self c.args.piece.now c.loop-at.rest.now c.in-Some.at (g.W.Write.contents c.args.writer.now) (g.W.Write.contents c.loop-at.writer) (g.W.Write.contents c.take_line.new.writer)
-    c.loop-at.invariant c.in-Some.ensures.within c.in-Some.ensures.lf c.in_ok-take_line.ensures.ok in
-    subst (λ (t : List ℕ). Took c.args.self.now c.take_line.new.self c.args.piece.now t (g.W.Write.contents c.args.writer.now) (g.W.Write.contents c.take_line.new.writer)) (sym (slice_rest (c.in-Some.at + 1) c.loop-at.rest.now)) took
+pub loop-rest-preserved-in_ok-tell_item : goal.loop-rest-preserved-in_ok-tell_item
+loop-rest-preserved-in_ok-tell_item g c =
+    let takes = subst (λ (o : Option Item). TakesFront c.loop-rest.self.script c.next_item.new.self c.loop-rest.rest.now c.in_ok-item.after.now (listed o)) c.in-Some.is c.in_ok-item.ensures.taken in
+    took_item c.args.self.now c.loop-rest.self _ c.args.piece.now c.loop-rest.rest.now c.in_ok-item.after.now (Some c.in-Some.item) (g.W.Write.contents c.args.writer.now) (g.W.Write.contents c.loop-rest.writer) (g.W.Write.contents c.tell_item.new.writer)
+    c.loop-rest.invariant refl takes c.in_ok-tell_item.ensures.ok
 
-pub returns-clause-ok : goal.returns-clause-ok
-returns-clause-ok g c =
-    on_ok_weaker c.take_part.result
-    (λ f. took_all c.args.self.now c.loop-at.self c.take_part.new.self c.args.piece.now c.loop-at.rest.now (g.W.Write.contents c.args.writer.now) (g.W.Write.contents c.loop-at.writer) c.loop-at.invariant (f (g.W.Write.contents c.loop-at.writer)))
-    c.take_part.ensures
-
-pub returns-clause-err : goal.returns-clause-err
-returns-clause-err g c =
-    on_err_any c.take_part.result
-    (stopped_took c.args.self.now c.loop-at.self c.args.piece.now c.loop-at.rest.now (g.W.Write.contents c.args.writer.now) (g.W.Write.contents c.loop-at.writer) c.loop-at.invariant)
+pub loop-rest-preserved : goal.loop-rest-preserved
+loop-rest-preserved g c =
+    took_item c.args.self.now c.loop-rest.self _ c.args.piece.now c.loop-rest.rest.now c.in_ok-item.after.now c.in_ok-item.item (g.W.Write.contents c.args.writer.now) (g.W.Write.contents c.loop-rest.writer) (g.W.Write.contents c.loop-rest.writer)
+    c.loop-rest.invariant refl c.in_ok-item.ensures.taken (subst (λ (o : Option Item). Carried c.loop-rest.self.telling o (state_of c.loop-rest.self.core) (state_of c.loop-rest.self.core) (g.W.Write.contents c.loop-rest.writer) (g.W.Write.contents c.loop-rest.writer)) (sym c.in_default.is) (refl, refl))

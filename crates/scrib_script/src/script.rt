@@ -1,0 +1,195 @@
+//! A script as it is read, item after item, from pieces of any size.
+
+ghost use Rattle.std.specs.Prelude.{◌≤◌};
+
+use crate::fault::SpellFault;
+use crate::item::Item;
+use crate::keeping::{KEPT_TEXT_BYTES, KeptText, before_end, keep, next_lf};
+use crate::reader::Reader;
+use crate::spelling::{Spelled, carry_text, is_text_end, put_of, spelling_of};
+use std::alloc::{AllocError, Global};
+
+/// The most bytes of a script.
+pub const MAX_SCRIPT_BYTES: u64 = 1_099_511_627_776;
+
+/// The most lines of a script.
+pub const MAX_SCRIPT_LINES: u32 = 16_777_216;
+
+// What is kept of a line outside module texts: one byte more than it may have, and a CR.
+const KEPT_LINE_BYTES: usize = 131_074;
+
+/// A script as it is read. What it needs of the bytes so far is kept: the line that they end in, and the module text
+/// that they end in, as far as it may be put.
+#[derive(Drop)]
+pub struct Script {
+    alloc: Global,
+    reader: Reader,
+    // The module text so far, inside one.
+    text: Option<KeptText>,
+    // The line so far.
+    line: Vec<u8>,
+    // How many lines ended.
+    lines: u32,
+    // How many bytes were taken in.
+    bytes: u64,
+    ghost numbered: { lines ≤ 16777216 },
+}
+
+impl Script {
+    ghost use Rattle.std.specs.Prelude.{◌≡◌, ◌<◌, ◌∷◌, ◌++◌, [], ℕ, List, Option, None, IfOk, OnOk, length, option_map};
+    ghost use Rattle.scrib_script.specs.Scripts.{NoLf, listed};
+    ghost use Rattle.scrib_script.specs.Standing.{as_text, Holds, Takes, TakesFront, EndsIn, LineEnded};
+
+    /// A script before its first byte.
+    pub fn new(alloc: Global) -> Script
+        ensures holds { Holds result None [] }
+        ensures lines { result.lines ≡ 0 }
+    {
+        Script {
+            alloc,
+            reader: Reader::new(alloc),
+            text: None,
+            line: Vec::new(alloc),
+            lines: 0,
+            bytes: 0,
+        }
+    }
+
+    /// How many lines ended so far.
+    pub fn lines(&self) -> u32
+        ensures is { result ≡ self.now.lines }
+        ensures few { result ≤ 16777216 }
+    {
+        self.lines
+    }
+
+    /// Takes the next bytes of the script in up to the end of the first line that ends an item, or all of them where no
+    /// line does. Returns that item, if there is one, and the bytes that are left.
+    ///
+    /// # Errors
+    /// The script is then at no place from which it can be read further.
+    /// - `TooLong` at the first byte past 1,099,511,627,776 bytes or past 16,777,216 lines.
+    /// - `OutOfMemory` where memory for a line, a text or a step was refused.
+    pub fn next_item<'a>(&mut self, piece: &'a [u8]) -> Result<(Option<Item>, &'a [u8]), SpellFault>
+        ensures taken { IfOk result (λ r. TakesFront self.old self.new piece.now r.1.now (listed r.0)) }
+        ensures shorter { IfOk result (λ r. 0 < length piece.now → length r.1.now < length piece.now) }
+    {
+        let mut rest = piece;
+        while let Some(at) = next_lf(rest) {
+            let item = self.take_line(&rest[..at])?;
+            rest = &rest[at + 1..];
+            if item.is_some() {
+                return Ok((item, rest));
+            }
+        }
+        self.take_part(rest)?;
+        Ok((None, &[]))
+    }
+
+    /// What the last line spells, which no LF ended, where all bytes were taken in; or the end inside a module text.
+    ///
+    /// # Errors
+    /// `OutOfMemory` where memory for the step was refused.
+    pub fn last_item(&mut self) -> Result<Option<Item>, SpellFault>
+        ensures { IfOk result (λ item. EndsIn self.old (listed item)) }
+    {
+        let Some(text) = self.text.take() else {
+            if self.line.is_empty() {
+                return Ok(None);
+            }
+            let line = self.reader.line(self.line.as_slice())?;
+            return Ok(match spelling_of(line, self.lines + 1) {
+                Spelled::Nothing => None,
+                Spelled::Text(_) => Some(Item::EndOfText),
+                Spelled::Item(item) => Some(item),
+            });
+        };
+        if is_text_end(self.line.as_slice()) {
+            return Ok(Some(put_of(text)));
+        }
+        Ok(Some(Item::EndOfText))
+    }
+
+    // Takes the last bytes of a line and its LF in. Returns what the line spells.
+    fn take_line(&mut self, part: &[u8]) -> Result<Option<Item>, SpellFault>
+        requires { NoLf part.now }
+        ensures { IfOk result (λ item. Takes self.old self.new (part.now ++ 10 ∷ []) (listed item)) }
+    {
+        if self.text.is_none() && self.line.is_empty() {
+            return self.pass_line(part);
+        }
+        self.take_part(part)?;
+        self.end_line()
+    }
+
+    // Takes a line that lies whole in its piece in, so that no copy of it is kept.
+    fn pass_line(&mut self, line: &[u8]) -> Result<Option<Item>, SpellFault>
+        requires text { self.old.text ≡ None }
+        requires line { self.old.line.items ≡ [] }
+        requires no_lf { NoLf line.now }
+        ensures { IfOk result (λ item. Takes self.old self.new (line.now ++ 10 ∷ []) (listed item)) }
+    {
+        self.bytes = self.counted(line.len() + 1)?;
+        let said = self.reader.line(before_end(line))?;
+        let (item, text) = spelling_of(said, self.lines + 1).parts(self.alloc);
+        self.text = text;
+        self.lines += 1;
+        Ok(item)
+    }
+
+    // Takes bytes of a line in.
+    fn take_part(&mut self, part: &[u8]) -> Result<(), SpellFault>
+        requires { NoLf part.now }
+        ensures { OnOk result (Takes self.old self.new part.now []) }
+    {
+        if part.is_empty() {
+            return Ok(());
+        }
+        self.bytes = self.counted(part.len())?;
+        let most = if self.text.is_some() {
+            KEPT_TEXT_BYTES
+        } else {
+            KEPT_LINE_BYTES
+        };
+        keep(&mut self.line, part, most)?;
+        Ok(())
+    }
+
+    // Takes an LF in. Returns what the line spells that it ends.
+    fn end_line(&mut self) -> Result<Option<Item>, SpellFault>
+        ensures { IfOk result (λ item. Takes self.old self.new (10 ∷ []) (listed item)) }
+    {
+        self.bytes = self.counted(1)?;
+        let (item, text) = self.carry_line()?;
+        self.text = text;
+        self.lines += 1;
+        self.line.clear();
+        Ok(item)
+    }
+
+    // What the line spells that an LF ended, and what is kept of the module text that goes on after it, if one does.
+    fn carry_line(&mut self) -> Result<(Option<Item>, Option<KeptText>), AllocError>
+        requires { self.old.lines < 16777216 }
+        ensures ended { IfOk result (λ r. LineEnded self.old (option_map as_text r.1) (listed r.0)) }
+        ensures lines { OnOk result (self.new.lines ≡ self.old.lines) }
+    {
+        match self.text.take() {
+            Some(text) => carry_text(text, self.line.as_slice()),
+            None => {
+                let line = self.reader.line(before_end(self.line.as_slice()))?;
+                Ok(spelling_of(line, self.lines + 1).parts(self.alloc))
+            }
+        }
+    }
+
+    // How many bytes are taken in with so many more, where a script may have them.
+    fn counted(&self, more: usize) -> Result<u64, SpellFault>
+        ensures { OnOk result (self.now.lines < 16777216) }
+    {
+        let bytes = self.bytes.saturating_add(more as u64);
+        if bytes > MAX_SCRIPT_BYTES || self.lines >= MAX_SCRIPT_LINES {
+            return Err(SpellFault::TooLong);
+        }
+        Ok(bytes)
+    }
+}
