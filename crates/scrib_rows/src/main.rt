@@ -17,12 +17,17 @@ use scrib_cli::id::id_of;
 use scrib_cli::machine::machine_text;
 use scrib_cli::project::project_text;
 use scrib_cli::run_script::{Format, ScriptFault, run_script};
+use scrib_run::files::run_files;
+use scrib_run::shape::Shape;
 use scrib_types::plain::Items;
 use std::alloc::{AllocError, AllocFailed, Global};
 use std::io;
 use std::io::{BufWriter, Write};
+use std::marker::Send;
 use std::process::ExitCode;
 use std::rt::Files;
+use std::sync::Wait;
+use std::thread::Threads;
 
 // Why the examples end early.
 #[derive(Drop)]
@@ -98,13 +103,49 @@ fn obey<W: Write>(
     Ok(())
 }
 
+// The shape that the numbers of these words are.
+fn shape_of(shards: &str, workers: &str) -> Result<Shape, RowsFault> {
+    let (Some(shards), Some(workers)) = (id_of(shards), id_of(workers)) else {
+        return Err(RowsFault::NoCommand);
+    };
+    Shape::new(shards as usize, workers as usize).map_err(|_| RowsFault::NoCommand)
+}
+
+// What `run` answers over the files that these words name, behind the numbers of shards and of workers.
+fn run_over_service<R: Files + Threads + Wait + AllocGlobal + Sync, W: Write>(
+    rt: &R,
+    words: &[&str],
+    writer: &mut W,
+) -> Result<Result<bool, ScriptFault>, RowsFault>
+where
+    R::File: Send,
+{
+    let [
+        "--shards",
+        shards,
+        "--workers",
+        workers,
+        setup,
+        connections @ ..,
+    ] = words
+    else {
+        return Err(RowsFault::NoCommand);
+    };
+    let shape = shape_of(shards, workers)?;
+    let files = SystemFiles(rt);
+    Ok(run_files(rt, rt.alloc(), shape, &files, setup, connections, writer))
+}
+
 // What the command of these words answers, over the files that they name or this input.
-fn answer<W: Write>(
-    rt: &(impl Files + AllocGlobal),
+fn answer<R: Files + Threads + Wait + AllocGlobal + Sync, W: Write>(
+    rt: &R,
     words: &[&str],
     mut input: &[u8],
     writer: &mut W,
-) -> Result<Result<bool, ScriptFault>, RowsFault> {
+) -> Result<Result<bool, ScriptFault>, RowsFault>
+where
+    R::File: Send,
+{
     let alloc = rt.alloc();
     let files = SystemFiles(rt);
     let reader = &mut input;
@@ -124,18 +165,22 @@ fn answer<W: Write>(
             let id = id_of(id).ok_or(RowsFault::NoCommand)?;
             explain(alloc, id, &files, path.first().copied(), reader, writer)
         }
+        ["run", words @ ..] => return run_over_service(rt, words, writer),
         _ => return Err(RowsFault::NoCommand),
     };
     Ok(answer)
 }
 
 // Runs a command over files, and tells what the program would end with.
-fn obey_files<W: Write>(
-    rt: &(impl Files + AllocGlobal),
+fn obey_files<R: Files + Threads + Wait + AllocGlobal + Sync, W: Write>(
+    rt: &R,
     command: &str,
     input: &str,
     writer: &mut W,
-) -> Result<(), RowsFault> {
+) -> Result<(), RowsFault>
+where
+    R::File: Send,
+{
     let alloc = rt.alloc();
     let words: Vec<&str> = command.split_whitespace().collect(alloc)?;
     let answer = answer(rt, &words, input.as_bytes(), writer)?;
@@ -149,11 +194,14 @@ fn obey_files<W: Write>(
 }
 
 // Runs one example, from its title on.
-fn tell<W: Write>(
-    rt: &(impl Files + AllocGlobal),
+fn tell<R: Files + Threads + Wait + AllocGlobal + Sync, W: Write>(
+    rt: &R,
     example: &str,
     writer: &mut W,
-) -> Result<(), RowsFault> {
+) -> Result<(), RowsFault>
+where
+    R::File: Send,
+{
     let (title, rest) = example.split_once('\n').ok_or(RowsFault::NoCommand)?;
     let (command, body) = rest.split_once('\n').ok_or(RowsFault::NoCommand)?;
     writer.write_all(b"== ")?;
@@ -165,7 +213,12 @@ fn tell<W: Write>(
     }
 }
 
-fn run(rt: &(impl Print + Input + Files + AllocGlobal)) -> Result<(), RowsFault> {
+fn run<R: Print + Input + Files + Threads + Wait + AllocGlobal + Sync>(
+    rt: &R,
+) -> Result<(), RowsFault>
+where
+    R::File: Send,
+{
     let alloc = rt.alloc();
     let text = io::read_to_string(alloc, rt.reader())?;
     let mut writer = BufWriter::new(alloc, io::writer(rt))?;

@@ -12,10 +12,15 @@ use scrib_cli::commands::status::{fault_text, status_of};
 use scrib_cli::commands::watch::watch;
 use scrib_cli::id::id_of;
 use scrib_cli::run_script::{Format, ScriptFault};
+use scrib_run::files::run_files;
+use scrib_run::shape::{Shape, ShapeFault};
 use std::alloc::{AllocError, Global};
 use std::io::{BufWriter, Write};
+use std::marker::Send;
 use std::process::ExitCode;
 use std::rt::{Env, Files};
+use std::sync::Wait;
+use std::thread::Threads;
 use std::{env, io};
 
 fn file_arg<'a>(alloc: Global) -> Arg<'a> {
@@ -86,6 +91,45 @@ fn explain_command<'a>(alloc: Global) -> Result<Command<'a>, AllocError> {
         .arg(file_arg(alloc))
 }
 
+fn count_arg<'a>(alloc: Global, name: &'a str, help: &'a str, usual: &'a str) -> Arg<'a> {
+    Arg::new(alloc, name)
+        .long(name)
+        .value_name("N")
+        .help(help)
+        .default_value(usual)
+}
+
+fn run_command<'a>(alloc: Global) -> Result<Command<'a>, AllocError> {
+    let shards = count_arg(
+        alloc,
+        "shards",
+        "How many shards the service has, 1 to 64",
+        "4",
+    );
+    let workers = count_arg(
+        alloc,
+        "workers",
+        "How many threads bring verdicts up to date, 1 to 16",
+        "2",
+    );
+    let setup = Arg::new(alloc, "SETUP")
+        .help("The script that is carried out first")
+        .required(true);
+    let connections = Arg::new(alloc, "CONNECTION")
+        .help("The scripts that are then carried out, each on a thread of its own")
+        .required(true)
+        .num_args(1..)
+        .action(ArgAction::Append);
+    Command::new(alloc, "run")
+        .about(
+            "Runs scripts of many connections over one service, and prints a table of the conversations",
+        )
+        .arg(shards)?
+        .arg(workers)?
+        .arg(setup)?
+        .arg(connections)
+}
+
 // With the commands that read modules.
 fn with_modules<'a>(alloc: Global, line: Command<'a>) -> Result<Command<'a>, AllocError> {
     let line = line.subcommand(check_command(alloc)?)?;
@@ -96,7 +140,8 @@ fn with_modules<'a>(alloc: Global, line: Command<'a>) -> Result<Command<'a>, All
 // With the commands that read a script.
 fn with_scripts<'a>(alloc: Global, line: Command<'a>) -> Result<Command<'a>, AllocError> {
     let line = line.subcommand(watch_command(alloc)?)?;
-    line.subcommand(explain_command(alloc)?)
+    let line = line.subcommand(explain_command(alloc)?)?;
+    line.subcommand(run_command(alloc)?)
 }
 
 fn command<'a>(alloc: Global) -> Result<Command<'a>, AllocError> {
@@ -127,11 +172,9 @@ fn told_usage(rt: &(impl Print + Eprint), error: &Error) -> ExitCode {
     }
 }
 
-fn refused_id(rt: &(impl Print + Eprint + AllocGlobal)) -> io::Result<ExitCode> {
-    let error = command(rt.alloc())?.error(
-        ErrorKind::ValueValidation,
-        "the ID is 1 to 10 decimal digits, at most 4294967295",
-    )?;
+// Tells that a value of the command line is none that may stand there.
+fn refused_value(rt: &(impl Print + Eprint + AllocGlobal), message: &str) -> io::Result<ExitCode> {
+    let error = command(rt.alloc())?.error(ErrorKind::ValueValidation, message)?;
     Ok(told_usage(rt, &error))
 }
 
@@ -143,7 +186,7 @@ fn told(rt: &impl Eprint, answer: &Result<bool, ScriptFault>) -> ExitCode {
     ExitCode::from(status_of(answer))
 }
 
-// What a command other than `explain` answers.
+// What a command answers whose values may be any.
 fn answer<W: Write>(
     rt: &(impl Input + Files + AllocGlobal),
     name: &str,
@@ -153,20 +196,18 @@ fn answer<W: Write>(
     let alloc = rt.alloc();
     let files = SystemFiles(rt);
     let paths = matches.get_strs("FILE").unwrap_or(&[]);
-    if name == "check" {
-        return check_files(alloc, &files, paths, writer);
-    }
-    if name == "watch" {
-        let path = matches.get_str("FILE");
-        let format = format_of(matches);
-        return watch(alloc, format, &files, path, &mut rt.reader(), writer);
-    }
     let protocol = matches.get_str("PROTOCOL").unwrap_or("");
     let role = matches.get_str("ROLE").unwrap_or("");
-    if name == "project" {
-        return project_files(alloc, protocol, role, &files, paths, writer);
+    match name {
+        "check" => check_files(alloc, &files, paths, writer),
+        "project" => project_files(alloc, protocol, role, &files, paths, writer),
+        "machine" => machine_files(alloc, protocol, role, &files, paths, writer),
+        _ => {
+            let path = matches.get_str("FILE");
+            let format = format_of(matches);
+            watch(alloc, format, &files, path, &mut rt.reader(), writer)
+        }
     }
-    machine_files(alloc, protocol, role, &files, paths, writer)
 }
 
 fn explain_by_id<W: Write>(
@@ -175,7 +216,7 @@ fn explain_by_id<W: Write>(
     writer: &mut W,
 ) -> io::Result<ExitCode> {
     let Some(id) = id_of(matches.get_str("ID").unwrap_or("")) else {
-        return refused_id(rt);
+        return refused_value(rt, "the ID is 1 to 10 decimal digits, at most 4294967295");
     };
     let files = SystemFiles(rt);
     let path = matches.get_str("FILE");
@@ -183,22 +224,63 @@ fn explain_by_id<W: Write>(
     Ok(told(rt, &explained))
 }
 
+// The shape of the service that `run` is to have, or why there is none of it.
+fn shape_of(matches: &ArgMatches) -> Result<Shape, &'static str> {
+    let shards = matches.get_str("shards").and_then(id_of);
+    let workers = matches.get_str("workers").and_then(id_of);
+    let (Some(shards), Some(workers)) = (shards, workers) else {
+        return Err("the numbers of shards and of workers are decimal digits");
+    };
+    match Shape::new(shards as usize, workers as usize) {
+        Ok(shape) => Ok(shape),
+        Err(ShapeFault::BadShards) => Err("there may be 1 to 64 shards"),
+        Err(ShapeFault::BadWorkers) => Err("there may be 1 to 16 workers"),
+    }
+}
+
+fn run_over_service<
+    R: Print + Eprint + Input + Files + Threads + Wait + AllocGlobal + Sync,
+    W: Write,
+>(rt: &R, matches: &ArgMatches, writer: &mut W) -> io::Result<ExitCode>
+where
+    R::File: Send,
+{
+    let shape = match shape_of(matches) {
+        Ok(shape) => shape,
+        Err(message) => return refused_value(rt, message),
+    };
+    let setup = matches.get_str("SETUP").unwrap_or("");
+    let connections = matches.get_strs("CONNECTION").unwrap_or(&[]);
+    let files = SystemFiles(rt);
+    let ran = run_files(rt, rt.alloc(), shape, &files, setup, connections, writer);
+    Ok(told(rt, &ran))
+}
+
 // Does what the command line asks for.
-fn obey(
-    rt: &(impl Print + Eprint + Input + Files + AllocGlobal),
+fn obey<R: Print + Eprint + Input + Files + Threads + Wait + AllocGlobal + Sync>(
+    rt: &R,
     matches: &ArgMatches,
-) -> io::Result<ExitCode> {
+) -> io::Result<ExitCode>
+where
+    R::File: Send,
+{
     let Ok(mut writer) = BufWriter::new(rt.alloc(), io::writer(rt)) else {
         return Ok(told(rt, &Err(ScriptFault::OutOfMemory)));
     };
     match matches.subcommand() {
         Some(("explain", matches)) => explain_by_id(rt, matches, &mut writer),
+        Some(("run", matches)) => run_over_service(rt, matches, &mut writer),
         Some((name, matches)) => Ok(told(rt, &answer(rt, name, matches, &mut writer))),
         None => Ok(ExitCode::from(2)),
     }
 }
 
-fn run(rt: &(impl Print + Eprint + Input + Files + Env + AllocGlobal)) -> io::Result<ExitCode> {
+fn run<R: Print + Eprint + Input + Files + Env + Threads + Wait + AllocGlobal + Sync>(
+    rt: &R,
+) -> io::Result<ExitCode>
+where
+    R::File: Send,
+{
     let alloc = rt.alloc();
     let words: Vec<String> = env::args(rt)?.collect(alloc)?;
     let line = command(alloc)?;

@@ -1,0 +1,46 @@
+-- What a service's answers are, and their text (this project's own).
+use Rattle.std.specs.Prelude.{ℕ, Bool, true, false, List, [], ◌∷◌, ◌++◌, Result, Ok, Err}
+use Rattle.scrib_library.specs.declared.changes.Change.{Change}
+use Rattle.scrib_library.specs.declared.changes.Changes.{Changes}
+use Rattle.scrib_library.specs.declared.fault.EditFault.{EditFault}
+use Rattle.scrib_core.specs.declared.reply.Edit.{Edit}
+use Rattle.scrib_core.specs.declared.reply.Refusal.TheVariants as refusal
+use Rattle.scrib_core.specs.declared.reply.Reply.{Reply}
+use Rattle.scrib_core.specs.declared.reply.Reply.TheVariants as reply
+use Rattle.scrib_locked.specs.declared.passing.PassRefusal.{PassRefusal}
+use Rattle.scrib_locked.specs.declared.passing.PassRefusal.TheVariants as pass
+use Rattle.scrib_report.specs.Services.{judged_text, mismatch_text}
+use Rattle.scrib_script.specs.declared.format.Format.{Format}
+use Rattle.scrib_cli.specs.Scripts.{reply_text}
+use Rattle.scrib_run.specs.declared.answer.Answer.{Answer}
+use Rattle.scrib_run.specs.declared.answer.Answer.TheVariants as answer
+
+-- the answer where a call by a pass is refused
+abbrev pub refusal_answer : PassRefusal → Answer
+refusal_answer (pass.Mismatch c place) = answer.Mismatch c place
+refusal_answer (pass.Step f) = answer.Reply (reply.Refused f)
+
+-- the answer to an edit
+abbrev pub edit_answer : Edit → Result Changes EditFault → Answer
+edit_answer e (Ok changes) = answer.Reply (reply.Edited e changes)
+edit_answer e (Err f) = answer.Reply (reply.Refused (refusal.Edit f))
+
+abbrev pub has_changes : List Change → Bool
+has_changes [] = false
+has_changes (c ∷ cs) = true
+
+-- some protocols changed
+abbrev pub is_change : Answer → Bool
+is_change (answer.Reply (reply.Edited e changes)) = has_changes changes.list
+is_change (answer.Reply (reply.Opened id name)) = false
+is_change (answer.Reply (reply.Noted id place told)) = false
+is_change (answer.Reply (reply.Judged id name events told)) = false
+is_change (answer.Reply (reply.Refused f)) = false
+is_change (answer.Judged id told) = false
+is_change (answer.Mismatch c place) = false
+
+-- the text of an answer, in this format where a monitor would answer so too, with the LF behind it
+abbrev pub answer_text : Format → Answer → List ℕ
+answer_text f (answer.Reply r) = reply_text f r
+answer_text f (answer.Judged id told) = judged_text id told ++ 10 ∷ []
+answer_text f (answer.Mismatch c place) = mismatch_text c place ++ 10 ∷ []

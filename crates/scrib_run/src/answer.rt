@@ -1,0 +1,103 @@
+//! What a service answers to a line of a connection.
+
+ghost use Rattle.std.specs.Prelude.{◌≡◌, ◌++◌, IfOk, OnOk};
+ghost use Rattle.scrib_core.specs.declared.reply.Reply.TheVariants.{Refused};
+ghost use Rattle.scrib_run.specs.declared.answer.Answer.TheVariants as answer;
+ghost use Rattle.scrib_run.specs.Answers.{answer_text, edit_answer, is_change, refusal_answer};
+
+use scrib_cli::printing::reply_text;
+use scrib_core::reply::{Edit, Refusal, Reply};
+use scrib_library::changes::Changes;
+use scrib_library::fault::EditFault;
+use scrib_report::service::{judged_line, mismatch_line};
+use scrib_script::format::Format;
+use scrib_shards::passing::PassRefusal;
+use scrib_types::event::Told;
+use scrib_types::text::push_bytes;
+use std::alloc::{AllocError, Global};
+
+/// What a service answers to a step.
+#[derive(Drop)]
+pub(crate) enum Answer {
+    /// What a monitor would answer too.
+    Reply(Reply),
+    /// What is told of a conversation after a turn or a question.
+    Judged { id: u32, told: Told },
+    /// A receipt of the connection's pass doesn't stand at this place.
+    Mismatch { conversation: u32, place: usize },
+}
+
+/// What is answered where the step is refused.
+pub(crate) fn refused(refusal: Refusal) -> Answer
+    ensures { result ≡ answer.Reply (Refused refusal) }
+{
+    Answer::Reply(Reply::Refused(refusal))
+}
+
+/// What is answered where a call by a pass is refused.
+pub(crate) fn refused_by_pass(refusal: PassRefusal) -> Answer
+    ensures { result ≡ refusal_answer refusal }
+{
+    match refusal {
+        PassRefusal::Mismatch {
+            conversation,
+            place,
+        } => Answer::Mismatch {
+            conversation,
+            place,
+        },
+        PassRefusal::Step(refusal) => refused(refusal),
+    }
+}
+
+/// What is answered to an edit.
+pub(crate) fn edited(edit: Edit, answer: Result<Changes, EditFault>) -> Answer
+    ensures { result ≡ edit_answer edit answer }
+{
+    match answer {
+        Ok(changes) => Answer::Reply(Reply::Edited { edit, changes }),
+        Err(fault) => refused(Refusal::Edit(fault)),
+    }
+}
+
+/// Whether it is that some protocols changed.
+pub(crate) fn is_change(answer: &Answer) -> bool
+    ensures { result ≡ is_change answer.now }
+{
+    match answer {
+        Answer::Reply(Reply::Edited { changes, .. }) => !changes.list.is_empty(),
+        _ => false,
+    }
+}
+
+/// The text of the answer, in this format where a monitor would answer so too, with the LF behind it.
+fn text_of(alloc: Global, answer: &Answer, format: Format) -> Result<Vec<u8>, AllocError>
+    ensures { IfOk result (λ text. text.items ≡ answer_text format answer.now) }
+{
+    let mut text = match answer {
+        Answer::Reply(reply) => return reply_text(alloc, reply, format),
+        Answer::Judged { id, told } => judged_line(alloc, *id, told)?,
+        Answer::Mismatch {
+            conversation,
+            place,
+        } => mismatch_line(alloc, *conversation, *place)?,
+    };
+    text.push(b'\n')?;
+    Ok(text)
+}
+
+/// Adds the text of the answer, in this format where a monitor would answer so too, with the LF behind it.
+///
+/// # Errors
+/// `AllocError` where memory was refused.
+pub(crate) fn push_answer(
+    alloc: Global,
+    lines: &mut Vec<u8>,
+    answer: &Answer,
+    format: Format,
+) -> Result<(), AllocError>
+    ensures { OnOk result (lines.new.items ≡ lines.old.items ++ answer_text format answer.now) }
+{
+    let text = text_of(alloc, answer, format)?;
+    push_bytes(lines, text.as_slice())
+}

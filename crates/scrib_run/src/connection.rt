@@ -1,0 +1,185 @@
+//! A connection to a service.
+
+use crate::answer::{Answer, edited, is_change, push_answer, refused, refused_by_pass};
+use crossbeam_channel::Sender;
+use indexmap::IndexMap;
+use scrib_cli::fault::ScriptFault;
+use scrib_cli::printing::{bad_line, end_of_text};
+use scrib_core::reply::{Edit, Refusal, Reply};
+use scrib_core::step::Step;
+use scrib_rejudge::notices::Notice;
+use scrib_script::format::Format;
+use scrib_script::item::Item;
+use scrib_shards::gate::OpenGate;
+use scrib_shards::pass::Pass;
+use scrib_shards::service::Service;
+use scrib_types::event::{Event, Told};
+use scrib_types::text::push_bytes;
+use std::alloc::{AllocError, Global};
+use std::sync::Wait;
+
+/// A connection to a service: its pass to each conversation that it used, and the lines of what it was answered.
+#[derive(Drop)]
+pub(crate) struct Connection<'a> {
+    alloc: Global,
+    service: &'a Service,
+    // Where the shards are named whose verdicts an edit may put out of date.
+    outbox: Option<&'a Sender<Notice>>,
+    passes: IndexMap<u32, Pass>,
+    lines: Vec<u8>,
+}
+
+/// A connection at its end: its passes, and its lines.
+#[derive(Drop)]
+pub(crate) struct Closed {
+    pub(crate) passes: Vec<Pass>,
+    pub(crate) lines: Vec<u8>,
+}
+
+impl<'a> Connection<'a> {
+    /// A connection that used no conversation.
+    pub(crate) fn new(
+        alloc: Global,
+        service: &'a Service,
+        outbox: Option<&'a Sender<Notice>>,
+    ) -> Connection<'a> {
+        Connection {
+            alloc,
+            service,
+            outbox,
+            passes: IndexMap::new(alloc),
+            lines: Vec::new(alloc),
+        }
+    }
+
+    /// What is left of it at its end.
+    ///
+    /// # Errors
+    /// `AllocError` where memory was refused.
+    pub(crate) fn close(self) -> Result<Closed, AllocError> {
+        let passes = self.passes.into_values().collect(self.alloc)?;
+        Ok(Closed {
+            passes,
+            lines: self.lines,
+        })
+    }
+
+    /// Makes the step that the item of this line is, and adds the line of what is answered; or a line for one that says
+    /// nothing, or for an end inside a module text. A turn or a question whose answer is asked for in JSON says nothing.
+    ///
+    /// # Errors
+    /// `OutOfMemory` where there is no memory for a line.
+    pub(crate) fn tell(
+        &mut self,
+        rt: &impl Wait,
+        item: Item,
+        number: u32,
+    ) -> Result<(), ScriptFault> {
+        match item {
+            Item::Step(Format::Json, Step::Turn { .. } | Step::Ask { .. }) => self.tell_bad(number),
+            Item::Step(format, step) => {
+                let answer = self.carry_out(rt, step);
+                if is_change(&answer) {
+                    self.send_notices(rt);
+                }
+                push_answer(self.alloc, &mut self.lines, &answer, format)?;
+                Ok(())
+            }
+            Item::BadLine(number) => self.tell_bad(number),
+            Item::EndOfText => {
+                push_bytes(&mut self.lines, end_of_text(Format::Line))?;
+                Ok(())
+            }
+        }
+    }
+
+    /// Adds the line that its reader failed.
+    ///
+    /// # Errors
+    /// `OutOfMemory` where there is no memory for the line.
+    pub(crate) fn tell_read_fault(&mut self) -> Result<(), ScriptFault> {
+        push_bytes(&mut self.lines, b"read fault\n")?;
+        Ok(())
+    }
+
+    fn tell_bad(&mut self, number: u32) -> Result<(), ScriptFault> {
+        let line = bad_line(self.alloc, number, Format::Line)?;
+        push_bytes(&mut self.lines, line.as_bytes())?;
+        Ok(())
+    }
+
+    // Names each shard to those who bring verdicts up to date. Where a notice finds no room it is left out: a last sweep
+    // does its work.
+    fn send_notices(&self, rt: &impl Wait) {
+        let Some(outbox) = self.outbox else {
+            return;
+        };
+        for shard in 0..self.service.shards() {
+            let _ = outbox.send(rt, Notice { shard });
+        }
+    }
+
+    // Makes the step.
+    fn carry_out(&mut self, rt: &impl Wait, step: Step) -> Answer {
+        match step {
+            Step::Put { text } => edited(Edit::Put, self.service.put(rt, text.as_slice())),
+            Step::Withdraw { name } => edited(Edit::Withdraw, self.service.withdraw(rt, &name)),
+            Step::Open { id, name } => match self.service.open(rt, id, &name) {
+                Ok(()) => Answer::Reply(Reply::Opened { id, name }),
+                Err(refusal) => refused(refusal),
+            },
+            Step::Note { id, event } => self.note(rt, id, event),
+            Step::Turn { id } => told_or_refused(id, self.service.turn(rt, id, &OpenGate)),
+            Step::Ask { id } => self.ask(rt, id),
+        }
+    }
+
+    fn note(&mut self, rt: &impl Wait, id: u32, event: Event) -> Answer {
+        let service = self.service;
+        let pass = match self.pass_to(rt, id) {
+            Ok(pass) => pass,
+            Err(refusal) => return refused(refusal),
+        };
+        match service.note(rt, pass, event, &OpenGate) {
+            Ok(noted) => Answer::Reply(Reply::Noted {
+                id,
+                place: noted.place,
+                told: noted.told,
+            }),
+            Err(refusal) => refused_by_pass(refusal),
+        }
+    }
+
+    fn ask(&mut self, rt: &impl Wait, id: u32) -> Answer {
+        let service = self.service;
+        let pass = match self.pass_to(rt, id) {
+            Ok(pass) => pass,
+            Err(refusal) => return refused(refusal),
+        };
+        match service.ask(rt, pass) {
+            Ok(told) => Answer::Judged { id, told },
+            Err(refusal) => refused_by_pass(refusal),
+        }
+    }
+
+    // Its pass to the conversation, which it connects to where it has none.
+    fn pass_to(&mut self, rt: &impl Wait, id: u32) -> Result<&mut Pass, Refusal> {
+        if !self.passes.contains_key(&id) {
+            let pass = self.service.connect(rt, id)?;
+            if self.passes.insert(id, pass).is_err() {
+                return Err(Refusal::OutOfMemory);
+            }
+        }
+        match self.passes.get_mut(&id) {
+            Some(pass) => Ok(pass),
+            None => Err(Refusal::NoConversation),
+        }
+    }
+}
+
+fn told_or_refused(id: u32, answer: Result<Told, Refusal>) -> Answer {
+    match answer {
+        Ok(told) => Answer::Judged { id, told },
+        Err(refusal) => refused(refusal),
+    }
+}

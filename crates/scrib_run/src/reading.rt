@@ -1,0 +1,76 @@
+//! Reading the script of a connection.
+
+ghost use Rattle.std.specs.Prelude.{◌<◌, length};
+
+use crate::connection::Connection;
+use scrib_cli::fault::ScriptFault;
+use scrib_script::script::Script;
+use std::alloc::Global;
+use std::io::{ErrorKind, Read};
+use std::sync::Wait;
+
+// How many bytes of a script are read at once.
+const PIECE_BYTES: usize = 65_536;
+
+/// Carries out the script that the reader gives, over the connection, which has the lines of the answers then.
+///
+/// # Errors
+/// The lines before are the connection's.
+/// - `Read` where the reader fails, and at the first byte past the limits of a script.
+/// - `OutOfMemory` where there is no memory for a line.
+pub(crate) fn run_script<R: Read>(
+    rt: &impl Wait,
+    alloc: Global,
+    connection: &mut Connection<'_>,
+    reader: &mut R,
+) -> Result<(), ScriptFault> {
+    let mut piece = vec![in alloc; 0u8; PIECE_BYTES]?;
+    let mut script = Script::new(alloc);
+    for _ in 0..u64::MAX {
+        let n = match reader.read(piece.as_mut_slice()) {
+            Ok(n) => n,
+            Err(e) => {
+                if e.kind() == ErrorKind::Interrupted {
+                    continue;
+                }
+                return Err(ScriptFault::Read);
+            }
+        };
+        if n == 0 {
+            return end_script(rt, connection, &mut script);
+        }
+        take_piece(rt, connection, &mut script, &piece[..n])?;
+    }
+    Err(ScriptFault::Read)
+}
+
+// Takes the next bytes of the script in.
+fn take_piece(
+    rt: &impl Wait,
+    connection: &mut Connection<'_>,
+    script: &mut Script,
+    piece: &[u8],
+) -> Result<(), ScriptFault> {
+    let mut rest = piece;
+    while !rest.is_empty() {
+        let (item, after) = script.next_item(rest)?;
+        if let Some(item) = item {
+            connection.tell(rt, item, script.lines())?;
+        }
+        rest = after;
+    }
+    Ok(())
+}
+
+// Carries out what the script spells at its end.
+fn end_script(
+    rt: &impl Wait,
+    connection: &mut Connection<'_>,
+    script: &mut Script,
+) -> Result<(), ScriptFault> {
+    let number = script.lines() + 1;
+    match script.last_item()? {
+        Some(item) => connection.tell(rt, item, number),
+        None => Ok(()),
+    }
+}

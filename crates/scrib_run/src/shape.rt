@@ -1,0 +1,69 @@
+//! How a service is run.
+
+ghost use Rattle.std.specs.Prelude.{◌≡◌, ◌⊎◌, ◌↔◌, ◌<◌, ◌≤◌, IfOk, IsErrOf};
+
+use scrib_rejudge::workers::MAX_WORKERS;
+
+/// The most shards of a service.
+pub const MAX_SHARDS: usize = 64;
+
+/// How many shards a service has, and how many workers bring its verdicts up to date.
+#[derive(Clone, Copy)]
+pub struct Shape {
+    shards: usize,
+    workers: usize,
+    pub ghost some_shards: { 0 < shards },
+    pub ghost few_shards: { shards ≤ 64 },
+    pub ghost some_workers: { 0 < workers },
+    pub ghost few_workers: { workers ≤ 16 },
+}
+
+/// Why a service isn't run so.
+#[derive(Clone, Copy, Debug, PartialEq, Eq)]
+pub enum ShapeFault {
+    /// There are to be no shards, or more than 64.
+    BadShards,
+    /// There are to be no workers, or more than 16.
+    BadWorkers,
+}
+
+impl Shape {
+    /// So many shards and workers.
+    ///
+    /// # Errors
+    /// `BadShards` exactly where there are to be none or more than 64 shards; else `BadWorkers` exactly where there are
+    /// to be none or more than 16 workers.
+    pub fn new(shards: usize, workers: usize) -> Result<Shape, ShapeFault>
+        ensures shards { IfOk result (λ shape. shape.shards ≡ shards) }
+        ensures workers { IfOk result (λ shape. shape.workers ≡ workers) }
+        ensures bad_shards { IsErrOf result ShapeFault.BadShards ↔ ((shards ≡ 0) ⊎ (64 < shards)) }
+        ensures bad_workers { IsErrOf result ShapeFault.BadWorkers → (workers ≡ 0) ⊎ (16 < workers) }
+        ensures good_workers { IfOk result (λ shape. (0 < workers) × (workers ≤ 16)) }
+    {
+        if shards == 0 || shards > MAX_SHARDS {
+            return Err(ShapeFault::BadShards);
+        }
+        if workers == 0 || workers > MAX_WORKERS {
+            return Err(ShapeFault::BadWorkers);
+        }
+        Ok(Shape { shards, workers })
+    }
+
+    /// How many shards there are.
+    pub fn shards(&self) -> usize
+        ensures is { result ≡ self.now.shards }
+        ensures some { 0 < result }
+        ensures few { result ≤ 64 }
+    {
+        self.shards
+    }
+
+    /// How many workers there are.
+    pub fn workers(&self) -> usize
+        ensures is { result ≡ self.now.workers }
+        ensures some { 0 < result }
+        ensures few { result ≤ 16 }
+    {
+        self.workers
+    }
+}
