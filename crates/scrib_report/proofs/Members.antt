@@ -10,7 +10,16 @@ use Rattle.scrib_types.specs.Texts.{action_text}
 use Rattle.scrib_core.specs.declared.reply.Reply.{Reply}
 use Rattle.scrib_core.specs.declared.reply.Reply.TheVariants as reply
 use Rattle.scrib_report.specs.Lines.{change_text}
-use Rattle.scrib_report.specs.Json.{natural, offence_then, verdict_member, json_of}
+use Rattle.scrib_settle.specs.declared.ended.Ended.{Ended}
+use Rattle.scrib_report.specs.Json.{natural, offence_then, verdict_member, json_of, told_object, judged_object, mismatch_object}
+
+pub told_in_order : (id : ℕ) (told : Told)
+    → put (codes "conversation") (natural id) (offence_then told (verdict_member told))
+    ≡ offence_then told (member (codes "conversation") (natural id) (verdict_member told))
+told_in_order id Stale = refl
+told_in_order id (Judged Permitted) = refl
+told_in_order id (Judged (Offence at by allowed)) = refl
+told_in_order id (Judged Withdrawn) = refl
 
 pub noted_in_order : (id place : ℕ) (told : Told)
     → put (codes "place") (natural place) (put (codes "conversation") (natural id) (offence_then told (verdict_member told)))
@@ -45,3 +54,13 @@ json_has_no_float (reply.Opened id name) = refl
 json_has_no_float (reply.Noted id place told) = told_has_no_float told _ refl
 json_has_no_float (reply.Judged id name events told) = told_has_no_float told _ refl
 json_has_no_float (reply.Refused f) = refl
+
+pub told_object_has_no_float : (id : ℕ) (told : Told) → has_float (told_object id told) ≡ false
+told_object_has_no_float id told = told_has_no_float told _ refl
+
+pub mismatch_has_no_float : (conversation place : ℕ) → has_float (mismatch_object conversation place) ≡ false
+unfolding mismatch_object
+mismatch_has_no_float conversation place = refl
+
+pub ended_has_no_float : (e : Ended) → has_float (judged_object e.id e.name e.events e.told) ≡ false
+ended_has_no_float e = told_has_no_float e.told _ refl

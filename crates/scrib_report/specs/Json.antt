@@ -1,7 +1,8 @@
 -- The JSON of replies (this project's own). What a JSON value is and which text it has are the words of `serde_json`:
 -- `Data`, and `compact_text`, which writes the members of an object in the order in which they stand. So the keys below
 -- stand in the order of their bytes.
-use Rattle.std.specs.Prelude.{ℕ, List, codes, map}
+use Rattle.std.specs.Prelude.{ℕ, List, [], ◌∷◌, ◌++◌, codes, length, map}
+use Rattle.std.specs.Fmt.{decimal}
 use Rattle.serde_json.specs.Data.{Data, number, unsigned, string, array, object, Members, no_members, member}
 use Rattle.serde_json.specs.View.{items_of}
 use Rattle.serde_json.specs.Written.{compact_text}
@@ -13,7 +14,9 @@ use Rattle.scrib_types.specs.Texts.{dotted_text, action_text}
 use Rattle.scrib_library.specs.declared.changes.Change.{Change}
 use Rattle.scrib_core.specs.declared.reply.Reply.{Reply}
 use Rattle.scrib_core.specs.declared.reply.Reply.TheVariants as reply
+use Rattle.scrib_settle.specs.declared.ended.Ended.{Ended}
 use Rattle.scrib_report.specs.Lines.{change_text, edit_word, told_word, refusal_text}
+use Rattle.scrib_report.specs.Table.{events_of}
 
 abbrev pub natural : ℕ → Data
 natural n = number (unsigned n)
@@ -70,3 +73,35 @@ json_of (reply.Refused f) = object (member (codes "refused") (string (refusal_te
 -- the object with no blank between its parts
 abbrev pub json_text : Reply → List ℕ
 json_text r = compact_text (json_of r)
+
+-- what is told of a conversation after a turn or a question to a service: `{"conversation":1,"verdict":"permitted"}`
+abbrev pub told_object : ℕ → Told → Data
+told_object id told = object (offence_then told (member (codes "conversation") (natural id) (verdict_member told)))
+
+abbrev pub told_json : ℕ → Told → List ℕ
+told_json id told = compact_text (told_object id told)
+
+-- a receipt doesn't stand at this place of the conversation: `{"conversation":1,"place":3,"refused":"Mismatch"}`
+unfoldable pub mismatch_object : ℕ → ℕ → Data
+mismatch_object conversation place =
+    object (member (codes "conversation") (natural conversation) (member (codes "place") (natural place) (member (codes "refused") (string (codes "Mismatch")) no_members)))
+
+abbrev pub mismatch_json : ℕ → ℕ → List ℕ
+mismatch_json conversation place = compact_text (mismatch_object conversation place)
+
+-- a settled conversation, as the reply to a question about it is: `{"conversation":1,"events":2,"protocol":"demo.Hello","verdict":"permitted"}`
+abbrev pub ended_json : Ended → List ℕ
+ended_json e = compact_text (judged_object e.id e.name e.events e.told)
+
+-- each conversation's, on a line of its own
+abbrev pub ended_lines : List Ended → List ℕ
+ended_lines [] = []
+ended_lines (e ∷ es) = ended_json e ++ codes "\n" ++ ended_lines es
+
+-- `{"conversations":2,"events":2000}`
+unfoldable pub total_line : (conversations events : ℕ) → List ℕ
+total_line conversations events = codes "{\"conversations\":" ++ decimal conversations ++ codes ",\"events\":" ++ decimal events ++ codes "}\n"
+
+-- the table of settled conversations, as lines of JSON
+abbrev pub table_json : List Ended → List ℕ
+table_json list = ended_lines list ++ total_line (length list) (events_of list)

@@ -1,4 +1,4 @@
-//! The JSON of replies.
+//! The JSON of replies, and of what a service alone answers.
 
 ghost use Rattle.std.specs.Prelude.{◌≡◌, IfOk};
 ghost use Rattle.serde_json.specs.Data.{string};
@@ -12,6 +12,7 @@ use crate::fault::push_refusal;
 use crate::verdict::told_word;
 use scrib_core::reply::{Refusal, Reply};
 use scrib_library::changes::Change;
+use scrib_settle::ended::Ended;
 use scrib_types::event::{Action, Told, Verdict};
 use scrib_types::name::{Dotted, Role};
 use scrib_types::text::{push_action, push_dotted};
@@ -138,6 +139,22 @@ fn judged_value(
     Ok(Value::Object(members))
 }
 
+#[tactic(auto, using(crate::proofs::Members::told_in_order))]
+fn told_value(alloc: Global, id: u32, told: &Told) -> Result<Value, AllocError>
+    ensures { IfOk result (λ value. view value ≡ objects.told_object id told.now) }
+{
+    let mut members = told_members(alloc, told)?;
+    put(&mut members, alloc, "conversation", Value::from(id))?;
+    Ok(Value::Object(members))
+}
+
+#[tactic(auto, unfolding(crate::specs::Json::mismatch_object))]
+fn mismatch_value(alloc: Global, conversation: u32, place: usize) -> Result<Value, AllocError>
+    ensures { IfOk result (λ value. view value ≡ objects.mismatch_object conversation place) }
+{
+    json!(in alloc; {"conversation": conversation, "place": place, "refused": "Mismatch"})
+}
+
 #[tactic(auto, unfolding(crate::specs::Json::json_of))]
 fn reply_value(alloc: Global, reply: &Reply) -> Result<Value, AllocError>
     ensures { IfOk result (λ value. view value ≡ objects.json_of reply.now) }
@@ -176,4 +193,41 @@ pub fn json(alloc: Global, reply: &Reply) -> Result<Vec<u8>, AllocError>
     ensures { IfOk result (λ text. text.items ≡ objects.json_text reply.now) }
 {
     reply_value(alloc, reply)?.to_vec(alloc)
+}
+
+/// What is told of the conversation of this id after a turn or a question to a service, as `json` gives a reply:
+/// `{"conversation":3,"verdict":"permitted"}`.
+///
+/// # Errors
+/// `AllocError` where memory for the text was refused.
+#[tactic(auto, using(crate::proofs::Members::told_object_has_no_float))]
+pub fn told_json(alloc: Global, id: u32, told: &Told) -> Result<Vec<u8>, AllocError>
+    ensures { IfOk result (λ text. text.items ≡ objects.told_json id told.now) }
+{
+    told_value(alloc, id, told)?.to_vec(alloc)
+}
+
+/// The refusal because a receipt of a pass doesn't stand at this place of its conversation, as `json` gives a reply:
+/// `{"conversation":1,"place":3,"refused":"Mismatch"}`.
+///
+/// # Errors
+/// `AllocError` where memory for the text was refused.
+#[tactic(auto, using(crate::proofs::Members::mismatch_has_no_float))]
+pub fn mismatch_json(alloc: Global, conversation: u32, place: usize) -> Result<Vec<u8>, AllocError>
+    ensures { IfOk result (λ text. text.items ≡ objects.mismatch_json conversation place) }
+{
+    mismatch_value(alloc, conversation, place)?.to_vec(alloc)
+}
+
+/// The settled conversation, as `json` gives the reply to a question about it:
+/// `{"conversation":1,"events":2,"protocol":"demo.Hello","verdict":"permitted"}`.
+///
+/// # Errors
+/// `AllocError` where memory for the text was refused.
+#[tactic(auto, using(crate::proofs::Members::ended_has_no_float))]
+pub(crate) fn ended_json(alloc: Global, ended: &Ended) -> Result<Vec<u8>, AllocError>
+    ensures { IfOk result (λ text. text.items ≡ objects.ended_json ended.now) }
+{
+    let value = judged_value(alloc, ended.id, &ended.name, ended.events, &ended.told)?;
+    value.to_vec(alloc)
 }

@@ -2,8 +2,10 @@
 
 ghost use Rattle.std.specs.Prelude.{◌≡◌, ◌++◌, IfOk, OnOk, replicate};
 ghost use Rattle.std.specs.Fmt.{decimal};
+ghost use Rattle.scrib_report.specs.Json as objects;
 ghost use Rattle.scrib_report.specs.Table as rows;
 
+use crate::json::ended_json;
 use crate::verdict::told_word;
 use scrib_settle::ended::Ended;
 use scrib_types::text::{push_bytes, push_dotted};
@@ -106,5 +108,38 @@ pub fn table(alloc: Global, list: &[Ended]) -> Result<Vec<u8>, AllocError>
     let mut out = Vec::new(alloc);
     push_rows(&mut out, list)?;
     push_total(&mut out, list.len(), events_of(list))?;
+    Ok(out)
+}
+
+fn push_json_rows(out: &mut Vec<u8>, list: &[Ended]) -> Result<(), AllocError>
+    ensures { OnOk result (out.new.items ≡ out.old.items ++ objects.ended_lines list.now) }
+{
+    let alloc = *out.allocator();
+    for ended in list {
+        push_bytes(out, ended_json(alloc, ended)?.as_slice())?;
+        push_bytes(out, b"\n")?;
+    }
+    Ok(())
+}
+
+fn push_json_total(out: &mut Vec<u8>, conversations: usize, events: u128) -> Result<(), AllocError>
+    ensures { OnOk result (out.new.items ≡ out.old.items ++ objects.total_line conversations events) }
+{
+    push_bytes(out, b"{\"conversations\":")?;
+    push_count(out, conversations as u128, b",\"events\":")?;
+    push_count(out, events, b"}\n")
+}
+
+/// The table of settled conversations as lines of JSON: for each conversation, in the order of the list, what `json` gives
+/// as the reply to a question about it, and last `{"conversations":2,"events":2000}`. Each line is ended by a line feed.
+///
+/// # Errors
+/// `AllocError` where memory for the text was refused.
+pub fn table_json(alloc: Global, list: &[Ended]) -> Result<Vec<u8>, AllocError>
+    ensures { IfOk result (λ text. text.items ≡ objects.table_json list.now) }
+{
+    let mut out = Vec::new(alloc);
+    push_json_rows(&mut out, list)?;
+    push_json_total(&mut out, list.len(), events_of(list))?;
     Ok(out)
 }
