@@ -14,21 +14,19 @@ use Rattle.crossbeam_channel.specs.contracts.channel.Receiver as Receiver
 use Rattle.crossbeam_channel.specs.contracts.channel.Sender as Sender
 use Rattle.crossbeam_channel.proofs.channel.Receiver.TheSendSync as Receivers
 use Rattle.crossbeam_channel.proofs.channel.Sender.TheSendSync as Senders
-use Rattle.crossbeam_channel.proofs.channel.Shared.TheSendSync as Shareds
 use Rattle.std.proofs.Crossing as heap
-use Rattle.std.proofs.option.Option.TheSendSync as Options
-use Rattle.std.proofs.sync.Arc.TheSendSync as Arcs
-use Rattle.std.proofs.sync.Mutex.TheSendSync as Mutexes
 use Rattle.scrib_rejudge.specs.contracts.notices.Notice as Notice
 use Rattle.scrib_rejudge.proofs.notices.Notice.TheSendSync as Notices
 use Rattle.scrib_shards.specs.contracts.service.Service as Service
 use Rattle.scrib_shards.proofs.Crossing.{service_sync}
+use Rattle.scrib_run.specs.contracts.common.Common as Common
+use Rattle.scrib_run.proofs.progress.Tally.TheSendSync as Tallies
 
 inbox_sync : IsSync (Receiver.the_row Notice.the_row Global.the_row ghosts)
-inbox_sync = search (Receivers.the_sync, Shareds.the_send, Shareds.the_sync, Arcs.the_send, Arcs.the_sync, Options.the_send, Options.the_sync, Mutexes.the_send, Mutexes.the_sync, heap.crosses, Notices.the_send, Notices.the_sync, Globals.the_send, Globals.the_sync, sendable) depth 60 fits 20000
+inbox_sync = search (Receivers.the_sync, heap.crosses, Notices.the_send, Globals.the_send, Globals.the_sync, sendable) depth 60 fits 20000
 
 outbox_sync : IsSync (Sender.the_row Notice.the_row Global.the_row ghosts)
-outbox_sync = search (Senders.the_sync, Shareds.the_send, Shareds.the_sync, Arcs.the_send, Arcs.the_sync, Mutexes.the_send, Mutexes.the_sync, heap.crosses, Notices.the_send, Notices.the_sync, Globals.the_send, Globals.the_sync, sendable) depth 60 fits 20000
+outbox_sync = search (Senders.the_sync, heap.crosses, Notices.the_send, Globals.the_send, Globals.the_sync, sendable) depth 60 fits 20000
 
 -- what workers that serve notices share: the runtime, the service and the inbox
 pub serving_sync : (R : RattleType) (ν : List ℕ) (a b d : NamedLft) → IsSync R
@@ -40,7 +38,10 @@ pub serving_send : (R : RattleType) (ν : List ℕ) (a b d e f : NamedLft) → I
     → IsSend (TupleAt ν ((shr_ref_field a (param 0 R) tt).row ∷ (shr_ref_field b Global.the_row tt).row ∷ (shr_ref_field d Service.the_row tt).row ∷ (shr_ref_field e (Receiver.the_row Notice.the_row Global.the_row ghosts) tt).row ∷ (shr_ref_field f u64-field.row tt).row ∷ []))
 serving_send R ν a b d e f r = search (service_sync, inbox_sync, Globals.the_sync, sendable) depth 60 fits 20000
 
--- what connections share: the runtime, the allocator, the service and the outbox
-pub connecting_sync : (R : RattleType) (ν : List ℕ) (a b d e : NamedLft) → IsSync R
-    → IsSync (TupleAt ν ((shr_ref_field a (param 0 R) tt).row ∷ (shr_ref_field b Global.the_row tt).row ∷ (shr_ref_field d Service.the_row tt).row ∷ (shr_ref_field e (Sender.the_row Notice.the_row Global.the_row ghosts) tt).row ∷ []))
-connecting_sync R ν a b d e r = search (service_sync, outbox_sync, Globals.the_sync, sendable) depth 60 fits 20000
+common_sync : (a : NamedLft) (P : RattleType) → IsSync P → IsSync (Common.the_row a P)
+common_sync a P p = search (service_sync, Tallies.the_sync, sendable) depth 60 fits 20000
+
+-- what connections share: the runtime, what is common to them, and the outbox
+pub connecting_sync : (R P : RattleType) (ν : List ℕ) (a b d e : NamedLft) → IsSync R → IsSync P
+    → IsSync (TupleAt ν ((shr_ref_field a (param 0 R) tt).row ∷ (shr_ref_field b (Common.the_row d (param 2 P)) tt).row ∷ (shr_ref_field e (Sender.the_row Notice.the_row Global.the_row ghosts) tt).row ∷ []))
+connecting_sync R P ν a b d e r p = search (common_sync, outbox_sync, sendable) depth 60 fits 20000

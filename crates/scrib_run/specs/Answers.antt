@@ -5,12 +5,13 @@ use Rattle.scrib_library.specs.declared.changes.Changes.{Changes}
 use Rattle.scrib_library.specs.declared.fault.EditFault.{EditFault}
 use Rattle.scrib_core.specs.declared.reply.Edit.{Edit}
 use Rattle.scrib_core.specs.declared.reply.Refusal.TheVariants as refusal
-use Rattle.scrib_core.specs.declared.reply.Reply.{Reply}
 use Rattle.scrib_core.specs.declared.reply.Reply.TheVariants as reply
 use Rattle.scrib_locked.specs.declared.passing.PassRefusal.{PassRefusal}
 use Rattle.scrib_locked.specs.declared.passing.PassRefusal.TheVariants as pass
+use Rattle.scrib_report.specs.Json.{told_json, mismatch_json}
 use Rattle.scrib_report.specs.Services.{judged_text, mismatch_text}
 use Rattle.scrib_script.specs.declared.format.Format.{Format}
+use Rattle.scrib_script.specs.declared.format.Format.TheVariants as format
 use Rattle.scrib_cli.specs.Scripts.{reply_text}
 use Rattle.scrib_run.specs.declared.answer.Answer.{Answer}
 use Rattle.scrib_run.specs.declared.answer.Answer.TheVariants as answer
@@ -39,8 +40,10 @@ is_change (answer.Reply (reply.Refused f)) = false
 is_change (answer.Judged id told) = false
 is_change (answer.Mismatch c place) = false
 
--- the text of an answer, in this format where a monitor would answer so too, with the LF behind it
+-- the text of an answer in this format, with the LF behind it
 abbrev pub answer_text : Format → Answer → List ℕ
 answer_text f (answer.Reply r) = reply_text f r
-answer_text f (answer.Judged id told) = judged_text id told ++ 10 ∷ []
-answer_text f (answer.Mismatch c place) = mismatch_text c place ++ 10 ∷ []
+answer_text format.Line (answer.Judged id told) = judged_text id told ++ 10 ∷ []
+answer_text format.Json (answer.Judged id told) = told_json id told ++ 10 ∷ []
+answer_text format.Line (answer.Mismatch c place) = mismatch_text c place ++ 10 ∷ []
+answer_text format.Json (answer.Mismatch c place) = mismatch_json c place ++ 10 ∷ []

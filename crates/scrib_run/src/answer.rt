@@ -9,6 +9,7 @@ use scrib_cli::printing::reply_text;
 use scrib_core::reply::{Edit, Refusal, Reply};
 use scrib_library::changes::Changes;
 use scrib_library::fault::EditFault;
+use scrib_report::json::{mismatch_json, told_json};
 use scrib_report::service::{judged_line, mismatch_line};
 use scrib_script::format::Format;
 use scrib_shards::passing::PassRefusal;
@@ -60,6 +61,11 @@ pub(crate) fn edited(edit: Edit, answer: Result<Changes, EditFault>) -> Answer
     }
 }
 
+/// Whether it is that an event was noted.
+pub(crate) fn is_noted(answer: &Answer) -> bool {
+    matches!(answer, Answer::Reply(Reply::Noted { .. }))
+}
+
 /// Whether it is that some protocols changed.
 pub(crate) fn is_change(answer: &Answer) -> bool
     ensures { result ≡ is_change answer.now }
@@ -70,23 +76,34 @@ pub(crate) fn is_change(answer: &Answer) -> bool
     }
 }
 
-/// The text of the answer, in this format where a monitor would answer so too, with the LF behind it.
+/// The text of the answer in this format, with the LF behind it.
 fn text_of(alloc: Global, answer: &Answer, format: Format) -> Result<Vec<u8>, AllocError>
     ensures { IfOk result (λ text. text.items ≡ answer_text format answer.now) }
 {
-    let mut text = match answer {
-        Answer::Reply(reply) => return reply_text(alloc, reply, format),
-        Answer::Judged { id, told } => judged_line(alloc, *id, told)?,
-        Answer::Mismatch {
-            conversation,
-            place,
-        } => mismatch_line(alloc, *conversation, *place)?,
+    let mut text = match (answer, format) {
+        (Answer::Reply(reply), _) => return reply_text(alloc, reply, format),
+        (Answer::Judged { id, told }, Format::Line) => judged_line(alloc, *id, told)?,
+        (Answer::Judged { id, told }, Format::Json) => told_json(alloc, *id, told)?,
+        (
+            Answer::Mismatch {
+                conversation,
+                place,
+            },
+            Format::Line,
+        ) => mismatch_line(alloc, *conversation, *place)?,
+        (
+            Answer::Mismatch {
+                conversation,
+                place,
+            },
+            Format::Json,
+        ) => mismatch_json(alloc, *conversation, *place)?,
     };
     text.push(b'\n')?;
     Ok(text)
 }
 
-/// Adds the text of the answer, in this format where a monitor would answer so too, with the LF behind it.
+/// Adds the text of the answer in this format, with the LF behind it.
 ///
 /// # Errors
 /// `AllocError` where memory was refused.

@@ -1,10 +1,11 @@
 //! A connection to a service.
 
-use crate::answer::{Answer, edited, is_change, push_answer, refused, refused_by_pass};
+use crate::answer::{Answer, edited, is_change, is_noted, push_answer, refused, refused_by_pass};
+use crate::common::Common;
 use crossbeam_channel::Sender;
 use indexmap::IndexMap;
 use scrib_cli::fault::ScriptFault;
-use scrib_cli::printing::{bad_line, end_of_text};
+use scrib_cli::printing::{bad_line, end_of_text, reply_format};
 use scrib_core::reply::{Edit, Refusal, Reply};
 use scrib_core::step::Step;
 use scrib_rejudge::notices::Notice;
@@ -25,8 +26,11 @@ pub(crate) struct Connection<'a> {
     service: &'a Service,
     // Where the shards are named whose verdicts an edit may put out of date.
     outbox: Option<&'a Sender<Notice>>,
+    format: Format,
     passes: IndexMap<u32, Pass>,
     lines: Vec<u8>,
+    // How many events it noted that weren't counted yet.
+    noted: u64,
 }
 
 /// A connection at its end: its passes, and its lines.
@@ -37,19 +41,31 @@ pub(crate) struct Closed {
 }
 
 impl<'a> Connection<'a> {
-    /// A connection that used no conversation.
-    pub(crate) fn new(
-        alloc: Global,
-        service: &'a Service,
+    ghost use Rattle.std.specs.Prelude.{◌≡◌, ◌<◌, IfOk, OnErr, IsSome, nat_eq};
+    ghost use Rattle.std.specs.Map.{lookup};
+    ghost use Rattle.indexmap.specs.IndexMap.{index_map_len};
+
+    /// A connection that used no conversation. What it is answered is told in the format of the run.
+    pub(crate) fn new<P>(
+        common: &Common<'a, P>,
         outbox: Option<&'a Sender<Notice>>,
     ) -> Connection<'a> {
         Connection {
-            alloc,
-            service,
+            alloc: common.alloc,
+            service: common.service,
             outbox,
-            passes: IndexMap::new(alloc),
-            lines: Vec::new(alloc),
+            format: common.format,
+            passes: IndexMap::new(common.alloc),
+            lines: Vec::new(common.alloc),
+            noted: 0,
         }
+    }
+
+    /// How many events it noted since this was last asked.
+    pub(crate) fn take_noted(&mut self) -> u64 {
+        let noted = self.noted;
+        self.noted = 0;
+        noted
     }
 
     /// What is left of it at its end.
@@ -77,17 +93,21 @@ impl<'a> Connection<'a> {
     ) -> Result<(), ScriptFault> {
         match item {
             Item::Step(Format::Json, Step::Turn { .. } | Step::Ask { .. }) => self.tell_bad(number),
-            Item::Step(format, step) => {
+            Item::Step(asked, step) => {
                 let answer = self.carry_out(rt, step);
                 if is_change(&answer) {
                     self.send_notices(rt);
                 }
+                if is_noted(&answer) {
+                    self.noted = self.noted.saturating_add(1);
+                }
+                let format = reply_format(self.format, asked);
                 push_answer(self.alloc, &mut self.lines, &answer, format)?;
                 Ok(())
             }
             Item::BadLine(number) => self.tell_bad(number),
             Item::EndOfText => {
-                push_bytes(&mut self.lines, end_of_text(Format::Line))?;
+                push_bytes(&mut self.lines, end_of_text(self.format))?;
                 Ok(())
             }
         }
@@ -98,12 +118,16 @@ impl<'a> Connection<'a> {
     /// # Errors
     /// `OutOfMemory` where there is no memory for the line.
     pub(crate) fn tell_read_fault(&mut self) -> Result<(), ScriptFault> {
-        push_bytes(&mut self.lines, b"read fault\n")?;
+        let line: &[u8] = match self.format {
+            Format::Line => b"read fault\n",
+            Format::Json => b"{\"fault\":\"read\"}\n",
+        };
+        push_bytes(&mut self.lines, line)?;
         Ok(())
     }
 
     fn tell_bad(&mut self, number: u32) -> Result<(), ScriptFault> {
-        let line = bad_line(self.alloc, number, Format::Line)?;
+        let line = bad_line(self.alloc, number, self.format)?;
         push_bytes(&mut self.lines, line.as_bytes())?;
         Ok(())
     }
@@ -162,17 +186,29 @@ impl<'a> Connection<'a> {
         }
     }
 
-    // Its pass to the conversation, which it connects to where it has none.
+    // Its pass to the conversation, to which it connects where it has none.
     fn pass_to(&mut self, rt: &impl Wait, id: u32) -> Result<&mut Pass, Refusal> {
-        if !self.passes.contains_key(&id) {
-            let pass = self.service.connect(rt, id)?;
-            if self.passes.insert(id, pass).is_err() {
-                return Err(Refusal::OutOfMemory);
-            }
-        }
-        match self.passes.get_mut(&id) {
+        let at = self.place_of_pass(rt, id)?;
+        match self.passes.get_index_mut(at) {
             Some(pass) => Ok(pass),
             None => Err(Refusal::NoConversation),
+        }
+    }
+
+    // The place among its passes of that to the conversation, to which it connects where it has none. It makes no second
+    // one.
+    fn place_of_pass(&mut self, rt: &impl Wait, id: u32) -> Result<usize, Refusal>
+        ensures once { IsSome (lookup (nat_eq id) self.old.passes.entries) → self.new.passes ≡ self.old.passes }
+        ensures within { IfOk result (λ at. at < index_map_len self.new.passes) }
+        ensures fault { OnErr result (self.new.passes.entries ≡ self.old.passes.entries) }
+    {
+        if let Some(at) = self.passes.get_index_of(&id) {
+            return Ok(at);
+        }
+        let pass = self.service.connect(rt, id)?;
+        match self.passes.insert_full(id, pass) {
+            Ok((at, _)) => Ok(at),
+            Err(_) => Err(Refusal::OutOfMemory),
         }
     }
 }

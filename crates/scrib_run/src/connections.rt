@@ -1,6 +1,8 @@
 //! Connections on threads, beside workers that bring verdicts up to date.
 
+use crate::common::Common;
 use crate::connection::{Closed, Connection};
+use crate::progress::Progress;
 use crate::reading::run_script;
 use crossbeam_channel::{Receiver, Sender, unbounded};
 use scrib_cli::fault::ScriptFault;
@@ -18,18 +20,17 @@ use std::thread::Threads;
 type Ran = Result<Closed, ScriptFault>;
 
 // Carries out the script of a connection. Where its reader fails it ends so, which is nobody else's fault.
-fn run_connection<C: Read>(
+fn run_connection<C: Read, P: Progress>(
     rt: &impl Wait,
-    alloc: Global,
-    service: &Service,
+    common: &Common<'_, P>,
     outbox: &Sender<Notice>,
     mut reader: C,
 ) -> Ran
 where
     C: Drop,
 {
-    let mut connection = Connection::new(alloc, service, Some(outbox));
-    match run_script(rt, alloc, &mut connection, &mut reader) {
+    let mut connection = Connection::new(common, Some(outbox));
+    match run_script(rt, common, &mut connection, &mut reader) {
         Ok(()) => {}
         Err(ScriptFault::Read) => connection.tell_read_fault()?,
         Err(fault) => return Err(fault),
@@ -38,17 +39,16 @@ where
 }
 
 // Carries out the connections, each on a thread of its own.
-fn run_all<R: Threads + Wait + Sync, C: Read + Send + Drop>(
+fn run_all<R: Threads + Wait + Sync, C: Read + Send + Drop, P: Progress + Sync>(
     rt: &R,
-    alloc: Global,
-    service: &Service,
+    common: &Common<'_, P>,
     outbox: Sender<Notice>,
     readers: Vec<C>,
 ) -> Result<Vec<Ran>, AllocError> {
     thread::map_vec(
         rt,
         readers,
-        &|reader| run_connection(rt, alloc, service, &outbox, reader),
+        &|reader| run_connection(rt, common, &outbox, reader),
     )
 }
 
@@ -75,18 +75,18 @@ fn serve_all<R: Threads + Wait + Sync>(
 ///
 /// # Errors
 /// `AllocError` where there is no memory for the channel or the threads.
-pub(crate) fn run_connections<R: Threads + Wait + Sync, C: Read + Send + Drop>(
+pub(crate) fn run_connections<R: Threads + Wait + Sync, C: Read + Send + Drop, P: Progress + Sync>(
     rt: &R,
-    alloc: Global,
-    service: &Service,
+    common: &Common<'_, P>,
     workers: usize,
     readers: Vec<C>,
 ) -> Result<Vec<Ran>, AllocError> {
+    let (alloc, service) = (common.alloc, common.service);
     let (outbox, inbox) = unbounded(alloc)?;
     let ((), ran) = thread::join(
         rt,
         || serve_all(rt, alloc, service, &inbox, workers),
-        || run_all(rt, alloc, service, outbox, readers),
+        || run_all(rt, common, outbox, readers),
     );
     ran
 }

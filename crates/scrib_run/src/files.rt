@@ -2,8 +2,9 @@
 
 ghost use Rattle.std.specs.Prelude.{◌≡◌, true, IfOk};
 
+use crate::options::Options;
+use crate::progress::Progress;
 use crate::run_service::run_service;
-use crate::shape::Shape;
 use scrib_cli::commands::folder::Folder;
 use scrib_cli::fault::ScriptFault;
 use std::alloc::Global;
@@ -18,10 +19,10 @@ use std::thread::Threads;
 /// What was written by then is a beginning of the output.
 /// - `Read` where one of the files can't be opened, before anything is written, and where `run_service` answers it.
 /// - `Write`, `Settle` and `OutOfMemory` where `run_service` answers them.
-pub fn run_files<R: Threads + Wait + Sync, F: Folder, W: Write>(
+pub fn run_files<R: Threads + Wait + Sync, P: Progress + Sync, F: Folder, W: Write>(
     rt: &R,
     alloc: Global,
-    shape: Shape,
+    options: &Options<P>,
     folder: &F,
     setup: &str,
     connections: &[&str],
@@ -36,6 +37,6 @@ where
     for path in connections {
         readers.push(folder.open(path)?)?;
     }
-    run_service(rt, alloc, shape, &mut setup, readers, writer)?;
+    run_service(rt, alloc, options, &mut setup, readers, writer)?;
     Ok(true)
 }

@@ -2,9 +2,12 @@
 #![tactic(auto)]
 
 mod answer;
+mod common;
 mod connection;
 mod connections;
 pub mod files;
+pub mod options;
+pub mod progress;
 mod reading;
 pub mod run_service;
 pub mod shape;

@@ -2,30 +2,32 @@
 
 ghost use Rattle.std.specs.Prelude.{◌<◌, length};
 
+use crate::common::Common;
 use crate::connection::Connection;
+use crate::progress::Progress;
 use scrib_cli::fault::ScriptFault;
 use scrib_script::script::Script;
-use std::alloc::Global;
 use std::io::{ErrorKind, Read};
 use std::sync::Wait;
 
 // How many bytes of a script are read at once.
 const PIECE_BYTES: usize = 65_536;
 
-/// Carries out the script that the reader gives, over the connection, which has the lines of the answers then.
+/// Carries out the script that the reader gives, over the connection, which has the lines of the answers then. The events
+/// that it notes are counted.
 ///
 /// # Errors
 /// The lines before are the connection's.
 /// - `Read` where the reader fails, and at the first byte past the limits of a script.
 /// - `OutOfMemory` where there is no memory for a line.
-pub(crate) fn run_script<R: Read>(
+pub(crate) fn run_script<R: Read, P: Progress>(
     rt: &impl Wait,
-    alloc: Global,
+    common: &Common<'_, P>,
     connection: &mut Connection<'_>,
     reader: &mut R,
 ) -> Result<(), ScriptFault> {
-    let mut piece = vec![in alloc; 0u8; PIECE_BYTES]?;
-    let mut script = Script::new(alloc);
+    let mut piece = vec![in common.alloc; 0u8; PIECE_BYTES]?;
+    let mut script = Script::new(common.alloc);
     for _ in 0..u64::MAX {
         let n = match reader.read(piece.as_mut_slice()) {
             Ok(n) => n,
@@ -37,9 +39,12 @@ pub(crate) fn run_script<R: Read>(
             }
         };
         if n == 0 {
-            return end_script(rt, connection, &mut script);
+            end_script(rt, connection, &mut script)?;
+            common.tally.add(connection.take_noted());
+            return Ok(());
         }
         take_piece(rt, connection, &mut script, &piece[..n])?;
+        common.tally.add(connection.take_noted());
     }
     Err(ScriptFault::Read)
 }

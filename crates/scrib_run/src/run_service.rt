@@ -1,13 +1,17 @@
 //! Running scripts of many connections over one service.
 
+use crate::common::Common;
 use crate::connection::{Closed, Connection};
 use crate::connections::run_connections;
+use crate::options::Options;
+use crate::progress::{Phase, Progress, Tally};
 use crate::reading::run_script;
-use crate::shape::Shape;
 pub use scrib_cli::fault::ScriptFault;
 use scrib_cli::writing::{flush_out, write_out};
 use scrib_rejudge::workers::{SweepFault, sweep};
-use scrib_report::table::table;
+use scrib_report::table::{table, table_json};
+use scrib_script::format::Format;
+use scrib_settle::ended::Ended;
 use scrib_settle::fault::SettleFault;
 use scrib_shards::gate::OpenGate;
 use scrib_shards::pass::Pass;
@@ -19,11 +23,12 @@ use std::marker::Send;
 use std::sync::Wait;
 use std::thread::Threads;
 
-/// Runs scripts over one new service of this shape. First the setup script is carried out, and its lines are written.
+/// Runs scripts over one new service, by these options. First the setup script is carried out, and its lines are written.
 /// Then each connection script is, on a thread of its own and over passes of its own, while workers bring verdicts up to
 /// date that edits put out of date. When all have ended, a last sweep brings every verdict up to date and the service is
 /// settled. Then for each connection, in order, the line `connection 1` with its number is written, and its lines; and
-/// at last the table of all conversations. A connection whose reader failed has `read fault` as its last line.
+/// at last the table of all conversations. A connection whose reader failed has `read fault` as its last line. In JSON
+/// these lines are `{"connection":1}`, `{"fault":"read"}`, and a line for each conversation and for their number.
 ///
 /// # Errors
 /// What was written by then is a beginning of the output.
@@ -31,19 +36,40 @@ use std::thread::Threads;
 /// - `Write` where the writer fails.
 /// - `Settle` where the passes don't account for each event of the logs; this would be a defect of the service.
 /// - `OutOfMemory` where there is no memory for a line, a thread, the channel, the last sweep or the settling.
-pub fn run_service<R: Threads + Wait + Sync, S: Read, C: Read + Send + Drop, W: Write>(
+pub fn run_service<
+    R: Threads + Wait + Sync,
+    S: Read,
+    C: Read + Send + Drop,
+    P: Progress + Sync,
+    W: Write,
+>(
     rt: &R,
     alloc: Global,
-    shape: Shape,
+    options: &Options<P>,
     setup: &mut S,
     connections: Vec<C>,
     writer: &mut W,
 ) -> Result<(), ScriptFault> {
+    let Options {
+        shape,
+        format,
+        progress,
+    } = options;
     let Ok(service) = Service::new(alloc, shape.shards()) else {
         return Err(ScriptFault::OutOfMemory);
     };
-    let prepared = run_setup(rt, alloc, &service, setup, writer)?;
-    let ran = run_connections(rt, alloc, &service, shape.workers(), connections)?;
+    let tally = Tally::new(progress);
+    let common = Common {
+        alloc,
+        service: &service,
+        format: *format,
+        tally: &tally,
+    };
+    tally.begin(Phase::Setup);
+    let prepared = run_setup(rt, &common, setup, writer)?;
+    tally.begin(Phase::Connections);
+    let ran = run_connections(rt, &common, shape.workers(), connections)?;
+    tally.begin(Phase::LastSweep);
     let mut closed = Vec::with_capacity(alloc, ran.len())?;
     for one in ran {
         closed.push(one?)?;
@@ -51,23 +77,23 @@ pub fn run_service<R: Threads + Wait + Sync, S: Read, C: Read + Send + Drop, W: 
     if sweep(rt, alloc, &service, shape.workers(), &OpenGate).is_err() {
         return Err(ScriptFault::OutOfMemory);
     }
-    let (passes, lines) = collected(alloc, prepared, closed)?;
-    let ended = settled(alloc, service, passes)?;
+    tally.begin(Phase::Settling);
+    let (passes, lines) = collected(alloc, *format, prepared, closed)?;
+    let ended = settled(alloc, *format, service, passes)?;
     write_out(writer, lines.as_slice())?;
     write_out(writer, ended.as_slice())?;
     flush_out(writer)
 }
 
 // Carries out the setup, and writes its lines. Gives its passes.
-fn run_setup<S: Read, W: Write>(
+fn run_setup<S: Read, P: Progress, W: Write>(
     rt: &impl Wait,
-    alloc: Global,
-    service: &Service,
+    common: &Common<'_, P>,
     setup: &mut S,
     writer: &mut W,
 ) -> Result<Vec<Pass>, ScriptFault> {
-    let mut connection = Connection::new(alloc, service, None);
-    let ran = run_script(rt, alloc, &mut connection, setup);
+    let mut connection = Connection::new(common, None);
+    let ran = run_script(rt, common, &mut connection, setup);
     let Closed { passes, lines } = connection.close()?;
     write_out(writer, lines.as_slice())?;
     flush_out(writer)?;
@@ -75,9 +101,21 @@ fn run_setup<S: Read, W: Write>(
     Ok(passes)
 }
 
+// Adds the line before those of the connection of this number.
+fn push_heading(lines: &mut Vec<u8>, format: Format, number: u64) -> Result<(), AllocError> {
+    let (before, after): (&[u8], &[u8]) = match format {
+        Format::Line => (b"connection ", b"\n"),
+        Format::Json => (b"{\"connection\":", b"}\n"),
+    };
+    push_bytes(lines, before)?;
+    push_number(lines, number)?;
+    push_bytes(lines, after)
+}
+
 // All passes, and the lines of the connections, each behind a line with its number, from 1.
 fn collected(
     alloc: Global,
+    format: Format,
     prepared: Vec<Pass>,
     connections: Vec<Closed>,
 ) -> Result<(Vec<Pass>, Vec<u8>), AllocError> {
@@ -86,20 +124,30 @@ fn collected(
     let mut number = 0u64;
     for closed in connections {
         number = number.saturating_add(1);
-        push_bytes(&mut lines, b"connection ")?;
-        push_number(&mut lines, number)?;
-        push_bytes(&mut lines, b"\n")?;
+        push_heading(&mut lines, format, number)?;
         push_bytes(&mut lines, closed.lines.as_slice())?;
         passes.extend(closed.passes)?;
     }
     Ok((passes, lines))
 }
 
-// Settles the service, and gives the table.
-fn settled(alloc: Global, service: Service, passes: Vec<Pass>) -> Result<Vec<u8>, ScriptFault> {
+// Settles the service, and gives the table in this format.
+fn settled(
+    alloc: Global,
+    format: Format,
+    service: Service,
+    passes: Vec<Pass>,
+) -> Result<Vec<u8>, ScriptFault> {
     match service.settle(passes) {
-        Ok(settled) => Ok(table(alloc, settled.list.as_slice())?),
+        Ok(settled) => Ok(table_text(alloc, format, settled.list.as_slice())?),
         Err((SettleFault::OutOfMemory, _, _)) => Err(ScriptFault::OutOfMemory),
         Err(_) => Err(ScriptFault::Settle),
+    }
+}
+
+fn table_text(alloc: Global, format: Format, list: &[Ended]) -> Result<Vec<u8>, AllocError> {
+    match format {
+        Format::Line => table(alloc, list),
+        Format::Json => table_json(alloc, list),
     }
 }

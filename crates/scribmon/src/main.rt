@@ -13,6 +13,8 @@ use scrib_cli::commands::watch::watch;
 use scrib_cli::id::id_of;
 use scrib_cli::run_script::{Format, ScriptFault};
 use scrib_run::files::run_files;
+use scrib_run::options::Options;
+use scrib_run::progress::StandardError;
 use scrib_run::shape::{Shape, ShapeFault};
 use std::alloc::{AllocError, Global};
 use std::io::{BufWriter, Write};
@@ -70,14 +72,26 @@ fn machine_command<'a>(alloc: Global) -> Result<Command<'a>, AllocError> {
     role_command(alloc, "machine", about)
 }
 
+// A word that stands or doesn't.
+fn flag_arg<'a>(alloc: Global, name: &'a str, help: &'a str) -> Arg<'a> {
+    Arg::new(alloc, name)
+        .long(name)
+        .help(help)
+        .action(ArgAction::SetTrue)
+}
+
+fn json_arg<'a>(alloc: Global) -> Arg<'a> {
+    flag_arg(
+        alloc,
+        "json",
+        "Print each line of the output as one JSON object",
+    )
+}
+
 fn watch_command<'a>(alloc: Global) -> Result<Command<'a>, AllocError> {
-    let json = Arg::new(alloc, "json")
-        .long("json")
-        .help("Print each line of the output as one JSON object")
-        .action(ArgAction::SetTrue);
     Command::new(alloc, "watch")
         .about("Runs a script of edits and events, and prints a line for each reply")
-        .arg(json)?
+        .arg(json_arg(alloc))?
         .arg(file_arg(alloc))
 }
 
@@ -112,6 +126,11 @@ fn run_command<'a>(alloc: Global) -> Result<Command<'a>, AllocError> {
         "How many threads bring verdicts up to date, 1 to 16",
         "2",
     );
+    let progress = flag_arg(
+        alloc,
+        "progress",
+        "Tell on standard error how far the run is, after each 100,000 events",
+    );
     let setup = Arg::new(alloc, "SETUP")
         .help("The script that is carried out first")
         .required(true);
@@ -126,6 +145,8 @@ fn run_command<'a>(alloc: Global) -> Result<Command<'a>, AllocError> {
         )
         .arg(shards)?
         .arg(workers)?
+        .arg(json_arg(alloc))?
+        .arg(progress)?
         .arg(setup)?
         .arg(connections)
 }
@@ -249,10 +270,16 @@ where
         Ok(shape) => shape,
         Err(message) => return refused_value(rt, message),
     };
+    let progress = matches.get_flag("progress").then_some(StandardError(rt));
+    let options = Options {
+        shape,
+        format: format_of(matches),
+        progress,
+    };
     let setup = matches.get_str("SETUP").unwrap_or("");
     let connections = matches.get_strs("CONNECTION").unwrap_or(&[]);
     let files = SystemFiles(rt);
-    let ran = run_files(rt, rt.alloc(), shape, &files, setup, connections, writer);
+    let ran = run_files(rt, rt.alloc(), &options, &files, setup, connections, writer);
     Ok(told(rt, &ran))
 }
 
