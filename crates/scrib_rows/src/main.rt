@@ -1,10 +1,15 @@
 //! Runs worked examples. Each has a title line that begins with `== `, a line with a command of `scribmon` and
-//! its words (`watch`, `explain 1`, `project demo.Hello A`, `machine demo.Hello A`), and the script or the module texts
+//! its words (`watch`, `judge`, `explain 1`, `project demo.Hello A`, `machine demo.Hello A`), and the script or the module texts
 //! of the command. After the word `files` stands a command as the program takes it, with files of the folder that this is
 //! run in, and behind it standard input. The output is each title with what the command writes, and after `files` what
 //! standard error is told, and the exit status.
 #![tactic(auto)]
 
+mod beside;
+mod whole;
+
+use crate::beside::tell_runs;
+use crate::whole::tell_judgements;
 use scrib_cli::commands::check::check_files;
 use scrib_cli::commands::explain::explain;
 use scrib_cli::commands::folder::SystemFiles;
@@ -18,6 +23,8 @@ use scrib_cli::machine::machine_text;
 use scrib_cli::project::project_text;
 use scrib_cli::run_script::{Format, ScriptFault, run_script};
 use scrib_run::files::run_files;
+use scrib_run::options::Options;
+use scrib_run::progress::{Mark, Progress};
 use scrib_run::shape::Shape;
 use scrib_types::plain::Items;
 use std::alloc::{AllocError, AllocFailed, Global};
@@ -86,6 +93,7 @@ fn obey<W: Write>(
     let mut reader = body.as_bytes();
     match (words.next(), words.next(), words.next()) {
         (Some("watch"), None, None) => run_script(alloc, Format::Line, &mut reader, writer)?,
+        (Some("judge"), None, None) => tell_judgements(alloc, reader, writer)?,
         (Some("explain"), Some(id), None) => {
             let id = id_of(id).ok_or(RowsFault::NoCommand)?;
             explain_script(alloc, &mut reader, id, writer)?;
@@ -111,8 +119,27 @@ fn shape_of(shards: &str, workers: &str) -> Result<Shape, RowsFault> {
     Shape::new(shards as usize, workers as usize).map_err(|_| RowsFault::NoCommand)
 }
 
-// What `run` answers over the files that these words name, behind the numbers of shards and of workers.
-fn run_over_service<R: Files + Threads + Wait + AllocGlobal + Sync, W: Write>(
+// Standard output, where the marks of a run stand among its lines.
+#[derive(Clone, Copy)]
+struct StandardOutput<'a, R>(&'a R);
+
+impl<R: Print> Progress for StandardOutput<'_, R> {
+    fn tell(&self, mark: Mark) {
+        let _ = self.0.println(mark);
+    }
+}
+
+// The words behind this one, if it is the first, and whether it is.
+fn behind<'a, 'b>(word: &str, words: &'a [&'b str]) -> (bool, &'a [&'b str]) {
+    match words {
+        [first, rest @ ..] if *first == word => (true, rest),
+        _ => (false, words),
+    }
+}
+
+// What `run` answers over the files that these words name, behind the numbers of shards and of workers, and `--json` and
+// `--progress` where they stand.
+fn run_over_service<R: Print + Files + Threads + Wait + AllocGlobal + Sync, W: Write>(
     rt: &R,
     words: &[&str],
     writer: &mut W,
@@ -120,24 +147,26 @@ fn run_over_service<R: Files + Threads + Wait + AllocGlobal + Sync, W: Write>(
 where
     R::File: Send,
 {
-    let [
-        "--shards",
-        shards,
-        "--workers",
-        workers,
-        setup,
-        connections @ ..,
-    ] = words
-    else {
+    let ["--shards", shards, "--workers", workers, words @ ..] = words else {
         return Err(RowsFault::NoCommand);
     };
-    let shape = shape_of(shards, workers)?;
+    let (json, words) = behind("--json", words);
+    let (progress, words) = behind("--progress", words);
+    let [setup, connections @ ..] = words else {
+        return Err(RowsFault::NoCommand);
+    };
+    writer.flush()?;
+    let options = Options {
+        shape: shape_of(shards, workers)?,
+        format: if json { Format::Json } else { Format::Line },
+        progress: progress.then_some(StandardOutput(rt)),
+    };
     let files = SystemFiles(rt);
-    Ok(run_files(rt, rt.alloc(), shape, &files, setup, connections, writer))
+    Ok(run_files(rt, rt.alloc(), &options, &files, setup, connections, writer))
 }
 
 // What the command of these words answers, over the files that they name or this input.
-fn answer<R: Files + Threads + Wait + AllocGlobal + Sync, W: Write>(
+fn answer<R: Print + Files + Threads + Wait + AllocGlobal + Sync, W: Write>(
     rt: &R,
     words: &[&str],
     mut input: &[u8],
@@ -172,7 +201,7 @@ where
 }
 
 // Runs a command over files, and tells what the program would end with.
-fn obey_files<R: Files + Threads + Wait + AllocGlobal + Sync, W: Write>(
+fn obey_files<R: Print + Files + Threads + Wait + AllocGlobal + Sync, W: Write>(
     rt: &R,
     command: &str,
     input: &str,
@@ -194,7 +223,7 @@ where
 }
 
 // Runs one example, from its title on.
-fn tell<R: Files + Threads + Wait + AllocGlobal + Sync, W: Write>(
+fn tell<R: Print + Files + Threads + Wait + AllocGlobal + Sync, W: Write>(
     rt: &R,
     example: &str,
     writer: &mut W,
@@ -207,6 +236,9 @@ where
     writer.write_all(b"== ")?;
     writer.write_all(title.as_bytes())?;
     writer.write_all(b"\n")?;
+    if command == "edits beside notes" {
+        return tell_runs(rt, rt.alloc(), writer);
+    }
     match command.strip_prefix("files ") {
         Some(command) => obey_files(rt, command, body, writer),
         None => obey(rt.alloc(), command, body, writer),

@@ -1,0 +1,74 @@
+//! Scripts whose verdicts are compared with the judgement of the whole log, by the definitions.
+
+use crate::RowsFault;
+use scrib_core::monitor::Core;
+use scrib_core::reply::Reply;
+use scrib_core::step::Step;
+use scrib_global::judge::judge_whole;
+use scrib_report::verdict::verdict;
+use scrib_script::item::Item;
+use scrib_script::script::Script;
+use scrib_types::event::{Told, Verdict};
+use std::alloc::{AllocError, Global};
+use std::io::Write;
+
+// The steps that a script spells; what says nothing is left out.
+fn steps_of(alloc: Global, script: &[u8]) -> Result<Vec<Step>, RowsFault> {
+    let mut steps = Vec::new(alloc);
+    let mut reading = Script::new(alloc);
+    let mut rest = script;
+    while !rest.is_empty() {
+        let (item, after) = reading.next_item(rest).map_err(|_| RowsFault::Script)?;
+        if let Some(Item::Step(_, step)) = item {
+            steps.push(step)?;
+        }
+        rest = after;
+    }
+    if let Some(Item::Step(_, step)) = reading.last_item().map_err(|_| RowsFault::Script)? {
+        steps.push(step)?;
+    }
+    Ok(steps)
+}
+
+// The conversation of which the reply tells a verdict that isn't out of date, and that verdict as it is printed.
+fn fresh_verdict(alloc: Global, reply: &Reply) -> Result<Option<(u32, Vec<u8>)>, AllocError> {
+    match reply {
+        Reply::Noted { id, told, .. } | Reply::Judged { id, told, .. } => match told {
+            Told::Stale => Ok(None),
+            Told::Judged(_) => Ok(Some((*id, verdict(alloc, told)?))),
+        },
+        _ => Ok(None),
+    }
+}
+
+// The verdict on the whole log of the conversation under the protocol that is there, as it is printed.
+fn judged_whole(alloc: Global, core: &Core, id: u32) -> Result<Vec<u8>, AllocError> {
+    let judged = match core.view(id) {
+        Some((Some(protocol), log)) => judge_whole(alloc, protocol, log)?,
+        _ => Verdict::Withdrawn,
+    };
+    verdict(alloc, &Told::Judged(judged))
+}
+
+/// Makes the steps of the script, and tells how many verdicts came that weren't out of date, and of how many the text is
+/// that of the judgement of the whole log.
+pub(crate) fn tell_judgements<W: Write>(
+    alloc: Global,
+    script: &[u8],
+    writer: &mut W,
+) -> Result<(), RowsFault> {
+    let mut core = Core::new(alloc);
+    let (mut verdicts, mut agreed) = (0u64, 0u64);
+    for step in steps_of(alloc, script)? {
+        let reply = core.apply(step);
+        if let Some((id, told)) = fresh_verdict(alloc, &reply)? {
+            verdicts = verdicts.saturating_add(1);
+            if told.as_slice() == judged_whole(alloc, &core, id)?.as_slice() {
+                agreed = agreed.saturating_add(1);
+            }
+        }
+    }
+    let line = format!(in alloc; "{agreed} of {verdicts} verdicts are those on the whole logs\n")?;
+    writer.write_all(line.as_bytes())?;
+    Ok(())
+}
