@@ -1,0 +1,109 @@
+#!/usr/bin/env python3
+"""Times `scribmon run` over the clock.
+
+    run.py [--program FILE] [--events N] [--conversations N] [--cores LIST]
+
+Run it from anywhere, after `make run`; times are those of the clock, the best of five runs, so nothing else should run.
+First four connections of 250,000 events each, over 4 shards with 2 workers, against `watch` over the same events in one
+script. Then the time from an edit that changes the one protocol of 10,000 conversations of 100 events each until none is
+out of date, with 1, 2 and 4 workers: that of a run whose connection puts the changed text, less that of one whose
+connection puts the text that stands there. --program names another program, --events and --conversations other sizes,
+and --cores keeps the runs on these processors, as 2,3. It is no test: it looks only at the number of events in the tables.
+"""
+
+import argparse
+import os
+import subprocess
+import sys
+import tempfile
+import time
+
+PROGRAM = os.path.join(os.path.dirname(os.path.abspath(__file__)), "..", "crates", "scribmon", "out", "scribmon")
+RUNS = 5
+CONNECTIONS = 4
+LOG = 60_000
+TEXT = "put\nmodule k; global protocol K(role A, role B) { rec X { ask(Int) from A to B; tell(Int, Str) from B to A; %scontinue X; } }\n%%%%\n"
+
+
+def exchanges(conversation, events):
+    """Lines of so many events of a conversation whose roles joined."""
+    turn = ["send %d A B ask(Int)", "recv %d A B ask(Int)", "send %d B A tell(Int,Str)", "recv %d B A tell(Int,Str)"]
+    return [turn[i % 4] % conversation for i in range(events)]
+
+
+def conversation_lines(conversation, events):
+    return ["join %d A" % conversation, "join %d B" % conversation] + exchanges(conversation, events - 2)
+
+
+def write(folder, name, lines):
+    path = os.path.join(folder, name)
+    with open(path, "w") as file:
+        file.write("".join(line if line.endswith("\n") else line + "\n" for line in lines))
+    return path
+
+
+def seconds(words, cores):
+    """The least seconds that the command took, and its last line."""
+    pin = ["taskset", "-c", cores] if cores else []
+    best, last = None, ""
+    for _ in range(RUNS):
+        begun = time.monotonic()
+        done = subprocess.run(pin + words, capture_output=True, check=True)
+        took = time.monotonic() - begun
+        best = took if best is None else min(best, took)
+        last = done.stdout.rsplit(b"\n", 2)[-2].decode()
+    return best, last
+
+
+def beside_watch(program, folder, events, cores):
+    """Four connections against one script."""
+    setup, connections, whole = [TEXT % ""], [], [TEXT % ""]
+    for number in range(CONNECTIONS):
+        lines = []
+        for first in range(0, events, LOG):
+            conversation = number + CONNECTIONS * (first // LOG)
+            opened = "open %d k.K" % conversation
+            setup.append(opened)
+            whole.append(opened)
+            lines += conversation_lines(conversation, min(LOG, events - first))
+        connections.append(write(folder, "connection%d" % number, lines))
+        whole += lines
+    watched, _ = seconds([program, "watch", write(folder, "whole", whole)], cores)
+    words = [program, "run", "--shards", "4", "--workers", "2", write(folder, "setup", setup)]
+    ran, last = seconds(words + connections, cores)
+    print("watch of %d events in one script: %.3f s" % (CONNECTIONS * events, watched))
+    print("run of them over %d connections:   %.3f s, %.2f times as fast (%s)" % (CONNECTIONS, ran, watched / ran, last))
+
+
+def until_judged(program, folder, conversations, cores):
+    """An edit under many conversations, until none is out of date."""
+    setup = [TEXT % ""]
+    for conversation in range(conversations):
+        setup.append("open %d k.K" % conversation)
+        setup += conversation_lines(conversation, 100)
+    setup = write(folder, "many", setup)
+    same = write(folder, "same", [TEXT % ""])
+    changed = write(folder, "changed", [TEXT % "more() from A to B; "])
+    for workers in ["1", "2", "4"]:
+        words = [program, "run", "--shards", "4", "--workers", workers, setup]
+        without, _ = seconds(words + [same], cores)
+        with_edit, last = seconds(words + [changed], cores)
+        print("until none is out of date, %s workers: %.3f s (%s)" % (workers, with_edit - without, last))
+
+
+def main():
+    parser = argparse.ArgumentParser()
+    parser.add_argument("--program", default=PROGRAM)
+    parser.add_argument("--events", type=int, default=250_000)
+    parser.add_argument("--conversations", type=int, default=10_000)
+    parser.add_argument("--cores")
+    options = parser.parse_args()
+    if not os.path.exists(options.program):
+        sys.exit("there is no program yet: make run")
+    with tempfile.TemporaryDirectory() as folder:
+        beside_watch(options.program, folder, options.events, options.cores)
+        until_judged(options.program, folder, options.conversations, options.cores)
+
+
+if __name__ == "__main__":
+    main()
