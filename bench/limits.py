@@ -1,0 +1,86 @@
+#!/usr/bin/env python3
+"""Prints what the dearest inputs within the limits cost that are known here.
+
+    limits.py [--program FILE]
+
+Run it from anywhere, after `make run`. For each script it prints its bytes, the bytes of the output, the seconds of
+processor time and the most memory that `watch` took. docs/LIMITS.md says what each of them is. It needs 2 GB of memory,
+and is no test.
+"""
+
+import argparse
+import os
+import subprocess
+import sys
+import tempfile
+
+PROGRAM = os.path.join(os.path.dirname(os.path.abspath(__file__)), "..", "crates", "scribmon", "out", "scribmon")
+TEXT_BYTES = 1_048_576
+
+
+def put(text):
+    return "put\n%s\n%%%%\n" % text
+
+
+def large_protocols():
+    """1,024 protocols, each of about 4,090 nodes for sixteen roles: one of messages round the roles, and calls of it."""
+    roles = ["R%d" % i for i in range(16)]
+    declared = ", ".join("role " + role for role in roles)
+    body = " ".join("m%d() from %s to %s;" % (i % 7, roles[i % 16], roles[(i + 1) % 16]) for i in range(4090))
+    text = "module m;\nglobal protocol P0(%s) { %s }\n" % (declared, body)
+    for i in range(1, 1024):
+        text += "global protocol P%d(%s) { a() from R0 to R1; do P0(%s); }\n" % (i, declared, ", ".join(roles))
+    return put(text)
+
+
+def large_modules():
+    """256 modules of 1 MiB, each with four protocols of 4,090 messages and a comment."""
+    body = " ".join("msg%d(Int, Str) from Alpha to Beta;" % (i % 50) for i in range(4090))
+    for m in range(256):
+        text = "module m%d;\n" % m
+        for k in range(4):
+            text += "global protocol P%d(role Alpha, role Beta) { %s }\n" % (k, body)
+        yield put(text + "//" + "x" * (TEXT_BYTES - len(text) - 3))
+
+
+def long_replies():
+    """A choice of 1,500 operators of 128 bytes, and 2,000 events after an offence at it."""
+    branches = " or ".join("{ %s%04d() from A to B; }" % ("o" * 124, i) for i in range(1500))
+    text = "module d; global protocol D(role A, role B) { choice at A %s }" % branches
+    return put(text) + "open 1 d.D\njoin 1 A\njoin 1 B\n" + "send 1 A B x()\n" * 2000
+
+
+def long_log():
+    """A log of 65,536 events, all but two in flight."""
+    text = "module k; global protocol K(role A, role B) { rec X { a() from A to B; continue X; } }"
+    return put(text) + "open 1 k.K\njoin 1 A\njoin 1 B\n" + "send 1 A B a()\n" * 65_534
+
+
+def cost(program, name, script):
+    """Prints what `watch` of the script costs."""
+    with tempfile.TemporaryDirectory() as folder:
+        path, said = os.path.join(folder, "script"), os.path.join(folder, "said")
+        with open(path, "w") as file:
+            file.writelines(script)
+        with open(said, "wb") as file:
+            ran = subprocess.Popen([program, "watch", path], stdout=file)
+            _, status, used = os.wait4(ran.pid, 0)
+        line = "%-16s %9d bytes in, %9d out, %6.2f s, %7.1f MB" % (
+            name, os.path.getsize(path), os.path.getsize(said), used.ru_utime + used.ru_stime, used.ru_maxrss / 1024)
+        print(line if status == 0 else line + ", status %d" % status)
+
+
+def main():
+    parser = argparse.ArgumentParser()
+    parser.add_argument("--program", default=PROGRAM)
+    program = parser.parse_args().program
+    if not os.path.exists(program):
+        sys.exit("there is no program yet: make run")
+    cost(program, "large protocols", large_protocols())
+    cost(program, "large modules", large_modules())
+    cost(program, "long replies", long_replies())
+    cost(program, "long log", long_log())
+
+
+if __name__ == "__main__":
+    main()
