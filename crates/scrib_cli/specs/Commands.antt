@@ -3,8 +3,13 @@
 use Rattle.std.specs.Prelude.{◌≡◌, ◌⊎◌, ⊤, ℕ, Bool, true, false, ◌&&◌, List, [], ◌∷◌, take, Option, Some, None, Result, Ok, Err, IfSome, codes}
 use Rattle.std.specs.Borrow.{Bor}
 use Rattle.std.specs.Io.KnownBytes.{Appends}
+use Rattle.scrib_script.specs.declared.format.Format.{Format}
 use Rattle.scrib_core.specs.Answers.{State}
 use Rattle.scrib_cli.specs.Checks.{IsChecked, IsPartChecked}
+use Rattle.scrib_cli.specs.Explanations.{IsExplanation}
+use Rattle.scrib_cli.specs.Projections.{IsAnswer}
+use Rattle.scrib_cli.specs.Scripts.{IsOutput, AppendsPart}
+use Rattle.scrib_cli.specs.declared.form.Form.{Form}
 use Rattle.scrib_cli.specs.declared.explaining.Explained.{Explained}
 use Rattle.scrib_cli.specs.declared.explaining.Explained.TheVariants.{Flights, Refused}
 use Rattle.scrib_cli.specs.declared.fault.ScriptFault.{ScriptFault}
@@ -36,15 +41,50 @@ AreRead text (p ∷ ps) [] = ⊥
 AreRead text (p ∷ ps) (None ∷ ts) = ts ≡ []
 AreRead text (p ∷ ps) (Some t ∷ ts) = IfSome (text p.now) (λ input. t ≡ take 1_048_577 input) × AreRead text ps ts
 
+-- what is asked for of a role was written, or a refusal, over the module texts of these files
+abbrev pub IsAnswered : Form → (text : List ℕ → Option (List ℕ)) → (paths : List (Bor (List ℕ))) → (protocol role : List ℕ) → Bool → (was now : Option (List ℕ)) → Type 0
+IsAnswered form text paths protocol role does_so was now =
+    (texts : List (Option (List ℕ))) × AreRead text paths texts
+    × ((written : List ℕ) × IsAnswer form texts protocol role does_so written × Appends was now written)
+
+-- nothing of it was written, or a beginning
+abbrev pub IsPartAnswered : Form → (text : List ℕ → Option (List ℕ)) → (paths : List (Bor (List ℕ))) → (protocol role : List ℕ) → (was now : Option (List ℕ)) → Type 0
+IsPartAnswered form text paths protocol role was now =
+    Appends was now []
+    ⊎ ((texts : List (Option (List ℕ))) × AreRead text paths texts
+    × ((does_so : Bool) × (written : List ℕ) × IsAnswer form texts protocol role does_so written × AppendsPart was now written))
+
 -- what is known of a script: it is in the file of this path, or the input where no path is named
 abbrev pub source : (text : List ℕ → Option (List ℕ)) → (path : Option (List ℕ)) → (input : Option (List ℕ)) → Option (List ℕ)
 source text None input = input
 source text (Some p) input = text p
 
+-- an output of this script, if it is known, was written
+abbrev pub IsWatched : Format → (script : Option (List ℕ)) → (was now : Option (List ℕ)) → Type 0
+IsWatched format script was now = IfSome script (λ input. (output : List ℕ) × IsOutput format input output × Appends was now output)
+
+-- nothing was written, or a beginning of an output of this script, if it is known
+abbrev pub IsPartWatched : Format → (script : Option (List ℕ)) → (was now : Option (List ℕ)) → Type 0
+IsPartWatched format script was now =
+    Appends was now []
+    ⊎ IfSome script (λ input. (output : List ℕ) × IsOutput format input output × AppendsPart was now output)
+
 -- whether an explanation is what is in flight
 abbrev pub is_flights : Explained → Bool
 is_flights Flights = true
 is_flights Refused = false
+
+-- the conversation of this script, if it is known, was explained, and whether that is what is in flight
+abbrev pub IsToldOf : (id : ℕ) → (script : Option (List ℕ)) → Bool → (was now : Option (List ℕ)) → Type 0
+IsToldOf id script flights was now =
+    IfSome script (λ input. (explained : Explained) × (output : List ℕ) × (flights ≡ is_flights explained)
+    × IsExplanation input id explained output × Appends was now output)
+
+-- nothing was written, or a beginning of what explains it
+abbrev pub IsPartToldOf : (id : ℕ) → (script : Option (List ℕ)) → (was now : Option (List ℕ)) → Type 0
+IsPartToldOf id script was now =
+    Appends was now []
+    ⊎ IfSome script (λ input. (explained : Explained) × (output : List ℕ) × IsExplanation input id explained output × AppendsPart was now output)
 
 -- the exit status of a command: 0 where it did all that it was to do, 1 where it printed a refusal or failed
 abbrev pub status_of : Result Bool ScriptFault → ℕ

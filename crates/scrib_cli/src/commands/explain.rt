@@ -1,5 +1,9 @@
 //! Explaining a conversation of a script of standard input or of a file.
 
+ghost use Rattle.std.specs.Prelude.{IfOk, OnErr};
+ghost use Rattle.std.specs.Option.{option_copied};
+ghost use Rattle.scrib_cli.specs.Commands.{source, IsToldOf, IsPartToldOf};
+
 use crate::commands::folder::Folder;
 use crate::explain_script::{Explained, explain_script};
 use crate::fault::ScriptFault;
@@ -20,7 +24,10 @@ pub fn explain<F: Folder, R: Read, W: Write>(
     path: Option<&str>,
     reader: &mut R,
     writer: &mut W,
-) -> Result<bool, ScriptFault> {
+) -> Result<bool, ScriptFault>
+    ensures ok { IfOk result (λ flights. IsToldOf id (source (F.text folder.now) (option_copied path.entry) (R.remaining reader.old)) flights (W.contents writer.old) (W.contents writer.new)) }
+    ensures err { OnErr result (IsPartToldOf id (source (F.text folder.now) (option_copied path.entry) (R.remaining reader.old)) (W.contents writer.old) (W.contents writer.new)) }
+{
     let explained = match path {
         None => explain_script(alloc, reader, id, writer)?,
         Some(path) => {

@@ -1,5 +1,9 @@
 //! Printing what a role does in a protocol of the modules of some files.
 
+ghost use Rattle.std.specs.Prelude.{IfOk, OnErr};
+ghost use Rattle.scrib_cli.specs.Commands.{IsAnswered, IsPartAnswered};
+ghost use Rattle.scrib_cli.specs.declared.form.Form.TheVariants as form;
+
 use crate::commands::folder::Folder;
 use crate::commands::reading::read_files;
 use crate::fault::ScriptFault;
@@ -21,7 +25,10 @@ pub fn project_files<F: Folder, W: Write>(
     folder: &F,
     paths: &[&str],
     writer: &mut W,
-) -> Result<bool, ScriptFault> {
+) -> Result<bool, ScriptFault>
+    ensures ok { IfOk result (λ does_so. IsAnswered form.Text (F.text folder.now) paths.now protocol.now role.now does_so (W.contents writer.old) (W.contents writer.new)) }
+    ensures err { OnErr result (IsPartAnswered form.Text (F.text folder.now) paths.now protocol.now role.now (W.contents writer.old) (W.contents writer.new)) }
+{
     let texts = read_files(alloc, folder, paths)?;
     project_text(alloc, protocol, role, texts.as_slice(), writer)
 }

@@ -1,6 +1,8 @@
 //! Watching a script of standard input or of a file.
 
-ghost use Rattle.std.specs.Prelude.{◌≡◌, true, IfOk};
+ghost use Rattle.std.specs.Prelude.{◌≡◌, true, IfOk, OnOk, OnErr};
+ghost use Rattle.std.specs.Option.{option_copied};
+ghost use Rattle.scrib_cli.specs.Commands.{source, IsWatched, IsPartWatched};
 
 use crate::commands::folder::Folder;
 use crate::fault::ScriptFault;
@@ -25,6 +27,8 @@ pub fn watch<F: Folder, R: Read, W: Write>(
     writer: &mut W,
 ) -> Result<bool, ScriptFault>
     ensures done { IfOk result (λ done. done ≡ true) }
+    ensures ok { OnOk result (IsWatched format (source (F.text folder.now) (option_copied path.entry) (R.remaining reader.old)) (W.contents writer.old) (W.contents writer.new)) }
+    ensures err { OnErr result (IsPartWatched format (source (F.text folder.now) (option_copied path.entry) (R.remaining reader.old)) (W.contents writer.old) (W.contents writer.new)) }
 {
     match path {
         None => run_script(alloc, format, reader, writer)?,
