@@ -1,16 +1,17 @@
 -- What a role's type does, and the messages in flight allow, the state does.
-use Rattle.std.proofs.Common.{◌≡◌, ◌≢◌, inl, inr, ℕ, zero, suc, List, [], ◌∷◌, refl, sym, subst}
+use Rattle.std.proofs.Common.{◌≡◌, ◌≢◌, inl, inr, ℕ, zero, suc, List, [], ◌∷◌, sym, subst}
 use Rattle.scrib_types.specs.declared.message.Message.{Message}
 use Rattle.scrib_types.specs.declared.event.Action.{Action}
 use Rattle.scrib_types.specs.declared.event.Action.TheVariants.{Sends, Receives}
 use Rattle.scrib_types.specs.declared.event.Event.TheVariants.{Sent, Received}
-use Rattle.scrib_types.specs.Trees.{GlobalTree, GlobalEnd, GlobalVar, GlobalRec, Comm, Flight, GlobalBranches, NoBranch, Branch, LocalTree, LocalRec, Send, LocalBranches}
+use Rattle.scrib_types.specs.Trees.{GlobalTree, GlobalEnd, GlobalVar, GlobalRec, Comm, Flight, GlobalBranches, NoBranch, Branch, LocalTree, LocalEnd, LocalVar, LocalRec, Send, Recv, LocalBranches}
 use Rattle.scrib_types.specs.Traces.{Offers, Does}
 use Rattle.scrib_types.specs.Traces as local
 use Rattle.scrib_global.specs.Transitions.{unfolding_of, IsBranch, first, later, Transition, sends, receives, unfolds, beneath, beside, EachTransition, none, each, BranchTransition, here, there}
 use Rattle.scrib_global.proofs.Names.{which}
 use Rattle.scrib_global.proofs.Puts.{Closed, ClosedAll, closed_unfolding, NonEmpty, Sound, SoundAll, sound_unfolding}
-use Rattle.scrib_global.proofs.Projects.{Projects, p_send, p_other, p_rec, ProjectSame, same_none, same_one, project_unfolding}
+use Rattle.scrib_global.proofs.Projects.{Projects, p_end, p_var, p_send, p_recv, p_other, p_idle, p_rec, ProjectMerged, merged_none, merged_one, project_unfolding}
+use Rattle.scrib_global.proofs.Widens.{Wider, same, wider_trans, second_wider, merged_wider, wider_as}
 use Rattle.scrib_global.proofs.Locals.{no_mix, same_from, alike_send}
 use Rattle.scrib_global.proofs.Follows.{HasMessage, Follows, FollowsBy, FollowsAll, FollowsAt, FollowsByAt, offered}
 use Rattle.scrib_global.proofs.Carries.{Carries, CarriesAll, CarriesAt}
@@ -26,36 +27,89 @@ send_step p q r t m bs e i h =
     let s : Transition (Comm p q bs) (Sent p q m) (Flight p q y.0 bs) = sends y.2 in
     (Flight p q y.0 bs, subst (λ z. Transition (Comm p q bs) (Sent z t m) (Flight p q y.0 bs)) (sym e) (subst (λ z. Transition (Comm p q bs) (Sent p z m) (Flight p q y.0 bs)) (sym i) s))
 
--- a sending of the projection
-mutual
-  sends_from : (r q : List ℕ) (m : Message) (ls : LocalBranches) (k : LocalTree) → Offers ls m k → {g : GlobalTree} → Projects g r (Send q ls) → (h : GlobalTree) × Transition g (Sent r q m) h
-  sends_from r q m ls k o (p_send {p} {bs} e pe) = send_step p q r q m bs e refl (offered r pe m k o)
-  sends_from r q m ls k o (p_other {p} {q = q'} n1 n2 ps) = let y = sends_from_all r q m ls k o ps in (Comm p q' y.0, beneath n1 n2 y.1)
+-- local types of different forms
 
-  sends_from_all : (r q : List ℕ) (m : Message) (ls : LocalBranches) (k : LocalTree) → Offers ls m k → {bs : GlobalBranches} → ProjectSame bs r (Send q ls) → (cs : GlobalBranches) × EachTransition bs (Sent r q m) cs
-  sends_from_all r q m ls k o same_none = (NoBranch, none)
-  sends_from_all r q m ls k o (same_one {m = n} p ps) =
-      let y = sends_from r q m ls k o p in
-      let z = sends_from_all r q m ls k o ps in
+no_end : (q : List ℕ) (ls : LocalBranches) → Send q ls ≡ LocalEnd → ⊥
+no_end q ls e = cc e
+
+no_var : (q : List ℕ) (ls : LocalBranches) (i : ℕ) → Send q ls ≡ LocalVar i → ⊥
+no_var q ls i e = cc e
+
+no_rec : (q : List ℕ) (ls : LocalBranches) (x : LocalTree) → Send q ls ≡ LocalRec x → ⊥
+no_rec q ls x e = cc e
+
+no_recv : (q p : List ℕ) (ls xs : LocalBranches) → Send q ls ≡ Recv p xs → ⊥
+no_recv q p ls xs e = cc e
+
+same_send : (q t : List ℕ) (ls xs : LocalBranches) → Send q ls ≡ Send t xs → (q ≡ t) × (ls ≡ xs)
+same_send q t ls xs e = (cc e, cc e)
+
+rec_no_end : (y : LocalTree) → LocalRec y ≡ LocalEnd → ⊥
+rec_no_end y e = cc e
+
+rec_no_var : (y : LocalTree) (i : ℕ) → LocalRec y ≡ LocalVar i → ⊥
+rec_no_var y i e = cc e
+
+rec_no_recv : (y : LocalTree) (p : List ℕ) (xs : LocalBranches) → LocalRec y ≡ Recv p xs → ⊥
+rec_no_recv y p xs e = cc e
+
+same_rec : (y x : LocalTree) → LocalRec y ≡ LocalRec x → y ≡ x
+same_rec y x e = cc e
+
+-- a sending of the projection, or of what it merges with
+mutual
+  sends_from : (r q : List ℕ) (m : Message) (ls : LocalBranches) (k : LocalTree) → Offers ls m k → {g : GlobalTree} {x : LocalTree} → Projects g r x → Wider (Send q ls) x → (h : GlobalTree) × Transition g (Sent r q m) h
+  sends_from r q m ls k o p_end w = absurd (no_end q ls (wider_as w))
+  sends_from r q m ls k o (p_var {k = i}) w = absurd (no_var q ls i (wider_as w))
+  sends_from r q m ls k o (p_send {p} {q = t} {bs} {ls = xs} e pe) w =
+      let y = same_send q t ls xs (wider_as w) in
+      send_step p t r q m bs e y.0 (offered r pe m k (subst (λ z. Offers z m k) y.1 o))
+  sends_from r q m ls k o (p_recv {p} {ls = xs} e pe) w = absurd (no_recv q p ls xs (wider_as w))
+  sends_from r q m ls k o (p_other {p} {q = t} {m = n} n1 n2 pj pm) w =
+      let y = sends_from r q m ls k o pj (wider_trans w (merged_wider pm)) in
+      let z = sends_from_merged r q m ls k o pm w in
+      (Comm p t (Branch n y.0 z.0), beneath n1 n2 (each y.1 z.1))
+  sends_from r q m ls k o (p_idle c a) w = absurd (no_end q ls (wider_as w))
+  sends_from r q m ls k o (p_rec {l = x} h p) w = absurd (no_rec q ls x (wider_as w))
+
+  sends_from_merged : (r q : List ℕ) (m : Message) (ls : LocalBranches) (k : LocalTree) → Offers ls m k → {bs : GlobalBranches} {j x : LocalTree} → ProjectMerged bs r j x → Wider (Send q ls) x → (cs : GlobalBranches) × EachTransition bs (Sent r q m) cs
+  sends_from_merged r q m ls k o merged_none w = (NoBranch, none)
+  sends_from_merged r q m ls k o (merged_one {m = n} p v pm) w =
+      let y = sends_from r q m ls k o p (wider_trans w (wider_trans (merged_wider pm) (second_wider v))) in
+      let z = sends_from_merged r q m ls k o pm w in
       (Branch n y.0 z.0, each y.1 z.1)
 
+-- what sends after unfolding
+abbrev Unfolded : List ℕ → List ℕ → Message → LocalTree → Type 0
+Unfolded r q m y =
+    (g : GlobalTree) → Projects g r (local.unfolding_of y) → Sound g → Closed g 0 → (h : GlobalTree) × Transition g (Sent r q m) h
+
 mutual
-  recs_from : (r q : List ℕ) (m : Message) (y : LocalTree) → ((g : GlobalTree) → Projects g r (local.unfolding_of y) → Sound g → Closed g 0 → (h : GlobalTree) × Transition g (Sent r q m) h) → {g : GlobalTree} → Projects g r (LocalRec y) → Sound g → Closed g 0 → (h : GlobalTree) × Transition g (Sent r q m) h
-  recs_from r t m y ih (p_other {p} {q} n1 n2 ps) s c = let z = recs_from_all r t m y ih ps s.3 c in (Comm p q z.0, beneath n1 n2 z.1)
-  recs_from r t m y ih (p_rec {g} h p) s c =
-      let z = ih (unfolding_of g) (project_unfolding r g y c h p) (sound_unfolding g s) (closed_unfolding g c) in
+  recs_from : (r q : List ℕ) (m : Message) (y : LocalTree) → Unfolded r q m y → {g : GlobalTree} {x : LocalTree} → Projects g r x → Wider (LocalRec y) x → Sound g → Closed g 0 → (h : GlobalTree) × Transition g (Sent r q m) h
+  recs_from r t m y ih p_end w s c = absurd (rec_no_end y (wider_as w))
+  recs_from r t m y ih (p_var {k = i}) w s c = absurd (rec_no_var y i (wider_as w))
+  recs_from r t m y ih (p_send {q} {ls} e pe) w s c = absurd (no_rec q ls y (sym (wider_as w)))
+  recs_from r t m y ih (p_recv {p} {ls} e pe) w s c = absurd (rec_no_recv y p ls (wider_as w))
+  recs_from r t m y ih (p_other {p} {q} {m = n} n1 n2 pj pm) w s c =
+      let a = recs_from r t m y ih pj (wider_trans w (merged_wider pm)) s.3.0 c.0 in
+      let z = recs_from_merged r t m y ih pm w s.3.1 c.1 in
+      (Comm p q (Branch n a.0 z.0), beneath n1 n2 (each a.1 z.1))
+  recs_from r t m y ih (p_idle c' a) w s c = absurd (rec_no_end y (wider_as w))
+  recs_from r t m y ih (p_rec {g} {l} h p) w s c =
+      let e = same_rec y l (wider_as w) in
+      let z = ih (unfolding_of g) (subst (λ x. Projects (unfolding_of g) r (local.unfolding_of x)) (sym e) (project_unfolding r g l c h p)) (sound_unfolding g s) (closed_unfolding g c) in
       (z.0, unfolds z.1)
 
-  recs_from_all : (r q : List ℕ) (m : Message) (y : LocalTree) → ((g : GlobalTree) → Projects g r (local.unfolding_of y) → Sound g → Closed g 0 → (h : GlobalTree) × Transition g (Sent r q m) h) → {bs : GlobalBranches} → ProjectSame bs r (LocalRec y) → SoundAll bs → ClosedAll bs 0 → (cs : GlobalBranches) × EachTransition bs (Sent r q m) cs
-  recs_from_all r t m y ih same_none s c = (NoBranch, none)
-  recs_from_all r t m y ih (same_one {m = n} p ps) s c =
-      let a = recs_from r t m y ih p s.0 c.0 in
-      let z = recs_from_all r t m y ih ps s.1 c.1 in
+  recs_from_merged : (r q : List ℕ) (m : Message) (y : LocalTree) → Unfolded r q m y → {bs : GlobalBranches} {j x : LocalTree} → ProjectMerged bs r j x → Wider (LocalRec y) x → SoundAll bs → ClosedAll bs 0 → (cs : GlobalBranches) × EachTransition bs (Sent r q m) cs
+  recs_from_merged r t m y ih merged_none w s c = (NoBranch, none)
+  recs_from_merged r t m y ih (merged_one {m = n} p v pm) w s c =
+      let a = recs_from r t m y ih p (wider_trans w (wider_trans (merged_wider pm) (second_wider v))) s.0 c.0 in
+      let z = recs_from_merged r t m y ih pm w s.1 c.1 in
       (Branch n a.0 z.0, each a.1 z.1)
 
 project_sends : {x k : LocalTree} {q : List ℕ} {m : Message} → Does x (Sends q m) k → (r : List ℕ) (g : GlobalTree) → Projects g r x → Sound g → Closed g 0 → (h : GlobalTree) × Transition g (Sent r q m) h
-project_sends {q} {m} (local.sends {ls} {l} o) r g p s c = sends_from r q m ls l o p
-project_sends {q} {m} (local.unfolds {body = y} d) r g p s c = recs_from r q m y (λ g' p' s' c'. project_sends d r g' p' s' c') p s c
+project_sends {q} {m} (local.sends {ls} {l} o) r g p s c = sends_from r q m ls l o p same
+project_sends {q} {m} (local.unfolds {body = y} d) r g p s c = recs_from r q m y (λ g' p' s' c'. project_sends d r g' p' s' c') p same s c
 
 by_first : (bs : GlobalBranches) (d : Message → Action) (r : List ℕ) (l : LocalTree) → NonEmpty bs → FollowsBy bs d r l → (m : Message) × (k : LocalTree) × Does l (d m) k
 by_first NoBranch d r l n f = absurd n

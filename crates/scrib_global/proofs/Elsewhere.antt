@@ -1,5 +1,5 @@
 -- Nothing is in flight but between declared roles.
-use Rattle.std.proofs.Common.{◌≡◌, ◌&&◌, inl, inr, true, false, ℕ, zero, suc, List, [], ◌∷◌, ◌++◌, length, drop, refl, sym, ap, ◌∙◌, subst, append_assoc}
+use Rattle.std.proofs.Common.{◌≡◌, ◌⊎◌, ◌&&◌, inl, inr, true, false, ℕ, zero, suc, List, [], ◌∷◌, ◌++◌, length, drop, refl, sym, ap, ◌∙◌, subst, append_assoc}
 use Rattle.std.specs.List.{AllByRecursion}
 use Rattle.std.proofs.lemmas.Bool.{and_parts, and_from, true≢false}
 use Rattle.scrib_types.specs.declared.message.Message.{Message}
@@ -7,7 +7,8 @@ use Rattle.scrib_types.specs.declared.event.Action.{Action}
 use Rattle.scrib_types.specs.declared.event.Action.TheVariants.{Sends, Receives}
 use Rattle.scrib_types.specs.declared.event.Event.{Event}
 use Rattle.scrib_types.specs.declared.event.Event.TheVariants.{Join, Sent, Received}
-use Rattle.scrib_types.specs.Trees.{GlobalTree, GlobalBranches, LocalTree, LocalBranches}
+use Rattle.scrib_types.specs.Trees.{GlobalTree, GlobalBranches, Branch, LocalTree, LocalBranches, NoChoice, Choice}
+use Rattle.scrib_types.specs.Merges.{WithOne, one_new, one_known, one_later, WithAll, all_none, all_more, Merges, merges_same, merges_receptions}
 use Rattle.scrib_types.specs.WellFormed.{has_role, well_formed, branches_well_formed, is_protocol}
 use Rattle.scrib_types.specs.Agreement.{Agreement}
 use Rattle.scrib_types.specs.Permitted.{IsPermitted}
@@ -16,11 +17,10 @@ use Rattle.scrib_types.specs.Queues.{sent, received, flights}
 use Rattle.scrib_types.specs.Traces.{IsTrace}
 use Rattle.scrib_global.specs.Named.{named, named_sends, named_receptions}
 use Rattle.scrib_global.proofs.Names.{pair_cases}
-use Rattle.scrib_global.proofs.Puts.{NonEmpty}
-use Rattle.scrib_global.proofs.Projects.{Projects, p_end, p_var, p_send, p_recv, p_other, p_idle, p_rec, ProjectEach, each_none, each_one, ProjectSame, same_none, same_one}
+use Rattle.scrib_global.proofs.Projects.{Projects, p_end, p_var, p_send, p_recv, p_other, p_idle, p_rec, ProjectEach, each_none, each_one, ProjectMerged, merged_none, merged_one}
 use Rattle.scrib_global.proofs.Events.{own_yes, sent_no}
 use Rattle.scrib_global.proofs.Given.{parts, rec_body, tests, projects_of}
-use Rattle.scrib_global.proofs.Candidates.{Among, among_cases, does_named}
+use Rattle.scrib_global.proofs.Candidates.{Among, among_left, among_right, among_cases, does_named}
 use Rattle.scrib_global.proofs.Judged.{own_append}
 
 same_to : (q t : List ℕ) (m n : Message) → Sends q m ≡ Sends t n → q ≡ t
@@ -29,6 +29,37 @@ same_to q t m n e = cc
 no_reception : (q p : List ℕ) (m n : Message) → Sends q m ≡ Receives p n → ⊥
 no_reception q p m n e = cc
 
+-- what stands in two that merged stands in one of them
+among_one : (p : List ℕ) {n : Message} {l : LocalTree} {ks js : LocalBranches} → WithOne n l ks js → (a : Action) → Among a (named_receptions p js) → Among a (named_receptions p ks) ⊎ Among a (named_receptions p (Choice n l NoChoice))
+among_one p one_new a h = inr h
+among_one p one_known a h = inl h
+among_one p (one_later {n = o} {k} ne w) a (inl e) = inl (inl e)
+among_one p (one_later {n = o} {k} {ls} {js} ne w) a (inr h) =
+    elim (among_cases a (named k) (named_receptions p js) h) [
+      | inl x ↦ inl (inr (among_left a (named k) (named_receptions p ls) x))
+      | inr x ↦ elim (among_one p w a x) [ inl y ↦ inl (inr (among_right a (named k) (named_receptions p ls) y)) | inr y ↦ inr y ]
+    ]
+
+among_first : (p : List ℕ) (n : Message) (l : LocalTree) (ls : LocalBranches) (a : Action) → Among a (named_receptions p (Choice n l NoChoice)) → Among a (named_receptions p (Choice n l ls))
+among_first p n l ls a (inl e) = inl e
+among_first p n l ls a (inr h) =
+    elim (among_cases a (named l) [] h) [ inl x ↦ inr (among_left a (named l) (named_receptions p ls) x) | inr x ↦ absurd x ]
+
+among_rest : (p : List ℕ) (n : Message) (l : LocalTree) (ls : LocalBranches) (a : Action) → Among a (named_receptions p ls) → Among a (named_receptions p (Choice n l ls))
+among_rest p n l ls a h = inr (among_right a (named l) (named_receptions p ls) h)
+
+among_all : (p : List ℕ) {ks ls js : LocalBranches} → WithAll ks ls js → (a : Action) → Among a (named_receptions p js) → Among a (named_receptions p ks) ⊎ Among a (named_receptions p ls)
+among_all p all_none a h = inl h
+among_all p (all_more {m = n} {l} {ls} w all) a h =
+    elim (among_all p all a h) [
+      | inl x ↦ elim (among_one p w a x) [ inl y ↦ inl y | inr y ↦ inr (among_first p n l ls a y) ]
+      | inr x ↦ inr (among_rest p n l ls a x)
+    ]
+
+among_merged : {j k l : LocalTree} → Merges j k l → (a : Action) → Among a (named l) → Among a (named j) ⊎ Among a (named k)
+among_merged merges_same a h = inl h
+among_merged (merges_receptions {p} w) a h = among_all p w a h
+
 -- whoever is sent to in a projection is declared
 mutual
   named_declared : (roles : List (List ℕ)) (r : List ℕ) {g : GlobalTree} {l : LocalTree} → Projects g r l → well_formed roles g ≡ true → (q : List ℕ) (m : Message) → Among (Sends q m) (named l) → has_role q roles ≡ true
@@ -36,7 +67,9 @@ mutual
   named_declared roles r p_var h q m a = absurd a
   named_declared roles r (p_send {p} {q = t} {bs} e pe) h q m a = let y = parts roles p t bs h in sends_declared roles r t y.receiver pe y.branches q m a
   named_declared roles r (p_recv {p} {q = t} {bs} e pe) h q m a = let y = parts roles p t bs h in receptions_declared roles r p pe y.branches q m a
-  named_declared roles r (p_other {p} {q = t} {bs} n1 n2 ps) h q m a = let y = parts roles p t bs h in same_declared roles r ps y.some y.branches q m a
+  named_declared roles r (p_other {p} {q = t} {m = n} {g} {bs} n1 n2 pj pm) h q m a =
+      let y = and_parts (well_formed roles g) (branches_well_formed roles bs) (parts roles p t (Branch n g bs) h).branches in
+      merged_declared roles r pm y.1 q m (λ b. named_declared roles r pj y.0 q m b) a
   named_declared roles r (p_idle c x) h q m a = absurd a
   named_declared roles r (p_rec {g} no' p) h q m a = named_declared roles r p (rec_body roles g h) q m a
 
@@ -54,9 +87,11 @@ mutual
       let y = and_parts (well_formed roles g) (branches_well_formed roles bs) h in
       elim (among_cases (Sends q m) (named l) (named_receptions t ls) a) [ inl x ↦ named_declared roles r p y.0 q m x | inr x ↦ receptions_declared roles r t pe y.1 q m x ]
 
-  same_declared : (roles : List (List ℕ)) (r : List ℕ) {bs : GlobalBranches} {l : LocalTree} → ProjectSame bs r l → NonEmpty bs → branches_well_formed roles bs ≡ true → (q : List ℕ) (m : Message) → Among (Sends q m) (named l) → has_role q roles ≡ true
-  same_declared roles r same_none n h q m a = absurd n
-  same_declared roles r (same_one {g} {bs} p ps) n h q m a = named_declared roles r p (and_parts (well_formed roles g) (branches_well_formed roles bs) h).0 q m a
+  merged_declared : (roles : List (List ℕ)) (r : List ℕ) {bs : GlobalBranches} {j l : LocalTree} → ProjectMerged bs r j l → branches_well_formed roles bs ≡ true → (q : List ℕ) (m : Message) → (Among (Sends q m) (named j) → has_role q roles ≡ true) → Among (Sends q m) (named l) → has_role q roles ≡ true
+  merged_declared roles r merged_none h q m f a = f a
+  merged_declared roles r (merged_one {g} {bs} p v pm) h q m f a =
+      let y = and_parts (well_formed roles g) (branches_well_formed roles bs) h in
+      merged_declared roles r pm y.1 q m (λ b. elim (among_merged v (Sends q m) b) [ inl x ↦ f x | inr x ↦ named_declared roles r p y.0 q m x ]) a
 
 -- who is sent to in a permitted log is declared
 all_here : {X : Type 0} (P : X → Type 0) (xs ys : List X) (x : X) → AllByRecursion P (xs ++ x ∷ ys) → P x

@@ -7,7 +7,8 @@ use Rattle.scrib_types.specs.Trees.{GlobalTree, GlobalEnd, GlobalVar, GlobalRec,
 use Rattle.scrib_types.specs.Traces.{Offers, Does, sends, receives}
 use Rattle.scrib_global.specs.Transitions.{unfolding_of}
 use Rattle.scrib_global.proofs.Puts.{Closed, ClosedAll, closed_unfolding, NonEmpty, Lack, Distinct, Sound, SoundAll, sound_unfolding}
-use Rattle.scrib_global.proofs.Projects.{Projects, p_end, p_var, p_send, p_recv, p_other, p_idle, p_rec, ProjectEach, each_none, each_one, ProjectSame, same_none, same_one, project_unfolding_idle, project_unfolding}
+use Rattle.scrib_global.proofs.Projects.{Projects, p_end, p_var, p_send, p_recv, p_other, p_idle, p_rec, ProjectEach, each_none, each_one, ProjectMerged, merged_none, merged_one, project_unfolding_idle, project_unfolding}
+use Rattle.scrib_global.proofs.Widens.{wider_trans, second_wider, merged_wider, wider_alike, alike_trans}
 use Rattle.scrib_global.proofs.Locals.{does_as, Alike, alike_unroll, alike_step, alike_send}
 
 -- at a recursion: the type is like the recursion's projection
@@ -86,8 +87,13 @@ mutual
     λ e2. follows_each r pe s.2 s.3 c l (Recv p ls) (Receives p) al (λ m k o. receives o),
     λ n1 n2. absurd (n2 e),
   )
-  follows_project r (p_other n1 n2 ps) s c l al =
-      (s.0, s.1, λ e. absurd (n1 e), λ e. absurd (n2 e), λ a b. follows_same r ps s.3 c l al)
+  follows_project r (p_other n1 n2 pj pm) s c l al = (
+    s.0,
+    s.1,
+    λ e. absurd (n1 e),
+    λ e. absurd (n2 e),
+    λ a b. (follows_project r pj s.3.0 c.0 l (alike_trans al (wider_alike (merged_wider pm))), follows_merged r pm s.3.1 c.1 l al),
+  )
   follows_project r (p_idle {g} c' a) s c l al = record { closed = c; sound = s; x = LocalEnd; projects = p_idle c' a; like = al }
   follows_project r (p_rec {l = y} h p) s c l al = record { closed = c; sound = s; x = LocalRec y; projects = p_rec h p; like = al }
 
@@ -99,9 +105,11 @@ mutual
         follows_each r pe u.1 s.1 c.1 l x d al (λ n k' o. f n k' (inr (λ e. lack_offered r pe m u.0 n k' o (sym e), o))),
       )
 
-  follows_same : (r : List ℕ) {bs : GlobalBranches} {x : LocalTree} → ProjectSame bs r x → SoundAll bs → ClosedAll bs 0 → (l : LocalTree) → Alike l x → FollowsAll bs r l
-  follows_same r same_none s c l al = tt
-  follows_same r (same_one p ps) s c l al = (follows_project r p s.0 c.0 l al, follows_same r ps s.1 c.1 l al)
+  -- the merged type follows each branch
+  follows_merged : (r : List ℕ) {bs : GlobalBranches} {j x : LocalTree} → ProjectMerged bs r j x → SoundAll bs → ClosedAll bs 0 → (l : LocalTree) → Alike l x → FollowsAll bs r l
+  follows_merged r merged_none s c l al = tt
+  follows_merged r (merged_one p m pm) s c l al =
+      (follows_project r p s.0 c.0 l (alike_trans al (wider_alike (wider_trans (merged_wider pm) (second_wider m)))), follows_merged r pm s.1 c.1 l al)
 
 follows_begun : (r : List ℕ) (g : GlobalTree) {x : LocalTree} → Projects (GlobalRec g) r x → Closed (GlobalRec g) 0 → Sound g → (l : LocalTree) → Alike l x → Follows (unfolding_of g) r l
 follows_begun r g (p_idle c' a) c s l al =

@@ -2,6 +2,7 @@ mod Names
 mod Puts
 mod Projects
 mod Locals
+mod Widens
 mod Follows
 mod Moves
 mod Carries

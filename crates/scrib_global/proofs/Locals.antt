@@ -6,7 +6,7 @@ use Rattle.scrib_types.specs.declared.event.Action.TheVariants.{Join, Sends, Rec
 use Rattle.scrib_types.specs.Trees.{LocalTree, LocalEnd, LocalVar, LocalRec, Send, Recv, LocalBranches, NoChoice, Choice}
 use Rattle.scrib_types.specs.Traces.{Offers, Does, sends, receives, unfolds, unfolding_of, IsTrace}
 
-offers_one : (ls : LocalBranches) (m : Message) (k l : LocalTree) → Offers ls m k → Offers ls m l → k ≡ l
+pub offers_one : (ls : LocalBranches) (m : Message) (k l : LocalTree) → Offers ls m k → Offers ls m l → k ≡ l
 offers_one NoChoice m k l a b = absurd a
 offers_one (Choice n x ls) m k l (inl a) (inl b) = a.1 ∙ sym b.1
 offers_one (Choice n x ls) m k l (inl a) (inr b) = absurd (b.0 a.0)

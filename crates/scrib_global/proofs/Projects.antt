@@ -3,6 +3,7 @@ use Rattle.std.proofs.Common.{◌≡◌, ◌≢◌, Bool, true, false, ℕ, ◌+
 use Rattle.scrib_types.specs.declared.message.Message.{Message}
 use Rattle.scrib_types.specs.Trees.{GlobalTree, GlobalEnd, GlobalVar, GlobalRec, Comm, Flight, GlobalBranches, NoBranch, Branch, LocalTree, LocalEnd, LocalVar, LocalRec, Send, Recv, LocalBranches, NoChoice, Choice}
 use Rattle.scrib_types.specs.Traces as local
+use Rattle.scrib_types.specs.Merges.{Merges, merges_same, merges_put}
 use Rattle.scrib_global.specs.Transitions.{put, put_all, unfolding_of}
 use Rattle.scrib_global.proofs.Puts.{Closed, ClosedAll, closed_more, closed_same, closed_unfolding, Absent, AbsentAll, absent_unfolding, same_put, Sound, SoundAll, sound_unfolding}
 
@@ -12,7 +13,7 @@ mutual
     p_var : {k : ℕ} {r : List ℕ} → Projects (GlobalVar k) r (LocalVar k)
     p_send : {p q r : List ℕ} {bs : GlobalBranches} {ls : LocalBranches} → r ≡ p → ProjectEach bs r ls → Projects (Comm p q bs) r (Send q ls)
     p_recv : {p q r : List ℕ} {bs : GlobalBranches} {ls : LocalBranches} → r ≡ q → ProjectEach bs r ls → Projects (Comm p q bs) r (Recv p ls)
-    p_other : {p q r : List ℕ} {bs : GlobalBranches} {l : LocalTree} → r ≢ p → r ≢ q → ProjectSame bs r l → Projects (Comm p q bs) r l
+    p_other : {p q r : List ℕ} {m : Message} {g : GlobalTree} {bs : GlobalBranches} {j l : LocalTree} → r ≢ p → r ≢ q → Projects g r j → ProjectMerged bs r j l → Projects (Comm p q (Branch m g bs)) r l
     p_idle : {r : List ℕ} {g : GlobalTree} → Closed (GlobalRec g) 0 → Absent r g → Projects (GlobalRec g) r LocalEnd
     p_rec : {r : List ℕ} {g : GlobalTree} {l : LocalTree} → (Closed (GlobalRec g) 0 → Absent r g → ⊥) → Projects g r l → Projects (GlobalRec g) r (LocalRec l)
 
@@ -21,10 +22,10 @@ mutual
     each_none : {r : List ℕ} → ProjectEach NoBranch r NoChoice
     each_one : {r : List ℕ} {m : Message} {g : GlobalTree} {bs : GlobalBranches} {l : LocalTree} {ls : LocalBranches} → Projects g r l → ProjectEach bs r ls → ProjectEach (Branch m g bs) r (Choice m l ls)
 
-  -- all branches on the same
-  pub data ProjectSame : GlobalBranches → List ℕ → LocalTree → Type 0 where
-    same_none : {r : List ℕ} {l : LocalTree} → ProjectSame NoBranch r l
-    same_one : {r : List ℕ} {m : Message} {g : GlobalTree} {bs : GlobalBranches} {l : LocalTree} → Projects g r l → ProjectSame bs r l → ProjectSame (Branch m g bs) r l
+  -- the branches merged with the first type are the second
+  pub data ProjectMerged : GlobalBranches → List ℕ → LocalTree → LocalTree → Type 0 where
+    merged_none : {r : List ℕ} {l : LocalTree} → ProjectMerged NoBranch r l l
+    merged_one : {r : List ℕ} {m : Message} {g : GlobalTree} {bs : GlobalBranches} {i j k l : LocalTree} → Projects g r k → Merges j k i → ProjectMerged bs r i l → ProjectMerged (Branch m g bs) r j l
 
 -- a role that does not stand in a closed type ends
 mutual
@@ -32,12 +33,14 @@ mutual
   project_absent r GlobalEnd s c a = p_end
   project_absent r (GlobalVar i) s c a = absurd (omega arith)
   project_absent r (GlobalRec g) s c a = p_idle c a
-  project_absent r (Comm p q bs) s c a = p_other a.0 a.1 (project_absent_all r bs s.3 c a.2)
+  project_absent r (Comm p q NoBranch) s c a = absurd s.1
+  project_absent r (Comm p q (Branch m g bs)) s c a =
+      p_other a.0 a.1 (project_absent r g s.3.0 c.0 a.2.0) (project_absent_all r bs s.3.1 c.1 a.2.1)
   project_absent r (Flight p q j bs) s c a = absurd s
 
-  project_absent_all : (r : List ℕ) (bs : GlobalBranches) → SoundAll bs → ClosedAll bs 0 → AbsentAll r bs → ProjectSame bs r LocalEnd
-  project_absent_all r NoBranch s c a = same_none
-  project_absent_all r (Branch m g bs) s c a = same_one (project_absent r g s.0 c.0 a.0) (project_absent_all r bs s.1 c.1 a.1)
+  project_absent_all : (r : List ℕ) (bs : GlobalBranches) → SoundAll bs → ClosedAll bs 0 → AbsentAll r bs → ProjectMerged bs r LocalEnd LocalEnd
+  project_absent_all r NoBranch s c a = merged_none
+  project_absent_all r (Branch m g bs) s c a = merged_one (project_absent r g s.0 c.0 a.0) merges_same (project_absent_all r bs s.1 c.1 a.1)
 
 project_var : (r : List ℕ) (t : GlobalTree) (x : LocalTree) (i : ℕ) → Projects t r x → (b : Bool) → Projects (if b then t else GlobalVar i) r (if b then x else LocalVar i)
 project_var r t x i p true = p
@@ -50,7 +53,7 @@ mutual
   project_put r t x pt h n (p_var {k}) = project_var r t x k pt (k == n)
   project_put r t x pt h n (p_send e pe) = p_send e (project_put_each r t x pt h n pe)
   project_put r t x pt h n (p_recv e pe) = p_recv e (project_put_each r t x pt h n pe)
-  project_put r t x pt h n (p_other n1 n2 ps) = p_other n1 n2 (project_put_same r t x pt h n ps)
+  project_put r t x pt h n (p_other n1 n2 pj pm) = p_other n1 n2 (project_put r t x pt h n pj) (project_put_merged r t x pt h n pm)
   project_put r t x pt h n (p_idle {g} c a) =
       subst (λ y. Projects y r LocalEnd) (sym (closed_same t (GlobalRec g) n (closed_more (GlobalRec g) 0 n (omega arith) c))) (p_idle c a)
   project_put r t x pt h n (p_rec {g} no' p) =
@@ -62,9 +65,9 @@ mutual
   project_put_each r t x pt h n each_none = each_none
   project_put_each r t x pt h n (each_one p pe) = each_one (project_put r t x pt h n p) (project_put_each r t x pt h n pe)
 
-  project_put_same : (r : List ℕ) (t : GlobalTree) (x : LocalTree) → Projects t r x → (Absent r t → ⊥) → (n : ℕ) {bs : GlobalBranches} {l : LocalTree} → ProjectSame bs r l → ProjectSame (put_all t bs n) r (local.put x l n)
-  project_put_same r t x pt h n same_none = same_none
-  project_put_same r t x pt h n (same_one p ps) = same_one (project_put r t x pt h n p) (project_put_same r t x pt h n ps)
+  project_put_merged : (r : List ℕ) (t : GlobalTree) (x : LocalTree) → Projects t r x → (Absent r t → ⊥) → (n : ℕ) {bs : GlobalBranches} {j l : LocalTree} → ProjectMerged bs r j l → ProjectMerged (put_all t bs n) r (local.put x j n) (local.put x l n)
+  project_put_merged r t x pt h n merged_none = merged_none
+  project_put_merged r t x pt h n (merged_one p m pm) = merged_one (project_put r t x pt h n p) (merges_put x n m) (project_put_merged r t x pt h n pm)
 
 -- what a recursion projects on, its unfolding projects on unfolded
 pub project_unfolding_idle : (r : List ℕ) (g : GlobalTree) → Sound g → Closed (GlobalRec g) 0 → Absent r g → Projects (unfolding_of g) r LocalEnd

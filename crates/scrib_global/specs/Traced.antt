@@ -3,6 +3,7 @@
 use Rattle.std.specs.Prelude.{◌≡◌, ℕ, true, List, Some}
 use Rattle.scrib_types.specs.declared.event.Event.{Event}
 use Rattle.scrib_types.specs.Trees.{GlobalTree, LocalTree}
+use Rattle.scrib_types.specs.declared.profile.Profile.TheVariants.{Reception}
 use Rattle.scrib_types.specs.Projection.{projection}
 use Rattle.scrib_types.specs.WellFormed.{has_role}
 use Rattle.scrib_types.specs.Logs.{own_actions}
@@ -10,7 +11,7 @@ use Rattle.scrib_types.specs.Traces.{IsTrace}
 
 -- the role has a projection, and what it did is a trace of that
 abbrev pub IsTraced : GlobalTree → List Event → List ℕ → Type 0
-IsTraced g log r = (l : LocalTree) × (projection r g ≡ Some l) × IsTrace l (own_actions r log)
+IsTraced g log r = (l : LocalTree) × (projection Reception r g ≡ Some l) × IsTrace l (own_actions r log)
 
 -- the same of each of the roles
 abbrev pub AllTraced : GlobalTree → List Event → List (List ℕ) → Type 0

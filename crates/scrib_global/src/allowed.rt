@@ -5,6 +5,7 @@ ghost use Rattle.scrib_types.specs.GlobalView.{global_of};
 ghost use Rattle.scrib_types.specs.LocalView.{local_of, local_branches};
 ghost use Rattle.scrib_types.specs.Meaning.{agreement_of};
 ghost use Rattle.scrib_types.specs.Permitted.{IsPermitted};
+ghost use Rattle.scrib_types.specs.declared.profile.Profile.TheVariants.{Reception};
 ghost use Rattle.scrib_types.specs.Projection.{projection};
 ghost use Rattle.scrib_types.specs.Logs.{event_of};
 ghost use Rattle.scrib_types.specs.Judgement.{AreAllowed, ComesBefore};
@@ -21,6 +22,7 @@ use scrib_types::global::GlobalType;
 use scrib_types::local::Local;
 use scrib_types::name::Role;
 use scrib_types::plain::Items;
+use scrib_types::profile::Profile;
 use scrib_types::protocol::Protocol;
 use scrib_types::shared_message::SharedMessage;
 use std::alloc::{AllocError, Global};
@@ -95,11 +97,11 @@ fn copies(alloc: Global, log: &[Event]) -> Result<Vec<Event>, AllocError>
 
 /// The join, and each send and reception that stands in the role's projection: the role does no others.
 fn candidates(alloc: Global, global: &GlobalType, role: &Role) -> Result<Vec<Action>, AllocError>
-    ensures { IfOk result (λ list. list.items ≡ act.Join ∷ spec.named_by (projection role.now (global_of global.now))) }
+    ensures { IfOk result (λ list. list.items ≡ act.Join ∷ spec.named_by (projection Reception role.now (global_of global.now))) }
 {
     let mut list = Vec::new(alloc);
     list.push(Action::Join)?;
-    if let Some(local) = project_type(alloc, global, role)? {
+    if let Some(local) = project_type(alloc, global, role, Profile::Reception)? {
         push_named(alloc, &local, &mut list)?;
     }
     Ok(list)

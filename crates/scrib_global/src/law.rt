@@ -1,8 +1,15 @@
 //! Laws of every protocol.
 
+ghost use Rattle.std.specs.Prelude.{◌≡◌, Some};
+ghost use Rattle.scrib_types.specs.declared.profile.Profile.TheVariants.{Plain, Reception};
+ghost use Rattle.scrib_types.specs.Trees.{LocalTree};
+ghost use Rattle.scrib_types.specs.GlobalView.{global_of};
+ghost use Rattle.scrib_types.specs.Projection.{projection};
 ghost use Rattle.scrib_types.specs.Meaning.{agreement_of};
 ghost use Rattle.scrib_global.specs.Simulation.{Simulates};
 
+use scrib_types::global::GlobalType;
+use scrib_types::name::Role;
 use scrib_types::protocol::Protocol;
 
 /// A law: a protocol permits exactly its runs. For every log, it is permitted exactly where its joins are right
@@ -11,4 +18,9 @@ use scrib_types::protocol::Protocol;
 /// from another that has messages to it in flight, it may receive the oldest of them.
 pub fn permits_its_runs(protocol: &Protocol)
     ensures { Simulates (agreement_of protocol.now) }
+{}
+
+/// A law: what the plain profile projects, the one that merges receptions projects to the same local type.
+pub fn keeps_plain_projections(global: &GlobalType, role: &Role)
+    ensures { (l : LocalTree) → projection Plain role.now (global_of global.now) ≡ Some l → projection Reception role.now (global_of global.now) ≡ Some l }
 {}

@@ -15,6 +15,7 @@ use scrib_local::projection::project_type;
 use scrib_types::event::Event;
 use scrib_types::global::GlobalType;
 use scrib_types::name::Role;
+use scrib_types::profile::Profile;
 use scrib_types::protocol::Protocol;
 use std::alloc::{AllocError, Global};
 
@@ -78,7 +79,7 @@ fn is_traced(
     ensures { IfOk result (λ is. IsTrue is ↔ IsTraced (global_of global.now) log.now role.now) }
 {
     let own = own_actions(alloc, role, log)?;
-    match project_type(alloc, global, role)? {
+    match project_type(alloc, global, role, Profile::Reception)? {
         Some(local) => is_trace(alloc, local, &own),
         None => Ok(false),
     }

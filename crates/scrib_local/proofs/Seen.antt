@@ -2,6 +2,7 @@
 use Rattle.std.proofs.Common.{◌≡◌, ℕ, zero, suc, ◌≤◌, ◌<◌, ◌+◌, max, Bool, true, false, ◌||◌, List, [], ◌∷◌, ◌++◌, length, get_or, drop, Option, Some, None, option_map, refl, sym, ap, ◌∙◌, arith, add-one}
 use Rattle.std.specs.Option.{option_or}
 use Rattle.scrib_types.specs.declared.message.Message.{Message}
+use Rattle.scrib_types.specs.declared.profile.Profile.{Profile}
 use Rattle.scrib_types.specs.declared.global.GlobalType.{GlobalType}
 use Rattle.scrib_types.specs.declared.local.Local.{Local}
 use Rattle.scrib_types.specs.Trees.{GlobalTree, GlobalBranches, NoBranch, Branch, LocalTree, LocalBranches, NoChoice, Choice}
@@ -26,13 +27,13 @@ offered_before None o = None
 offered_before (Some bs) o = option_map (branches_before bs) o
 
 -- what is found in the branches before these ones
-pub record IsSoFar (r : List ℕ) (all rest : GlobalBranches) (s : Survey) : Type 0 where
+pub record IsSoFar (profile : Profile) (r : List ℕ) (all rest : GlobalBranches) (s : Survey) : Type 0 where
   pub depth : max s.depth (branches_open_depth rest) ≡ branches_open_depth all
   pub occurring : (s.occurs || branches_occur r rest) ≡ branches_occur r all
   pub before : ℕ
   pub capping : s.joins ≡ capped before
   pub counted : before + branch_joins rest ≡ branch_joins all
-  pub differing : option_or s.first (option_map (λ k. capped (before + k)) (first_among r rest)) ≡ option_map capped (first_among r all)
+  pub differing : option_or s.first (option_map (λ k. capped (before + k)) (first_among profile r rest)) ≡ option_map capped (first_among profile r all)
 
 or_assoc : (a b c : Bool) → ((a || b) || c) ≡ (a || (b || c))
 or_assoc true b c = refl
@@ -87,14 +88,14 @@ offered_step (Some bs) m None rest = refl
 offered_step (Some bs) m (Some l) None = refl
 offered_step (Some bs) m (Some l) (Some ls) = ap Some (before_push bs (m, l) ls)
 
-pub begin : (r : List ℕ) (all : GlobalBranches) (s : Survey) → s.depth ≡ 0 → s.occurs ≡ false → s.joins ≡ 0 → s.first ≡ None → IsSoFar r all all s
-begin r all s d o j f = record {
+pub begin : (profile : Profile) (r : List ℕ) (all : GlobalBranches) (s : Survey) → s.depth ≡ 0 → s.occurs ≡ false → s.joins ≡ 0 → s.first ≡ None → IsSoFar profile r all all s
+begin profile r all s d o j f = record {
   depth = ap (λ n. max n (branches_open_depth all)) d ∙ omega arith;
   occurring = ap (λ b. b || branches_occur r all) o;
   before = 0;
   capping = j;
   counted = omega arith;
-  differing = ap (λ x. option_or x (option_map (λ k. capped (0 + k)) (first_among r all))) f ∙ first_begin (first_among r all);
+  differing = ap (λ x. option_or x (option_map (λ k. capped (0 + k)) (first_among profile r all))) f ∙ first_begin (first_among profile r all);
 }
 
 -- the branch at this place
@@ -114,9 +115,9 @@ branches_end [] (suc i) h = refl
 branches_end (b ∷ bs) zero h = absurd (omega arith)
 branches_end (b ∷ bs) (suc i) h = let k : length bs ≤ i = omega arith in branches_end bs i k
 
-module _ (r : List ℕ) (rest : GlobalBranches) (m : Message) (g : GlobalTree) (sight : Sight) (from : GlobalBranches) (is : from ≡ Branch m g rest) (seen : IsSight r g sight) where
+module _ (profile : Profile) (r : List ℕ) (rest : GlobalBranches) (m : Message) (g : GlobalTree) (sight : Sight) (from : GlobalBranches) (is : from ≡ Branch m g rest) (seen : IsSight profile r g sight) where
   -- one more branch is surveyed
-  pub step : (all : GlobalBranches) (s t : Survey) → t.depth ≡ max s.depth sight.survey.depth → t.occurs ≡ (s.occurs || sight.survey.occurs) → t.joins ≡ capped (s.joins + sight.survey.joins) → t.first ≡ option_or s.first (option_map (λ k. capped (s.joins + k)) sight.survey.first) → IsSoFar r all from s → IsSoFar r all rest t
+  pub step : (all : GlobalBranches) (s t : Survey) → t.depth ≡ max s.depth sight.survey.depth → t.occurs ≡ (s.occurs || sight.survey.occurs) → t.joins ≡ capped (s.joins + sight.survey.joins) → t.first ≡ option_or s.first (option_map (λ k. capped (s.joins + k)) sight.survey.first) → IsSoFar profile r all from s → IsSoFar profile r all rest t
   step all s t d o j f so = record {
     depth = ap (λ n. max n (branches_open_depth rest)) (d ∙ ap (max s.depth) seen.survey.depth) ∙ max_assoc s.depth (open_depth g) (branches_open_depth rest) ∙ ap (λ bs. max s.depth (branches_open_depth bs)) (sym is) ∙ so.depth;
     occurring = ap (λ b. b || branches_occur r rest) (o ∙ ap (λ b. s.occurs || b) seen.survey.occurring) ∙ or_assoc s.occurs (occurs r g) (branches_occur r rest) ∙ ap (λ bs. s.occurs || branches_occur r bs) (sym is) ∙ so.occurring;
@@ -124,52 +125,52 @@ module _ (r : List ℕ) (rest : GlobalBranches) (m : Message) (g : GlobalTree) (
     capping = j ∙ ap (λ n. capped (n + sight.survey.joins)) so.capping ∙ ap (λ n. capped (capped so.before + n)) seen.survey.counted ∙ capped_sum so.before (joins g);
     counted = let e : (so.before + joins g) + branch_joins rest ≡ so.before + (joins g + branch_joins rest) = omega arith in e ∙ ap (λ bs. so.before + branch_joins bs) (sym is) ∙ so.counted;
     differing =
-        ap (λ x. option_or x (option_map (λ k. capped ((so.before + joins g) + k)) (first_among r rest))) (f ∙ ap (λ x. option_or s.first (option_map (λ k. capped (s.joins + k)) x)) seen.survey.differing)
-        ∙ first_step s.first (first_difference r g) (first_among r rest) so.before (joins g) s.joins so.capping
-        ∙ ap (λ bs. option_or s.first (option_map (λ k. capped (so.before + k)) (first_among r bs))) (sym is)
+        ap (λ x. option_or x (option_map (λ k. capped ((so.before + joins g) + k)) (first_among profile r rest))) (f ∙ ap (λ x. option_or s.first (option_map (λ k. capped (s.joins + k)) x)) seen.survey.differing)
+        ∙ first_step s.first (first_difference profile r g) (first_among profile r rest) so.before (joins g) s.joins so.capping
+        ∙ ap (λ bs. option_or s.first (option_map (λ k. capped (so.before + k)) (first_among profile r bs))) (sym is)
         ∙ so.differing;
   }
 
   -- one more branch is offered
-  pub offer_step : (locals : Option (List (Message × Local))) (all_offered : Option LocalBranches) → offered_before locals (branch_projections r from) ≡ all_offered → offered_before (with_branch locals m sight.local) (branch_projections r rest) ≡ all_offered
+  pub offer_step : (locals : Option (List (Message × Local))) (all_offered : Option LocalBranches) → offered_before locals (branch_projections profile r from) ≡ all_offered → offered_before (with_branch locals m sight.local) (branch_projections profile r rest) ≡ all_offered
   offer_step locals all_offered so =
-      offered_step locals m sight.local (branch_projections r rest)
-      ∙ ap (λ o. offered_before locals (with_choice m o (branch_projections r rest))) seen.local
-      ∙ ap (λ bs. offered_before locals (branch_projections r bs)) (sym is)
+      offered_step locals m sight.local (branch_projections profile r rest)
+      ∙ ap (λ o. offered_before locals (with_choice m o (branch_projections profile r rest))) seen.local
+      ∙ ap (λ bs. offered_before locals (branch_projections profile r bs)) (sym is)
       ∙ so
 
   -- one more branch is merged
-  pub merge_step : (before now : Merge) (local : Option LocalTree) → ((m : Message) (rest : Option LocalBranches) → merged_after now rest ≡ merged_after before (with_choice m (option_map local_of sight.local) rest)) → merged_after before (branch_projections r from) ≡ local → merged_after now (branch_projections r rest) ≡ local
+  pub merge_step : (before now : Merge) (local : Option LocalTree) → ((m : Message) (rest : Option LocalBranches) → merged_after profile now rest ≡ merged_after profile before (with_choice m (option_map local_of sight.local) rest)) → merged_after profile before (branch_projections profile r from) ≡ local → merged_after profile now (branch_projections profile r rest) ≡ local
   merge_step before now local with so =
-      with m (branch_projections r rest)
-      ∙ ap (λ o. merged_after before (with_choice m o (branch_projections r rest))) seen.local
-      ∙ ap (λ bs. merged_after before (branch_projections r bs)) (sym is)
+      with m (branch_projections profile r rest)
+      ∙ ap (λ o. merged_after profile before (with_choice m o (branch_projections profile r rest))) seen.local
+      ∙ ap (λ bs. merged_after profile before (branch_projections profile r bs)) (sym is)
       ∙ so
 
-  pub differ_step : (before now : Merge) (d : Bool) → ((m : Message) (rest : Option LocalBranches) → differ_after now rest ≡ differ_after before (with_choice m (option_map local_of sight.local) rest)) → differ_after before (branch_projections r from) ≡ d → differ_after now (branch_projections r rest) ≡ d
+  pub differ_step : (before now : Merge) (d : Bool) → ((m : Message) (rest : Option LocalBranches) → differ_after profile now rest ≡ differ_after profile before (with_choice m (option_map local_of sight.local) rest)) → differ_after profile before (branch_projections profile r from) ≡ d → differ_after profile now (branch_projections profile r rest) ≡ d
   differ_step before now d with so =
-      with m (branch_projections r rest)
-      ∙ ap (λ o. differ_after before (with_choice m o (branch_projections r rest))) seen.local
-      ∙ ap (λ bs. differ_after before (branch_projections r bs)) (sym is)
+      with m (branch_projections profile r rest)
+      ∙ ap (λ o. differ_after profile before (with_choice m o (branch_projections profile r rest))) seen.local
+      ∙ ap (λ bs. differ_after profile before (branch_projections profile r bs)) (sym is)
       ∙ so
 
 first_end : (o : Option ℕ) → option_or o None ≡ o
 first_end None = refl
 first_end (Some k) = refl
 
-pub end : (r : List ℕ) (all rest : GlobalBranches) (s : Survey) → rest ≡ NoBranch → IsSoFar r all rest s → IsBranchSurvey r all s
-end r all rest s is so = record {
+pub end : (profile : Profile) (r : List ℕ) (all rest : GlobalBranches) (s : Survey) → rest ≡ NoBranch → IsSoFar profile r all rest s → IsBranchSurvey profile r all s
+end profile r all rest s is so = record {
   depth = sym (max_none s.depth) ∙ ap (λ bs. max s.depth (branches_open_depth bs)) (sym is) ∙ so.depth;
   occurring = sym (or_none s.occurs) ∙ ap (λ bs. s.occurs || branches_occur r bs) (sym is) ∙ so.occurring;
   counted = let n : branch_joins rest ≡ 0 = ap branch_joins is in let e : so.before ≡ branch_joins all = omega arith in so.capping ∙ ap capped e;
-  differing = sym (first_end s.first) ∙ ap (λ bs. option_or s.first (option_map (λ k. capped (so.before + k)) (first_among r bs))) (sym is) ∙ so.differing;
+  differing = sym (first_end s.first) ∙ ap (λ bs. option_or s.first (option_map (λ k. capped (so.before + k)) (first_among profile r bs))) (sym is) ∙ so.differing;
 }
 
-pub offer_end : (r : List ℕ) (rest : GlobalBranches) (locals : Option (List (Message × Local))) (all_offered : Option LocalBranches) → rest ≡ NoBranch → offered_before locals (branch_projections r rest) ≡ all_offered → offered locals ≡ all_offered
-offer_end r rest locals all_offered is so = sym (offered_end locals) ∙ ap (λ bs. offered_before locals (branch_projections r bs)) (sym is) ∙ so
+pub offer_end : (profile : Profile) (r : List ℕ) (rest : GlobalBranches) (locals : Option (List (Message × Local))) (all_offered : Option LocalBranches) → rest ≡ NoBranch → offered_before locals (branch_projections profile r rest) ≡ all_offered → offered locals ≡ all_offered
+offer_end profile r rest locals all_offered is so = sym (offered_end locals) ∙ ap (λ bs. offered_before locals (branch_projections profile r bs)) (sym is) ∙ so
 
-pub merge_end : (r : List ℕ) (rest : GlobalBranches) (m : Merge) (local : Option LocalTree) → rest ≡ NoBranch → merged_after m (branch_projections r rest) ≡ local → merged_after m (Some NoChoice) ≡ local
-merge_end r rest m local is so = ap (λ bs. merged_after m (branch_projections r bs)) (sym is) ∙ so
+pub merge_end : (profile : Profile) (r : List ℕ) (rest : GlobalBranches) (m : Merge) (local : Option LocalTree) → rest ≡ NoBranch → merged_after profile m (branch_projections profile r rest) ≡ local → merged_after profile m (Some NoChoice) ≡ local
+merge_end profile r rest m local is so = ap (λ bs. merged_after profile m (branch_projections profile r bs)) (sym is) ∙ so
 
-pub differ_end : (r : List ℕ) (rest : GlobalBranches) (m : Merge) (d : Bool) → rest ≡ NoBranch → differ_after m (branch_projections r rest) ≡ d → differ_after m (Some NoChoice) ≡ d
-differ_end r rest m d is so = ap (λ bs. differ_after m (branch_projections r bs)) (sym is) ∙ so
+pub differ_end : (profile : Profile) (r : List ℕ) (rest : GlobalBranches) (m : Merge) (d : Bool) → rest ≡ NoBranch → differ_after profile m (branch_projections profile r rest) ≡ d → differ_after profile m (Some NoChoice) ≡ d
+differ_end profile r rest m d is so = ap (λ bs. differ_after profile m (branch_projections profile r bs)) (sym is) ∙ so

@@ -1,6 +1,7 @@
--- The projections of a protocol on its roles (Honda, Yoshida and Carbone, POPL 2008).
+-- The projections of a protocol on its roles, where receptions merge. What the plain merge projects is the same here.
 use Rattle.std.specs.Prelude.{ℕ, Bool, true, false, ◌&&◌, List, [], ◌∷◌, Option, Some, None}
 use Rattle.scrib_types.specs.declared.local.Local.{Local}
+use Rattle.scrib_types.specs.declared.profile.Profile.TheVariants.{Reception}
 use Rattle.scrib_types.specs.LocalView.{local_of}
 use Rattle.scrib_types.specs.Trees.{GlobalTree, LocalTree}
 use Rattle.scrib_types.specs.Projection.{projection}
@@ -16,4 +17,4 @@ abbrev pub are_projections : GlobalTree → List (List ℕ) → List Local → B
 are_projections g [] [] = true
 are_projections g [] (l ∷ ls) = false
 are_projections g (r ∷ rs) [] = false
-are_projections g (r ∷ rs) (l ∷ ls) = is_this (projection r g) (local_of l) && are_projections g rs ls
+are_projections g (r ∷ rs) (l ∷ ls) = is_this (projection Reception r g) (local_of l) && are_projections g rs ls

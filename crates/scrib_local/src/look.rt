@@ -1,6 +1,7 @@
 //! Projection, by one pass from the leaves up.
 
 ghost use Rattle.std.specs.Prelude.{◌≡◌, ◌≤◌, ℕ, List, IfOk, false, Some, None, option_map};
+ghost use Rattle.scrib_types.specs.declared.profile.Profile.{Profile};
 ghost use Rattle.scrib_types.specs.Trees.{GlobalTree, GlobalRec, Send, Recv};
 ghost use Rattle.scrib_types.specs.GlobalView.{global_of, global_branches};
 ghost use Rattle.scrib_types.specs.LocalView.{local_of};
@@ -13,6 +14,7 @@ use scrib_types::global::GlobalType;
 use scrib_types::local::Local;
 use scrib_types::name::Role;
 use scrib_types::plain::{Boxed, Items};
+use scrib_types::profile::Profile;
 use scrib_types::shared_message::SharedMessage;
 use std::alloc::{AllocError, Global};
 
@@ -39,38 +41,43 @@ struct Others {
     merge: Merge,
 }
 
-/// The global type as the role sees it.
+/// The global type as the role sees it under the profile.
 ///
 /// # Errors
 /// `AllocError` where memory was refused.
 #[cycle(look)]
 #[tactic(auto, using(scrib_types::specs::GlobalView::global_views, scrib_types::specs::LocalView::local_views))]
-pub fn look(alloc: Global, global: &GlobalType, role: &Role) -> Result<Sight, AllocError>
-    ensures { IfOk result (IsSight role.now (global_of global.now)) }
+pub fn look(
+    alloc: Global,
+    global: &GlobalType,
+    role: &Role,
+    profile: Profile,
+) -> Result<Sight, AllocError>
+    ensures { IfOk result (IsSight profile role.now (global_of global.now)) }
 {
     match passed(global, role) {
         GlobalType::End => Ok(leaf(0, Local::End)),
         GlobalType::Var(i) => Ok(leaf(u64::from(*i) + 1, Local::Var(*i))),
         GlobalType::Rec(body) => {
-            let body = look(alloc, body.get(), role)?;
+            let body = look(alloc, body.get(), role, profile)?;
             let sight = recursion(alloc, body)?;
             Ok(sight)
         }
         GlobalType::Comm { from, to, branches } => {
             let several = branches.len() > 1;
             if role.equal(from) {
-                let offer = look_branches(alloc, branches.as_slice(), role)?;
+                let offer = look_branches(alloc, branches.as_slice(), role, profile)?;
                 let survey = offer.survey.communication(true, several, false);
                 let local = send(alloc, to, offer.locals)?;
                 return Ok(Sight { survey, local });
             }
             if role.equal(to) {
-                let offer = look_branches(alloc, branches.as_slice(), role)?;
+                let offer = look_branches(alloc, branches.as_slice(), role, profile)?;
                 let survey = offer.survey.communication(true, several, false);
                 let local = receive(alloc, from, offer.locals)?;
                 return Ok(Sight { survey, local });
             }
-            let others = merge_branches(alloc, branches.as_slice(), role)?;
+            let others = merge_branches(alloc, branches.as_slice(), role, profile)?;
             let differ = others.merge.differs();
             let survey = others.survey.communication(false, several, differ);
             let local = others.merge.into_local();
@@ -82,7 +89,7 @@ pub fn look(alloc: Global, global: &GlobalType, role: &Role) -> Result<Sight, Al
 /// The type behind the communications in front that have one branch and in which the role has no part: it sees both
 /// alike.
 fn passed<'a>(global: &'a GlobalType, role: &Role) -> &'a GlobalType
-    ensures seen { (s : Sight) → IsSight role.now (global_of result.now) s → IsSight role.now (global_of global.now) s }
+    ensures seen { (profile : Profile) (s : Sight) → IsSight profile role.now (global_of result.now) s → IsSight profile role.now (global_of global.now) s }
     ensures within { global_nodes (global_of result.now) ≤ global_nodes (global_of global.now) }
 {
     if let GlobalType::Comm { from, to, branches } = global {
@@ -101,13 +108,14 @@ fn look_branches(
     alloc: Global,
     branches: &[(SharedMessage, GlobalType)],
     role: &Role,
+    profile: Profile,
 ) -> Result<Offer, AllocError>
-    ensures { IfOk result (IsOffer role.now (global_branches branches.now)) }
+    ensures { IfOk result (IsOffer profile role.now (global_branches branches.now)) }
 {
     let mut survey = Survey::leaf(0);
     let mut locals = Some(Items::from_vec(Vec::with_capacity(alloc, branches.len())?));
     for (message, global) in branches {
-        let sight = look(alloc, global, role)?;
+        let sight = look(alloc, global, role, profile)?;
         survey = survey.with_branch(sight.survey);
         locals = with_branch(alloc, locals, message, sight.local)?;
     }
@@ -120,15 +128,16 @@ fn merge_branches(
     alloc: Global,
     branches: &[(SharedMessage, GlobalType)],
     role: &Role,
+    profile: Profile,
 ) -> Result<Others, AllocError>
-    ensures { IfOk result (AreOthers role.now (global_branches branches.now)) }
+    ensures { IfOk result (AreOthers profile role.now (global_branches branches.now)) }
 {
     let mut survey = Survey::leaf(0);
     let mut merge = Merge::Empty;
     for (_, global) in branches {
-        let sight = look(alloc, global, role)?;
+        let sight = look(alloc, global, role, profile)?;
         survey = survey.with_branch(sight.survey);
-        merge = merge.with(sight.local);
+        merge = merge.with(alloc, profile, sight.local)?;
     }
     Ok(Others { survey, merge })
 }
@@ -169,7 +178,7 @@ fn leaf(depth: u64, local: Local) -> Sight
 /// A recursion as the role sees it that sees its body so. A closed one without the role is the end.
 #[tactic(auto, using(scrib_types::specs::LocalView::local_views))]
 fn recursion(alloc: Global, body: Sight) -> Result<Sight, AllocError>
-    ensures { IfOk result (λ s. (r : List ℕ) (g : GlobalTree) → IsSight r g body → IsSight r (GlobalRec g) s) }
+    ensures { IfOk result (λ s. (profile : Profile) (r : List ℕ) (g : GlobalTree) → IsSight profile r g body → IsSight profile r (GlobalRec g) s) }
 {
     let survey = body.survey.recursion();
     if survey.depth == 0 && !survey.occurs {

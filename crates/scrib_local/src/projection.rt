@@ -9,9 +9,10 @@ use crate::look::look;
 use scrib_types::global::GlobalType;
 use scrib_types::local::Local;
 use scrib_types::name::Role;
+use scrib_types::profile::Profile;
 use std::alloc::{AllocError, Global};
 
-/// What the role does in the global type, or `None` where its projection is undefined.
+/// What the role does in the global type, or `None` where its projection under the profile is undefined.
 ///
 /// # Errors
 /// `AllocError` where memory was refused.
@@ -19,9 +20,10 @@ pub fn project_type(
     alloc: Global,
     global: &GlobalType,
     role: &Role,
+    profile: Profile,
 ) -> Result<Option<Local>, AllocError>
-    ensures { IfOk result (λ o. option_map local_of o ≡ projection role.now (global_of global.now)) }
+    ensures { IfOk result (λ o. option_map local_of o ≡ projection profile role.now (global_of global.now)) }
 {
-    let sight = look(alloc, global, role)?;
+    let sight = look(alloc, global, role, profile)?;
     Ok(sight.local)
 }

@@ -9,11 +9,13 @@ pub mod LocalBack
 pub mod Texts
 pub mod Nodes
 pub mod Projection
+pub mod Profiles
 pub mod WellFormed
 pub mod Agreement
 pub mod Logs
 pub mod Queues
 pub mod Traces
+pub mod Merges
 pub mod Permitted
 pub mod Judgement
 pub mod Meaning

@@ -3,6 +3,7 @@
 use Rattle.std.specs.Prelude.{◌≡◌, ℕ, true, List, Some}
 use Rattle.std.specs.List.{AllByRecursion}
 use Rattle.scrib_types.specs.declared.event.Event.{Event}
+use Rattle.scrib_types.specs.declared.profile.Profile.TheVariants.{Reception}
 use Rattle.scrib_types.specs.Trees.{LocalTree}
 use Rattle.scrib_types.specs.Projection.{projection}
 use Rattle.scrib_types.specs.WellFormed.{has_role}
@@ -17,6 +18,6 @@ pub record IsPermitted (a : Agreement) (log : List Event) : Type 0 where
   -- each event is of a declared role
   pub declared : AllByRecursion (λ e. has_role (subject_of e) a.roles ≡ true) log
   -- what each role did is a trace of its projection
-  pub traces : (r : List ℕ) → has_role r a.roles ≡ true → (l : LocalTree) × (projection r a.global ≡ Some l) × IsTrace l (own_actions r log)
+  pub traces : (r : List ℕ) → has_role r a.roles ≡ true → (l : LocalTree) × (projection Reception r a.global ≡ Some l) × IsTrace l (own_actions r log)
   -- each message was received from the front of its queue
   pub queued : IsQueued log

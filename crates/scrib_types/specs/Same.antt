@@ -1,11 +1,20 @@
--- Whether two local types are the same, as a test.
-use Rattle.std.specs.Prelude.{◌≡◌, ◌↔◌, Bool, true, false, ◌&&◌, ◌==◌, IsTrue, refl}
+-- Whether two operators, messages and local types are the same, as tests.
+use Rattle.std.specs.Prelude.{◌≡◌, ◌↔◌, ℕ, Bool, true, false, ◌&&◌, ◌==◌, IsTrue, List, Option, Some, None, refl}
+use Rattle.std.specs.Str.{bytes_eq}
 use Rattle.std.proofs.Common.{ap, sym, ◌∙◌}
 use Rattle.std.proofs.lemmas.Bool.{and_parts, false_from_ne_true}
 use Rattle.std.proofs.lemmas.Bool.Decides.{Decides-eqb}
 use base.Stored.{Gv, gnil, gnum, gcons}
+use Rattle.scrib_types.specs.declared.message.Message.{Message}
 use Rattle.scrib_types.specs.Trees.{LocalTree}
-use Rattle.scrib_types.specs.Codes.{local_code, local_code-injective}
+use Rattle.scrib_types.specs.Codes.{coded_message, local_code, local_code-injective}
+
+-- the same operator, or both none
+abbrev pub same_operator : Option (List ℕ) → Option (List ℕ) → Bool
+same_operator None None = true
+same_operator None (Some b) = false
+same_operator (Some a) None = false
+same_operator (Some a) (Some b) = bytes_eq a b
 
 -- two codes are the same
 abbrev pub code_eq : Gv → Gv → Bool
@@ -52,3 +61,20 @@ same_local-refl a = code_eq-refl (local_code a)
 pub same_local_decided : (r : Bool) (a b : LocalTree) → (IsTrue r ↔ a ≡ b) → r ≡ same_local a b
 same_local_decided true a b h = sym (ap (same_local a) (sym (h.0 refl)) ∙ same_local-refl a)
 same_local_decided false a b h = sym (false_from_ne_true (same_local a b) (λ e. absurd (cc (h.1 (same_local-equal a b e)))))
+
+-- two messages are the same
+unfoldable pub same_message : Message → Message → Bool
+same_message m n = code_eq (coded_message.code m) (coded_message.code n)
+
+pub same_message-equal : (m n : Message) → same_message m n ≡ true → m ≡ n
+unfolding same_message
+same_message-equal m n h = coded_message.inj m n (code_eq-true (coded_message.code m) (coded_message.code n) h)
+
+pub same_message-refl : (m : Message) → same_message m m ≡ true
+unfolding same_message
+same_message-refl m = code_eq-refl (coded_message.code m)
+
+-- what decides whether they are the same is the test
+pub same_message_decided : (r : Bool) (m n : Message) → (IsTrue r ↔ m ≡ n) → r ≡ same_message m n
+same_message_decided true m n h = sym (ap (same_message m) (sym (h.0 refl)) ∙ same_message-refl m)
+same_message_decided false m n h = sym (false_from_ne_true (same_message m n) (λ e. absurd (cc (h.1 (same_message-equal m n e)))))

@@ -4,6 +4,9 @@ use Rattle.std.specs.Prelude.{ℕ, ◌+◌, ◌^◌, Bool, true, false, ◌&&◌
 use Rattle.std.specs.List.{list_any}
 use Rattle.std.specs.Str.{bytes_eq}
 use Rattle.scrib_types.specs.Trees.{GlobalTree, GlobalEnd, GlobalVar, GlobalRec, Comm, Flight, GlobalBranches, NoBranch, Branch}
+use Rattle.scrib_types.specs.declared.profile.Profile.{Profile}
+use Rattle.scrib_types.specs.declared.profile.Profile.TheVariants.{Reception}
+pub use Rattle.scrib_types.specs.Same.{same_operator}
 use Rattle.scrib_types.specs.Projection.{is_closed, projection}
 
 -- the role is one of these
@@ -36,13 +39,6 @@ abbrev mutual
   branches_use k NoBranch = false
   branches_use k (Branch m g bs) = uses k g || branches_use k bs
 
--- the same operator, or both none
-abbrev pub same_operator : Option (List ℕ) → Option (List ℕ) → Bool
-same_operator None None = true
-same_operator None (Some b) = false
-same_operator (Some a) None = false
-same_operator (Some a) (Some b) = bytes_eq a b
-
 -- some branch has the operator
 abbrev pub has_operator : Option (List ℕ) → GlobalBranches → Bool
 has_operator o NoBranch = false
@@ -72,13 +68,13 @@ abbrev mutual
   branches_well_formed roles NoBranch = true
   branches_well_formed roles (Branch m g bs) = well_formed roles g && branches_well_formed roles bs
 
--- the projection on each of the roles is defined
-abbrev pub projects : GlobalTree → List (List ℕ) → Bool
-projects g [] = true
-projects g (r ∷ rs) = is_some (projection r g) && projects g rs
+-- under the profile the projection on each of the roles is defined
+abbrev pub projects : Profile → GlobalTree → List (List ℕ) → Bool
+projects profile g [] = true
+projects profile g (r ∷ rs) = is_some (projection profile r g) && projects profile g rs
 
 -- what each protocol is: at most 16 roles, all different, and a closed, well-formed global type of these
--- roles that has a projection on each
+-- roles that has a projection on each, where receptions merge
 unfoldable pub is_protocol : List (List ℕ) → GlobalTree → Bool
 is_protocol roles g =
-    nat_le (length roles) 16 && distinct_roles roles && is_closed g && well_formed roles g && projects g roles
+    nat_le (length roles) 16 && distinct_roles roles && is_closed g && well_formed roles g && projects Reception g roles

@@ -6,6 +6,7 @@ pub mod global;
 pub mod local;
 pub mod message;
 pub mod name;
+pub mod profile;
 pub mod protocol;
 pub mod shared_message;
 pub mod spot;

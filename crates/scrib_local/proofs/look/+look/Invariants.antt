@@ -11,17 +11,17 @@ abbrev pub invariant-look_branches-loop-message : goal.invariant-look_branches-l
 invariant-look_branches-loop-message l =
     let rest = global_branches (drop l.message-index l.branches) in
     record {
-      surveyed : IsSoFar l.role (global_branches l.branches) rest l.survey;
-      offered : offered_before l.locals (branch_projections l.role rest) ≡ branch_projections l.role (global_branches l.branches);
+      surveyed : IsSoFar l.profile l.role (global_branches l.branches) rest l.survey;
+      offered : offered_before l.locals (branch_projections l.profile l.role rest) ≡ branch_projections l.profile l.role (global_branches l.branches);
     }
 
 abbrev pub invariant-merge_branches-loop-global : goal.invariant-merge_branches-loop-global
 invariant-merge_branches-loop-global l =
     let rest = global_branches (drop l.global-index l.branches) in
     record {
-      surveyed : IsSoFar l.role (global_branches l.branches) rest l.survey;
-      merging : merged_after l.merge (branch_projections l.role rest) ≡ option_and_then merged (branch_projections l.role (global_branches l.branches));
-      differing : differ_after l.merge (branch_projections l.role rest) ≡ differ (branch_projections l.role (global_branches l.branches));
+      surveyed : IsSoFar l.profile l.role (global_branches l.branches) rest l.survey;
+      merging : merged_after l.profile l.merge (branch_projections l.profile l.role rest) ≡ option_and_then (merged l.profile) (branch_projections l.profile l.role (global_branches l.branches));
+      differing : differ_after l.profile l.merge (branch_projections l.profile l.role rest) ≡ differ l.profile (branch_projections l.profile l.role (global_branches l.branches));
     }
 
 abbrev pub decreases-look : goal.decreases-look

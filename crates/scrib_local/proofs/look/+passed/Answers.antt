@@ -7,13 +7,13 @@ use Rattle.scrib_local.proofs.Parts.{only, alone}
 use Rattle.scrib_local.proofs.look.+passed.Goals as goal
 
 pub returns-then-not-equal-2-clause-seen : goal.returns-then-not-equal-2-clause-seen
-returns-then-not-equal-2-clause-seen t c = λ s seen.
+returns-then-not-equal-2-clause-seen t c = λ profile s seen.
     let from = c.in-Comm.from in
     let to = c.in-Comm.to in
     let b = get_or c.as_slice.result.now 0 c.index-follows-0.result in
     let one = only c.as_slice.result.now c.index-follows-0.result c.in-len1.len_at_least c.in-len1.len_below in
     let g = ap global_of c.in-Comm.is ∙ comm_of from to c.in-Comm.branches ∙ ap (λ bs. Comm from to (global_branches bs)) (sym c.as_slice.ensures) ∙ ap (Comm from to) one in
-    subst (λ x. IsSight c.args.role.now x s) (sym g) (alone c.args.role.now from to b.0 (global_of b.1) s (sym c.equal.ensures.test ∙ c.if-not-equal.true) (sym c.equal-then-not-equal.ensures.test ∙ c.if-not-equal-2.true) (c.passed.ensures.seen s seen))
+    subst (λ x. IsSight profile c.args.role.now x s) (sym g) (alone profile c.args.role.now from to b.0 (global_of b.1) s (sym c.equal.ensures.test ∙ c.if-not-equal.true) (sym c.equal-then-not-equal.ensures.test ∙ c.if-not-equal-2.true) (c.passed.ensures.seen profile s seen))
 
 pub returns-then-not-equal-2-clause-within : goal.returns-then-not-equal-2-clause-within
 returns-then-not-equal-2-clause-within t c =
