@@ -16,13 +16,12 @@ use Rattle.scrib_types.specs.Permitted.{IsPermitted}
 use Rattle.scrib_record.specs.declared.configuration.Configuration.{Configuration}
 use Rattle.scrib_record.specs.declared.judging.Judging.{Judging}
 use Rattle.scrib_record.specs.declared.version.Version.{Version}
-use Rattle.scrib_record.specs.Configurations.{Stands, IsNext, IsSame}
+use Rattle.scrib_record.specs.Configurations.{Stands, IsNext}
 use Rattle.scrib_record.specs.Following.{MayFollow}
 use Rattle.scrib_record.specs.Judgings.{IsPermittedThroughout, Keeps, IsKept, Runs}
 use Rattle.scrib_record.specs.Stale.{is_present, is_final}
 use Rattle.scrib_record.specs.Versions.{meaning_of}
 use Rattle.scrib_record.proofs.Following.{permitted_on, may_follow}
-use Rattle.scrib_record.proofs.Standing.{stands_same}
 use Rattle.scrib_record.proofs.Stamps.{present_means}
 
 pub throughout_all : (a : Agreement) (log : List Event) → IsPermittedThroughout a log → IsPermitted a log

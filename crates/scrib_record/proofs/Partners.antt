@@ -1,7 +1,7 @@
 -- The roles that local types name: those of a protocol's projections are its own.
 use Rattle.std.proofs.Common.{◌≡◌, ◌&&◌, ◌==◌, true, not, ℕ, ◌+◌, List, [], ◌∷◌, ◌++◌, sym, subst, if◌then◌else◌, inl, inr}
 use Rattle.std.specs.Str.{bytes_eq}
-use Rattle.std.proofs.lemmas.Bool.{and_parts, true≢false, cases_Bool}
+use Rattle.std.proofs.lemmas.Bool.{and_parts, cases_Bool}
 use Rattle.scrib_types.specs.declared.message.Message.{Message}
 use Rattle.scrib_types.specs.declared.event.Action.{Action}
 use Rattle.scrib_types.specs.declared.event.Action.TheVariants.{Join, Sends, Receives}
@@ -9,9 +9,10 @@ use Rattle.scrib_types.specs.declared.event.Event.{Event}
 use Rattle.scrib_types.specs.Agreement.{Agreement}
 use Rattle.scrib_types.specs.Logs.{own_actions}
 use Rattle.scrib_types.specs.Traces.{put, put_all, Offers, Does, sends, receives, unfolds, IsTrace}
-use Rattle.scrib_types.specs.Trees.{GlobalTree, GlobalBranches, Comm, LocalTree, LocalEnd, LocalVar, LocalRec, Send, Recv, LocalBranches, NoChoice, Choice}
+use Rattle.scrib_types.specs.Merges.{Merges, merges_same, merges_receptions, kept_all}
+use Rattle.scrib_types.specs.Trees.{GlobalTree, GlobalBranches, Branch, Comm, LocalTree, LocalEnd, LocalVar, LocalRec, Send, Recv, LocalBranches, NoChoice, Choice}
 use Rattle.scrib_types.specs.WellFormed.{has_role, has_branches, distinct_operators, leads_to_communication, uses, well_formed, branches_well_formed}
-use Rattle.scrib_machine.specs.Projects.{Projects, p_end, p_var, p_send, p_recv, p_other, p_idle, p_rec, ProjectEach, each_none, each_one, ProjectSame, same_none, same_one, projects_of}
+use Rattle.scrib_machine.specs.Projects.{Projects, p_end, p_var, p_send, p_recv, p_other, p_idle, p_rec, ProjectEach, each_none, each_one, ProjectMerged, merged_none, merged_one, projects_of}
 use Rattle.scrib_record.specs.Following.{MayAct}
 
 -- each send is to one of the roles, and each reception from one
@@ -48,13 +49,19 @@ parts rs p q bs h =
     let e = and_parts (has_role p rs) (has_role q rs) d.0 in
     record { sender = e.0; receiver = e.1; some = c.1; branches = a.1 }
 
+merges_among : (rs : List (List ℕ)) {j k l : LocalTree} → Merges j k l → Among rs j → Among rs k → Among rs l
+merges_among rs merges_same a b = a
+merges_among rs (merges_receptions w) a b = (a.0, kept_all (Among rs) (AmongAll rs) (λ m l ls h. h.0) (λ m l ls h. h.1) (λ m l ls p q. (p, q)) w a.1 b.1)
+
 mutual
   among : (rs : List (List ℕ)) (r : List ℕ) {g : GlobalTree} {l : LocalTree} → Projects g r l → well_formed rs g ≡ true → Among rs l
   among rs r p_end f = tt
   among rs r p_var f = tt
   among rs r (p_send {p} {q} {bs} e pe) f = let w = parts rs p q bs f in (w.receiver, among_each rs r pe w.branches)
   among rs r (p_recv {p} {q} {bs} e pe) f = let w = parts rs p q bs f in (w.sender, among_each rs r pe w.branches)
-  among rs r (p_other {p} {q} {bs} e n ps) f = let w = parts rs p q bs f in among_same rs r ps w.some w.branches
+  among rs r (p_other {p} {q} {m} {g} {bs} e n pj pm) f =
+      let w = and_parts (well_formed rs g) (branches_well_formed rs bs) (parts rs p q (Branch m g bs) f).branches in
+      among_merged rs r pm (among rs r pj w.0) w.1
   among rs r (p_idle e n) f = tt
   among rs r (p_rec {g = g} e p) f = among rs r p (and_parts (leads_to_communication g && uses 0 g) (well_formed rs g) f).1
 
@@ -63,9 +70,10 @@ mutual
   among_each rs r (each_one {g} {bs} p pe) f =
       let w = and_parts (well_formed rs g) (branches_well_formed rs bs) f in (among rs r p w.0, among_each rs r pe w.1)
 
-  among_same : (rs : List (List ℕ)) (r : List ℕ) {bs : GlobalBranches} {l : LocalTree} → ProjectSame bs r l → has_branches bs ≡ true → branches_well_formed rs bs ≡ true → Among rs l
-  among_same rs r same_none s f = absurd (true≢false (sym s))
-  among_same rs r (same_one {g} {bs} p ps) s f = among rs r p (and_parts (well_formed rs g) (branches_well_formed rs bs) f).0
+  among_merged : (rs : List (List ℕ)) (r : List ℕ) {bs : GlobalBranches} {j l : LocalTree} → ProjectMerged bs r j l → Among rs j → branches_well_formed rs bs ≡ true → Among rs l
+  among_merged rs r merged_none h f = h
+  among_merged rs r (merged_one {g} {bs} p m pm) h f =
+      let w = and_parts (well_formed rs g) (branches_well_formed rs bs) f in among_merged rs r pm (merges_among rs m h (among rs r p w.0)) w.1
 
 mutual
   among_put : (rs : List (List ℕ)) (l k : LocalTree) (n : ℕ) → Among rs l → Among rs k → Among rs (put l k n)

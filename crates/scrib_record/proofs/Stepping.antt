@@ -1,5 +1,5 @@
 -- The steps of a record's judgement: one event more, and the events of a turn.
-use Rattle.std.proofs.Common.{◌≡◌, ◌⊎◌, Bool, true, false, ℕ, ◌+◌, ◌-◌, ◌<◌, ◌≤◌, min, nat_le, List, [], ◌∷◌, ◌++◌, Option, Some, Result, Ok, Err, OnErr, if◌then◌else◌, length, take, drop, get_or, refl, sym, ap, subst, ◌∙◌, length-append, inl, inr, arith}
+use Rattle.std.proofs.Common.{◌≡◌, Bool, true, false, ℕ, ◌+◌, ◌-◌, ◌<◌, ◌≤◌, min, nat_le, List, [], ◌∷◌, ◌++◌, Option, Some, Result, Ok, Err, OnErr, if◌then◌else◌, length, take, drop, get_or, refl, sym, ap, subst, ◌∙◌, length-append, inl, inr, arith}
 use Rattle.std.proofs.lemmas.Bool.{cases_lt, false≢true}
 use Rattle.std.proofs.lemmas.Bool.Decides.{nat_tests}
 use Rattle.std.proofs.lemmas.List.{take_all, take-append-drop, take-take, drop-take, take_more, length-take-le, length-drop, get_or-take, get_or-drop}
@@ -11,16 +11,16 @@ use Rattle.scrib_types.specs.declared.event.Verdict.{Verdict}
 use Rattle.scrib_types.specs.declared.event.Verdict.TheVariants.{Permitted, Offence, Withdrawn}
 use Rattle.scrib_record.specs.declared.configuration.Configuration.{Configuration}
 use Rattle.scrib_record.specs.declared.judging.Halt.{Halt}
-use Rattle.scrib_record.specs.declared.judging.Halt.TheVariants.{AtEnd, Refused, NoMemory}
+use Rattle.scrib_record.specs.declared.judging.Halt.TheVariants.{AtEnd, Refused}
 use Rattle.scrib_record.specs.declared.judging.Judging.{Judging}
 use Rattle.scrib_record.specs.declared.version.Version.{Version}
-use Rattle.scrib_record.specs.Configurations.{Stands, IsSame}
+use Rattle.scrib_record.specs.Configurations.{Stands}
 use Rattle.scrib_record.specs.Following.{MayFollow}
-use Rattle.scrib_record.specs.Judgings.{IsPermittedThroughout, Keeps, IsKept, IsJudgedOn, IsFurther, RunsFrom, IsRefusal, told_of}
+use Rattle.scrib_record.specs.Judgings.{Keeps, IsKept, IsJudgedOn, IsFurther, RunsFrom, IsRefusal, told_of}
 use Rattle.scrib_record.specs.Stale.{is_final}
 use Rattle.scrib_record.specs.Versions.{meaning_of}
 use Rattle.scrib_record.proofs.Following.{may_follow}
-use Rattle.scrib_record.proofs.Kept.{throughout_all, kept_all, kept_open, kept_whole, reached_all, le_of}
+use Rattle.scrib_record.proofs.Kept.{throughout_all, kept_all, kept_open, kept_whole, reached_all}
 
 pub on_err : {X E : Type 0} (r : Result X E) (P : Type 0) → P → OnErr r P
 on_err (Ok x) P p = tt

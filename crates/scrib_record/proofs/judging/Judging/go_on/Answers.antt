@@ -1,7 +1,6 @@
 use Rattle.std.proofs.Common.{◌-◌, ◌==◌, refl, take, drop, subst, ap, length, arith}
 use Rattle.std.proofs.lemmas.Bool.Decides.{Decides-eqb}
 use Rattle.scrib_types.specs.declared.event.Told.TheVariants.{Judged}
-use Rattle.scrib_record.specs.declared.judging.Halt.{Halt}
 use Rattle.scrib_record.specs.Judgings.{RunsFrom}
 use Rattle.scrib_record.proofs.Kept.{kept_open}
 use Rattle.scrib_record.proofs.Stepping.{IsPart, on_err, further_all, further_refused, stopped_short}
