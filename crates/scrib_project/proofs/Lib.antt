@@ -1,3 +1,4 @@
+pub mod Wider
 pub mod Projections
 pub mod Protocols
 pub mod Undefined

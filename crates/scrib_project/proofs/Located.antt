@@ -7,24 +7,25 @@ use Rattle.std.proofs.lemmas.Bool.{false≢true, both_ways, or_parts}
 use Rattle.std.proofs.lemmas.List.{length-append}
 use Rattle.std.proofs.lemmas.Slice.Eq.{bytes_eq-Decides}
 use Rattle.scrib_types.specs.declared.message.Message.{Message}
+use Rattle.scrib_types.specs.declared.profile.Profile.{Profile}
 use Rattle.scrib_types.specs.Trees.{GlobalTree, GlobalEnd, GlobalVar, GlobalRec, Comm, Flight, GlobalBranches, NoBranch, Branch, LocalTree, NoChoice}
 use Rattle.scrib_types.specs.Projection.{is_closed, occurs, with_choice, projection, branch_projections}
 use Rattle.scrib_local.specs.Differences.{joins_here, joins, branch_joins, differ, difference_here, first_difference, first_among}
 use Rattle.scrib_elaborate.specs.Sites.{communications, branch_communications, has_several, is_several, several_of}
 
 -- the communication's branches differ for the role, which is no part of it
-pub record IsDifference (r : List ℕ) (g : GlobalTree) : Type 0 where
+pub record IsDifference (profile : Profile) (r : List ℕ) (g : GlobalTree) : Type 0 where
   pub sender : List ℕ
   pub receiver : List ℕ
   pub branches : GlobalBranches
   pub is : g ≡ Comm sender receiver branches
   pub not_sender : r ≢ sender
   pub not_receiver : r ≢ receiver
-  pub differs : differ (branch_projections r branches) ≡ true
+  pub differs : differ profile (branch_projections profile r branches) ≡ true
 
 -- such a communication stands there in the list
-abbrev pub IsThere : List ℕ → List (ℕ × GlobalTree) → ℕ → Type 0
-IsThere r cs k = (c : ℕ × GlobalTree) × (slice_get cs k ≡ Some c) × IsDifference r c.1
+abbrev pub IsThere : Profile → List ℕ → List (ℕ × GlobalTree) → ℕ → Type 0
+IsThere profile r cs k = (c : ℕ × GlobalTree) × (slice_get cs k ≡ Some c) × IsDifference profile r c.1
 
 -- lists one after the other
 
@@ -48,12 +49,12 @@ get_right [] ys n k x n_is e =
 get_right (y ∷ xs) ys zero k x n_is e = absurd (omega (arith, n_is))
 get_right (y ∷ xs) ys (suc n) k x n_is e = get_right xs ys n k x (omega (arith, n_is)) e
 
-there_left : (r : List ℕ) (xs ys : List (ℕ × GlobalTree)) (k : ℕ) → IsThere r (several_of xs) k → IsThere r (several_of (xs ++ ys)) k
-there_left r xs ys k h =
+there_left : (profile : Profile) (r : List ℕ) (xs ys : List (ℕ × GlobalTree)) (k : ℕ) → IsThere profile r (several_of xs) k → IsThere profile r (several_of (xs ++ ys)) k
+there_left profile r xs ys k h =
     (h.0, ap (λ zs. slice_get zs k) (several_and xs ys) ∙ get_left (several_of xs) (several_of ys) k h.0 h.1, h.2)
 
-there_right : (r : List ℕ) (xs ys : List (ℕ × GlobalTree)) (n k : ℕ) → n ≡ length (several_of xs) + k → IsThere r (several_of ys) k → IsThere r (several_of (xs ++ ys)) n
-there_right r xs ys n k e h =
+there_right : (profile : Profile) (r : List ℕ) (xs ys : List (ℕ × GlobalTree)) (n k : ℕ) → n ≡ length (several_of xs) + k → IsThere profile r (several_of ys) k → IsThere profile r (several_of (xs ++ ys)) n
+there_right profile r xs ys n k e h =
     (h.0, ap (λ zs. slice_get zs n) (several_and xs ys) ∙ get_right (several_of xs) (several_of ys) n k h.0 e h.1, h.2)
 
 -- how many communications have several branches
@@ -86,14 +87,14 @@ mutual
 
 -- branches that differ are several
 
-one_alike : (m : Message) (o : Option LocalTree) → differ (with_choice m o (Some NoChoice)) ≡ true → ⊥
-one_alike m None h = false≢true h
-one_alike m (Some l) h = false≢true h
+one_alike : (profile : Profile) (m : Message) (o : Option LocalTree) → differ profile (with_choice m o (Some NoChoice)) ≡ true → ⊥
+one_alike profile m None h = false≢true h
+one_alike profile m (Some l) h = false≢true h
 
-differ_several : (r : List ℕ) (bs : GlobalBranches) → differ (branch_projections r bs) ≡ true → has_several bs ≡ true
-differ_several r NoBranch h = absurd (false≢true h)
-differ_several r (Branch m g NoBranch) h = absurd (one_alike m (projection r g) h)
-differ_several r (Branch m g (Branch n k bs)) h = refl
+differ_several : (profile : Profile) (r : List ℕ) (bs : GlobalBranches) → differ profile (branch_projections profile r bs) ≡ true → has_several bs ≡ true
+differ_several profile r NoBranch h = absurd (false≢true h)
+differ_several profile r (Branch m g NoBranch) h = absurd (one_alike profile m (projection profile r g) h)
+differ_several profile r (Branch m g (Branch n k bs)) h = refl
 
 -- a role that is another
 
@@ -101,18 +102,18 @@ another : (r p : List ℕ) → bytes_eq r p ≡ false → r ≢ p
 another r p differs same = both_ways (bytes_eq r p) differs ((bytes_eq-Decides r p).1 same)
 
 -- the communication itself, after those in its branches
-own_difference : (r p q : List ℕ) (n : ℕ) (bs : GlobalBranches) (k : ℕ) → difference_here r p q bs ≡ Some k → IsThere r (several_of (communications n (Comm p q bs))) k
-own_difference r p q n bs k e = by (bytes_eq r p || bytes_eq r q) refl (differ (branch_projections r bs)) refl e
+own_difference : (profile : Profile) (r p q : List ℕ) (n : ℕ) (bs : GlobalBranches) (k : ℕ) → difference_here profile r p q bs ≡ Some k → IsThere profile r (several_of (communications n (Comm p q bs))) k
+own_difference profile r p q n bs k e = by (bytes_eq r p || bytes_eq r q) refl (differ profile (branch_projections profile r bs)) refl e
   where
-    by : (part : Bool) → bytes_eq r p || bytes_eq r q ≡ part → (d : Bool) → differ (branch_projections r bs) ≡ d → (if part then None else (if d then Some (branch_joins bs) else None)) ≡ Some k → IsThere r (several_of (communications n (Comm p q bs))) k
+    by : (part : Bool) → bytes_eq r p || bytes_eq r q ≡ part → (d : Bool) → differ profile (branch_projections profile r bs) ≡ d → (if part then None else (if d then Some (branch_joins bs) else None)) ≡ Some k → IsThere profile r (several_of (communications n (Comm p q bs))) k
     by true f d g h = absurd (cc h)
     by false f false g h = absurd (cc h)
     by false f true g h =
         let apart = or_parts (bytes_eq r p) (bytes_eq r q) f in
         let here : branch_joins bs ≡ k = cc h in
         let inner = branch_number n bs in
-        let several : is_several (Comm p q bs) ≡ true = differ_several r bs g in
-        let is : IsDifference r (Comm p q bs) = record {
+        let several : is_several (Comm p q bs) ≡ true = differ_several profile r bs g in
+        let is : IsDifference profile r (Comm p q bs) = record {
           sender = p;
           receiver = q;
           branches = bs;
@@ -122,34 +123,34 @@ own_difference r p q n bs k e = by (bytes_eq r p || bytes_eq r q) refl (differ (
           differs = g;
         } in
         let own : slice_get (several_of ((n, Comm p q bs) ∷ [])) 0 ≡ Some (n, Comm p q bs) = rw several refl in
-        there_right r (branch_communications n bs) ((n, Comm p q bs) ∷ []) k 0 (omega (arith, here, inner)) ((n, Comm p q bs), own, is)
+        there_right profile r (branch_communications n bs) ((n, Comm p q bs) ∷ []) k 0 (omega (arith, here, inner)) ((n, Comm p q bs), own, is)
 
 mutual
-  pub located : (r : List ℕ) (n : ℕ) (g : GlobalTree) (k : ℕ) → first_difference r g ≡ Some k → IsThere r (several_of (communications n g)) k
-  located r n GlobalEnd k e = absurd (cc e)
-  located r n (GlobalVar i) k e = absurd (cc e)
-  located r n (GlobalRec g) k e = by (is_closed (GlobalRec g) && not (occurs r g)) e (λ f. located r (n + 1) g k f)
+  pub located : (profile : Profile) (r : List ℕ) (n : ℕ) (g : GlobalTree) (k : ℕ) → first_difference profile r g ≡ Some k → IsThere profile r (several_of (communications n g)) k
+  located profile r n GlobalEnd k e = absurd (cc e)
+  located profile r n (GlobalVar i) k e = absurd (cc e)
+  located profile r n (GlobalRec g) k e = by (is_closed (GlobalRec g) && not (occurs r g)) e (λ f. located profile r (n + 1) g k f)
     where
-      by : (b : Bool) → (if b then None else first_difference r g) ≡ Some k → (first_difference r g ≡ Some k → IsThere r (several_of (communications (n + 1) g)) k) → IsThere r (several_of (communications (n + 1) g)) k
+      by : (b : Bool) → (if b then None else first_difference profile r g) ≡ Some k → (first_difference profile r g ≡ Some k → IsThere profile r (several_of (communications (n + 1) g)) k) → IsThere profile r (several_of (communications (n + 1) g)) k
       by true f more = absurd (cc f)
       by false f more = more f
-  located r n (Comm p q bs) k e = by (first_among r bs) e (λ j f. located_among r n bs j f)
+  located profile r n (Comm p q bs) k e = by (first_among profile r bs) e (λ j f. located_among profile r n bs j f)
     where
-      by : (o : Option ℕ) → option_or o (difference_here r p q bs) ≡ Some k → ((j : ℕ) → o ≡ Some j → IsThere r (several_of (branch_communications n bs)) j) → IsThere r (several_of (communications n (Comm p q bs))) k
-      by None f more = own_difference r p q n bs k f
-      by (Some j) f more = there_left r (branch_communications n bs) ((n, Comm p q bs) ∷ []) k (more k f)
-  located r n (Flight p q j bs) k e = absurd (cc e)
+      by : (o : Option ℕ) → option_or o (difference_here profile r p q bs) ≡ Some k → ((j : ℕ) → o ≡ Some j → IsThere profile r (several_of (branch_communications n bs)) j) → IsThere profile r (several_of (communications n (Comm p q bs))) k
+      by None f more = own_difference profile r p q n bs k f
+      by (Some j) f more = there_left profile r (branch_communications n bs) ((n, Comm p q bs) ∷ []) k (more k f)
+  located profile r n (Flight p q j bs) k e = absurd (cc e)
 
-  located_among : (r : List ℕ) (n : ℕ) (bs : GlobalBranches) (k : ℕ) → first_among r bs ≡ Some k → IsThere r (several_of (branch_communications n bs)) k
-  located_among r n NoBranch k e = absurd (cc e)
-  located_among r n (Branch m g bs) k e =
-      by (first_difference r g) (first_among r bs) e (λ j f. located r n g j f) (λ j f. located_among r n bs j f)
+  located_among : (profile : Profile) (r : List ℕ) (n : ℕ) (bs : GlobalBranches) (k : ℕ) → first_among profile r bs ≡ Some k → IsThere profile r (several_of (branch_communications n bs)) k
+  located_among profile r n NoBranch k e = absurd (cc e)
+  located_among profile r n (Branch m g bs) k e =
+      by (first_difference profile r g) (first_among profile r bs) e (λ j f. located profile r n g j f) (λ j f. located_among profile r n bs j f)
     where
-      by : (o l : Option ℕ) → option_or o (option_map (λ j. joins g + j) l) ≡ Some k → ((j : ℕ) → o ≡ Some j → IsThere r (several_of (communications n g)) j) → ((j : ℕ) → l ≡ Some j → IsThere r (several_of (branch_communications n bs)) j) → IsThere r (several_of (branch_communications n (Branch m g bs))) k
-      by (Some j) l f first rest = there_left r (communications n g) (branch_communications n bs) k (first k f)
+      by : (o l : Option ℕ) → option_or o (option_map (λ j. joins g + j) l) ≡ Some k → ((j : ℕ) → o ≡ Some j → IsThere profile r (several_of (communications n g)) j) → ((j : ℕ) → l ≡ Some j → IsThere profile r (several_of (branch_communications n bs)) j) → IsThere profile r (several_of (branch_communications n (Branch m g bs))) k
+      by (Some j) l f first rest = there_left profile r (communications n g) (branch_communications n bs) k (first k f)
       by None (Some j) f first rest =
           let after : joins g + j ≡ k = cc f in
-          there_right r (communications n g) (branch_communications n bs) k j (omega (arith, after, number n g)) (rest j refl)
+          there_right profile r (communications n g) (branch_communications n bs) k j (omega (arith, after, number n g)) (rest j refl)
       by None None f first rest = absurd (cc f)
 
 -- what stands at the same place in the other list

@@ -1,6 +1,7 @@
 -- The place of the first difference, by the sites of the protocol's choices.
 use Rattle.std.proofs.Common.{ℕ, List, Some, Result, Ok, Err, IfErr, sym, ap, ◌∙◌, subst}
 use Rattle.scrib_types.specs.declared.local.Local.{Local}
+use Rattle.scrib_types.specs.declared.profile.Profile.{Profile}
 use Rattle.scrib_types.specs.Trees.{Comm}
 use Rattle.scrib_parser.specs.declared.tree.ModuleTree.{ModuleTree}
 use Rattle.scrib_local.specs.Differences.{first_difference}
@@ -14,11 +15,11 @@ use Rattle.scrib_project.specs.declared.fault.ProjectFault.TheVariants as fault
 use Rattle.scrib_project.specs.Faults.{IsUnmergeable, IsAtJoin, IsOfJoin, Projects, IsPlaced, IsFaultPlaced}
 use Rattle.scrib_project.proofs.Located.{located, zipped_at}
 
-placed : (modules : List ModuleTree) (home : List (List ℕ)) (name : List ℕ) (e : Elaborated) (r : List ℕ) (u : Unmergeable) → AreSites modules home name e → IsUnmergeable (meaning_of e).global r u → IsAtJoin (joins_of e) (meaning_of e).global u → IsPlaced modules home name (meaning_of e).global u
-placed modules home name e r u sites told at =
+placed : (profile : Profile) (modules : List ModuleTree) (home : List (List ℕ)) (name : List ℕ) (e : Elaborated) (r : List ℕ) (u : Unmergeable) → AreSites modules home name e → IsUnmergeable profile (meaning_of e).global r u → IsAtJoin profile (joins_of e) (meaning_of e).global u → IsPlaced profile modules home name (meaning_of e).global u
+placed profile modules home name e r u sites told at =
     let g = (meaning_of e).global in
-    let number = ap (λ x. first_difference x g) told.role ∙ told.differs in
-    let there = located u.role 0 g told.first number in
+    let number = ap (λ x. first_difference profile x g) told.role ∙ told.differs in
+    let there = located profile u.role 0 g told.first number in
     let c = there.0 in
     let d = there.2 in
     let join = zipped_at (IsJoinOf modules sites.root) (several g) (joins_of e) told.first c sites.each there.1 in
@@ -41,7 +42,7 @@ placed modules home name e r u sites told at =
       apart = d.differs;
     }
 
-pub fault_placed : (modules : List ModuleTree) (home : List (List ℕ)) (name : List ℕ) (e : Elaborated) (r : List ℕ) (x : Result Local ProjectFault) → AreSites modules home name e → Projects (meaning_of e).global r x → IfErr x (IsOfJoin (joins_of e) (meaning_of e).global) → IfErr x (IsFaultPlaced modules home name (meaning_of e).global)
-fault_placed modules home name e r (Ok l) sites value at = tt
-fault_placed modules home name e r (Err (fault.Unmergeable u)) sites value at = placed modules home name e r u sites value at
-fault_placed modules home name e r (Err fault.OutOfMemory) sites value at = tt
+pub fault_placed : (profile : Profile) (modules : List ModuleTree) (home : List (List ℕ)) (name : List ℕ) (e : Elaborated) (r : List ℕ) (x : Result Local ProjectFault) → AreSites modules home name e → Projects profile (meaning_of e).global r x → IfErr x (IsOfJoin profile (joins_of e) (meaning_of e).global) → IfErr x (IsFaultPlaced profile modules home name (meaning_of e).global)
+fault_placed profile modules home name e r (Ok l) sites value at = tt
+fault_placed profile modules home name e r (Err (fault.Unmergeable u)) sites value at = placed profile modules home name e r u sites value at
+fault_placed profile modules home name e r (Err fault.OutOfMemory) sites value at = tt

@@ -1,6 +1,7 @@
 -- What the answers of projection say.
 use Rattle.std.specs.Prelude.{◌≡◌, ◌≢◌, ℕ, true, List, [], ◌∷◌, slice_get, Option, Some, None, is_some, Result, Ok, Err, if◌then◌else◌}
 use Rattle.scrib_types.specs.declared.local.Local.{Local}
+use Rattle.scrib_types.specs.declared.profile.Profile.{Profile}
 use Rattle.scrib_types.specs.declared.protocol.Protocol.{Protocol}
 use Rattle.scrib_types.specs.Agreement.{Agreement}
 use Rattle.scrib_types.specs.Meaning.{agreement_of}
@@ -18,37 +19,37 @@ use Rattle.scrib_project.specs.declared.fault.ProjectFault.{ProjectFault}
 use Rattle.scrib_project.specs.declared.fault.ProjectFault.TheVariants as fault
 use Rattle.scrib_local.specs.Differences.{first_difference, differ}
 
--- there is no projection on the role, and some choice differs for it
-pub record IsUnmergeable (g : GlobalTree) (r : List ℕ) (u : Unmergeable) : Type 0 where
+-- under the profile there is no projection on the role, and the branches of some choice don't merge for it
+pub record IsUnmergeable (profile : Profile) (g : GlobalTree) (r : List ℕ) (u : Unmergeable) : Type 0 where
   pub role : u.role ≡ r
-  pub undefined : projection r g ≡ None
+  pub undefined : projection profile r g ≡ None
   pub first : ℕ
-  pub differs : first_difference r g ≡ Some first
+  pub differs : first_difference profile r g ≡ Some first
 
 -- the place is the join's that has the number of the first difference, if there is such a join
-abbrev pub IsAtJoin : List Join → GlobalTree → Unmergeable → Type 0
-IsAtJoin joins g u =
-    (k : ℕ) (j : Join) → first_difference u.role g ≡ Some k → slice_get joins k ≡ Some j → (u.module ≡ j.module) × (u.spot ≡ j.spot)
+abbrev pub IsAtJoin : Profile → List Join → GlobalTree → Unmergeable → Type 0
+IsAtJoin profile joins g u =
+    (k : ℕ) (j : Join) → first_difference profile u.role g ≡ Some k → slice_get joins k ≡ Some j → (u.module ≡ j.module) × (u.spot ≡ j.spot)
 
 -- the projection, or that there is none, unless memory was refused
-abbrev pub Projects : GlobalTree → List ℕ → Result Local ProjectFault → Type 0
-Projects g r (Ok l) = projection r g ≡ Some (local_of l)
-Projects g r (Err (fault.Unmergeable u)) = IsUnmergeable g r u
-Projects g r (Err fault.OutOfMemory) = Unit {0}
+abbrev pub Projects : Profile → GlobalTree → List ℕ → Result Local ProjectFault → Type 0
+Projects profile g r (Ok l) = projection profile r g ≡ Some (local_of l)
+Projects profile g r (Err (fault.Unmergeable u)) = IsUnmergeable profile g r u
+Projects profile g r (Err fault.OutOfMemory) = Unit {0}
 
 -- so it is of the place
-abbrev pub IsOfJoin : List Join → GlobalTree → ProjectFault → Type 0
-IsOfJoin joins g (fault.Unmergeable u) = IsAtJoin joins g u
-IsOfJoin joins g fault.OutOfMemory = Unit {0}
+abbrev pub IsOfJoin : Profile → List Join → GlobalTree → ProjectFault → Type 0
+IsOfJoin profile joins g (fault.Unmergeable u) = IsAtJoin profile joins g u
+IsOfJoin profile joins g fault.OutOfMemory = Unit {0}
 
 -- At the place stands a choice that the type of the protocol of this name, in the module of this name, is made of.
 -- Its own type is the communication of the first difference: one of two other roles, whose branches all have a
--- projection on the role, of which two differ.
-pub record IsPlaced (modules : List ModuleTree) (home : List (List ℕ)) (name : List ℕ) (g : GlobalTree) (u : Unmergeable) : Type 0 where
+-- projection on the role, and don't merge.
+pub record IsPlaced (profile : Profile) (modules : List ModuleTree) (home : List (List ℕ)) (name : List ℕ) (g : GlobalTree) (u : Unmergeable) : Type 0 where
   pub root : Declaration
   pub there : find_protocol modules home name ≡ Some root
   pub first : ℕ
-  pub differs : first_difference u.role g ≡ Some first
+  pub differs : first_difference profile u.role g ≡ Some first
   pub depth : ℕ
   pub sender : List ℕ
   pub receiver : List ℕ
@@ -57,28 +58,28 @@ pub record IsPlaced (modules : List ModuleTree) (home : List (List ℕ)) (name :
   pub site : IsSite modules 0 (start_of root) u.module u.spot depth (Comm sender receiver branches)
   pub not_sender : u.role ≢ sender
   pub not_receiver : u.role ≢ receiver
-  pub apart : differ (branch_projections u.role branches) ≡ true
+  pub apart : differ profile (branch_projections profile u.role branches) ≡ true
 
 -- the same of a fault, unless memory was refused
-abbrev pub IsFaultPlaced : List ModuleTree → (home : List (List ℕ)) (name : List ℕ) → GlobalTree → ProjectFault → Type 0
-IsFaultPlaced modules home name g (fault.Unmergeable u) = IsPlaced modules home name g u
-IsFaultPlaced modules home name g fault.OutOfMemory = Unit {0}
+abbrev pub IsFaultPlaced : Profile → List ModuleTree → (home : List (List ℕ)) (name : List ℕ) → GlobalTree → ProjectFault → Type 0
+IsFaultPlaced profile modules home name g (fault.Unmergeable u) = IsPlaced profile modules home name g u
+IsFaultPlaced profile modules home name g fault.OutOfMemory = Unit {0}
 
 -- the first of these roles that has no projection
-abbrev pub first_without : GlobalTree → List (List ℕ) → Option (List ℕ)
-first_without g [] = None
-first_without g (r ∷ rs) = if is_some (projection r g) then first_without g rs else Some r
+abbrev pub first_without : Profile → GlobalTree → List (List ℕ) → Option (List ℕ)
+first_without profile g [] = None
+first_without profile g (r ∷ rs) = if is_some (projection profile r g) then first_without profile g rs else Some r
 
 -- the protocol that means this, or the first role without a projection, unless memory was refused
-abbrev pub Agrees : Agreement → Result Protocol ProjectFault → Type 0
-Agrees a (Ok p) = (agreement_of p ≡ a) × (first_without a.global a.roles ≡ None)
-Agrees a (Err (fault.Unmergeable u)) = (first_without a.global a.roles ≡ Some u.role) × IsUnmergeable a.global u.role u
-Agrees a (Err fault.OutOfMemory) = Unit {0}
+abbrev pub Agrees : Profile → Agreement → Result Protocol ProjectFault → Type 0
+Agrees profile a (Ok p) = (agreement_of p ≡ a) × (first_without profile a.global a.roles ≡ None)
+Agrees profile a (Err (fault.Unmergeable u)) = (first_without profile a.global a.roles ≡ Some u.role) × IsUnmergeable profile a.global u.role u
+Agrees profile a (Err fault.OutOfMemory) = Unit {0}
 
 -- the same of a protocol that its projections come with
-abbrev pub AgreesWithProjections : Agreement → Result ProjectedProtocol ProjectFault → Type 0
-AgreesWithProjections a (Ok p) = Agrees a (Ok p.protocol)
-AgreesWithProjections a (Err f) = Agrees a (Err f)
+abbrev pub AgreesWithProjections : Profile → Agreement → Result ProjectedProtocol ProjectFault → Type 0
+AgreesWithProjections profile a (Ok p) = Agrees profile a (Ok p.protocol)
+AgreesWithProjections profile a (Err f) = Agrees profile a (Err f)
 
 -- the fault is the role's, at the join's place, if there is a join
 pub record IsFaultOf (r : List ℕ) (join : Option Join) (u : Unmergeable) : Type 0 where

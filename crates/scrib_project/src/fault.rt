@@ -4,7 +4,7 @@ use scrib_types::name::{Dotted, Role};
 use scrib_types::spot::Spot;
 use std::alloc::{AllocError, AllocFailed};
 
-/// A choice whose branches differ for a role that has no part in it: the role, the module, and the place of the
+/// A choice whose branches don't merge for a role that has no part in it: the role, the module, and the place of the
 /// choice in the module's text.
 #[derive(Drop)]
 pub struct Unmergeable {
@@ -16,7 +16,7 @@ pub struct Unmergeable {
 /// Why there is no projection.
 #[derive(Drop)]
 pub enum ProjectFault {
-    /// The branches of a choice between others differ for the role.
+    /// The branches of a choice between others don't merge for the role.
     Unmergeable(Unmergeable),
     /// Memory was refused.
     OutOfMemory,

@@ -13,21 +13,27 @@ use scrib_elaborate::elaborated::{Elaborated, Join};
 use scrib_local::look::look;
 use scrib_types::local::Local;
 use scrib_types::name::{Dotted, Role};
+use scrib_types::profile::Profile;
 use scrib_types::spot::Spot;
 use std::alloc::{AllocError, Global};
 
-/// What the role does in the protocol.
+/// What the role does in the protocol, under the profile.
 ///
 /// # Errors
 /// `Unmergeable` exactly where the projection is undefined, with the place of the first choice, in post-order,
-/// that is visited and whose branches differ for the role; `OutOfMemory` where memory was refused.
-pub fn project(alloc: Global, elaborated: &Elaborated, role: &Role) -> Result<Local, ProjectFault>
-    ensures value { Projects (meaning_of elaborated.now).global role.now result }
+/// that is visited and whose branches don't merge for the role; `OutOfMemory` where memory was refused.
+pub fn project(
+    alloc: Global,
+    elaborated: &Elaborated,
+    role: &Role,
+    profile: Profile,
+) -> Result<Local, ProjectFault>
+    ensures value { Projects profile (meaning_of elaborated.now).global role.now result }
     ensures place { (modules : List ModuleTree) (home : List (List ℕ)) (name : List ℕ)
         → AreSites modules home name elaborated.now
-        → IfErr result (IsFaultPlaced modules home name (meaning_of elaborated.now).global) }
+        → IfErr result (IsFaultPlaced profile modules home name (meaning_of elaborated.now).global) }
 {
-    project_among(alloc, elaborated, elaborated.joins(), role)
+    project_among(alloc, elaborated, elaborated.joins(), role, profile)
 }
 
 /// What the role does in the protocol, whose communications with several branches come from these joins.
@@ -36,11 +42,12 @@ fn project_among(
     elaborated: &Elaborated,
     joins: &[Join],
     role: &Role,
+    profile: Profile,
 ) -> Result<Local, ProjectFault>
-    ensures value { Projects (meaning_of elaborated.now).global role.now result }
-    ensures place { IfErr result (IsOfJoin joins.now (meaning_of elaborated.now).global) }
+    ensures value { Projects profile (meaning_of elaborated.now).global role.now result }
+    ensures place { IfErr result (IsOfJoin profile joins.now (meaning_of elaborated.now).global) }
 {
-    let sight = look(alloc, elaborated.global(), role)?;
+    let sight = look(alloc, elaborated.global(), role, profile)?;
     match sight.local {
         Some(local) => Ok(local),
         None => {

@@ -11,22 +11,27 @@ use crate::project::project;
 use crate::projected::ProjectedProtocol;
 use scrib_elaborate::elaborated::Elaborated;
 use scrib_types::plain::Items;
+use scrib_types::profile::Profile;
 use scrib_types::protocol::Protocol;
 use std::alloc::Global;
 
-/// The protocol, once its type has a projection on each of its roles. They are tried in the order in which they
+/// The protocol, once its type has a projection on each of its roles under the profile. They are tried in the order in which they
 /// are declared.
 ///
 /// # Errors
 /// `Unmergeable` exactly where some role has no projection, with the first such role and the place that `project`
 /// tells for it; `OutOfMemory` where memory was refused.
-pub fn protocol(alloc: Global, elaborated: Elaborated) -> Result<Protocol, ProjectFault>
-    ensures value { Agrees (meaning_of elaborated) result }
+pub fn protocol(
+    alloc: Global,
+    elaborated: Elaborated,
+    profile: Profile,
+) -> Result<Protocol, ProjectFault>
+    ensures value { Agrees profile (meaning_of elaborated) result }
     ensures place { (modules : List ModuleTree) (home : List (List ℕ)) (name : List ℕ)
         → AreSites modules home name elaborated
-        → IfErr result (IsFaultPlaced modules home name (meaning_of elaborated).global) }
+        → IfErr result (IsFaultPlaced profile modules home name (meaning_of elaborated).global) }
 {
-    let projected = protocol_with_projections(alloc, elaborated)?;
+    let projected = protocol_with_projections(alloc, elaborated, profile)?;
     let ProjectedProtocol { protocol, .. } = projected;
     Ok(protocol)
 }
@@ -38,15 +43,16 @@ pub fn protocol(alloc: Global, elaborated: Elaborated) -> Result<Protocol, Proje
 pub fn protocol_with_projections(
     alloc: Global,
     elaborated: Elaborated,
+    profile: Profile,
 ) -> Result<ProjectedProtocol, ProjectFault>
-    ensures value { AgreesWithProjections (meaning_of elaborated) result }
+    ensures value { AgreesWithProjections profile (meaning_of elaborated) result }
     ensures place { (modules : List ModuleTree) (home : List (List ℕ)) (name : List ℕ)
         → AreSites modules home name elaborated
-        → IfErr result (IsFaultPlaced modules home name (meaning_of elaborated).global) }
+        → IfErr result (IsFaultPlaced profile modules home name (meaning_of elaborated).global) }
 {
     let mut locals = Vec::with_capacity(alloc, elaborated.roles().len())?;
     for role in elaborated.roles() {
-        let local = project(alloc, &elaborated, role)?;
+        let local = project(alloc, &elaborated, role, profile)?;
         locals.push(local)?;
     }
     let (roles, global) = elaborated.into_parts();

@@ -7,5 +7,5 @@ use Rattle.scrib_project.proofs.project.project_among.Goals as goal
 pub returns-in_ok-fault-in-None-clause-value : goal.returns-in_ok-fault-in-None-clause-value
 returns-in_ok-fault-in-None-clause-value c =
     let a = meaning_of c.args.elaborated.now in
-    told a.global (global_of c.global.result.now) c.args.role.now a.roles c.in_ok-sight.sight c.in_ok-fault-in-None.fault
+    told c.args.profile a.global (global_of c.global.result.now) c.args.role.now a.roles c.in_ok-sight.sight c.in_ok-fault-in-None.fault
     c.global.ensures.global c.in_ok-sight.ensures c.in-None.is (is_well_formed a.roles a.global c.global.ensures.sound) c.in_ok-fault-in-None.ensures.role

@@ -8,6 +8,6 @@ abbrev pub invariant-loop-role : goal.invariant-loop-role
 invariant-loop-role l =
     let a = meaning_of l.fn.elaborated in
     record {
-      without : first_without a.global (drop l.role-index l.role-items) ≡ first_without a.global a.roles;
+      without : first_without l.profile a.global (drop l.role-index l.role-items) ≡ first_without l.profile a.global a.roles;
       made : are_projections a.global (take l.role-index l.role-items) l.locals.items ≡ true;
     }
