@@ -322,6 +322,7 @@ module _ (m : ModuleTree) (before after : List ModuleTree) (p : Placed) (placed 
             let s = meanings.sound y q in
             let P : List (List ℕ) → Type 0 = λ n. IsMeaning after n (meant y) in
             subst P (sym s.named) (entry_means s.entry (meant y) (reaching.sound s.entry s.there) s.means);
+        plain = meanings.plain;
         meant_all = meant_after (elaborable_from after reached reaching.sorted ys meanings);
       }
 
@@ -363,7 +364,7 @@ module _ (m : ModuleTree) (before after : List ModuleTree) (p : Placed) (placed 
     pub refused_draft : IsSpelled m → (f : EditFault) → StopsDraft versions ys used f → ModuleFails before used m after f
     refused_draft new edit.VersionsFull k = (
       room,
-      well_formed before after versions library.stored ys in_order covers (imports_after room),
+      well_formed before after versions library.stored ys in_order covers library.plain (imports_after room),
       runs_out before after versions library.stored ys in_order covers library.spelled (spelled_after new) used k.0 k.1,
     )
     refused_draft new edit.OutOfMemory k = tt

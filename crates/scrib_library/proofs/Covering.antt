@@ -2,14 +2,12 @@
 use Rattle.std.proofs.Common.{◌≡◌, ℕ, ◌≤◌, true, List, [], ◌∷◌, Option, Some, None, ◌⊎◌, inl, inr, refl, sym, ap, ◌∙◌, subst, arith}
 use Rattle.std.specs.Prelude.{◌↔◌}
 use Rattle.std.specs.List.{Contains}
-use Rattle.std.specs.Option.{option_map}
 use Rattle.scrib_types.specs.Agreement.{Agreement}
-use Rattle.scrib_types.specs.Meaning.{agreement_of}
+use Rattle.scrib_types.specs.declared.profile.Profile.TheVariants.{Plain}
 use Rattle.scrib_types.specs.WellFormed.{projects}
 use Rattle.scrib_parser.specs.declared.tree.ModuleTree.{ModuleTree}
 use Rattle.scrib_elaborate.specs.Names.{dotted_eq}
 use Rattle.scrib_elaborate.proofs.Distinct.{dotted_eq-Decides}
-use Rattle.scrib_project.specs.declared.projected.ProjectedProtocol.{ProjectedProtocol}
 use Rattle.scrib_record.specs.declared.version.Version.{Version}
 use Rattle.scrib_record.specs.Versions.{meaning_of}
 use Rattle.scrib_library.specs.declared.versions.NamedVersion.{NamedVersion}
@@ -18,19 +16,19 @@ use Rattle.scrib_library.specs.declared.meanings.NamedMeaning.{NamedMeaning}
 use Rattle.scrib_library.specs.declared.changes.ChangeKind.{ChangeKind}
 use Rattle.scrib_library.specs.declared.changes.ChangeKind.TheVariants.{Added, Replaced, Withdrawn}
 use Rattle.scrib_library.specs.declared.changes.Change.{Change}
-use Rattle.scrib_library.specs.Modules.{name_of, Means, IsMeaning, AreImportsThere, AreWellFormed}
+use Rattle.scrib_library.specs.Modules.{name_of, Means, IsMeaning, AreImportsThere, AreMeantPlainly, AreWellFormed}
 use Rattle.scrib_library.specs.Holdings.{HasNumber}
 use Rattle.scrib_library.specs.Listed.{AreInOrder}
 use Rattle.scrib_library.specs.Edits.{Changes, IsChanges, AreVersionsUsed, RunsOut}
 use Rattle.scrib_library.specs.Stored.{version_names, HasVersion, IsVersion, AreVersions, AreCounted, IsSpelled}
-use Rattle.scrib_library.specs.Elaborated.{meant, meaning_names}
+use Rattle.scrib_library.specs.Elaborated.{IsPlain, meant, meaning_names}
 use Rattle.scrib_library.specs.Drafts.{shown, edit_names, meaning_before, IsKind, IsChangedBy, IsUnchanged, IsDraft, IsOverdrawn, AreMade}
 use Rattle.scrib_library.specs.Plans.{IsCovered}
 use Rattle.scrib_library.proofs.Lists.{Contains-nil, Contains-head_at, Contains-tail, Contains-cases, Contains-map, Contains-map_back}
 use Rattle.scrib_library.proofs.Orders.{once}
 use Rattle.scrib_library.proofs.Places.{either}
 use Rattle.scrib_library.proofs.Drafting.{names_shown}
-use Rattle.scrib_library.proofs.Meant.{means_once, means_declared, projects-meaning, one_version, means_stored, stored_means, answered, holdings, number_there, number_back, sorted_texts}
+use Rattle.scrib_library.proofs.Meant.{means_once, means_declared, one_version, means_stored, stored_means, answered, holdings, number_there, number_back, sorted_texts}
 
 -- a name is one of these or not
 pub among : (n : List (List ℕ)) (names : List (List (List ℕ))) → Contains names n ⊎ (Contains names n → ⊥)
@@ -104,10 +102,9 @@ unchanged before after n a p q Added d = d.0 a p
 unchanged before after n a p q Withdrawn d = d.1 a q
 unchanged before after n a p q Replaced d = d.4 (means_once before n d.0 a d.2 p ∙ means_once after n a d.1 q d.3)
 
--- a meaning that comes with its projections has them
-projected_some : (o : Option ProjectedProtocol) (a : Agreement) → option_map (λ (p : ProjectedProtocol). agreement_of p.protocol) o ≡ Some a → projects a.global a.roles ≡ true
-projected_some None a e = cc
-projected_some (Some p) a e = projects-meaning p.protocol a (cc e)
+plain_some : (o : Option Agreement) (a : Agreement) → o ≡ Some a → IsPlain o → projects Plain a.global a.roles ≡ true
+plain_some None a e h = absurd (cc)
+plain_some (Some b) a e h = let same : b ≡ a = cc in subst (λ (x : Agreement). projects Plain x.global x.roles ≡ true) same h
 
 module _ (before after : List ModuleTree) (olds : List NamedVersion) (old : AreVersions before olds) (ys : List NamedMeaning) (sorted : AreInOrder (meaning_names ys)) (covered : IsCovered before after ys) where
   -- what a name means, where it is one of these
@@ -118,17 +115,18 @@ module _ (before after : List ModuleTree) (olds : List NamedVersion) (old : AreV
   some_here n a None p q = absurd (p a q)
   some_here n a (Some b) p q = ap (λ (x : Agreement). Some x) (means_once after n b a p q)
 
-  projected_after : (n : List (List ℕ)) (a : Agreement) → Means after n a → projects a.global a.roles ≡ true
-  projected_after n a p =
+  -- what projects before projects after
+  pub plain_after : AreMeantPlainly before → AreMeantPlainly after
+  plain_after plain n a p =
       elim (among n (meaning_names ys)) [
         | inl q ↦ (
             let c = Contains-map_back (λ (y : NamedMeaning). y.name) ys n q in
-            projected_some c.0.projected a (some_here n a (meant c.0) (meant_here n c.0 c.1 c.2) p))
-        | inr non ↦ (let s = stored_means before olds old n a ((covered.same n non a).1 p) in projects-meaning s.0.protocol a s.2)
+            plain_some (meant c.0) a (some_here n a (meant c.0) (meant_here n c.0 c.1 c.2) p) (covered.plain c.0 c.1))
+        | inr non ↦ plain n a ((covered.same n non a).1 p)
       ]
 
-  pub well_formed : AreImportsThere after → AreWellFormed after
-  well_formed imports = record { imports = imports; meant = covered.meant_all; projected = λ d a p q. projected_after (name_of d) a (means_declared after d a q) }
+  pub well_formed : AreMeantPlainly before → AreImportsThere after → AreWellFormed after
+  well_formed plain imports = record { imports = imports; meant = covered.meant_all; projected = λ d a p q. plain_after plain (name_of d) a (means_declared after d a q) }
 
   changed_by : (kind : ChangeKind) (n : List (List ℕ)) → IsChangedBy olds ys kind n → Changes before after kind n
   changed_by kind n h =

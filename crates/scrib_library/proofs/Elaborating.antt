@@ -1,11 +1,15 @@
 -- From entries to what their protocols mean, and to the projections.
-use Rattle.std.proofs.Common.{◌≡◌, ℕ, true, List, ◌∷◌, [], ◌++◌, Option, Some, None, Err, inl, inr, sym, ap, ◌∙◌, subst}
+use Rattle.std.proofs.Common.{◌≡◌, ℕ, true, List, ◌∷◌, [], ◌++◌, Option, Some, None, Ok, Err, inl, inr, refl, sym, ap, ◌∙◌, subst}
 use Rattle.std.specs.List.{Contains}
 use Rattle.std.specs.Option.{option_map}
 use Rattle.std.proofs.lemmas.Bool.{false≢true}
 use Rattle.std.proofs.lemmas.List.{map-append}
 use Rattle.std.proofs.lemmas.List.Elements.{Contains-push_cases}
+use Rattle.scrib_types.specs.declared.profile.Profile.TheVariants.{Plain}
+use Rattle.scrib_types.specs.declared.protocol.Protocol.{Protocol}
 use Rattle.scrib_types.specs.Agreement.{Agreement}
+use Rattle.scrib_types.specs.Meaning.{agreement_of}
+use Rattle.scrib_types.specs.WellFormed.{projects}
 use Rattle.scrib_parser.specs.declared.tree.ModuleTree.{ModuleTree}
 use Rattle.scrib_parser.specs.declared.tree.ProtocolDeclaration.{ProtocolDeclaration}
 use Rattle.scrib_elaborate.specs.declared.fault.ElaborateFault.{ElaborateFault}
@@ -15,9 +19,11 @@ use Rattle.scrib_elaborate.specs.Elaboration.{Elaborates}
 use Rattle.scrib_elaborate.specs.Faults.{FailsAt, IsBroken}
 use Rattle.scrib_elaborate.specs.Meaning.{meaning_of}
 use Rattle.scrib_elaborate.specs.Sites.{AreSites}
+use Rattle.scrib_project.specs.declared.projected.ProjectedProtocol.{ProjectedProtocol}
 use Rattle.scrib_project.specs.declared.fault.ProjectFault.{ProjectFault}
 use Rattle.scrib_project.specs.declared.fault.ProjectFault.TheVariants as project
 use Rattle.scrib_project.specs.Faults.{Agrees, IsPlaced, IsFaultPlaced}
+use Rattle.scrib_project.proofs.Protocols.{all_project}
 use Rattle.scrib_library.specs.declared.declared.Entry.{Entry}
 use Rattle.scrib_library.specs.declared.meanings.NamedElaborated.{NamedElaborated}
 use Rattle.scrib_library.specs.declared.meanings.NamedMeaning.{NamedMeaning}
@@ -26,7 +32,7 @@ use Rattle.scrib_library.specs.declared.fault.EditFault.TheVariants as edit
 use Rattle.scrib_library.specs.Made.{edit_fault_of_elaborate, edit_fault_of_project}
 use Rattle.scrib_library.specs.Listed.{AreInOrder}
 use Rattle.scrib_library.specs.Entries.{entry_names, AreStanding}
-use Rattle.scrib_library.specs.Elaborated.{elaborated_names, meaning_names, found, meant, IsMeant, IsMeaningOf, HasSites, IsFoundFor, IsFoundAmong, IsBrokenEntry, AreElaborated, AreMeanings, IsProjected, StopsNamed, IsProjectionOf, AreProjected, AreElaborable, StopsProjection, IsRefusal}
+use Rattle.scrib_library.specs.Elaborated.{elaborated_names, meaning_names, found, meant, IsPlain, IsMeant, IsMeaningOf, HasSites, IsFoundFor, IsFoundAmong, IsBrokenEntry, AreElaborated, AreMeanings, IsProjected, StopsNamed, IsProjectionOf, AreProjected, AreElaborable, StopsProjection, IsRefusal}
 use Rattle.scrib_library.proofs.Lists.{Contains-map, Contains-map_back}
 use Rattle.scrib_library.proofs.Orders.{once}
 
@@ -68,8 +74,26 @@ module _ (ms : List ModuleTree) (es : List Entry) where
 
 -- ---- projection
 
-pub unprojected_named : (x : NamedElaborated) (e : Elaborated) (f : ProjectFault) → x.elaborated ≡ Some e → Agrees (meaning_of e) (Err f)
-    → ((ms : List ModuleTree) (home : List (List ℕ)) (name : List ℕ) → AreSites ms home name e → IsFaultPlaced ms home name (meaning_of e).global f) → StopsNamed x (edit_fault_of_project f)
+-- a protocol that was made has all projections by the plain merge
+pub plain_of : (a : Agreement) (p : Protocol) → Agrees Plain a (Ok p) → IsPlain (Some (agreement_of p))
+plain_of a p k = subst (λ (x : Agreement). projects Plain x.global x.roles ≡ true) (sym k.0) (all_project Plain a.global a.roles k.1)
+
+pub projected_named : (x : NamedElaborated) (e : Elaborated) (p : ProjectedProtocol) (o : Option ProjectedProtocol) → x.elaborated ≡ Some e → Agrees Plain (meaning_of e) (Ok p.protocol) → o ≡ Some p → IsProjected x (record { name = x.name; projected = o })
+projected_named x e p o from k is =
+    let shown : option_map (λ (q : ProjectedProtocol). agreement_of q.protocol) o ≡ Some (agreement_of p.protocol) = ap (option_map (λ (q : ProjectedProtocol). agreement_of q.protocol)) is in
+    record {
+      named = refl;
+      means = shown ∙ ap Some k.0 ∙ ap (option_map meaning_of) (sym from);
+      plain = subst IsPlain (sym shown) (plain_of (meaning_of e) p.protocol k);
+    }
+
+pub nothing_named : (x : NamedElaborated) (o : Option ProjectedProtocol) → x.elaborated ≡ None → o ≡ None → IsProjected x (record { name = x.name; projected = o })
+nothing_named x o from is =
+    let shown : option_map (λ (q : ProjectedProtocol). agreement_of q.protocol) o ≡ None = ap (option_map (λ (q : ProjectedProtocol). agreement_of q.protocol)) is in
+    record { named = refl; means = shown ∙ ap (option_map meaning_of) (sym from); plain = subst IsPlain (sym shown) tt }
+
+pub unprojected_named : (x : NamedElaborated) (e : Elaborated) (f : ProjectFault) → x.elaborated ≡ Some e → Agrees Plain (meaning_of e) (Err f)
+    → ((ms : List ModuleTree) (home : List (List ℕ)) (name : List ℕ) → AreSites ms home name e → IsFaultPlaced Plain ms home name (meaning_of e).global f) → StopsNamed x (edit_fault_of_project f)
 unprojected_named x e project.OutOfMemory is k place = tt
 unprojected_named x e (project.Unmergeable u) is k place = record { elaborated = e; is = is; first = k.0; place = place }
 
@@ -80,7 +104,7 @@ module _ (xs : List NamedElaborated) where
     map-append (λ (y : NamedMeaning). y.name) vs (v ∷ []) ∙ (λ i. names i ++ new.named i ∷ []) ∙ sym (map-append (λ (y : NamedElaborated). y.name) ys (x ∷ [])),
     λ w p. elim (Contains-push_cases vs v w p) [
       | inl q ↦ sound w q
-      | inr same ↦ (let P : NamedMeaning → Type 0 = λ z. IsProjectionOf xs z in subst P same (record { source = x; there = there; named = new.named; means = new.means }))
+      | inr same ↦ (let P : NamedMeaning → Type 0 = λ z. IsProjectionOf xs z in subst P same (record { source = x; there = there; named = new.named; means = new.means; plain = new.plain }))
     ],
   )
 
@@ -134,6 +158,7 @@ module _ (ms : List ModuleTree) (es : List Entry) where
           let m = h.sound s.source s.there in
           let P : Option Agreement → Type 0 = λ o. IsMeant ms m.entry o in
           record { entry = m.entry; there = m.there; named = s.named ∙ m.found.named; means = subst P (sym s.means) m.found.means };
+      plain = λ y p. (k.sound y p).plain;
     }
 
     pub no_meanings : AreInOrder (entry_names es) → AreStanding ms es → (f : EditFault) → StopsProjection xs f → IsRefusal ms es f
@@ -145,8 +170,8 @@ module _ (ms : List ModuleTree) (es : List Entry) where
         let e = subst P k.is m.found.means in
         let at = k.place ms m.entry.home.now.name m.entry.protocol.now.name (subst Q k.is m.found.sites) in
         let s = stand m.entry m.there e.0 in
-        let R : List (List ℕ) → Type 0 = λ home. Elaborates ms home s.declaration.protocol.name (meaning_of k.elaborated) × IsPlaced ms home s.declaration.protocol.name g u in
-        let S : List ℕ → Type 0 = λ name. Elaborates ms m.entry.home.now.name name (meaning_of k.elaborated) × IsPlaced ms m.entry.home.now.name name g u in
+        let R : List (List ℕ) → Type 0 = λ home. Elaborates ms home s.declaration.protocol.name (meaning_of k.elaborated) × IsPlaced Plain ms home s.declaration.protocol.name g u in
+        let S : List ℕ → Type 0 = λ name. Elaborates ms m.entry.home.now.name name (meaning_of k.elaborated) × IsPlaced Plain ms m.entry.home.now.name name g u in
         let both = subst R (ap (λ (x : ModuleTree). x.name) s.entry.home) (subst S (ap (λ (x : ProtocolDeclaration). x.name) s.entry.protocol) (e.1, at)) in
         ((m.entry, m.there, e.0), elaborable_by sorted xs h, (s.declaration, meaning_of k.elaborated, s.there, both.0, k.first, both.1))
     no_meanings sorted stand edit.OutOfMemory k = tt

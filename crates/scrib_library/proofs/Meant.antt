@@ -8,10 +8,8 @@ use Rattle.std.proofs.lemmas.Bool.{and_parts}
 use Rattle.std.proofs.lemmas.List.{same_from_push, length-map, get_or-map}
 use Rattle.std.proofs.lemmas.Slice.Eq.{bytes_eq-Decides}
 use Rattle.scrib_types.specs.Agreement.{Agreement}
-use Rattle.scrib_types.specs.WellFormed.{is_protocol, projects}
+use Rattle.scrib_types.specs.WellFormed.{is_protocol}
 use Rattle.scrib_record.specs.declared.version.Version.{Version}
-use Rattle.scrib_types.specs.declared.protocol.Protocol.{Protocol}
-use Rattle.scrib_types.specs.Meaning.{agreement_of}
 use Rattle.scrib_record.specs.Versions.{meaning_of, number_of}
 use Rattle.scrib_parser.specs.declared.tree.ModuleTree.{ModuleTree}
 use Rattle.scrib_elaborate.specs.Names.{Declaration, dotted_eq, declarations, is_called, roles_of}
@@ -74,15 +72,6 @@ module _ (ms : List ModuleTree) where
   means_declared d a p = record { home = d.home.name; protocol = d.protocol.name; named = refl; elaborated = p }
 
 -- ---- versions
-
-projects-protocol : (p : Protocol) → projects (agreement_of p).global (agreement_of p).roles ≡ true
-unfolding is_protocol
-projects-protocol p =
-    let a = and_parts _ _ p.valid in
-    a.1
-
-pub projects-meaning : (p : Protocol) (a : Agreement) → agreement_of p ≡ a → projects a.global a.roles ≡ true
-projects-meaning p a e = let P : Agreement → Type 0 = λ b. projects b.global b.roles ≡ true in subst P e (projects-protocol p)
 
 -- versions in order have one of a name
 pub one_version : (vs : List NamedVersion) → AreInOrder (version_names vs) → (v w : NamedVersion) → Contains vs v → Contains vs w → v.name ≡ w.name → v ≡ w

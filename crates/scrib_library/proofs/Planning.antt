@@ -26,7 +26,7 @@ use Rattle.scrib_library.proofs.Lists.{Contains-nil, Contains-map_back}
 use Rattle.scrib_library.proofs.Spelling.{spelled}
 use Rattle.scrib_library.proofs.Refusals.{put_refused}
 use Rattle.scrib_library.proofs.Meant.{declared_means, holdings}
-use Rattle.scrib_library.proofs.Covering.{well_formed, changes_told, versions_after, counted_after, versions_used}
+use Rattle.scrib_library.proofs.Covering.{plain_after, well_formed, changes_told, versions_after, counted_after, versions_used}
 use Rattle.scrib_library.proofs.Replacing.{before_set}
 use Rattle.scrib_library.proofs.Changing.{distinct_after, imports_after, spelled_after, covered, refused_meanings, refused_draft}
 
@@ -49,7 +49,7 @@ module _ (m : ModuleTree) (before after : List ModuleTree) (p : Placed) (placed 
     read = read;
     placed = placed.put;
     room = h.room;
-    meant = well_formed before after versions library.stored h.meanings h.sorted covers (imports_after m before after p placed versions used library h.room);
+    meant = well_formed before after versions library.stored h.meanings h.sorted covers library.plain (imports_after m before after p placed versions used library h.room);
   }
 
   module _ (news : List NamedVersion) (made : AreMade versions plan.edits.items news) where
@@ -59,6 +59,7 @@ module _ (m : ModuleTree) (before after : List ModuleTree) (p : Placed) (placed 
       imports = imports_after m before after p placed versions used library h.room;
       spelled = all_spelled;
       stored = versions_after before after versions library.stored h.meanings h.sorted covers used plan.edits.items plan.used h.planned.draft news made;
+      plain = plain_after before after versions library.stored h.meanings h.sorted covers library.plain;
       counted = counted_after before after versions library.stored h.meanings h.sorted covers used plan.edits.items plan.used h.planned.draft news made library.counted;
     }
 
@@ -95,6 +96,7 @@ covering_nothing m after former same before p versions used placed g library =
     subst P is (record {
       same = λ n non a. (λ h. h, λ h. h);
       means = λ y c. absurd (Contains-nil y c);
+      plain = λ y c. absurd (Contains-nil y c);
       meant_all = λ d q.
           let w = Contains-map_back (λ (v : NamedVersion). v.name) versions (name_of d) (library.stored.listed.complete d q) in
           (meaning_of w.0.version, declared_means before d w.0.name (meaning_of w.0.version) (library.stored.sound w.0 w.1) w.2);

@@ -25,7 +25,7 @@ use Rattle.scrib_library.specs.Listed.{AreInOrder}
 use Rattle.scrib_library.specs.Entries.{AreEntered}
 use Rattle.scrib_library.specs.Edits.{has_new_version, new_versions, IsImporter, IsWithdrawal, IsChanges, AreWithdrawn, AreVersionsUsed}
 use Rattle.scrib_library.specs.Stored.{IsSpelled, IsLibrary}
-use Rattle.scrib_library.specs.Elaborated.{meant, meaning_names}
+use Rattle.scrib_library.specs.Elaborated.{IsPlain, meant, meaning_names}
 use Rattle.scrib_library.specs.Drafts.{shown, meaning_before, IsKind, IsChangedBy, AreMade, StopsDraft}
 use Rattle.scrib_library.specs.Withdrawals.{AreNothing, AreDropped, IsRemovalPlan}
 use Rattle.scrib_library.proofs.Lists.{Contains-nil, Contains-head, Contains-tail, Contains-map, Contains-map_back}
@@ -33,7 +33,7 @@ use Rattle.scrib_library.proofs.Places.{either, declared-back, declared-there}
 use Rattle.scrib_library.proofs.Naming.{named_once, distinct_without, without-back, without-other, imports_stay, place_has, place_there, place_named}
 use Rattle.scrib_library.proofs.Meant.{declared_of, declared_means, means_declared, holdings}
 use Rattle.scrib_library.specs.Plans.{IsCovered}
-use Rattle.scrib_library.proofs.Covering.{well_formed, changes_told, versions_after, counted_after, versions_used}
+use Rattle.scrib_library.proofs.Covering.{plain_after, well_formed, changes_told, versions_after, counted_after, versions_used}
 
 -- ---- names that mean nothing any more
 
@@ -162,7 +162,7 @@ module _ (name : List (List ℕ)) (before : List ModuleTree) (at : ℕ) (place :
         subst P (sym s.nothing) none
 
     covered : IsCovered before after ys
-    covered = record { same = same_outside; means = nothing; meant_all = meant_after }
+    covered = record { same = same_outside; means = nothing; plain = λ y q. subst IsPlain (sym (dropped.sound y q).nothing) tt; meant_all = meant_after }
 
   -- ---- the library after the withdrawal
 
@@ -203,7 +203,7 @@ module _ (name : List (List ℕ)) (before : List ModuleTree) (at : ℕ) (place :
       there = place_has before name at place;
       free = free;
       removed = refl;
-      meant = well_formed before after versions library.stored h.meanings h.dropped.sorted covers imports_after;
+      meant = well_formed before after versions library.stored h.meanings h.dropped.sorted covers library.plain imports_after;
     }
 
     module _ (news : List NamedVersion) (made : AreMade versions plan.edits.items news) where
@@ -213,6 +213,7 @@ module _ (name : List (List ℕ)) (before : List ModuleTree) (at : ℕ) (place :
         imports = imports_after;
         spelled = spelled_after;
         stored = versions_after before after versions library.stored h.meanings h.dropped.sorted covers used plan.edits.items plan.used h.planned.draft news made;
+        plain = plain_after before after versions library.stored h.meanings h.dropped.sorted covers library.plain;
         counted = counted_after before after versions library.stored h.meanings h.dropped.sorted covers used plan.edits.items plan.used h.planned.draft news made library.counted;
       }
 

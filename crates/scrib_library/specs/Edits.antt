@@ -4,6 +4,7 @@ use Rattle.std.specs.List.{count_by}
 use Rattle.std.specs.Ordering.{nat_cmp}
 use Rattle.std.specs.declared.cmp.Ordering.TheVariants.{Less, Greater}
 use Rattle.std.specs.Cmp.Lexicographic.{slice_cmp}
+use Rattle.scrib_types.specs.declared.profile.Profile.TheVariants.{Plain}
 use Rattle.scrib_types.specs.Agreement.{Agreement}
 use Rattle.scrib_types.specs.Texts.{dotted_text}
 use Rattle.scrib_lexer.specs.declared.fault.LexFault.{LexFault}
@@ -149,12 +150,12 @@ abbrev pub IsBrokenIn : List ModuleTree → Fault → Type 0
 IsBrokenIn modules f =
     (d : Declaration) × Contains (declarations modules) d × IsBroken modules d.home.name d.protocol.name f
 
--- What a declared protocol means has no projection on the role, which is the first such role of it. At the place
--- stands a choice that the protocol's type is made of, and whose branches differ for the role.
+-- What a declared protocol means has no projection on the role by the plain merge, and the role is the first such
+-- role of it. At the place stands a choice that the protocol's type is made of, and whose branches differ for the role.
 abbrev pub IsUnmergeableIn : List ModuleTree → Unmergeable → Type 0
 IsUnmergeableIn modules u =
     (d : Declaration) × (a : Agreement) × Contains (declarations modules) d × DeclaredMeans modules d a
-    × (first_without a.global a.roles ≡ Some u.role) × IsPlaced modules d.home.name d.protocol.name a.global u
+    × (first_without Plain a.global a.roles ≡ Some u.role) × IsPlaced Plain modules d.home.name d.protocol.name a.global u
 
 -- With the module there is no room, the modules aren't well formed, or versions run out, for this and nothing that
 -- comes before it.

@@ -2,6 +2,8 @@
 -- Only contracts of private functions cite this file.
 use Rattle.std.specs.Prelude.{◌≡◌, ℕ, true, false, List, map, Option, Some, None, Contains}
 use Rattle.std.specs.Option.{option_map}
+use Rattle.scrib_types.specs.declared.profile.Profile.TheVariants.{Plain}
+use Rattle.scrib_types.specs.WellFormed.{projects}
 use Rattle.scrib_types.specs.Agreement.{Agreement}
 use Rattle.scrib_types.specs.Meaning.{agreement_of}
 use Rattle.scrib_parser.specs.declared.tree.ModuleTree.{ModuleTree}
@@ -33,6 +35,11 @@ found x = option_map meaning_of x.elaborated
 
 abbrev pub meant : NamedMeaning → Option Agreement
 meant y = option_map (λ (p : ProjectedProtocol). agreement_of p.protocol) y.projected
+
+-- it projects by the plain merge, if it is there
+abbrev pub IsPlain : Option Agreement → Type 0
+IsPlain None = Unit {0}
+IsPlain (Some a) = projects Plain a.global a.roles ≡ true
 
 -- the entry's protocol means this; nothing where it doesn't stand any more
 abbrev pub IsMeant : List ModuleTree → Entry → Option Agreement → Type 0
@@ -76,21 +83,23 @@ pub record AreElaborated (modules : List ModuleTree) (es : List Entry) (xs : Lis
 pub record AreMeanings (modules : List ModuleTree) (es : List Entry) (ys : List NamedMeaning) : Type 0 where
   pub names : meaning_names ys ≡ entry_names es
   pub sound : (y : NamedMeaning) → Contains ys y → IsMeaningOf modules es y.name (meant y)
+  pub plain : (y : NamedMeaning) → Contains ys y → IsPlain (meant y)
 
 -- the projections of one, or why there are none
 
 pub record IsProjected (x : NamedElaborated) (y : NamedMeaning) : Type 0 where
   pub named : y.name ≡ x.name
   pub means : meant y ≡ found x
+  pub plain : IsPlain (meant y)
 
--- What it means has no projection on the role, which is the first such role of it. The place is that of a choice
--- whose branches differ for the role, where the joins are those of its type.
+-- What it means has no projection on the role by the plain merge, and the role is the first such role of it. The
+-- place is that of a choice whose branches differ for the role, where the joins are those of its type.
 pub record IsUnprojected (x : NamedElaborated) (u : Unmergeable) : Type 0 where
   pub elaborated : Elaborated
   pub is : x.elaborated ≡ Some elaborated
-  pub first : first_without (meaning_of elaborated).global (meaning_of elaborated).roles ≡ Some u.role
+  pub first : first_without Plain (meaning_of elaborated).global (meaning_of elaborated).roles ≡ Some u.role
   pub place : (modules : List ModuleTree) (home : List (List ℕ)) (name : List ℕ)
-      → AreSites modules home name elaborated → IsPlaced modules home name (meaning_of elaborated).global u
+      → AreSites modules home name elaborated → IsPlaced Plain modules home name (meaning_of elaborated).global u
 
 abbrev pub StopsNamed : NamedElaborated → EditFault → Type 0
 StopsNamed x (edit.Project u) = IsUnprojected x u
@@ -103,6 +112,7 @@ pub record IsProjectionOf (xs : List NamedElaborated) (y : NamedMeaning) : Type 
   pub there : Contains xs source
   pub named : y.name ≡ source.name
   pub means : meant y ≡ found source
+  pub plain : IsPlain (meant y)
 
 -- the projections of each, in the same order
 pub record AreProjected (xs : List NamedElaborated) (ys : List NamedMeaning) : Type 0 where

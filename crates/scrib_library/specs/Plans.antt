@@ -13,7 +13,7 @@ use Rattle.scrib_library.specs.Modules.{Means, IsMeaning, AreMeant}
 use Rattle.scrib_library.specs.Listed.{AreInOrder}
 use Rattle.scrib_library.specs.Edits.{HasRoom, ModuleFails}
 use Rattle.scrib_library.specs.Stored.{IsSpelled, IsLibrary}
-use Rattle.scrib_library.specs.Elaborated.{meant, meaning_names}
+use Rattle.scrib_library.specs.Elaborated.{IsPlain, meant, meaning_names}
 use Rattle.scrib_library.specs.Drafts.{shown, IsDraft}
 
 -- the plan is a draft for these meanings, and tells its changes
@@ -23,10 +23,11 @@ pub record IsPlanFor (versions : List NamedVersion) (ys : List NamedMeaning) (us
   pub list : p.changes.list ≡ shown p.edits.items
 
 -- These are the meanings of names after an edit, each other name means what it did before, and all that is declared
--- means something.
+-- means something. What they are projects by the plain merge.
 pub record IsCovered (before after : List ModuleTree) (ys : List NamedMeaning) : Type 0 where
   pub same : (n : List (List ℕ)) → (Contains (meaning_names ys) n → ⊥) → (a : Agreement) → Means before n a ↔ Means after n a
   pub means : (y : NamedMeaning) → Contains ys y → IsMeaning after y.name (meant y)
+  pub plain : (y : NamedMeaning) → Contains ys y → IsPlain (meant y)
   pub meant_all : AreMeant after
 
 -- They cover the put of the module, whatever library it was put into.

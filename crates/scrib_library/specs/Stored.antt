@@ -7,7 +7,7 @@ use Rattle.scrib_elaborate.specs.Names.{distinct_names, module_names}
 use Rattle.scrib_record.specs.declared.version.Version.{Version}
 use Rattle.scrib_record.specs.Versions.{meaning_of, number_of}
 use Rattle.scrib_library.specs.declared.versions.NamedVersion.{NamedVersion}
-use Rattle.scrib_library.specs.Modules.{Means, AreImportsThere}
+use Rattle.scrib_library.specs.Modules.{Means, AreImportsThere, AreMeantPlainly}
 use Rattle.scrib_library.specs.Holdings.{Stamp}
 use Rattle.scrib_library.specs.Listed.{AreDeclaredNames}
 
@@ -45,10 +45,12 @@ pub record AreCounted (versions : List NamedVersion) (used : ℕ) : Type 0 where
   pub once : (v w : NamedVersion) → Contains versions v → Contains versions w → number_of v.version ≡ number_of w.version → v.name ≡ w.name
   pub few : used ≤ 65536
 
--- modules of different names whose imports are there, with a version of each protocol
+-- modules of different names whose imports are there, with a version of each protocol, and all these project by the
+-- plain merge
 pub record IsLibrary (modules : List ModuleTree) (versions : List NamedVersion) (used : ℕ) : Type 0 where
   pub distinct : distinct_names (module_names modules) ≡ true
   pub imports : AreImportsThere modules
   pub spelled : (m : ModuleTree) → Contains modules m → IsSpelled m
   pub stored : AreVersions modules versions
+  pub plain : AreMeantPlainly modules
   pub counted : AreCounted versions used

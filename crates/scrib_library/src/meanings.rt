@@ -15,6 +15,7 @@ use scrib_parser::tree::ModuleTree;
 use scrib_project::projected::ProjectedProtocol;
 use scrib_project::protocol::protocol_with_projections;
 use scrib_types::name::Dotted;
+use scrib_types::profile::Profile;
 use std::alloc::{AllocError, Global};
 
 /// What a name means, if anything, as it was elaborated.
@@ -35,7 +36,7 @@ pub struct NamedMeaning {
 ///
 /// # Errors
 /// `Elaborate` with a fault of the first protocol, in that order, that means nothing; if there is none `Project`
-/// with that of the first that has no projection on one of its roles; `OutOfMemory` where memory was refused.
+/// with that of the first that has no projection on one of its roles by the plain merge; `OutOfMemory` where memory was refused.
 pub fn meanings_of(
     alloc: Global,
     modules: &Modules,
@@ -137,7 +138,7 @@ fn project_named(alloc: Global, named: NamedElaborated) -> Result<NamedMeaning, 
 {
     let NamedElaborated { name, elaborated } = named;
     let projected = match elaborated {
-        Some(elaborated) => Some(protocol_with_projections(alloc, elaborated)?),
+        Some(elaborated) => Some(protocol_with_projections(alloc, elaborated, Profile::Plain)?),
         None => None,
     };
     Ok(NamedMeaning { name, projected })

@@ -1,6 +1,13 @@
 use Rattle.std.proofs.lemmas.Result.{err_from_is_err_and}
-use Rattle.scrib_library.proofs.Elaborating.{unprojected_named}
+use Rattle.scrib_library.proofs.Elaborating.{projected_named, nothing_named, unprojected_named}
+use Rattle.scrib_library.proofs.meanings.project_named.Goals.{in-Some+in_ok-protocol_with_projections-in-Some, in-None}
 use Rattle.scrib_library.proofs.meanings.project_named.Goals as goal
+
+pub returns-clause-ok : goal.returns-clause-ok
+returns-clause-ok c = elim c.match-elaborated.branch [
+  | in-Some+in_ok-protocol_with_projections-in-Some w ↦ projected_named c.args.named _ _ _ w.in-Some.is w.in_ok-protocol_with_projections-in-Some.ensures.value w.projected-is
+  | in-None w ↦ nothing_named c.args.named _ w.in-None.is w.projected-is
+]
 
 pub returns-in_err-protocol_with_projections-in-Some-clause-fault : goal.returns-in_err-protocol_with_projections-in-Some-clause-fault
 returns-in_err-protocol_with_projections-in-Some-clause-fault c =
