@@ -1,4 +1,5 @@
-//! Tests of the lower layers: tokens, trees, types, elaboration of large modules, machines and queues.
+//! Tests of the lower layers: tokens, trees, types, elaboration of large modules, projections, machines and
+//! queues.
 #![tactic(auto)]
 
 #[cfg(test)]
@@ -7,6 +8,8 @@ mod elaborating;
 mod grammar;
 #[cfg(test)]
 mod machines;
+#[cfg(test)]
+mod projecting;
 #[cfg(test)]
 mod queues;
 #[cfg(test)]
