@@ -42,7 +42,7 @@ impl RecentNames {
             return Name::from_bytes(alloc, bytes);
         }
         if let Some(kept) = &self.places[at] {
-            if kept.name.as_bytes() == bytes {
+            if kept.name.has_bytes(bytes) {
                 return Ok(Some(kept.name.copy()?));
             }
         }

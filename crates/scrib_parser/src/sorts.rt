@@ -1,9 +1,9 @@
 //! Dotted names that a text had before, to be shared by those that are the same.
 
-ghost use Rattle.std.specs.Prelude.{◌≡◌, ◌↔◌, ◌<◌, IsTrue, IfOk, [], length};
+ghost use Rattle.std.specs.Prelude.{◌≡◌, ◌<◌, IfOk, [], length};
 
 use crate::places;
-use scrib_types::name::{Dotted, Name};
+use scrib_types::name::{Dotted, Name, names_equal};
 use std::alloc::{AllocError, Global};
 use std::mem;
 
@@ -48,7 +48,7 @@ impl RecentSorts {
             return Dotted::from_vec(alloc, names);
         }
         if let Some(kept) = &self.places[at] {
-            if same_names(kept.as_slice(), &names) {
+            if names_equal(kept.as_slice(), &names) {
                 let shared = kept.copy()?;
                 self.room = names;
                 return Ok(shared);
@@ -58,19 +58,4 @@ impl RecentSorts {
         self.places[at] = Some(dotted.copy()?);
         Ok(dotted)
     }
-}
-
-/// Whether both are the same names.
-fn same_names(a: &[Name], b: &[Name]) -> bool
-    ensures { IsTrue result ↔ (a.now ≡ b.now) }
-{
-    if a.len() != b.len() {
-        return false;
-    }
-    for i in 0..a.len() {
-        if !a[i].equal(&b[i]) {
-            return false;
-        }
-    }
-    true
 }

@@ -59,7 +59,14 @@ impl Name {
         ensures same { IsTrue result ↔ (self.now ≡ other.now) }
         ensures test { result ≡ bytes_eq self.now other.now }
     {
-        self.as_bytes() == other.as_bytes()
+        self.has_bytes(other.as_bytes())
+    }
+
+    /// Whether the name's bytes are these.
+    pub fn has_bytes(&self, bytes: &[u8]) -> bool
+        ensures { IsTrue result ↔ (self.now ≡ bytes.now) }
+    {
+        same_bytes(self.as_bytes(), bytes)
     }
 
     /// The same name once more.
@@ -165,7 +172,24 @@ pub fn is_name(bytes: &[u8]) -> bool
     is_letter(bytes[0]) && all_word(&bytes[1..])
 }
 
-fn names_equal(a: &[Name], b: &[Name]) -> bool
+/// Whether both are the same bytes. Names are short and mostly differ in length or near the front, so a plain loop is
+/// quicker than a comparison that is made for long texts.
+fn same_bytes(a: &[u8], b: &[u8]) -> bool
+    ensures { IsTrue result ↔ (a.now ≡ b.now) }
+{
+    if a.len() != b.len() {
+        return false;
+    }
+    for (x, y) in a.iter().zip(b) {
+        if x != y {
+            return false;
+        }
+    }
+    true
+}
+
+/// Whether both are the same names, in the same order.
+pub fn names_equal(a: &[Name], b: &[Name]) -> bool
     ensures { IsTrue result ↔ (a.now ≡ b.now) }
 {
     if a.len() != b.len() {
