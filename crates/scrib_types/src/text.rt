@@ -7,6 +7,7 @@ ghost use Rattle.scrib_types.specs.Texts as texts;
 use crate::event::Action;
 use crate::message::Message;
 use crate::name::{Dotted, Name};
+use itoa::Buffer;
 use std::alloc::AllocError;
 
 /// Adds the bytes.
@@ -23,8 +24,8 @@ pub fn push_bytes(out: &mut Vec<u8>, bytes: &[u8]) -> Result<(), AllocError>
 pub fn push_number(out: &mut Vec<u8>, number: u64) -> Result<(), AllocError>
     ensures { OnOk result (out.new.items ≡ out.old.items ++ decimal number) }
 {
-    let digits = number.to_string(*out.allocator())?;
-    out.extend_from_slice(digits.as_bytes())
+    let mut buffer = Buffer::new();
+    out.extend_from_slice(buffer.format(number).as_bytes())
 }
 
 /// Adds the names with dots between them, as `a.b`.
