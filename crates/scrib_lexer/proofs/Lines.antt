@@ -1,10 +1,12 @@
--- Tokens hold no line feed.
+-- Tokens hold no line feed, nor do comments to the line's end.
 use Rattle.std.proofs.Common.{◌≡◌, ℕ, Bool, true, false, List, [], ◌∷◌, refl, sym, ap, ◌∙◌}
 use Rattle.std.proofs.lemmas.Bool.{and_parts, false≢true, eqb-true}
 use Rattle.scrib_types.specs.Names.{is_letter, is_word_byte, all_word, is_name}
+use Rattle.scrib_lexer.specs.declared.token.Element.TheVariants as element
 use Rattle.scrib_lexer.specs.declared.token.TokenKind.TheVariants as kind
 use Rattle.scrib_lexer.specs.declared.token.TokenKind.{TokenKind}
 use Rattle.scrib_lexer.specs.Words.{is_line_feed, in_line, IsLexeme}
+use Rattle.scrib_lexer.specs.Pieces.{IsElement}
 use Rattle.scrib_lexer.proofs.Words.{named, keyword-name}
 use Rattle.scrib_lexer.proofs.Quotes.{in_line-push, quotable-in_line}
 
@@ -40,3 +42,6 @@ token-in_line kind.OpenBrace bytes h = ap in_line h
 token-in_line kind.CloseBrace bytes h = ap in_line h
 token-in_line kind.OpenAngle bytes h = ap in_line h
 token-in_line kind.CloseAngle bytes h = ap in_line h
+
+pub comment-in_line : (bytes : List ℕ) → IsElement element.LineComment bytes → in_line bytes ≡ true
+comment-in_line bytes h = ap in_line h.1 ∙ h.2

@@ -46,6 +46,12 @@ pub fn lex<'a>(alloc: Global, text: &'a [u8]) -> Result<Vec<Token<'a>>, LexFault
     let mut start = 0;
     let mut spot = Spot { line: 1, column: 1 };
     while start < text.len() {
+        let first = text[start];
+        if is_space(first) {
+            spot = past(spot, first);
+            start += 1;
+            continue;
+        }
         let (element, len) = front_element(&text[start..], spot)?;
         let bytes = &text[start..start + len];
         let behind = past_element(element, spot, bytes);
@@ -147,8 +153,8 @@ fn front_comment(text: &[u8], at: Spot) -> Result<(Element, usize), LexFault>
     }
 }
 
-/// The place behind the element, of which the first byte is at the place. A token holds no line feed, so its bytes
-/// aren't read once more.
+/// The place behind the element, of which the first byte is at the place. A token holds no line feed, nor does a
+/// comment to the line's end, so their bytes aren't read once more.
 fn past_element(element: Element, spot: Spot, bytes: &[u8]) -> Spot
     requires element { IsElement element bytes.now }
     requires line { spot.line + length bytes.now < 2 ^ 32 }
@@ -156,7 +162,7 @@ fn past_element(element: Element, spot: Spot, bytes: &[u8]) -> Spot
     ensures { result ≡ spot_past_all spot bytes.now }
 {
     match element {
-        Element::Token(_) => Spot {
+        Element::Token(_) | Element::LineComment => Spot {
             line: spot.line,
             column: spot.column + bytes.len() as u32,
         },

@@ -1,13 +1,42 @@
-use Rattle.std.proofs.Common.{◌≡◌, ◌+◌, ◌-◌, take, drop, sym, ap, ◌∙◌, subst, arith}
-use Rattle.std.proofs.lemmas.List.{take_rest, length-take-le, length-take, length-drop}
+use Rattle.std.proofs.Common.{◌≡◌, ◌+◌, ◌-◌, ◌<◌, true, ◌∷◌, length, get_or, take, drop, refl, sym, ap, ◌∙◌, subst, arith}
+use Rattle.std.proofs.lemmas.List.{drop_more, take_more, take_rest, length-take-le, length-take, length-drop}
 use Rattle.std.proofs.lemmas.Result.{err_from_is_err_and}
 use Rattle.scrib_lexer.specs.Lexeme.{lexemes_of}
 use Rattle.scrib_lexer.specs.Pieces.{IsElement}
-use Rattle.scrib_lexer.specs.Steps.{spot_past_all}
-use Rattle.scrib_lexer.proofs.Spots.{column-le}
+use Rattle.scrib_lexer.specs.Tokens.{spot_after}
+use Rattle.scrib_lexer.specs.declared.token.Element.TheVariants as element
+use Rattle.scrib_lexer.specs.Steps.{IsFrontElement, spot_past, spot_past_all}
+use Rattle.scrib_lexer.specs.Words.{is_space}
+use Rattle.scrib_lexer.proofs.Spots.{column-le, spot_after-push}
 use Rattle.scrib_lexer.proofs.Read.{IsRead, read_token, read_other, spot_more, fault_here, placed, is_faulty, no_tokens, fails_as, refused_as, end_found, end_only, no_fault}
 use Rattle.scrib_lexer.proofs.lex.lex.Goals as goal
 use Rattle.scrib_lexer.proofs.lex.lex.Goals.{in-Token+in_ok-push, in_default}
+
+pub past-spot-requires-clause-column : goal.past-spot-requires-clause-column
+past-spot-requires-clause-column c =
+    let i = c.loop-start.start in
+    let text = c.args.text.now in
+    omega (arith, column-le (take i text), ap (λ s. s.column) c.loop-start.invariant.place, length-take-le i text c.loop-start.invariant.within)
+
+-- a byte of white space is a piece by itself
+pub loop-start-preserved-then-is_space : goal.loop-start-preserved-then-is_space
+loop-start-preserved-then-is_space c =
+    let i = c.loop-start.start in
+    let text = c.args.text.now in
+    let below : i < length text = c.loop-start-test.true in
+    let space : is_space (get_or text i 0) ≡ true = sym c.if-is_space.ensures in
+    let front : IsFrontElement (get_or text i 0 ∷ drop (i + 1) text) element.Space 1 = record {
+      some = omega arith;
+      within = omega arith;
+      whole = (get_or text i 0, refl, space);
+      longest = tt;
+    } in
+    let here = subst (λ x. IsFrontElement x element.Space 1) (sym (drop_more text i 0 below)) front in
+    record {
+      within = omega arith;
+      place = c.past-spot.ensures ∙ ap (λ s. spot_past s (get_or text i 0)) c.loop-start.invariant.place ∙ sym (ap spot_after (take_more text i 0 below) ∙ spot_after-push (take i text) (get_or text i 0));
+      read = read_other text i 1 element.Space _ (λ k e. cc) here c.loop-start.invariant.read;
+    }
 
 pub front_element-requires-clause-column : goal.front_element-requires-clause-column
 front_element-requires-clause-column c =
