@@ -16,7 +16,11 @@ use scrib_types::local::Local;
 use scrib_types::name::Role;
 use scrib_types::plain::Items;
 use scrib_types::shared_message::SharedMessage;
+use smallvec::SmallVec;
 use std::alloc::{AllocError, Global};
+
+/// For so many branches of a choice, which few choices exceed, the states in which they begin need no buffer.
+const FEW: usize = 4;
 
 /// The machine of the local type: its states stand for what can follow in the type, and its paths from
 /// the start are the type's traces. A state is an end or a choice of the type; a variable leads to where
@@ -69,14 +73,14 @@ fn lay(
             let at = rows.len();
             rows.push(Items::new(alloc))?;
             let nexts = lay_all(alloc, branches.as_slice(), rows, outer)?;
-            rows[at] = sends(alloc, to, branches.as_slice(), &nexts)?;
+            rows[at] = sends(alloc, to, branches.as_slice(), nexts.as_slice())?;
             Ok(at as State)
         }
         Local::Recv { from, branches } => {
             let at = rows.len();
             rows.push(Items::new(alloc))?;
             let nexts = lay_all(alloc, branches.as_slice(), rows, outer)?;
-            rows[at] = receptions(alloc, from, branches.as_slice(), &nexts)?;
+            rows[at] = receptions(alloc, from, branches.as_slice(), nexts.as_slice())?;
             Ok(at as State)
         }
     }
@@ -89,14 +93,14 @@ fn lay_all(
     branches: &[(SharedMessage, Local)],
     rows: &mut Vec<Items<Edge>>,
     outer: &mut Vec<State>,
-) -> Result<Vec<State>, AllocError>
+) -> Result<SmallVec<State, FEW>, AllocError>
     requires room { length rows.old.items + nodes_all (local_branches branches.now) ≤ most_nodes }
     requires closed { ClosedAll (local_branches branches.now) (length outer.old.items) }
     requires distinct { DistinctAll (local_branches branches.now) }
     ensures placed { IfOk result (λ nexts. layout.PlacedAll rows.old.items rows.new.items (reverse outer.old.items) (local_branches branches.now) nexts.items) }
     ensures outer { OnOk result (outer.new.items ≡ outer.old.items) }
 {
-    let mut nexts = Vec::with_capacity(alloc, branches.len())?;
+    let mut nexts = SmallVec::new(alloc);
     for (_, local) in branches {
         let next = lay(alloc, local, rows, outer)?;
         nexts.push(next)?;

@@ -60,7 +60,7 @@ pub lay_all-loop-local-preserved : goal.lay_all-loop-local-preserved
 lay_all-loop-local-preserved t c =
     let env : reverse c.loop-local.outer.items ≡ reverse c.lay.new.outer.items = ap reverse (sym c.in_ok-next.ensures.outer) in (
       subst (λ (e : List ℕ). PlacedAll c.args.rows.now.items c.lay.new.rows.items e (local_branches (take (c.loop-local.local-index + 1) c.args.branches.now)) c.push.new.self.items) env
-          (all_more c.args.rows.now.items c.loop-local.rows.items c.lay.new.rows.items (reverse c.loop-local.outer.items) c.args.branches.now c.loop-local.local-index c.loop-local-item.result c.loop-local.nexts.items c.push.new.self.items c.in_ok-next.next c.loop-local-test.true c.loop-local-item.is c.loop-local.invariant.0 c.in_ok-next.ensures.placed c.in_ok-push.ensures.items),
+          (all_more c.args.rows.now.items c.loop-local.rows.items c.lay.new.rows.items (reverse c.loop-local.outer.items) c.args.branches.now c.loop-local.local-index c.loop-local-item.result c.loop-local.nexts.items c.push.new.self.items c.in_ok-next.next c.loop-local-test.true c.loop-local-item.is c.loop-local.invariant.0 c.in_ok-next.ensures.placed c.in_ok-push.ensures.ok),
       c.in_ok-next.ensures.outer ∙ c.loop-local.invariant.1,
     )
 
@@ -80,7 +80,7 @@ lay-lay_all-requires t c =
 
 pub lay-sends-requires-clause-each : goal.lay-sends-requires-clause-each
 lay-sends-requires-clause-each t c =
-    ap length c.deref.ensures.value
+    ap length c.as_slice-in-Send-2.ensures
     ∙ each_next c.lay_all.new.rows.items (reverse c.args.outer.now.items) c.as_slice.result.now (length c.push-in-Send.new.self.items) c.in_ok-nexts-in-Send.nexts.items c.in_ok-nexts-in-Send.ensures.placed.laid
     ∙ ap (λ (bs : List (Message × Local)). length bs) (c.as_slice.ensures ∙ sym c.as_slice-in-Send.ensures)
 
@@ -94,7 +94,7 @@ lay-returns-in_ok-rows-in-Send-clause-placed t c =
     subst (λ (xs : List (Message × Local)). PlacedAll c.push-in-Send.new.self.items c.lay_all.new.rows.items (reverse c.args.outer.now.items) (local_branches xs) ks) c.as_slice.ensures c.in_ok-nexts-in-Send.ensures.placed in
     let same : IsPermutation (edges_of a (local_branches bs) ks) es =
     subst (λ (xs : List (Message × Local)). IsPermutation (edges_of a (local_branches xs) ks) es) c.as_slice-in-Send.ensures
-    (subst (λ (xs : List ℕ). IsPermutation (edges_of a (local_branches c.as_slice-in-Send.result.now) xs) es) c.deref.ensures.value c.in_ok-rows-in-Send.ensures.same) in
+    (subst (λ (xs : List ℕ). IsPermutation (edges_of a (local_branches c.as_slice-in-Send.result.now) xs) es) c.as_slice-in-Send-2.ensures c.in_ok-rows-in-Send.ensures.same) in
     let at : c.len-at-in-Send.result ≡ length c.args.rows.now.items = search rules in
     placed_send c.args.rows.now.items c.push-in-Send.new.self.items c.lay_all.new.rows.items _ (reverse c.args.outer.now.items) (local_of c.args.local.now) c.in-Send.to (local_branches bs) ks es c.len-at-in-Send.result
     (ap local_of c.in-Send.is ∙ send_of c.in-Send.to bs)
@@ -117,7 +117,7 @@ lay-lay_all-requires-in-Recv t c =
 
 pub lay-receptions-requires-clause-each : goal.lay-receptions-requires-clause-each
 lay-receptions-requires-clause-each t c =
-    ap length c.deref-in-Recv.ensures.value
+    ap length c.as_slice-in-Recv-3.ensures
     ∙ each_next c.lay_all-in-Recv.new.rows.items (reverse c.args.outer.now.items) c.as_slice-in-Recv.result.now (length c.push-in-Recv.new.self.items) c.in_ok-nexts-in-Recv.nexts.items c.in_ok-nexts-in-Recv.ensures.placed.laid
     ∙ ap (λ (bs : List (Message × Local)). length bs) (c.as_slice-in-Recv.ensures ∙ sym c.as_slice-in-Recv-2.ensures)
 
@@ -131,7 +131,7 @@ lay-returns-in_ok-rows-in-Recv-clause-placed t c =
     subst (λ (xs : List (Message × Local)). PlacedAll c.push-in-Recv.new.self.items c.lay_all-in-Recv.new.rows.items (reverse c.args.outer.now.items) (local_branches xs) ks) c.as_slice-in-Recv.ensures c.in_ok-nexts-in-Recv.ensures.placed in
     let same : IsPermutation (edges_of a (local_branches bs) ks) es =
     subst (λ (xs : List (Message × Local)). IsPermutation (edges_of a (local_branches xs) ks) es) c.as_slice-in-Recv-2.ensures
-    (subst (λ (xs : List ℕ). IsPermutation (edges_of a (local_branches c.as_slice-in-Recv-2.result.now) xs) es) c.deref-in-Recv.ensures.value c.in_ok-rows-in-Recv.ensures.same) in
+    (subst (λ (xs : List ℕ). IsPermutation (edges_of a (local_branches c.as_slice-in-Recv-2.result.now) xs) es) c.as_slice-in-Recv-3.ensures c.in_ok-rows-in-Recv.ensures.same) in
     let at : c.len-at-in-Recv.result ≡ length c.args.rows.now.items = search rules in
     placed_recv c.args.rows.now.items c.push-in-Recv.new.self.items c.lay_all-in-Recv.new.rows.items _ (reverse c.args.outer.now.items) (local_of c.args.local.now) c.in-Recv.from (local_branches bs) ks es c.len-at-in-Recv.result
     (ap local_of c.in-Recv.is ∙ recv_of c.in-Recv.from bs)
