@@ -58,7 +58,8 @@ fn push_names(out: &mut Vec<u8>, names: &[Name]) -> Result<(), AllocError>
         out.push(1)?;
         push_name(out, name)?;
     }
-    push_bytes(out, &[0])
+    out.push(0)?;
+    Ok(())
 }
 
 /// Adds each of the types after a 1, and a 0 at the end.
@@ -69,7 +70,8 @@ fn push_payload(out: &mut Vec<u8>, sorts: &[Dotted]) -> Result<(), AllocError>
         out.push(1)?;
         push_names(out, sort.as_slice())?;
     }
-    push_bytes(out, &[0])
+    out.push(0)?;
+    Ok(())
 }
 
 /// Adds the operator after a 1, or 0 where there is none.
@@ -81,7 +83,10 @@ fn push_operator(out: &mut Vec<u8>, op: &Option<Name>) -> Result<(), AllocError>
             out.push(1)?;
             push_name(out, name)
         }
-        None => push_bytes(out, &[0]),
+        None => {
+            out.push(0)?;
+            Ok(())
+        }
     }
 }
 
