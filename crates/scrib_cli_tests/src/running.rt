@@ -7,6 +7,7 @@ use scrib_cli::run_script::{Format, ScriptFault, run_script};
 use std::alloc::{AllocError, Global};
 use std::io;
 use std::io::{ErrorKind, Read, Write};
+use std::process::Abort;
 use std::test::Fail;
 
 // Gives the script in pieces, and fails at one call.
@@ -104,57 +105,98 @@ const DEMO: &[u8] =
 const DEMO_OUTPUT: &[u8] =
     b"put demo: +demo.Hello\nopen 1: demo.Hello\n1.1 permitted\n1.2 permitted\n1.3 permitted\n1.4 permitted\n1.5 permitted\n1.6 permitted\n";
 
+// A protocol that another module's calls, and that changes.
+const CALLED: &[u8] =
+    b"put\nmodule lib; global protocol P(role A, role B) { a() from A to B; }\n%%\nput\nmodule use; import lib; global protocol Q(role A, role B) { do lib.P(A, B); }\n%%\nput\nmodule demo; global protocol Hello(role A, role B) { hello() from A to B; bye() from B to A; }\n%%\nopen 1 use.Q\nopen 2 demo.Hello\nput\nmodule lib; global protocol P(role A, role B) { a(Int) from A to B; }\n%%\nask 1\nask 2\nturn 1\n";
+
+const CALLED_OUTPUT: &[u8] =
+    b"put lib: +lib.P\nput use: +use.Q\nput demo: +demo.Hello\nopen 1: use.Q\nopen 2: demo.Hello\nput lib: ~lib.P ~use.Q\n1 stale\n2 permitted\n1 permitted\n";
+
+// A script that ends inside a module.
+const CUT: &[u8] = b"put\nmodule demo; global protocol Hello(role A, role B) { hello() from\n";
+
+const CUT_OUTPUT: &[u8] = b"refused EndOfText\n";
+
+const SCRIPTS: [(&[u8], &[u8]); 3] = [
+    (DEMO, DEMO_OUTPUT),
+    (CALLED, CALLED_OUTPUT),
+    (CUT, CUT_OUTPUT),
+];
+
+// More calls than any of these scripts takes.
+const MANY_CALLS: u32 = 2_000;
+
 #[test]
-fn runs_the_demonstration(rt: HostRuntime) -> Result<(), Fail> {
+fn runs_scripts_by_pieces(rt: HostRuntime) -> Result<(), Fail> {
     for size in [1usize, 2, 7] {
-        let (result, output) = outcome(rt.alloc(), DEMO, size, 0, 0);
-        result?;
-        assert_eq!(rt; output.as_slice(), DEMO_OUTPUT);
+        for (script, want) in SCRIPTS {
+            let (result, output) = outcome(rt.alloc(), script, size, 0, 0);
+            result?;
+            assert_eq!(rt; output.as_slice(), want);
+        }
     }
     Ok(())
 }
 
-#[test]
-fn stops_at_a_failing_read(rt: HostRuntime) -> Result<(), Fail> {
-    for size in [1usize, 2, 7] {
-        for at in 1..1000u32 {
-            let (result, output) = outcome(rt.alloc(), DEMO, size, at, 0);
-            assert!(rt;
-                DEMO_OUTPUT.starts_with(output.as_slice()),
-                "reads of {size}, failing at {at}"
-            );
-            if result.is_ok() {
-                assert_eq!(rt; output.as_slice(), DEMO_OUTPUT);
-                break;
+// Fails read 1, then 2 and so on, or each write and flush, until no call fails. What was written until then is a
+// beginning of the output.
+fn fail_in_turn(
+    rt: &impl Abort,
+    alloc: Global,
+    (script, want): (&[u8], &[u8]),
+    size: usize,
+    in_reads: bool,
+) {
+    for at in 1..MANY_CALLS {
+        let (read, write) = if in_reads { (at, 0) } else { (0, at) };
+        let (result, output) = outcome(alloc, script, size, read, write);
+        assert!(rt;
+            want.starts_with(output.as_slice()),
+            "pieces of {size}, failing at {at}"
+        );
+        match result {
+            Ok(()) => {
+                assert_eq!(rt; output.as_slice(), want);
+                return;
             }
-            assert!(rt;
-                matches!(result, Err(ScriptFault::Read)),
-                "reads of {size}, failing at {at}"
-            );
+            Err(ScriptFault::Read) => assert!(rt; in_reads, "read fault at {at}"),
+            Err(ScriptFault::Write) => assert!(rt; !in_reads, "write fault at {at}"),
+            Err(_) => assert!(rt; false, "another fault at {at}"),
         }
     }
+    assert!(rt; false, "a fault at each call");
+}
+
+// The same in pieces of each size.
+fn fail_in_pieces(rt: &impl Abort, alloc: Global, script: (&[u8], &[u8]), in_reads: bool) {
+    for size in [1usize, 2, 7] {
+        fail_in_turn(rt, alloc, script, size, in_reads);
+    }
+}
+
+#[test]
+fn stops_at_a_failing_read(rt: HostRuntime) -> Result<(), Fail> {
+    fail_in_pieces(&rt, rt.alloc(), (DEMO, DEMO_OUTPUT), true);
+    fail_in_pieces(&rt, rt.alloc(), (CUT, CUT_OUTPUT), true);
+    Ok(())
+}
+
+#[test]
+fn stops_at_a_failing_read_between_modules(rt: HostRuntime) -> Result<(), Fail> {
+    fail_in_pieces(&rt, rt.alloc(), (CALLED, CALLED_OUTPUT), true);
     Ok(())
 }
 
 #[test]
 fn stops_at_a_failing_write(rt: HostRuntime) -> Result<(), Fail> {
-    for size in [1usize, 2, 7] {
-        for at in 1..1000u32 {
-            let (result, output) = outcome(rt.alloc(), DEMO, size, 0, at);
-            assert!(rt;
-                DEMO_OUTPUT.starts_with(output.as_slice()),
-                "writes of {size}, failing at {at}"
-            );
-            if result.is_ok() {
-                assert_eq!(rt; output.as_slice(), DEMO_OUTPUT);
-                break;
-            }
-            assert!(rt;
-                matches!(result, Err(ScriptFault::Write)),
-                "writes of {size}, failing at {at}"
-            );
-        }
-    }
+    fail_in_pieces(&rt, rt.alloc(), (DEMO, DEMO_OUTPUT), false);
+    fail_in_pieces(&rt, rt.alloc(), (CUT, CUT_OUTPUT), false);
+    Ok(())
+}
+
+#[test]
+fn stops_at_a_failing_write_between_modules(rt: HostRuntime) -> Result<(), Fail> {
+    fail_in_pieces(&rt, rt.alloc(), (CALLED, CALLED_OUTPUT), false);
     Ok(())
 }
 

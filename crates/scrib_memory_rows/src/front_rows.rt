@@ -1,0 +1,140 @@
+//! Rows of the front end, of machines and of queues.
+
+use crate::core_rows::is_refused;
+use crate::fault::{RowFault, again, check};
+use crate::making::{event_of, step_of};
+use crate::rows::{DEMO, PUT_DEMO, PUT_TWO_OF_THREE};
+use crate::script_rows::page;
+use scrib_cli::fault::ScriptFault;
+use scrib_cli::project::project_text;
+use scrib_core::monitor::Core;
+use scrib_lexer::fault::LexFault;
+use scrib_lexer::lex::lex;
+use scrib_local::projection::project_type;
+use scrib_machine::compile::compile;
+use scrib_machine::machine::{Machine, State};
+use scrib_queues::queues::Queues;
+use scrib_types::event::{Action, Event};
+use scrib_types::global::GlobalType;
+use scrib_types::plain::Items;
+use scrib_types::profile::Profile;
+use scrib_types::protocol::Protocol;
+use scrib_types::shared_message::SharedMessage;
+use scrib_types::text::push_action;
+use std::alloc::Global;
+
+fn check_tokens(alloc: Global) -> Result<(), RowFault> {
+    match lex(alloc, DEMO.as_bytes()) {
+        Ok(tokens) => check(
+            tokens.len() == 31 && tokens[0].start == 0 && tokens[0].bytes.len() == 6,
+        ),
+        Err(LexFault::OutOfMemory) => Err(RowFault::Memory),
+        Err(_) => Err(RowFault::Wrong),
+    }
+}
+
+fn texts(alloc: Global) -> Result<Vec<Option<Items<u8>>>, RowFault> {
+    let mut texts = Vec::with_capacity(alloc, 1)?;
+    texts.push(Some(Items::from_slice(alloc, DEMO.as_bytes())?))?;
+    Ok(texts)
+}
+
+// What the role's projection prints, or nothing where memory is refused.
+fn check_projection(alloc: Global, role: &str, want: &str) -> Result<(), RowFault> {
+    let texts = again(|| texts(alloc))?;
+    let mut written = page(alloc)?;
+    match project_text(alloc, "demo.Hello", role, &texts, &mut written) {
+        Ok(_) => check(written.as_slice() == want.as_bytes()),
+        Err(ScriptFault::OutOfMemory) => {
+            check(written.is_empty())?;
+            Err(RowFault::Memory)
+        }
+        Err(_) => Err(RowFault::Wrong),
+    }
+}
+
+// A core with a conversation of the one protocol of the module.
+fn core_of(alloc: Global, module: &str, opening: &str) -> Result<Core, RowFault> {
+    let mut core = Core::new(alloc);
+    for text in [module, opening] {
+        if is_refused(&core.apply(step_of(alloc, text)?.1)) {
+            return Err(RowFault::Memory);
+        }
+    }
+    Ok(core)
+}
+
+fn protocol_of(core: &Core) -> Result<&Protocol, RowFault> {
+    match core.view(1) {
+        Some((Some(protocol), _)) => Ok(protocol),
+        _ => Err(RowFault::Wrong),
+    }
+}
+
+// The state to which the one edge of this state leads, whose action has this text.
+fn behind(alloc: Global, machine: &Machine, state: State, text: &str) -> Result<State, RowFault> {
+    let [edge] = machine.edges(state) else {
+        return Err(RowFault::Wrong);
+    };
+    check(again(|| action_text(alloc, &edge.action))?.as_slice() == text.as_bytes())?;
+    Ok(edge.next)
+}
+
+fn action_text(alloc: Global, action: &Action) -> Result<Vec<u8>, RowFault> {
+    let mut text = Vec::new(alloc);
+    push_action(&mut text, action)?;
+    Ok(text)
+}
+
+/// The tokens of a module, the projections of its protocol, and the machine of one.
+pub(crate) fn run_front_end(alloc: Global) -> Result<(), RowFault> {
+    again(|| check_tokens(alloc))?;
+    again(|| check_projection(alloc, "A", "B!hello().B?bye().end\n"))?;
+    again(|| check_projection(alloc, "B", "A?hello().A!bye().end\n"))?;
+    let core = again(|| core_of(alloc, PUT_DEMO, "open 1 demo.Hello"))?;
+    let protocol = protocol_of(&core)?;
+    let sender = &protocol.roles()[0];
+    let local = again(|| project_type(alloc, protocol.global(), sender, Profile::Plain)?.ok_or(
+        RowFault::Wrong,
+    ))?;
+    let machine = again(|| Ok(compile(alloc, &local)?))?;
+    let sent = behind(alloc, &machine, machine.start(), "B!hello()")?;
+    let received = behind(alloc, &machine, sent, "B?bye()")?;
+    check(machine.edges(received).is_empty())
+}
+
+fn message_of(alloc: Global) -> Result<SharedMessage, RowFault> {
+    match event_of(alloc, "send 0 A B a()")? {
+        Event::Sent { message, .. } => Ok(message),
+        _ => Err(RowFault::Wrong),
+    }
+}
+
+fn is(front: Option<&SharedMessage>, message: &SharedMessage) -> bool {
+    front.is_some_and(|front| front.equal(message))
+}
+
+/// A queue and its copy.
+pub(crate) fn run_queues(alloc: Global) -> Result<(), RowFault> {
+    let message = again(|| message_of(alloc))?;
+    let pushed = again(|| Ok(message.copy()?))?;
+    let mut queues = Queues::new(alloc, 2);
+    if queues.reserve(0, 1).is_err() {
+        check(queues.front(0, 1).is_none())?;
+        queues.reserve(0, 1)?;
+    }
+    queues.push(0, 1, pushed);
+    let copy = again(|| Ok(queues.copy(alloc)?))?;
+    check(is(queues.front(0, 1), &message) && is(copy.front(0, 1), &message))?;
+    check(queues.front(1, 0).is_none())?;
+    let popped = queues.pop(0, 1);
+    check(is(popped.as_ref(), &message) && queues.pop(0, 1).is_none())
+}
+
+/// A global type and its copy.
+pub(crate) fn run_copies(alloc: Global) -> Result<(), RowFault> {
+    let core = again(|| core_of(alloc, PUT_TWO_OF_THREE, "open 1 v.V"))?;
+    let global = protocol_of(&core)?.global();
+    let copy = again(|| Ok(GlobalType::copy(alloc, global)?))?;
+    check(GlobalType::equal(&copy, global))
+}

@@ -1,0 +1,170 @@
+//! Rows of calls of a service.
+
+use crate::fault::{RowFault, again, check};
+use crate::making::{event_of, name_of};
+use crate::rows::{CHOICE, LOOP};
+use scrib_core::reply::Refusal;
+use scrib_library::fault::EditFault;
+use scrib_rejudge::alone::sweep_alone;
+use scrib_report::table::table;
+use scrib_shards::fault::SettleFault;
+use scrib_shards::gate::OpenGate;
+use scrib_shards::pass::Pass;
+use scrib_shards::passing::PassRefusal;
+use scrib_shards::service::{Service, ServiceFault};
+use scrib_types::event::Event;
+use std::alloc::Global;
+use std::sync::Wait;
+
+// How many events each pass notes, and after how many of them the protocol is edited.
+const EVENTS: usize = 1_000;
+
+const EVENTS_BETWEEN_EDITS: usize = 100;
+
+const TABLE: &str =
+    "         0     1000 permitted k.K\n         1     1000 permitted k.K\ntotal 2 conversations, 2000 events\n";
+
+impl From<ServiceFault> for RowFault {
+    fn from(fault: ServiceFault) -> RowFault {
+        match fault {
+            ServiceFault::OutOfMemory => RowFault::Memory,
+            ServiceFault::BadShards => RowFault::Wrong,
+        }
+    }
+}
+
+impl From<EditFault> for RowFault {
+    fn from(fault: EditFault) -> RowFault {
+        match fault {
+            EditFault::OutOfMemory => RowFault::Memory,
+            _ => RowFault::Wrong,
+        }
+    }
+}
+
+impl From<Refusal> for RowFault {
+    fn from(refusal: Refusal) -> RowFault {
+        match refusal {
+            Refusal::OutOfMemory => RowFault::Memory,
+            _ => RowFault::Wrong,
+        }
+    }
+}
+
+impl From<PassRefusal> for RowFault {
+    fn from(refusal: PassRefusal) -> RowFault {
+        match refusal {
+            PassRefusal::Step(refusal) => RowFault::from(refusal),
+            PassRefusal::Mismatch { .. } => RowFault::Wrong,
+        }
+    }
+}
+
+// A service of two shards, with a conversation in each.
+fn opened(rt: &impl Wait, alloc: Global) -> Result<Service, RowFault> {
+    let service = Service::new(alloc, 2)?;
+    again(|| Ok(service.put(rt, LOOP.as_bytes())?))?;
+    let name = again(|| name_of(alloc, "open 0 k.K"))?;
+    for id in 0..2 {
+        again(|| Ok(service.open(rt, id, &name)?))?;
+    }
+    Ok(service)
+}
+
+// Notes the event. Where memory is refused, the pass is to stand as before, and the event is noted once more.
+fn note(rt: &impl Wait, service: &Service, pass: &mut Pass, event: &Event) -> Result<(), RowFault> {
+    let receipts = pass.receipts().len();
+    let first = again(|| Ok(event.copy()?))?;
+    let noted = match service.note(rt, pass, first, &OpenGate) {
+        Err(PassRefusal::Step(Refusal::OutOfMemory)) => {
+            check(pass.receipts().len() == receipts)?;
+            service.ask(rt, pass)?;
+            service.note(rt, pass, event.copy()?, &OpenGate)?
+        }
+        noted => noted?,
+    };
+    check(noted.place == receipts + 1 && pass.receipts().len() == receipts + 1)
+}
+
+// Puts the module's two texts in turn.
+fn edit(rt: &impl Wait, service: &Service, number: usize) -> Result<(), RowFault> {
+    let text = if number.is_multiple_of(2) {
+        CHOICE
+    } else {
+        LOOP
+    };
+    let changes = again(|| Ok(service.put(rt, text.as_bytes())?))?;
+    check(changes.list.as_slice().len() == 1)
+}
+
+// Notes the events of both passes, while their protocol is edited ten times.
+fn note_all(
+    rt: &impl Wait,
+    alloc: Global,
+    service: &Service,
+    passes: &mut [Pass],
+) -> Result<(), RowFault> {
+    let joined = again(|| event_of(alloc, "join 0 A"))?;
+    let sent = again(|| event_of(alloc, "send 0 A B a()"))?;
+    for number in 0..EVENTS {
+        let event = if number == 0 { &joined } else { &sent };
+        for pass in passes.iter_mut() {
+            note(rt, service, pass, event)?;
+        }
+        if (number + 1).is_multiple_of(EVENTS_BETWEEN_EDITS) {
+            edit(rt, service, number / EVENTS_BETWEEN_EDITS)?;
+        }
+    }
+    Ok(())
+}
+
+// Settles the service with too few passes, which is refused and gives both back; once more where memory is refused.
+fn refuse_settling(service: Service, passes: Vec<Pass>) -> Result<(Service, Vec<Pass>), RowFault> {
+    let (fault, service, passes) = match service.settle(passes) {
+        Err((SettleFault::OutOfMemory, service, passes)) => match service.settle(passes) {
+            Err(refused) => refused,
+            Ok(_) => return Err(RowFault::Wrong),
+        },
+        Err(refused) => refused,
+        Ok(_) => return Err(RowFault::Wrong),
+    };
+    check(matches!(fault, SettleFault::PassesMissing { shard: 1 }))?;
+    Ok((service, passes))
+}
+
+// Settles the service, once more where memory is refused, and compares the table.
+fn settle(alloc: Global, service: Service, passes: Vec<Pass>) -> Result<(), RowFault> {
+    let settled = match service.settle(passes) {
+        Ok(settled) => settled,
+        Err((SettleFault::OutOfMemory, service, passes)) => match service.settle(passes) {
+            Ok(settled) => settled,
+            Err(_) => return Err(RowFault::Wrong),
+        },
+        Err(_) => return Err(RowFault::Wrong),
+    };
+    let text = again(|| Ok(table(alloc, settled.list.as_slice())?))?;
+    check(text.as_slice() == TABLE.as_bytes())
+}
+
+fn connected(rt: &impl Wait, alloc: Global, service: &Service) -> Result<Vec<Pass>, RowFault> {
+    let mut passes = again(|| Ok(Vec::with_capacity(alloc, 2)?))?;
+    for id in 0..2 {
+        passes.push(service.connect(rt, id)?)?;
+    }
+    Ok(passes)
+}
+
+/// Two conversations are noted by a pass each, while their protocol is edited; a sweep brings their verdicts up to date,
+/// and the service is settled, first without the second pass.
+pub(crate) fn run_passes(rt: &impl Wait, alloc: Global) -> Result<(), RowFault> {
+    let mut service = again(|| opened(rt, alloc))?;
+    let mut passes = connected(rt, alloc, &service)?;
+    note_all(rt, alloc, &service, &mut passes)?;
+    if sweep_alone(&mut service).is_err() {
+        sweep_alone(&mut service)?;
+    }
+    let second = passes.pop().ok_or(RowFault::Wrong)?;
+    let (service, mut passes) = refuse_settling(service, passes)?;
+    passes.push(second)?;
+    settle(alloc, service, passes)
+}
