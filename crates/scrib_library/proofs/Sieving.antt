@@ -1,14 +1,16 @@
 -- What a sieve lacks isn't among the names that it was made of.
 use Rattle.std.proofs.Common.{◌≡◌, ℕ, ◌+◌, ◌^◌, ◌<◌, ◌≤◌, List, [], ◌∷◌, length, get_or, take, inl, inr, sym, subst, arith}
+use Rattle.std.specs.Borrow.{Bor}
+use Rattle.std.specs.List.{Contains}
 use Rattle.std.specs.Int.{bit_at}
 use Rattle.std.specs.Int.Bits.{bit_or}
 use Rattle.std.proofs.lemmas.Nat.Bits.{bit_at_or, bit_at-lt, bit_at-pow_same}
 use Rattle.std.proofs.lemmas.List.{take_all}
 use Rattle.scrib_parser.specs.declared.tree.Import.{Import}
 use Rattle.scrib_parser.specs.declared.tree.ModuleTree.{ModuleTree}
-use Rattle.scrib_library.specs.Affected.{ImportsSome}
-use Rattle.scrib_library.specs.Sieve.{bit_of, IsSieve, LacksBit}
-use Rattle.scrib_library.proofs.Lists.{Contains-nil, Contains-cases}
+use Rattle.scrib_library.specs.Affected.{names_now, ImportsSome}
+use Rattle.scrib_library.specs.Sieve.{bit_of, IsSieve, AreSieved, LacksBit}
+use Rattle.scrib_library.proofs.Lists.{Contains-nil, Contains-cases, Contains-map_back}
 use Rattle.scrib_library.proofs.Entering.{taken_cases}
 
 -- a bit of one of two is one of both
@@ -44,3 +46,31 @@ sifted_out m s name h lacks i =
           absurd (omega (arith, has, lacks)))
       | inr p ↦ Contains-nil i.by.module p
     ]
+
+-- the sieve has the bit of each of these
+abbrev pub HasEach : List (Bor (List (List ℕ))) → ℕ → Type 0
+HasEach rs s = (r : Bor (List (List ℕ))) → Contains rs r → bit_at s (bit_of r.now) ≡ 1
+
+pub each_none : (rs : List (Bor (List (List ℕ)))) (s : ℕ) → HasEach (take 0 rs) s
+each_none rs s r p = absurd (Contains-nil r p)
+
+-- one name more
+pub each_more : (rs : List (Bor (List (List ℕ)))) (k : ℕ) (r : Bor (List (List ℕ))) (old new : ℕ) → k < length rs → r ≡ get_or rs k r → HasEach (take k rs) old → new ≡ bit_or old (2 ^ bit_of r.now) → HasEach (take (k + 1) rs) new
+each_more rs k r old new lt at h is_new q p =
+    let b = 2 ^ bit_of r.now in
+    let P : ℕ → Type 0 = λ s. bit_at s (bit_of q.now) ≡ 1 in
+    subst P (sym is_new) (elim (taken_cases rs k r lt at q p) [
+      | inl old_one ↦ or_left old b (bit_of q.now) (h q old_one)
+      | inr e ↦ (let Q : Bor (List (List ℕ)) → Type 0 = λ x. bit_at (bit_or old b) (bit_of x.now) ≡ 1 in subst Q e (or_right old b (bit_of r.now) (bit_at-pow_same (bit_of r.now))))
+    ])
+
+pub each_all : (rs : List (Bor (List (List ℕ)))) (k s : ℕ) → length rs ≤ k → HasEach (take k rs) s → AreSieved (names_now rs) s
+each_all rs k s le h n p =
+    let found = Contains-map_back (λ (r : Bor (List (List ℕ))). r.now) rs n p in
+    let P : List (Bor (List (List ℕ))) → Type 0 = λ l. HasEach l s in
+    let Q : List (List ℕ) → Type 0 = λ m. bit_at s (bit_of m) ≡ 1 in
+    subst Q found.2 (subst P (take_all k rs le) h found.0 found.1)
+
+-- a name whose bit lacks isn't one of those that were sieved
+pub lacks_none : (ns : List (List (List ℕ))) (s : ℕ) (name : List (List ℕ)) → AreSieved ns s → LacksBit s (bit_of name) → Contains ns name → ⊥
+lacks_none ns s name h lacks p = absurd (omega (arith, h name p, lacks))

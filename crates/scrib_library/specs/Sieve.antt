@@ -18,5 +18,9 @@ bit_of name = mixed 0 (last_name name)
 abbrev pub IsSieve : List Import → ℕ → Type 0
 IsSieve is s = (i : Import) → Contains is i → bit_at s (bit_of i.module) ≡ 1
 
+-- it has the bit of each of the names
+abbrev pub AreSieved : List (List (List ℕ)) → ℕ → Type 0
+AreSieved ns s = (n : List (List ℕ)) → Contains ns n → bit_at s (bit_of n) ≡ 1
+
 abbrev pub LacksBit : (sieve bit : ℕ) → Type 0
 LacksBit s b = bit_at s b ≡ 0

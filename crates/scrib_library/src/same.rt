@@ -7,7 +7,7 @@ use scrib_parser::tree::{
     Block, Import, ModuleTree, ProtocolDeclaration, RoleDeclaration, Statement,
 };
 use scrib_types::message::operators_equal;
-use scrib_types::name::Name;
+use scrib_types::name::names_equal;
 
 /// Whether the two modules are the same.
 pub fn same_module(a: &ModuleTree, b: &ModuleTree) -> bool
@@ -128,7 +128,7 @@ fn same_statement(a: &Statement, b: &Statement) -> bool
                 to: qs,
                 spot: t,
             },
-        ) => s == t && m.equal(n) && p.equal(q) && same_names(ps.as_slice(), qs.as_slice()),
+        ) => s == t && m.equal(n) && p.equal(q) && names_equal(ps.as_slice(), qs.as_slice()),
         (
             Statement::Choice {
                 at: p,
@@ -177,21 +177,7 @@ fn same_statement(a: &Statement, b: &Statement) -> bool
                 roles: qs,
                 spot: t,
             },
-        ) => s == t && d.equal(e) && same_names(ps.as_slice(), qs.as_slice()),
+        ) => s == t && d.equal(e) && names_equal(ps.as_slice(), qs.as_slice()),
         _ => false,
     }
-}
-
-fn same_names(a: &[Name], b: &[Name]) -> bool
-    ensures { IsTrue result → a.now ≡ b.now }
-{
-    if a.len() != b.len() {
-        return false;
-    }
-    for i in 0..a.len() {
-        if !a[i].equal(&b[i]) {
-            return false;
-        }
-    }
-    true
 }
