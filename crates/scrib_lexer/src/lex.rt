@@ -215,8 +215,8 @@ fn word_len(text: &[u8]) -> usize
     ensures word { IsTrue (names.all_word (take result text.now)) }
     ensures longest { words.begins_in_word (drop result text.now) ≡ false }
 {
-    for i in 0..text.len() {
-        if !is_word_byte(text[i]) {
+    for (i, byte) in text.iter().enumerate() {
+        if !is_word_byte(*byte) {
             return i;
         }
     }
@@ -229,8 +229,8 @@ fn line_len(text: &[u8]) -> usize
     ensures line { IsTrue (words.in_line (take result text.now)) }
     ensures longest { IsTrue (words.ends_line (drop result text.now)) }
 {
-    for i in 0..text.len() {
-        if text[i] == b'\n' {
+    for (i, byte) in text.iter().enumerate() {
+        if *byte == b'\n' {
             return i;
         }
     }
