@@ -16,7 +16,7 @@ use std::alloc::{AllocError, Global};
 const MAX_FILED: usize = 65_536;
 
 /// How many slots a new directory has for each protocol. One that has fewer than half as many is crowded.
-const SLOTS_EACH: usize = 16;
+const SLOTS_EACH: usize = 32;
 
 impl Directory {
     ghost use Rattle.std.specs.Prelude.{◌≡◌, ◌++◌, List, None, IfOk, MatchOption};
