@@ -200,6 +200,41 @@ fn stops_at_a_failing_write_between_modules(rt: HostRuntime) -> Result<(), Fail>
     Ok(())
 }
 
+// Asks, and then gives so many empty lines.
+#[derive(Drop)]
+struct Asking {
+    asks: &'static [u8],
+    blanks: usize,
+}
+
+impl Read for Asking {
+    fn read(&mut self, buf: &mut [u8]) -> io::Result<usize> {
+        if !self.asks.is_empty() {
+            return self.asks.read(buf);
+        }
+        let n = self.blanks.min(buf.len());
+        buf[..n].fill(b'\n');
+        self.blanks -= n;
+        Ok(n)
+    }
+}
+
+#[test]
+fn refuses_one_line_too_many(rt: HostRuntime) -> Result<(), Fail> {
+    for (blanks, is_refused) in [(16_777_215, false), (16_777_216, true)] {
+        let mut reader = Asking {
+            asks: b"ask 1\n",
+            blanks,
+        };
+        let mut written = Vec::new(rt.alloc());
+        let result = run_script(rt.alloc(), Format::Line, &mut reader, &mut written);
+        assert_eq!(rt; matches!(result, Err(ScriptFault::Read)), is_refused);
+        assert_eq!(rt; result.is_ok(), !is_refused);
+        assert_eq!(rt; written.as_slice(), b"refused NoConversation\n".as_slice());
+    }
+    Ok(())
+}
+
 // A comment of this many bytes, and a line that asks.
 fn long_script(alloc: Global, length: usize) -> Result<Vec<u8>, AllocError> {
     let mut script = vec![in alloc; b'#'; length]?;
