@@ -45,6 +45,34 @@ fn one_conversation_too_many(rt: HostRuntime) -> Result<(), Fail> {
     Ok(())
 }
 
+// A conversation of so many events, and what it is told.
+fn long_log(alloc: Global, events: u32) -> Result<(String, String), Fail> {
+    let mut script = String::from_str(
+        alloc,
+        "put\nmodule k; global protocol K(role A, role B) { rec X { a() from A to B; continue X; } }\n%%\nopen 1 k.K\njoin 1 A\njoin 1 B\n",
+    )?;
+    let mut lines = String::from_str(
+        alloc,
+        "put k: +k.K\nopen 1: k.K\n1.1 permitted\n1.2 permitted\n",
+    )?;
+    for event in 3..=events {
+        script.push_str("send 1 A B a()\n")?;
+        let line = format!(in alloc; "1.{event} permitted\n")?;
+        lines.push_str(line.as_str())?;
+    }
+    Ok((script, lines))
+}
+
+#[test]
+fn one_event_too_many(rt: HostRuntime) -> Result<(), Fail> {
+    let (mut script, mut want) = long_log(rt.alloc(), 65_536)?;
+    script.push_str("send 1 A B a()\nask 1\njoin 1 A\nask 1\n")?;
+    want.push_str("refused LogFull\n1 permitted\nrefused LogFull\n1 permitted\n")?;
+    let written = output_of(&rt, rt.alloc(), script.as_bytes())?;
+    assert!(rt; written.as_slice() == want.as_bytes());
+    Ok(())
+}
+
 // `module b;`, and on line i+2 a protocol Pi that calls the one before it twice; the first has this body.
 fn chain(alloc: Global, first: &str) -> Result<String, Fail> {
     let mut script = format!(in alloc;
