@@ -4,6 +4,7 @@ ghost use Rattle.std.specs.Prelude.{◌≡◌, ◌≤◌, ◌<◌, ◌++◌, ◌
 ghost use Rattle.scrib_script.specs.Scripts.{bare, NoLf};
 
 use crate::format::Format;
+use memchr::memchr;
 use std::alloc::AllocError;
 
 /// What is kept of a module text: one byte more than it may have.
@@ -45,5 +46,5 @@ pub(crate) fn next_lf(bytes: &[u8]) -> Option<usize>
     ensures lf { MatchOption result (NoLf bytes.now) (λ at. slice_index bytes.now at ≡ 10) }
     ensures before { MatchOption result (NoLf bytes.now) (λ at. NoLf (take at bytes.now)) }
 {
-    bytes.iter().position(|b| *b == b'\n')
+    memchr(b'\n', bytes)
 }
