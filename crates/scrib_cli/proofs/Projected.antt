@@ -6,7 +6,9 @@ use Rattle.std.proofs.lemmas.Slice.Eq.{bytes_eq-Decides}
 use Rattle.std.proofs.lemmas.List.{length-append, at_drop_more}
 use Rattle.scrib_types.specs.Agreement.{Agreement}
 use Rattle.scrib_types.specs.Trees.{GlobalTree, GlobalEnd, GlobalVar, GlobalRec, Comm, Flight, GlobalBranches, NoBranch, Branch, LocalTree}
+use Rattle.scrib_types.specs.declared.profile.Profile.TheVariants.{Plain}
 use Rattle.scrib_types.specs.Projection.{projection, is_closed}
+use Rattle.scrib_types.specs.Profiles.{keeps_plain_projections}
 use Rattle.scrib_types.specs.WellFormed.{has_role, well_formed}
 use Rattle.scrib_machine.specs.Compilable.{IsCompilable}
 use Rattle.scrib_machine.specs.Projected as projected
@@ -122,9 +124,9 @@ mutual
   same_branch_nodes (Branch m g bs) = let e = same_nodes g in let f = same_branch_nodes bs in cc
 
 -- what a role does in an elaborated protocol has a machine
-pub has_machine : (roles : List (List ℕ)) (role : List ℕ) (g : GlobalTree) (l : LocalTree) → IsTrue (is_sound roles g) → nodes g ≤ 4096 → projection role g ≡ Some l → IsCompilable l
+pub has_machine : (roles : List (List ℕ)) (role : List ℕ) (g : GlobalTree) (l : LocalTree) → IsTrue (is_sound roles g) → nodes g ≤ 4096 → projection Plain role g ≡ Some l → IsCompilable l
 unfolding is_sound
 has_machine roles role g l sound small e =
     let formed = and_parts _ (well_formed roles g) sound in
     let shut = and_parts _ (is_closed g) formed.0 in
-    projected_compilable roles role g l formed.1 shut.1 (omega (arith, same_nodes g)) e
+    projected_compilable roles role g l formed.1 shut.1 (omega (arith, same_nodes g)) (keeps_plain_projections role g l e)

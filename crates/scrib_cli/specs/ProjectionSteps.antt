@@ -4,6 +4,7 @@ use Rattle.std.specs.Prelude.{◌≡◌, ◌⊎◌, ⊤, ℕ, true, false, List,
 use Rattle.scrib_types.specs.Agreement.{Agreement}
 use Rattle.scrib_types.specs.LocalView.{local_of}
 use Rattle.scrib_types.specs.Trees.{GlobalTree}
+use Rattle.scrib_types.specs.declared.profile.Profile.TheVariants.{Plain}
 use Rattle.scrib_types.specs.Projection.{projection}
 use Rattle.scrib_types.specs.WellFormed.{has_role}
 use Rattle.scrib_machine.specs.Compilable.{IsCompilable}
@@ -53,10 +54,10 @@ IsDeclared roles name role = (role ≡ name) × (has_role name roles ≡ true)
 
 -- what the role does in what the protocol means
 abbrev pub IsRoleProjection : Agreement → List ℕ → Projection → Type 0
-IsRoleProjection a role (Projects l) = (has_role role a.roles ≡ true) × (projection role a.global ≡ Some (local_of l))
+IsRoleProjection a role (Projects l) = (has_role role a.roles ≡ true) × (projection Plain role a.global ≡ Some (local_of l))
 IsRoleProjection a role NoProtocol = ⊥
 IsRoleProjection a role NoRole = has_role role a.roles ≡ false
-IsRoleProjection a role (Refused (edit.Project u)) = (has_role role a.roles ≡ true) × IsUnmergeable a.global role u
+IsRoleProjection a role (Refused (edit.Project u)) = (has_role role a.roles ≡ true) × IsUnmergeable Plain a.global role u
 IsRoleProjection a role (Refused edit.UnknownModule) = ⊥
 IsRoleProjection a role (Refused edit.TooManyModules) = ⊥
 IsRoleProjection a role (Refused (edit.StillImported name)) = ⊥
@@ -71,7 +72,7 @@ IsRoleProjection a role (Refused edit.OutOfMemory) = ⊥
 -- where the protocol of this name, in the module of this name, has no projection, the place is that of a choice
 -- without one
 abbrev pub IsRefusalPlaced : List ModuleTree → (home : List (List ℕ)) (name : List ℕ) → GlobalTree → Projection → Type 0
-IsRefusalPlaced modules home name g (Refused (edit.Project u)) = IsPlaced modules home name g u
+IsRefusalPlaced modules home name g (Refused (edit.Project u)) = IsPlaced Plain modules home name g u
 IsRefusalPlaced modules home name g other = Unit {0}
 
 -- what the role does has a machine

@@ -2,6 +2,7 @@
 use Rattle.std.specs.Prelude.{◌≡◌, ◌⊎◌, ⊤, ℕ, ◌<◌, Bool, true, false, List, [], ◌∷◌, ◌++◌, length, Option, Some, None, codes}
 use Rattle.scrib_types.specs.Agreement.{Agreement}
 use Rattle.scrib_types.specs.LocalView.{local_of}
+use Rattle.scrib_types.specs.declared.profile.Profile.TheVariants.{Plain}
 use Rattle.scrib_types.specs.Projection.{projection}
 use Rattle.scrib_types.specs.WellFormed.{has_role}
 use Rattle.scrib_types.specs.Trees.{LocalTree}
@@ -73,8 +74,9 @@ StopsUnread (None ∷ ts) = ⊤
 StopsUnread (Some t ∷ ts) = (m : ModuleTree) × Reads t m × StopsUnread ts
 
 -- The answer for the protocol of this full name and this role, over module texts, by the first of these cases that
--- it falls under: it is no full name; a text is no module; the protocol means nothing; it declares no such role; it
--- has no projection on the role, and at the place stands a choice whose branches differ for it; the role does this.
+-- it falls under: it is no full name; a text is no module; the protocol means nothing; it declares no such role; by the
+-- plain merge it has no projection on the role, and at the place stands a choice whose branches differ for it; the role
+-- does this.
 pub data IsProjection (texts : List (Option (List ℕ))) (protocol role : List ℕ) : Projection → Type 0 where
   unnamed : ((name : FullName) → IsFullName protocol name → ⊥) → IsProjection texts protocol role NoProtocol
   unread : (name : FullName) (f : EditFault) → IsFullName protocol name → FailsAmong texts f → IsProjection texts protocol role (Refused f)
@@ -83,10 +85,10 @@ pub data IsProjection (texts : List (Option (List ℕ))) (protocol role : List �
   undeclared : (name : FullName) (modules : List ModuleTree) (a : Agreement) → IsFullName protocol name → AreAdded [] texts modules
       → Elaborates modules name.home name.protocol a → has_role role a.roles ≡ false → IsProjection texts protocol role NoRole
   unmerged : (name : FullName) (modules : List ModuleTree) (a : Agreement) (u : Unmergeable) → IsFullName protocol name → AreAdded [] texts modules
-      → Elaborates modules name.home name.protocol a → has_role role a.roles ≡ true → IsUnmergeable a.global role u
-      → IsPlaced modules name.home name.protocol a.global u → IsProjection texts protocol role (Refused (edit.Project u))
+      → Elaborates modules name.home name.protocol a → has_role role a.roles ≡ true → IsUnmergeable Plain a.global role u
+      → IsPlaced Plain modules name.home name.protocol a.global u → IsProjection texts protocol role (Refused (edit.Project u))
   does : (name : FullName) (modules : List ModuleTree) (a : Agreement) (l : Local) → IsFullName protocol name → AreAdded [] texts modules
-      → Elaborates modules name.home name.protocol a → has_role role a.roles ≡ true → projection role a.global ≡ Some (local_of l) → IsProjection texts protocol role (Projects l)
+      → Elaborates modules name.home name.protocol a → has_role role a.roles ≡ true → projection Plain role a.global ≡ Some (local_of l) → IsProjection texts protocol role (Projects l)
 
 -- whether the answer is what the role does
 abbrev pub projects : Projection → Bool

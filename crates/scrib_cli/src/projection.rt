@@ -23,6 +23,7 @@ use scrib_project::project::project;
 use scrib_types::local::Local;
 use scrib_types::name::Role;
 use scrib_types::plain::Items;
+use scrib_types::profile::Profile;
 use std::alloc::Global;
 
 /// What a role does in a protocol, or why there is no answer.
@@ -68,7 +69,7 @@ pub fn projection_of(
     }
 }
 
-/// What the role does in the protocol.
+/// What the role does in the protocol, by the plain merge.
 fn projection_on(
     alloc: Global,
     elaborated: &Elaborated,
@@ -85,7 +86,7 @@ fn projection_on(
     let Some(role) = declared_role(elaborated.roles(), role.as_bytes()) else {
         return Ok(Projection::NoRole);
     };
-    match project(alloc, elaborated, role) {
+    match project(alloc, elaborated, role, Profile::Plain) {
         Ok(local) => Ok(Projection::Projects(local)),
         Err(ProjectFault::Unmergeable(fault)) => Ok(Projection::Refused(EditFault::Project(fault))),
         Err(ProjectFault::OutOfMemory) => Err(ScriptFault::OutOfMemory),

@@ -1,3 +1,4 @@
+use Rattle.scrib_types.specs.declared.profile.Profile.TheVariants.{Plain}
 use Rattle.scrib_types.specs.LocalView.{local_of}
 use Rattle.scrib_elaborate.specs.Meaning.{meaning_of}
 use Rattle.scrib_project.specs.Faults.{IsPlaced}
@@ -11,5 +12,5 @@ returns-in-Ok-clause-machine c =
 
 pub returns-in-Err-Unmergeable-clause-place : goal.returns-in-Err-Unmergeable-clause-place
 returns-in-Err-Unmergeable-clause-place c = λ modules home name sites.
-    let placed : IsPlaced modules home name (meaning_of c.args.elaborated.now).global c.in-Err-Unmergeable.fault = rw c.in-Err-Unmergeable.field-0-is at (c.in-Err-Unmergeable.ensures.place modules home name sites) in
+    let placed : IsPlaced Plain modules home name (meaning_of c.args.elaborated.now).global c.in-Err-Unmergeable.fault = rw c.in-Err-Unmergeable.field-0-is at (c.in-Err-Unmergeable.ensures.place modules home name sites) in
     placed
