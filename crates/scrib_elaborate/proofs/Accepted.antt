@@ -16,12 +16,13 @@ use Rattle.scrib_elaborate.specs.Source.{Body, Then, Step, Sends, Calls, Blocks}
 use Rattle.scrib_elaborate.specs.SourceView.{body_of}
 use Rattle.scrib_elaborate.specs.Names.{Declaration, roles_of, find_protocol, called}
 use Rattle.scrib_elaborate.specs.Statements.{are_roles, IsCall, KeepsRules, BlockKeeps, StepKeeps, BlocksKeep}
-use Rattle.scrib_elaborate.specs.Elaboration.{Scope, role_in, level_of, inside, inside_call, Frames, NoFrame, Under, sent, and_branches, Types, ends, closes, sends, chooses, repeats, passes, continues, calls, JoinsTo, joins_none, joins, nodes, start_of, Elaborates}
-use Rattle.scrib_elaborate.specs.Sizes.{Size}
+use Rattle.scrib_elaborate.specs.Elaboration.{Scope, role_in, level_of, inside, inside_call, Frames, NoFrame, Under, sent, and_branches, Types, ends, closes, sends, chooses, repeats, passes, continues, calls, JoinsTo, joins_none, joins, nodes, height, start_of, Elaborates}
+use Rattle.scrib_elaborate.specs.Sizes.{NodesOf, HeightOf}
+use Rattle.scrib_elaborate.specs.Walking.{IsWithin}
 use Rattle.scrib_elaborate.specs.Sound.{is_sound}
 use Rattle.scrib_elaborate.proofs.Kept.{of_then, of_or, of_sends, of_chooses, of_repeats, of_calls, of_protocol}
 use Rattle.scrib_elaborate.proofs.Functional.{types_same}
-use Rattle.scrib_elaborate.proofs.Counted.{counted}
+use Rattle.scrib_elaborate.proofs.Counted.{counted, measured}
 use Rattle.scrib_elaborate.proofs.Used.{used, in_first}
 use Rattle.scrib_elaborate.proofs.GivenRoles.{role_itself, role_among, GivesRoles, gives_itself, gives_called}
 
@@ -209,21 +210,25 @@ unfolding is_sound
 accepted_sound ms home name a e =
     let d = e.declaration in
     let p = of_protocol e.kept in
-    let few : nat_le (length (roles_of d)) 16 ≡ true = le-leb (length (roles_of d)) 16 (omega (arith, length-map d.protocol.roles (λ r. r.name), p.names.few)) in
+    let few : nat_le (length (roles_of d)) 64 ≡ true = le-leb (length (roles_of d)) 64 (omega (arith, length-map d.protocol.roles (λ r. r.name), p.names.few)) in
     let closed : is_closed a.global ≡ true = eq-eqb (open_depth a.global) 0 (omega (arith, closed_below e.typed)) in
     let kept : IsKeptFrame ms (roles_of d) (record { within = d; given = roles_of d; recs = [] }) (body_of d.protocol.body) = record { recs = []; before = true; exits = e.exits; keeps = p.block; gives = gives_itself d } in
     let form = sound_type e.typed (roles_of d) (kept, tt) in
-    subst (λ roles. (nat_le (length roles) 16 && distinct_roles roles && is_closed a.global && well_formed roles a.global) ≡ true) (sym e.roles) (rw (few, p.names.roles, closed) form)
+    subst (λ roles. (nat_le (length roles) 64 && distinct_roles roles && is_closed a.global && well_formed roles a.global) ≡ true) (sym e.roles) (rw (few, p.names.roles, closed) form)
 
--- the size of a protocol is the number of its type's nodes
-pub size_is_nodes : (ms : List ModuleTree) (d : Declaration) (n : ℕ) (g : GlobalTree) → Size ms d (body_of d.protocol.body) 1 n → Types ms 0 (start_of d) g → nodes g ≡ n
+-- the size of a protocol is that of its type
+pub size_is_nodes : (ms : List ModuleTree) (d : Declaration) (n : ℕ) (g : GlobalTree) → NodesOf ms d n → Types ms 0 (start_of d) g → nodes g ≡ n
 size_is_nodes ms d n g size typed = counted typed n (1, refl, size)
+
+pub size_is_height : (ms : List ModuleTree) (d : Declaration) (n : ℕ) (g : GlobalTree) → HeightOf ms d n → Types ms 0 (start_of d) g → height g ≡ n
+size_is_height ms d n g size typed = measured typed n (1, refl, size)
 
 -- what was found, walked over, counted and typed is elaborated
 pub accepted : (ms : List ModuleTree) (home : List (List ℕ)) (name : List ℕ) (d : Declaration) (e : Bool) (n : ℕ) (g : GlobalTree) → find_protocol ms home name ≡ Some d → KeepsRules ms d e
-    → Size ms d (body_of d.protocol.body) 1 n → n ≤ 4096 → Types ms 0 (start_of d) g → Elaborates ms home name (record { roles = roles_of d; global = g })
-accepted ms home name d e n g there kept size small typed =
-    let count = size_is_nodes ms d n g size typed in
+    → IsWithin ms d n → Types ms 0 (start_of d) g → Elaborates ms home name (record { roles = roles_of d; global = g })
+accepted ms home name d e n g there kept within typed =
+    let count = size_is_nodes ms d n g within.counted typed in
+    let high = size_is_height ms d within.height g within.measured typed in
     record {
       declaration = d;
       there = there;
@@ -231,6 +236,7 @@ accepted ms home name d e n g there kept size small typed =
       kept = kept;
       typed = typed;
       small = omega arith;
+      short = omega arith;
       roles = refl;
     }
 

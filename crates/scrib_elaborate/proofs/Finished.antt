@@ -28,7 +28,7 @@ use Rattle.scrib_elaborate.proofs.Checks.{entry_is}
 pub elaborated : (ms : List ModuleTree) (ds : List Declaration) (root : Declaration) (count : ℕ) (home : List (List ℕ)) (name : List ℕ) (roles : List (List ℕ)) (g : GlobalTree) → IsCounted ms ds root count home name → roles ≡ roles_of root
     → Types ms 0 (start_of root) g → Elaborates ms home name (record { roles = roles; global = g })
 elaborated ms ds root count home name roles g k e typed =
-    subst (λ rs. Elaborates ms home name (record { roles = rs; global = g })) (sym e) (accepted ms home name root k.exits count g k.there k.kept k.counted k.small typed)
+    subst (λ rs. Elaborates ms home name (record { roles = rs; global = g })) (sym e) (accepted ms home name root k.exits count g k.there k.kept k.size typed)
 
 -- a fault of the third pass
 
@@ -65,8 +65,7 @@ is_counted ts home name all ds es fs hs states seen at count x d e f h s whole f
       there = ap (first_where (is_called home name)) (sym whole) ∙ here.first;
       exits = kept.0.exits;
       kept = kept.2.kept;
-      counted = size.0;
-      small = size.1;
+      size = size;
     })
 
 -- nothing else is meant

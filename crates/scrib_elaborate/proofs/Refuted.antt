@@ -14,14 +14,14 @@ use Rattle.scrib_elaborate.specs.declared.fault.Fault.{Fault}
 use Rattle.scrib_elaborate.specs.Source.{Body, Then, Calls, Blocks, NoBlock}
 use Rattle.scrib_elaborate.specs.Names.{Declaration, has_name, distinct_names, roles_of, called_home, called}
 use Rattle.scrib_elaborate.specs.Statements.{are_roles, KeepsRules}
-use Rattle.scrib_elaborate.specs.Elaboration.{and_branches, Scope, role_in, inside, Frames, Under, Types, nodes, start_of, Elaborates}
+use Rattle.scrib_elaborate.specs.Elaboration.{and_branches, Scope, role_in, inside, Frames, Under, Types, nodes, height, start_of, Elaborates}
 use Rattle.scrib_elaborate.specs.Sizes.{IsTooLarge}
 use Rattle.scrib_elaborate.specs.Faults.{HasStep, IsAgain, HasNoRole, message, choice, call, IsUnreachable, IsLoose, blocks_before, IsNeeded, IsUnguarded, IsBranch, IsWithoutBranch, IsOfAnother, IsToAnother, IsSameOperator, share_operator, Fails, IsInside, IsBroken}
 use Rattle.scrib_elaborate.proofs.Inversion.{type_of_chooses, type_of_repeats, join_of_none, join_of_or, IsJoin}
 use Rattle.scrib_elaborate.proofs.Functional.{types_same}
 use Rattle.scrib_elaborate.proofs.Kept.{kept_at, of_then, of_protocol, of_sends, of_chooses, of_continues, step_at, callee, no_cycle, kept_along, step_exits_same}
 use Rattle.scrib_elaborate.proofs.Typed.{split_join, branch_of_join, IsBranchOf, typed_at, not_shared}
-use Rattle.scrib_elaborate.proofs.Counted.{counted}
+use Rattle.scrib_elaborate.proofs.Counted.{counted, measured}
 use Rattle.scrib_elaborate.proofs.Distinct.{distinct_roles-again, distinct_names-again, found_nowhere}
 
 -- a name that is declared twice
@@ -126,47 +126,44 @@ same_operator_twice ms root d g t spot h =
     cs_ds : (a b c e : GlobalBranches) → a ≡ c → b ≡ e → share_operator c e ≡ true → share_operator a b ≡ true
     cs_ds a b c e p q h = (λ i. share_operator (p i) (q i)) ∙ h
 
-too_large : (ms : List ModuleTree) (root : Declaration) (g : GlobalTree) → Types ms 0 (start_of root) g → nodes g ≤ 4096 → (d : Declaration) → d ≡ root → IsTooLarge ms d → ⊥
-too_large ms root g t small d e h =
-    let l = subst (λ x. IsTooLarge ms x) e h in
-    let count = counted t l.size (1, refl, l.counted) in
-    let large = l.large in
-    absurd (omega arith)
+too_large : (ms : List ModuleTree) (root : Declaration) (g : GlobalTree) → Types ms 0 (start_of root) g → nodes g ≤ 65536 → height g ≤ 4096 → (d : Declaration) → d ≡ root → IsTooLarge ms d → ⊥
+too_large ms root g t small short d e h =
+    ⊎_elim (λ l. let count = counted t l.0 (1, refl, l.1) in let large = l.2 in absurd (omega arith)) (λ l. let high = measured t l.0 (1, refl, l.1) in let large = l.2 in absurd (omega arith)) (subst (λ x. IsTooLarge ms x) e h)
 
-refuted_inside : (k : FaultKind) (ms : List ModuleTree) (root d : Declaration) (spot : Spot) (f : _) (g : GlobalTree) → KeepsRules ms d f → Types ms 0 (start_of root) g → nodes g ≤ 4096 → Fails k ms root d spot → ⊥
-refuted_inside kind.NoModule ms root d spot f g kept t small h =
+refuted_inside : (k : FaultKind) (ms : List ModuleTree) (root d : Declaration) (spot : Spot) (f : _) (g : GlobalTree) → KeepsRules ms d f → Types ms 0 (start_of root) g → nodes g ≤ 65536 → height g ≤ 4096 → Fails k ms root d spot → ⊥
+refuted_inside kind.NoModule ms root d spot f g kept t small short h =
     let c = first_pass ms d f kept h.2 in absurd (cc (nowhere ms d h.0 h.3, c.3))
   where
     nowhere : (ms : List ModuleTree) (d : Declaration) (path : List (List ℕ)) → called_home ms d.home path ≡ None → called ms d.home path ≡ None
     nowhere ms d path e = rw e refl
-refuted_inside kind.NoProtocol ms root d spot f g kept t small h = let c = first_pass ms d f kept h.2 in absurd (cc (h.4, c.3))
-refuted_inside kind.TwiceDeclared ms root d spot f g kept t small h =
+refuted_inside kind.NoProtocol ms root d spot f g kept t small short h = let c = first_pass ms d f kept h.2 in absurd (cc (h.4, c.3))
+refuted_inside kind.TwiceDeclared ms root d spot f g kept t small short h =
     let n = (of_protocol kept).names in
     ⊎_elim (λ i. names_again _ _ _ spot i n.imports) (⊎_elim (λ p. roles_again _ _ _ spot p n.protocols) (λ r. roles_again _ _ _ spot r n.roles)) h
-refuted_inside kind.NoRole ms root d spot f g kept t small h = no_role ms d f kept spot h
-refuted_inside kind.RepeatedRole ms root d spot f g kept t small h = let c = first_pass ms d f kept h.2 in both_ways _ h.3 c.2
-refuted_inside kind.WrongCount ms root d spot f g kept t small h =
+refuted_inside kind.NoRole ms root d spot f g kept t small short h = no_role ms d f kept spot h
+refuted_inside kind.RepeatedRole ms root d spot f g kept t small short h = let c = first_pass ms d f kept h.2 in both_ways _ h.3 c.2
+refuted_inside kind.WrongCount ms root d spot f g kept t small short h =
     let c = first_pass ms d f kept h.3 in
     let same : c.0 ≡ h.2 = cc (c.3, h.4) in
     h.5 (c.4 ∙ ap (λ x. length x.protocol.roles) same)
-refuted_inside kind.SelfMessage ms root d spot f g kept t small h = both_ways _ (of_sends (step_at kept h.3).kept).1 h.4
-refuted_inside kind.DoCycle ms root d spot f g kept t small h =
+refuted_inside kind.SelfMessage ms root d spot f g kept t small short h = both_ways _ (of_sends (step_at kept h.3).kept).1 h.4
+refuted_inside kind.DoCycle ms root d spot f g kept t small short h =
     no_cycle kept (record { path = h.path; roles = h.roles; spot = spot; stands = h.stands; to = h.to; there = h.there; back = h.back })
-refuted_inside kind.NoRec ms root d spot f g kept t small h = loose ms d f kept spot h
-refuted_inside kind.Unguarded ms root d spot f g kept t small h = unguarded ms root d g t spot h
-refuted_inside kind.Unreachable ms root d spot f g kept t small h = unreachable ms d f kept spot h
-refuted_inside kind.EmptyBranch ms root d spot f g kept t small h =
+refuted_inside kind.NoRec ms root d spot f g kept t small short h = loose ms d f kept spot h
+refuted_inside kind.Unguarded ms root d spot f g kept t small short h = unguarded ms root d g t spot h
+refuted_inside kind.Unreachable ms root d spot f g kept t small short h = unreachable ms d f kept spot h
+refuted_inside kind.EmptyBranch ms root d spot f g kept t small short h =
     ⊎_elim (λ b. let v = joined ms root d g t spot b.0 in absurd (cc (b.1, v.is))) (λ b. without_branch ms root d g t spot b) h
-refuted_inside kind.ContinueHead ms root d spot f g kept t small h = let v = joined ms root d g t spot h.0 in absurd (cc (h.2, v.is))
-refuted_inside kind.RecHead ms root d spot f g kept t small h = let v = joined ms root d g t spot h.0 in absurd (cc (h.2, v.is))
-refuted_inside kind.NotChooser ms root d spot f g kept t small h = of_another ms root d g t spot h
-refuted_inside kind.TwoReceivers ms root d spot f g kept t small h = to_another ms root d g t spot h
-refuted_inside kind.SameOperator ms root d spot f g kept t small h = same_operator_twice ms root d g t spot h
-refuted_inside kind.TooManyRoles ms root d spot f g kept t small h =
-    let more = slice_get_within d.protocol.roles 16 h.0 h.1 in
+refuted_inside kind.ContinueHead ms root d spot f g kept t small short h = let v = joined ms root d g t spot h.0 in absurd (cc (h.2, v.is))
+refuted_inside kind.RecHead ms root d spot f g kept t small short h = let v = joined ms root d g t spot h.0 in absurd (cc (h.2, v.is))
+refuted_inside kind.NotChooser ms root d spot f g kept t small short h = of_another ms root d g t spot h
+refuted_inside kind.TwoReceivers ms root d spot f g kept t small short h = to_another ms root d g t spot h
+refuted_inside kind.SameOperator ms root d spot f g kept t small short h = same_operator_twice ms root d g t spot h
+refuted_inside kind.TooManyRoles ms root d spot f g kept t small short h =
+    let more = slice_get_within d.protocol.roles 64 h.0 h.1 in
     let few = (of_protocol kept).names.few in
     absurd (omega arith)
-refuted_inside kind.TooLarge ms root d spot f g kept t small h = too_large ms root g t small d h.0 h.1
+refuted_inside kind.TooLarge ms root d spot f g kept t small short h = too_large ms root g t small short d h.0 h.1
 
 inside_refuted : (ms : List ModuleTree) (home : List (List ℕ)) (name : List ℕ) (f : Fault) (a : Agreement) → IsInside ms home name f → Elaborates ms home name a → ⊥
 inside_refuted ms home name f a h e =
@@ -174,7 +171,7 @@ inside_refuted ms home name f a h e =
     let kept = subst (λ d. KeepsRules ms d e.exits) same e.kept in
     let typed = subst (λ d. Types ms 0 (start_of d) a.global) same e.typed in
     let there = kept_along h.reached e.exits kept in
-    refuted_inside f.kind ms h.root h.place f.spot there.0 a.global there.1 typed e.small h.fails
+    refuted_inside f.kind ms h.root h.place f.spot there.0 a.global there.1 typed e.small e.short h.fails
 
 pub refuted : (ms : List ModuleTree) (home : List (List ℕ)) (name : List ℕ) (f : Fault) (a : Agreement) → IsBroken ms home name f → Elaborates ms home name a → ⊥
 refuted ms home name f a h e =

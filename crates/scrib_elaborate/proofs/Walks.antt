@@ -23,8 +23,8 @@ use Rattle.scrib_elaborate.specs.Walking.{AreUnwalked, IsEntered, EnterFails, Is
 use Rattle.scrib_parser.specs.declared.tree.Statement.{Statement}
 use Rattle.scrib_elaborate.specs.SourceView.{body_of}
 use Rattle.scrib_elaborate.specs.declared.fault.FaultKind.TheVariants as kind
-use Rattle.scrib_elaborate.specs.Sizes.{Size, IsTooLarge}
-use Rattle.scrib_elaborate.specs.Growth.{BlockGrows}
+use Rattle.scrib_elaborate.specs.Sizes.{NodesOf, IsTooLarge}
+use Rattle.scrib_elaborate.specs.Growth.{risen, BlockGrows}
 use Rattle.scrib_elaborate.specs.Shape.{HasShape}
 use Rattle.scrib_elaborate.proofs.Checks.{entry_is}
 use Rattle.scrib_elaborate.proofs.Kept.{reaches_on}
@@ -398,16 +398,23 @@ block_kept ms declared k x d a b c s here is p q r keeps grows shaped =
 
 -- the size of the protocol at which the walk began
 
-pub small_at : (ms : List ModuleTree) (ds : List Declaration) (states : List State) (at : ℕ) (s : Summary) → slice_get states at ≡ Some (Walked s) → s.size.base < 4096 → WasWalked ms ds states at → IsSmall ms ds at (s.size.base + 1)
+pub small_at : (ms : List ModuleTree) (ds : List Declaration) (states : List State) (at : ℕ) (s : Summary) → slice_get states at ≡ Some (Walked s) → (s.size.nodes.base < 65536) × (risen s.size.height 0 < 4096) → WasWalked ms ds states at → IsSmall ms ds at (s.size.nodes.base + 1)
 small_at ms ds states at s walked below w = λ d here.
     let (t, there, kept) = w d here in
     let same : t ≡ s = cc (there, walked) in
     let g = subst (IsSummary ms d) same kept in
-    let (n, counted, agree) = g.grows 0 in
-    let is : n + 1 ≡ s.size.base + 1 = omega (arith, agree, below) in
-    (subst (λ k. Size ms d (body_of d.protocol.body) 1 k) is counted, omega (arith, below))
+    let (n, counted, agree) = g.grows.nodes 0 in
+    let (m, measured, alike) = g.grows.height 0 in
+    let is : n + 1 ≡ s.size.nodes.base + 1 = omega (arith, agree, below.0) in
+    record {
+      counted = subst (λ k. NodesOf ms d k) is counted;
+      small = omega (arith, below.0);
+      height = m + 1;
+      measured = measured;
+      short = omega (arith, alike, below.1);
+    }
 
-pub large_fails : (ms : List ModuleTree) (declared : List Declared) (states : List State) (at : ℕ) (x : Declared) (s : Summary) → at < length declared → x ≡ get_or declared at x → slice_get states at ≡ Some (Walked s) → 4096 ≤ s.size.base
+pub large_fails : (ms : List ModuleTree) (declared : List Declared) (states : List State) (at : ℕ) (x : Declared) (s : Summary) → at < length declared → x ≡ get_or declared at x → slice_get states at ≡ Some (Walked s) → (65536 ≤ s.size.nodes.base) ⊎ (4096 ≤ risen s.size.height 0)
     → WasWalked ms (shown declared) states at → (f : ElaborateFault) → IsFaultIn x.home.now (record { kind = kind.TooLarge; spot = x.protocol.now.spot }) f → WalkFails ms (shown declared) at f
 large_fails ms declared states at x s h is walked above w f told =
     ⊎_elim (λ e. subst (WalkFails ms (shown declared) at) (sym e) (λ d p. told_at d p)) (λ e. subst (WalkFails ms (shown declared) at) (sym e) tt) told
@@ -420,8 +427,9 @@ large_fails ms declared states at x s h is walked above w f told =
         let (t, found, kept) = w (declaration_of x) there in
         let same : t ≡ s = cc (found, walked) in
         let g = subst (IsSummary ms (declaration_of x)) same kept in
-        let (n, counted, agree) = g.grows 0 in
-        record { size = n + 1; counted = counted; large = omega (arith, agree, above) }
+        let (n, counted, agree) = g.grows.nodes 0 in
+        let (m, measured, alike) = g.grows.height 0 in
+        ⊎_elim (λ large. inl (n + 1, counted, omega (arith, agree, large))) (λ high. inr (m + 1, measured, omega (arith, alike, high))) above
 
     told_at : (d : Declaration) → slice_get (shown declared) at ≡ Some d → (place : Declaration) × Reaches ms d place × (x.home.now.name ≡ place.home.name) × Fails kind.TooLarge ms d place x.protocol.now.spot
     told_at d p =

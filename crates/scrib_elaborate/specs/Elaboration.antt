@@ -4,7 +4,7 @@ use Rattle.std.specs.Str.{bytes_eq}
 use Rattle.scrib_types.specs.declared.message.Message.{Message}
 use Rattle.scrib_types.specs.declared.spot.Spot.{Spot}
 use Rattle.scrib_types.specs.Agreement.{Agreement}
-pub use Rattle.scrib_types.specs.Nodes.{global_nodes, branch_nodes}
+pub use Rattle.scrib_types.specs.Nodes.{global_nodes, branch_nodes, global_height, branch_height}
 use Rattle.scrib_types.specs.Trees.{GlobalTree, GlobalEnd, GlobalVar, GlobalRec, Comm, GlobalBranches, NoBranch, Branch}
 use Rattle.scrib_types.specs.WellFormed.{leads_to_communication, distinct_operators, has_branches}
 use Rattle.scrib_parser.specs.declared.tree.ModuleTree.{ModuleTree}
@@ -112,6 +112,10 @@ mutual
 abbrev pub nodes : GlobalTree → ℕ
 nodes = global_nodes
 
+-- how many of them the longest path has from the root to an end or a variable
+abbrev pub height : GlobalTree → ℕ
+height = global_height
+
 -- the frames and the scope with which a protocol begins
 abbrev pub start_of : Declaration → Frames
 start_of d = Under (record { within = d; given = roles_of d; recs = [] }) (body_of d.protocol.body) NoFrame
@@ -123,5 +127,6 @@ pub record Elaborates (modules : List ModuleTree) (home : List (List ℕ)) (name
   pub exits : Bool
   pub kept : KeepsRules modules declaration exits
   pub typed : Types modules 0 (start_of declaration) a.global
-  pub small : nodes a.global ≤ 4096
+  pub small : nodes a.global ≤ 65536
+  pub short : height a.global ≤ 4096
   pub roles : a.roles ≡ roles_of declaration

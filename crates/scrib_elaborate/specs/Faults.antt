@@ -260,9 +260,9 @@ Fails kind.RecHead modules root d spot = FailsTyping kind.RecHead modules 0 (sta
 Fails kind.NotChooser modules root d spot = FailsTyping kind.NotChooser modules 0 (start_of root) d spot
 Fails kind.TwoReceivers modules root d spot = FailsTyping kind.TwoReceivers modules 0 (start_of root) d spot
 Fails kind.SameOperator modules root d spot = FailsTyping kind.SameOperator modules 0 (start_of root) d spot
--- the place of the 17th role
+-- the place of the 65th role
 Fails kind.TooManyRoles modules root d spot =
-    (r : RoleDeclaration) × (slice_get d.protocol.roles 16 ≡ Some r) × (r.spot ≡ spot)
+    (r : RoleDeclaration) × (slice_get d.protocol.roles 64 ≡ Some r) × (r.spot ≡ spot)
 -- of the protocol that was asked for alone
 Fails kind.TooLarge modules root d spot = (d ≡ root) × IsTooLarge modules d × (d.protocol.spot ≡ spot)
 

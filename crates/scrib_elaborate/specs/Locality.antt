@@ -199,6 +199,7 @@ elaborates_alike S before after home name a agree s e =
       kept = rules_alike S before after agree e.kept of;
       typed = types_alike S before after agree e.typed (of, tt);
       small = e.small;
+      short = e.short;
       roles = e.roles;
     }
 

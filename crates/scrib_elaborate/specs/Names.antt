@@ -107,11 +107,11 @@ abbrev pub called : List ModuleTree → ModuleTree → (path : List (List ℕ)) 
 called modules m path = option_and_then (λ n. find_protocol modules n (last_name path)) (called_home modules m path)
 
 -- A module's imports are known by different names, its protocols have different names, and a protocol of it
--- has at most 16 roles, all different.
+-- has at most 64 roles, all different.
 pub record HasOwnNames (d : Declaration) : Type 0 where
   pub imports : distinct_names (import_names d.home.imports) ≡ true
   pub protocols : distinct_roles (protocol_names d.home.protocols) ≡ true
-  pub few : length d.protocol.roles ≤ 16
+  pub few : length d.protocol.roles ≤ 64
   pub roles : distinct_roles (roles_of d) ≡ true
 
 -- A module of at most 1,024 imports and as many protocols, whose imports are known by different names, and whose

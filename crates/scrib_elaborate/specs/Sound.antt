@@ -5,6 +5,6 @@ use Rattle.scrib_types.specs.Projection.{is_closed}
 use Rattle.scrib_types.specs.Trees.{GlobalTree}
 use Rattle.scrib_types.specs.WellFormed.{distinct_roles, well_formed}
 
--- at most 16 roles, all different, and a closed, well-formed global type of these roles
+-- at most 64 roles, all different, and a closed, well-formed global type of these roles
 unfoldable pub is_sound : List (List ℕ) → GlobalTree → Bool
-is_sound roles g = nat_le (length roles) 16 && distinct_roles roles && is_closed g && well_formed roles g
+is_sound roles g = nat_le (length roles) 64 && distinct_roles roles && is_closed g && well_formed roles g

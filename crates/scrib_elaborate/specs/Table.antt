@@ -148,7 +148,7 @@ IsProtocolAgain m spot =
 -- the broken rule is one of the roles'
 abbrev pub FailsRoles : ProtocolDeclaration → BrokenRule → Type 0
 FailsRoles p b =
-    ((b.kind ≡ kind.TwiceDeclared) × IsAgain (λ (r : RoleDeclaration). r.name) has_role (λ (r : RoleDeclaration). r.spot) p.roles b.spot) ⊎ ((b.kind ≡ kind.TooManyRoles) × (r : RoleDeclaration) × (slice_get p.roles 16 ≡ Some r) × (r.spot ≡ b.spot))
+    ((b.kind ≡ kind.TwiceDeclared) × IsAgain (λ (r : RoleDeclaration). r.name) has_role (λ (r : RoleDeclaration). r.spot) p.roles b.spot) ⊎ ((b.kind ≡ kind.TooManyRoles) × (r : RoleDeclaration) × (slice_get p.roles 64 ≡ Some r) × (r.spot ≡ b.spot))
 
 -- the broken rule fails in the protocol, whatever the other modules
 abbrev pub FailsNames : Declaration → BrokenRule → Type 0

@@ -19,7 +19,7 @@ use Rattle.scrib_elaborate.specs.Statements.{KeepsRules, BlockKeeps}
 use Rattle.scrib_elaborate.specs.declared.fault.FaultKind.{FaultKind}
 use Rattle.scrib_elaborate.specs.Faults.{HasStep, Reaches, Fails, no_spot}
 use Rattle.scrib_elaborate.specs.declared.stop.Summary.{Summary}
-use Rattle.scrib_elaborate.specs.Sizes.{Size}
+use Rattle.scrib_elaborate.specs.Sizes.{NodesOf, HeightOf}
 use Rattle.scrib_elaborate.specs.Growth.{BlockGrows}
 use Rattle.scrib_elaborate.specs.Shape.{HasShape}
 use Rattle.scrib_elaborate.specs.Table.{shown, IsSummary}
@@ -106,10 +106,17 @@ abbrev pub IsAbsentFault : (home : List (List ℕ)) → FaultKind → ElaborateF
 IsAbsentFault home k f =
     (f ≡ elaborate.Broken (record { kind = k; «module» = home; spot = no_spot })) ⊎ (f ≡ elaborate.OutOfMemory)
 
--- the type of the protocol at this place will have so many nodes, at most 4,096
+-- the protocol's type will have so many nodes, at most 65,536, and at most 4,096 on a path
+pub record IsWithin (modules : List ModuleTree) (d : Declaration) (count : ℕ) : Type 0 where
+  pub counted : NodesOf modules d count
+  pub small : count ≤ 65536
+  pub height : ℕ
+  pub measured : HeightOf modules d height
+  pub short : height ≤ 4096
+
+-- so will that of the protocol at this place
 abbrev pub IsSmall : List ModuleTree → List Declaration → ℕ → (count : ℕ) → Type 0
-IsSmall modules ds root count =
-    (d : Declaration) → slice_get ds root ≡ Some d → Size modules d (body_of d.protocol.body) 1 count × (count ≤ 4096)
+IsSmall modules ds root count = (d : Declaration) → slice_get ds root ≡ Some d → IsWithin modules d count
 
 -- the protocol of this name in the module of this name was found, keeps the rules, and was counted
 pub record IsCounted (modules : List ModuleTree) (ds : List Declaration) (root : Declaration) (count : ℕ) (home : List (List ℕ)) (name : List ℕ) : Type 0 where
@@ -117,5 +124,4 @@ pub record IsCounted (modules : List ModuleTree) (ds : List Declaration) (root :
   pub there : find_protocol modules home name ≡ Some root
   pub exits : Bool
   pub kept : KeepsRules modules root exits
-  pub counted : Size modules root (body_of root.protocol.body) 1 count
-  pub small : count ≤ 4096
+  pub size : IsWithin modules root count

@@ -2,7 +2,7 @@
 
 ghost use Rattle.std.specs.Prelude.{◌≡◌, ◌≤◌, IsTrue};
 ghost use Rattle.scrib_types.specs.GlobalView.{global_of};
-ghost use Rattle.scrib_elaborate.specs.Elaboration.{nodes};
+ghost use Rattle.scrib_elaborate.specs.Elaboration.{nodes, height};
 ghost use Rattle.scrib_elaborate.specs.Sound.{is_sound};
 
 use scrib_types::global::GlobalType;
@@ -27,19 +27,20 @@ pub struct Elaborated {
     count: usize,
     joins: Items<Join>,
     pub ghost counted: { count ≡ nodes (global_of global) },
-    pub ghost small: { count ≤ 4096 },
+    pub ghost small: { count ≤ 65536 },
+    pub ghost short: { height (global_of global) ≤ 4096 },
     pub ghost sound: { IsTrue (is_sound roles (global_of global)) },
 }
 
 impl Elaborated {
     ghost use Rattle.std.specs.Prelude.{◌≡◌, ◌≤◌, IsTrue};
     ghost use Rattle.scrib_types.specs.GlobalView.{global_of};
-    ghost use Rattle.scrib_elaborate.specs.Elaboration.{nodes};
+    ghost use Rattle.scrib_elaborate.specs.Elaboration.{nodes, height};
     ghost use Rattle.scrib_elaborate.specs.Sound.{is_sound};
     ghost use Rattle.scrib_elaborate.specs.Meaning.{meaning_of, joins_of};
 
-    /// The protocol of these roles and this type, which has so many nodes, at most 4,096. The joins are those of the type's
-    /// communications with several branches, in post-order.
+    /// The protocol of these roles and this type, which has so many nodes, at most 65,536, and at most 4,096 of them
+    /// on a path. The joins are those of the type's communications with several branches, in post-order.
     pub fn new(
         roles: Items<Role>,
         global: GlobalType,
@@ -47,7 +48,8 @@ impl Elaborated {
         joins: Items<Join>,
     ) -> Elaborated
         requires counted { count ≡ nodes (global_of global) }
-        requires small { count ≤ 4096 }
+        requires small { count ≤ 65536 }
+        requires short { height (global_of global) ≤ 4096 }
         requires sound { IsTrue (is_sound roles (global_of global)) }
         ensures meaning { meaning_of result ≡ record { roles = roles; global = global_of global } }
         ensures joins { joins_of result ≡ joins }
@@ -94,7 +96,8 @@ impl Elaborated {
     /// The roles and the global type.
     pub fn into_parts(self) -> (Items<Role>, GlobalType)
         ensures parts { record { roles = result.0; global = global_of result.1 } ≡ meaning_of self }
-        ensures small { nodes (global_of result.1) ≤ 4096 }
+        ensures small { nodes (global_of result.1) ≤ 65536 }
+        ensures short { height (global_of result.1) ≤ 4096 }
     {
         let Elaborated { roles, global, .. } = self;
         (roles, global)

@@ -43,9 +43,10 @@ pub enum FaultKind {
     TwoReceivers,
     /// A branch of a choice begins with an operator that an earlier branch begins with.
     SameOperator,
-    /// The protocol has more than 16 roles. It stands at the 17th.
+    /// The protocol has more than 64 roles. It stands at the 65th.
     TooManyRoles,
-    /// The global type would have more than 4,096 nodes. It stands at the protocol.
+    /// The global type would have more than 65,536 nodes, or more than 4,096 on a path from its root to an end or
+    /// a variable, both counted. It stands at the protocol.
     TooLarge,
 }
 

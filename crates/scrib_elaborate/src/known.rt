@@ -9,13 +9,16 @@ ghost use Rattle.scrib_elaborate.specs.Typing.{made_of, Makes, AreKnown, AreUnkn
 use crate::built::Typed;
 use crate::declared::Declared;
 use crate::directory::Directory;
-use crate::growth::MAX_NODES;
 use crate::stop::State;
 use crate::tasks::Program;
 use crate::typing::{type_alone, type_of_root};
 use crate::untyped::{Refused, Untyped};
 use scrib_parser::tree::ModuleTree;
 use std::alloc::{AllocError, Global};
+
+// The most nodes of a type that is kept. A larger one is made where it is needed, so that the types of many
+// protocols that call one another don't fill the memory.
+const MAX_KNOWN: usize = 4_096;
 
 /// No type of so many protocols.
 ///
@@ -32,7 +35,7 @@ pub fn unknown<'a>(alloc: Global, count: usize) -> Result<Vec<Option<Typed<'a>>>
 }
 
 /// Makes the types of the protocols at these places alone, in this order, each after those that it calls. It ends at
-/// the first that has none: a call of it is told where it stands.
+/// the first that has none, or a large one: a call of it is told where it stands.
 ///
 /// # Errors
 /// `Refused` where memory was refused.
@@ -79,7 +82,7 @@ fn alone<'a>(
     let Some(State::Walked(summary)) = states.get(place) else {
         return Ok(None);
     };
-    if summary.size.base >= MAX_NODES {
+    if summary.size.nodes.base >= MAX_KNOWN {
         return Ok(None);
     }
     let program = Program {

@@ -14,7 +14,7 @@ use scrib_types::name::Name;
 use scrib_types::spot::Spot;
 
 /// The most roles of a protocol.
-pub const MAX_ROLES: usize = 16;
+pub const MAX_ROLES: usize = 64;
 
 /// The most imports, and the most protocols, of a module whose names are compared before it is elaborated.
 pub const MAX_SETTLED: usize = 1024;
@@ -34,7 +34,7 @@ pub fn is_settled(home: &ModuleTree) -> bool
 /// module's names are settled, only those of the roles.
 ///
 /// # Errors
-/// `TwiceDeclared` at the first name that stands there twice, and `TooManyRoles` at the 17th role.
+/// `TwiceDeclared` at the first name that stands there twice, and `TooManyRoles` at the 65th role.
 pub fn check_own_names(
     home: &ModuleTree,
     protocol: &ProtocolDeclaration,
@@ -96,7 +96,7 @@ fn check_protocols(home: &ModuleTree) -> Result<(), Spot>
 
 fn check_roles(protocol: &ProtocolDeclaration) -> Result<(), BrokenRule>
     ensures { MatchResult result
-        (λ _. (length protocol.now.roles ≤ 16) × (distinct_roles (role_names protocol.now.roles) ≡ true))
+        (λ _. (length protocol.now.roles ≤ 64) × (distinct_roles (role_names protocol.now.roles) ≡ true))
         (FailsRoles protocol.now) }
 {
     let roles = protocol.roles.as_slice();

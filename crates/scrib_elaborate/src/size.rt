@@ -1,13 +1,13 @@
-//! How many nodes a protocol's type will have: the second pass.
+//! How many nodes a protocol's type will have, and how high it will be: the second pass.
 
 ghost use Rattle.std.specs.Prelude.{◌≡◌, ◌||◌, MatchResult};
 ghost use Rattle.scrib_elaborate.specs.Source.{Body};
 ghost use Rattle.scrib_elaborate.specs.SourceView.{step_of, body_of, blocks_of};
 ghost use Rattle.scrib_elaborate.specs.Elaboration.{continues_in, continues_at, continues_some};
 ghost use Rattle.scrib_elaborate.specs.Table.{protocol_at, IsKnown, IsPartSomewhere, IsStepSomewhere, AreSomewhere, StopsAt};
-ghost use Rattle.scrib_elaborate.specs.Growth.{IsPut, IsSum, StepGrows, BlockGrows, BlocksGrow};
+ghost use Rattle.scrib_elaborate.specs.Growth.{StepGrows, BlockGrows, BlocksGrow};
 
-use crate::growth::Growth;
+use crate::growth::Extent;
 use crate::statements::check_call;
 use crate::stop::{Place, Stop};
 use scrib_parser::tree::{Block, Statement};
@@ -18,23 +18,23 @@ use scrib_types::name::Name;
 /// # Errors
 /// Those of the check of a call in it.
 #[cycle(sizes)]
-pub fn size_block(place: &Place, body: &[Statement]) -> Result<Growth, Stop>
+pub fn size_block(place: &Place, body: &[Statement]) -> Result<Extent, Stop>
     requires known { IsKnown place.now }
     requires part { IsPartSomewhere (protocol_at place.now) (body_of body.now) }
     ensures { MatchResult result
         (BlockGrows place.now.modules.now (protocol_at place.now) (body_of body.now))
         (StopsAt place.now) }
 {
-    let mut size = Growth::new(0, 1);
+    let mut size = Extent::row(0);
     for statement in body {
         let step = size_statement(place, statement)?;
-        size = put(size, step);
+        size = size.put(step);
     }
     Ok(size)
 }
 
 #[cycle(sizes)]
-fn size_statement(place: &Place, statement: &Statement) -> Result<Growth, Stop>
+fn size_statement(place: &Place, statement: &Statement) -> Result<Extent, Stop>
     requires known { IsKnown place.now }
     requires part { IsStepSomewhere (protocol_at place.now) (step_of statement.now) }
     ensures { MatchResult result
@@ -42,7 +42,7 @@ fn size_statement(place: &Place, statement: &Statement) -> Result<Growth, Stop>
         (StopsAt place.now) }
 {
     match statement {
-        Statement::Message { to, .. } => Ok(Growth::new(to.len(), 1)),
+        Statement::Message { to, .. } => Ok(Extent::row(to.len())),
         Statement::Choice { branches, .. } => {
             let size = size_branches(place, branches.as_slice())?;
             Ok(size)
@@ -50,12 +50,12 @@ fn size_statement(place: &Place, statement: &Statement) -> Result<Growth, Stop>
         Statement::Rec { name, body, .. } => {
             let size = size_block(place, body.as_slice())?;
             if continues_in(name, body.as_slice()) {
-                Ok(sum(Growth::new(1, 0), size))
+                Ok(Extent::row(1).put(size))
             } else {
                 Ok(size)
             }
         }
-        Statement::Continue { .. } => Ok(Growth::new(0, 0)),
+        Statement::Continue { .. } => Ok(Extent::end()),
         Statement::Do {
             protocol,
             roles,
@@ -68,36 +68,19 @@ fn size_statement(place: &Place, statement: &Statement) -> Result<Growth, Stop>
 }
 
 #[cycle(sizes)]
-fn size_branches(place: &Place, branches: &[Block]) -> Result<Growth, Stop>
+fn size_branches(place: &Place, branches: &[Block]) -> Result<Extent, Stop>
     requires known { IsKnown place.now }
     requires part { AreSomewhere (protocol_at place.now) (blocks_of branches.now) }
     ensures { MatchResult result
         (BlocksGrow place.now.modules.now (protocol_at place.now) (blocks_of branches.now))
         (StopsAt place.now) }
 {
-    let mut size = Growth::new(0, 0);
+    let mut size = Extent::end();
     for branch in branches {
         let more = size_block(place, branch.body.as_slice())?;
-        size = sum(size, more);
+        size = size.or(more);
     }
     Ok(size)
-}
-
-// The growth of what has `outer`, where what follows it has `inner`.
-fn put(outer: Growth, inner: Growth) -> Growth
-    ensures { IsPut outer inner result }
-{
-    Growth::new(
-        outer.base + outer.times * inner.base,
-        outer.times * inner.times,
-    )
-}
-
-// The growth of the two side by side.
-fn sum(one: Growth, other: Growth) -> Growth
-    ensures { IsSum one other result }
-{
-    Growth::new(one.base + other.base, one.times + other.times)
 }
 
 /// Whether a `continue` of the recursion of this name stands in the block.

@@ -3,7 +3,7 @@
 use crate::declared::Declared;
 use crate::directory::Directory;
 use crate::fault::FaultKind;
-use crate::growth::Growth;
+use crate::growth::Extent;
 use crate::shape::Shape;
 use scrib_parser::tree::ModuleTree;
 use scrib_types::name::Name;
@@ -26,7 +26,7 @@ pub enum State {
 #[derive(Clone, Copy, Drop)]
 pub struct Summary {
     pub exits: bool,
-    pub size: Growth,
+    pub size: Extent,
     pub shape: Shape,
 }
 

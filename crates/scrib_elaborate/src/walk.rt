@@ -11,7 +11,6 @@ ghost use Rattle.scrib_parser.specs.declared.tree.ModuleTree.{ModuleTree};
 use crate::declared::Declared;
 use crate::directory::Directory;
 use crate::fault::{ElaborateFault, Fault, FaultKind};
-use crate::growth::MAX_NODES;
 use crate::own_names::check_own_names;
 use crate::shapes::shape_block;
 use crate::size::size_block;
@@ -109,7 +108,8 @@ fn forget(states: &mut [State])
     }
 }
 
-/// How many nodes the type of the protocol at this place will have, after a walk over it: at most 4,096.
+/// How many nodes the type of the protocol at this place will have, after a walk over it: at most 65,536, and at most
+/// 4,096 of them on a path.
 ///
 /// # Errors
 /// `Broken` with `TooLarge` and the place of the protocol; `OutOfMemory` where memory was refused.
@@ -126,8 +126,8 @@ pub fn check_size(
 {
     match states[root] {
         State::Walked(summary) => {
-            if summary.size.base < MAX_NODES {
-                return Ok(summary.size.base + 1);
+            if summary.size.fits() {
+                return Ok(summary.size.nodes.base + 1);
             }
             let at = declared[root];
             let rule = BrokenRule {

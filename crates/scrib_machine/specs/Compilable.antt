@@ -76,7 +76,7 @@ abbrev mutual
 
 -- the most nodes of a type that has a machine (this project's own)
 abbrev pub most_nodes : ℕ
-most_nodes = 4096
+most_nodes = 65536
 
 -- closed, guarded, with different messages in each choice, and not too large
 pub record IsCompilable (l : LocalTree) : Type 0 where

@@ -12,7 +12,7 @@ use scrib_types::shared_message::SharedMessage;
 use std::marker::Model;
 
 /// The number of a state, from 0.
-pub type State = u16;
+pub type State = u32;
 
 /// A transition: an action that a state can make, and the state to which it leads.
 #[derive(Drop)]

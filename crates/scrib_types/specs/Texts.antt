@@ -1,6 +1,8 @@
--- The printed text of messages and actions (this project's own).
+-- The printed text of messages and actions, and the word of a profile (this project's own).
 use Rattle.std.specs.Prelude.{ℕ, List, [], ◌∷◌, ◌++◌, Option, Some, None, codes}
 use Rattle.scrib_types.specs.declared.message.Message.{Message}
+use Rattle.scrib_types.specs.declared.profile.Profile.{Profile}
+use Rattle.scrib_types.specs.declared.profile.Profile.TheVariants.{Plain, Reception}
 use Rattle.scrib_types.specs.declared.event.Action.{Action}
 use Rattle.scrib_types.specs.declared.event.Action.TheVariants.{Join, Sends, Receives}
 
@@ -34,3 +36,8 @@ unfoldable pub action_text : Action → List ℕ
 action_text Join = codes "join"
 action_text (Sends q m) = q ++ 33 ∷ message_text m
 action_text (Receives p m) = p ++ 63 ∷ message_text m
+
+-- `plain` or `reception`
+abbrev pub profile_word : Profile → List ℕ
+profile_word Plain = codes "plain"
+profile_word Reception = codes "reception"

@@ -73,8 +73,8 @@ abbrev pub projects : Profile → GlobalTree → List (List ℕ) → Bool
 projects profile g [] = true
 projects profile g (r ∷ rs) = is_some (projection profile r g) && projects profile g rs
 
--- what each protocol is: at most 16 roles, all different, and a closed, well-formed global type of these
+-- what each protocol is: at most 64 roles, all different, and a closed, well-formed global type of these
 -- roles that has a projection on each, where receptions merge
 unfoldable pub is_protocol : List (List ℕ) → GlobalTree → Bool
 is_protocol roles g =
-    nat_le (length roles) 16 && distinct_roles roles && is_closed g && well_formed roles g && projects Reception g roles
+    nat_le (length roles) 64 && distinct_roles roles && is_closed g && well_formed roles g && projects Reception g roles

@@ -1,5 +1,8 @@
 //! Which branches merge in a projection.
 
+ghost use Rattle.std.specs.Prelude.{◌≡◌};
+ghost use Rattle.scrib_types.specs.Texts.{profile_word};
+
 /// Which branches of a choice merge for a role that has no part in it.
 #[derive(Clone, Copy, Debug, PartialEq, Eq)]
 pub enum Profile {
@@ -7,4 +10,16 @@ pub enum Profile {
     Plain,
     /// Also branches that begin with a reception from the same sender: it offers what each of them offers.
     Reception,
+}
+
+impl Profile {
+    /// The profile's word: `plain` or `reception`.
+    pub fn word(self) -> &'static str
+        ensures { result.now ≡ profile_word self }
+    {
+        match self {
+            Profile::Plain => "plain",
+            Profile::Reception => "reception",
+        }
+    }
 }

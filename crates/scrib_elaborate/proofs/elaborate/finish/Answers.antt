@@ -1,4 +1,4 @@
-use Rattle.std.proofs.Common.{sym, ap, ◌∙◌, subst}
+use Rattle.std.proofs.Common.{sym, ap, ◌∙◌, subst, arith}
 use Rattle.std.specs.List.{AllZip}
 use Rattle.scrib_types.specs.Agreement.{Agreement}
 use Rattle.scrib_types.specs.GlobalView.{global_of}
@@ -8,7 +8,7 @@ use Rattle.scrib_elaborate.specs.Meaning.{joins_of}
 use Rattle.scrib_elaborate.specs.Sites.{communications, several, IsJoinOf}
 use Rattle.scrib_elaborate.specs.Typing.{joins_told}
 use Rattle.scrib_elaborate.specs.Table.{shown, declaration_of}
-use Rattle.scrib_elaborate.proofs.Accepted.{accepted_sound, size_is_nodes}
+use Rattle.scrib_elaborate.proofs.Accepted.{accepted_sound, size_is_nodes, size_is_height}
 use Rattle.scrib_elaborate.proofs.Finished.{elaborated}
 use Rattle.scrib_elaborate.proofs.Sited.{sites_told}
 use Rattle.scrib_elaborate.proofs.elaborate.finish.Goals as goal
@@ -16,7 +16,17 @@ use Rattle.scrib_elaborate.proofs.elaborate.finish.Goals as goal
 pub new-requires-clause-counted : goal.new-requires-clause-counted
 new-requires-clause-counted c =
     let program = c.args.program.now in
-    sym (size_is_nodes program.modules.now (declaration_of program.root) c.args.count (global_of c.in-Ok.typed.global) c.requires.ready.counted c.in-Ok.ensures.ok.typed)
+    sym (size_is_nodes program.modules.now (declaration_of program.root) c.args.count (global_of c.in-Ok.typed.global) c.requires.ready.size.counted c.in-Ok.ensures.ok.typed)
+
+pub new-requires-clause-small : goal.new-requires-clause-small
+new-requires-clause-small c = c.requires.ready.size.small
+
+pub new-requires-clause-short : goal.new-requires-clause-short
+new-requires-clause-short c =
+    let program = c.args.program.now in
+    let within = c.requires.ready.size in
+    let high = size_is_height program.modules.now (declaration_of program.root) within.height (global_of c.in-Ok.typed.global) within.measured c.in-Ok.ensures.ok.typed in
+    omega (arith, high, within.short)
 
 pub new-requires-clause-sound : goal.new-requires-clause-sound
 new-requires-clause-sound c =

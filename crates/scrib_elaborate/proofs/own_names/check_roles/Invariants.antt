@@ -4,4 +4,4 @@ use Rattle.scrib_elaborate.specs.Names.{role_names}
 use Rattle.scrib_elaborate.proofs.own_names.check_roles.Given as goal
 
 abbrev pub invariant-loop-i : goal.invariant-loop-i
-invariant-loop-i l = record { few : l.i ≤ 16; distinct : distinct_roles (role_names (take l.i l.roles)) ≡ true }
+invariant-loop-i l = record { few : l.i ≤ 64; distinct : distinct_roles (role_names (take l.i l.roles)) ≡ true }

@@ -1,11 +1,11 @@
 use denote.Param.Weighed.{at_most, most as most_of}
 use Rattle.scrib_parser.specs.declared.tree.Statement.TheViews.{size-Statement, size-Block, size_is-Block, sized-Choice, sized-Rec}
-use Rattle.std.proofs.Common.{rules, min, sym, ap, ◌∙◌, subst}
+use Rattle.std.proofs.Common.{rules, sym, ap, ◌∙◌, subst}
 use Rattle.std.proofs.lemmas.List.{drop_all}
 use Rattle.scrib_elaborate.specs.Source.{Calls}
 use Rattle.scrib_elaborate.specs.SourceView.{step_of, body_of, blocks_of, message_of, choice_of, rec_of, continue_of, do_of}
 use Rattle.scrib_elaborate.specs.Elaboration.{continues_in}
-use Rattle.scrib_elaborate.specs.Growth.{BlockGrows}
+use Rattle.scrib_elaborate.specs.Growth.{BlockGrows, IsRow}
 use Rattle.scrib_elaborate.specs.Table.{protocol_at, IsPartSomewhere}
 use Rattle.scrib_elaborate.proofs.Checks.{body_more, blocks_more}
 use Rattle.scrib_elaborate.proofs.Grown.{begin_growing, step_growing, end_growing, begin_blocks, step_blocks, end_blocks, message_grows, continue_grows, choice_grows, loop_grows, pass_grows, call_grows}
@@ -16,7 +16,7 @@ use Rattle.scrib_elaborate.proofs.size.+sizes.Goals as goal
 
 pub size_block-loop-statement-init : goal.size_block-loop-statement-init
 size_block-loop-statement-init g c = record {
-  growing = begin_growing _ _ _ _ c.new-size.ensures.base c.new-size.ensures.times;
+  growing = begin_growing _ _ _ _ c.row-size.ensures;
   part = c.requires.part;
 }
 
@@ -44,7 +44,7 @@ size_block-returns g c =
 
 pub size_branches-loop-branch-init : goal.size_branches-loop-branch-init
 size_branches-loop-branch-init g c = record {
-  growing = begin_blocks _ _ _ _ c.new-size.ensures.base c.new-size.ensures.times;
+  growing = begin_blocks _ _ _ _ c.end-size.ensures;
   part = c.requires.part;
 }
 
@@ -61,7 +61,7 @@ pub size_branches-loop-branch-preserved : goal.size_branches-loop-branch-preserv
 size_branches-loop-branch-preserved g c =
     let more = blocks_more c.args.branches.now c.loop-branch.branch-index c.branch-item.result c.loop-branch-test.true c.branch-item.is in
     record {
-      growing = step_blocks _ _ _ _ c.in_ok-more.more _ _ _ _ _ more c.sum-size.ensures (subst (λ x. BlockGrows c.args.place.now.modules.now (protocol_at c.args.place.now) (body_of x) c.in_ok-more.more) c.as_slice.ensures c.in_ok-more.ensures) c.loop-branch.invariant.growing;
+      growing = step_blocks _ _ _ _ c.in_ok-more.more _ _ _ _ _ more c.or-size.ensures (subst (λ x. BlockGrows c.args.place.now.modules.now (protocol_at c.args.place.now) (body_of x) c.in_ok-more.more) c.as_slice.ensures c.in_ok-more.ensures) c.loop-branch.invariant.growing;
       part = others_somewhere (protocol_at c.args.place.now) _ _ _ _ more c.loop-branch.invariant.part;
     }
 
@@ -90,7 +90,7 @@ size_statement-check_call-requires-clause-stands g c =
 pub size_statement-returns-in-Message : goal.size_statement-returns-in-Message
 size_statement-returns-in-Message g c =
     let same = ap step_of c.in-Message.is ∙ message_of c.in-Message.message c.in-Message.from c.in-Message.to c.in-Message.spot in
-    message_grows _ (protocol_at c.args.place.now) _ _ _ _ _ c.new.result same (c.new.ensures.base ∙ ap (λ n. min 4096 n) c.len.ensures) c.new.ensures.times
+    message_grows _ (protocol_at c.args.place.now) _ _ _ _ _ c.row.result same (subst (λ n. IsRow n c.row.result) c.len.ensures c.row.ensures)
 
 pub size_statement-returns-in_ok-size-in-Choice : goal.size_statement-returns-in_ok-size-in-Choice
 size_statement-returns-in_ok-size-in-Choice g c =
@@ -101,7 +101,7 @@ pub size_statement-returns-then-continues_in : goal.size_statement-returns-then-
 size_statement-returns-then-continues_in g c =
     let same = ap step_of c.in-Rec.is ∙ rec_of c.in-Rec.name c.in-Rec.body c.in-Rec.spot in
     let used = sym (c.continues_in.ensures ∙ ap (λ b. continues_in c.in-Rec.name (body_of b)) c.as_slice-in-Rec-2.ensures) ∙ c.if-continues_in.true in
-    loop_grows _ (protocol_at c.args.place.now) _ _ _ _ _ c.new-then-continues_in.result c.in_ok-size-in-Rec.size c.sum.result same (ap body_of c.as_slice-in-Rec.ensures) used c.new-then-continues_in.ensures.base c.new-then-continues_in.ensures.times c.sum.ensures c.in_ok-size-in-Rec.ensures
+    loop_grows _ (protocol_at c.args.place.now) _ _ _ _ _ c.row-then-continues_in.result c.in_ok-size-in-Rec.size c.put.result same (ap body_of c.as_slice-in-Rec.ensures) used c.row-then-continues_in.ensures c.put.ensures c.in_ok-size-in-Rec.ensures
 
 pub size_statement-returns-else-continues_in : goal.size_statement-returns-else-continues_in
 size_statement-returns-else-continues_in g c =
@@ -112,7 +112,7 @@ size_statement-returns-else-continues_in g c =
 pub size_statement-returns-in-Continue : goal.size_statement-returns-in-Continue
 size_statement-returns-in-Continue g c =
     let same = ap step_of c.in-Continue.is ∙ continue_of c.in-Continue.name c.in-Continue.spot in
-    continue_grows _ (protocol_at c.args.place.now) _ _ _ c.new-in-Continue.result same c.new-in-Continue.ensures.base c.new-in-Continue.ensures.times
+    continue_grows _ (protocol_at c.args.place.now) _ _ _ c.end.result same c.end.ensures
 
 pub size_statement-returns-in_ok-called-in-Do : goal.size_statement-returns-in_ok-called-in-Do
 size_statement-returns-in_ok-called-in-Do g c =

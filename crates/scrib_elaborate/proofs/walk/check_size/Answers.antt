@@ -2,13 +2,13 @@ use Rattle.scrib_elaborate.proofs.Checks.{state_is}
 use Rattle.scrib_elaborate.proofs.Walks.{small_at, large_fails, not_walked}
 use Rattle.scrib_elaborate.proofs.walk.check_size.Goals as goal
 
-pub returns-then-summary-lt-MAX_NODES-clause-ok : goal.returns-then-summary-lt-MAX_NODES-clause-ok
-returns-then-summary-lt-MAX_NODES-clause-ok c = λ modules w.
-    small_at modules _ c.args.states.now c.args.root c.in-Walked.summary (state_is c.args.states.now c.args.root _ _ c.requires.stated c.in-Walked.is) c.if-summary-lt-MAX_NODES.true w
+pub returns-then-fits-clause-ok : goal.returns-then-fits-clause-ok
+returns-then-fits-clause-ok c = λ modules w.
+    small_at modules _ c.args.states.now c.args.root c.in-Walked.summary (state_is c.args.states.now c.args.root _ _ c.requires.stated c.in-Walked.is) (rw c.if-fits.true at c.fits.ensures) w
 
-pub returns-else-summary-lt-MAX_NODES-clause-fault : goal.returns-else-summary-lt-MAX_NODES-clause-fault
-returns-else-summary-lt-MAX_NODES-clause-fault c = λ modules w.
-    large_fails modules c.args.declared.now c.args.states.now c.args.root c.index-declared-root.result c.in-Walked.summary c.requires.there c.index-declared-root.is (state_is c.args.states.now c.args.root _ _ c.requires.stated c.in-Walked.is) c.if-summary-lt-MAX_NODES.false w c.fault_in.result c.fault_in.ensures
+pub returns-else-fits-clause-fault : goal.returns-else-fits-clause-fault
+returns-else-fits-clause-fault c = λ modules w.
+    large_fails modules c.args.declared.now c.args.states.now c.args.root c.index-declared-root.result c.in-Walked.summary c.requires.there c.index-declared-root.is (state_is c.args.states.now c.args.root _ _ c.requires.stated c.in-Walked.is) (rw c.if-fits.false at c.fits.ensures) w c.fault_in.result c.fault_in.ensures
 
 pub returns-in-Walking-clause-ok : goal.returns-in-Walking-clause-ok
 returns-in-Walking-clause-ok c = λ modules w.
