@@ -272,5 +272,6 @@ module _ (S : Declaration → Type 0) (P : Declaration → List (List ℕ) → T
         kept = rules_alike e.kept r.0;
         typed = types_alike e.typed (r.0, body e.declaration r.0, tt);
         small = e.small;
+        short = e.short;
         roles = e.roles;
       }

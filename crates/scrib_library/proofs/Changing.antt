@@ -3,6 +3,7 @@ use Rattle.std.proofs.Common.{◌≡◌, ◌≢◌, ℕ, Bool, true, false, not,
 use Rattle.std.specs.Prelude.{◌↔◌}
 use Rattle.std.specs.List.{Contains}
 use Rattle.std.proofs.lemmas.List.{same_from_push}
+use Rattle.scrib_types.specs.declared.profile.Profile.{Profile}
 use Rattle.scrib_types.specs.Agreement.{Agreement}
 use Rattle.scrib_parser.specs.declared.tree.ModuleTree.{ModuleTree}
 use Rattle.std.specs.Str.{bytes_eq}
@@ -83,7 +84,7 @@ declared_once ms distinct d e d_there d_in e_there e_in once same =
     let protocol : d.protocol ≡ e.protocol = protocol_once d.home.protocols once d.protocol e.protocol d_in (subst P (sym home) e_in) names.1 in
     λ i. record { home = home i; protocol = protocol i }
 
-module _ (m : ModuleTree) (before after : List ModuleTree) (p : Placed) (placed : IsPlaced m before after p) (versions : List NamedVersion) (used : ℕ) (library : IsLibrary before versions used) where
+module _ (profile : Profile) (m : ModuleTree) (before after : List ModuleTree) (p : Placed) (placed : IsPlaced m before after p) (versions : List NamedVersion) (used : ℕ) (library : IsLibrary profile before versions used) where
   pub distinct_after : distinct_names (module_names after) ≡ true
   distinct_after =
       let P : List ModuleTree → Type 0 = λ l. distinct_names (module_names l) ≡ true in
@@ -314,16 +315,16 @@ module _ (m : ModuleTree) (before after : List ModuleTree) (p : Placed) (placed 
               (a, declared_means after d (name_of d) a h refl))
         ]
 
-    module _ (ys : List NamedMeaning) (meanings : AreMeanings after reached ys) where
-      pub covered : IsCovered before after ys
+    module _ (ys : List NamedMeaning) (meanings : AreMeanings profile after reached ys) where
+      pub covered : IsCovered profile before after ys
       covered = record {
         same = λ n non a. same_outside n (λ q. non (let P : List (List (List ℕ)) → Type 0 = λ l. Contains l n in subst P (sym meanings.names) q)) a;
         means = λ y q.
             let s = meanings.sound y q in
             let P : List (List ℕ) → Type 0 = λ n. IsMeaning after n (meant y) in
             subst P (sym s.named) (entry_means s.entry (meant y) (reaching.sound s.entry s.there) s.means);
-        plain = meanings.plain;
-        meant_all = meant_after (elaborable_from after reached reaching.sorted ys meanings);
+        projected = meanings.projected;
+        meant_all = meant_after (elaborable_from after reached reaching.sorted profile ys meanings);
       }
 
   -- ---- the library after the put
@@ -346,7 +347,7 @@ module _ (m : ModuleTree) (before after : List ModuleTree) (p : Placed) (placed 
 
   -- why there are no meanings is why the put fails
   module _ (room : HasRoom m after) (names : List (List (List ℕ))) (affected : AreAffected after m.name names) (entries : List Entry) (touched : AreTouched after names p.replaced entries) (reached : List Entry) (reaching : AreReaching m.name entries reached) where
-    pub refused_meanings : (f : EditFault) → IsRefusal after reached f → ModuleFails before used m after f
+    pub refused_meanings : (f : EditFault) → IsRefusal profile after reached f → ModuleFails profile before used m after f
     refused_meanings (edit.Elaborate f) k = (room, k.1)
     refused_meanings (edit.Project u) k = (room, meant_after names affected entries touched reached reaching k.1, k.2)
     refused_meanings edit.OutOfMemory k = tt
@@ -358,14 +359,15 @@ module _ (m : ModuleTree) (before after : List ModuleTree) (p : Placed) (placed 
     refused_meanings edit.VersionsFull k = absurd k
     refused_meanings (edit.Lex f) k = absurd k
     refused_meanings (edit.Parse f) k = absurd k
+    refused_meanings (edit.NeedsReception n) k = absurd k
 
   -- or of versions of them
-  module _ (room : HasRoom m after) (ys : List NamedMeaning) (in_order : AreInOrder (meaning_names ys)) (covers : IsCovered before after ys) where
-    pub refused_draft : IsSpelled m → (f : EditFault) → StopsDraft versions ys used f → ModuleFails before used m after f
+  module _ (room : HasRoom m after) (ys : List NamedMeaning) (in_order : AreInOrder (meaning_names ys)) (covers : IsCovered profile before after ys) where
+    pub refused_draft : IsSpelled m → (f : EditFault) → StopsDraft versions ys used f → ModuleFails profile before used m after f
     refused_draft new edit.VersionsFull k = (
       room,
-      well_formed before after versions library.stored ys in_order covers library.plain (imports_after room),
-      runs_out before after versions library.stored ys in_order covers library.spelled (spelled_after new) used k.0 k.1,
+      well_formed profile before after versions library.stored ys in_order covers library.projected (imports_after room),
+      runs_out profile before after versions library.stored ys in_order covers library.spelled (spelled_after new) used k.0 k.1,
     )
     refused_draft new edit.OutOfMemory k = tt
     refused_draft new edit.TooManyModules k = absurd k
@@ -377,3 +379,4 @@ module _ (m : ModuleTree) (before after : List ModuleTree) (p : Placed) (placed 
     refused_draft new (edit.Project u) k = absurd k
     refused_draft new (edit.Lex g) k = absurd k
     refused_draft new (edit.Parse g) k = absurd k
+    refused_draft new (edit.NeedsReception n) k = absurd k

@@ -3,7 +3,7 @@ use Rattle.std.proofs.Common.{◌≡◌, ℕ, ◌≤◌, true, List, [], ◌∷�
 use Rattle.std.specs.Prelude.{◌↔◌}
 use Rattle.std.specs.List.{Contains}
 use Rattle.scrib_types.specs.Agreement.{Agreement}
-use Rattle.scrib_types.specs.declared.profile.Profile.TheVariants.{Plain}
+use Rattle.scrib_types.specs.declared.profile.Profile.{Profile}
 use Rattle.scrib_types.specs.WellFormed.{projects}
 use Rattle.scrib_parser.specs.declared.tree.ModuleTree.{ModuleTree}
 use Rattle.scrib_elaborate.specs.Names.{dotted_eq}
@@ -16,12 +16,12 @@ use Rattle.scrib_library.specs.declared.meanings.NamedMeaning.{NamedMeaning}
 use Rattle.scrib_library.specs.declared.changes.ChangeKind.{ChangeKind}
 use Rattle.scrib_library.specs.declared.changes.ChangeKind.TheVariants.{Added, Replaced, Withdrawn}
 use Rattle.scrib_library.specs.declared.changes.Change.{Change}
-use Rattle.scrib_library.specs.Modules.{name_of, Means, IsMeaning, AreImportsThere, AreMeantPlainly, AreWellFormed}
+use Rattle.scrib_library.specs.Modules.{name_of, Means, IsMeaning, AreImportsThere, AllProject, AreWellFormed}
 use Rattle.scrib_library.specs.Holdings.{HasNumber}
 use Rattle.scrib_library.specs.Listed.{AreInOrder}
 use Rattle.scrib_library.specs.Edits.{Changes, IsChanges, AreVersionsUsed, RunsOut}
 use Rattle.scrib_library.specs.Stored.{version_names, HasVersion, IsVersion, AreVersions, AreCounted, IsSpelled}
-use Rattle.scrib_library.specs.Elaborated.{IsPlain, meant, meaning_names}
+use Rattle.scrib_library.specs.Elaborated.{ProjectsUnder, meant, meaning_names}
 use Rattle.scrib_library.specs.Drafts.{shown, edit_names, meaning_before, IsKind, IsChangedBy, IsUnchanged, IsDraft, IsOverdrawn, AreMade}
 use Rattle.scrib_library.specs.Plans.{IsCovered}
 use Rattle.scrib_library.proofs.Lists.{Contains-nil, Contains-head_at, Contains-tail, Contains-cases, Contains-map, Contains-map_back}
@@ -102,11 +102,11 @@ unchanged before after n a p q Added d = d.0 a p
 unchanged before after n a p q Withdrawn d = d.1 a q
 unchanged before after n a p q Replaced d = d.4 (means_once before n d.0 a d.2 p ∙ means_once after n a d.1 q d.3)
 
-plain_some : (o : Option Agreement) (a : Agreement) → o ≡ Some a → IsPlain o → projects Plain a.global a.roles ≡ true
-plain_some None a e h = absurd (cc)
-plain_some (Some b) a e h = let same : b ≡ a = cc in subst (λ (x : Agreement). projects Plain x.global x.roles ≡ true) same h
+projects_some : (profile : Profile) (o : Option Agreement) (a : Agreement) → o ≡ Some a → ProjectsUnder profile o → projects profile a.global a.roles ≡ true
+projects_some profile None a e h = absurd (cc)
+projects_some profile (Some b) a e h = let same : b ≡ a = cc in subst (λ (x : Agreement). projects profile x.global x.roles ≡ true) same h
 
-module _ (before after : List ModuleTree) (olds : List NamedVersion) (old : AreVersions before olds) (ys : List NamedMeaning) (sorted : AreInOrder (meaning_names ys)) (covered : IsCovered before after ys) where
+module _ (profile : Profile) (before after : List ModuleTree) (olds : List NamedVersion) (old : AreVersions before olds) (ys : List NamedMeaning) (sorted : AreInOrder (meaning_names ys)) (covered : IsCovered profile before after ys) where
   -- what a name means, where it is one of these
   meant_here : (n : List (List ℕ)) (y : NamedMeaning) → Contains ys y → y.name ≡ n → IsMeaning after n (meant y)
   meant_here n y p e = let P : List (List ℕ) → Type 0 = λ m. IsMeaning after m (meant y) in subst P e (covered.means y p)
@@ -116,17 +116,17 @@ module _ (before after : List ModuleTree) (olds : List NamedVersion) (old : AreV
   some_here n a (Some b) p q = ap (λ (x : Agreement). Some x) (means_once after n b a p q)
 
   -- what projects before projects after
-  pub plain_after : AreMeantPlainly before → AreMeantPlainly after
-  plain_after plain n a p =
+  pub projected_after : AllProject profile before → AllProject profile after
+  projected_after projected n a p =
       elim (among n (meaning_names ys)) [
         | inl q ↦ (
             let c = Contains-map_back (λ (y : NamedMeaning). y.name) ys n q in
-            plain_some (meant c.0) a (some_here n a (meant c.0) (meant_here n c.0 c.1 c.2) p) (covered.plain c.0 c.1))
-        | inr non ↦ plain n a ((covered.same n non a).1 p)
+            projects_some profile (meant c.0) a (some_here n a (meant c.0) (meant_here n c.0 c.1 c.2) p) (covered.projected c.0 c.1))
+        | inr non ↦ projected n a ((covered.same n non a).1 p)
       ]
 
-  pub well_formed : AreMeantPlainly before → AreImportsThere after → AreWellFormed after
-  well_formed plain imports = record { imports = imports; meant = covered.meant_all; projected = λ d a p q. plain_after plain (name_of d) a (means_declared after d a q) }
+  pub well_formed : AllProject profile before → AreImportsThere after → AreWellFormed profile after
+  well_formed projected imports = record { imports = imports; meant = covered.meant_all; projected = λ d a p q. projected_after projected (name_of d) a (means_declared after d a q) }
 
   changed_by : (kind : ChangeKind) (n : List (List ℕ)) → IsChangedBy olds ys kind n → Changes before after kind n
   changed_by kind n h =
@@ -329,28 +329,28 @@ module _ (before after : List ModuleTree) (olds : List NamedVersion) (old : AreV
           few = draft.few;
         }
 
-        pub versions_used : AreVersionsUsed (holdings before olds first) (holdings after news used) (shown es)
+        pub versions_used : AreVersionsUsed (holdings profile before olds first) (holdings profile after news used) (shown es)
         versions_used = record {
           count = draft.count;
           few = draft.few;
           stamped = record {
             kept = λ n a k h p.
-                let s = number_back before olds first n k h.number in
+                let s = number_back profile before olds first n k h.number in
                 let non : Contains (edit_names es) n → ⊥ =
                 (λ q. let e = Contains-map_back (λ (x : VersionEdit). x.name) es n q in
                 let P : List (List ℕ) → Type 0 = λ m. Changes before after e.0.kind m in
                 unchanged before after n a h.meaning p e.0.kind (subst P e.2 (change_of e.0 e.1))) in
-                let P : ℕ → Type 0 = λ l. HasNumber (holdings after news used) n l in
-                subst P s.2 (number_there after news used n s.0 ((kept_version n s.0 non).1 s.1));
+                let P : ℕ → Type 0 = λ l. HasNumber (holdings profile after news used) n l in
+                subst P s.2 (number_there profile after news used n s.0 ((kept_version n s.0 non).1 s.1));
             fresh = λ n a k h.
-                let s = number_back after news used n k h.number in
+                let s = number_back profile after news used n k h.number in
                 elim (version_cases n s.0 s.1) [
                   | inl q ↦ inl (
                       let means = means_stored before olds old n s.0 q in
                       let same : meaning_of s.0 ≡ a = means_once after n (meaning_of s.0) a (new_means n s.0 s.1) h.meaning in
                       let P : Agreement → Type 0 = λ b. Means before n b in
-                      let Q : ℕ → Type 0 = λ l. HasNumber (holdings before olds first) n l in
-                      record { meaning = subst P same means; number = subst Q s.2 (number_there before olds first n s.0 q) })
+                      let Q : ℕ → Type 0 = λ l. HasNumber (holdings profile before olds first) n l in
+                      record { meaning = subst P same means; number = subst Q s.2 (number_there profile before olds first n s.0 q) })
                   | inr e ↦ inr (let P : ℕ → Type 0 = λ l. first ≤ l in subst P s.2 (draft.numbers e.0 s.0 e.1 e.3).0)
                 ];
           };

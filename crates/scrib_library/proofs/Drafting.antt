@@ -199,6 +199,7 @@ module _ (olds : List NamedVersion) (ys : List NamedMeaning) (first : ℕ) (es :
     draft_full b at all more (edit.Project u) k = absurd k
     draft_full b at all more (edit.Lex g) k = absurd k
     draft_full b at all more (edit.Parse g) k = absurd k
+    draft_full b at all more (edit.NeedsReception n) k = absurd k
 
 -- ---- the front of the meanings
 

@@ -5,7 +5,7 @@ use Rattle.std.specs.Option.{option_map}
 use Rattle.std.proofs.lemmas.Bool.{false≢true}
 use Rattle.std.proofs.lemmas.List.{map-append}
 use Rattle.std.proofs.lemmas.List.Elements.{Contains-push_cases}
-use Rattle.scrib_types.specs.declared.profile.Profile.TheVariants.{Plain}
+use Rattle.scrib_types.specs.declared.profile.Profile.{Profile}
 use Rattle.scrib_types.specs.declared.protocol.Protocol.{Protocol}
 use Rattle.scrib_types.specs.Agreement.{Agreement}
 use Rattle.scrib_types.specs.Meaning.{agreement_of}
@@ -32,7 +32,7 @@ use Rattle.scrib_library.specs.declared.fault.EditFault.TheVariants as edit
 use Rattle.scrib_library.specs.Made.{edit_fault_of_elaborate, edit_fault_of_project}
 use Rattle.scrib_library.specs.Listed.{AreInOrder}
 use Rattle.scrib_library.specs.Entries.{entry_names, AreStanding}
-use Rattle.scrib_library.specs.Elaborated.{elaborated_names, meaning_names, found, meant, IsPlain, IsMeant, IsMeaningOf, HasSites, IsFoundFor, IsFoundAmong, IsBrokenEntry, AreElaborated, AreMeanings, IsProjected, StopsNamed, IsProjectionOf, AreProjected, AreElaborable, StopsProjection, IsRefusal}
+use Rattle.scrib_library.specs.Elaborated.{elaborated_names, meaning_names, found, meant, ProjectsUnder, IsMeant, IsMeaningOf, HasSites, IsFoundFor, IsFoundAmong, IsBrokenEntry, AreElaborated, AreMeanings, IsProjected, StopsNamed, IsProjectionOf, AreProjected, AreElaborable, StopsProjection, IsRefusal}
 use Rattle.scrib_library.proofs.Lists.{Contains-map, Contains-map_back}
 use Rattle.scrib_library.proofs.Orders.{once}
 
@@ -54,61 +54,62 @@ module _ (ms : List ModuleTree) (es : List Entry) where
     ],
   )
 
-  -- why one isn't
-  pub not_elaborated : AreStanding ms es → (e : Entry) (f : EditFault) → Contains es e → IsBrokenEntry ms e f → IsRefusal ms es f
-  not_elaborated stand e (edit.Elaborate f) there k =
+  -- why one isn't, whatever the profile
+  pub not_elaborated : AreStanding ms es → (e : Entry) (f : EditFault) → Contains es e → IsBrokenEntry ms e f → (profile : Profile) → IsRefusal profile ms es f
+  not_elaborated stand e (edit.Elaborate f) there k profile =
       let s = stand e there k.0 in
       let P : List (List ℕ) → Type 0 = λ home. IsBroken ms home s.declaration.protocol.name f in
       let Q : List ℕ → Type 0 = λ name. IsBroken ms e.home.now.name name f in
       ((e, there, k.0), (s.declaration, s.there, subst P (ap (λ (x : ModuleTree). x.name) s.entry.home) (subst Q (ap (λ (x : ProtocolDeclaration). x.name) s.entry.protocol) k.1)))
-  not_elaborated stand e edit.OutOfMemory there k = tt
-  not_elaborated stand e (edit.Project u) there k = absurd k
-  not_elaborated stand e edit.TooManyModules there k = absurd k
-  not_elaborated stand e edit.UnknownModule there k = absurd k
-  not_elaborated stand e (edit.StillImported n) there k = absurd k
-  not_elaborated stand e (edit.ImportMissing n) there k = absurd k
-  not_elaborated stand e edit.TooManyProtocols there k = absurd k
-  not_elaborated stand e edit.VersionsFull there k = absurd k
-  not_elaborated stand e (edit.Lex f) there k = absurd k
-  not_elaborated stand e (edit.Parse f) there k = absurd k
+  not_elaborated stand e edit.OutOfMemory there k profile = tt
+  not_elaborated stand e (edit.Project u) there k profile = absurd k
+  not_elaborated stand e edit.TooManyModules there k profile = absurd k
+  not_elaborated stand e edit.UnknownModule there k profile = absurd k
+  not_elaborated stand e (edit.StillImported n) there k profile = absurd k
+  not_elaborated stand e (edit.ImportMissing n) there k profile = absurd k
+  not_elaborated stand e edit.TooManyProtocols there k profile = absurd k
+  not_elaborated stand e edit.VersionsFull there k profile = absurd k
+  not_elaborated stand e (edit.Lex f) there k profile = absurd k
+  not_elaborated stand e (edit.Parse f) there k profile = absurd k
+  not_elaborated stand e (edit.NeedsReception n) there k profile = absurd k
 
 -- ---- projection
 
--- a protocol that was made has all projections by the plain merge
-pub plain_of : (a : Agreement) (p : Protocol) → Agrees Plain a (Ok p) → IsPlain (Some (agreement_of p))
-plain_of a p k = subst (λ (x : Agreement). projects Plain x.global x.roles ≡ true) (sym k.0) (all_project Plain a.global a.roles k.1)
+-- a protocol that was made has all projections under the profile
+pub projects_made : (profile : Profile) (a : Agreement) (p : Protocol) → Agrees profile a (Ok p) → ProjectsUnder profile (Some (agreement_of p))
+projects_made profile a p k = subst (λ (x : Agreement). projects profile x.global x.roles ≡ true) (sym k.0) (all_project profile a.global a.roles k.1)
 
-pub projected_named : (x : NamedElaborated) (e : Elaborated) (p : ProjectedProtocol) (o : Option ProjectedProtocol) → x.elaborated ≡ Some e → Agrees Plain (meaning_of e) (Ok p.protocol) → o ≡ Some p → IsProjected x (record { name = x.name; projected = o })
-projected_named x e p o from k is =
+pub projected_named : (profile : Profile) (x : NamedElaborated) (e : Elaborated) (p : ProjectedProtocol) (o : Option ProjectedProtocol) → x.elaborated ≡ Some e → Agrees profile (meaning_of e) (Ok p.protocol) → o ≡ Some p → IsProjected profile x (record { name = x.name; projected = o })
+projected_named profile x e p o from k is =
     let shown : option_map (λ (q : ProjectedProtocol). agreement_of q.protocol) o ≡ Some (agreement_of p.protocol) = ap (option_map (λ (q : ProjectedProtocol). agreement_of q.protocol)) is in
     record {
       named = refl;
       means = shown ∙ ap Some k.0 ∙ ap (option_map meaning_of) (sym from);
-      plain = subst IsPlain (sym shown) (plain_of (meaning_of e) p.protocol k);
+      projected = subst (ProjectsUnder profile) (sym shown) (projects_made profile (meaning_of e) p.protocol k);
     }
 
-pub nothing_named : (x : NamedElaborated) (o : Option ProjectedProtocol) → x.elaborated ≡ None → o ≡ None → IsProjected x (record { name = x.name; projected = o })
-nothing_named x o from is =
+pub nothing_named : (profile : Profile) (x : NamedElaborated) (o : Option ProjectedProtocol) → x.elaborated ≡ None → o ≡ None → IsProjected profile x (record { name = x.name; projected = o })
+nothing_named profile x o from is =
     let shown : option_map (λ (q : ProjectedProtocol). agreement_of q.protocol) o ≡ None = ap (option_map (λ (q : ProjectedProtocol). agreement_of q.protocol)) is in
-    record { named = refl; means = shown ∙ ap (option_map meaning_of) (sym from); plain = subst IsPlain (sym shown) tt }
+    record { named = refl; means = shown ∙ ap (option_map meaning_of) (sym from); projected = subst (ProjectsUnder profile) (sym shown) tt }
 
-pub unprojected_named : (x : NamedElaborated) (e : Elaborated) (f : ProjectFault) → x.elaborated ≡ Some e → Agrees Plain (meaning_of e) (Err f)
-    → ((ms : List ModuleTree) (home : List (List ℕ)) (name : List ℕ) → AreSites ms home name e → IsFaultPlaced Plain ms home name (meaning_of e).global f) → StopsNamed x (edit_fault_of_project f)
-unprojected_named x e project.OutOfMemory is k place = tt
-unprojected_named x e (project.Unmergeable u) is k place = record { elaborated = e; is = is; first = k.0; place = place }
+pub unprojected_named : (profile : Profile) (x : NamedElaborated) (e : Elaborated) (f : ProjectFault) → x.elaborated ≡ Some e → Agrees profile (meaning_of e) (Err f)
+    → ((ms : List ModuleTree) (home : List (List ℕ)) (name : List ℕ) → AreSites ms home name e → IsFaultPlaced profile ms home name (meaning_of e).global f) → StopsNamed profile x (edit_fault_of_project f)
+unprojected_named profile x e project.OutOfMemory is k place = tt
+unprojected_named profile x e (project.Unmergeable u) is k place = record { elaborated = e; is = is; first = k.0; place = place }
 
-module _ (xs : List NamedElaborated) where
-  pub projected_more : (vs : List NamedMeaning) (ys : List NamedElaborated) (x : NamedElaborated) (v : NamedMeaning) → Contains xs x → meaning_names vs ≡ elaborated_names ys → ((w : NamedMeaning) → Contains vs w → IsProjectionOf xs w) → IsProjected x v
-      → (meaning_names (vs ++ v ∷ []) ≡ elaborated_names (ys ++ x ∷ [])) × ((w : NamedMeaning) → Contains (vs ++ v ∷ []) w → IsProjectionOf xs w)
+module _ (profile : Profile) (xs : List NamedElaborated) where
+  pub projected_more : (vs : List NamedMeaning) (ys : List NamedElaborated) (x : NamedElaborated) (v : NamedMeaning) → Contains xs x → meaning_names vs ≡ elaborated_names ys → ((w : NamedMeaning) → Contains vs w → IsProjectionOf profile xs w) → IsProjected profile x v
+      → (meaning_names (vs ++ v ∷ []) ≡ elaborated_names (ys ++ x ∷ [])) × ((w : NamedMeaning) → Contains (vs ++ v ∷ []) w → IsProjectionOf profile xs w)
   projected_more vs ys x v there names sound new = (
     map-append (λ (y : NamedMeaning). y.name) vs (v ∷ []) ∙ (λ i. names i ++ new.named i ∷ []) ∙ sym (map-append (λ (y : NamedElaborated). y.name) ys (x ∷ [])),
     λ w p. elim (Contains-push_cases vs v w p) [
       | inl q ↦ sound w q
-      | inr same ↦ (let P : NamedMeaning → Type 0 = λ z. IsProjectionOf xs z in subst P same (record { source = x; there = there; named = new.named; means = new.means; plain = new.plain }))
+      | inr same ↦ (let P : NamedMeaning → Type 0 = λ z. IsProjectionOf profile xs z in subst P same (record { source = x; there = there; named = new.named; means = new.means; projected = new.projected }))
     ],
   )
 
-  pub not_projected : (x : NamedElaborated) (f : EditFault) → Contains xs x → StopsNamed x f → StopsProjection xs f
+  pub not_projected : (x : NamedElaborated) (f : EditFault) → Contains xs x → StopsNamed profile x f → StopsProjection profile xs f
   not_projected x (edit.Project u) there k = (x, there, k)
   not_projected x edit.OutOfMemory there k = tt
   not_projected x (edit.Elaborate f) there k = absurd k
@@ -120,6 +121,7 @@ module _ (xs : List NamedElaborated) where
   not_projected x edit.VersionsFull there k = absurd k
   not_projected x (edit.Lex f) there k = absurd k
   not_projected x (edit.Parse f) there k = absurd k
+  not_projected x (edit.NeedsReception n) there k = absurd k
 
 -- ---- both
 
@@ -144,13 +146,13 @@ module _ (ms : List ModuleTree) (es : List Entry) where
       let P : (e : Entry) → List (List (List ℕ)) → Type 0 = λ e l. Contains l e.name in
       elaborable sorted NamedElaborated xs (λ x. x.name) found (λ e p. Contains-map_back (λ (x : NamedElaborated). x.name) xs e.name (subst (P e) (sym h.names) (Contains-map (λ (y : Entry). y.name) es e p))) (λ x p. meaning_found x (h.sound x p))
 
-  pub elaborable_from : AreInOrder (entry_names es) → (ys : List NamedMeaning) → AreMeanings ms es ys → AreElaborable ms es
-  elaborable_from sorted ys h =
+  pub elaborable_from : AreInOrder (entry_names es) → (profile : Profile) (ys : List NamedMeaning) → AreMeanings profile ms es ys → AreElaborable ms es
+  elaborable_from sorted profile ys h =
       let P : (e : Entry) → List (List (List ℕ)) → Type 0 = λ e l. Contains l e.name in
       elaborable sorted NamedMeaning ys (λ x. x.name) meant (λ e p. Contains-map_back (λ (x : NamedMeaning). x.name) ys e.name (subst (P e) (sym h.names) (Contains-map (λ (y : Entry). y.name) es e p))) h.sound
 
-  module _ (xs : List NamedElaborated) (h : AreElaborated ms es xs) where
-    pub meanings_made : (ys : List NamedMeaning) → AreProjected xs ys → AreMeanings ms es ys
+  module _ (profile : Profile) (xs : List NamedElaborated) (h : AreElaborated ms es xs) where
+    pub meanings_made : (ys : List NamedMeaning) → AreProjected profile xs ys → AreMeanings profile ms es ys
     meanings_made ys k = record {
       names = k.names ∙ h.names;
       sound = λ y p.
@@ -158,10 +160,10 @@ module _ (ms : List ModuleTree) (es : List Entry) where
           let m = h.sound s.source s.there in
           let P : Option Agreement → Type 0 = λ o. IsMeant ms m.entry o in
           record { entry = m.entry; there = m.there; named = s.named ∙ m.found.named; means = subst P (sym s.means) m.found.means };
-      plain = λ y p. (k.sound y p).plain;
+      projected = λ y p. (k.sound y p).projected;
     }
 
-    pub no_meanings : AreInOrder (entry_names es) → AreStanding ms es → (f : EditFault) → StopsProjection xs f → IsRefusal ms es f
+    pub no_meanings : AreInOrder (entry_names es) → AreStanding ms es → (f : EditFault) → StopsProjection profile xs f → IsRefusal profile ms es f
     no_meanings sorted stand (edit.Project u) (x, there, k) =
         let m = h.sound x there in
         let g = (meaning_of k.elaborated).global in
@@ -170,8 +172,8 @@ module _ (ms : List ModuleTree) (es : List Entry) where
         let e = subst P k.is m.found.means in
         let at = k.place ms m.entry.home.now.name m.entry.protocol.now.name (subst Q k.is m.found.sites) in
         let s = stand m.entry m.there e.0 in
-        let R : List (List ℕ) → Type 0 = λ home. Elaborates ms home s.declaration.protocol.name (meaning_of k.elaborated) × IsPlaced Plain ms home s.declaration.protocol.name g u in
-        let S : List ℕ → Type 0 = λ name. Elaborates ms m.entry.home.now.name name (meaning_of k.elaborated) × IsPlaced Plain ms m.entry.home.now.name name g u in
+        let R : List (List ℕ) → Type 0 = λ home. Elaborates ms home s.declaration.protocol.name (meaning_of k.elaborated) × IsPlaced profile ms home s.declaration.protocol.name g u in
+        let S : List ℕ → Type 0 = λ name. Elaborates ms m.entry.home.now.name name (meaning_of k.elaborated) × IsPlaced profile ms m.entry.home.now.name name g u in
         let both = subst R (ap (λ (x : ModuleTree). x.name) s.entry.home) (subst S (ap (λ (x : ProtocolDeclaration). x.name) s.entry.protocol) (e.1, at)) in
         ((m.entry, m.there, e.0), elaborable_by sorted xs h, (s.declaration, meaning_of k.elaborated, s.there, both.0, k.first, both.1))
     no_meanings sorted stand edit.OutOfMemory k = tt
@@ -184,3 +186,4 @@ module _ (ms : List ModuleTree) (es : List Entry) where
     no_meanings sorted stand edit.VersionsFull k = absurd k
     no_meanings sorted stand (edit.Lex f) k = absurd k
     no_meanings sorted stand (edit.Parse f) k = absurd k
+    no_meanings sorted stand (edit.NeedsReception n) k = absurd k

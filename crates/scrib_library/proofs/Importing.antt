@@ -19,7 +19,7 @@ use Rattle.scrib_library.proofs.Texts.{text_cmp}
 
 -- ---- the order of names
 
-not_after_itself : (a b : List (List ℕ)) → a ≡ b → name_cmp a b ≢ Greater
+pub not_after_itself : (a b : List (List ℕ)) → a ≡ b → name_cmp a b ≢ Greater
 not_after_itself a b e g =
     let tied : name_cmp a b ≡ Equal = ap (name_cmp a) (sym e) ∙ tied_itself name_cmp_total a in
     cc

@@ -21,3 +21,4 @@ pub mod Planning
 pub mod Naming
 pub mod Withdrawing
 pub mod Importing
+pub mod Projecting

@@ -7,6 +7,7 @@ use Rattle.std.specs.Str.{bytes_eq}
 use Rattle.std.proofs.lemmas.Bool.{and_parts}
 use Rattle.std.proofs.lemmas.List.{same_from_push, length-map, get_or-map}
 use Rattle.std.proofs.lemmas.Slice.Eq.{bytes_eq-Decides}
+use Rattle.scrib_types.specs.declared.profile.Profile.{Profile}
 use Rattle.scrib_types.specs.Agreement.{Agreement}
 use Rattle.scrib_types.specs.WellFormed.{is_protocol}
 use Rattle.scrib_record.specs.declared.version.Version.{Version}
@@ -106,24 +107,24 @@ module _ (ms : List ModuleTree) (vs : List NamedVersion) (h : AreVersions ms vs)
 abbrev pub stamp_of : NamedVersion → Stamp
 stamp_of v = record { name = v.name; number = number_of v.version }
 
-abbrev pub holdings : List ModuleTree → List NamedVersion → ℕ → Holdings
-holdings ms vs used = record { modules = ms; stamps = stamps_of vs; used = used }
+abbrev pub holdings : Profile → List ModuleTree → List NamedVersion → ℕ → Holdings
+holdings profile ms vs used = record { profile = profile; modules = ms; stamps = stamps_of vs; used = used }
 
-module _ (ms : List ModuleTree) (vs : List NamedVersion) (used : ℕ) where
-  pub number_there : (n : List (List ℕ)) (w : Version) → HasVersion vs n w → HasNumber (holdings ms vs used) n (number_of w)
+module _ (profile : Profile) (ms : List ModuleTree) (vs : List NamedVersion) (used : ℕ) where
+  pub number_there : (n : List (List ℕ)) (w : Version) → HasVersion vs n w → HasNumber (holdings profile ms vs used) n (number_of w)
   number_there n w p = Contains-map stamp_of vs (record { name = n; version = w }) p
 
-  pub number_back : (n : List (List ℕ)) (k : ℕ) → HasNumber (holdings ms vs used) n k → (w : Version) × HasVersion vs n w × (number_of w ≡ k)
+  pub number_back : (n : List (List ℕ)) (k : ℕ) → HasNumber (holdings profile ms vs used) n k → (w : Version) × HasVersion vs n w × (number_of w ≡ k)
   number_back n k p =
       let c = Contains-map_back stamp_of vs (record { name = n; number = k }) p in
       let P : List (List ℕ) → Type 0 = λ m. HasVersion vs m c.0.version in
       (c.0.version, subst P (ap (λ (s : Stamp). s.name) c.2) c.1, ap (λ (s : Stamp). s.number) c.2)
 
-  pub numbered_answer : (n : List (List ℕ)) (o : Option Version) → IsVersion vs n o → IsNumber (holdings ms vs used) n (option_map number_of o)
+  pub numbered_answer : (n : List (List ℕ)) (o : Option Version) → IsVersion vs n o → IsNumber (holdings profile ms vs used) n (option_map number_of o)
   numbered_answer n None p = λ k q. (let s = number_back n k q in p s.0 s.1)
   numbered_answer n (Some w) p = number_there n w p
 
-  pub are_numbered : AreVersions ms vs → AreCounted vs used → AreNumbered (holdings ms vs used)
+  pub are_numbered : AreVersions ms vs → AreCounted vs used → AreNumbered (holdings profile ms vs used)
   are_numbered h counted = record {
     numbered = λ n a p. (let s = stored_means ms vs h n a p in (number_of s.0, number_there n s.0 s.1));
     meant = λ n k p. (let s = number_back n k p in (meaning_of s.0, means_stored ms vs h n s.0 s.1));
@@ -180,6 +181,6 @@ pub answered_now : (ms : List ModuleTree) (vs : List NamedVersion) → AreVersio
 answered_now ms vs h n None p = answered ms vs h n None p
 answered_now ms vs h n (Some v) p = answered ms vs h n (Some v.now) p
 
-pub numbered_now : (ms : List ModuleTree) (vs : List NamedVersion) (used : ℕ) (n : List (List ℕ)) (r : Option (Bor Version)) → IsVersion vs n (option_copied r) → IsNumber (holdings ms vs used) n (option_map (λ v. number_of v.now) r)
-numbered_now ms vs used n None p = numbered_answer ms vs used n None p
-numbered_now ms vs used n (Some v) p = numbered_answer ms vs used n (Some v.now) p
+pub numbered_now : (profile : Profile) (ms : List ModuleTree) (vs : List NamedVersion) (used : ℕ) (n : List (List ℕ)) (r : Option (Bor Version)) → IsVersion vs n (option_copied r) → IsNumber (holdings profile ms vs used) n (option_map (λ v. number_of v.now) r)
+numbered_now profile ms vs used n None p = numbered_answer profile ms vs used n None p
+numbered_now profile ms vs used n (Some v) p = numbered_answer profile ms vs used n (Some v.now) p

@@ -2,6 +2,7 @@
 use Rattle.std.proofs.Common.{◌≡◌, ℕ, List, [], get_or, set, Option, Some, refl, sym, ap, ◌∙◌, subst}
 use Rattle.std.specs.List.{Contains}
 use Rattle.std.proofs.lemmas.List.{set-get_or}
+use Rattle.scrib_types.specs.declared.profile.Profile.{Profile}
 use Rattle.scrib_parser.specs.declared.tree.ModuleTree.{ModuleTree}
 use Rattle.scrib_elaborate.specs.declared.modules.Placed.{Placed}
 use Rattle.scrib_elaborate.specs.Placed.{IsPlaced}
@@ -26,96 +27,96 @@ use Rattle.scrib_library.proofs.Lists.{Contains-nil, Contains-map_back}
 use Rattle.scrib_library.proofs.Spelling.{spelled}
 use Rattle.scrib_library.proofs.Refusals.{put_refused}
 use Rattle.scrib_library.proofs.Meant.{declared_means, holdings}
-use Rattle.scrib_library.proofs.Covering.{plain_after, well_formed, changes_told, versions_after, counted_after, versions_used}
+use Rattle.scrib_library.proofs.Covering.{projected_after, well_formed, changes_told, versions_after, counted_after, versions_used}
 use Rattle.scrib_library.proofs.Replacing.{before_set}
 use Rattle.scrib_library.proofs.Changing.{distinct_after, imports_after, spelled_after, covered, refused_meanings, refused_draft}
 
 -- ---- a put that is planned
 
-module _ (m : ModuleTree) (before after : List ModuleTree) (p : Placed) (placed : IsPlaced m before after p) (versions : List NamedVersion) (used : ℕ) (library : IsLibrary before versions used) (text : List ℕ) (read : Reads text m) (plan : Plan) (h : IsPlan m after p.replaced versions used plan) where
-  covers : IsCovered before after h.meanings
+module _ (profile : Profile) (m : ModuleTree) (before after : List ModuleTree) (p : Placed) (placed : IsPlaced m before after p) (versions : List NamedVersion) (used : ℕ) (library : IsLibrary profile before versions used) (text : List ℕ) (read : Reads text m) (plan : Plan) (h : IsPlan profile m after p.replaced versions used plan) where
+  covers : IsCovered profile before after h.meanings
   covers = h.covered before p versions used placed refl library
 
   all_spelled : (t : ModuleTree) → Contains after t → IsSpelled t
-  all_spelled = spelled_after m before after p placed versions used library (spelled text m read)
+  all_spelled = spelled_after profile m before after p placed versions used library (spelled text m read)
 
   pub changes_then : IsChanges before after plan.changes.list
   changes_then =
       let P : List Change → Type 0 = λ l. IsChanges before after l in
-      subst P (sym h.planned.list) (changes_told before after versions library.stored h.meanings h.sorted covers used plan.edits.items plan.used h.planned.draft library.spelled all_spelled)
+      subst P (sym h.planned.list) (changes_told profile before after versions library.stored h.meanings h.sorted covers used plan.edits.items plan.used h.planned.draft library.spelled all_spelled)
 
-  pub put_then : IsPut before text m after
+  pub put_then : IsPut profile before text m after
   put_then = record {
     read = read;
     placed = placed.put;
     room = h.room;
-    meant = well_formed before after versions library.stored h.meanings h.sorted covers library.plain (imports_after m before after p placed versions used library h.room);
+    meant = well_formed profile before after versions library.stored h.meanings h.sorted covers library.projected (imports_after profile m before after p placed versions used library h.room);
   }
 
   module _ (news : List NamedVersion) (made : AreMade versions plan.edits.items news) where
-    pub library_then : IsLibrary after news plan.used
+    pub library_then : IsLibrary profile after news plan.used
     library_then = record {
-      distinct = distinct_after m before after p placed versions used library;
-      imports = imports_after m before after p placed versions used library h.room;
+      distinct = distinct_after profile m before after p placed versions used library;
+      imports = imports_after profile m before after p placed versions used library h.room;
       spelled = all_spelled;
-      stored = versions_after before after versions library.stored h.meanings h.sorted covers used plan.edits.items plan.used h.planned.draft news made;
-      plain = plain_after before after versions library.stored h.meanings h.sorted covers library.plain;
-      counted = counted_after before after versions library.stored h.meanings h.sorted covers used plan.edits.items plan.used h.planned.draft news made library.counted;
+      stored = versions_after profile before after versions library.stored h.meanings h.sorted covers used plan.edits.items plan.used h.planned.draft news made;
+      projected = projected_after profile before after versions library.stored h.meanings h.sorted covers library.projected;
+      counted = counted_after profile before after versions library.stored h.meanings h.sorted covers used plan.edits.items plan.used h.planned.draft news made library.counted;
     }
 
-    pub used_then : AreVersionsUsed (holdings before versions used) (holdings after news plan.used) plan.changes.list
+    pub used_then : AreVersionsUsed (holdings profile before versions used) (holdings profile after news plan.used) plan.changes.list
     used_then =
-        let P : List Change → Type 0 = λ l. AreVersionsUsed (holdings before versions used) (holdings after news plan.used) l in
-        subst P (sym h.planned.list) (versions_used before after versions library.stored h.meanings h.sorted covers used plan.edits.items plan.used h.planned.draft news made library.counted)
+        let P : List Change → Type 0 = λ l. AreVersionsUsed (holdings profile before versions used) (holdings profile after news plan.used) l in
+        subst P (sym h.planned.list) (versions_used profile before after versions library.stored h.meanings h.sorted covers used plan.edits.items plan.used h.planned.draft news made library.counted)
 
 -- ---- the meanings of a put, and why there are none
 
-module _ (m : ModuleTree) (after : List ModuleTree) (gone : Option ModuleTree) (names : List (List (List ℕ))) (affected : AreAffected after m.name names) (entries : List Entry) (touched : AreTouched after names gone entries) (reached : List Entry) (reaching : AreReaching m.name entries reached) where
+module _ (profile : Profile) (m : ModuleTree) (after : List ModuleTree) (gone : Option ModuleTree) (names : List (List (List ℕ))) (affected : AreAffected after m.name names) (entries : List Entry) (touched : AreTouched after names gone entries) (reached : List Entry) (reaching : AreReaching m.name entries reached) where
   abbrev Touched : Option ModuleTree → Type 0
   Touched o = AreTouched after names o entries
 
-  pub covering : (ys : List NamedMeaning) → AreMeanings after reached ys → AreInOrder (meaning_names ys) × Covers m after gone ys
+  pub covering : (ys : List NamedMeaning) → AreMeanings profile after reached ys → AreInOrder (meaning_names ys) × Covers profile m after gone ys
   covering ys meanings = (
     (let P : List (List (List ℕ)) → Type 0 = λ l. AreInOrder l in subst P (sym meanings.names) reaching.sorted),
-    λ before placed versions used h g library. covered m before after placed h versions used library names affected entries (subst Touched (sym g) touched) reached reaching ys meanings,
+    λ before placed versions used h g library. covered profile m before after placed h versions used library names affected entries (subst Touched (sym g) touched) reached reaching ys meanings,
   )
 
-  pub stopped_meanings : HasRoom m after → (f : EditFault) → IsRefusal after reached f → StopsMeanings m after gone f
+  pub stopped_meanings : HasRoom m after → (f : EditFault) → IsRefusal profile after reached f → StopsMeanings profile m after gone f
   stopped_meanings room f k before placed versions used h g library =
-      refused_meanings m before after placed h versions used library room names affected entries (subst Touched (sym g) touched) reached reaching f k
+      refused_meanings profile m before after placed h versions used library room names affected entries (subst Touched (sym g) touched) reached reaching f k
 
 -- where the module is the one that stood there, nothing changes
 before_same : (m : ModuleTree) (before after : List ModuleTree) (p : Placed) → IsPlaced m before after p → p.replaced ≡ Some m → before ≡ after
 before_same m before after p h is =
     sym (before_set m before after p h m is) ∙ ap (set after p.at) (sym (h.there m)) ∙ set-get_or after p.at m
 
-pub covering_nothing : (m : ModuleTree) (after : List ModuleTree) (former : Option ModuleTree) → former ≡ Some m → Covers m after former []
-covering_nothing m after former same before p versions used placed g library =
+pub covering_nothing : (profile : Profile) (m : ModuleTree) (after : List ModuleTree) (former : Option ModuleTree) → former ≡ Some m → Covers profile m after former []
+covering_nothing profile m after former same before p versions used placed g library =
     let is = before_same m before after p placed (g ∙ same) in
-    let P : List ModuleTree → Type 0 = λ l. IsCovered before l [] in
+    let P : List ModuleTree → Type 0 = λ l. IsCovered profile before l [] in
     subst P is (record {
       same = λ n non a. (λ h. h, λ h. h);
       means = λ y c. absurd (Contains-nil y c);
-      plain = λ y c. absurd (Contains-nil y c);
+      projected = λ y c. absurd (Contains-nil y c);
       meant_all = λ d q.
           let w = Contains-map_back (λ (v : NamedVersion). v.name) versions (name_of d) (library.stored.listed.complete d q) in
           (meaning_of w.0.version, declared_means before d w.0.name (meaning_of w.0.version) (library.stored.sound w.0 w.1) w.2);
     })
 
 -- why a put isn't planned
-module _ (m : ModuleTree) (after : List ModuleTree) (gone : Option ModuleTree) (versions : List NamedVersion) (used : ℕ) where
-  pub stopped : (f : EditFault) → StopsMeanings m after gone f → StopsPut m after gone versions used f
+module _ (profile : Profile) (m : ModuleTree) (after : List ModuleTree) (gone : Option ModuleTree) (versions : List NamedVersion) (used : ℕ) where
+  pub stopped : (f : EditFault) → StopsMeanings profile m after gone f → StopsPut profile m after gone versions used f
   stopped f k before placed h g spelled library = k before placed versions used h g library
 
-  pub stopped_draft : HasRoom m after → (ys : List NamedMeaning) → AreInOrder (meaning_names ys) → Covers m after gone ys → (f : EditFault) → StopsDraft versions ys used f → StopsPut m after gone versions used f
+  pub stopped_draft : HasRoom m after → (ys : List NamedMeaning) → AreInOrder (meaning_names ys) → Covers profile m after gone ys → (f : EditFault) → StopsDraft versions ys used f → StopsPut profile m after gone versions used f
   stopped_draft room ys sorted covers f k before placed h g spelled library =
-      refused_draft m before after placed h versions used library room ys sorted (covers before placed versions used h g library) spelled f k
+      refused_draft profile m before after placed h versions used library room ys sorted (covers before placed versions used h g library) spelled f k
 
 -- ---- and why it isn't made
 
-pub fails_then : (m : ModuleTree) (before after : List ModuleTree) (p : Placed) → IsPlaced m before after p → (versions : List NamedVersion) (used : ℕ) → IsLibrary before versions used → (text : List ℕ) → Reads text m → (f : EditFault) → StopsPut m after p.replaced versions used f → PutFails before used text f
-fails_then m before after p placed versions used library text read f h =
-    put_refused before used text m after f read placed.put (h before p placed refl (spelled text m read) library)
+pub fails_then : (profile : Profile) (m : ModuleTree) (before after : List ModuleTree) (p : Placed) → IsPlaced m before after p → (versions : List NamedVersion) (used : ℕ) → IsLibrary profile before versions used → (text : List ℕ) → Reads text m → (f : EditFault) → StopsPut profile m after p.replaced versions used f → PutFails profile before used text f
+fails_then profile m before after p placed versions used library text read f h =
+    put_refused profile before used text m after f read placed.put (h before p placed refl (spelled text m read) library)
 
 -- the module that stands where it was put
 pub stood : (m n : ModuleTree) (before after : List ModuleTree) (p : Placed) → IsPlaced m before after p → n ≡ get_or after p.at n → m ≡ n

@@ -3,6 +3,7 @@ use Rattle.std.proofs.Common.{◌≡◌, ◌≢◌, ℕ, ◌≤◌, true, false,
 use Rattle.std.specs.Prelude.{◌↔◌}
 use Rattle.std.specs.List.{Contains}
 use Rattle.std.proofs.lemmas.List.{same_from_push}
+use Rattle.scrib_types.specs.declared.profile.Profile.{Profile}
 use Rattle.scrib_types.specs.Agreement.{Agreement}
 use Rattle.scrib_parser.specs.declared.tree.ModuleTree.{ModuleTree}
 use Rattle.scrib_elaborate.specs.Names.{Declaration, dotted_eq, declarations}
@@ -25,7 +26,7 @@ use Rattle.scrib_library.specs.Listed.{AreInOrder}
 use Rattle.scrib_library.specs.Entries.{AreEntered}
 use Rattle.scrib_library.specs.Edits.{has_new_version, new_versions, IsImporter, IsWithdrawal, IsChanges, AreWithdrawn, AreVersionsUsed}
 use Rattle.scrib_library.specs.Stored.{IsSpelled, IsLibrary}
-use Rattle.scrib_library.specs.Elaborated.{IsPlain, meant, meaning_names}
+use Rattle.scrib_library.specs.Elaborated.{ProjectsUnder, meant, meaning_names}
 use Rattle.scrib_library.specs.Drafts.{shown, meaning_before, IsKind, IsChangedBy, AreMade, StopsDraft}
 use Rattle.scrib_library.specs.Withdrawals.{AreNothing, AreDropped, IsRemovalPlan}
 use Rattle.scrib_library.proofs.Lists.{Contains-nil, Contains-head, Contains-tail, Contains-map, Contains-map_back}
@@ -33,7 +34,7 @@ use Rattle.scrib_library.proofs.Places.{either, declared-back, declared-there}
 use Rattle.scrib_library.proofs.Naming.{named_once, distinct_without, without-back, without-other, imports_stay, place_has, place_there, place_named}
 use Rattle.scrib_library.proofs.Meant.{declared_of, declared_means, means_declared, holdings}
 use Rattle.scrib_library.specs.Plans.{IsCovered}
-use Rattle.scrib_library.proofs.Covering.{plain_after, well_formed, changes_told, versions_after, counted_after, versions_used}
+use Rattle.scrib_library.proofs.Covering.{projected_after, well_formed, changes_told, versions_after, counted_after, versions_used}
 
 -- ---- names that mean nothing any more
 
@@ -68,6 +69,7 @@ module _ (gone : ModuleTree) (ys : List NamedMeaning) (dropped : AreDropped gone
   only_memory olds used few (edit.Project u) h = absurd h
   only_memory olds used few (edit.Lex g) h = absurd h
   only_memory olds used few (edit.Parse g) h = absurd h
+  only_memory olds used few (edit.NeedsReception n) h = absurd h
 
 -- the names of the module's protocols, each once
 pub dropped_from : (gone : ModuleTree) (es : List Entry) (ys : List NamedMeaning) → AreEntered gone false [] gone.protocols es → AreNothing es ys → AreDropped gone ys
@@ -85,7 +87,7 @@ dropped_from gone es ys h n = record {
 
 -- ---- what a withdrawal changes
 
-module _ (name : List (List ℕ)) (before : List ModuleTree) (at : ℕ) (place : IsPlace before name at) (free : (m : ModuleTree) → IsImporter before name m → ⊥) (versions : List NamedVersion) (used : ℕ) (library : IsLibrary before versions used) where
+module _ (profile : Profile) (name : List (List ℕ)) (before : List ModuleTree) (at : ℕ) (place : IsPlace before name at) (free : (m : ModuleTree) → IsImporter before name m → ⊥) (versions : List NamedVersion) (used : ℕ) (library : IsLibrary profile before versions used) where
   abbrev after : List ModuleTree
   after = without_module name before
 
@@ -161,8 +163,8 @@ module _ (name : List (List ℕ)) (before : List ModuleTree) (at : ℕ) (place :
         other_home d.0 d.1 (homes.0 ∙ named)) in
         subst P (sym s.nothing) none
 
-    covered : IsCovered before after ys
-    covered = record { same = same_outside; means = nothing; plain = λ y q. subst IsPlain (sym (dropped.sound y q).nothing) tt; meant_all = meant_after }
+    covered : IsCovered profile before after ys
+    covered = record { same = same_outside; means = nothing; projected = λ y q. subst (ProjectsUnder profile) (sym (dropped.sound y q).nothing) tt; meant_all = meant_after }
 
   -- ---- the library after the withdrawal
 
@@ -176,7 +178,7 @@ module _ (name : List (List ℕ)) (before : List ModuleTree) (at : ℕ) (place :
   spelled_after m p = library.spelled m (without-back name before m p)
 
   module _ (plan : Plan) (h : IsRemovalPlan gone versions used plan) where
-    covers : IsCovered before after h.meanings
+    covers : IsCovered profile before after h.meanings
     covers = covered h.meanings h.dropped
 
     withdrawn : AreWithdrawn (shown plan.edits.items)
@@ -196,32 +198,32 @@ module _ (name : List (List ℕ)) (before : List ModuleTree) (at : ℕ) (place :
     pub changes_then : IsChanges before after plan.changes.list
     changes_then =
         let P : List Change → Type 0 = λ l. IsChanges before after l in
-        subst P (sym h.planned.list) (changes_told before after versions library.stored h.meanings h.dropped.sorted covers used plan.edits.items plan.used h.planned.draft library.spelled spelled_after)
+        subst P (sym h.planned.list) (changes_told profile before after versions library.stored h.meanings h.dropped.sorted covers used plan.edits.items plan.used h.planned.draft library.spelled spelled_after)
 
-    pub withdrawal_then : IsWithdrawal before name after
+    pub withdrawal_then : IsWithdrawal profile before name after
     withdrawal_then = record {
       there = place_has before name at place;
       free = free;
       removed = refl;
-      meant = well_formed before after versions library.stored h.meanings h.dropped.sorted covers library.plain imports_after;
+      meant = well_formed profile before after versions library.stored h.meanings h.dropped.sorted covers library.projected imports_after;
     }
 
     module _ (news : List NamedVersion) (made : AreMade versions plan.edits.items news) where
-      library_after : IsLibrary after news plan.used
+      library_after : IsLibrary profile after news plan.used
       library_after = record {
         distinct = distinct_without name before library.distinct;
         imports = imports_after;
         spelled = spelled_after;
-        stored = versions_after before after versions library.stored h.meanings h.dropped.sorted covers used plan.edits.items plan.used h.planned.draft news made;
-        plain = plain_after before after versions library.stored h.meanings h.dropped.sorted covers library.plain;
-        counted = counted_after before after versions library.stored h.meanings h.dropped.sorted covers used plan.edits.items plan.used h.planned.draft news made library.counted;
+        stored = versions_after profile before after versions library.stored h.meanings h.dropped.sorted covers used plan.edits.items plan.used h.planned.draft news made;
+        projected = projected_after profile before after versions library.stored h.meanings h.dropped.sorted covers library.projected;
+        counted = counted_after profile before after versions library.stored h.meanings h.dropped.sorted covers used plan.edits.items plan.used h.planned.draft news made library.counted;
       }
 
-      pub library_then : IsLibrary after news used
-      library_then = let P : ℕ → Type 0 = λ k. IsLibrary after news k in subst P unused_then library_after
+      pub library_then : IsLibrary profile after news used
+      library_then = let P : ℕ → Type 0 = λ k. IsLibrary profile after news k in subst P unused_then library_after
 
-      pub used_then : AreVersionsUsed (holdings before versions used) (holdings after news used) plan.changes.list
+      pub used_then : AreVersionsUsed (holdings profile before versions used) (holdings profile after news used) plan.changes.list
       used_then =
-          let P : List Change → Type 0 = λ l. AreVersionsUsed (holdings before versions used) (holdings after news plan.used) l in
-          let Q : ℕ → Type 0 = λ k. AreVersionsUsed (holdings before versions used) (holdings after news k) plan.changes.list in
-          subst Q unused_then (subst P (sym h.planned.list) (versions_used before after versions library.stored h.meanings h.dropped.sorted covers used plan.edits.items plan.used h.planned.draft news made library.counted))
+          let P : List Change → Type 0 = λ l. AreVersionsUsed (holdings profile before versions used) (holdings profile after news plan.used) l in
+          let Q : ℕ → Type 0 = λ k. AreVersionsUsed (holdings profile before versions used) (holdings profile after news k) plan.changes.list in
+          subst Q unused_then (subst P (sym h.planned.list) (versions_used profile before after versions library.stored h.meanings h.dropped.sorted covers used plan.edits.items plan.used h.planned.draft news made library.counted))

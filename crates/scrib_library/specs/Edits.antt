@@ -4,7 +4,7 @@ use Rattle.std.specs.List.{count_by}
 use Rattle.std.specs.Ordering.{nat_cmp}
 use Rattle.std.specs.declared.cmp.Ordering.TheVariants.{Less, Greater}
 use Rattle.std.specs.Cmp.Lexicographic.{slice_cmp}
-use Rattle.scrib_types.specs.declared.profile.Profile.TheVariants.{Plain}
+use Rattle.scrib_types.specs.declared.profile.Profile.{Profile}
 use Rattle.scrib_types.specs.Agreement.{Agreement}
 use Rattle.scrib_types.specs.Texts.{dotted_text}
 use Rattle.scrib_lexer.specs.declared.fault.LexFault.{LexFault}
@@ -81,12 +81,12 @@ pub record HasRoom (m : ModuleTree) (after : List ModuleTree) : Type 0 where
   pub protocols : protocol_count after ≤ 1024
 
 -- The put is accepted: the text is a module, which takes the place of the one of its name. There is room for it,
--- and the modules are well formed then.
-pub record IsPut (before : List ModuleTree) (text : List ℕ) (m : ModuleTree) (after : List ModuleTree) : Type 0 where
+-- and the modules are well formed under the profile then.
+pub record IsPut (profile : Profile) (before : List ModuleTree) (text : List ℕ) (m : ModuleTree) (after : List ModuleTree) : Type 0 where
   pub read : Reads text m
   pub placed : after ≡ with_module m before
   pub room : HasRoom m after
-  pub meant : AreWellFormed after
+  pub meant : AreWellFormed profile after
 
 -- another module imports the one of this name
 pub record IsImporter (modules : List ModuleTree) (name : List (List ℕ)) (m : ModuleTree) : Type 0 where
@@ -104,11 +104,11 @@ pub record IsLeastImporter (modules : List ModuleTree) (name by : List (List ℕ
   pub least : (m : ModuleTree) → IsImporter modules name m → slice_cmp nat_cmp (dotted_text by) (dotted_text m.name) ≢ Greater
 
 -- The withdrawal is accepted: there is a module of the name, which no other imports. It is taken out.
-pub record IsWithdrawal (before : List ModuleTree) (name : List (List ℕ)) (after : List ModuleTree) : Type 0 where
+pub record IsWithdrawal (profile : Profile) (before : List ModuleTree) (name : List (List ℕ)) (after : List ModuleTree) : Type 0 where
   pub there : has_name name (module_names before) ≡ true
   pub free : (m : ModuleTree) → IsImporter before name m → ⊥
   pub removed : after ≡ without_module name before
-  pub meant : AreWellFormed after
+  pub meant : AreWellFormed profile after
 
 -- each change is that a name means nothing any more
 abbrev pub AreWithdrawn : List Change → Type 0
@@ -127,6 +127,7 @@ WithdrawFails before name (edit.Project u) = ⊥
 WithdrawFails before name edit.VersionsFull = ⊥
 WithdrawFails before name (edit.Lex f) = ⊥
 WithdrawFails before name (edit.Parse f) = ⊥
+WithdrawFails before name (edit.NeedsReception other) = ⊥
 
 -- the text has no tokens for this reason; want of memory is told as the edit's own fault
 abbrev pub TellsLex : List ℕ → LexFault → Type 0
@@ -150,44 +151,46 @@ abbrev pub IsBrokenIn : List ModuleTree → Fault → Type 0
 IsBrokenIn modules f =
     (d : Declaration) × Contains (declarations modules) d × IsBroken modules d.home.name d.protocol.name f
 
--- What a declared protocol means has no projection on the role by the plain merge, and the role is the first such
--- role of it. At the place stands a choice that the protocol's type is made of, and whose branches differ for the role.
-abbrev pub IsUnmergeableIn : List ModuleTree → Unmergeable → Type 0
-IsUnmergeableIn modules u =
+-- What a declared protocol means has no projection on the role under the profile, and the role is the first such role
+-- of it. At the place stands a choice that the protocol's type is made of, and whose branches don't merge for the role.
+abbrev pub IsUnmergeableIn : Profile → List ModuleTree → Unmergeable → Type 0
+IsUnmergeableIn profile modules u =
     (d : Declaration) × (a : Agreement) × Contains (declarations modules) d × DeclaredMeans modules d a
-    × (first_without Plain a.global a.roles ≡ Some u.role) × IsPlaced Plain modules d.home.name d.protocol.name a.global u
+    × (first_without profile a.global a.roles ≡ Some u.role) × IsPlaced profile modules d.home.name d.protocol.name a.global u
 
--- With the module there is no room, the modules aren't well formed, or versions run out, for this and nothing that
--- comes before it.
-abbrev pub ModuleFails : (before : List ModuleTree) (used : ℕ) → ModuleTree → (after : List ModuleTree) → EditFault → Type 0
-ModuleFails before used m after edit.TooManyModules = 256 < length after
-ModuleFails before used m after (edit.ImportMissing name) =
+-- With the module there is no room, the modules aren't well formed under the profile, or versions run out, for this
+-- and nothing that comes before it.
+abbrev pub ModuleFails : Profile → (before : List ModuleTree) (used : ℕ) → ModuleTree → (after : List ModuleTree) → EditFault → Type 0
+ModuleFails profile before used m after edit.TooManyModules = 256 < length after
+ModuleFails profile before used m after (edit.ImportMissing name) =
     (length after ≤ 256) × ((i : Import) × (missing_import after m.imports ≡ Some i) × (name ≡ i.module))
-ModuleFails before used m after edit.TooManyProtocols =
+ModuleFails profile before used m after edit.TooManyProtocols =
     (length after ≤ 256) × (missing_import after m.imports ≡ None) × (1024 < protocol_count after)
-ModuleFails before used m after (edit.Elaborate f) = HasRoom m after × IsBrokenIn after f
-ModuleFails before used m after (edit.Project u) = HasRoom m after × AreMeant after × IsUnmergeableIn after u
-ModuleFails before used m after edit.VersionsFull = HasRoom m after × AreWellFormed after × RunsOut before after used
-ModuleFails before used m after edit.OutOfMemory = Unit {0}
-ModuleFails before used m after edit.UnknownModule = ⊥
-ModuleFails before used m after (edit.StillImported name) = ⊥
-ModuleFails before used m after (edit.Lex f) = ⊥
-ModuleFails before used m after (edit.Parse f) = ⊥
+ModuleFails profile before used m after (edit.Elaborate f) = HasRoom m after × IsBrokenIn after f
+ModuleFails profile before used m after (edit.Project u) = HasRoom m after × AreMeant after × IsUnmergeableIn profile after u
+ModuleFails profile before used m after edit.VersionsFull = HasRoom m after × AreWellFormed profile after × RunsOut before after used
+ModuleFails profile before used m after edit.OutOfMemory = Unit {0}
+ModuleFails profile before used m after edit.UnknownModule = ⊥
+ModuleFails profile before used m after (edit.StillImported name) = ⊥
+ModuleFails profile before used m after (edit.Lex f) = ⊥
+ModuleFails profile before used m after (edit.Parse f) = ⊥
+ModuleFails profile before used m after (edit.NeedsReception name) = ⊥
 
-abbrev pub TextFails : (before : List ModuleTree) (used : ℕ) → List ℕ → EditFault → Type 0
-TextFails before used text f = (m : ModuleTree) × Reads text m × ModuleFails before used m (with_module m before) f
+abbrev pub TextFails : Profile → (before : List ModuleTree) (used : ℕ) → List ℕ → EditFault → Type 0
+TextFails profile before used text f = (m : ModuleTree) × Reads text m × ModuleFails profile before used m (with_module m before) f
 
--- The put, after so many used versions, is refused for this, and for nothing that comes before it in this list.
--- Memory may lack for any text that isn't too long.
-abbrev pub PutFails : (before : List ModuleTree) (used : ℕ) → List ℕ → EditFault → Type 0
-PutFails before used text (edit.Lex f) = TellsLex text f
-PutFails before used text (edit.Parse f) = (ts : List Lexeme) × IsTokens text ts × TellsParse ts f
-PutFails before used text edit.TooManyModules = TextFails before used text edit.TooManyModules
-PutFails before used text (edit.ImportMissing name) = TextFails before used text (edit.ImportMissing name)
-PutFails before used text edit.TooManyProtocols = TextFails before used text edit.TooManyProtocols
-PutFails before used text (edit.Elaborate f) = TextFails before used text (edit.Elaborate f)
-PutFails before used text (edit.Project u) = TextFails before used text (edit.Project u)
-PutFails before used text edit.VersionsFull = TextFails before used text edit.VersionsFull
-PutFails before used text edit.OutOfMemory = length text ≤ max_text_bytes
-PutFails before used text edit.UnknownModule = ⊥
-PutFails before used text (edit.StillImported name) = ⊥
+-- The put, under the profile and after so many used versions, is refused for this, and for nothing that comes before it
+-- in this list. Memory may lack for any text that isn't too long.
+abbrev pub PutFails : Profile → (before : List ModuleTree) (used : ℕ) → List ℕ → EditFault → Type 0
+PutFails profile before used text (edit.Lex f) = TellsLex text f
+PutFails profile before used text (edit.Parse f) = (ts : List Lexeme) × IsTokens text ts × TellsParse ts f
+PutFails profile before used text edit.TooManyModules = TextFails profile before used text edit.TooManyModules
+PutFails profile before used text (edit.ImportMissing name) = TextFails profile before used text (edit.ImportMissing name)
+PutFails profile before used text edit.TooManyProtocols = TextFails profile before used text edit.TooManyProtocols
+PutFails profile before used text (edit.Elaborate f) = TextFails profile before used text (edit.Elaborate f)
+PutFails profile before used text (edit.Project u) = TextFails profile before used text (edit.Project u)
+PutFails profile before used text edit.VersionsFull = TextFails profile before used text edit.VersionsFull
+PutFails profile before used text edit.OutOfMemory = length text ≤ max_text_bytes
+PutFails profile before used text edit.UnknownModule = ⊥
+PutFails profile before used text (edit.StillImported name) = ⊥
+PutFails profile before used text (edit.NeedsReception name) = ⊥

@@ -2,7 +2,7 @@
 -- Only contracts of private functions cite this file.
 use Rattle.std.specs.Prelude.{◌≡◌, ℕ, true, false, List, map, Option, Some, None, Contains}
 use Rattle.std.specs.Option.{option_map}
-use Rattle.scrib_types.specs.declared.profile.Profile.TheVariants.{Plain}
+use Rattle.scrib_types.specs.declared.profile.Profile.{Profile}
 use Rattle.scrib_types.specs.WellFormed.{projects}
 use Rattle.scrib_types.specs.Agreement.{Agreement}
 use Rattle.scrib_types.specs.Meaning.{agreement_of}
@@ -36,10 +36,10 @@ found x = option_map meaning_of x.elaborated
 abbrev pub meant : NamedMeaning → Option Agreement
 meant y = option_map (λ (p : ProjectedProtocol). agreement_of p.protocol) y.projected
 
--- it projects by the plain merge, if it is there
-abbrev pub IsPlain : Option Agreement → Type 0
-IsPlain None = Unit {0}
-IsPlain (Some a) = projects Plain a.global a.roles ≡ true
+-- it projects on each of its roles under the profile, if it is there
+abbrev pub ProjectsUnder : Profile → Option Agreement → Type 0
+ProjectsUnder profile None = Unit {0}
+ProjectsUnder profile (Some a) = projects profile a.global a.roles ≡ true
 
 -- the entry's protocol means this; nothing where it doesn't stand any more
 abbrev pub IsMeant : List ModuleTree → Entry → Option Agreement → Type 0
@@ -80,44 +80,45 @@ pub record AreElaborated (modules : List ModuleTree) (es : List Entry) (xs : Lis
   pub names : elaborated_names xs ≡ entry_names es
   pub sound : (x : NamedElaborated) → Contains xs x → IsFoundAmong modules es x
 
-pub record AreMeanings (modules : List ModuleTree) (es : List Entry) (ys : List NamedMeaning) : Type 0 where
+-- what each entry's protocol means, in the same order, and that it projects under the profile
+pub record AreMeanings (profile : Profile) (modules : List ModuleTree) (es : List Entry) (ys : List NamedMeaning) : Type 0 where
   pub names : meaning_names ys ≡ entry_names es
   pub sound : (y : NamedMeaning) → Contains ys y → IsMeaningOf modules es y.name (meant y)
-  pub plain : (y : NamedMeaning) → Contains ys y → IsPlain (meant y)
+  pub projected : (y : NamedMeaning) → Contains ys y → ProjectsUnder profile (meant y)
 
 -- the projections of one, or why there are none
 
-pub record IsProjected (x : NamedElaborated) (y : NamedMeaning) : Type 0 where
+pub record IsProjected (profile : Profile) (x : NamedElaborated) (y : NamedMeaning) : Type 0 where
   pub named : y.name ≡ x.name
   pub means : meant y ≡ found x
-  pub plain : IsPlain (meant y)
+  pub projected : ProjectsUnder profile (meant y)
 
--- What it means has no projection on the role by the plain merge, and the role is the first such role of it. The
--- place is that of a choice whose branches differ for the role, where the joins are those of its type.
-pub record IsUnprojected (x : NamedElaborated) (u : Unmergeable) : Type 0 where
+-- What it means has no projection on the role under the profile, and the role is the first such role of it. The
+-- place is that of a choice whose branches don't merge for the role, where the joins are those of its type.
+pub record IsUnprojected (profile : Profile) (x : NamedElaborated) (u : Unmergeable) : Type 0 where
   pub elaborated : Elaborated
   pub is : x.elaborated ≡ Some elaborated
-  pub first : first_without Plain (meaning_of elaborated).global (meaning_of elaborated).roles ≡ Some u.role
+  pub first : first_without profile (meaning_of elaborated).global (meaning_of elaborated).roles ≡ Some u.role
   pub place : (modules : List ModuleTree) (home : List (List ℕ)) (name : List ℕ)
-      → AreSites modules home name elaborated → IsPlaced Plain modules home name (meaning_of elaborated).global u
+      → AreSites modules home name elaborated → IsPlaced profile modules home name (meaning_of elaborated).global u
 
-abbrev pub StopsNamed : NamedElaborated → EditFault → Type 0
-StopsNamed x (edit.Project u) = IsUnprojected x u
-StopsNamed x edit.OutOfMemory = Unit {0}
-StopsNamed x other = ⊥
+abbrev pub StopsNamed : Profile → NamedElaborated → EditFault → Type 0
+StopsNamed profile x (edit.Project u) = IsUnprojected profile x u
+StopsNamed profile x edit.OutOfMemory = Unit {0}
+StopsNamed profile x other = ⊥
 
 -- it comes of one of these
-pub record IsProjectionOf (xs : List NamedElaborated) (y : NamedMeaning) : Type 0 where
+pub record IsProjectionOf (profile : Profile) (xs : List NamedElaborated) (y : NamedMeaning) : Type 0 where
   pub source : NamedElaborated
   pub there : Contains xs source
   pub named : y.name ≡ source.name
   pub means : meant y ≡ found source
-  pub plain : IsPlain (meant y)
+  pub projected : ProjectsUnder profile (meant y)
 
 -- the projections of each, in the same order
-pub record AreProjected (xs : List NamedElaborated) (ys : List NamedMeaning) : Type 0 where
+pub record AreProjected (profile : Profile) (xs : List NamedElaborated) (ys : List NamedMeaning) : Type 0 where
   pub names : meaning_names ys ≡ elaborated_names xs
-  pub sound : (y : NamedMeaning) → Contains ys y → IsProjectionOf xs y
+  pub sound : (y : NamedMeaning) → Contains ys y → IsProjectionOf profile xs y
 
 abbrev pub SomeStands : List Entry → Type 0
 SomeStands es = (e : Entry) × Contains es e × (e.stands ≡ true)
@@ -127,14 +128,14 @@ abbrev pub AreElaborable : List ModuleTree → List Entry → Type 0
 AreElaborable modules es =
     (e : Entry) → Contains es e → e.stands ≡ true → (a : Agreement) × Elaborates modules e.home.now.name e.protocol.now.name a
 
-abbrev pub StopsProjection : List NamedElaborated → EditFault → Type 0
-StopsProjection xs (edit.Project u) = (x : NamedElaborated) × Contains xs x × IsUnprojected x u
-StopsProjection xs edit.OutOfMemory = Unit {0}
-StopsProjection xs other = ⊥
+abbrev pub StopsProjection : Profile → List NamedElaborated → EditFault → Type 0
+StopsProjection profile xs (edit.Project u) = (x : NamedElaborated) × Contains xs x × IsUnprojected profile x u
+StopsProjection profile xs edit.OutOfMemory = Unit {0}
+StopsProjection profile xs other = ⊥
 
--- why an entry's protocol has no meaning, or no projections
-abbrev pub IsRefusal : List ModuleTree → List Entry → EditFault → Type 0
-IsRefusal modules es (edit.Elaborate f) = SomeStands es × IsBrokenIn modules f
-IsRefusal modules es (edit.Project u) = SomeStands es × AreElaborable modules es × IsUnmergeableIn modules u
-IsRefusal modules es edit.OutOfMemory = Unit {0}
-IsRefusal modules es other = ⊥
+-- why an entry's protocol has no meaning, or no projections under the profile
+abbrev pub IsRefusal : Profile → List ModuleTree → List Entry → EditFault → Type 0
+IsRefusal profile modules es (edit.Elaborate f) = SomeStands es × IsBrokenIn modules f
+IsRefusal profile modules es (edit.Project u) = SomeStands es × AreElaborable modules es × IsUnmergeableIn profile modules u
+IsRefusal profile modules es edit.OutOfMemory = Unit {0}
+IsRefusal profile modules es other = ⊥

@@ -1,6 +1,8 @@
 -- What contracts see of a library (this project's own).
 use Rattle.std.specs.Prelude.{◌≡◌, ◌⊎◌, ℕ, ◌<◌, ◌≤◌, List, [], Option, Some, None, Contains}
 use Rattle.scrib_types.specs.Agreement.{Agreement}
+use Rattle.scrib_types.specs.declared.profile.Profile.{Profile}
+use Rattle.scrib_types.specs.declared.profile.Profile.TheVariants.{Plain}
 use Rattle.scrib_parser.specs.declared.tree.ModuleTree.{ModuleTree}
 use Rattle.scrib_library.specs.Modules.{Means}
 
@@ -9,15 +11,21 @@ pub record Stamp : Type 0 where
   pub name : List (List ℕ)
   pub number : ℕ
 
--- the accepted modules, a stamp for each name that means something, in the order of names, and how many versions
--- were ever used
+-- the profile, the accepted modules, a stamp for each name that means something, in the order of names, and how many
+-- versions were ever used
 pub record Holdings : Type 0 where
+  pub profile : Profile
   pub modules : List ModuleTree
   pub stamps : List Stamp
   pub used : ℕ
 
+-- a new library: the profile, and nothing else
+abbrev pub no_holdings_under : Profile → Holdings
+no_holdings_under profile = record { profile = profile; modules = []; stamps = []; used = 0 }
+
+-- it is plain where nothing else is said
 abbrev pub no_holdings : Holdings
-no_holdings = record { modules = []; stamps = []; used = 0 }
+no_holdings = no_holdings_under Plain
 
 abbrev pub HasNumber : Holdings → List (List ℕ) → ℕ → Type 0
 HasNumber h name k = Contains h.stamps (record { name = name; number = k })

@@ -12,3 +12,5 @@ pub mod Elaborated
 pub mod Drafts
 pub mod Plans
 pub mod Withdrawals
+pub mod Profiles
+pub mod Lacking

@@ -2,7 +2,7 @@
 use Rattle.std.specs.Prelude.{◌≡◌, ℕ, Bool, true, not, List, [], ◌∷◌, ◌++◌, length, Option, Some, None, Contains}
 use Rattle.std.specs.List.{sum_by}
 use Rattle.scrib_types.specs.Agreement.{Agreement}
-use Rattle.scrib_types.specs.declared.profile.Profile.TheVariants.{Plain}
+use Rattle.scrib_types.specs.declared.profile.Profile.{Profile}
 use Rattle.scrib_types.specs.WellFormed.{projects, is_protocol}
 use Rattle.scrib_parser.specs.declared.tree.ModuleTree.{ModuleTree}
 use Rattle.scrib_parser.specs.declared.tree.Import.{Import}
@@ -47,17 +47,17 @@ AreImportsThere modules = (m : ModuleTree) → Contains modules m → missing_im
 abbrev pub AreMeant : List ModuleTree → Type 0
 AreMeant modules = (d : Declaration) → Contains (declarations modules) d → (a : Agreement) × DeclaredMeans modules d a
 
--- each import's module is there, each declared protocol means something, and that projects on each of its roles,
--- by the plain merge
-pub record AreWellFormed (modules : List ModuleTree) : Type 0 where
+-- under the profile: each import's module is there, each declared protocol means something, and that projects on each
+-- of its roles
+pub record AreWellFormed (profile : Profile) (modules : List ModuleTree) : Type 0 where
   pub imports : AreImportsThere modules
   pub meant : AreMeant modules
-  pub projected : (d : Declaration) (a : Agreement) → Contains (declarations modules) d → DeclaredMeans modules d a → projects Plain a.global a.roles ≡ true
+  pub projected : (d : Declaration) (a : Agreement) → Contains (declarations modules) d → DeclaredMeans modules d a → projects profile a.global a.roles ≡ true
 
--- what the modules mean by a name projects by the plain merge
-abbrev pub AreMeantPlainly : List ModuleTree → Type 0
-AreMeantPlainly modules =
-    (name : List (List ℕ)) (a : Agreement) → Means modules name a → projects Plain a.global a.roles ≡ true
+-- what the modules mean by a name projects on each of its roles under the profile
+abbrev pub AllProject : Profile → List ModuleTree → Type 0
+AllProject profile modules =
+    (name : List (List ℕ)) (a : Agreement) → Means modules name a → projects profile a.global a.roles ≡ true
 
 -- what the modules mean by a name is a protocol
 abbrev pub MeansProtocols : List ModuleTree → Type 0

@@ -1,13 +1,14 @@
 -- What is stored of the accepted modules.
 use Rattle.std.specs.Prelude.{◌≡◌, ℕ, ◌<◌, ◌≤◌, true, IsTrue, List, map, Option, Some, None, Contains}
 use Rattle.scrib_types.specs.Names.{is_name}
+use Rattle.scrib_types.specs.declared.profile.Profile.{Profile}
 use Rattle.scrib_parser.specs.declared.tree.ModuleTree.{ModuleTree}
 use Rattle.scrib_parser.specs.declared.tree.ProtocolDeclaration.{ProtocolDeclaration}
 use Rattle.scrib_elaborate.specs.Names.{distinct_names, module_names}
 use Rattle.scrib_record.specs.declared.version.Version.{Version}
 use Rattle.scrib_record.specs.Versions.{meaning_of, number_of}
 use Rattle.scrib_library.specs.declared.versions.NamedVersion.{NamedVersion}
-use Rattle.scrib_library.specs.Modules.{Means, AreImportsThere, AreMeantPlainly}
+use Rattle.scrib_library.specs.Modules.{Means, AreImportsThere, AllProject}
 use Rattle.scrib_library.specs.Holdings.{Stamp}
 use Rattle.scrib_library.specs.Listed.{AreDeclaredNames}
 
@@ -45,12 +46,12 @@ pub record AreCounted (versions : List NamedVersion) (used : ℕ) : Type 0 where
   pub once : (v w : NamedVersion) → Contains versions v → Contains versions w → number_of v.version ≡ number_of w.version → v.name ≡ w.name
   pub few : used ≤ 65536
 
--- modules of different names whose imports are there, with a version of each protocol, and all these project by the
--- plain merge
-pub record IsLibrary (modules : List ModuleTree) (versions : List NamedVersion) (used : ℕ) : Type 0 where
+-- modules of different names whose imports are there, with a version of each protocol, and all these project under the
+-- profile
+pub record IsLibrary (profile : Profile) (modules : List ModuleTree) (versions : List NamedVersion) (used : ℕ) : Type 0 where
   pub distinct : distinct_names (module_names modules) ≡ true
   pub imports : AreImportsThere modules
   pub spelled : (m : ModuleTree) → Contains modules m → IsSpelled m
   pub stored : AreVersions modules versions
-  pub plain : AreMeantPlainly modules
+  pub projected : AllProject profile modules
   pub counted : AreCounted versions used

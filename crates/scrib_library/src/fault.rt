@@ -26,10 +26,13 @@ pub enum EditFault {
     TooManyProtocols,
     /// A declared protocol means nothing: the first by name, in the order of bytes.
     Elaborate(Fault),
-    /// What a declared protocol means has no projection on a role: the first such protocol by name.
+    /// What a declared protocol means has no projection on a role under the profile that is held: the first such
+    /// protocol by name, in the order of bytes.
     Project(Unmergeable),
     /// More than 65,536 versions would have been used.
     VersionsFull,
+    /// The plain profile doesn't project what this name means: the first such name, in the order of bytes.
+    NeedsReception { name: Dotted },
     /// Memory was refused.
     OutOfMemory,
 }

@@ -12,6 +12,7 @@ pub mod library;
 mod meanings;
 mod names;
 mod plan;
+mod profiles;
 mod reaching;
 mod read;
 mod removal;

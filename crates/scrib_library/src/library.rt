@@ -1,23 +1,26 @@
 //! The library of accepted modules.
 
-ghost use Rattle.std.specs.Prelude.{◌≡◌, IfOk, IfErr, OnErr};
+ghost use Rattle.std.specs.Prelude.{◌≡◌, IfOk, IfErr, OnOk, OnErr};
 ghost use Rattle.std.specs.Option.{option_map};
 ghost use Rattle.scrib_parser.specs.declared.tree.ModuleTree as parsed;
 ghost use Rattle.scrib_record.specs.Versions.{meaning_of, number_of};
-ghost use Rattle.scrib_library.specs.Modules.{IsMeaning, MeansProtocols, MeansOnce};
-ghost use Rattle.scrib_library.specs.Holdings.{no_holdings, IsNumber, AreNumbered};
+ghost use Rattle.scrib_library.specs.Modules.{IsMeaning, AllProject, MeansProtocols, MeansOnce};
+ghost use Rattle.scrib_library.specs.Holdings.{no_holdings, no_holdings_under, IsNumber, AreNumbered};
 ghost use Rattle.scrib_library.specs.Edits.{IsPut, IsChanges, AreVersionsUsed, PutFails, IsWithdrawal, AreWithdrawn, WithdrawFails};
+ghost use Rattle.scrib_library.specs.Profiles.{ProfileFails};
 
 use crate::changes::Changes;
 use crate::fault::EditFault;
 use crate::hints::Hints;
 use crate::plan::{Plan, plan_put, plan_withdrawal};
+use crate::profiles::check_change;
 use crate::read::read;
 use crate::removal::free_place;
 use crate::versions::{NamedVersion, make_all, version_near};
 use scrib_elaborate::modules::Modules;
 use scrib_record::version::Version;
 use scrib_types::name::Dotted;
+use scrib_types::profile::Profile;
 use std::alloc::Global;
 use std::marker::Model;
 
@@ -31,10 +34,12 @@ pub const MAX_PROTOCOLS: usize = 1024;
 pub const MAX_VERSIONS: u32 = 65_536;
 
 /// The accepted modules, with a version of each protocol that they declare, in the order of the protocols' full
-/// names, and how many versions were ever used. Contracts see the modules, the numbers of the versions, and the count.
+/// names, the profile under which all these project, and how many versions were ever used. Contracts see the profile,
+/// the modules, the numbers of the versions, and the count.
 #[derive(Drop)]
 pub struct Library {
     alloc: Global,
+    profile: Profile,
     modules: Modules,
     versions: Vec<NamedVersion>,
     used: u32,
@@ -52,18 +57,26 @@ impl Model for Library {
 
     ghost coded = { Prim.hlevel (codes, statement.the_row.coded) };
 
-    ghost view = { λ l. record { modules = l.modules; stamps = stamps_of l.versions.items; used = l.used } };
+    ghost view = { λ l. record { profile = l.profile; modules = l.modules; stamps = stamps_of l.versions.items; used = l.used } };
 
-    ghost invariant = { λ l. IsLibrary l.modules l.versions.items l.used };
+    ghost invariant = { λ l. IsLibrary l.profile l.modules l.versions.items l.used };
 }
 
 impl Library {
-    /// A library without modules, of which no version was used.
+    /// A library of the plain profile without modules, of which no version was used.
     pub fn new(alloc: Global) -> Library
         ensures { result ≡ no_holdings }
     {
+        Library::with_profile(alloc, Profile::Plain)
+    }
+
+    /// A library of this profile without modules, of which no version was used.
+    pub fn with_profile(alloc: Global, profile: Profile) -> Library
+        ensures { result ≡ no_holdings_under profile }
+    {
         Library {
             alloc,
+            profile,
             modules: Modules::new(alloc),
             versions: Vec::new(alloc),
             used: 0,
@@ -72,16 +85,19 @@ impl Library {
     }
 
     /// Puts the module that the text is, in place of the one of its name if there is one, and answers what
-    /// changed. A refused put changes nothing.
+    /// changed. Each protocol that is declared then projects under the profile that is held. A refused put changes
+    /// nothing.
     ///
     /// # Errors
-    /// The first fault of `EditFault`'s list that the put has; `OutOfMemory` where memory was refused.
+    /// The first of these that the put has: `Lex`, `Parse`, `TooManyModules`, `ImportMissing`, `TooManyProtocols`,
+    /// `Elaborate`, `Project`, `VersionsFull`. `OutOfMemory` where memory was refused.
     pub fn put(&mut self, text: &[u8]) -> Result<Changes, EditFault>
-        ensures ok { IfOk result (λ changes. (m : parsed.ModuleTree) × IsPut self.old.modules text.now m self.new.modules
+        ensures ok { IfOk result (λ changes. (m : parsed.ModuleTree) × IsPut self.old.profile self.old.modules text.now m self.new.modules
             × (changes.module ≡ m.name) × IsChanges self.old.modules self.new.modules changes.list) }
         ensures versions { IfOk result (λ changes. AreVersionsUsed self.old self.new changes.list) }
-        ensures fault { IfErr result (PutFails self.old.modules self.old.used text.now) }
+        ensures fault { IfErr result (PutFails self.old.profile self.old.modules self.old.used text.now) }
         ensures err { OnErr result (self.new ≡ self.old) }
+        ensures profile { self.new.profile ≡ self.old.profile }
     {
         let tree = read(self.alloc, text)?;
         self.hints.make_room(self.alloc)?;
@@ -90,6 +106,7 @@ impl Library {
         let gone = placed.replaced.as_ref();
         match plan_put(
             self.alloc,
+            self.profile,
             &self.modules,
             new,
             gone,
@@ -121,13 +138,14 @@ impl Library {
     /// `UnknownModule` where there is no module of the name, else `StillImported` where another module imports it;
     /// `OutOfMemory` where memory was refused.
     pub fn withdraw(&mut self, name: &Dotted) -> Result<Changes, EditFault>
-        ensures ok { IfOk result (λ changes. IsWithdrawal self.old.modules name.now self.new.modules
+        ensures ok { IfOk result (λ changes. IsWithdrawal self.old.profile self.old.modules name.now self.new.modules
             × (changes.module ≡ name.now) × IsChanges self.old.modules self.new.modules changes.list
             × AreWithdrawn changes.list) }
         ensures versions { IfOk result (λ changes. AreVersionsUsed self.old self.new changes.list
             × (self.new.used ≡ self.old.used)) }
         ensures fault { IfErr result (WithdrawFails self.old.modules name.now) }
         ensures err { OnErr result (self.new ≡ self.old) }
+        ensures profile { self.new.profile ≡ self.old.profile }
     {
         let at = free_place(&self.modules, name)?;
         let gone = &self.modules.as_slice()[at];
@@ -137,6 +155,31 @@ impl Library {
         self.hints.renew(&self.versions);
         self.modules.take_out(at);
         Ok(changes)
+    }
+
+    /// The profile that is held: under it each protocol that is declared projects.
+    pub fn profile(&self) -> Profile
+        ensures { result ≡ self.now.profile }
+    {
+        self.profile
+    }
+
+    /// Changes the profile that is held. The modules, the versions and their count stay. The change to the profile that
+    /// is held already, and that to the wider one, are always accepted; that to the plain one is where each name means
+    /// what projects under it. A refused change changes nothing.
+    ///
+    /// # Errors
+    /// `NeedsReception` where the plain profile is wanted and some name means what it doesn't project, with the first
+    /// such name; `OutOfMemory` where the plain profile is to follow the wider one and memory was refused.
+    pub fn set_profile(&mut self, profile: Profile) -> Result<(), EditFault>
+        ensures ok { OnOk result (self.new ≡ record { profile = profile; modules = self.old.modules; stamps = self.old.stamps; used = self.old.used }) }
+        ensures projected { OnOk result (AllProject profile self.old.modules) }
+        ensures fault { IfErr result (ProfileFails self.old.profile profile self.old.modules) }
+        ensures err { OnErr result (self.new ≡ self.old) }
+    {
+        check_change(self.alloc, &self.versions, self.profile, profile)?;
+        self.profile = profile;
+        Ok(())
     }
 
     /// The version of a protocol that is there, by its full name.

@@ -1,6 +1,7 @@
 //! What protocols mean, with their projections.
 
 ghost use Rattle.std.specs.Prelude.{◌≡◌, IfOk, IfErr};
+ghost use Rattle.scrib_types.specs.declared.profile.Profile as held;
 ghost use Rattle.scrib_library.specs.Listed.{AreInOrder};
 ghost use Rattle.scrib_library.specs.Entries.{entry_names, AreStanding};
 ghost use Rattle.scrib_library.specs.Elaborated.{IsFoundFor, IsBrokenEntry, AreElaborated, AreMeanings, IsProjected, StopsNamed, AreProjected, IsRefusal, StopsProjection};
@@ -36,19 +37,21 @@ pub struct NamedMeaning {
 ///
 /// # Errors
 /// `Elaborate` with a fault of the first protocol, in that order, that means nothing; if there is none `Project`
-/// with that of the first that has no projection on one of its roles by the plain merge; `OutOfMemory` where memory was refused.
+/// with that of the first that has no projection on one of its roles under the profile; `OutOfMemory` where memory was
+/// refused.
 pub fn meanings_of(
     alloc: Global,
+    profile: Profile,
     modules: &Modules,
     entries: Vec<Entry>,
 ) -> Result<Vec<NamedMeaning>, EditFault>
     requires sorted { AreInOrder (entry_names entries.items) }
     requires stand { AreStanding modules.now entries.items }
-    ensures ok { IfOk result (λ meanings. AreMeanings modules.now entries.entry.items meanings.items) }
-    ensures fault { IfErr result (IsRefusal modules.now entries.entry.items) }
+    ensures ok { IfOk result (λ meanings. AreMeanings profile modules.now entries.entry.items meanings.items) }
+    ensures fault { IfErr result (IsRefusal profile modules.now entries.entry.items) }
 {
     let elaborated = elaborate_all(alloc, modules, entries)?;
-    let meanings = project_all(alloc, elaborated)?;
+    let meanings = project_all(alloc, profile, elaborated)?;
     Ok(meanings)
 }
 
@@ -87,7 +90,7 @@ fn elaborate_all(
 ) -> Result<Vec<NamedElaborated>, EditFault>
     requires { AreStanding modules.now entries.items }
     ensures ok { IfOk result (λ all. AreElaborated modules.now entries.entry.items all.items) }
-    ensures fault { IfErr result (IsRefusal modules.now entries.entry.items) }
+    ensures fault { IfErr result (λ f. (profile : held.Profile) → IsRefusal profile modules.now entries.entry.items f) }
 {
     let mut elaborator = Elaborator::new(alloc, modules)?;
     let mut all = Vec::with_capacity(alloc, entries.len())?;
@@ -116,29 +119,34 @@ fn elaborate_entry(elaborator: &mut Elaborator, entry: Entry) -> Result<NamedEla
     Ok(NamedElaborated { name, elaborated })
 }
 
-/// The projections of each, in the same order.
+/// The projections of each under the profile, in the same order.
 fn project_all(
     alloc: Global,
+    profile: Profile,
     elaborated: Vec<NamedElaborated>,
 ) -> Result<Vec<NamedMeaning>, EditFault>
-    ensures ok { IfOk result (λ meanings. AreProjected elaborated.items meanings.items) }
-    ensures fault { IfErr result (StopsProjection elaborated.items) }
+    ensures ok { IfOk result (λ meanings. AreProjected profile elaborated.items meanings.items) }
+    ensures fault { IfErr result (StopsProjection profile elaborated.items) }
 {
     let mut meanings = Vec::with_capacity(alloc, elaborated.len())?;
     for named in elaborated {
-        let meaning = project_named(alloc, named)?;
+        let meaning = project_named(alloc, profile, named)?;
         meanings.push(meaning)?;
     }
     Ok(meanings)
 }
 
-fn project_named(alloc: Global, named: NamedElaborated) -> Result<NamedMeaning, EditFault>
-    ensures ok { IfOk result (IsProjected named) }
-    ensures fault { IfErr result (StopsNamed named) }
+fn project_named(
+    alloc: Global,
+    profile: Profile,
+    named: NamedElaborated,
+) -> Result<NamedMeaning, EditFault>
+    ensures ok { IfOk result (IsProjected profile named) }
+    ensures fault { IfErr result (StopsNamed profile named) }
 {
     let NamedElaborated { name, elaborated } = named;
     let projected = match elaborated {
-        Some(elaborated) => Some(protocol_with_projections(alloc, elaborated, Profile::Plain)?),
+        Some(elaborated) => Some(protocol_with_projections(alloc, elaborated, profile)?),
         None => None,
     };
     Ok(NamedMeaning { name, projected })

@@ -24,6 +24,7 @@ use crate::versions::{NamedVersion, VersionEdit};
 use scrib_elaborate::modules::Modules;
 use scrib_parser::tree::ModuleTree;
 use scrib_types::name::Dotted;
+use scrib_types::profile::Profile;
 use std::alloc::Global;
 
 /// An edit that is accepted: what it does to the versions, how many were ever used then, and what changes.
@@ -35,14 +36,15 @@ pub struct Plan {
 }
 
 /// What it does that the new module was put among these modules, in place of the one that is gone, where the versions
-/// are those before. Only the protocols of this module and of those that reach it by imports are looked at. There is
-/// room for the new versions then.
+/// are those before. Only the protocols of this module and of those that reach it by imports are looked at. They have to
+/// project under the profile. There is room for the new versions then.
 ///
 /// # Errors
 /// The first fault of `EditFault`'s list, from `TooManyModules` on, that the put has; `OutOfMemory` where memory
 /// was refused.
 pub fn plan_put(
     alloc: Global,
+    profile: Profile,
     modules: &Modules,
     new: &ModuleTree,
     gone: Option<&ModuleTree>,
@@ -51,13 +53,13 @@ pub fn plan_put(
 ) -> Result<Plan, EditFault>
     requires sorted { AreInOrder (version_names versions.old.items) }
     requires few { used ≤ 65536 }
-    ensures ok { IfOk result (IsPlan new.now modules.now (option_copied gone.entry) versions.old.items used) }
-    ensures fault { IfErr result (StopsPut new.now modules.now (option_copied gone.entry) versions.old.items used) }
+    ensures ok { IfOk result (IsPlan profile new.now modules.now (option_copied gone.entry) versions.old.items used) }
+    ensures fault { IfErr result (StopsPut profile new.now modules.now (option_copied gone.entry) versions.old.items used) }
     ensures room { IfOk result (λ p. vec_len versions.new + vec_len p.edits ≤ vec_capacity versions.new) }
     ensures kept { versions.new.items ≡ versions.old.items }
 {
     check_room(alloc, modules.as_slice(), new)?;
-    let meanings = meanings_after(alloc, modules, new, gone)?;
+    let meanings = meanings_after(alloc, profile, modules, new, gone)?;
     plan_edits(alloc, &new.name, versions, meanings, used)
 }
 
@@ -68,14 +70,15 @@ pub fn plan_put(
 /// `Elaborate` or `Project`, the first that the put has; `OutOfMemory` where memory was refused.
 fn meanings_after(
     alloc: Global,
+    profile: Profile,
     modules: &Modules,
     new: &ModuleTree,
     gone: Option<&ModuleTree>,
 ) -> Result<Vec<NamedMeaning>, EditFault>
     requires { HasRoom new.now modules.now }
     ensures sorted { IfOk result (λ ys. AreInOrder (meaning_names ys.items)) }
-    ensures ok { IfOk result (λ ys. Covers new.now modules.now (option_copied gone.entry) ys.items) }
-    ensures fault { IfErr result (StopsMeanings new.now modules.now (option_copied gone.entry)) }
+    ensures ok { IfOk result (λ ys. Covers profile new.now modules.now (option_copied gone.entry) ys.items) }
+    ensures fault { IfErr result (StopsMeanings profile new.now modules.now (option_copied gone.entry)) }
 {
     if is_same(new, gone) {
         return Ok(Vec::new(alloc));
@@ -84,7 +87,7 @@ fn meanings_after(
     let affected = affected(alloc, trees, &new.name)?;
     let entries = touched(alloc, trees, &affected, gone)?;
     let reached = reaching(alloc, &new.name, entries)?;
-    meanings_of(alloc, modules, reached)
+    meanings_of(alloc, profile, modules, reached)
 }
 
 /// Whether the module that is gone is this one.

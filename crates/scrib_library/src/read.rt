@@ -1,6 +1,7 @@
 //! From a text to the module that it is.
 
 ghost use Rattle.std.specs.Prelude.{ℕ, List, IfOk, IfErr};
+ghost use Rattle.scrib_types.specs.declared.profile.Profile.{Profile};
 ghost use Rattle.scrib_parser.specs.declared.tree.ModuleTree.{ModuleTree};
 ghost use Rattle.scrib_library.specs.Edits.{Reads, PutFails};
 
@@ -17,7 +18,7 @@ use std::alloc::Global;
 /// refused.
 pub fn read(alloc: Global, text: &[u8]) -> Result<ModuleTree, EditFault>
     ensures ok { IfOk result (Reads text.now) }
-    ensures fault { IfErr result (λ f. (before : List ModuleTree) (used : ℕ) → PutFails before used text.now f) }
+    ensures fault { IfErr result (λ f. (profile : Profile) (before : List ModuleTree) (used : ℕ) → PutFails profile before used text.now f) }
 {
     let tokens = lex(alloc, text)?;
     let tree = parse(alloc, tokens.as_slice())?;

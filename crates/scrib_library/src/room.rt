@@ -2,6 +2,7 @@
 
 ghost use Rattle.std.specs.Prelude.{◌≡◌, ◌<◌, ℕ, List, nat_lt, IfErr, OnOk};
 ghost use Rattle.std.specs.Option.{option_map};
+ghost use Rattle.scrib_types.specs.declared.profile.Profile.{Profile};
 ghost use Rattle.scrib_parser.specs.declared.tree.ModuleTree as parsed;
 ghost use Rattle.scrib_elaborate.specs.Names.{has_name, module_names};
 ghost use Rattle.scrib_library.specs.Modules as spec;
@@ -22,7 +23,7 @@ use std::alloc::Global;
 /// a copy of the missing module's name was refused.
 pub fn check_room(alloc: Global, modules: &[ModuleTree], new: &ModuleTree) -> Result<(), EditFault>
     ensures ok { OnOk result (HasRoom new.now modules.now) }
-    ensures fault { IfErr result (λ f. (before : List parsed.ModuleTree) (used : ℕ) → ModuleFails before used new.now modules.now f) }
+    ensures fault { IfErr result (λ f. (profile : Profile) (before : List parsed.ModuleTree) (used : ℕ) → ModuleFails profile before used new.now modules.now f) }
 {
     if modules.len() > MAX_MODULES {
         return Err(EditFault::TooManyModules);

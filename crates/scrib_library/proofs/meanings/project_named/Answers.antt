@@ -5,11 +5,11 @@ use Rattle.scrib_library.proofs.meanings.project_named.Goals as goal
 
 pub returns-clause-ok : goal.returns-clause-ok
 returns-clause-ok c = elim c.match-elaborated.branch [
-  | in-Some+in_ok-protocol_with_projections-in-Some w ↦ projected_named c.args.named _ _ _ w.in-Some.is w.in_ok-protocol_with_projections-in-Some.ensures.value w.projected-is
-  | in-None w ↦ nothing_named c.args.named _ w.in-None.is w.projected-is
+  | in-Some+in_ok-protocol_with_projections-in-Some w ↦ projected_named c.args.profile c.args.named _ _ _ w.in-Some.is w.in_ok-protocol_with_projections-in-Some.ensures.value w.projected-is
+  | in-None w ↦ nothing_named c.args.profile c.args.named _ w.in-None.is w.projected-is
 ]
 
 pub returns-in_err-protocol_with_projections-in-Some-clause-fault : goal.returns-in_err-protocol_with_projections-in-Some-clause-fault
 returns-in_err-protocol_with_projections-in-Some-clause-fault c =
     let p = err_from_is_err_and c.from_residual.result c.from_residual.ensures.1 in
-    rw (p.1, p.2) (unprojected_named c.args.named c.in-Some.elaborated c.in_err-protocol_with_projections-in-Some.field-0.0 c.in-Some.is c.in_err-protocol_with_projections-in-Some.ensures.value c.in_err-protocol_with_projections-in-Some.ensures.place)
+    rw (p.1, p.2) (unprojected_named c.args.profile c.args.named c.in-Some.elaborated c.in_err-protocol_with_projections-in-Some.field-0.0 c.in-Some.is c.in_err-protocol_with_projections-in-Some.ensures.value c.in_err-protocol_with_projections-in-Some.ensures.place)

@@ -13,8 +13,8 @@ use Rattle.scrib_library.proofs.plan.meanings_after.Goals as goal
 
 pub returns-then-is_same-clause-ok : goal.returns-then-is_same-clause-ok
 returns-then-is_same-clause-ok c =
-    let P : List NamedMeaning → Type 0 = λ ys. Covers c.args.new.now c.args.modules.now (option_copied c.args.gone) ys in
-    rw c.new.ensures.items (covering_nothing c.args.new.now c.args.modules.now (option_copied c.args.gone) (c.is_same.ensures c.if-is_same.true))
+    let P : List NamedMeaning → Type 0 = λ ys. Covers c.args.profile c.args.new.now c.args.modules.now (option_copied c.args.gone) ys in
+    rw c.new.ensures.items (covering_nothing c.args.profile c.args.new.now c.args.modules.now (option_copied c.args.gone) (c.is_same.ensures c.if-is_same.true))
 
 pub returns-clause-sorted : goal.returns-clause-sorted
 returns-clause-sorted c =
@@ -26,8 +26,8 @@ returns-clause-sorted c =
     let Q : List ModuleTree → Type 0 = λ ms. AreAffected ms m.name names in
     let R : List ModuleTree → Type 0 = λ ms. AreTouched ms names gone es in
     let named = rw c.deref.ensures.value at c.in_ok-entries.ensures in
-    let all = covering m c.args.modules.now gone names (subst Q c.as_slice-trees.ensures c.in_ok-affected.ensures) es (subst R c.as_slice-trees.ensures named) rs c.in_ok-reached.ensures in
-    IfOk-weaker c.meanings_of.result (λ ys. AreMeanings c.args.modules.now rs ys.items) (λ ys. AreInOrder (meaning_names ys.items)) (λ ys h. (all ys.items h).0) c.meanings_of.ensures.ok
+    let all = covering c.args.profile m c.args.modules.now gone names (subst Q c.as_slice-trees.ensures c.in_ok-affected.ensures) es (subst R c.as_slice-trees.ensures named) rs c.in_ok-reached.ensures in
+    IfOk-weaker c.meanings_of.result (λ ys. AreMeanings c.args.profile c.args.modules.now rs ys.items) (λ ys. AreInOrder (meaning_names ys.items)) (λ ys h. (all ys.items h).0) c.meanings_of.ensures.ok
 
 pub returns-clause-ok : goal.returns-clause-ok
 returns-clause-ok c =
@@ -39,8 +39,8 @@ returns-clause-ok c =
     let Q : List ModuleTree → Type 0 = λ ms. AreAffected ms m.name names in
     let R : List ModuleTree → Type 0 = λ ms. AreTouched ms names gone es in
     let named = rw c.deref.ensures.value at c.in_ok-entries.ensures in
-    let all = covering m c.args.modules.now gone names (subst Q c.as_slice-trees.ensures c.in_ok-affected.ensures) es (subst R c.as_slice-trees.ensures named) rs c.in_ok-reached.ensures in
-    IfOk-weaker c.meanings_of.result (λ ys. AreMeanings c.args.modules.now rs ys.items) (λ ys. Covers m c.args.modules.now gone ys.items) (λ ys h. (all ys.items h).1) c.meanings_of.ensures.ok
+    let all = covering c.args.profile m c.args.modules.now gone names (subst Q c.as_slice-trees.ensures c.in_ok-affected.ensures) es (subst R c.as_slice-trees.ensures named) rs c.in_ok-reached.ensures in
+    IfOk-weaker c.meanings_of.result (λ ys. AreMeanings c.args.profile c.args.modules.now rs ys.items) (λ ys. Covers c.args.profile m c.args.modules.now gone ys.items) (λ ys h. (all ys.items h).1) c.meanings_of.ensures.ok
 
 pub returns-clause-fault : goal.returns-clause-fault
 returns-clause-fault c =
@@ -52,8 +52,8 @@ returns-clause-fault c =
     let Q : List ModuleTree → Type 0 = λ ms. AreAffected ms m.name names in
     let R : List ModuleTree → Type 0 = λ ms. AreTouched ms names gone es in
     let named = rw c.deref.ensures.value at c.in_ok-entries.ensures in
-    IfErr-weaker c.meanings_of.result (IsRefusal c.args.modules.now rs) (StopsMeanings m c.args.modules.now gone)
-    (stopped_meanings m c.args.modules.now gone names (subst Q c.as_slice-trees.ensures c.in_ok-affected.ensures) es (subst R c.as_slice-trees.ensures named) rs c.in_ok-reached.ensures c.requires)
+    IfErr-weaker c.meanings_of.result (IsRefusal c.args.profile c.args.modules.now rs) (StopsMeanings c.args.profile m c.args.modules.now gone)
+    (stopped_meanings c.args.profile m c.args.modules.now gone names (subst Q c.as_slice-trees.ensures c.in_ok-affected.ensures) es (subst R c.as_slice-trees.ensures named) rs c.in_ok-reached.ensures c.requires)
     c.meanings_of.ensures.fault
 
 pub meanings_of-requires-clause-stand : goal.meanings_of-requires-clause-stand

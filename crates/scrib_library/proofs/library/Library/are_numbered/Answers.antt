@@ -12,4 +12,4 @@ returns-clause-once c =
 pub returns-clause-numbers : goal.returns-clause-numbers
 returns-clause-numbers c =
     let Q : Holdings → Type 0 = λ h. AreNumbered h in
-    subst Q c.self.view_is (are_numbered c.self.inside.modules c.self.inside.versions.items c.self.inside.used c.self.invariant.stored c.self.invariant.counted)
+    subst Q c.self.view_is (are_numbered c.self.inside.profile c.self.inside.modules c.self.inside.versions.items c.self.inside.used c.self.invariant.stored c.self.invariant.counted)

@@ -20,4 +20,4 @@ returns-clause-number c =
     let r = c.version_near.result in
     let P : List NamedVersion → Type 0 = λ l. IsVersion l c.args.name.now (option_copied r) in
     let Q : Holdings → Type 0 = λ h. IsNumber h c.args.name.now (option_map (λ v. number_of v.now) r) in
-    subst Q c.self.view_is (numbered_now c.self.inside.modules c.self.inside.versions.items c.self.inside.used c.args.name.now r (subst P c.deref.ensures.value c.version_near.ensures))
+    subst Q c.self.view_is (numbered_now c.self.inside.profile c.self.inside.modules c.self.inside.versions.items c.self.inside.used c.args.name.now r (subst P c.deref.ensures.value c.version_near.ensures))

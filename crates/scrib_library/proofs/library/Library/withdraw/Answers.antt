@@ -13,6 +13,7 @@ use Rattle.scrib_library.proofs.library.Library.withdraw.Goals as goal
 
 pub invariant_of-self-2 : goal.invariant_of-self-2
 invariant_of-self-2 c =
+    let profile = c.self.inside.profile in
     let before = c.self.inside.modules in
     let versions = c.self.inside.versions.items in
     let used = c.self.inside.used in
@@ -28,11 +29,12 @@ invariant_of-self-2 c =
     let R : List NamedVersion → Type 0 = λ l. AreMade l plan.edits.items news in
     let made = subst R c.in_ok-plan.ensures.kept c.make_all.ensures in
     let after = c.take_out.ensures.out ∙ place_removed before name at free.place in
-    let Q : List ModuleTree → Type 0 = λ l. IsLibrary l news used in
-    subst Q (sym after) (library_then name before at free.place free.free versions used c.self.invariant plan planned news made)
+    let Q : List ModuleTree → Type 0 = λ l. IsLibrary profile l news used in
+    subst Q (sym after) (library_then profile name before at free.place free.free versions used c.self.invariant plan planned news made)
 
 pub returns-clause-ok : goal.returns-clause-ok
 returns-clause-ok c =
+    let profile = c.self.inside.profile in
     let before = c.self.inside.modules in
     let versions = c.self.inside.versions.items in
     let used = c.self.inside.used in
@@ -45,17 +47,18 @@ returns-clause-ok c =
     let P : ModuleTree → Type 0 = λ m. IsRemovalPlan m versions used plan in
     let planned = subst P here c.in_ok-plan.ensures.ok in
     let after = c.take_out.ensures.out ∙ place_removed before name at free.place in
-    let Q : List ModuleTree → Type 0 = λ l. IsWithdrawal before name l × (plan.changes.module ≡ name) × IsChanges before l plan.changes.list × AreWithdrawn plan.changes.list in
-    let S : Holdings → Type 0 = λ k. IsWithdrawal k.modules name c.take_out.new.self × (plan.changes.module ≡ name) × IsChanges k.modules c.take_out.new.self plan.changes.list × AreWithdrawn plan.changes.list in
+    let Q : List ModuleTree → Type 0 = λ l. IsWithdrawal profile before name l × (plan.changes.module ≡ name) × IsChanges before l plan.changes.list × AreWithdrawn plan.changes.list in
+    let S : Holdings → Type 0 = λ k. IsWithdrawal k.profile k.modules name c.take_out.new.self × (plan.changes.module ≡ name) × IsChanges k.modules c.take_out.new.self plan.changes.list × AreWithdrawn plan.changes.list in
     subst S c.self.view_is (subst Q (sym after) (
-      withdrawal_then name before at free.place free.free versions used c.self.invariant plan planned,
-      named_then name before at free.place free.free versions used c.self.invariant plan planned,
-      changes_then name before at free.place free.free versions used c.self.invariant plan planned,
-      withdrawn_then name before at free.place free.free versions used c.self.invariant plan planned,
+      withdrawal_then profile name before at free.place free.free versions used c.self.invariant plan planned,
+      named_then profile name before at free.place free.free versions used c.self.invariant plan planned,
+      changes_then profile name before at free.place free.free versions used c.self.invariant plan planned,
+      withdrawn_then profile name before at free.place free.free versions used c.self.invariant plan planned,
     ))
 
 pub returns-clause-versions : goal.returns-clause-versions
 returns-clause-versions c =
+    let profile = c.self.inside.profile in
     let before = c.self.inside.modules in
     let versions = c.self.inside.versions.items in
     let used = c.self.inside.used in
@@ -71,8 +74,8 @@ returns-clause-versions c =
     let R : List NamedVersion → Type 0 = λ l. AreMade l plan.edits.items news in
     let made = subst R c.in_ok-plan.ensures.kept c.make_all.ensures in
     let after = c.take_out.ensures.out ∙ place_removed before name at free.place in
-    let Q : List ModuleTree → Type 0 = λ l. AreVersionsUsed (holdings before versions used) (holdings l news used) plan.changes.list in
-    let S : Holdings → Type 0 = λ k. AreVersionsUsed k (holdings c.take_out.new.self news used) plan.changes.list in (
-      subst S c.self.view_is (subst Q (sym after) (used_then name before at free.place free.free versions used c.self.invariant plan planned news made)),
+    let Q : List ModuleTree → Type 0 = λ l. AreVersionsUsed (holdings profile before versions used) (holdings profile l news used) plan.changes.list in
+    let S : Holdings → Type 0 = λ k. AreVersionsUsed k (holdings profile c.take_out.new.self news used) plan.changes.list in (
+      subst S c.self.view_is (subst Q (sym after) (used_then profile name before at free.place free.free versions used c.self.invariant plan planned news made)),
       ap (λ (k : Holdings). k.used) c.self.view_is,
     )

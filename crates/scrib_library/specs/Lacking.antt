@@ -1,0 +1,38 @@
+-- Which stored versions project under a profile.
+-- Only contracts of private functions cite this file.
+use Rattle.std.specs.Prelude.{◌≡◌, ◌≢◌, ℕ, Bool, true, false, List, Option, Some, None, Contains}
+use Rattle.std.specs.declared.cmp.Ordering.TheVariants.{Greater}
+use Rattle.scrib_types.specs.declared.profile.Profile.{Profile}
+use Rattle.scrib_types.specs.declared.profile.Profile.TheVariants.{Plain, Reception}
+use Rattle.scrib_types.specs.WellFormed.{projects}
+use Rattle.scrib_record.specs.Versions.{meaning_of}
+use Rattle.scrib_library.specs.declared.versions.NamedVersion.{NamedVersion}
+use Rattle.scrib_library.specs.declared.fault.EditFault.{EditFault}
+use Rattle.scrib_library.specs.declared.fault.EditFault.TheVariants as edit
+use Rattle.scrib_library.specs.Listed.{name_cmp}
+
+-- what the version means projects on each of its roles under the profile
+abbrev pub version_projects : Profile → NamedVersion → Bool
+version_projects profile v = projects profile (meaning_of v.version).global (meaning_of v.version).roles
+
+abbrev pub AllVersionsProject : Profile → List NamedVersion → Type 0
+AllVersionsProject profile versions = (v : NamedVersion) → Contains versions v → version_projects profile v ≡ true
+
+-- the name of a version that doesn't, and no name of such a one comes before it in the order of names
+pub record IsFirstLacking (profile : Profile) (versions : List NamedVersion) (name : List (List ℕ)) : Type 0 where
+  pub lacking : NamedVersion
+  pub there : Contains versions lacking
+  pub named : lacking.name ≡ name
+  pub lacks : version_projects profile lacking ≡ false
+  pub first : (v : NamedVersion) → Contains versions v → version_projects profile v ≡ false → name_cmp name v.name ≢ Greater
+
+-- that name, or there is none
+abbrev pub IsFirstOrNone : Profile → List NamedVersion → Option (List (List ℕ)) → Type 0
+IsFirstOrNone profile versions None = AllVersionsProject profile versions
+IsFirstOrNone profile versions (Some name) = IsFirstLacking profile versions name
+
+-- why the wanted profile can't follow the one that is held
+abbrev pub StopsChange : (held wanted : Profile) → List NamedVersion → EditFault → Type 0
+StopsChange held wanted versions (edit.NeedsReception name) = IsFirstLacking wanted versions name
+StopsChange held wanted versions edit.OutOfMemory = (held ≡ Reception) × (wanted ≡ Plain)
+StopsChange held wanted versions other = ⊥

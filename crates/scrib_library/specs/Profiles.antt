@@ -1,0 +1,39 @@
+-- A change of the profile, and when it is refused (this project's own).
+use Rattle.std.specs.Prelude.{◌≡◌, ◌≢◌, ℕ, false, List}
+use Rattle.std.specs.Ordering.{nat_cmp}
+use Rattle.std.specs.declared.cmp.Ordering.TheVariants.{Greater}
+use Rattle.std.specs.Cmp.Lexicographic.{slice_cmp}
+use Rattle.scrib_types.specs.declared.profile.Profile.{Profile}
+use Rattle.scrib_types.specs.declared.profile.Profile.TheVariants.{Plain, Reception}
+use Rattle.scrib_types.specs.Agreement.{Agreement}
+use Rattle.scrib_types.specs.Texts.{dotted_text}
+use Rattle.scrib_types.specs.WellFormed.{projects}
+use Rattle.scrib_parser.specs.declared.tree.ModuleTree.{ModuleTree}
+use Rattle.scrib_library.specs.declared.fault.EditFault.{EditFault}
+use Rattle.scrib_library.specs.declared.fault.EditFault.TheVariants as edit
+use Rattle.scrib_library.specs.Modules.{Means}
+
+-- what the modules mean by the name has no projection on some role of it under the profile
+abbrev pub LacksProjection : Profile → List ModuleTree → List (List ℕ) → Type 0
+LacksProjection profile modules name = (a : Agreement) × Means modules name a × (projects profile a.global a.roles ≡ false)
+
+-- such a name, and none comes before it in the order of bytes
+pub record IsLeastLacking (profile : Profile) (modules : List ModuleTree) (name : List (List ℕ)) : Type 0 where
+  pub lacks : LacksProjection profile modules name
+  pub least : (other : List (List ℕ)) → LacksProjection profile modules other → slice_cmp nat_cmp (dotted_text name) (dotted_text other) ≢ Greater
+
+-- The change from the one profile to the other is refused for this: the wanted one doesn't project what this name
+-- means, and it is the least such name. Memory can lack only where the plain profile is to follow the wider one.
+abbrev pub ProfileFails : (held wanted : Profile) → List ModuleTree → EditFault → Type 0
+ProfileFails held wanted modules (edit.NeedsReception name) = IsLeastLacking wanted modules name
+ProfileFails held wanted modules edit.OutOfMemory = (held ≡ Reception) × (wanted ≡ Plain)
+ProfileFails held wanted modules (edit.Lex f) = ⊥
+ProfileFails held wanted modules (edit.Parse f) = ⊥
+ProfileFails held wanted modules edit.UnknownModule = ⊥
+ProfileFails held wanted modules edit.TooManyModules = ⊥
+ProfileFails held wanted modules (edit.StillImported by) = ⊥
+ProfileFails held wanted modules (edit.ImportMissing other) = ⊥
+ProfileFails held wanted modules edit.TooManyProtocols = ⊥
+ProfileFails held wanted modules (edit.Elaborate f) = ⊥
+ProfileFails held wanted modules (edit.Project u) = ⊥
+ProfileFails held wanted modules edit.VersionsFull = ⊥
