@@ -233,8 +233,8 @@ module _ (h : Holdings) (old : Records) (numbered : AreNumbered h) (once : Means
         let there : record_at (set_value (nat_eq id) old x.after) id ≡ Some x.after = at_itself h old id x.before x.after x.there in
         let marked : mark_of h x.after ≡ mark_of h x.before = note_mark h x.before x.after x.present numbered once e answer k k' x.is_present x.noted in
         let conv : conversation_of x.after ≡ noted (conversation_of x.before) e = λ j. record { name = x.noted.name j; log = x.noted.log j } in
-        let world : world_of h rest ≡ record { modules = h.modules; used = h.used; conversations = set_value (nat_eq id) (world_of h old).conversations (noted (conversation_of x.before) e) } =
-        λ j. record { modules = h.modules; used = h.used; conversations = (set_seen (nat_eq id) old x.after ∙ ap (set_value (nat_eq id) (world_of h old).conversations) conv) j } in
+        let world : world_of h rest ≡ record { profile = h.profile; modules = h.modules; used = h.used; conversations = set_value (nat_eq id) (world_of h old).conversations (noted (conversation_of x.before) e) } =
+        λ j. record { profile = h.profile; modules = h.modules; used = h.used; conversations = (set_seen (nat_eq id) old x.after ∙ ap (set_value (nat_eq id) (world_of h old).conversations) conv) j } in
         let made : Makes h old (Note id e) (reply.Noted i place answer) h rest = record {
           answered = record {
             follows = (conversation_of x.before, seen h old id (Some x.before) x.there, x.room, world);
@@ -250,6 +250,7 @@ module _ (h : Holdings) (old : Records) (numbered : AreNumbered h) (once : Means
     note_answered (reply.Noted i place told) x = note_made i place told x.0 x.1
     note_answered (reply.Refused f) x = note_refused f x.0 x.1
     note_answered (reply.Edited d changes) x = absurd x
+    note_answered (reply.Profiled p) x = absurd x
     note_answered (reply.Opened i n) x = absurd x
     note_answered (reply.Judged i n events told) x = absurd x
 
@@ -274,7 +275,7 @@ module _ (h : Holdings) (old : Records) (numbered : AreNumbered h) (once : Means
         let kept : set_value (nat_eq id) (world_of h old).conversations (conversation_of x.before) ≡ (world_of h old).conversations =
         set_value_same (nat_eq id) (world_of h old).conversations (conversation_of x.before) (seen h old id (Some x.before) x.there) in
         let world : world_of h rest ≡ world_of h old =
-        λ j. record { modules = h.modules; used = h.used; conversations = (set_seen (nat_eq id) old x.after ∙ ap (set_value (nat_eq id) (world_of h old).conversations) conv ∙ kept) j } in
+        λ j. record { profile = h.profile; modules = h.modules; used = h.used; conversations = (set_seen (nat_eq id) old x.after ∙ ap (set_value (nat_eq id) (world_of h old).conversations) conv ∙ kept) j } in
         let marked = turn_mark h x.before x.after x.present numbered once answer k k' x.is_present x.turned in
         let made : Makes h old (Turn id) (reply.Judged i name events answer) h rest = record {
           answered = record {
@@ -300,6 +301,7 @@ module _ (h : Holdings) (old : Records) (numbered : AreNumbered h) (once : Means
     turn_answered (reply.Judged i name events told) x = turn_made i name events told x.0 x.1
     turn_answered (reply.Refused f) x = turn_refused f x.0 x.1
     turn_answered (reply.Edited d changes) x = absurd x
+    turn_answered (reply.Profiled p) x = absurd x
     turn_answered (reply.Opened i n) x = absurd x
     turn_answered (reply.Noted i place told) x = absurd x
 
@@ -337,6 +339,7 @@ module _ (h : Holdings) (old : Records) (numbered : AreNumbered h) (once : Means
     ask_answered (reply.Judged i name events told) x = ask_made i name events told x.0 x.1
     ask_answered (reply.Refused f) x = ask_refused f x
     ask_answered (reply.Edited d changes) x = absurd x
+    ask_answered (reply.Profiled p) x = absurd x
     ask_answered (reply.Opened i n) x = absurd x
     ask_answered (reply.Noted i place told) x = absurd x
 
@@ -379,8 +382,8 @@ module _ (h : Holdings) (old : Records) (numbered : AreNumbered h) (once : Means
             inl (ap (mark_at h) (at_push_old old j (id, begun name v) q.0 q.1 ∙ sym q.1));
       }
 
-      pushed_world : world_of h (old ++ (id, begun name v) ∷ []) ≡ record { modules = h.modules; used = h.used; conversations = (world_of h old).conversations ++ (id, opened name) ∷ [] }
-      pushed_world = ap (λ (cs : List (ℕ × Conversation)). record { modules = h.modules; used = h.used; conversations = cs }) (map-append (λ (e : ℕ × Recorded). (e.0, conversation_of e.1)) old ((id, begun name v) ∷ []))
+      pushed_world : world_of h (old ++ (id, begun name v) ∷ []) ≡ record { profile = h.profile; modules = h.modules; used = h.used; conversations = (world_of h old).conversations ++ (id, opened name) ∷ [] }
+      pushed_world = ap (λ (cs : List (ℕ × Conversation)). record { profile = h.profile; modules = h.modules; used = h.used; conversations = cs }) (map-append (λ (e : ℕ × Recorded). (e.0, conversation_of e.1)) old ((id, begun name v) ∷ []))
 
       few : length (world_of h old).conversations < 65536
       few = subst (λ (k : ℕ). k < 65536) (sym (length-map old (λ (e : ℕ × Recorded). (e.0, conversation_of e.1)))) room
@@ -402,5 +405,6 @@ module _ (h : Holdings) (old : Records) (numbered : AreNumbered h) (once : Means
     open_answered (reply.Opened i n) x = opened_answered i n x.0 x.1 x.2
     open_answered (reply.Refused f) x = open_refused f x.0 x.1
     open_answered (reply.Edited d changes) x = absurd x
+    open_answered (reply.Profiled p) x = absurd x
     open_answered (reply.Noted i place told) x = absurd x
     open_answered (reply.Judged i n events told) x = absurd x

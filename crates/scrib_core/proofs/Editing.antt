@@ -1,9 +1,10 @@
 -- What an edit does to the marks, which it reads off the records that it leaves.
 use Rattle.std.proofs.Common.{◌≡◌, ◌≢◌, ◌==◌, ◌⊎◌, inl, inr, ℕ, ◌+◌, ◌/◌, ◌<◌, ◌≤◌, Bool, true, false, if◌then◌else◌, List, length, Option, Some, None, option_map, refl, sym, ap, subst, ◌∙◌, arith}
-use Rattle.std.specs.Prelude.{Ok, Err, Result, IfOk, IfErr, OnErr}
+use Rattle.std.specs.Prelude.{Ok, Err, Result, IfOk, IfErr, OnOk, OnErr}
 use Rattle.std.proofs.lemmas.Bool.{true≢false}
 use Rattle.std.proofs.lemmas.Bool.Decides.{Decides-eqb}
 use Rattle.scrib_types.specs.Agreement.{Agreement}
+use Rattle.scrib_types.specs.declared.profile.Profile.{Profile}
 use Rattle.scrib_types.specs.declared.event.Verdict.{Verdict}
 use Rattle.scrib_record.specs.declared.version.Version.{Version}
 use Rattle.scrib_record.specs.Stale.{is_final, Recorded}
@@ -12,10 +13,11 @@ use Rattle.scrib_library.specs.declared.changes.ChangeKind.{ChangeKind}
 use Rattle.scrib_library.specs.declared.changes.ChangeKind.TheVariants as change
 use Rattle.scrib_library.specs.Edits.{Changes}
 use Rattle.scrib_library.specs.Holdings.{Holdings, HasNumber, HasStamp, AreNumbered, IsStamped}
-use Rattle.scrib_library.specs.Modules.{Means, MeansOnce}
+use Rattle.scrib_library.specs.Modules.{Means, MeansOnce, AllProject}
+use Rattle.scrib_library.specs.Profiles.{ProfileFails}
 use Rattle.scrib_core.specs.World.{Conversation, Refuses}
 use Rattle.scrib_core.specs.Answers.{IsDue}
-use Rattle.scrib_core.specs.Telling.{refusal_of, reply_of}
+use Rattle.scrib_core.specs.Telling.{refusal_of, reply_of, profile_reply_of}
 use Rattle.scrib_core.specs.Marks.{Mark, Fresh, Stale, IsLeft, IsReset, Remarks}
 use Rattle.scrib_core.specs.Held.{number_at, mark, held_number, mark_of, mark_at, marks_of, conversation_of, world_of, Records, record_at, IsKnown, AreKnown}
 use Rattle.scrib_library.specs.declared.changes.Changes.{Changes as EditChanges}
@@ -25,6 +27,7 @@ use Rattle.scrib_library.specs.declared.fault.EditFault.TheVariants as fault
 use Rattle.scrib_parser.specs.declared.tree.ModuleTree.{ModuleTree}
 use Rattle.scrib_core.specs.declared.step.Step.{Step}
 use Rattle.scrib_core.specs.declared.step.Step.TheVariants.{Put, Withdraw}
+use Rattle.scrib_core.specs.declared.step.Step.TheVariants as step
 use Rattle.scrib_core.specs.declared.reply.Edit.TheVariants as edit
 use Rattle.scrib_core.specs.declared.reply.Refusal.{Refusal}
 use Rattle.scrib_core.specs.declared.reply.Refusal.TheVariants as refusal
@@ -155,14 +158,14 @@ left_by_withdraw name i events m = refl
 module _ (h k : Holdings) (rs : Records) (before : AreNumbered h) (after : AreNumbered k) (once : MeansOnce h.modules) (known : AreKnown h rs) where
   -- what the library answers to a put
   abbrev PutTells : List ℕ → EditChanges → Type 0
-  PutTells text changes = (m : ModuleTree) × IsPut h.modules text m k.modules × (changes.module ≡ m.name) × IsChanges h.modules k.modules changes.list
+  PutTells text changes = (m : ModuleTree) × IsPut h.profile h.modules text m k.modules × (changes.module ≡ m.name) × IsChanges h.modules k.modules changes.list
 
-  pub put_made : (text : List ℕ) (changes : EditChanges) → PutTells text changes → AreVersionsUsed h k changes.list → Makes h rs (Put text) (reply.Edited edit.Put changes) k rs
-  put_made text changes x versions =
+  pub put_made : (text : List ℕ) (changes : EditChanges) → PutTells text changes → AreVersionsUsed h k changes.list → k.profile ≡ h.profile → Makes h rs (Put text) (reply.Edited edit.Put changes) k rs
+  put_made text changes x versions profile =
       let grows : h.used ≤ k.used = omega (arith, versions.count) in
       record {
         answered = record {
-          follows = ((x.0, x.1), record { list = changes.list; changes = x.3; count = versions.count; few = versions.few }, refl);
+          follows = ((x.0, x.1), record { list = changes.list; changes = x.3; count = versions.count; few = versions.few }, profile, refl);
           replies = (refl, (x.0, x.1.read, x.2), x.3);
           remarks = edit_remarks h k rs before after once known (Put text) (left_by_put text) versions.stamped grows;
         };
@@ -170,13 +173,13 @@ module _ (h k : Holdings) (rs : Records) (before : AreNumbered h) (after : AreNu
         known = edit_known h k rs before after once known versions.stamped grows;
       }
 
-  pub withdraw_made : (name : List (List ℕ)) (changes : EditChanges) → IsWithdrawal h.modules name k.modules → changes.module ≡ name → IsChanges h.modules k.modules changes.list → AreVersionsUsed h k changes.list → k.used ≡ h.used
+  pub withdraw_made : (name : List (List ℕ)) (changes : EditChanges) → IsWithdrawal h.profile h.modules name k.modules → changes.module ≡ name → IsChanges h.modules k.modules changes.list → AreVersionsUsed h k changes.list → k.used ≡ h.used → k.profile ≡ h.profile
       → Makes h rs (Withdraw name) (reply.Edited edit.Withdraw changes) k rs
-  withdraw_made name changes x module_is exact versions used =
+  withdraw_made name changes x module_is exact versions used profile =
       let grows : h.used ≤ k.used = omega (arith, used) in
       record {
         answered = record {
-          follows = (x, used, refl);
+          follows = (x, used, profile, refl);
           replies = (refl, module_is, exact);
           remarks = edit_remarks h k rs before after once known (Withdraw name) (left_by_withdraw name) versions.stamped grows;
         };
@@ -188,7 +191,7 @@ module _ (h : Holdings) (rs : Records) (numbered : AreNumbered h) (once : MeansO
   stays : (step : Step) (f : Refusal) (k : Holdings) → k ≡ h → Refuses (world_of h rs) step f → IsDue (world_of h rs) step (reply.Refused f) → Makes h rs step (reply.Refused f) k rs
   stays step f k e refuses due = subst (λ (x : Holdings). Makes h rs step (reply.Refused f) x rs) (sym e) (refused h rs numbered once known step f rs refuses due refl)
 
-  put_refused : (text : List ℕ) (k : Holdings) (f : EditFault) → k ≡ h → PutFails h.modules h.used text f → Makes h rs (Put text) (reply.Refused (refusal_of f)) k rs
+  put_refused : (text : List ℕ) (k : Holdings) (f : EditFault) → k ≡ h → PutFails h.profile h.modules h.used text f → Makes h rs (Put text) (reply.Refused (refusal_of f)) k rs
   put_refused text k (fault.Lex f) e x = stays (Put text) (refusal.Edit (fault.Lex f)) k e x tt
   put_refused text k (fault.Parse f) e x = stays (Put text) (refusal.Edit (fault.Parse f)) k e x tt
   put_refused text k fault.TooManyModules e x = stays (Put text) (refusal.Edit fault.TooManyModules) k e x tt
@@ -199,6 +202,7 @@ module _ (h : Holdings) (rs : Records) (numbered : AreNumbered h) (once : MeansO
   put_refused text k fault.VersionsFull e x = stays (Put text) (refusal.Edit fault.VersionsFull) k e x tt
   put_refused text k fault.UnknownModule e x = absurd x
   put_refused text k (fault.StillImported by) e x = absurd x
+  put_refused text k (fault.NeedsReception name) e x = absurd x
   put_refused text k fault.OutOfMemory e x = stays (Put text) refusal.OutOfMemory k e tt x
 
   withdraw_refused : (name : List (List ℕ)) (k : Holdings) (f : EditFault) → k ≡ h → WithdrawFails h.modules name f → Makes h rs (Withdraw name) (reply.Refused (refusal_of f)) k rs
@@ -210,17 +214,58 @@ module _ (h : Holdings) (rs : Records) (numbered : AreNumbered h) (once : MeansO
   withdraw_refused name k (fault.Elaborate f) e x = absurd x
   withdraw_refused name k (fault.Project u) e x = absurd x
   withdraw_refused name k fault.VersionsFull e x = absurd x
+  withdraw_refused name k (fault.NeedsReception other) e x = absurd x
   withdraw_refused name k fault.UnknownModule e x = stays (Withdraw name) (refusal.Edit fault.UnknownModule) k e x tt
   withdraw_refused name k (fault.StillImported by) e x = stays (Withdraw name) (refusal.Edit (fault.StillImported by)) k e x tt
   withdraw_refused name k fault.OutOfMemory e x = stays (Withdraw name) refusal.OutOfMemory k e tt x
 
   module _ (k : Holdings) (after : AreNumbered k) where
-    pub put_answered : (text : List ℕ) (edited : Result EditChanges EditFault) → IfOk edited (λ changes. (m : ModuleTree) × IsPut h.modules text m k.modules × (changes.module ≡ m.name) × IsChanges h.modules k.modules changes.list)
-        → IfOk edited (λ changes. AreVersionsUsed h k changes.list) → IfErr edited (PutFails h.modules h.used text) → OnErr edited (k ≡ h) → Makes h rs (Put text) (reply_of edit.Put edited) k rs
-    put_answered text (Ok changes) ok versions fails err = put_made h k rs numbered after once known text changes ok versions
-    put_answered text (Err f) ok versions fails err = put_refused text k f err fails
+    pub put_answered : (text : List ℕ) (edited : Result EditChanges EditFault) → IfOk edited (λ changes. (m : ModuleTree) × IsPut h.profile h.modules text m k.modules × (changes.module ≡ m.name) × IsChanges h.modules k.modules changes.list)
+        → IfOk edited (λ changes. AreVersionsUsed h k changes.list) → k.profile ≡ h.profile → IfErr edited (PutFails h.profile h.modules h.used text) → OnErr edited (k ≡ h) → Makes h rs (Put text) (reply_of edit.Put edited) k rs
+    put_answered text (Ok changes) ok versions profile fails err = put_made h k rs numbered after once known text changes ok versions profile
+    put_answered text (Err f) ok versions profile fails err = put_refused text k f err fails
 
-    pub withdraw_answered : (name : List (List ℕ)) (edited : Result EditChanges EditFault) → IfOk edited (λ changes. IsWithdrawal h.modules name k.modules × (changes.module ≡ name) × IsChanges h.modules k.modules changes.list × AreWithdrawn changes.list)
-        → IfOk edited (λ changes. AreVersionsUsed h k changes.list × (k.used ≡ h.used)) → IfErr edited (WithdrawFails h.modules name) → OnErr edited (k ≡ h) → Makes h rs (Withdraw name) (reply_of edit.Withdraw edited) k rs
-    withdraw_answered name (Ok changes) ok versions fails err = withdraw_made h k rs numbered after once known name changes ok.0 ok.1 ok.2 versions.0 versions.1
-    withdraw_answered name (Err f) ok versions fails err = withdraw_refused name k f err fails
+    pub withdraw_answered : (name : List (List ℕ)) (edited : Result EditChanges EditFault) → IfOk edited (λ changes. IsWithdrawal h.profile h.modules name k.modules × (changes.module ≡ name) × IsChanges h.modules k.modules changes.list × AreWithdrawn changes.list)
+        → IfOk edited (λ changes. AreVersionsUsed h k changes.list × (k.used ≡ h.used)) → k.profile ≡ h.profile → IfErr edited (WithdrawFails h.modules name) → OnErr edited (k ≡ h) → Makes h rs (Withdraw name) (reply_of edit.Withdraw edited) k rs
+    withdraw_answered name (Ok changes) ok versions profile fails err = withdraw_made h k rs numbered after once known name changes ok.0 ok.1 ok.2 versions.0 versions.1 profile
+    withdraw_answered name (Err f) ok versions profile fails err = withdraw_refused name k f err fails
+
+-- what a library holds, but under this profile
+abbrev pub under : Profile → Holdings → Holdings
+under p h = record { profile = p; modules = h.modules; stamps = h.stamps; used = h.used }
+
+module _ (h : Holdings) (rs : Records) (numbered : AreNumbered h) (once : MeansOnce h.modules) (known : AreKnown h rs) where
+  known_under : (p : Profile) → AreKnown (under p h) rs
+  known_under p id r e = let k = known id r e in record { used = k.used; means = k.means }
+
+  profile_made : (p : Profile) → AllProject p h.modules → Makes h rs (step.Profile p) (reply.Profiled p) (under p h) rs
+  profile_made p projected = record {
+    answered = record {
+      follows = (projected, refl);
+      replies = refl;
+      remarks = record { unopened = λ id e. ap (mark_at h) (none_seen h rs id e); opened = λ id c e. inl refl };
+    };
+    due = tt;
+    known = known_under p;
+  }
+
+  profile_refused : (p : Profile) (k : Holdings) (f : EditFault) → k ≡ h → ProfileFails h.profile p h.modules f → Makes h rs (step.Profile p) (reply.Refused (refusal_of f)) k rs
+  profile_refused p k (fault.Lex f) e x = absurd x
+  profile_refused p k (fault.Parse f) e x = absurd x
+  profile_refused p k fault.UnknownModule e x = absurd x
+  profile_refused p k fault.TooManyModules e x = absurd x
+  profile_refused p k (fault.StillImported by) e x = absurd x
+  profile_refused p k (fault.ImportMissing m) e x = absurd x
+  profile_refused p k fault.TooManyProtocols e x = absurd x
+  profile_refused p k (fault.Elaborate f) e x = absurd x
+  profile_refused p k (fault.Project u) e x = absurd x
+  profile_refused p k fault.VersionsFull e x = absurd x
+  profile_refused p k (fault.NeedsReception name) e x = stays h rs numbered once known (step.Profile p) (refusal.Edit (fault.NeedsReception name)) k e x tt
+  profile_refused p k fault.OutOfMemory e x = stays h rs numbered once known (step.Profile p) refusal.OutOfMemory k e tt x
+
+  -- a change of the profile leaves every mark
+  pub profile_answered : (p : Profile) (k : Holdings) (changed : Result (Unit {0}) EditFault) → OnOk changed (k ≡ under p h) → OnOk changed (AllProject p h.modules) → IfErr changed (ProfileFails h.profile p h.modules) → OnErr changed (k ≡ h)
+      → Makes h rs (step.Profile p) (profile_reply_of p changed) k rs
+  profile_answered p k (Ok done) ok projected fails err =
+      subst (λ (x : Holdings). Makes h rs (step.Profile p) (reply.Profiled p) x rs) (sym ok) (profile_made p projected)
+  profile_answered p k (Err f) ok projected fails err = profile_refused p k f err fails

@@ -5,6 +5,7 @@ use Rattle.std.proofs.lemmas.Bool.{true≢false}
 use Rattle.std.proofs.lemmas.Bool.Decides.{Decides-eqb, eqb_tells}
 use Rattle.scrib_core.specs.declared.step.Step.{Step}
 use Rattle.scrib_core.specs.declared.step.Step.TheVariants.{Put, Withdraw, Open, Note, Turn, Ask}
+use Rattle.scrib_core.specs.declared.step.Step.TheVariants as step
 use Rattle.scrib_core.specs.Marks.{Mark, Fresh, Stale, IsTurned, IsLeft}
 use Rattle.scrib_core.specs.Answers.{State}
 use Rattle.scrib_core.specs.Turns.{turns, IsAcceptedBeside, Stretch, none, more, StaysFresh, TurnsSuffice}
@@ -38,6 +39,7 @@ module _ (id events : ℕ) where
   counts_left : (step : Step) (n : ℕ) (old new : Mark) → IsLeft step id events old new → Counts n old → Counts (n + turns step id) new
   counts_left (Put text) n old new e c = counts_same n old new e c
   counts_left (Withdraw name) n old new e c = counts_same n old new e c
+  counts_left (step.Profile p) n old new e c = counts_same n old new e c
   counts_left (Open i name) n old new e c = counts_same n old new e c
   counts_left (Note i x) n old new e c = counts_same n old new e c
   counts_left (Turn i) n old new e c = counts_turn_of i n old new (i == id) refl e c
@@ -49,6 +51,7 @@ module _ (id events : ℕ) where
   fresh_left : (step : Step) (new : Mark) → IsLeft step id events Fresh new → new ≡ Fresh
   fresh_left (Put text) new e = e
   fresh_left (Withdraw name) new e = e
+  fresh_left (step.Profile p) new e = e
   fresh_left (Open i name) new e = e
   fresh_left (Note i x) new e = e
   fresh_left (Turn i) new l = fresh_turn i new l

@@ -1,5 +1,7 @@
 -- The replies to a list of steps (this project's own).
 use Rattle.std.specs.Prelude.{◌≡◌, ℕ, List, [], ◌∷◌, ◌++◌, length, Option, Some}
+use Rattle.scrib_types.specs.declared.profile.Profile.{Profile}
+use Rattle.scrib_types.specs.declared.profile.Profile.TheVariants.{Plain}
 use Rattle.scrib_types.specs.declared.event.Told.{Told}
 use Rattle.scrib_types.specs.declared.event.Verdict.{Verdict}
 use Rattle.scrib_types.specs.declared.event.Told.TheVariants as tell
@@ -10,11 +12,12 @@ use Rattle.scrib_library.specs.Modules.{IsMeaning}
 use Rattle.scrib_library.specs.Edits.{Reads, IsChanges}
 use Rattle.scrib_core.specs.declared.step.Step.{Step}
 use Rattle.scrib_core.specs.declared.step.Step.TheVariants.{Put, Withdraw, Open, Note, Turn, Ask}
+use Rattle.scrib_core.specs.declared.step.Step.TheVariants as step
 use Rattle.scrib_core.specs.declared.reply.Edit.TheVariants as edit
 use Rattle.scrib_core.specs.declared.reply.Refusal.TheVariants.{AlreadyOpen, UnknownProtocol, TooManyConversations, NoConversation, Edit, LogFull, OutOfMemory}
 use Rattle.scrib_core.specs.declared.reply.Reply.{Reply}
 use Rattle.scrib_core.specs.declared.reply.Reply.TheVariants as reply
-use Rattle.scrib_core.specs.World.{World, Conversation, conversation, nothing, Follows, Refuses, NeedsMemory}
+use Rattle.scrib_core.specs.World.{World, Conversation, conversation, nothing_under, Follows, Refuses, NeedsMemory}
 use Rattle.scrib_core.specs.Marks.{Marks, unmarked, Fresh, IsStale, Remarks}
 
 -- the world, and which of its conversations are marked
@@ -22,9 +25,13 @@ pub record State : Type 0 where
   pub world : World
   pub marks : Marks
 
--- nothing is there, and nothing is marked
+-- nothing is there but the profile, and nothing is marked
+abbrev pub initial_under : Profile → State
+initial_under p = record { world = nothing_under p; marks = unmarked }
+
+-- as a new monitor begins
 abbrev pub initial : State
-initial = record { world = nothing; marks = unmarked }
+initial = initial_under Plain
 
 -- a fresh verdict: that of judging the conversation's whole log afresh against what its protocol means now
 abbrev pub IsFresh : List ModuleTree → Conversation → Verdict → Type 0
@@ -52,6 +59,8 @@ Replies w (Put text) _ s = ⊥
 Replies w (Withdraw name) (reply.Edited e changes) s =
     (e ≡ edit.Withdraw) × (changes.module ≡ name) × IsChanges w.modules s.world.modules changes.list
 Replies w (Withdraw name) _ s = ⊥
+Replies w (step.Profile p) (reply.Profiled q) s = q ≡ p
+Replies w (step.Profile p) _ s = ⊥
 Replies w (Open id name) (reply.Opened i n) s = (i ≡ id) × (n ≡ name)
 Replies w (Open id name) _ s = ⊥
 Replies w (Note id e) (reply.Noted i place told) s =
@@ -72,6 +81,7 @@ pub record IsAccepted (s : State) (step : Step) (answer : Reply) (t : State) : T
 abbrev pub IsAnswered : State → Step → Reply → State → Type 0
 IsAnswered s step (reply.Refused f) t = Refuses s.world step f × (t ≡ s)
 IsAnswered s step (reply.Edited e changes) t = IsAccepted s step (reply.Edited e changes) t
+IsAnswered s step (reply.Profiled p) t = IsAccepted s step (reply.Profiled p) t
 IsAnswered s step (reply.Opened i n) t = IsAccepted s step (reply.Opened i n) t
 IsAnswered s step (reply.Noted i place told) t = IsAccepted s step (reply.Noted i place told) t
 IsAnswered s step (reply.Judged i n events told) t = IsAccepted s step (reply.Judged i n events told) t
@@ -93,6 +103,7 @@ IsDue w step (reply.Refused NoConversation) = Unit {0}
 IsDue w step (reply.Refused (Edit f)) = Unit {0}
 IsDue w step (reply.Refused LogFull) = Unit {0}
 IsDue w step (reply.Edited e changes) = Unit {0}
+IsDue w step (reply.Profiled p) = Unit {0}
 IsDue w step (reply.Opened i n) = Unit {0}
 IsDue w step (reply.Noted i place told) = Unit {0}
 IsDue w step (reply.Judged i n events told) = Unit {0}

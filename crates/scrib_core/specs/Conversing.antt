@@ -5,13 +5,13 @@ use Rattle.std.specs.Map.{set_value}
 use Rattle.std.specs.Option.{option_map}
 use Rattle.scrib_types.specs.declared.event.Event.{Event}
 use Rattle.scrib_types.specs.declared.event.Told.{Told}
-use Rattle.scrib_types.specs.declared.event.Verdict.TheVariants.{Permitted}
 use Rattle.scrib_types.specs.Agreement.{Agreement}
 use Rattle.scrib_record.specs.declared.comparison.Comparison.{Comparison}
 use Rattle.scrib_record.specs.declared.comparison.Comparison.TheVariants.{Whole, Numbers}
 use Rattle.scrib_record.specs.declared.version.Version.{Version}
 use Rattle.scrib_record.specs.Stale.{Recorded, IsLawful}
 use Rattle.scrib_record.specs.Told.{IsNoted, IsTurned, IsTold}
+use Rattle.scrib_record.specs.Turns.{new_record}
 use Rattle.scrib_record.specs.Versions.{meaning_of, number_of}
 use Rattle.scrib_library.specs.Holdings.{Holdings, IsNumber}
 use Rattle.scrib_library.specs.Modules.{Means, IsMeaning, MeansOnce}
@@ -34,7 +34,7 @@ ServesBeside Numbers h rs = AreKnown h rs × MeansOnce h.modules
 
 -- the record of an empty log under the version
 abbrev pub begun : List (List ℕ) → Version → Recorded
-begun name v = record { name = name; log = []; held = Some v; judged = 0; verdict = Permitted }
+begun name v = new_record name v
 
 -- the library has the protocol, no conversation of the id is open, and fewer than `most` are: one is added
 pub record IsOpened (most : ℕ) (h : Holdings) (old : Records) (id : ℕ) (name : List (List ℕ)) (new : Records) : Type 0 where
@@ -58,7 +58,7 @@ OpenFails most h old id name OutOfMemory = (record_at old id ≡ None) × ((a : 
 pub record IsNotedAt (h : Holdings) (old : Records) (id : ℕ) (e : Event) (place : ℕ) (answer : Told) (new : Records) : Type 0 where
   pub before : Recorded
   pub there : record_at old id ≡ Some before
-  pub room : length before.log < 65536
+  pub room : length before.log < 1048576
   pub present : Option Version
   pub is_present : IsPresent h before.name present
   pub after : Recorded
@@ -73,8 +73,8 @@ NoteFails old id UnknownProtocol = ⊥
 NoteFails old id TooManyConversations = ⊥
 NoteFails old id NoConversation = record_at old id ≡ None
 NoteFails old id (Edit f) = ⊥
-NoteFails old id LogFull = (r : Recorded) × (record_at old id ≡ Some r) × (65536 ≤ length r.log)
-NoteFails old id OutOfMemory = (r : Recorded) × (record_at old id ≡ Some r) × (length r.log < 65536)
+NoteFails old id LogFull = (r : Recorded) × (record_at old id ≡ Some r) × (1048576 ≤ length r.log)
+NoteFails old id OutOfMemory = (r : Recorded) × (record_at old id ≡ Some r) × (length r.log < 1048576)
 
 -- the record of the id took a turn
 pub record IsTurnedAt (h : Holdings) (old : Records) (id : ℕ) (name : List (List ℕ)) (events : ℕ) (answer : Told) (new : Records) : Type 0 where
@@ -115,6 +115,7 @@ abbrev pub AnswersOpen : (most : ℕ) → Holdings → Records → ℕ → List 
 AnswersOpen most h old id name (reply.Opened i n) new = (i ≡ id) × (n ≡ name) × IsOpened most h old id name new
 AnswersOpen most h old id name (reply.Refused f) new = OpenFails most h old id name f × (new ≡ old)
 AnswersOpen most h old id name (reply.Edited e changes) new = ⊥
+AnswersOpen most h old id name (reply.Profiled p) new = ⊥
 AnswersOpen most h old id name (reply.Noted i place told) new = ⊥
 AnswersOpen most h old id name (reply.Judged i n events told) new = ⊥
 
@@ -122,6 +123,7 @@ abbrev pub AnswersNote : Holdings → Records → ℕ → Event → Reply → Re
 AnswersNote h old id e (reply.Noted i place told) new = (i ≡ id) × IsNotedAt h old id e place told new
 AnswersNote h old id e (reply.Refused f) new = NoteFails old id f × (new ≡ old)
 AnswersNote h old id e (reply.Edited x changes) new = ⊥
+AnswersNote h old id e (reply.Profiled p) new = ⊥
 AnswersNote h old id e (reply.Opened i n) new = ⊥
 AnswersNote h old id e (reply.Judged i n events told) new = ⊥
 
@@ -129,6 +131,7 @@ abbrev pub AnswersTurn : Holdings → Records → ℕ → Reply → Records → 
 AnswersTurn h old id (reply.Judged i name events told) new = (i ≡ id) × IsTurnedAt h old id name events told new
 AnswersTurn h old id (reply.Refused f) new = TellFails old id f × (new ≡ old)
 AnswersTurn h old id (reply.Edited e changes) new = ⊥
+AnswersTurn h old id (reply.Profiled p) new = ⊥
 AnswersTurn h old id (reply.Opened i n) new = ⊥
 AnswersTurn h old id (reply.Noted i place told) new = ⊥
 
@@ -136,5 +139,6 @@ abbrev pub AnswersAsk : Holdings → Records → ℕ → Reply → Type 0
 AnswersAsk h rs id (reply.Judged i name events told) = (i ≡ id) × IsAskedAt h rs id name events told
 AnswersAsk h rs id (reply.Refused f) = TellFails rs id f
 AnswersAsk h rs id (reply.Edited e changes) = ⊥
+AnswersAsk h rs id (reply.Profiled p) = ⊥
 AnswersAsk h rs id (reply.Opened i n) = ⊥
 AnswersAsk h rs id (reply.Noted i place told) = ⊥

@@ -36,7 +36,7 @@ abbrev pub conversation_of : Recorded → Conversation
 conversation_of r = record { name = r.name; log = r.log }
 
 abbrev pub world_of : Holdings → Records → World
-world_of h rs = record { modules = h.modules; used = h.used; conversations = map (λ e. (e.0, conversation_of e.1)) rs }
+world_of h rs = record { profile = h.profile; modules = h.modules; used = h.used; conversations = map (λ e. (e.0, conversation_of e.1)) rs }
 
 -- the number of the name's version, if it has one
 abbrev pub number_at : List Stamp → List (List ℕ) → Option ℕ

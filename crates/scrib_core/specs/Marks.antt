@@ -4,6 +4,7 @@ use Rattle.scrib_library.specs.declared.changes.ChangeKind.{ChangeKind}
 use Rattle.scrib_library.specs.Edits.{Changes}
 use Rattle.scrib_core.specs.declared.step.Step.{Step}
 use Rattle.scrib_core.specs.declared.step.Step.TheVariants.{Put, Withdraw, Open, Note, Turn, Ask}
+use Rattle.scrib_core.specs.declared.step.Step.TheVariants as step
 use Rattle.scrib_core.specs.World.{World, Conversation, conversation}
 
 -- a conversation is fresh, or it is stale, with so many accepted turns since its name last changed
@@ -33,6 +34,7 @@ IsTurned events (Stale t) (Stale u) = (u ≡ t + 1) × (256 * u < events)
 abbrev pub IsLeft : Step → (id events : ℕ) → (old new : Mark) → Type 0
 IsLeft (Put text) id events old new = new ≡ old
 IsLeft (Withdraw name) id events old new = new ≡ old
+IsLeft (step.Profile p) id events old new = new ≡ old
 IsLeft (Open i name) id events old new = new ≡ old
 IsLeft (Note i e) id events old new = new ≡ old
 IsLeft (Turn i) id events old new = (i ≡ id → IsTurned events old new) × (i ≢ id → new ≡ old)

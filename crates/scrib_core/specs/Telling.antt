@@ -1,6 +1,7 @@
--- What a record answers, as a value, and the reply to an edit.
+-- What a record answers, as a value, and the replies to an edit and to a change of the profile.
 -- Only contracts of private functions cite this file.
 use Rattle.std.specs.Prelude.{◌≡◌, Ok, Err, Result}
+use Rattle.scrib_types.specs.declared.profile.Profile.{Profile}
 use Rattle.scrib_types.specs.declared.event.Told.{Told}
 use Rattle.scrib_types.specs.declared.event.Told.TheVariants.{Stale, Judged}
 use Rattle.scrib_types.specs.declared.event.Verdict.TheVariants.{Permitted, Offence, Withdrawn}
@@ -37,8 +38,13 @@ refusal_of fault.TooManyProtocols = refusal.Edit fault.TooManyProtocols
 refusal_of (fault.Elaborate f) = refusal.Edit (fault.Elaborate f)
 refusal_of (fault.Project u) = refusal.Edit (fault.Project u)
 refusal_of fault.VersionsFull = refusal.Edit fault.VersionsFull
+refusal_of (fault.NeedsReception name) = refusal.Edit (fault.NeedsReception name)
 refusal_of fault.OutOfMemory = refusal.OutOfMemory
 
 abbrev pub reply_of : Edit → Result Changes EditFault → Reply
 reply_of e (Ok changes) = reply.Edited e changes
 reply_of e (Err f) = reply.Refused (refusal_of f)
+
+abbrev pub profile_reply_of : Profile → Result (Unit {0}) EditFault → Reply
+profile_reply_of p (Ok done) = reply.Profiled p
+profile_reply_of p (Err f) = reply.Refused (refusal_of f)

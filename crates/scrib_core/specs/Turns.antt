@@ -4,6 +4,7 @@ use Rattle.scrib_library.specs.declared.changes.ChangeKind.{ChangeKind}
 use Rattle.scrib_library.specs.Edits.{Changes}
 use Rattle.scrib_core.specs.declared.step.Step.{Step}
 use Rattle.scrib_core.specs.declared.step.Step.TheVariants.{Put, Withdraw, Open, Note, Turn, Ask}
+use Rattle.scrib_core.specs.declared.step.Step.TheVariants as step
 use Rattle.scrib_core.specs.declared.reply.Reply.{Reply}
 use Rattle.scrib_core.specs.World.{Conversation, conversation}
 use Rattle.scrib_core.specs.Marks.{Fresh}
@@ -13,6 +14,7 @@ use Rattle.scrib_core.specs.Answers.{State, IsAccepted}
 abbrev pub turns : Step → ℕ → ℕ
 turns (Put text) id = 0
 turns (Withdraw name) id = 0
+turns (step.Profile p) id = 0
 turns (Open i name) id = 0
 turns (Note i e) id = 0
 turns (Turn i) id = if i == id then 1 else 0

@@ -1,19 +1,23 @@
--- The plain world (this project's own): the accepted modules, how many names the accepted edits have added or replaced,
--- and the conversations. It holds no verdict, no mark, no version and no state.
+-- The plain world (this project's own): the profile, the accepted modules, how many names the accepted edits have added
+-- or replaced, and the conversations. It holds no verdict, no mark, no version and no state.
 use Rattle.std.specs.Prelude.{◌≡◌, ℕ, true, ◌+◌, ◌<◌, ◌≤◌, List, [], ◌∷◌, ◌++◌, length, Option, Some, None, nat_eq, IsSome}
 use Rattle.std.specs.Map.{lookup, set_value}
 use Rattle.scrib_types.specs.declared.event.Event.{Event}
 use Rattle.scrib_types.specs.Agreement.{Agreement}
+use Rattle.scrib_types.specs.declared.profile.Profile.{Profile}
+use Rattle.scrib_types.specs.declared.profile.Profile.TheVariants.{Plain, Reception}
 use Rattle.scrib_lexer.specs.Tokens.{max_text_bytes}
 use Rattle.scrib_parser.specs.declared.tree.ModuleTree.{ModuleTree}
 use Rattle.scrib_elaborate.specs.Names.{has_name, module_names}
 use Rattle.scrib_library.specs.declared.fault.EditFault.{EditFault}
 use Rattle.scrib_library.specs.declared.fault.EditFault.TheVariants as edit
-use Rattle.scrib_library.specs.Modules.{Means}
+use Rattle.scrib_library.specs.Modules.{Means, AllProject}
 use Rattle.scrib_library.specs.declared.changes.Change.{Change}
 use Rattle.scrib_library.specs.Edits.{IsPut, IsChanges, new_versions, PutFails, IsWithdrawal, WithdrawFails}
+use Rattle.scrib_library.specs.Profiles.{ProfileFails}
 use Rattle.scrib_core.specs.declared.step.Step.{Step}
 use Rattle.scrib_core.specs.declared.step.Step.TheVariants.{Put, Withdraw, Open, Note, Turn, Ask}
+use Rattle.scrib_core.specs.declared.step.Step.TheVariants as step
 use Rattle.scrib_core.specs.declared.reply.Refusal.{Refusal}
 use Rattle.scrib_core.specs.declared.reply.Refusal.TheVariants.{AlreadyOpen, UnknownProtocol, TooManyConversations, NoConversation, Edit, LogFull, OutOfMemory}
 
@@ -23,13 +27,14 @@ pub record Conversation : Type 0 where
   pub log : List Event
 
 pub record World : Type 0 where
+  pub profile : Profile
   pub modules : List ModuleTree
   pub used : ℕ
   pub conversations : List (ℕ × Conversation)
 
--- no module and no conversation
-abbrev pub nothing : World
-nothing = record { modules = []; used = 0; conversations = [] }
+-- the profile, no module and no conversation
+abbrev pub nothing_under : Profile → World
+nothing_under p = record { profile = p; modules = []; used = 0; conversations = [] }
 
 -- the conversation that is open under the id, if any
 abbrev pub conversation : World → ℕ → Option Conversation
@@ -50,8 +55,8 @@ NoteFails c UnknownProtocol = ⊥
 NoteFails c TooManyConversations = ⊥
 NoteFails c NoConversation = ⊥
 NoteFails c (Edit f) = ⊥
-NoteFails c LogFull = 65536 ≤ length c.log
-NoteFails c OutOfMemory = length c.log < 65536
+NoteFails c LogFull = 1048576 ≤ length c.log
+NoteFails c OutOfMemory = length c.log < 1048576
 
 -- each name that was added or replaced used a version, of which there are at most 65,536
 pub record UsesVersions (w v : World) : Type 0 where
@@ -60,27 +65,34 @@ pub record UsesVersions (w v : World) : Type 0 where
   pub count : v.used ≡ w.used + new_versions list
   pub few : v.used ≤ 65536
 
--- What an accepted step makes of the world: a put places the module of its text; a withdrawal takes a module out; an
--- open adds an empty log; a note appends its event; a turn and an ask change nothing.
+-- What an accepted step makes of the world: a put places the module of its text; a withdrawal takes a module out; a
+-- profile takes the place of the one that was there, where all that the modules mean projects under it; an open adds an
+-- empty log; a note appends its event; a turn and an ask change nothing.
 abbrev pub Follows : World → Step → World → Type 0
-Follows w (Put text) v = ((m : ModuleTree) × IsPut w.modules text m v.modules) × UsesVersions w v × (v.conversations ≡ w.conversations)
-Follows w (Withdraw name) v = IsWithdrawal w.modules name v.modules × (v.used ≡ w.used) × (v.conversations ≡ w.conversations)
+Follows w (Put text) v =
+    ((m : ModuleTree) × IsPut w.profile w.modules text m v.modules) × UsesVersions w v × (v.profile ≡ w.profile) × (v.conversations ≡ w.conversations)
+Follows w (Withdraw name) v =
+    IsWithdrawal w.profile w.modules name v.modules × (v.used ≡ w.used) × (v.profile ≡ w.profile) × (v.conversations ≡ w.conversations)
+Follows w (step.Profile p) v =
+    AllProject p w.modules × (v ≡ record { profile = p; modules = w.modules; used = w.used; conversations = w.conversations })
 Follows w (Open id name) v =
     (conversation w id ≡ None) × ((a : Agreement) × Means w.modules name a) × (length w.conversations < 65536)
-    × (v ≡ record { modules = w.modules; used = w.used; conversations = w.conversations ++ (id, opened name) ∷ [] })
+    × (v ≡ record { profile = w.profile; modules = w.modules; used = w.used; conversations = w.conversations ++ (id, opened name) ∷ [] })
 Follows w (Note id e) v =
-    (c : Conversation) × (conversation w id ≡ Some c) × (length c.log < 65536)
-    × (v ≡ record { modules = w.modules; used = w.used; conversations = set_value (nat_eq id) w.conversations (noted c e) })
+    (c : Conversation) × (conversation w id ≡ Some c) × (length c.log < 1048576)
+    × (v ≡ record { profile = w.profile; modules = w.modules; used = w.used; conversations = set_value (nat_eq id) w.conversations (noted c e) })
 Follows w (Turn id) v = IsSome (conversation w id) × (v ≡ w)
 Follows w (Ask id) v = IsSome (conversation w id) × (v ≡ w)
 
 -- No other refusal is due, so that the step needs memory. A put needs it to find any refusal but that its text is too
--- long, and a withdrawal to name the module that imports its own.
+-- long, a withdrawal to name the module that imports its own, and the plain profile, where it is to follow the wider one,
+-- to try the protocols.
 abbrev pub NeedsMemory : World → Step → Type 0
 NeedsMemory w (Put text) = length text ≤ max_text_bytes
 NeedsMemory w (Withdraw name) = has_name name (module_names w.modules) ≡ true
+NeedsMemory w (step.Profile p) = (w.profile ≡ Reception) × (p ≡ Plain)
 NeedsMemory w (Open id name) = (conversation w id ≡ None) × ((a : Agreement) × Means w.modules name a) × (length w.conversations < 65536)
-NeedsMemory w (Note id e) = (c : Conversation) × (conversation w id ≡ Some c) × (length c.log < 65536)
+NeedsMemory w (Note id e) = (c : Conversation) × (conversation w id ≡ Some c) × (length c.log < 1048576)
 NeedsMemory w (Turn id) = IsSome (conversation w id)
 NeedsMemory w (Ask id) = IsSome (conversation w id)
 
@@ -91,16 +103,17 @@ Refuses w (Put text) AlreadyOpen = ⊥
 Refuses w (Put text) UnknownProtocol = ⊥
 Refuses w (Put text) TooManyConversations = ⊥
 Refuses w (Put text) NoConversation = ⊥
-Refuses w (Put text) (Edit (edit.Lex f)) = PutFails w.modules w.used text (edit.Lex f)
-Refuses w (Put text) (Edit (edit.Parse f)) = PutFails w.modules w.used text (edit.Parse f)
-Refuses w (Put text) (Edit edit.TooManyModules) = PutFails w.modules w.used text edit.TooManyModules
-Refuses w (Put text) (Edit (edit.ImportMissing name)) = PutFails w.modules w.used text (edit.ImportMissing name)
-Refuses w (Put text) (Edit edit.TooManyProtocols) = PutFails w.modules w.used text edit.TooManyProtocols
-Refuses w (Put text) (Edit (edit.Elaborate f)) = PutFails w.modules w.used text (edit.Elaborate f)
-Refuses w (Put text) (Edit (edit.Project u)) = PutFails w.modules w.used text (edit.Project u)
-Refuses w (Put text) (Edit edit.VersionsFull) = PutFails w.modules w.used text edit.VersionsFull
+Refuses w (Put text) (Edit (edit.Lex f)) = PutFails w.profile w.modules w.used text (edit.Lex f)
+Refuses w (Put text) (Edit (edit.Parse f)) = PutFails w.profile w.modules w.used text (edit.Parse f)
+Refuses w (Put text) (Edit edit.TooManyModules) = PutFails w.profile w.modules w.used text edit.TooManyModules
+Refuses w (Put text) (Edit (edit.ImportMissing name)) = PutFails w.profile w.modules w.used text (edit.ImportMissing name)
+Refuses w (Put text) (Edit edit.TooManyProtocols) = PutFails w.profile w.modules w.used text edit.TooManyProtocols
+Refuses w (Put text) (Edit (edit.Elaborate f)) = PutFails w.profile w.modules w.used text (edit.Elaborate f)
+Refuses w (Put text) (Edit (edit.Project u)) = PutFails w.profile w.modules w.used text (edit.Project u)
+Refuses w (Put text) (Edit edit.VersionsFull) = PutFails w.profile w.modules w.used text edit.VersionsFull
 Refuses w (Put text) (Edit edit.UnknownModule) = ⊥
 Refuses w (Put text) (Edit (edit.StillImported by)) = ⊥
+Refuses w (Put text) (Edit (edit.NeedsReception name)) = ⊥
 Refuses w (Put text) (Edit edit.OutOfMemory) = ⊥
 Refuses w (Put text) LogFull = ⊥
 Refuses w (Put text) OutOfMemory = Unit {0}
@@ -118,9 +131,28 @@ Refuses w (Withdraw name) (Edit (edit.Project u)) = ⊥
 Refuses w (Withdraw name) (Edit edit.VersionsFull) = ⊥
 Refuses w (Withdraw name) (Edit edit.UnknownModule) = WithdrawFails w.modules name edit.UnknownModule
 Refuses w (Withdraw name) (Edit (edit.StillImported by)) = WithdrawFails w.modules name (edit.StillImported by)
+Refuses w (Withdraw name) (Edit (edit.NeedsReception other)) = ⊥
 Refuses w (Withdraw name) (Edit edit.OutOfMemory) = ⊥
 Refuses w (Withdraw name) LogFull = ⊥
 Refuses w (Withdraw name) OutOfMemory = Unit {0}
+Refuses w (step.Profile p) AlreadyOpen = ⊥
+Refuses w (step.Profile p) UnknownProtocol = ⊥
+Refuses w (step.Profile p) TooManyConversations = ⊥
+Refuses w (step.Profile p) NoConversation = ⊥
+Refuses w (step.Profile p) (Edit (edit.Lex f)) = ⊥
+Refuses w (step.Profile p) (Edit (edit.Parse f)) = ⊥
+Refuses w (step.Profile p) (Edit edit.UnknownModule) = ⊥
+Refuses w (step.Profile p) (Edit edit.TooManyModules) = ⊥
+Refuses w (step.Profile p) (Edit (edit.StillImported by)) = ⊥
+Refuses w (step.Profile p) (Edit (edit.ImportMissing name)) = ⊥
+Refuses w (step.Profile p) (Edit edit.TooManyProtocols) = ⊥
+Refuses w (step.Profile p) (Edit (edit.Elaborate f)) = ⊥
+Refuses w (step.Profile p) (Edit (edit.Project u)) = ⊥
+Refuses w (step.Profile p) (Edit edit.VersionsFull) = ⊥
+Refuses w (step.Profile p) (Edit (edit.NeedsReception name)) = ProfileFails w.profile p w.modules (edit.NeedsReception name)
+Refuses w (step.Profile p) (Edit edit.OutOfMemory) = ⊥
+Refuses w (step.Profile p) LogFull = ⊥
+Refuses w (step.Profile p) OutOfMemory = Unit {0}
 Refuses w (Open id name) AlreadyOpen = IsSome (conversation w id)
 Refuses w (Open id name) UnknownProtocol = (conversation w id ≡ None) × ((a : Agreement) → Means w.modules name a → ⊥)
 Refuses w (Open id name) TooManyConversations =

@@ -5,10 +5,11 @@ ghost use Rattle.std.specs.Option.{option_map};
 ghost use Rattle.scrib_types.specs.Meaning.{agreement_of};
 ghost use Rattle.scrib_library.specs.Modules.{IsMeaning};
 ghost use Rattle.scrib_core.specs.declared.step.Step.TheVariants.{Put, Withdraw, Open, Note, Turn, Ask};
-ghost use Rattle.scrib_core.specs.Answers.{initial, IsAnswered, IsDue, AnswersAsDue};
+ghost use Rattle.scrib_core.specs.declared.step.Step.TheVariants as steps;
+ghost use Rattle.scrib_core.specs.Answers.{initial, initial_under, IsAnswered, IsDue, AnswersAsDue};
 ghost use Rattle.scrib_core.specs.Held.{state_of, IsViewed};
 ghost use Rattle.scrib_core.specs.Runs.{PermitsRuns};
-ghost use Rattle.scrib_core.specs.Telling.{reply_of};
+ghost use Rattle.scrib_core.specs.Telling.{reply_of, profile_reply_of};
 
 use crate::conversing::{ask, note, open, turn};
 use crate::reply::{Edit, Refusal, Reply};
@@ -21,6 +22,7 @@ use scrib_record::comparison::Comparison;
 use scrib_record::record::{MAX_EVENTS, Record};
 use scrib_types::event::Event;
 use scrib_types::name::Dotted;
+use scrib_types::profile::Profile;
 use scrib_types::protocol::Protocol;
 use std::alloc::{AllocError, Global};
 use std::marker::Model;
@@ -53,13 +55,20 @@ impl Model for Core {
 }
 
 impl Core {
-    /// A monitor with no module and no conversation.
+    /// A monitor with no module and no conversation. It accepts protocols by the plain profile.
     pub fn new(alloc: Global) -> Core
         ensures { state_of result ≡ initial }
     {
+        Core::with_profile(alloc, Profile::Plain)
+    }
+
+    /// A monitor with no module and no conversation, which accepts protocols by this profile.
+    pub fn with_profile(alloc: Global, profile: Profile) -> Core
+        ensures { state_of result ≡ initial_under profile }
+    {
         Core {
             alloc,
-            library: Library::new(alloc),
+            library: Library::with_profile(alloc, profile),
             records: IndexMap::new(alloc),
         }
     }
@@ -76,6 +85,7 @@ impl Core {
         let reply = match step {
             Step::Put { text } => self.put(text.as_slice()),
             Step::Withdraw { name } => self.withdraw(&name),
+            Step::Profile { profile } => self.set_profile(profile),
             Step::Open { id, name } => self.open(id, &name),
             Step::Note { id, event } => self.note(id, event),
             Step::Turn { id } => self.turn(id),
@@ -124,6 +134,7 @@ impl Core {
         match step {
             Step::Put { text } => self.put(text.as_slice()),
             Step::Withdraw { name } => self.withdraw(name),
+            Step::Profile { profile } => self.set_profile(*profile),
             Step::Open { id, name } => self.open(*id, name),
             Step::Note { id, event } => self.note_lent(*id, event),
             Step::Turn { id } => self.turn(*id),
@@ -165,6 +176,15 @@ impl Core {
         let edited = self.library.withdraw(name);
         self.library.are_numbered();
         edit_reply(Edit::Withdraw, edited)
+    }
+
+    fn set_profile(&mut self, profile: Profile) -> Reply
+        ensures answered { IsAnswered (state_of self.old) (steps.Profile profile) result (state_of self.new) }
+        ensures memory { IsDue (state_of self.old).world (steps.Profile profile) result }
+    {
+        self.library.are_numbered();
+        let changed = self.library.set_profile(profile);
+        profile_reply(profile, changed)
     }
 
     fn open(&mut self, id: u32, name: &Dotted) -> Reply
@@ -235,6 +255,17 @@ fn edit_reply(edit: Edit, edited: Result<Changes, EditFault>) -> Reply
 {
     match edited {
         Ok(changes) => Reply::Edited { edit, changes },
+        Err(EditFault::OutOfMemory) => Reply::Refused(Refusal::OutOfMemory),
+        Err(fault) => Reply::Refused(Refusal::Edit(fault)),
+    }
+}
+
+// The reply to a change of the profile.
+fn profile_reply(profile: Profile, changed: Result<(), EditFault>) -> Reply
+    ensures { result ≡ profile_reply_of profile changed }
+{
+    match changed {
+        Ok(()) => Reply::Profiled { profile },
         Err(EditFault::OutOfMemory) => Reply::Refused(Refusal::OutOfMemory),
         Err(fault) => Reply::Refused(Refusal::Edit(fault)),
     }

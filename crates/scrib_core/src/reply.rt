@@ -4,6 +4,7 @@ use scrib_library::changes::Changes;
 use scrib_library::fault::EditFault;
 use scrib_types::event::Told;
 use scrib_types::name::Dotted;
+use scrib_types::profile::Profile;
 
 /// Which edit a reply speaks of.
 #[derive(Clone, Copy, Debug, PartialEq, Eq)]
@@ -23,9 +24,9 @@ pub enum Refusal {
     TooManyConversations,
     /// No conversation with this id is open.
     NoConversation,
-    /// The edit has this fault.
+    /// The edit, or the change of the profile, has this fault.
     Edit(EditFault),
-    /// The log has 65,536 events.
+    /// The log has 1,048,576 events.
     LogFull,
     /// Memory was refused.
     OutOfMemory,
@@ -38,6 +39,10 @@ pub enum Reply {
     Edited {
         edit: Edit,
         changes: Changes,
+    },
+    /// Protocols are accepted by this profile from now on.
+    Profiled {
+        profile: Profile,
     },
     /// The conversation was opened.
     Opened {

@@ -3,6 +3,7 @@
 use scrib_types::event::Event;
 use scrib_types::name::Dotted;
 use scrib_types::plain::Items;
+use scrib_types::profile::Profile;
 
 /// One step.
 #[derive(Drop)]
@@ -11,6 +12,8 @@ pub enum Step {
     Put { text: Items<u8> },
     /// Take the module of this name out of the library.
     Withdraw { name: Dotted },
+    /// Accept protocols by this profile from now on.
+    Profile { profile: Profile },
     /// Open a conversation of a protocol, by its full name.
     Open { id: u32, name: Dotted },
     /// Note an event of a conversation.

@@ -29,13 +29,14 @@ abbrev events_in : Recorded → ℕ
 events_in r = length r.log
 
 -- the book stays below what a count can hold
-pub book_small : (most : ℕ) (rs : Records) (es : Listing) (book : ℕ) → IsStored most rs es book → book ≤ 4294967296
+pub book_small : (most : ℕ) (rs : Records) (es : Listing) (book : ℕ) → IsStored most rs es book → book ≤ 68719476736
 book_small most rs es book s =
-    let sum = sum_by-le events_in 65536 (values_of rs) (λ k d h. (s.lawful k d h).1) in
+    let sum = sum_by-le events_in 1048576 (values_of rs) (λ k d h. (s.lawful k d h).1) in
     omega (arith, sum, length-values_of rs, s.counted, s.limited, s.few)
 
 pub entries_few : (answer : Reply) → entries_of answer ≤ 1
 entries_few (reply.Edited e changes) = omega arith
+entries_few (reply.Profiled p) = omega arith
 entries_few (reply.Opened i n) = omega arith
 entries_few (reply.Noted i place told) = omega arith
 entries_few (reply.Judged i n events told) = omega arith
@@ -108,6 +109,7 @@ pub open_leaves : (most : ℕ) (h : Holdings) (old : Records) (id : ℕ) (name :
 open_leaves most h old id name (reply.Opened i n) new es book not x s = absurd (not i n refl)
 open_leaves most h old id name (reply.Refused f) new es book not x s = stored_same most old new es book x.1 s
 open_leaves most h old id name (reply.Edited e changes) new es book not x s = absurd x
+open_leaves most h old id name (reply.Profiled p) new es book not x s = absurd x
 open_leaves most h old id name (reply.Noted i place told) new es book not x s = absurd x
 open_leaves most h old id name (reply.Judged i n events told) new es book not x s = absurd x
 
@@ -123,6 +125,7 @@ note_keeps most h old id e (reply.Noted i place told) new es book x s =
     (stored_set most old es book 1 id n.before n.after n.there (n.lawful, omega (arith, longer, n.room)) longer n.noted.name s)
 note_keeps most h old id e (reply.Refused f) new es book x s = none_more most new es book (stored_same most old new es book x.1 s)
 note_keeps most h old id e (reply.Edited d changes) new es book x s = absurd x
+note_keeps most h old id e (reply.Profiled p) new es book x s = absurd x
 note_keeps most h old id e (reply.Opened i n) new es book x s = absurd x
 note_keeps most h old id e (reply.Judged i n events told) new es book x s = absurd x
 
@@ -141,5 +144,6 @@ turn_keeps most h old id (reply.Judged i n events told) new es book x s =
     (stored_set most old es book 0 id t.before t.after t.there (t.lawful, omega (arith, same, short)) same t.turned.name s))
 turn_keeps most h old id (reply.Refused f) new es book x s = stored_same most old new es book x.1 s
 turn_keeps most h old id (reply.Edited d changes) new es book x s = absurd x
+turn_keeps most h old id (reply.Profiled p) new es book x s = absurd x
 turn_keeps most h old id (reply.Opened i n) new es book x s = absurd x
 turn_keeps most h old id (reply.Noted i place told) new es book x s = absurd x

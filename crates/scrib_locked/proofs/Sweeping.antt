@@ -150,8 +150,8 @@ stale_more h turns present before after answer numbered once here t stale so_far
     far (inl none) = omega arith
     far (inr s) = let same = under_alike h before s.present present numbered once s.here here in omega (arith, s.far, same)
 
--- after 256 turns no log has events left
-pub no_more : (h : Holdings) (id : ℕ) (old now : Records) → AreWithin old → IsSwept h id 256 old now → ⊥
+-- after 4,096 turns no log has events left
+pub no_more : (h : Holdings) (id : ℕ) (old now : Records) → AreWithin old → IsSwept h id 4096 old now → ⊥
 no_more h id old now within s =
     let q = s.but.same.each id s.of s.there in
     let short = (within_at old id q.0 within q.1).1 in

@@ -27,6 +27,7 @@ ConnectFails rs id OutOfMemory = ⊥
 -- how many entries a step has added to a log, by its reply
 abbrev pub entries_of : Reply → ℕ
 entries_of (reply.Edited e changes) = 0
+entries_of (reply.Profiled p) = 0
 entries_of (reply.Opened i n) = 0
 entries_of (reply.Noted i place told) = 1
 entries_of (reply.Judged i n events told) = 0

@@ -27,7 +27,7 @@ book_of rs = sum_by (λ r. length r.log) (values_of rs)
 
 -- a record that is lawful and within the limit of a log
 abbrev pub IsWithin : Recorded → Type 0
-IsWithin r = IsLawful r × (length r.log ≤ 65536)
+IsWithin r = IsLawful r × (length r.log ≤ 1048576)
 
 abbrev pub AreWithin : Records → Type 0
 AreWithin rs = All IsWithin (values_of rs)

@@ -36,7 +36,10 @@ pub fn open_step(
     match open_locked(library, shard, id, name) {
         Reply::Opened { .. } => Ok(()),
         Reply::Refused(refusal) => Err(refusal),
-        Reply::Edited { .. } | Reply::Noted { .. } | Reply::Judged { .. } => unreachable!(),
+        Reply::Edited { .. }
+        | Reply::Profiled { .. }
+        | Reply::Noted { .. }
+        | Reply::Judged { .. } => unreachable!(),
     }
 }
 
@@ -58,7 +61,10 @@ pub fn note_step(
     match note_locked(library, shard, id, event) {
         Reply::Noted { place, told, .. } => Ok(Noted { place, told }),
         Reply::Refused(refusal) => Err(refusal),
-        Reply::Edited { .. } | Reply::Opened { .. } | Reply::Judged { .. } => unreachable!(),
+        Reply::Edited { .. }
+        | Reply::Profiled { .. }
+        | Reply::Opened { .. }
+        | Reply::Judged { .. } => unreachable!(),
     }
 }
 
@@ -75,7 +81,10 @@ pub fn turn_step(library: &Library, shard: &mut Shard, id: u32) -> Result<Told, 
     match turn_locked(library, shard, id) {
         Reply::Judged { told, .. } => Ok(told),
         Reply::Refused(refusal) => Err(refusal),
-        Reply::Edited { .. } | Reply::Opened { .. } | Reply::Noted { .. } => unreachable!(),
+        Reply::Edited { .. }
+        | Reply::Profiled { .. }
+        | Reply::Opened { .. }
+        | Reply::Noted { .. } => unreachable!(),
     }
 }
 
@@ -90,6 +99,9 @@ pub fn ask_step(library: &Library, shard: &Shard, id: u32) -> Result<Told, Refus
     match ask_locked(library, shard, id) {
         Reply::Judged { told, .. } => Ok(told),
         Reply::Refused(refusal) => Err(refusal),
-        Reply::Edited { .. } | Reply::Opened { .. } | Reply::Noted { .. } => unreachable!(),
+        Reply::Edited { .. }
+        | Reply::Profiled { .. }
+        | Reply::Opened { .. }
+        | Reply::Noted { .. } => unreachable!(),
     }
 }

@@ -16,7 +16,7 @@ use scrib_types::event::Told;
 use std::alloc::AllocError;
 
 /// The most turns of a conversation in one sweep. As each judges 256 events, they are enough for the longest log.
-pub const MAX_TURNS: u64 = 256;
+pub const MAX_TURNS: u64 = 4_096;
 
 /// How many turns were made, and of how many conversations the verdict was brought up to date by them. Counts stay at
 /// the greatest value.
@@ -62,7 +62,7 @@ fn push_touched(
     Ok(())
 }
 
-/// Brings the verdict of each conversation of the shard up to date, with at most 256 turns of each.
+/// Brings the verdict of each conversation of the shard up to date, with at most 4,096 turns of each.
 ///
 /// # Errors
 /// `AllocError` where memory was refused. Each turn that was made before stays.

@@ -50,7 +50,7 @@ pub record IsSameJudging (old new : Judging) : Type 0 where
 -- what is kept of a log that has no more events than a log may have
 pub record IsKeptWhole (log : List Event) (j : Judging) : Type 0 where
   pub kept : IsKept log j
-  pub bounded : length log ≤ 65536
+  pub bounded : length log ≤ 1048576
 
 -- the event after the log is judged, and that verdict told
 pub record IsJudgedOn (log : List Event) (e : Event) (old new : Judging) (answer : Told) : Type 0 where

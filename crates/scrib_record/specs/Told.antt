@@ -32,8 +32,8 @@ IsAnswer present r answer.Withdrawn =
 
 -- why a note is refused: the log is full, or else memory was refused
 abbrev pub NoteFails : Recorded → NoteFault → Type 0
-NoteFails r LogFull = 65536 ≤ length r.log
-NoteFails r OutOfMemory = length r.log < 65536
+NoteFails r LogFull = 1048576 ≤ length r.log
+NoteFails r OutOfMemory = length r.log < 1048576
 
 -- A note appends the event. A record that isn't stale stays so; a stale one keeps its judgement.
 pub record IsNoted (present : Option Version) (old : Recorded) (e : Event) (new : Recorded) (answer : Told) : Type 0 where

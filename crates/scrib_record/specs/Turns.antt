@@ -29,8 +29,15 @@ present_alike v w (Some h) n m =
     ap (λ i. (i == number_of h) && bytes_eq (flat_form (meaning_of v)) (flat_form (meaning_of h))) n
     ∙ ap (λ (a : Agreement). (number_of w == number_of h) && bytes_eq (flat_form a) (flat_form (meaning_of h))) m
 
+-- a record of an empty log, judged under the version
+abbrev pub new_record : (name : List (List ℕ)) → Version → Recorded
+new_record name v = record { name = name; log = []; held = Some v; judged = 0; verdict = Permitted }
+
 -- a new record isn't stale under the version that it was made with
-pub new_fresh : (name : List (List ℕ)) (v : Version) → is_stale (Some v) (record { name = name; log = []; held = Some v; judged = 0; verdict = Permitted }) ≡ false
+abbrev pub StartsFresh : Type 0
+StartsFresh = (name : List (List ℕ)) (v : Version) → is_stale (Some v) (new_record name v) ≡ false
+
+pub new_fresh : StartsFresh
 new_fresh name v = ap (λ b. not (b && true)) (stamp_itself v)
 
 -- calls of a record under one present version, one after another: notes, and so many turns
@@ -79,7 +86,10 @@ progress now (turned {t} {old = old} {new = new} {answer = answer} calls u) s =
 
 -- Enough turns: after so many turns that 256 events each are the whole log, as it is when the last of them begins, a
 -- record isn't stale.
-pub enough_turns : (now : Option Version) (t : ℕ) (first old new : Recorded) (answer : Told) → Calls now t first old → IsTurned now old new answer → length old.log ≤ 256 * (t + 1) → is_stale now new ≡ false
+abbrev pub TurnsSuffice : Type 0
+TurnsSuffice = (now : Option Version) (t : ℕ) (first old new : Recorded) (answer : Told) → Calls now t first old → IsTurned now old new answer → length old.log ≤ 256 * (t + 1) → is_stale now new ≡ false
+
+pub enough_turns : TurnsSuffice
 enough_turns now t first old new answer calls u enough =
     elim (cases_Bool (is_stale now new)) [
       | inl s ↦

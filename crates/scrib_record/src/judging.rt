@@ -118,7 +118,7 @@ impl Judging {
     pub fn note(&mut self, log: &[Event], event: &Event) -> Result<Told, AllocError>
         requires kept { kept.IsKept log.now self.old }
         requires whole { stale.is_final self.old.verdict self.old.judged (length log.now) ≡ true }
-        requires room { length log.now < 65536 }
+        requires room { length log.now < 1048576 }
         ensures ok { IfOk result (kept.IsJudgedOn log.now event.now self.old self.new) }
         ensures kept { OnErr result (kept.IsKept log.now self.new) }
         ensures same { OnErr result (kept.IsSameJudging self.old self.new) }
@@ -153,7 +153,7 @@ impl Judging {
         requires serves { ServesFor comparison (option_copied present) self.old.held }
         requires kept { kept.IsKept log.now self.old }
         requires stale { (stale.is_present (option_copied present) self.old.held && stale.is_final self.old.verdict self.old.judged (length log.now)) ≢ true }
-        requires room { length log.now ≤ 65536 }
+        requires room { length log.now ≤ 1048576 }
         ensures ok { IfOk result (kept.IsTurnedTo (option_copied present.entry) log.now self.old self.new) }
         ensures kept { OnErr result (kept.IsKept log.now self.new) }
         ensures same { OnErr result (kept.IsSameJudging self.old self.new) }
@@ -176,7 +176,7 @@ impl Judging {
     fn go_on(&mut self, log: &[Event]) -> Result<Told, AllocError>
         requires kept { kept.IsKept log.now self.old }
         requires open { self.old.verdict ≡ Permitted }
-        requires room { length log.now ≤ 65536 }
+        requires room { length log.now ≤ 1048576 }
         ensures ok { IfOk result (kept.IsFurther log.now self.old self.new) }
         ensures kept { OnErr result (kept.IsKept log.now self.new) }
         ensures same { OnErr result (kept.IsSameJudging self.old self.new) }

@@ -9,6 +9,7 @@ mod copies;
 pub mod fault;
 mod flat;
 mod judging;
+pub mod law;
 mod machines;
 pub mod record;
 mod seat;

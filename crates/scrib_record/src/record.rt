@@ -1,10 +1,10 @@
 //! Records of conversations.
 
-ghost use Rattle.std.specs.Prelude.{◌≡◌, ◌<◌, [], Some, IfOk, IfErr, OnErr, OnOk, length};
+ghost use Rattle.std.specs.Prelude.{◌≡◌, ◌<◌, IfOk, IfErr, OnErr, OnOk, length};
 ghost use Rattle.std.specs.Option.{option_copied};
-ghost use Rattle.scrib_types.specs.declared.event.Verdict.TheVariants.{Permitted};
 ghost use Rattle.scrib_record.specs.Comparisons.{ServesFor};
 ghost use Rattle.scrib_record.specs.Stale.{Recorded, IsLawful};
+ghost use Rattle.scrib_record.specs.Turns.{new_record};
 ghost use Rattle.scrib_record.specs.Told.{IsAnswer, IsNoted, IsTurned, NoteFails};
 
 use crate::answer::Answer;
@@ -18,7 +18,7 @@ use std::alloc::{AllocError, Global};
 use std::marker::Model;
 
 /// The most events of a log.
-pub const MAX_EVENTS: usize = 65_536;
+pub const MAX_EVENTS: usize = 1_048_576;
 
 /// One conversation: the full name of its protocol, its log, and the verdict on the events that are judged, which are
 /// all of them until the protocol changes. Contracts see these, the version that the events are judged under, and how
@@ -51,7 +51,7 @@ impl Record {
     /// # Errors
     /// `AllocError` where memory was refused.
     pub fn new(alloc: Global, name: Dotted, version: &Version) -> Result<Record, AllocError>
-        ensures { IfOk result (λ new. new ≡ record { name = name; log = []; held = Some version.now; judged = 0; verdict = Permitted }) }
+        ensures { IfOk result (λ new. new ≡ new_record name version.now) }
     {
         let judging = Judging::start(alloc, version)?;
         Ok(Record {
@@ -80,7 +80,7 @@ impl Record {
     /// there, judges it in one step; a stale one doesn't. An offence stays the first.
     ///
     /// # Errors
-    /// `LogFull` where the log has 65,536 events, and else `OutOfMemory` where memory was refused. Nothing changes.
+    /// `LogFull` where the log has 1,048,576 events, and else `OutOfMemory` where memory was refused. Nothing changes.
     pub fn note(
         &mut self,
         present: Option<&Version>,
@@ -89,7 +89,7 @@ impl Record {
     ) -> Result<Told, NoteFault>
         requires { ServesFor comparison (option_copied present) self.old.held }
         ensures ok { IfOk result (IsNoted (option_copied present.entry) self.old event self.new) }
-        ensures room { OnOk result (length self.old.log < 65536) }
+        ensures room { OnOk result (length self.old.log < 1048576) }
         ensures fault { IfErr result (NoteFails self.old) }
         ensures err { OnErr result (self.new ≡ self.old) }
     {

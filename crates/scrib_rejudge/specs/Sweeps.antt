@@ -11,20 +11,20 @@ use Rattle.scrib_shards.specs.Called.{IsTurnedSome, IsTouchedSome}
 abbrev pub shards_of : ℕ → ℕ → ℕ → List ℕ
 shards_of worker workers shards = filter (λ shard. nat_eq (shard % workers) worker) (range_with_len 0 shards)
 
--- One conversation had 1 to 256 turns, and all 256 where its verdict isn't up to date; where it is, a turn told it.
+-- One conversation had 1 to 4,096 turns, and all 4,096 where its verdict isn't up to date; where it is, a turn told it.
 pub record IsRound (id : ℕ) (s : Swept) : Type 0 where
   pub some : 1 ≤ s.turns
-  pub few : s.turns ≤ 256
+  pub few : s.turns ≤ 4096
   pub one : s.judged ≤ 1
-  pub enough : s.judged ≡ 0 → s.turns ≡ 256
+  pub enough : s.judged ≡ 0 → s.turns ≡ 4096
   pub told : s.judged ≡ 1 → (v : Verdict) × IsTurnedSome id (Judged v)
 
--- there were conversations out of date, rising, of which each had 1 to 256 turns
+-- there were conversations out of date, rising, of which each had 1 to 4,096 turns
 pub record IsShardSwept (s : Swept) : Type 0 where
   pub ids : List ℕ
   pub touched : IsTouchedSome ids
   pub each : length ids ≤ s.turns
-  pub few : s.turns ≤ 256 * length ids
+  pub few : s.turns ≤ 4096 * length ids
   pub judged : s.judged ≤ length ids
 
 -- no more verdicts were brought up to date than turns were made

@@ -27,7 +27,7 @@ pub(crate) fn both(one: Swept, other: Swept) -> Swept
     }
 }
 
-// Gives the conversation turns, at most 256, until its verdict is up to date. One that was open stays open, so that only
+// Gives the conversation turns, at most 4,096, until its verdict is up to date. One that was open stays open, so that only
 // memory can be refused.
 fn sweep_conversation<G: Gate>(
     rt: &impl Wait,
@@ -55,7 +55,7 @@ fn sweep_conversation<G: Gate>(
     })
 }
 
-/// Gives each conversation of the shard whose verdict is out of date turns, at most 256, until it is up to date.
+/// Gives each conversation of the shard whose verdict is out of date turns, at most 4,096, until it is up to date.
 ///
 /// # Errors
 /// `AllocError` where memory was refused. Each turn that was made before stays.

@@ -1,11 +1,14 @@
 -- What a call that takes a lock says of what it found there: that there were such values (this project's own).
 use Rattle.std.specs.Prelude.{◌≡◌, ℕ, List}
+use Rattle.scrib_types.specs.declared.profile.Profile.{Profile}
 use Rattle.scrib_types.specs.declared.event.Event.{Event}
 use Rattle.scrib_types.specs.declared.event.Told.{Told}
 use Rattle.scrib_parser.specs.declared.tree.ModuleTree.{ModuleTree}
 use Rattle.scrib_library.specs.declared.changes.Changes.{Changes}
 use Rattle.scrib_library.specs.declared.fault.EditFault.{EditFault}
 use Rattle.scrib_library.specs.Holdings.{Holdings}
+use Rattle.scrib_library.specs.Modules.{AllProject}
+use Rattle.scrib_library.specs.Profiles.{ProfileFails}
 use Rattle.scrib_library.specs.Edits.{IsPut, IsChanges, AreVersionsUsed, PutFails, IsWithdrawal, AreWithdrawn, WithdrawFails}
 use Rattle.scrib_core.specs.declared.reply.Refusal.{Refusal}
 use Rattle.scrib_core.specs.Held.{Records}
@@ -22,26 +25,37 @@ use Rattle.scrib_locked.specs.Sweeping.{AreTouched}
 pub record IsPutSome (text : List ℕ) (changes : Changes) : Type 0 where
   pub old : Holdings
   pub new : Holdings
-  pub put : (m : ModuleTree) × IsPut old.modules text m new.modules × (changes.module ≡ m.name) × IsChanges old.modules new.modules changes.list
+  pub put : (m : ModuleTree) × IsPut old.profile old.modules text m new.modules × (changes.module ≡ m.name) × IsChanges old.modules new.modules changes.list
   pub versions : AreVersionsUsed old new changes.list
+  pub profile : new.profile ≡ old.profile
 
 -- some library, in which a put of the text has the fault
 abbrev pub PutFailsSome : List ℕ → EditFault → Type 0
-PutFailsSome text f = (h : Holdings) × PutFails h.modules h.used text f
+PutFailsSome text f = (h : Holdings) × PutFails h.profile h.modules h.used text f
 
 -- some library, and what a withdrawal of the module made of it
 pub record IsWithdrawnSome (name : List (List ℕ)) (changes : Changes) : Type 0 where
   pub old : Holdings
   pub new : Holdings
-  pub withdrawn : IsWithdrawal old.modules name new.modules
+  pub withdrawn : IsWithdrawal old.profile old.modules name new.modules
   pub home : changes.module ≡ name
   pub changed : IsChanges old.modules new.modules changes.list
   pub kinds : AreWithdrawn changes.list
   pub versions : AreVersionsUsed old new changes.list
   pub unused : new.used ≡ old.used
+  pub profile : new.profile ≡ old.profile
 
 abbrev pub WithdrawFailsSome : List (List ℕ) → EditFault → Type 0
 WithdrawFailsSome name f = (h : Holdings) × WithdrawFails h.modules name f
+
+-- some library, and that it may take the profile
+abbrev pub IsProfiledSome : Profile → Type 0
+IsProfiledSome profile = (old new : Holdings) × AllProject profile old.modules
+    × (new ≡ record { profile = profile; modules = old.modules; stamps = old.stamps; used = old.used })
+
+-- some library, in which the change to the profile has the fault
+abbrev pub ProfileFailsSome : Profile → EditFault → Type 0
+ProfileFailsSome profile f = (h : Holdings) × ProfileFails h.profile profile h.modules f
 
 -- some library and shard, in which the conversation was opened
 pub record IsOpenedSome (id : ℕ) (name : List (List ℕ)) : Type 0 where

@@ -2,7 +2,7 @@
 
 ghost use Rattle.std.specs.Prelude.{◌≡◌, ◌⊎◌, ◌↔◌, ◌<◌, ◌≤◌, [], IfOk, IfErr, OnOk, OnErr, IsErrOf, vec_len, vec_capacity};
 ghost use Rattle.scrib_locked.specs.Passes.{IsReceipted, IsAnsweredOn};
-ghost use Rattle.scrib_shards.specs.Called.{IsPutSome, PutFailsSome, IsWithdrawnSome, WithdrawFailsSome, IsOpenedSome, OpenFailsSome, IsConnectedSome, ConnectFailsSome, IsNotedSome, NoteFailsSome, IsTurnedSome, TellFailsSome, IsAskedSome, AskFailsSome};
+ghost use Rattle.scrib_shards.specs.Called.{IsPutSome, PutFailsSome, IsWithdrawnSome, WithdrawFailsSome, IsProfiledSome, ProfileFailsSome, IsOpenedSome, OpenFailsSome, IsConnectedSome, ConnectFailsSome, IsNotedSome, NoteFailsSome, IsTurnedSome, TellFailsSome, IsAskedSome, AskFailsSome};
 
 use crate::gate::Gate;
 use scrib_core::monitor::MAX_CONVERSATIONS;
@@ -18,6 +18,7 @@ use scrib_locked::stepping::{Noted, open_step, turn_step};
 use scrib_settle::shares::MAX_SHARDS;
 use scrib_types::event::{Event, Told};
 use scrib_types::name::Dotted;
+use scrib_types::profile::Profile;
 use std::alloc::Global;
 use std::sync::{Mutex, RwLock, Wait};
 
@@ -110,6 +111,19 @@ impl Service {
         ensures fault { IfErr result (WithdrawFailsSome name.now) }
     {
         self.library.write(rt).withdraw(name)
+    }
+
+    /// Accepts protocols by this profile from now on.
+    ///
+    /// # Errors
+    /// `NeedsReception` where the plain profile is wanted and doesn't project what some name means, with the first such
+    /// name in the order of bytes; `OutOfMemory` where memory was refused, which comes only where the plain profile is
+    /// to follow the wider one. Nothing changes.
+    pub fn profile(&self, rt: &impl Wait, profile: Profile) -> Result<(), EditFault>
+        ensures ok { OnOk result (IsProfiledSome profile) }
+        ensures fault { IfErr result (ProfileFailsSome profile) }
+    {
+        self.library.write(rt).set_profile(profile)
     }
 
     /// Opens a conversation of the protocol.

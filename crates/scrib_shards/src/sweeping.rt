@@ -22,7 +22,7 @@ impl Service {
         touched_locked(&library, &shard)
     }
 
-    /// Brings the verdict of each conversation up to date, shard after shard, with at most 256 turns of each
+    /// Brings the verdict of each conversation up to date, shard after shard, with at most 4,096 turns of each
     /// conversation. It takes no lock.
     ///
     /// # Errors

@@ -27,6 +27,6 @@ loop-turn-preserved c =
 
 pub unreachable-requires : goal.unreachable-requires
 unreachable-requires c =
-    let end : c.loop-turn.turn ≡ 256 = omega arith in
+    let end : c.loop-turn.turn ≡ 4096 = omega arith in
     no_more c.args.library.now c.args.id c.args.shard.now.records c.loop-turn.shard.records c.len-conversations.ensures.kept.lawful
     (subst (λ (n : ℕ). IsSwept c.args.library.now c.args.id n c.args.shard.now.records c.loop-turn.shard.records) end c.loop-turn.invariant.swept)
