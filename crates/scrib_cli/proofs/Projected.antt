@@ -6,9 +6,9 @@ use Rattle.std.proofs.lemmas.Slice.Eq.{bytes_eq-Decides}
 use Rattle.std.proofs.lemmas.List.{length-append, at_drop_more}
 use Rattle.scrib_types.specs.Agreement.{Agreement}
 use Rattle.scrib_types.specs.Trees.{GlobalTree, GlobalEnd, GlobalVar, GlobalRec, Comm, Flight, GlobalBranches, NoBranch, Branch, LocalTree}
-use Rattle.scrib_types.specs.declared.profile.Profile.TheVariants.{Plain}
+use Rattle.scrib_types.specs.declared.profile.Profile.{Profile}
 use Rattle.scrib_types.specs.Projection.{projection, is_closed}
-use Rattle.scrib_types.specs.Profiles.{keeps_plain_projections}
+use Rattle.scrib_project.proofs.Wider.{wider}
 use Rattle.scrib_types.specs.WellFormed.{has_role, well_formed}
 use Rattle.scrib_machine.specs.Compilable.{IsCompilable}
 use Rattle.scrib_machine.specs.Projected as projected
@@ -71,27 +71,28 @@ alone bytes names last h e name k =
     omega (arith, ap length same, length-append names (last ∷ []), length-append name.home (name.protocol ∷ []), k.1)
 
 -- no protocol has the name, and the answer is what the role does
-on_role : (texts : List (Option (List ℕ))) (protocol role : List ℕ) (name : FullName) (modules : List ModuleTree) (a : Agreement) (p : Projection)
-    → IsFullName protocol name → AreAdded [] texts modules → Elaborates modules name.home name.protocol a → IsRoleProjection a role p → IsRefusalPlaced modules name.home name.protocol a.global p → IsProjection texts protocol role p
-on_role texts protocol role name modules a (Projects l) n m e h at = does name modules a l n m e h.0 h.1
-on_role texts protocol role name modules a NoProtocol n m e h at = absurd h
-on_role texts protocol role name modules a NoRole n m e h at = undeclared name modules a n m e h
-on_role texts protocol role name modules a (Refused (edit.Project u)) n m e h at = unmerged name modules a u n m e h.0 h.1 at
-on_role texts protocol role name modules a (Refused edit.UnknownModule) n m e h at = absurd h
-on_role texts protocol role name modules a (Refused edit.TooManyModules) n m e h at = absurd h
-on_role texts protocol role name modules a (Refused (edit.StillImported other)) n m e h at = absurd h
-on_role texts protocol role name modules a (Refused edit.VersionsFull) n m e h at = absurd h
-on_role texts protocol role name modules a (Refused (edit.ImportMissing other)) n m e h at = absurd h
-on_role texts protocol role name modules a (Refused edit.TooManyProtocols) n m e h at = absurd h
-on_role texts protocol role name modules a (Refused (edit.Elaborate f)) n m e h at = absurd h
-on_role texts protocol role name modules a (Refused (edit.Lex f)) n m e h at = absurd h
-on_role texts protocol role name modules a (Refused (edit.Parse f)) n m e h at = absurd h
-on_role texts protocol role name modules a (Refused edit.OutOfMemory) n m e h at = absurd h
+on_role : (profile : Profile) (texts : List (Option (List ℕ))) (protocol role : List ℕ) (name : FullName) (modules : List ModuleTree) (a : Agreement) (p : Projection)
+    → IsFullName protocol name → AreAdded [] texts modules → Elaborates modules name.home name.protocol a → IsRoleProjection profile a role p → IsRefusalPlaced profile modules name.home name.protocol a.global p → IsProjection profile texts protocol role p
+on_role profile texts protocol role name modules a (Projects l) n m e h at = does name modules a l n m e h.0 h.1
+on_role profile texts protocol role name modules a NoProtocol n m e h at = absurd h
+on_role profile texts protocol role name modules a NoRole n m e h at = undeclared name modules a n m e h
+on_role profile texts protocol role name modules a (Refused (edit.Project u)) n m e h at = unmerged name modules a u n m e h.0 h.1 at
+on_role profile texts protocol role name modules a (Refused edit.UnknownModule) n m e h at = absurd h
+on_role profile texts protocol role name modules a (Refused edit.TooManyModules) n m e h at = absurd h
+on_role profile texts protocol role name modules a (Refused (edit.StillImported other)) n m e h at = absurd h
+on_role profile texts protocol role name modules a (Refused edit.VersionsFull) n m e h at = absurd h
+on_role profile texts protocol role name modules a (Refused (edit.ImportMissing other)) n m e h at = absurd h
+on_role profile texts protocol role name modules a (Refused edit.TooManyProtocols) n m e h at = absurd h
+on_role profile texts protocol role name modules a (Refused (edit.Elaborate f)) n m e h at = absurd h
+on_role profile texts protocol role name modules a (Refused (edit.Lex f)) n m e h at = absurd h
+on_role profile texts protocol role name modules a (Refused (edit.Parse f)) n m e h at = absurd h
+on_role profile texts protocol role name modules a (Refused (edit.NeedsReception other)) n m e h at = absurd h
+on_role profile texts protocol role name modules a (Refused edit.OutOfMemory) n m e h at = absurd h
 
-pub ok_role : (texts : List (Option (List ℕ))) (protocol role : List ℕ) (name : FullName) (modules : List ModuleTree) (a : Agreement) (r : Result Projection ScriptFault)
-    → IsFullName protocol name → AreAdded [] texts modules → Elaborates modules name.home name.protocol a → IfOk r (IsRoleProjection a role) → IfOk r (IsRefusalPlaced modules name.home name.protocol a.global) → IfOk r (IsProjection texts protocol role)
-ok_role texts protocol role name modules a (Ok p) n m e h at = on_role texts protocol role name modules a p n m e h at
-ok_role texts protocol role name modules a (Err f) n m e h at = tt
+pub ok_role : (profile : Profile) (texts : List (Option (List ℕ))) (protocol role : List ℕ) (name : FullName) (modules : List ModuleTree) (a : Agreement) (r : Result Projection ScriptFault)
+    → IsFullName protocol name → AreAdded [] texts modules → Elaborates modules name.home name.protocol a → IfOk r (IsRoleProjection profile a role) → IfOk r (IsRefusalPlaced profile modules name.home name.protocol a.global) → IfOk r (IsProjection profile texts protocol role)
+ok_role profile texts protocol role name modules a (Ok p) n m e h at = on_role profile texts protocol role name modules a p n m e h at
+ok_role profile texts protocol role name modules a (Err f) n m e h at = tt
 
 -- the role is the one here
 pub declared_here : (roles : List (List ℕ)) (i : ℕ) (name role : List ℕ) → i < length roles → role ≡ get_or roles i role → role ≡ name → has_role name (drop i roles) ≡ has_role name roles → has_role name roles ≡ true
@@ -124,9 +125,9 @@ mutual
   same_branch_nodes (Branch m g bs) = let e = same_nodes g in let f = same_branch_nodes bs in cc
 
 -- what a role does in an elaborated protocol has a machine
-pub has_machine : (roles : List (List ℕ)) (role : List ℕ) (g : GlobalTree) (l : LocalTree) → IsTrue (is_sound roles g) → nodes g ≤ 4096 → projection Plain role g ≡ Some l → IsCompilable l
+pub has_machine : (profile : Profile) (roles : List (List ℕ)) (role : List ℕ) (g : GlobalTree) (l : LocalTree) → IsTrue (is_sound roles g) → nodes g ≤ 65536 → projection profile role g ≡ Some l → IsCompilable l
 unfolding is_sound
-has_machine roles role g l sound small e =
+has_machine profile roles role g l sound small e =
     let formed = and_parts _ (well_formed roles g) sound in
     let shut = and_parts _ (is_closed g) formed.0 in
-    projected_compilable roles role g l formed.1 shut.1 (omega (arith, same_nodes g)) (keeps_plain_projections role g l e)
+    projected_compilable roles role g l formed.1 shut.1 (omega (arith, same_nodes g)) (wider profile role g l e)

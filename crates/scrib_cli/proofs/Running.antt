@@ -7,6 +7,7 @@ use Rattle.std.proofs.lemmas.List.{append_assoc, append-nil}
 use Rattle.std.proofs.lemmas.List.Elements.{All-nil, All-cons, All-append}
 use Rattle.scrib_core.specs.declared.step.Step.{Step}
 use Rattle.scrib_core.specs.declared.step.Step.TheVariants.{Put, Withdraw, Open, Note, Turn, Ask}
+use Rattle.scrib_core.specs.declared.step.Step.TheVariants as step
 use Rattle.scrib_core.specs.declared.reply.Reply.{Reply}
 use Rattle.scrib_core.specs.declared.reply.Reply.TheVariants.{Refused}
 use Rattle.scrib_core.specs.declared.reply.Refusal.TheVariants.{OutOfMemory}
@@ -32,6 +33,7 @@ use Rattle.scrib_cli.proofs.Writes.{appends_none, appends_more, appends_kept, co
 refuses_memory : (w : World) (s : Step) → Refuses w s OutOfMemory
 refuses_memory w (Put text) = tt
 refuses_memory w (Withdraw name) = tt
+refuses_memory w (step.Profile p) = tt
 refuses_memory w (Open id name) = tt
 refuses_memory w (Note id e) = tt
 refuses_memory w (Turn id) = tt

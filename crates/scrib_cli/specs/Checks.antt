@@ -3,13 +3,14 @@ use Rattle.std.specs.Prelude.{◌≡◌, ◌⊎◌, ℕ, Bool, true, false, List
 use Rattle.std.specs.Io.KnownBytes.{Appends}
 use Rattle.scrib_core.specs.declared.step.Step.TheVariants.{Put}
 use Rattle.scrib_core.specs.declared.reply.Reply.{Reply}
-use Rattle.scrib_core.specs.declared.reply.Reply.TheVariants.{Edited, Opened, Noted, Judged, Refused}
+use Rattle.scrib_core.specs.declared.reply.Reply.TheVariants.{Edited, Profiled, Opened, Noted, Judged, Refused}
 use Rattle.scrib_core.specs.Answers.{State, IsAnswered}
 use Rattle.scrib_cli.specs.Scripts.{AppendsPart, reply_line}
 
 -- whether an edit was accepted
 abbrev pub is_accepted : Reply → Bool
 is_accepted (Edited edit changes) = true
+is_accepted (Profiled profile) = false
 is_accepted (Opened id name) = false
 is_accepted (Noted id place told) = false
 is_accepted (Judged id name events told) = false

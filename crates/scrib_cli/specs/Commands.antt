@@ -3,6 +3,7 @@
 use Rattle.std.specs.Prelude.{◌≡◌, ◌⊎◌, ⊤, ℕ, Bool, true, false, ◌&&◌, List, [], ◌∷◌, take, Option, Some, None, Result, Ok, Err, IfSome, codes}
 use Rattle.std.specs.Borrow.{Bor}
 use Rattle.std.specs.Io.KnownBytes.{Appends}
+use Rattle.scrib_types.specs.declared.profile.Profile.{Profile}
 use Rattle.scrib_script.specs.declared.format.Format.{Format}
 use Rattle.scrib_core.specs.Answers.{State}
 use Rattle.scrib_cli.specs.Checks.{IsChecked, IsPartChecked}
@@ -42,17 +43,17 @@ AreRead text (p ∷ ps) (None ∷ ts) = ts ≡ []
 AreRead text (p ∷ ps) (Some t ∷ ts) = IfSome (text p.now) (λ input. t ≡ take 1_048_577 input) × AreRead text ps ts
 
 -- what is asked for of a role was written, or a refusal, over the module texts of these files
-abbrev pub IsAnswered : Form → (text : List ℕ → Option (List ℕ)) → (paths : List (Bor (List ℕ))) → (protocol role : List ℕ) → Bool → (was now : Option (List ℕ)) → Type 0
-IsAnswered form text paths protocol role does_so was now =
+abbrev pub IsAnswered : Form → Profile → (text : List ℕ → Option (List ℕ)) → (paths : List (Bor (List ℕ))) → (protocol role : List ℕ) → Bool → (was now : Option (List ℕ)) → Type 0
+IsAnswered form profile text paths protocol role does_so was now =
     (texts : List (Option (List ℕ))) × AreRead text paths texts
-    × ((written : List ℕ) × IsAnswer form texts protocol role does_so written × Appends was now written)
+    × ((written : List ℕ) × IsAnswer form profile texts protocol role does_so written × Appends was now written)
 
 -- nothing of it was written, or a beginning
-abbrev pub IsPartAnswered : Form → (text : List ℕ → Option (List ℕ)) → (paths : List (Bor (List ℕ))) → (protocol role : List ℕ) → (was now : Option (List ℕ)) → Type 0
-IsPartAnswered form text paths protocol role was now =
+abbrev pub IsPartAnswered : Form → Profile → (text : List ℕ → Option (List ℕ)) → (paths : List (Bor (List ℕ))) → (protocol role : List ℕ) → (was now : Option (List ℕ)) → Type 0
+IsPartAnswered form profile text paths protocol role was now =
     Appends was now []
     ⊎ ((texts : List (Option (List ℕ))) × AreRead text paths texts
-    × ((does_so : Bool) × (written : List ℕ) × IsAnswer form texts protocol role does_so written × AppendsPart was now written))
+    × ((does_so : Bool) × (written : List ℕ) × IsAnswer form profile texts protocol role does_so written × AppendsPart was now written))
 
 -- what is known of a script: it is in the file of this path, or the input where no path is named
 abbrev pub source : (text : List ℕ → Option (List ℕ)) → (path : Option (List ℕ)) → (input : Option (List ℕ)) → Option (List ℕ)

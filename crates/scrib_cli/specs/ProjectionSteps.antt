@@ -4,7 +4,7 @@ use Rattle.std.specs.Prelude.{◌≡◌, ◌⊎◌, ⊤, ℕ, true, false, List,
 use Rattle.scrib_types.specs.Agreement.{Agreement}
 use Rattle.scrib_types.specs.LocalView.{local_of}
 use Rattle.scrib_types.specs.Trees.{GlobalTree}
-use Rattle.scrib_types.specs.declared.profile.Profile.TheVariants.{Plain}
+use Rattle.scrib_types.specs.declared.profile.Profile.{Profile}
 use Rattle.scrib_types.specs.Projection.{projection}
 use Rattle.scrib_types.specs.WellFormed.{has_role}
 use Rattle.scrib_machine.specs.Compilable.{IsCompilable}
@@ -52,28 +52,29 @@ StopsReading texts protocol fault.OutOfMemory = ⊤
 abbrev pub IsDeclared : List (List ℕ) → (name role : List ℕ) → Type 0
 IsDeclared roles name role = (role ≡ name) × (has_role name roles ≡ true)
 
--- what the role does in what the protocol means
-abbrev pub IsRoleProjection : Agreement → List ℕ → Projection → Type 0
-IsRoleProjection a role (Projects l) = (has_role role a.roles ≡ true) × (projection Plain role a.global ≡ Some (local_of l))
-IsRoleProjection a role NoProtocol = ⊥
-IsRoleProjection a role NoRole = has_role role a.roles ≡ false
-IsRoleProjection a role (Refused (edit.Project u)) = (has_role role a.roles ≡ true) × IsUnmergeable Plain a.global role u
-IsRoleProjection a role (Refused edit.UnknownModule) = ⊥
-IsRoleProjection a role (Refused edit.TooManyModules) = ⊥
-IsRoleProjection a role (Refused (edit.StillImported name)) = ⊥
-IsRoleProjection a role (Refused edit.VersionsFull) = ⊥
-IsRoleProjection a role (Refused (edit.ImportMissing name)) = ⊥
-IsRoleProjection a role (Refused edit.TooManyProtocols) = ⊥
-IsRoleProjection a role (Refused (edit.Elaborate f)) = ⊥
-IsRoleProjection a role (Refused (edit.Lex f)) = ⊥
-IsRoleProjection a role (Refused (edit.Parse f)) = ⊥
-IsRoleProjection a role (Refused edit.OutOfMemory) = ⊥
+-- what the role does in what the protocol means, under the profile
+abbrev pub IsRoleProjection : Profile → Agreement → List ℕ → Projection → Type 0
+IsRoleProjection profile a role (Projects l) = (has_role role a.roles ≡ true) × (projection profile role a.global ≡ Some (local_of l))
+IsRoleProjection profile a role NoProtocol = ⊥
+IsRoleProjection profile a role NoRole = has_role role a.roles ≡ false
+IsRoleProjection profile a role (Refused (edit.Project u)) = (has_role role a.roles ≡ true) × IsUnmergeable profile a.global role u
+IsRoleProjection profile a role (Refused edit.UnknownModule) = ⊥
+IsRoleProjection profile a role (Refused edit.TooManyModules) = ⊥
+IsRoleProjection profile a role (Refused (edit.StillImported name)) = ⊥
+IsRoleProjection profile a role (Refused edit.VersionsFull) = ⊥
+IsRoleProjection profile a role (Refused (edit.ImportMissing name)) = ⊥
+IsRoleProjection profile a role (Refused edit.TooManyProtocols) = ⊥
+IsRoleProjection profile a role (Refused (edit.Elaborate f)) = ⊥
+IsRoleProjection profile a role (Refused (edit.Lex f)) = ⊥
+IsRoleProjection profile a role (Refused (edit.Parse f)) = ⊥
+IsRoleProjection profile a role (Refused (edit.NeedsReception name)) = ⊥
+IsRoleProjection profile a role (Refused edit.OutOfMemory) = ⊥
 
 -- where the protocol of this name, in the module of this name, has no projection, the place is that of a choice
 -- without one
-abbrev pub IsRefusalPlaced : List ModuleTree → (home : List (List ℕ)) (name : List ℕ) → GlobalTree → Projection → Type 0
-IsRefusalPlaced modules home name g (Refused (edit.Project u)) = IsPlaced Plain modules home name g u
-IsRefusalPlaced modules home name g other = Unit {0}
+abbrev pub IsRefusalPlaced : Profile → List ModuleTree → (home : List (List ℕ)) (name : List ℕ) → GlobalTree → Projection → Type 0
+IsRefusalPlaced profile modules home name g (Refused (edit.Project u)) = IsPlaced profile modules home name g u
+IsRefusalPlaced profile modules home name g other = Unit {0}
 
 -- what the role does has a machine
 abbrev pub HasMachine : Projection → Type 0

@@ -2,7 +2,7 @@
 use Rattle.std.specs.Prelude.{◌≡◌, ◌⊎◌, ⊤, ℕ, ◌<◌, Bool, true, false, List, [], ◌∷◌, ◌++◌, length, Option, Some, None, codes}
 use Rattle.scrib_types.specs.Agreement.{Agreement}
 use Rattle.scrib_types.specs.LocalView.{local_of}
-use Rattle.scrib_types.specs.declared.profile.Profile.TheVariants.{Plain}
+use Rattle.scrib_types.specs.declared.profile.Profile.{Profile}
 use Rattle.scrib_types.specs.Projection.{projection}
 use Rattle.scrib_types.specs.WellFormed.{has_role}
 use Rattle.scrib_types.specs.Trees.{LocalTree}
@@ -59,6 +59,7 @@ IsNoModule t (edit.ImportMissing name) = ⊥
 IsNoModule t edit.TooManyProtocols = ⊥
 IsNoModule t (edit.Elaborate f) = ⊥
 IsNoModule t (edit.Project u) = ⊥
+IsNoModule t (edit.NeedsReception name) = ⊥
 IsNoModule t edit.OutOfMemory = ⊥
 
 -- the first of the texts that is no module is none for this reason; those before it can be read
@@ -74,21 +75,21 @@ StopsUnread (None ∷ ts) = ⊤
 StopsUnread (Some t ∷ ts) = (m : ModuleTree) × Reads t m × StopsUnread ts
 
 -- The answer for the protocol of this full name and this role, over module texts, by the first of these cases that
--- it falls under: it is no full name; a text is no module; the protocol means nothing; it declares no such role; by the
--- plain merge it has no projection on the role, and at the place stands a choice whose branches differ for it; the role
--- does this.
-pub data IsProjection (texts : List (Option (List ℕ))) (protocol role : List ℕ) : Projection → Type 0 where
-  unnamed : ((name : FullName) → IsFullName protocol name → ⊥) → IsProjection texts protocol role NoProtocol
-  unread : (name : FullName) (f : EditFault) → IsFullName protocol name → FailsAmong texts f → IsProjection texts protocol role (Refused f)
+-- it falls under: it is no full name; a text is no module; the protocol means nothing; it declares no such role; under
+-- the profile it has no projection on the role, and at the place stands a choice whose branches don't merge for it; the
+-- role does this.
+pub data IsProjection (profile : Profile) (texts : List (Option (List ℕ))) (protocol role : List ℕ) : Projection → Type 0 where
+  unnamed : ((name : FullName) → IsFullName protocol name → ⊥) → IsProjection profile texts protocol role NoProtocol
+  unread : (name : FullName) (f : EditFault) → IsFullName protocol name → FailsAmong texts f → IsProjection profile texts protocol role (Refused f)
   meaningless : (name : FullName) (modules : List ModuleTree) (f : Fault) → IsFullName protocol name → AreAdded [] texts modules
-      → IsBroken modules name.home name.protocol f → IsProjection texts protocol role (Refused (edit.Elaborate f))
+      → IsBroken modules name.home name.protocol f → IsProjection profile texts protocol role (Refused (edit.Elaborate f))
   undeclared : (name : FullName) (modules : List ModuleTree) (a : Agreement) → IsFullName protocol name → AreAdded [] texts modules
-      → Elaborates modules name.home name.protocol a → has_role role a.roles ≡ false → IsProjection texts protocol role NoRole
+      → Elaborates modules name.home name.protocol a → has_role role a.roles ≡ false → IsProjection profile texts protocol role NoRole
   unmerged : (name : FullName) (modules : List ModuleTree) (a : Agreement) (u : Unmergeable) → IsFullName protocol name → AreAdded [] texts modules
-      → Elaborates modules name.home name.protocol a → has_role role a.roles ≡ true → IsUnmergeable Plain a.global role u
-      → IsPlaced Plain modules name.home name.protocol a.global u → IsProjection texts protocol role (Refused (edit.Project u))
+      → Elaborates modules name.home name.protocol a → has_role role a.roles ≡ true → IsUnmergeable profile a.global role u
+      → IsPlaced profile modules name.home name.protocol a.global u → IsProjection profile texts protocol role (Refused (edit.Project u))
   does : (name : FullName) (modules : List ModuleTree) (a : Agreement) (l : Local) → IsFullName protocol name → AreAdded [] texts modules
-      → Elaborates modules name.home name.protocol a → has_role role a.roles ≡ true → projection Plain role a.global ≡ Some (local_of l) → IsProjection texts protocol role (Projects l)
+      → Elaborates modules name.home name.protocol a → has_role role a.roles ≡ true → projection profile role a.global ≡ Some (local_of l) → IsProjection profile texts protocol role (Projects l)
 
 -- whether the answer is what the role does
 abbrev pub projects : Projection → Bool
@@ -119,14 +120,14 @@ IsTextOf form NoRole text = text ≡ refusal_line (codes "NoRole")
 IsTextOf form (Refused f) text = text ≡ reply_line (reply.Refused (refusal.Edit f))
 
 -- the text of an answer in this form, and whether it is what the role does
-abbrev pub IsAnswer : Form → (texts : List (Option (List ℕ))) (protocol role : List ℕ) → Bool → List ℕ → Type 0
-IsAnswer form texts protocol role does_so text =
-    (p : Projection) × IsProjection texts protocol role p × (does_so ≡ projects p) × IsTextOf form p text
+abbrev pub IsAnswer : Form → Profile → (texts : List (Option (List ℕ))) (protocol role : List ℕ) → Bool → List ℕ → Type 0
+IsAnswer form profile texts protocol role does_so text =
+    (p : Projection) × IsProjection profile texts protocol role p × (does_so ≡ projects p) × IsTextOf form p text
 
 -- what a fault says of the input: a read fault, that the protocol has a full name and the first text that is no module
 -- can't be read; a write fault, that there is a text to write; memory may be refused at any input
-abbrev pub FaultTells : Form → (texts : List (Option (List ℕ))) (protocol role : List ℕ) → ScriptFault → Type 0
-FaultTells form texts protocol role fault.Read = ((name : FullName) × IsFullName protocol name) × StopsUnread texts
-FaultTells form texts protocol role fault.Write = (does_so : Bool) × (text : List ℕ) × IsAnswer form texts protocol role does_so text
-FaultTells form texts protocol role fault.Settle = ⊥
-FaultTells form texts protocol role fault.OutOfMemory = ⊤
+abbrev pub FaultTells : Form → Profile → (texts : List (Option (List ℕ))) (protocol role : List ℕ) → ScriptFault → Type 0
+FaultTells form profile texts protocol role fault.Read = ((name : FullName) × IsFullName protocol name) × StopsUnread texts
+FaultTells form profile texts protocol role fault.Write = (does_so : Bool) × (text : List ℕ) × IsAnswer form profile texts protocol role does_so text
+FaultTells form profile texts protocol role fault.Settle = ⊥
+FaultTells form profile texts protocol role fault.OutOfMemory = ⊤

@@ -25,11 +25,12 @@ use scrib_machine::graph::graph_text;
 use scrib_script::format::Format;
 use scrib_types::local::Local;
 use scrib_types::plain::Items;
+use scrib_types::profile::Profile;
 use std::alloc::{AllocError, Global};
 use std::io::Write;
 
-/// Writes what the role does in the protocol of this full name, in this form, or a refusal line, and flushes the
-/// writer. Returns whether it wrote what the role does.
+/// Writes what the role does under the profile in the protocol of this full name, in this form, or a refusal line, and
+/// flushes the writer. Returns whether it wrote what the role does.
 ///
 /// # Errors
 /// Nothing was written by then, or a beginning of what was to be written.
@@ -39,19 +40,20 @@ use std::io::Write;
 pub fn answer<W: Write>(
     alloc: Global,
     form: Form,
+    profile: Profile,
     protocol: &str,
     role: &str,
     texts: &[Option<Items<u8>>],
     writer: &mut W,
 ) -> Result<bool, ScriptFault>
-    ensures ok { IfOk result (λ does_so. (written : List ℕ) × IsAnswer form texts.now protocol.now role.now does_so written
+    ensures ok { IfOk result (λ does_so. (written : List ℕ) × IsAnswer form profile texts.now protocol.now role.now does_so written
         × Appends (W.contents writer.old) (W.contents writer.new) written) }
     ensures err { OnErr result (Appends (W.contents writer.old) (W.contents writer.new) []
-        ⊎ ((does_so : Bool) × (written : List ℕ) × IsAnswer form texts.now protocol.now role.now does_so written
+        ⊎ ((does_so : Bool) × (written : List ℕ) × IsAnswer form profile texts.now protocol.now role.now does_so written
         × AppendsPart (W.contents writer.old) (W.contents writer.new) written)) }
-    ensures fault { IfErr result (FaultTells form texts.now protocol.now role.now) }
+    ensures fault { IfErr result (FaultTells form profile texts.now protocol.now role.now) }
 {
-    let projection = projection_of(alloc, protocol, role, texts)?;
+    let projection = projection_of(alloc, profile, protocol, role, texts)?;
     let (does_so, written) = told(alloc, form, projection)?;
     write_out(writer, written.as_slice())?;
     flush_out(writer)?;

@@ -39,7 +39,7 @@ pub enum Projection {
     Refused(EditFault),
 }
 
-/// What the role does in the protocol of this full name, among the modules that the texts are. `None` stands for a
+/// What the role does under the profile in the protocol of this full name, among the modules that the texts are. `None` stands for a
 /// text that can't be read.
 ///
 /// # Errors
@@ -47,11 +47,12 @@ pub enum Projection {
 /// - `OutOfMemory` where memory was refused.
 pub fn projection_of(
     alloc: Global,
+    profile: Profile,
     protocol: &str,
     role: &str,
     texts: &[Option<Items<u8>>],
 ) -> Result<Projection, ScriptFault>
-    ensures ok { IfOk result (IsProjection texts.now protocol.now role.now) }
+    ensures ok { IfOk result (IsProjection profile texts.now protocol.now role.now) }
     ensures machine { IfOk result HasMachine }
     ensures fault { IfErr result (StopsReading texts.now protocol.now) }
 {
@@ -63,30 +64,31 @@ pub fn projection_of(
         return Ok(Projection::Refused(fault));
     }
     match elaborate(alloc, &modules, &name.home, &name.protocol) {
-        Ok(elaborated) => projection_on(alloc, &elaborated, role),
+        Ok(elaborated) => projection_on(alloc, profile, &elaborated, role),
         Err(ElaborateFault::Broken(fault)) => Ok(Projection::Refused(EditFault::Elaborate(fault))),
         Err(ElaborateFault::OutOfMemory) => Err(ScriptFault::OutOfMemory),
     }
 }
 
-/// What the role does in the protocol, by the plain merge.
+/// What the role does in the protocol under the profile.
 fn projection_on(
     alloc: Global,
+    profile: Profile,
     elaborated: &Elaborated,
     role: &str,
 ) -> Result<Projection, ScriptFault>
-    requires { nodes (meaning_of elaborated.now).global ≤ 4096 }
-    ensures ok { IfOk result (IsRoleProjection (meaning_of elaborated.now) role.now) }
+    requires { nodes (meaning_of elaborated.now).global ≤ 65536 }
+    ensures ok { IfOk result (IsRoleProjection profile (meaning_of elaborated.now) role.now) }
     ensures place { (modules : List ModuleTree) (home : List (List ℕ)) (name : List ℕ)
         → AreSites modules home name elaborated.now
-        → IfOk result (IsRefusalPlaced modules home name (meaning_of elaborated.now).global) }
+        → IfOk result (IsRefusalPlaced profile modules home name (meaning_of elaborated.now).global) }
     ensures machine { IfOk result HasMachine }
     ensures fault { IfErr result (λ e. e ≡ OutOfMemory) }
 {
     let Some(role) = declared_role(elaborated.roles(), role.as_bytes()) else {
         return Ok(Projection::NoRole);
     };
-    match project(alloc, elaborated, role, Profile::Plain) {
+    match project(alloc, elaborated, role, profile) {
         Ok(local) => Ok(Projection::Projects(local)),
         Err(ProjectFault::Unmergeable(fault)) => Ok(Projection::Refused(EditFault::Project(fault))),
         Err(ProjectFault::OutOfMemory) => Err(ScriptFault::OutOfMemory),

@@ -50,6 +50,7 @@ told_has_no_float (Judged (Offence place role allowed)) ms h = rw (texts_have_no
 pub json_has_no_float : (r : Reply) → has_float (json_of r) ≡ false
 unfolding json_of
 json_has_no_float (reply.Edited e changes) = rw (texts_have_no_float change_text changes.list)
+json_has_no_float (reply.Profiled p) = refl
 json_has_no_float (reply.Opened id name) = refl
 json_has_no_float (reply.Noted id place told) = told_has_no_float told _ refl
 json_has_no_float (reply.Judged id name events told) = told_has_no_float told _ refl

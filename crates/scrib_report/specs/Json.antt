@@ -10,7 +10,7 @@ use Rattle.scrib_types.specs.declared.event.Action.{Action}
 use Rattle.scrib_types.specs.declared.event.Verdict.TheVariants.{Permitted, Offence, Withdrawn}
 use Rattle.scrib_types.specs.declared.event.Told.{Told}
 use Rattle.scrib_types.specs.declared.event.Told.TheVariants.{Stale, Judged}
-use Rattle.scrib_types.specs.Texts.{dotted_text, action_text}
+use Rattle.scrib_types.specs.Texts.{dotted_text, action_text, profile_word}
 use Rattle.scrib_library.specs.declared.changes.Change.{Change}
 use Rattle.scrib_core.specs.declared.reply.Reply.{Reply}
 use Rattle.scrib_core.specs.declared.reply.Reply.TheVariants as reply
@@ -59,11 +59,12 @@ abbrev pub judged_object : ℕ → List (List ℕ) → ℕ → Told → Data
 judged_object id name events told =
     object (offence_then told (member (codes "conversation") (natural id) (member (codes "events") (natural events) (member (codes "protocol") (string (dotted_text name)) (verdict_member told)))))
 
--- the others: `{"changes":["+demo.Hello"],"edit":"put","module":"demo"}`, `{"conversation":1,"opened":"demo.Hello"}` and
--- `{"refused":"LogFull"}`
+-- the others: `{"changes":["+demo.Hello"],"edit":"put","module":"demo"}`, `{"profile":"plain"}`,
+-- `{"conversation":1,"opened":"demo.Hello"}` and `{"refused":"LogFull"}`
 unfoldable pub json_of : Reply → Data
 json_of (reply.Edited e changes) =
     object (member (codes "changes") (changes_array changes.list) (member (codes "edit") (string (edit_word e)) (member (codes "module") (string (dotted_text changes.module)) no_members)))
+json_of (reply.Profiled p) = object (member (codes "profile") (string (profile_word p)) no_members)
 json_of (reply.Opened id name) =
     object (member (codes "conversation") (natural id) (member (codes "opened") (string (dotted_text name)) no_members))
 json_of (reply.Noted id place told) = noted_object id place told

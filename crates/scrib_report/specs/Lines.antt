@@ -8,7 +8,7 @@ use Rattle.scrib_types.specs.declared.event.Verdict.TheVariants.{Permitted, Offe
 use Rattle.scrib_types.specs.declared.event.Told.{Told}
 use Rattle.scrib_types.specs.declared.event.Told.TheVariants.{Stale, Judged}
 use Rattle.scrib_types.specs.declared.spot.Spot.{Spot}
-use Rattle.scrib_types.specs.Texts.{dotted_text, message_text, action_text}
+use Rattle.scrib_types.specs.Texts.{dotted_text, message_text, action_text, profile_word}
 use Rattle.scrib_global.specs.declared.explain.Flight.{Flight}
 use Rattle.scrib_lexer.specs.declared.fault.LexFault.{LexFault}
 use Rattle.scrib_lexer.specs.declared.fault.LexFault.TheVariants as lex
@@ -139,6 +139,7 @@ edit_fault_text edit.TooManyProtocols = codes "TooManyProtocols"
 edit_fault_text (edit.Elaborate f) = fault_text f
 edit_fault_text (edit.Project u) = unmergeable_text u
 edit_fault_text edit.VersionsFull = codes "VersionsFull"
+edit_fault_text (edit.NeedsReception name) = codes "NeedsReception " ++ dotted_text name
 edit_fault_text edit.OutOfMemory = codes "OutOfMemory"
 
 unfoldable pub refusal_text : Refusal → List ℕ
@@ -154,9 +155,10 @@ abbrev pub edit_word : Edit → List ℕ
 edit_word which.Put = codes "put"
 edit_word which.Withdraw = codes "withdraw"
 
--- `put demo: +demo.Hello`, `open 1: demo.Hello`, `1.3 permitted`, `1 permitted`, `refused NoConversation`
+-- `put demo: +demo.Hello`, `profile plain`, `open 1: demo.Hello`, `1.3 permitted`, `1 permitted`, `refused NoConversation`
 unfoldable pub line_of : Reply → List ℕ
 line_of (reply.Edited e changes) = edit_word e ++ codes " " ++ dotted_text changes.module ++ codes ":" ++ changes_text changes.list
+line_of (reply.Profiled p) = codes "profile " ++ profile_word p
 line_of (reply.Opened id name) = codes "open " ++ decimal id ++ codes ": " ++ dotted_text name
 line_of (reply.Noted id place told) = decimal id ++ codes "." ++ decimal place ++ codes " " ++ told_text told
 line_of (reply.Judged id name events told) = decimal id ++ codes " " ++ told_text told

@@ -137,6 +137,7 @@ fn push_edit_fault(out: &mut Vec<u8>, fault: &EditFault) -> Result<(), AllocErro
         EditFault::Elaborate(fault) => push_fault(out, fault),
         EditFault::Project(fault) => push_unmergeable(out, fault),
         EditFault::VersionsFull => push_bytes(out, b"VersionsFull"),
+        EditFault::NeedsReception { name } => push_named(out, b"NeedsReception ", name),
         EditFault::OutOfMemory => push_bytes(out, b"OutOfMemory"),
     }
 }

@@ -165,6 +165,7 @@ fn reply_value(alloc: Global, reply: &Reply) -> Result<Value, AllocError>
             let module = dotted_value(alloc, &changes.module)?;
             json!(in alloc; {"changes": list, "edit": edit_word(*edit), "module": module})
         }
+        Reply::Profiled { profile } => json!(in alloc; {"profile": profile.word()}),
         Reply::Opened { id, name } => {
             let name = dotted_value(alloc, name)?;
             json!(in alloc; {"conversation": *id, "opened": name})

@@ -45,6 +45,10 @@ fn push_line(out: &mut Vec<u8>, reply: &Reply) -> Result<(), AllocError>
             push_bytes(out, b":")?;
             push_changes(out, changes.list.as_slice())
         }
+        Reply::Profiled { profile } => {
+            push_bytes(out, b"profile ")?;
+            push_bytes(out, profile.word().as_bytes())
+        }
         Reply::Opened { id, name } => {
             push_bytes(out, b"open ")?;
             push_number(out, u64::from(*id))?;

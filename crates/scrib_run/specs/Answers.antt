@@ -1,5 +1,6 @@
 -- What a service's answers are, and their text (this project's own).
 use Rattle.std.specs.Prelude.{ℕ, Bool, true, false, List, [], ◌∷◌, ◌++◌, Result, Ok, Err}
+use Rattle.scrib_types.specs.declared.profile.Profile.{Profile}
 use Rattle.scrib_library.specs.declared.changes.Change.{Change}
 use Rattle.scrib_library.specs.declared.changes.Changes.{Changes}
 use Rattle.scrib_library.specs.declared.fault.EditFault.{EditFault}
@@ -26,6 +27,11 @@ abbrev pub edit_answer : Edit → Result Changes EditFault → Answer
 edit_answer e (Ok changes) = answer.Reply (reply.Edited e changes)
 edit_answer e (Err f) = answer.Reply (reply.Refused (refusal.Edit f))
 
+-- the answer to a change of the profile
+abbrev pub profile_answer : Profile → Result (Unit {0}) EditFault → Answer
+profile_answer p (Ok done) = answer.Reply (reply.Profiled p)
+profile_answer p (Err f) = answer.Reply (reply.Refused (refusal.Edit f))
+
 abbrev pub has_changes : List Change → Bool
 has_changes [] = false
 has_changes (c ∷ cs) = true
@@ -33,6 +39,7 @@ has_changes (c ∷ cs) = true
 -- some protocols changed
 abbrev pub is_change : Answer → Bool
 is_change (answer.Reply (reply.Edited e changes)) = has_changes changes.list
+is_change (answer.Reply (reply.Profiled p)) = false
 is_change (answer.Reply (reply.Opened id name)) = false
 is_change (answer.Reply (reply.Noted id place told)) = false
 is_change (answer.Reply (reply.Judged id name events told)) = false

@@ -3,7 +3,7 @@
 ghost use Rattle.std.specs.Prelude.{◌≡◌, ◌++◌, IfOk, OnOk};
 ghost use Rattle.scrib_core.specs.declared.reply.Reply.TheVariants.{Refused};
 ghost use Rattle.scrib_run.specs.declared.answer.Answer.TheVariants as answer;
-ghost use Rattle.scrib_run.specs.Answers.{answer_text, edit_answer, is_change, refusal_answer};
+ghost use Rattle.scrib_run.specs.Answers.{answer_text, edit_answer, is_change, profile_answer, refusal_answer};
 
 use scrib_cli::printing::reply_text;
 use scrib_core::reply::{Edit, Refusal, Reply};
@@ -14,6 +14,7 @@ use scrib_report::service::{judged_line, mismatch_line};
 use scrib_script::format::Format;
 use scrib_shards::passing::PassRefusal;
 use scrib_types::event::Told;
+use scrib_types::profile::Profile;
 use scrib_types::text::push_bytes;
 use std::alloc::{AllocError, Global};
 
@@ -57,6 +58,16 @@ pub(crate) fn edited(edit: Edit, answer: Result<Changes, EditFault>) -> Answer
 {
     match answer {
         Ok(changes) => Answer::Reply(Reply::Edited { edit, changes }),
+        Err(fault) => refused(Refusal::Edit(fault)),
+    }
+}
+
+/// What is answered to a change of the profile.
+pub(crate) fn profiled(profile: Profile, answer: Result<(), EditFault>) -> Answer
+    ensures { result ≡ profile_answer profile answer }
+{
+    match answer {
+        Ok(()) => Answer::Reply(Reply::Profiled { profile }),
         Err(fault) => refused(Refusal::Edit(fault)),
     }
 }

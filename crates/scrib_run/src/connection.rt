@@ -1,6 +1,8 @@
 //! A connection to a service.
 
-use crate::answer::{Answer, edited, is_change, is_noted, push_answer, refused, refused_by_pass};
+use crate::answer::{
+    Answer, edited, is_change, is_noted, profiled, push_answer, refused, refused_by_pass,
+};
 use crate::common::Common;
 use crossbeam_channel::Sender;
 use indexmap::IndexMap;
@@ -148,6 +150,7 @@ impl<'a> Connection<'a> {
         match step {
             Step::Put { text } => edited(Edit::Put, self.service.put(rt, text.as_slice())),
             Step::Withdraw { name } => edited(Edit::Withdraw, self.service.withdraw(rt, &name)),
+            Step::Profile { profile } => profiled(profile, self.service.profile(rt, profile)),
             Step::Open { id, name } => match self.service.open(rt, id, &name) {
                 Ok(()) => Answer::Reply(Reply::Opened { id, name }),
                 Err(refusal) => refused(refusal),

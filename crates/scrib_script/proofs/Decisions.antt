@@ -12,7 +12,9 @@ use Rattle.std.proofs.lemmas.Slice.Eq.{bytes_eq-Decides}
 use Rattle.scrib_types.specs.declared.message.Message.{Message}
 use Rattle.scrib_types.specs.declared.event.Event.TheVariants as event
 use Rattle.scrib_types.specs.Names.{is_name}
-use Rattle.scrib_types.specs.Texts.{joined_by, dotted_text, dotted_texts, operator_text}
+use Rattle.scrib_types.specs.declared.profile.Profile.{Profile}
+use Rattle.scrib_types.specs.declared.profile.Profile.TheVariants.{Plain, Reception}
+use Rattle.scrib_types.specs.Texts.{joined_by, dotted_text, dotted_texts, operator_text, profile_word}
 use Rattle.scrib_core.specs.declared.step.Step.{Step}
 use Rattle.scrib_core.specs.declared.step.Step.TheVariants as step
 use Rattle.scrib_script.specs.declared.format.Format.{Format}
@@ -20,12 +22,12 @@ use Rattle.scrib_script.specs.declared.format.Format.TheVariants as format
 use Rattle.scrib_script.specs.declared.line.Line.{Line}
 use Rattle.scrib_script.specs.declared.line.Line.TheVariants as line
 use Rattle.scrib_script.specs.Fields.{fields, Finds, IsNumber, is_dotted, IsDottedText, IsMessageText, IsOperatorText, IsPayloadText, IsCut}
-use Rattle.scrib_script.specs.Steps.{IsExchange, Makes, Withdraws, MakesStep}
+use Rattle.scrib_script.specs.Steps.{IsExchange, Makes, Edits, MakesStep}
 use Rattle.scrib_script.specs.Says.{Says, IsSkipped, IsPutLine, Asks}
 use Rattle.scrib_script.proofs.Pieces.{pieces, dotted-pieces, dotted-read, payload-pieces, payload-read}
 use Rattle.scrib_script.proofs.Formats.{no_put, no_step}
 use Rattle.scrib_script.proofs.Printed.{message-cut, cut-message, cut-once}
-use Rattle.scrib_script.proofs.Steps.{no-open, no-join, no-send, no-recv, no-turn, no-ask, no-word, no-short, no-number, found-withdrawal, found-step}
+use Rattle.scrib_script.proofs.Steps.{no-open, no-join, no-send, no-recv, no-turn, no-ask, no-word, no-short, no-withdraw, no-profile, no-number, found-edit, found-step}
 
 -- it holds or it doesn't
 abbrev pub Decided : Type 0 → Type 0
@@ -340,35 +342,71 @@ word_step word id fs = elim (same_bytes word (codes "open")) [
   ]
 ]
 
-step_from : (word number : List ℕ) (fs : List (List ℕ)) → (word ≡ codes "withdraw" → ⊥) → (o : Option ℕ) → Finds (IsNumber number) o → Found (MakesStep (word ∷ number ∷ fs))
-step_from word number fs other None none = (None, no-number word number fs other none)
-step_from word number fs other (Some id) n =
-    let made = word_step word id fs in (made.0, found-step word number fs id other n made.0 made.1)
+step_from : (word number : List ℕ) (fs : List (List ℕ)) → (word ≡ codes "withdraw" → ⊥) → (word ≡ codes "profile" → ⊥) → (o : Option ℕ) → Finds (IsNumber number) o → Found (MakesStep (word ∷ number ∷ fs))
+step_from word number fs withdraws profiles None none = (None, no-number word number fs withdraws profiles none)
+step_from word number fs withdraws profiles (Some id) n =
+    let made = word_step word id fs in (made.0, found-step word number fs id withdraws profiles n made.0 made.1)
 
 -- the withdrawal that a name makes without further fields
-pub no_withdrawal : (text : List ℕ) (fs : List (List ℕ)) → ((name : List (List ℕ)) → (fs ≡ []) × IsDottedText text name → ⊥) → (s : Step) → Withdraws text fs s → ⊥
-no_withdrawal text fs none (step.Withdraw name) h = none name h
+pub no_withdrawal : (text : List ℕ) (fs : List (List ℕ)) → ((name : List (List ℕ)) → (fs ≡ []) × IsDottedText text name → ⊥) → (s : Step) → Edits (codes "withdraw") text fs s → ⊥
+no_withdrawal text fs none (step.Withdraw name) h = none name (h.1, h.2)
+no_withdrawal text fs none (step.Profile p) h = let e : codes "withdraw" ≡ codes "profile" = h.0 in cc
 no_withdrawal text fs none (step.Put t) h = h
 no_withdrawal text fs none (step.Open i name) h = h
 no_withdrawal text fs none (step.Note i e) h = h
 no_withdrawal text fs none (step.Turn i) h = h
 no_withdrawal text fs none (step.Ask i) h = h
 
-withdrawal_from : (text : List ℕ) (o : Option (List (List ℕ))) → Finds (IsDottedText text) o → Found (Withdraws text [])
+withdrawal_from : (text : List ℕ) (o : Option (List (List ℕ))) → Finds (IsDottedText text) o → Found (Edits (codes "withdraw") text [])
 withdrawal_from text None none = (None, no_withdrawal text [] (λ name h. none name h.1))
-withdrawal_from text (Some name) d = (Some (step.Withdraw name), (refl, d))
+withdrawal_from text (Some name) d = (Some (step.Withdraw name), (refl, refl, d))
 
-withdrawal_found : (text : List ℕ) (fs : List (List ℕ)) → Found (Withdraws text fs)
+withdrawal_found : (text : List ℕ) (fs : List (List ℕ)) → Found (Edits (codes "withdraw") text fs)
 withdrawal_found text [] = let name = dotted_found text in withdrawal_from text name.0 name.1
 withdrawal_found text (f ∷ fs) = (None, no_withdrawal text (f ∷ fs) (λ name h. let e : f ∷ fs ≡ [] = h.0 in cc))
+
+-- the change that a profile's word makes without further fields
+pub no_change : (text : List ℕ) (fs : List (List ℕ)) → ((p : Profile) → (fs ≡ []) × (text ≡ profile_word p) → ⊥) → (s : Step) → Edits (codes "profile") text fs s → ⊥
+no_change text fs none (step.Profile p) h = none p (h.1, h.2)
+no_change text fs none (step.Withdraw name) h = let e : codes "profile" ≡ codes "withdraw" = h.0 in cc
+no_change text fs none (step.Put t) h = h
+no_change text fs none (step.Open i name) h = h
+no_change text fs none (step.Note i e) h = h
+no_change text fs none (step.Turn i) h = h
+no_change text fs none (step.Ask i) h = h
+
+-- the profile of a word
+profile_found : (text : List ℕ) → Found (λ (p : Profile). text ≡ profile_word p)
+profile_found text = elim (same_bytes text (codes "plain")) [
+  | inl e ↦ (Some Plain, e)
+  | inr m ↦ elim (same_bytes text (codes "reception")) [
+    | inl e ↦ (Some Reception, e)
+    | inr n ↦ (None, by m n)
+  ]
+]
+  where
+    by : (text ≡ codes "plain" → ⊥) → (text ≡ codes "reception" → ⊥) → (p : Profile) → text ≡ profile_word p → ⊥
+    by m n Plain e = m e
+    by m n Reception e = n e
+
+change_from : (text : List ℕ) (o : Option Profile) → Finds (λ (p : Profile). text ≡ profile_word p) o → Found (Edits (codes "profile") text [])
+change_from text None none = (None, no_change text [] (λ p h. none p h.1))
+change_from text (Some p) e = (Some (step.Profile p), (refl, refl, e))
+
+change_found : (text : List ℕ) (fs : List (List ℕ)) → Found (Edits (codes "profile") text fs)
+change_found text [] = let p = profile_found text in change_from text p.0 p.1
+change_found text (f ∷ fs) = (None, no_change text (f ∷ fs) (λ p h. let e : f ∷ fs ≡ [] = h.0 in cc))
 
 -- the step that fields make
 step_found : (fs : List (List ℕ)) → Found (MakesStep fs)
 step_found [] = (None, no-short [] (omega arith))
 step_found (word ∷ []) = (None, no-short (word ∷ []) (omega arith))
 step_found (word ∷ first ∷ fs) = elim (same_bytes word (codes "withdraw")) [
-  | inl e ↦ let made = withdrawal_found first fs in (made.0, found-withdrawal word first fs e made.0 made.1)
-  | inr other ↦ let id = number_found first in step_from word first fs other id.0 id.1
+  | inl e ↦ let made = withdrawal_found first fs in (made.0, found-edit (codes "withdraw") word first fs no-withdraw e made.0 made.1)
+  | inr withdraws ↦ elim (same_bytes word (codes "profile")) [
+    | inl e ↦ let made = change_found first fs in (made.0, found-edit (codes "profile") word first fs no-profile e made.0 made.1)
+    | inr profiles ↦ let id = number_found first in step_from word first fs withdraws profiles id.0 id.1
+  ]
 ]
 
 is_skipped : (fs : List (List ℕ)) → Decided (IsSkipped fs)

@@ -3,6 +3,7 @@ use Rattle.std.specs.Prelude.{◌≡◌, ◌⊎◌, ℕ, List, [], ◌∷◌, Is
 use Rattle.scrib_types.specs.declared.message.Message.{Message}
 use Rattle.scrib_types.specs.declared.event.Event.TheVariants as event
 use Rattle.scrib_types.specs.Names.{is_name}
+use Rattle.scrib_types.specs.Texts.{profile_word}
 use Rattle.scrib_core.specs.declared.step.Step.{Step}
 use Rattle.scrib_core.specs.declared.step.Step.TheVariants as step
 use Rattle.scrib_script.specs.Fields.{IsNumber, IsDottedText, IsMessageText}
@@ -16,6 +17,7 @@ IsExchange fs from to m =
 abbrev pub Makes : List ℕ → ℕ → List (List ℕ) → Step → Type 0
 Makes word id fs (step.Put text) = ⊥
 Makes word id fs (step.Withdraw name) = ⊥
+Makes word id fs (step.Profile p) = ⊥
 Makes word id fs (step.Open i name) =
     (word ≡ codes "open") × (i ≡ id) × ((text : List ℕ) × (fs ≡ text ∷ []) × IsDottedText text name)
 Makes word id fs (step.Note i (event.Join role)) =
@@ -26,18 +28,19 @@ Makes word id fs (step.Note i (event.Received from to m)) =
 Makes word id fs (step.Turn i) = (word ≡ codes "turn") × (i ≡ id) × (fs ≡ [])
 Makes word id fs (step.Ask i) = (word ≡ codes "ask") × (i ≡ id) × (fs ≡ [])
 
--- the field behind `withdraw` is the module's name, and no field follows it
-abbrev pub Withdraws : List ℕ → List (List ℕ) → Step → Type 0
-Withdraws text fs (step.Withdraw name) = (fs ≡ []) × IsDottedText text name
-Withdraws text fs (step.Put t) = ⊥
-Withdraws text fs (step.Open i name) = ⊥
-Withdraws text fs (step.Note i e) = ⊥
-Withdraws text fs (step.Turn i) = ⊥
-Withdraws text fs (step.Ask i) = ⊥
+-- the word and the field behind it, which no field follows, make the step: `withdraw` and a module's name, or `profile`
+-- and a profile's word
+abbrev pub Edits : (word text : List ℕ) → List (List ℕ) → Step → Type 0
+Edits word text fs (step.Withdraw name) = (word ≡ codes "withdraw") × (fs ≡ []) × IsDottedText text name
+Edits word text fs (step.Profile p) = (word ≡ codes "profile") × (fs ≡ []) × (text ≡ profile_word p)
+Edits word text fs (step.Put t) = ⊥
+Edits word text fs (step.Open i name) = ⊥
+Edits word text fs (step.Note i e) = ⊥
+Edits word text fs (step.Turn i) = ⊥
+Edits word text fs (step.Ask i) = ⊥
 
--- the fields make the step: `withdraw` and a name, or a word, an id in digits, and further fields
+-- the fields make the step: a word that edits and one field, or a word, an id in digits, and further fields
 abbrev pub MakesStep : List (List ℕ) → Step → Type 0
 MakesStep [] s = ⊥
 MakesStep (word ∷ []) s = ⊥
-MakesStep (word ∷ first ∷ fs) s =
-    ((word ≡ codes "withdraw") × Withdraws first fs s) ⊎ ((id : ℕ) × IsNumber first id × Makes word id fs s)
+MakesStep (word ∷ first ∷ fs) s = Edits word first fs s ⊎ ((id : ℕ) × IsNumber first id × Makes word id fs s)

@@ -1,14 +1,16 @@
 //! The step that a line's fields make.
 
-ghost use Rattle.std.specs.Prelude.{IfOk, map, codes};
+ghost use Rattle.std.specs.Prelude.{◌≡◌, IfOk, map, codes};
+ghost use Rattle.scrib_types.specs.Texts.{profile_word};
 ghost use Rattle.scrib_script.specs.Fields.{Finds};
-ghost use Rattle.scrib_script.specs.Steps.{Makes, Withdraws, MakesStep};
+ghost use Rattle.scrib_script.specs.Steps.{Makes, Edits, MakesStep};
 
 use crate::exchange::{Exchange, exchange_of};
 use crate::text::{dotted_of, number_of};
 use scrib_core::step::Step;
 use scrib_types::event::Event;
 use scrib_types::name::Name;
+use scrib_types::profile::Profile;
 use std::alloc::{AllocError, Global};
 
 // The step that the fields make, if they make one.
@@ -20,6 +22,9 @@ pub(crate) fn step_of(alloc: Global, fields: &[&[u8]]) -> Result<Option<Step>, A
     };
     if *word == b"withdraw".as_slice() {
         return withdraw_of(alloc, first, rest);
+    }
+    if *word == b"profile".as_slice() {
+        return Ok(profile_of(first, rest));
     }
     let Some(id) = number_of(first) else {
         return Ok(None);
@@ -59,7 +64,7 @@ fn step_with(
 
 // The withdrawal of the module of this name, if there are no further fields.
 fn withdraw_of(alloc: Global, text: &[u8], fields: &[&[u8]]) -> Result<Option<Step>, AllocError>
-    ensures { IfOk result (Finds (Withdraws text.now (map (λ field. field.now) fields.now))) }
+    ensures { IfOk result (Finds (Edits (codes "withdraw") text.now (map (λ field. field.now) fields.now))) }
 {
     if !fields.is_empty() {
         return Ok(None);
@@ -68,6 +73,30 @@ fn withdraw_of(alloc: Global, text: &[u8], fields: &[&[u8]]) -> Result<Option<St
         return Ok(None);
     };
     Ok(Some(Step::Withdraw { name }))
+}
+
+// The change to the profile of this word, if there are no further fields.
+fn profile_of(text: &[u8], fields: &[&[u8]]) -> Option<Step>
+    ensures { Finds (Edits (codes "profile") text.now (map (λ field. field.now) fields.now)) result }
+{
+    if !fields.is_empty() {
+        return None;
+    }
+    let profile = profile_named(text)?;
+    Some(Step::Profile { profile })
+}
+
+// The profile of this word, if it is one's.
+fn profile_named(text: &[u8]) -> Option<Profile>
+    ensures { Finds (λ profile. text.now ≡ profile_word profile) result }
+{
+    if text == Profile::Plain.word().as_bytes() {
+        return Some(Profile::Plain);
+    }
+    if text == Profile::Reception.word().as_bytes() {
+        return Some(Profile::Reception);
+    }
+    None
 }
 
 fn open_of(alloc: Global, id: u32, fields: &[&[u8]]) -> Result<Option<Step>, AllocError>

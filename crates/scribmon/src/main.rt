@@ -16,6 +16,7 @@ use scrib_run::files::run_files;
 use scrib_run::options::Options;
 use scrib_run::progress::StandardError;
 use scrib_run::shape::{Shape, ShapeFault};
+use scrib_types::profile::Profile;
 use std::alloc::{AllocError, Global};
 use std::io::{BufWriter, Write};
 use std::marker::Send;
@@ -40,6 +41,7 @@ fn files_arg<'a>(alloc: Global) -> Arg<'a> {
 fn check_command<'a>(alloc: Global) -> Result<Command<'a>, AllocError> {
     Command::new(alloc, "check")
         .about("Puts modules into one library, and prints a line for each put")
+        .arg(reception_arg(alloc))?
         .arg(files_arg(alloc))
 }
 
@@ -57,6 +59,7 @@ fn role_command<'a>(
         .required(true);
     Command::new(alloc, name)
         .about(about)
+        .arg(reception_arg(alloc))?
         .arg(protocol)?
         .arg(role)?
         .arg(files_arg(alloc))
@@ -78,6 +81,14 @@ fn flag_arg<'a>(alloc: Global, name: &'a str, help: &'a str) -> Arg<'a> {
         .long(name)
         .help(help)
         .action(ArgAction::SetTrue)
+}
+
+fn reception_arg<'a>(alloc: Global) -> Arg<'a> {
+    flag_arg(
+        alloc,
+        "reception",
+        "Let a role learn from the message that it gets which branch was chosen",
+    )
 }
 
 fn json_arg<'a>(alloc: Global) -> Arg<'a> {
@@ -184,6 +195,15 @@ fn format_of(matches: &ArgMatches) -> Format {
     }
 }
 
+// The profile by which protocols are accepted.
+fn profile_of(matches: &ArgMatches) -> Profile {
+    if matches.get_flag("reception") {
+        Profile::Reception
+    } else {
+        Profile::Plain
+    }
+}
+
 fn told_usage(rt: &(impl Print + Eprint), error: &Error) -> ExitCode {
     let _ = error.print(rt);
     if error.use_stderr() {
@@ -220,9 +240,25 @@ fn answer<W: Write>(
     let protocol = matches.get_str("PROTOCOL").unwrap_or("");
     let role = matches.get_str("ROLE").unwrap_or("");
     match name {
-        "check" => check_files(alloc, &files, paths, writer),
-        "project" => project_files(alloc, protocol, role, &files, paths, writer),
-        "machine" => machine_files(alloc, protocol, role, &files, paths, writer),
+        "check" => check_files(alloc, profile_of(matches), &files, paths, writer),
+        "project" => project_files(
+            alloc,
+            profile_of(matches),
+            protocol,
+            role,
+            &files,
+            paths,
+            writer,
+        ),
+        "machine" => machine_files(
+            alloc,
+            profile_of(matches),
+            protocol,
+            role,
+            &files,
+            paths,
+            writer,
+        ),
         _ => {
             let path = matches.get_str("FILE");
             let format = format_of(matches);

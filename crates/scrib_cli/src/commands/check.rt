@@ -1,17 +1,18 @@
 //! Checking the modules of files.
 
 ghost use Rattle.std.specs.Prelude.{IfOk, OnErr};
-ghost use Rattle.scrib_core.specs.Answers.{State, initial};
+ghost use Rattle.scrib_core.specs.Answers.{State, initial_under};
 ghost use Rattle.scrib_cli.specs.Commands.{AreChecked, ArePartChecked};
 
 use crate::check::{Core, check_module};
 use crate::commands::folder::Folder;
 use crate::fault::ScriptFault;
+use scrib_types::profile::Profile;
 use std::alloc::Global;
 use std::io::Write;
 
-/// Puts the module texts of these files, in order, into one new monitor, and writes the line of each reply as
-/// `check_module` does. Goes on after a refusal. Returns whether all of them were accepted.
+/// Puts the module texts of these files, in order, into one new monitor that accepts by this profile, and writes the
+/// line of each reply as `check_module` does. Goes on after a refusal. Returns whether all of them were accepted.
 ///
 /// # Errors
 /// What was written by then are the lines of the files before, and a beginning of the next.
@@ -20,15 +21,16 @@ use std::io::Write;
 /// - `OutOfMemory` where there is no memory for a module text or a line.
 pub fn check_files<F: Folder, W: Write>(
     alloc: Global,
+    profile: Profile,
     folder: &F,
     paths: &[&str],
     writer: &mut W,
 ) -> Result<bool, ScriptFault>
     ensures ok { IfOk result (λ accepted. (after : State) ×
-        AreChecked (F.text folder.now) paths.now initial accepted after (W.contents writer.old) (W.contents writer.new)) }
-    ensures err { OnErr result (ArePartChecked (F.text folder.now) paths.now initial (W.contents writer.old) (W.contents writer.new)) }
+        AreChecked (F.text folder.now) paths.now (initial_under profile) accepted after (W.contents writer.old) (W.contents writer.new)) }
+    ensures err { OnErr result (ArePartChecked (F.text folder.now) paths.now (initial_under profile) (W.contents writer.old) (W.contents writer.new)) }
 {
-    let mut core = Core::new(alloc);
+    let mut core = Core::with_profile(alloc, profile);
     let mut accepted = true;
     for path in paths {
         let mut file = folder.open(path)?;

@@ -8,6 +8,7 @@ use crate::commands::folder::Folder;
 use crate::commands::reading::read_files;
 use crate::fault::ScriptFault;
 use crate::machine::machine_text;
+use scrib_types::profile::Profile;
 use std::alloc::Global;
 use std::io::Write;
 
@@ -20,15 +21,16 @@ use std::io::Write;
 /// - `OutOfMemory` where memory was refused.
 pub fn machine_files<F: Folder, W: Write>(
     alloc: Global,
+    profile: Profile,
     protocol: &str,
     role: &str,
     folder: &F,
     paths: &[&str],
     writer: &mut W,
 ) -> Result<bool, ScriptFault>
-    ensures ok { IfOk result (λ does_so. IsAnswered form.Graph (F.text folder.now) paths.now protocol.now role.now does_so (W.contents writer.old) (W.contents writer.new)) }
-    ensures err { OnErr result (IsPartAnswered form.Graph (F.text folder.now) paths.now protocol.now role.now (W.contents writer.old) (W.contents writer.new)) }
+    ensures ok { IfOk result (λ does_so. IsAnswered form.Graph profile (F.text folder.now) paths.now protocol.now role.now does_so (W.contents writer.old) (W.contents writer.new)) }
+    ensures err { OnErr result (IsPartAnswered form.Graph profile (F.text folder.now) paths.now protocol.now role.now (W.contents writer.old) (W.contents writer.new)) }
 {
     let texts = read_files(alloc, folder, paths)?;
-    machine_text(alloc, protocol, role, texts.as_slice(), writer)
+    machine_text(alloc, profile, protocol, role, texts.as_slice(), writer)
 }

@@ -8,6 +8,7 @@ use crate::commands::folder::Folder;
 use crate::commands::reading::read_files;
 use crate::fault::ScriptFault;
 use crate::project::project_text;
+use scrib_types::profile::Profile;
 use std::alloc::Global;
 use std::io::Write;
 
@@ -20,15 +21,16 @@ use std::io::Write;
 /// - `OutOfMemory` where memory was refused.
 pub fn project_files<F: Folder, W: Write>(
     alloc: Global,
+    profile: Profile,
     protocol: &str,
     role: &str,
     folder: &F,
     paths: &[&str],
     writer: &mut W,
 ) -> Result<bool, ScriptFault>
-    ensures ok { IfOk result (λ does_so. IsAnswered form.Text (F.text folder.now) paths.now protocol.now role.now does_so (W.contents writer.old) (W.contents writer.new)) }
-    ensures err { OnErr result (IsPartAnswered form.Text (F.text folder.now) paths.now protocol.now role.now (W.contents writer.old) (W.contents writer.new)) }
+    ensures ok { IfOk result (λ does_so. IsAnswered form.Text profile (F.text folder.now) paths.now protocol.now role.now does_so (W.contents writer.old) (W.contents writer.new)) }
+    ensures err { OnErr result (IsPartAnswered form.Text profile (F.text folder.now) paths.now protocol.now role.now (W.contents writer.old) (W.contents writer.new)) }
 {
     let texts = read_files(alloc, folder, paths)?;
-    project_text(alloc, protocol, role, texts.as_slice(), writer)
+    project_text(alloc, profile, protocol, role, texts.as_slice(), writer)
 }

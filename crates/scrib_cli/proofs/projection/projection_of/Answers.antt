@@ -25,7 +25,7 @@ returns-in-Ok-clause-ok c =
     let added : AreAdded [] c.args.texts.now c.add_texts.new.modules = rw (c.in_default-2.is, c.new-modules.ensures) at c.in_ok-fault.ensures.ok in
     let means : Elaborates c.add_texts.new.modules c.in-Some.name.home c.in-Some.name.protocol (meaning_of c.in-Ok.elaborated) = c.in-Ok.ensures.ok in
     let sites : AreSites c.add_texts.new.modules c.in-Some.name.home c.in-Some.name.protocol c.in-Ok.elaborated = c.in-Ok.ensures.sites in
-    ok_role c.args.texts.now c.args.protocol.now c.args.role.now c.in-Some.name c.add_texts.new.modules (meaning_of c.in-Ok.elaborated) c.projection_on.result named added means
+    ok_role c.args.profile c.args.texts.now c.args.protocol.now c.args.role.now c.in-Some.name c.add_texts.new.modules (meaning_of c.in-Ok.elaborated) c.projection_on.result named added means
     c.projection_on.ensures.ok (c.projection_on.ensures.place c.add_texts.new.modules c.in-Some.name.home c.in-Some.name.protocol sites)
 
 pub returns-in-Err-Broken-clause-ok : goal.returns-in-Err-Broken-clause-ok
@@ -33,5 +33,5 @@ returns-in-Err-Broken-clause-ok c =
     let named : IsFullName c.args.protocol.now c.in-Some.name = rw c.in-Some.is at c.in_ok-name.ensures in
     let added : AreAdded [] c.args.texts.now c.add_texts.new.modules = rw (c.in_default-2.is, c.new-modules.ensures) at c.in_ok-fault.ensures.ok in
     let broken : IsBroken c.add_texts.new.modules c.in-Some.name.home c.in-Some.name.protocol c.in-Err-Broken.fault = rw c.in-Err-Broken.field-0-is at c.in-Err-Broken.ensures.fault in
-    subst (λ (f : Fault). IsProjection c.args.texts.now c.args.protocol.now c.args.role.now (Refused (edit.Elaborate f))) (sym c.in-Err-Broken.fault-is)
+    subst (λ (f : Fault). IsProjection c.args.profile c.args.texts.now c.args.protocol.now c.args.role.now (Refused (edit.Elaborate f))) (sym c.in-Err-Broken.fault-is)
     (meaningless c.in-Some.name c.add_texts.new.modules c.in-Err-Broken.fault named added broken)

@@ -1,7 +1,7 @@
 use Rattle.std.proofs.Common.{◌≡◌, ◌+◌, ℕ, List, [], ◌∷◌, Option, Bool, true, false, ◌&&◌, drop, get_or, sym, subst}
 use Rattle.std.specs.Borrow.{Bor}
 use Rattle.std.proofs.lemmas.List.{drop_more, at_drop_all}
-use Rattle.scrib_core.specs.Answers.{State, initial}
+use Rattle.scrib_core.specs.Answers.{State, initial_under}
 use Rattle.scrib_core.specs.Held.{state_of}
 use Rattle.scrib_cli.specs.Checks.{IsChecked, IsPartChecked}
 use Rattle.scrib_cli.specs.Commands.{AreChecked, ArePartChecked}
@@ -47,7 +47,7 @@ loop-path-preserved g c =
     ]
     in
     record {
-      checked = λ others after now k. subst (λ (b : Bool). AreChecked text c.args.paths.now initial b after (g.W.Write.contents c.args.writer.now) now) (same others) (c.loop-path.invariant.checked (first && others) after now (then_checked text p ps left front w v after first others was mid now h k));
+      checked = λ others after now k. subst (λ (b : Bool). AreChecked text c.args.paths.now (initial_under c.args.profile) b after (g.W.Write.contents c.args.writer.now) now) (same others) (c.loop-path.invariant.checked (first && others) after now (then_checked text p ps left front w v after first others was mid now h k));
       part = λ now k. c.loop-path.invariant.part now (then_part text p ps left front w v first was mid now h k);
     }
 
@@ -57,4 +57,4 @@ returns-clause-ok g c =
     let v = state_of c.loop-path.core in
     let now = g.W.Write.contents c.loop-path.writer in
     let at_end = end_checked text (drop c.loop-path.path-index c.args.paths.now) (at_drop_all (λ l. l) c.args.paths.now c.loop-path.path-index c.loop-path-test.false) v now in
-    (v, subst (λ (b : Bool). AreChecked text c.args.paths.now initial b v (g.W.Write.contents c.args.writer.now) now) (sym (and_true c.loop-path.accepted)) (c.loop-path.invariant.checked true v now at_end))
+    (v, subst (λ (b : Bool). AreChecked text c.args.paths.now (initial_under c.args.profile) b v (g.W.Write.contents c.args.writer.now) now) (sym (and_true c.loop-path.accepted)) (c.loop-path.invariant.checked true v now at_end))
