@@ -65,11 +65,41 @@ fn long_log(alloc: Global, events: u32) -> Result<(String, String), Fail> {
 
 #[test]
 fn one_event_too_many(rt: HostRuntime) -> Result<(), Fail> {
-    let (mut script, mut want) = long_log(rt.alloc(), 65_536)?;
+    let (mut script, mut want) = long_log(rt.alloc(), 1_048_576)?;
     script.push_str("send 1 A B a()\nask 1\njoin 1 A\nask 1\n")?;
     want.push_str("refused LogFull\n1 permitted\nrefused LogFull\n1 permitted\n")?;
     let written = output_of(&rt, rt.alloc(), script.as_bytes())?;
     assert!(rt; written.as_slice() == want.as_bytes());
+    Ok(())
+}
+
+// The put of a protocol of 63 messages, and of one that calls it 65 times and goes on with this.
+fn long_path(alloc: Global, then: &str) -> Result<String, Fail> {
+    let mut script = String::from_str(
+        alloc,
+        "put\nmodule p;\nglobal protocol P(role A, role B) { a() from A to B",
+    )?;
+    for _ in 1..63u32 {
+        script.push_str(", B")?;
+    }
+    script.push_str("; }\nglobal protocol Q(role A, role B) {\n")?;
+    for _ in 0..65u32 {
+        script.push_str("do P(A, B);\n")?;
+    }
+    script.push_str(then)?;
+    script.push_str("}\n%%\n")?;
+    Ok(script)
+}
+
+#[test]
+fn one_message_too_many_on_a_path(rt: HostRuntime) -> Result<(), Fail> {
+    let mut script = long_path(rt.alloc(), "")?;
+    script.push_str(long_path(rt.alloc(), "a() from A to B;\n")?.as_str())?;
+    let written = output_of(&rt, rt.alloc(), script.as_bytes())?;
+    assert_eq!(rt;
+        written.as_slice(),
+        b"put p: +p.P +p.Q\nrefused TooLarge p 3:1\n".as_slice()
+    );
     Ok(())
 }
 

@@ -1,14 +1,17 @@
 //! Runs worked examples. Each has a title line that begins with `== `, a line with a command of `scribmon` and
 //! its words (`watch`, `judge`, `explain 1`, `project demo.Hello A`, `machine demo.Hello A`), and the script or the module texts
-//! of the command. After the word `files` stands a command as the program takes it, with files of the folder that this is
+//! of the command. What such a command writes where receptions merge is told too, where it is something else. After the
+//! word `files` stands a command as the program takes it, with files of the folder that this is
 //! run in, and behind it standard input. The output is each title with what the command writes, and after `files` what
 //! standard error is told, and the exit status.
 #![tactic(auto)]
 
 mod beside;
+mod profiles;
 mod whole;
 
 use crate::beside::tell_runs;
+use crate::profiles::tell_wider;
 use crate::whole::tell_judgements;
 use scrib_cli::commands::check::check_files;
 use scrib_cli::commands::explain::explain;
@@ -27,6 +30,7 @@ use scrib_run::options::Options;
 use scrib_run::progress::{Mark, Progress};
 use scrib_run::shape::Shape;
 use scrib_types::plain::Items;
+use scrib_types::profile::Profile;
 use std::alloc::{AllocError, AllocFailed, Global};
 use std::io;
 use std::io::{BufWriter, Write};
@@ -38,7 +42,7 @@ use std::thread::Threads;
 
 // Why the examples end early.
 #[derive(Drop)]
-enum RowsFault {
+pub(crate) enum RowsFault {
     // An example without a command that is known.
     NoCommand,
     // A command failed.
@@ -82,9 +86,10 @@ fn texts_of(alloc: Global, body: &str) -> Result<Vec<Option<Items<u8>>>, AllocEr
     Ok(texts)
 }
 
-// Runs the command over what follows its line.
-fn obey<W: Write>(
+// Runs the command over what follows its line. A role does what it does under this profile.
+pub(crate) fn obey<W: Write>(
     alloc: Global,
+    profile: Profile,
     command: &str,
     body: &str,
     writer: &mut W,
@@ -100,11 +105,11 @@ fn obey<W: Write>(
         }
         (Some("project"), Some(protocol), Some(role)) => {
             let texts = texts_of(alloc, body)?;
-            project_text(alloc, protocol, role, &texts, writer)?;
+            project_text(alloc, profile, protocol, role, &texts, writer)?;
         }
         (Some("machine"), Some(protocol), Some(role)) => {
             let texts = texts_of(alloc, body)?;
-            machine_text(alloc, protocol, role, &texts, writer)?;
+            machine_text(alloc, profile, protocol, role, &texts, writer)?;
         }
         _ => return Err(RowsFault::NoCommand),
     }
@@ -165,6 +170,29 @@ where
     Ok(run_files(rt, rt.alloc(), &options, &files, setup, connections, writer))
 }
 
+// What a command on modules answers behind whose word stands `--reception`, over the files that the words name.
+fn answer_wider<R: Files + AllocGlobal, W: Write>(
+    rt: &R,
+    words: &[&str],
+    writer: &mut W,
+) -> Option<Result<bool, ScriptFault>> {
+    let alloc = rt.alloc();
+    let files = SystemFiles(rt);
+    let profile = Profile::Reception;
+    match words {
+        ["check", "--reception", paths @ ..] => {
+            Some(check_files(alloc, profile, &files, paths, writer))
+        }
+        ["project", "--reception", protocol, role, paths @ ..] => {
+            Some(project_files(alloc, profile, protocol, role, &files, paths, writer))
+        }
+        ["machine", "--reception", protocol, role, paths @ ..] => {
+            Some(machine_files(alloc, profile, protocol, role, &files, paths, writer))
+        }
+        _ => None,
+    }
+}
+
 // What the command of these words answers, over the files that they name or this input.
 fn answer<R: Print + Files + Threads + Wait + AllocGlobal + Sync, W: Write>(
     rt: &R,
@@ -175,16 +203,19 @@ fn answer<R: Print + Files + Threads + Wait + AllocGlobal + Sync, W: Write>(
 where
     R::File: Send,
 {
+    if let Some(answer) = answer_wider(rt, words, writer) {
+        return Ok(answer);
+    }
     let alloc = rt.alloc();
     let files = SystemFiles(rt);
     let reader = &mut input;
     let answer = match words {
-        ["check", paths @ ..] => check_files(alloc, &files, paths, writer),
+        ["check", paths @ ..] => check_files(alloc, Profile::Plain, &files, paths, writer),
         ["project", protocol, role, paths @ ..] => {
-            project_files(alloc, protocol, role, &files, paths, writer)
+            project_files(alloc, Profile::Plain, protocol, role, &files, paths, writer)
         }
         ["machine", protocol, role, paths @ ..] => {
-            machine_files(alloc, protocol, role, &files, paths, writer)
+            machine_files(alloc, Profile::Plain, protocol, role, &files, paths, writer)
         }
         ["watch", path @ ..] => {
             let path = path.first().copied();
@@ -241,7 +272,10 @@ where
     }
     match command.strip_prefix("files ") {
         Some(command) => obey_files(rt, command, body, writer),
-        None => obey(rt.alloc(), command, body, writer),
+        None => {
+            obey(rt.alloc(), Profile::Plain, command, body, writer)?;
+            tell_wider(rt.alloc(), command, body, writer)
+        }
     }
 }
 

@@ -1,7 +1,7 @@
 //! A service, used by one thread as a core is.
 
 use crate::fault::RowsFault;
-use crate::lines::{asked, edited, noted, push_settling, refused, turned};
+use crate::lines::{asked, edited, noted, profiled, push_settling, refused, turned};
 use scrib_core::reply::{Edit, Reply};
 use scrib_core::step::Step;
 use scrib_report::line::line;
@@ -41,6 +41,9 @@ impl Connected {
             Step::Withdraw { name } => {
                 let answer = self.service.withdraw(rt, name);
                 edited(self.alloc, Edit::Withdraw, answer)
+            }
+            Step::Profile { profile } => {
+                profiled(self.alloc, *profile, self.service.profile(rt, *profile))
             }
             Step::Open { id, name } => self.open(rt, *id, name),
             Step::Note { id, event } => self.note(rt, *id, event),

@@ -8,6 +8,7 @@ use scrib_core::monitor::Core;
 use scrib_core::step::Step;
 use scrib_report::line::line;
 use scrib_shards::service::Service;
+use scrib_types::profile::Profile;
 use scrib_types::text::{push_bytes, push_number};
 use std::alloc::Global;
 use std::sync::Wait;
@@ -103,9 +104,10 @@ fn next_step(alloc: Global, numbers: &mut Numbers, made: usize) -> Result<Step, 
     line_with(alloc, EXCHANGED[made % 2], id)
 }
 
-// A list of steps: three modules, four conversations that two roles join, and what the numbers say.
-fn list_of(alloc: Global, numbers: &mut Numbers) -> Result<Vec<Step>, RowsFault> {
+// A list of steps: the profile, three modules, four conversations that two roles join, and what the numbers say.
+fn list_of(alloc: Global, profile: Profile, numbers: &mut Numbers) -> Result<Vec<Step>, RowsFault> {
     let mut steps = Vec::new(alloc);
+    steps.push(Step::Profile { profile })?;
     for text in [CALLED, CALLING, LOOP] {
         steps.push(put(alloc, text)?)?;
     }
@@ -146,11 +148,12 @@ fn by_core(alloc: Global, steps: &[Step]) -> Result<Vec<u8>, RowsFault> {
     Ok(lines)
 }
 
-/// Tells how many steps there were in all lists, in how many lists a service of so many shards answered as a core does,
+/// Tells how many steps there were in all lists under the profile, in how many lists a service of so many shards answered as a core does,
 /// byte for byte, and what no reply told of that some should.
 pub(crate) fn push_generated(
     rt: &impl Wait,
     alloc: Global,
+    profile: Profile,
     shards: usize,
     out: &mut Vec<u8>,
 ) -> Result<(), RowsFault> {
@@ -158,7 +161,7 @@ pub(crate) fn push_generated(
     let (mut steps, mut alike) = (0u64, 0u64);
     let mut lines = Vec::new(alloc);
     for _ in 0..LISTS {
-        let list = list_of(alloc, &mut numbers)?;
+        let list = list_of(alloc, profile, &mut numbers)?;
         let told = by_service(rt, alloc, shards, list.as_slice())?;
         let is_alike = told.as_slice() == by_core(alloc, list.as_slice())?.as_slice();
         steps = steps.saturating_add(list.len() as u64);

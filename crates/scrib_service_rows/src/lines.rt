@@ -14,6 +14,7 @@ use scrib_shards::service::Service;
 use scrib_shards::settled::Settled;
 use scrib_shards::stepping::Noted;
 use scrib_types::event::Told;
+use scrib_types::profile::Profile;
 use scrib_types::text::{push_bytes, push_number};
 use std::alloc::Global;
 
@@ -32,6 +33,19 @@ pub(crate) fn edited(
 ) -> Result<Vec<u8>, RowsFault> {
     let reply = match answer {
         Ok(changes) => Reply::Edited { edit, changes },
+        Err(fault) => Reply::Refused(Refusal::Edit(fault)),
+    };
+    Ok(line(alloc, &reply)?)
+}
+
+/// The line of what a change of the profile answers.
+pub(crate) fn profiled(
+    alloc: Global,
+    profile: Profile,
+    answer: Result<(), EditFault>,
+) -> Result<Vec<u8>, RowsFault> {
+    let reply = match answer {
+        Ok(()) => Reply::Profiled { profile },
         Err(fault) => Reply::Refused(Refusal::Edit(fault)),
     };
     Ok(line(alloc, &reply)?)

@@ -7,6 +7,7 @@ mod connected;
 mod fault;
 mod generated;
 mod lines;
+mod longest;
 mod making;
 mod meeting;
 mod script;
@@ -17,6 +18,7 @@ mod threads;
 use crate::fault::RowsFault;
 use crate::generated::push_generated;
 use crate::lines::push_line;
+use crate::longest::push_longest_log;
 use crate::meeting::push_meeting;
 use crate::script::run_script;
 use crate::several::{push_full_shard, push_strangers};
@@ -24,6 +26,7 @@ use crate::sweeps::{
     push_noticed, push_numbers_of_workers, push_one_worker, push_swept, push_two_workers,
 };
 use crate::threads::{push_threads, push_threads_swept};
+use scrib_types::profile::Profile;
 use scrib_types::text::push_bytes;
 use std::alloc::Global;
 use std::io;
@@ -47,11 +50,13 @@ fn obey<R: Threads + Wait + Sync>(
         "full" => push_full_shard(rt, alloc, number, out),
         "strangers" => push_strangers(rt, alloc, number, out),
         "swept" => push_swept(rt, alloc, number, out),
-        "generated" => push_generated(rt, alloc, number, out),
+        "generated" => push_generated(rt, alloc, Profile::Plain, number, out),
+        "generated-reception" => push_generated(rt, alloc, Profile::Reception, number, out),
         "threads" => push_threads(rt, alloc, number, out),
         "meeting" => push_meeting(rt, alloc, number, out),
         "one-worker" => push_one_worker(rt, alloc, number, out),
         "numbers-of-workers" => push_numbers_of_workers(rt, alloc, number, out),
+        "longest-log" => push_longest_log(rt, alloc, number, out),
         "notices" => push_noticed(rt, alloc, number, out),
         "two-workers" => push_two_workers(rt, alloc, number, out),
         "threads-swept" => push_threads_swept(rt, alloc, number, out),

@@ -28,8 +28,8 @@ fn push_touched(rt: &impl Wait, service: &Service, out: &mut Vec<u8>) -> Result<
     push_line(out, b"")
 }
 
-// Tells what was swept, as a line.
-fn push_counts(out: &mut Vec<u8>, swept: Swept) -> Result<(), RowsFault> {
+/// Tells what was swept, as a line.
+pub(crate) fn push_counts(out: &mut Vec<u8>, swept: Swept) -> Result<(), RowsFault> {
     push_number(out, swept.turns)?;
     push_bytes(out, b" turns, ")?;
     push_number(out, swept.judged)?;
