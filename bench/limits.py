@@ -22,15 +22,40 @@ def put(text):
     return "put\n%s\n%%%%\n" % text
 
 
-def large_protocols():
-    """1,024 protocols, each of about 4,090 nodes for sixteen roles: one of messages round the roles, and calls of it."""
-    roles = ["R%d" % i for i in range(16)]
+CHOICE = "choice at R0 { a() from R0 to R1; } or { b() from R0 to R1; }\n"
+
+
+def long_protocols(protocols, count):
+    """So many protocols, each of about 4,090 nodes for so many roles: one of messages round the roles, and calls of it."""
+    roles = ["R%d" % i for i in range(count)]
     declared = ", ".join("role " + role for role in roles)
-    body = " ".join("m%d() from %s to %s;" % (i % 7, roles[i % 16], roles[(i + 1) % 16]) for i in range(4090))
+    body = " ".join("m%d() from %s to %s;" % (i % 7, roles[i % count], roles[(i + 1) % count]) for i in range(4090))
     text = "module m;\nglobal protocol P0(%s) { %s }\n" % (declared, body)
-    for i in range(1, 1024):
+    for i in range(1, protocols):
         text += "global protocol P%d(%s) { a() from R0 to R1; do P0(%s); }\n" % (i, declared, ", ".join(roles))
     return put(text)
+
+
+def wide_protocols(protocols, count):
+    """So many protocols of 65,535 nodes and more, for so many roles: fifteen choices of two messages one after another."""
+    roles = ["R%d" % i for i in range(count)]
+    declared = ", ".join("role " + role for role in roles)
+    text = "module w;\n"
+    for i in range(protocols):
+        text += "global protocol P%d(%s) {\n%s}\n" % (i, declared, CHOICE * 15)
+    return put(text)
+
+
+def many_loops():
+    """2,000 loops one after another, each of which is left by a choice, and fourteen choices behind them."""
+    loop = "rec X { choice at R0 { a() from R0 to R1; continue X; } or { b() from R0 to R1; } }\n"
+    return put("module l;\nglobal protocol L(role R0, role R1) {\n%s%s}\n" % (loop * 2000, CHOICE * 14))
+
+
+def wide_choice():
+    """One choice of 30,000 messages."""
+    branches = " or ".join("{ m%d() from R0 to R1; }" % i for i in range(30_000))
+    return put("module c;\nglobal protocol C(role R0, role R1) { choice at R0 %s }\n" % branches)
 
 
 def large_modules():
@@ -51,9 +76,9 @@ def long_replies():
 
 
 def long_log():
-    """A log of 65,536 events, all but two in flight."""
+    """A log of 1,048,576 events, all but two in flight."""
     text = "module k; global protocol K(role A, role B) { rec X { a() from A to B; continue X; } }"
-    return put(text) + "open 1 k.K\njoin 1 A\njoin 1 B\n" + "send 1 A B a()\n" * 65_534
+    return put(text) + "open 1 k.K\njoin 1 A\njoin 1 B\n" + "send 1 A B a()\n" * 1_048_574
 
 
 def cost(program, name, script):
@@ -76,7 +101,13 @@ def main():
     program = parser.parse_args().program
     if not os.path.exists(program):
         sys.exit("there is no program yet: make run")
-    cost(program, "large protocols", large_protocols())
+    cost(program, "one long type", long_protocols(1, 2))
+    cost(program, "one wide type", wide_protocols(1, 2))
+    cost(program, "a wide type, 64", wide_protocols(1, 64))
+    cost(program, "wide types", wide_protocols(64, 16))
+    cost(program, "many loops", many_loops())
+    cost(program, "one wide choice", wide_choice())
+    cost(program, "long types", long_protocols(1024, 16))
     cost(program, "large modules", large_modules())
     cost(program, "long replies", long_replies())
     cost(program, "long log", long_log())
