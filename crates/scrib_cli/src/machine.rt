@@ -14,8 +14,9 @@ use scrib_types::profile::Profile;
 use std::alloc::Global;
 use std::io::Write;
 
-/// Writes the machine of the role under the profile in the protocol of this full name, among the modules that the texts
-/// are, as a graph in the DOT language; or a refusal line, which is the one that `project_text` writes. The texts are as there.
+/// Writes the machine of the role under the profile in the protocol of this full name, among the modules that the
+/// texts are, as a graph in the DOT language; or a refusal line, which is the one that `project_text` writes. The
+/// texts are as there.
 ///
 /// Returns whether it wrote a machine. At the end the writer is flushed.
 ///

@@ -15,8 +15,8 @@ use std::alloc::Global;
 use std::io::Write;
 
 /// Writes one line: what the role does under the profile in the protocol of this full name, among the modules that the
-/// texts are, as `B!hello().B?bye().end`; or a refusal line. A text that is longer than a module text may be stands there by its
-/// first 1,048,577 bytes, and `None` for one that can't be read. The first of these ends it:
+/// texts are, as `B!hello().B?bye().end`; or a refusal line. A text that is longer than a module text may be stands
+/// there by its first 1,048,577 bytes, and `None` for one that can't be read. The first of these ends it:
 /// - `refused NoProtocol` where the protocol isn't two or more names joined by dots;
 /// - for each text in order the fault that it can't be read, or why it is no module, as `refused EndOfText`;
 /// - why the protocol means nothing, as `refused NoRole demo 2:1`;

@@ -39,8 +39,8 @@ pub enum Projection {
     Refused(EditFault),
 }
 
-/// What the role does under the profile in the protocol of this full name, among the modules that the texts are. `None` stands for a
-/// text that can't be read.
+/// What the role does under the profile in the protocol of this full name, among the modules that the texts are.
+/// `None` stands for a text that can't be read.
 ///
 /// # Errors
 /// - `Read` where the protocol has a full name and the first text that is no module can't be read.

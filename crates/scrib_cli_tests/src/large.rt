@@ -73,36 +73,6 @@ fn one_event_too_many(rt: HostRuntime) -> Result<(), Fail> {
     Ok(())
 }
 
-// The put of a protocol of 63 messages, and of one that calls it 65 times and goes on with this.
-fn long_path(alloc: Global, then: &str) -> Result<String, Fail> {
-    let mut script = String::from_str(
-        alloc,
-        "put\nmodule p;\nglobal protocol P(role A, role B) { a() from A to B",
-    )?;
-    for _ in 1..63u32 {
-        script.push_str(", B")?;
-    }
-    script.push_str("; }\nglobal protocol Q(role A, role B) {\n")?;
-    for _ in 0..65u32 {
-        script.push_str("do P(A, B);\n")?;
-    }
-    script.push_str(then)?;
-    script.push_str("}\n%%\n")?;
-    Ok(script)
-}
-
-#[test]
-fn one_message_too_many_on_a_path(rt: HostRuntime) -> Result<(), Fail> {
-    let mut script = long_path(rt.alloc(), "")?;
-    script.push_str(long_path(rt.alloc(), "a() from A to B;\n")?.as_str())?;
-    let written = output_of(&rt, rt.alloc(), script.as_bytes())?;
-    assert_eq!(rt;
-        written.as_slice(),
-        b"put p: +p.P +p.Q\nrefused TooLarge p 3:1\n".as_slice()
-    );
-    Ok(())
-}
-
 // `module b;`, and on line i+2 a protocol Pi that calls the one before it twice; the first has this body.
 fn chain(alloc: Global, first: &str) -> Result<String, Fail> {
     let mut script = format!(in alloc;

@@ -16,7 +16,7 @@ use Rattle.scrib_types.specs.Agreement.{Agreement}
 use Rattle.scrib_record.specs.declared.version.Version.{Version}
 use Rattle.scrib_record.specs.Stale.{Recorded, is_stale, is_present, IsLawful}
 use Rattle.scrib_record.specs.Told as record_told
-use Rattle.scrib_record.specs.Turns.{new_fresh}
+use Rattle.scrib_record.specs.Turns.{new_record, new_fresh}
 use Rattle.scrib_record.specs.Versions.{meaning_of, number_of, AreOfOneStamp}
 use Rattle.scrib_library.specs.Holdings.{Holdings, HasNumber, AreNumbered}
 use Rattle.scrib_library.specs.Modules.{Means, IsMeaning, MeansOnce}
@@ -30,7 +30,7 @@ use Rattle.scrib_core.specs.World.{World, Conversation, conversation, noted, ope
 use Rattle.scrib_core.specs.Marks.{Mark, Fresh, Stale, IsStale, IsLeft, Remarks}
 use Rattle.scrib_core.specs.Answers.{State, IsTold, IsJudged, IsAnswered, IsDue}
 use Rattle.scrib_core.specs.Held.{Records, record_at, conversation_of, world_of, mark_of, mark_at, marks_of, state, IsKnown, AreKnown}
-use Rattle.scrib_core.specs.Conversing.{IsPresent, begun, IsOpened, OpenFails, IsNotedAt, NoteFails, IsTurnedAt, IsAskedAt, TellFails, AnswersOpen, AnswersNote, AnswersTurn, AnswersAsk}
+use Rattle.scrib_core.specs.Conversing.{IsPresent, IsOpened, OpenFails, IsNotedAt, NoteFails, IsTurnedAt, IsAskedAt, TellFails, AnswersOpen, AnswersNote, AnswersTurn, AnswersAsk}
 use Rattle.scrib_core.proofs.Marking.{number_present, fresh_mark, stale_mark, note_mark, turn_mark}
 
 same_some : {X : Type 0} (x y : X) → Some x ≡ Some y → x ≡ y
@@ -356,42 +356,42 @@ module _ (h : Holdings) (old : Records) (numbered : AreNumbered h) (once : Means
         refused (Open id name) refusal.OutOfMemory new tt (seen h old id None x.0, x.1, subst (λ (n : ℕ). n < 65536) (sym (length-map old (λ (e : ℕ × Recorded). (e.0, conversation_of e.1)))) x.2) same
 
     module _ (v : Version) (absent : record_at old id ≡ None) (present : IsPresent h name (Some v)) (room : length old < 65536) where
-      begun_known : IsKnown h (begun name v)
-      begun_known = turned_known h (begun name v) (Some v) numbered present (refl, refl)
+      new_known : IsKnown h (new_record name v)
+      new_known = turned_known h (new_record name v) (Some v) numbered present (refl, refl)
 
-      begun_fresh : mark_of h (begun name v) ≡ Fresh
-      begun_fresh = fresh_mark h (begun name v) (Some v) numbered once begun_known present (new_fresh name v)
+      new_is_fresh : mark_of h (new_record name v) ≡ Fresh
+      new_is_fresh = fresh_mark h (new_record name v) (Some v) numbered once new_known present (new_fresh name v)
 
-      unopened_mark : (b : Bool) → mark_at h (cond b (Some (begun name v)) None) ≡ Fresh
-      unopened_mark true = begun_fresh
+      unopened_mark : (b : Bool) → mark_at h (cond b (Some (new_record name v)) None) ≡ Fresh
+      unopened_mark true = new_is_fresh
       unopened_mark false = refl
 
-      known_there : (q : Recorded) (b : Bool) → cond b (Some (begun name v)) None ≡ Some q → IsKnown h q
-      known_there q true d = subst (IsKnown h) (same_some (begun name v) q d) begun_known
+      known_there : (q : Recorded) (b : Bool) → cond b (Some (new_record name v)) None ≡ Some q → IsKnown h q
+      known_there q true d = subst (IsKnown h) (same_some (new_record name v) q d) new_known
       known_there q false d = absurd (none_some q d)
 
-      pushed_known : (j : ℕ) (q : Recorded) (o : Option Recorded) → record_at old j ≡ o → record_at (old ++ (id, begun name v) ∷ []) j ≡ Some q → IsKnown h q
-      pushed_known j q (Some r) f e = subst (IsKnown h) (same_some r q (sym (at_push_old old j (id, begun name v) r f) ∙ e)) (known j r f)
-      pushed_known j q None f e = known_there q (nat_eq j id) (sym (at_push_new old j (id, begun name v) f) ∙ e)
+      pushed_known : (j : ℕ) (q : Recorded) (o : Option Recorded) → record_at old j ≡ o → record_at (old ++ (id, new_record name v) ∷ []) j ≡ Some q → IsKnown h q
+      pushed_known j q (Some r) f e = subst (IsKnown h) (same_some r q (sym (at_push_old old j (id, new_record name v) r f) ∙ e)) (known j r f)
+      pushed_known j q None f e = known_there q (nat_eq j id) (sym (at_push_new old j (id, new_record name v) f) ∙ e)
 
-      pushed_remarks : Remarks (world_of h old) (marks_of h old) (Open id name) (world_of h (old ++ (id, begun name v) ∷ [])) (marks_of h (old ++ (id, begun name v) ∷ []))
+      pushed_remarks : Remarks (world_of h old) (marks_of h old) (Open id name) (world_of h (old ++ (id, new_record name v) ∷ [])) (marks_of h (old ++ (id, new_record name v) ∷ []))
       pushed_remarks = record {
-        unopened = λ j e. ap (mark_at h) (at_push_new old j (id, begun name v) (none_seen h old j e)) ∙ unopened_mark (nat_eq j id);
+        unopened = λ j e. ap (mark_at h) (at_push_new old j (id, new_record name v) (none_seen h old j e)) ∙ unopened_mark (nat_eq j id);
         opened = λ j c e.
             let q = record_seen h old j c e in
-            inl (ap (mark_at h) (at_push_old old j (id, begun name v) q.0 q.1 ∙ sym q.1));
+            inl (ap (mark_at h) (at_push_old old j (id, new_record name v) q.0 q.1 ∙ sym q.1));
       }
 
-      pushed_world : world_of h (old ++ (id, begun name v) ∷ []) ≡ record { profile = h.profile; modules = h.modules; used = h.used; conversations = (world_of h old).conversations ++ (id, opened name) ∷ [] }
-      pushed_world = ap (λ (cs : List (ℕ × Conversation)). record { profile = h.profile; modules = h.modules; used = h.used; conversations = cs }) (map-append (λ (e : ℕ × Recorded). (e.0, conversation_of e.1)) old ((id, begun name v) ∷ []))
+      pushed_world : world_of h (old ++ (id, new_record name v) ∷ []) ≡ record { profile = h.profile; modules = h.modules; used = h.used; conversations = (world_of h old).conversations ++ (id, opened name) ∷ [] }
+      pushed_world = ap (λ (cs : List (ℕ × Conversation)). record { profile = h.profile; modules = h.modules; used = h.used; conversations = cs }) (map-append (λ (e : ℕ × Recorded). (e.0, conversation_of e.1)) old ((id, new_record name v) ∷ []))
 
       few : length (world_of h old).conversations < 65536
       few = subst (λ (k : ℕ). k < 65536) (sym (length-map old (λ (e : ℕ × Recorded). (e.0, conversation_of e.1)))) room
 
-      open_follows : Follows (world_of h old) (Open id name) (world_of h (old ++ (id, begun name v) ∷ []))
+      open_follows : Follows (world_of h old) (Open id name) (world_of h (old ++ (id, new_record name v) ∷ []))
       open_follows = (seen h old id None absent, (meaning_of v, present.meaning), few, pushed_world)
 
-      open_made : (i : ℕ) (n : List (List ℕ)) → i ≡ id → n ≡ name → Makes h old (Open id name) (reply.Opened i n) h (old ++ (id, begun name v) ∷ [])
+      open_made : (i : ℕ) (n : List (List ℕ)) → i ≡ id → n ≡ name → Makes h old (Open id name) (reply.Opened i n) h (old ++ (id, new_record name v) ∷ [])
       open_made i n is named = record {
         answered = record { follows = open_follows; replies = (is, named); remarks = pushed_remarks };
         due = tt;

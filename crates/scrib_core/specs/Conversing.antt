@@ -32,17 +32,13 @@ abbrev pub ServesBeside : Comparison → Holdings → Records → Type 0
 ServesBeside Whole h rs = Unit {0}
 ServesBeside Numbers h rs = AreKnown h rs × MeansOnce h.modules
 
--- the record of an empty log under the version
-abbrev pub begun : List (List ℕ) → Version → Recorded
-begun name v = new_record name v
-
 -- the library has the protocol, no conversation of the id is open, and fewer than `most` are: one is added
 pub record IsOpened (most : ℕ) (h : Holdings) (old : Records) (id : ℕ) (name : List (List ℕ)) (new : Records) : Type 0 where
   pub absent : record_at old id ≡ None
   pub version : Version
   pub present : IsPresent h name (Some version)
   pub room : length old < most
-  pub added : new ≡ old ++ (id, begun name version) ∷ []
+  pub added : new ≡ old ++ (id, new_record name version) ∷ []
 
 -- why none is opened, and for nothing that comes before it in this list
 abbrev pub OpenFails : (most : ℕ) → Holdings → Records → ℕ → List (List ℕ) → Refusal → Type 0

@@ -1,7 +1,8 @@
 //! What is done to one conversation, beside a library: opening, noting, turning and asking.
 
 ghost use Rattle.std.specs.Prelude.{◌≡◌, IfOk};
-ghost use Rattle.scrib_core.specs.Conversing.{AnswersOpen, AnswersNote, AnswersTurn, AnswersAsk, ServesBeside, begun};
+ghost use Rattle.scrib_record.specs.Turns.{new_record};
+ghost use Rattle.scrib_core.specs.Conversing.{AnswersOpen, AnswersNote, AnswersTurn, AnswersAsk, ServesBeside};
 
 use crate::reply::{Refusal, Reply};
 use crate::telling::told_of;
@@ -16,7 +17,8 @@ use scrib_types::name::Dotted;
 use std::alloc::{AllocError, Global};
 
 /// Opens a conversation of the protocol, where fewer than `most` are open. Answers `Opened`, or refuses with
-/// `AlreadyOpen`, `UnknownProtocol`, `TooManyConversations` or `OutOfMemory`, the first that is due, and changes nothing.
+/// `AlreadyOpen`, `UnknownProtocol`, `TooManyConversations` or `OutOfMemory`, the first that is due, and changes
+/// nothing.
 pub fn open(
     alloc: Global,
     library: &Library,
@@ -133,7 +135,7 @@ pub fn ask(
 
 // The record of an empty log.
 fn begin(alloc: Global, name: &Dotted, version: &Version) -> Result<Record, AllocError>
-    ensures { IfOk result (λ new. new ≡ begun name.now version.now) }
+    ensures { IfOk result (λ new. new ≡ new_record name.now version.now) }
 {
     let name = name.copy()?;
     Record::new(alloc, name, version)

@@ -36,8 +36,8 @@ pub struct Plan {
 }
 
 /// What it does that the new module was put among these modules, in place of the one that is gone, where the versions
-/// are those before. Only the protocols of this module and of those that reach it by imports are looked at. They have to
-/// project under the profile. There is room for the new versions then.
+/// are those before. Only the protocols of this module and of those that reach it by imports are looked at. They have
+/// to project under the profile. There is room for the new versions then.
 ///
 /// # Errors
 /// The first fault of `EditFault`'s list, from `TooManyModules` on, that the put has; `OutOfMemory` where memory

@@ -12,6 +12,7 @@ use Rattle.scrib_types.specs.declared.event.Event.{Event}
 use Rattle.scrib_global.proofs.Judged.{permitted_none}
 use Rattle.scrib_record.specs.declared.version.Version.{Version}
 use Rattle.scrib_record.specs.Stale.{Recorded}
+use Rattle.scrib_record.specs.Turns.{new_record}
 use Rattle.scrib_record.specs.Versions.{meaning_of}
 use Rattle.scrib_library.specs.Holdings.{Holdings}
 use Rattle.scrib_library.specs.Modules.{MeansProtocols}
@@ -19,7 +20,7 @@ use Rattle.scrib_core.specs.declared.reply.Reply.{Reply}
 use Rattle.scrib_core.specs.declared.reply.Reply.TheVariants as reply
 use Rattle.scrib_core.specs.declared.reply.Refusal.TheVariants.{OutOfMemory}
 use Rattle.scrib_core.specs.Held.{Records, record_at}
-use Rattle.scrib_core.specs.Conversing.{begun, IsOpened, AnswersOpen, AnswersNote, AnswersTurn}
+use Rattle.scrib_core.specs.Conversing.{IsOpened, AnswersOpen, AnswersNote, AnswersTurn}
 use Rattle.scrib_locked.specs.Indexing.{Listing, listed, only_under}
 use Rattle.scrib_locked.specs.Shards.{IsWithin, AreWithin, IsStored}
 use Rattle.scrib_locked.specs.Locked.{entries_of}
@@ -73,8 +74,8 @@ stored_push most old es fs book id s within empty room more stored =
       few = stored.few;
     }
 
-begun_within : (h : Holdings) (name : List (List ℕ)) (v : Version) (old new : Records) (id most : ℕ) → MeansProtocols h.modules → (o : IsOpened most h old id name new) → IsWithin (begun name o.version)
-begun_within h name v old new id most protocols o =
+new_within : (h : Holdings) (name : List (List ℕ)) (v : Version) (old new : Records) (id most : ℕ) → MeansProtocols h.modules → (o : IsOpened most h old id name new) → IsWithin (new_record name o.version)
+new_within h name v old new id most protocols o =
     (record { within = omega arith; judges = permitted_none (meaning_of o.version) (protocols name (meaning_of o.version) o.present.meaning) }, omega arith)
 
 -- a conversation was opened, and is listed
@@ -83,8 +84,8 @@ pub open_keeps : (most : ℕ) (h : Holdings) (old : Records) (id : ℕ) (name : 
     → IsStored most old es book → IsStored most new fs book
 open_keeps most h old id name i n new es fs book protocols x more s =
     let o = x.2 in
-    stored_same most (old ++ (id, begun name o.version) ∷ []) new fs book o.added
-    (stored_push most old es fs book id (begun name o.version) (begun_within h name o.version old new id most protocols o) refl o.room more s)
+    stored_same most (old ++ (id, new_record name o.version) ∷ []) new fs book o.added
+    (stored_push most old es fs book id (new_record name o.version) (new_within h name o.version old new id most protocols o) refl o.room more s)
 
 pub listed_same : (most : ℕ) (rs : Records) (es fs : Listing) (book : ℕ) → ((m : List (List ℕ)) → listed m fs ≡ listed m es) → IsStored most rs es book → IsStored most rs fs book
 listed_same most rs es fs book same s =
@@ -95,8 +96,8 @@ pub taken_back : (most : ℕ) (h : Holdings) (old : Records) (id : ℕ) (name : 
     → AnswersOpen most h old id name (reply.Opened i n) new → new ≡ left ++ option_to_list last → IsSome last → left ≡ old
 taken_back most h old id name i n new left None x e some = absurd (true≢false (sym some))
 taken_back most h old id name i n new left (Some p) x e some =
-    let both : left ++ p ∷ [] ≡ old ++ (id, begun name x.2.version) ∷ [] = sym e ∙ x.2.added in
-    (same_from_push left old p (id, begun name x.2.version) both).0
+    let both : left ++ p ∷ [] ≡ old ++ (id, new_record name x.2.version) ∷ [] = sym e ∙ x.2.added in
+    (same_from_push left old p (id, new_record name x.2.version) both).0
 
 -- and so the opening is refused for want of memory
 pub open_refused : (most : ℕ) (h : Holdings) (old : Records) (id : ℕ) (name : List (List ℕ)) (i : ℕ) (n : List (List ℕ)) (new left : Records)

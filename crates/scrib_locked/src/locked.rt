@@ -87,8 +87,8 @@ pub fn connect_locked(shard: &Shard, id: u32) -> Result<Pass, Refusal>
     }
 }
 
-/// The least place of a receipt that doesn't stand in the log of the conversation: its event isn't the entry there. None
-/// stands where no conversation of the id is open.
+/// The least place of a receipt that doesn't stand in the log of the conversation: its event isn't the entry there.
+/// None stands where no conversation of the id is open.
 pub fn stands_locked(shard: &Shard, id: u32, receipts: &[Receipt]) -> Option<usize>
     ensures { IsLeastStray (log_at shard.now.records id) receipts.now result }
 {

@@ -14,8 +14,8 @@ pub struct Receipt {
     pub event: Event,
 }
 
-/// The right to note events of one conversation. A pass has a receipt of each event that was noted by it, oldest first, so
-/// that their places rise. It can't be cloned. Contracts see the conversation and the receipts.
+/// The right to note events of one conversation. A pass has a receipt of each event that was noted by it, oldest
+/// first, so that their places rise. It can't be cloned. Contracts see the conversation and the receipts.
 #[derive(Drop)]
 pub struct Pass {
     pub(crate) conversation: u32,

@@ -15,8 +15,8 @@ use scrib_types::profile::Profile;
 use scrib_types::protocol::Protocol;
 use std::alloc::Global;
 
-/// The protocol, once its type has a projection on each of its roles under the profile. They are tried in the order in which they
-/// are declared.
+/// The protocol, once its type has a projection on each of its roles under the profile. They are tried in the order in
+/// which they are declared.
 ///
 /// # Errors
 /// `Unmergeable` exactly where some role has no projection, with the first such role and the place that `project`

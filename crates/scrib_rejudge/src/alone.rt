@@ -6,7 +6,8 @@ use scrib_locked::sweep::Swept;
 use scrib_shards::service::Service;
 use std::alloc::AllocError;
 
-/// Brings every verdict up to date, and tells how many turns were made, and of how many conversations. It takes no lock.
+/// Brings every verdict up to date, and tells how many turns were made, and of how many conversations. It takes no
+/// lock.
 ///
 /// # Errors
 /// `AllocError` where memory was refused. Each turn that was made before stays, and conversations may be out of date.

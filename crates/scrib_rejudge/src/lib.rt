@@ -1,5 +1,5 @@
-//! Sweeps, by which verdicts that are out of date are brought up to date: by workers, by one thread that has the service
-//! alone, and where notices ask for them.
+//! Sweeps, by which verdicts that are out of date are brought up to date: by workers, by one thread that has the
+//! service alone, and where notices ask for them.
 #![tactic(auto)]
 
 pub mod alone;

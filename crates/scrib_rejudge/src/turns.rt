@@ -27,8 +27,8 @@ pub(crate) fn both(one: Swept, other: Swept) -> Swept
     }
 }
 
-// Gives the conversation turns, at most 4,096, until its verdict is up to date. One that was open stays open, so that only
-// memory can be refused.
+// Gives the conversation turns, at most 4,096, until its verdict is up to date. One that was open stays open, so that
+// only memory can be refused.
 fn sweep_conversation<G: Gate>(
     rt: &impl Wait,
     service: &Service,

@@ -83,9 +83,9 @@ fn run_all<R: Threads + Wait + Sync, G: Gate + Sync>(
     )
 }
 
-/// Gives each conversation whose verdict is out of date turns, at most 4,096, until it is up to date, by so many workers
-/// beside each other. Tells how many turns were made, and of how many conversations the verdict was brought up to date.
-/// The gate is called in each turn. Where no thread can be started, the calling one does a worker's part.
+/// Gives each conversation whose verdict is out of date turns, at most 4,096, until it is up to date, by so many
+/// workers beside each other. Tells how many turns were made, and of how many conversations the verdict was brought up
+/// to date. The gate is called in each turn. Where no thread can be started, the calling one does a worker's part.
 ///
 /// # Errors
 /// `BadWorkers` exactly where there are to be no workers or more than 16; `OutOfMemory` where memory was refused. The

@@ -8,8 +8,8 @@ use scrib_types::event::Told;
 use scrib_types::text::{push_bytes, push_number};
 use std::alloc::{AllocError, Global};
 
-/// The line of what is told of the conversation of this id after a turn or a question, as `3 permitted`, in ASCII bytes,
-/// without a line feed.
+/// The line of what is told of the conversation of this id after a turn or a question, as `3 permitted`, in ASCII
+/// bytes, without a line feed.
 ///
 /// # Errors
 /// `AllocError` where memory for the text was refused.

@@ -130,8 +130,9 @@ fn push_json_total(out: &mut Vec<u8>, conversations: usize, events: u128) -> Res
     push_count(out, events, b"}\n")
 }
 
-/// The table of settled conversations as lines of JSON: for each conversation, in the order of the list, what `json` gives
-/// as the reply to a question about it, and last `{"conversations":2,"events":2000}`. Each line is ended by a line feed.
+/// The table of settled conversations as lines of JSON: for each conversation, in the order of the list, what `json`
+/// gives as the reply to a question about it, and last `{"conversations":2,"events":2000}`. Each line is ended by a
+/// line feed.
 ///
 /// # Errors
 /// `AllocError` where memory for the text was refused.

@@ -1,9 +1,9 @@
-//! Runs worked examples. Each has a title line that begins with `== `, a line with a command of `scribmon` and
-//! its words (`watch`, `judge`, `explain 1`, `project demo.Hello A`, `machine demo.Hello A`), and the script or the module texts
-//! of the command. What such a command writes where receptions merge is told too, where it is something else. After the
-//! word `files` stands a command as the program takes it, with files of the folder that this is
-//! run in, and behind it standard input. The output is each title with what the command writes, and after `files` what
-//! standard error is told, and the exit status.
+//! Runs worked examples. Each has a title line that begins with `== `, a line with a command of `scribmon` and its
+//! words (`watch`, `judge`, `explain 1`, `project demo.Hello A`, `machine demo.Hello A`), and the script or the module
+//! texts of the command. What such a command writes where receptions merge is told too, where it is something else.
+//! After the word `files` stands a command as the program takes it, with files of the folder that this is run in, and
+//! behind it standard input. The output is each title with what the command writes, and after `files` what standard
+//! error is told, and the exit status.
 #![tactic(auto)]
 
 mod beside;
@@ -142,8 +142,8 @@ fn behind<'a, 'b>(word: &str, words: &'a [&'b str]) -> (bool, &'a [&'b str]) {
     }
 }
 
-// What `run` answers over the files that these words name, behind the numbers of shards and of workers, and `--json` and
-// `--progress` where they stand.
+// What `run` answers over the files that these words name, behind the numbers of shards and of workers, and `--json`
+// and `--progress` where they stand.
 fn run_over_service<R: Print + Files + Threads + Wait + AllocGlobal + Sync, W: Write>(
     rt: &R,
     words: &[&str],

@@ -50,8 +50,8 @@ fn judged_whole(alloc: Global, core: &Core, id: u32) -> Result<Vec<u8>, AllocErr
     verdict(alloc, &Told::Judged(judged))
 }
 
-/// Makes the steps of the script, and tells how many verdicts came that weren't out of date, and of how many the text is
-/// that of the judgement of the whole log.
+/// Makes the steps of the script, and tells how many verdicts came that weren't out of date, and of how many the text
+/// is that of the judgement of the whole log.
 pub(crate) fn tell_judgements<W: Write>(
     alloc: Global,
     script: &[u8],

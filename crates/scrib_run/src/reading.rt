@@ -13,8 +13,8 @@ use std::sync::Wait;
 // How many bytes of a script are read at once.
 const PIECE_BYTES: usize = 65_536;
 
-/// Carries out the script that the reader gives, over the connection, which has the lines of the answers then. The events
-/// that it notes are counted.
+/// Carries out the script that the reader gives, over the connection, which has the lines of the answers then. The
+/// events that it notes are counted.
 ///
 /// # Errors
 /// The lines before are the connection's.

@@ -23,12 +23,13 @@ use std::marker::Send;
 use std::sync::Wait;
 use std::thread::Threads;
 
-/// Runs scripts over one new service, by these options. First the setup script is carried out, and its lines are written.
-/// Then each connection script is, on a thread of its own and over passes of its own, while workers bring verdicts up to
-/// date that edits put out of date. When all have ended, a last sweep brings every verdict up to date and the service is
-/// settled. Then for each connection, in order, the line `connection 1` with its number is written, and its lines; and
-/// at last the table of all conversations. A connection whose reader failed has `read fault` as its last line. In JSON
-/// these lines are `{"connection":1}`, `{"fault":"read"}`, and a line for each conversation and for their number.
+/// Runs scripts over one new service, by these options. First the setup script is carried out, and its lines are
+/// written. Then each connection script is, on a thread of its own and over passes of its own, while workers bring
+/// verdicts up to date that edits put out of date. When all have ended, a last sweep brings every verdict up to date
+/// and the service is settled. Then for each connection, in order, the line `connection 1` with its number is written,
+/// and its lines; and at last the table of all conversations. A connection whose reader failed has `read fault` as its
+/// last line. In JSON these lines are `{"connection":1}`, `{"fault":"read"}`, and a line for each conversation and for
+/// their number.
 ///
 /// # Errors
 /// What was written by then is a beginning of the output.

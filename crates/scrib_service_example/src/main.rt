@@ -1,5 +1,5 @@
-//! A service in use. Two threads note what the roles of one conversation do, each by a pass of its own; then the service
-//! is settled, and the table of its conversations is printed.
+//! A service in use. Two threads note what the roles of one conversation do, each by a pass of its own; then the
+//! service is settled, and the table of its conversations is printed.
 #![tactic(auto)]
 
 mod fault;

@@ -1,7 +1,7 @@
 //! Notes events in many threads. Its words are a task and numbers:
 //!
-//! - `settle THREADS SHARDS NOTES`: so many threads note so many events in all, each in conversations of its own, and the
-//!   service is settled; prints the table.
+//! - `settle THREADS SHARDS NOTES`: so many threads note so many events in all, each in conversations of its own, and
+//!   the service is settled; prints the table.
 //! - `notes THREADS SHARDS NOTES`: the same without settling; prints how many events were noted.
 //! - `edited THREADS SHARDS NOTES`: as `notes`, beside a further thread that puts a module without pause.
 //! - `apply NOTES`: so many events by a core, on one thread, without locks and passes; prints how many.

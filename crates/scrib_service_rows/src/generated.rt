@@ -148,8 +148,8 @@ fn by_core(alloc: Global, steps: &[Step]) -> Result<Vec<u8>, RowsFault> {
     Ok(lines)
 }
 
-/// Tells how many steps there were in all lists under the profile, in how many lists a service of so many shards answered as a core does,
-/// byte for byte, and what no reply told of that some should.
+/// Tells how many steps there were in all lists under the profile, in how many lists a service of so many shards
+/// answered as a core does, byte for byte, and what no reply told of that some should.
 pub(crate) fn push_generated(
     rt: &impl Wait,
     alloc: Global,

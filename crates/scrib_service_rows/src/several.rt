@@ -10,8 +10,8 @@ use scrib_types::text::{push_bytes, push_number};
 use std::alloc::Global;
 use std::sync::Wait;
 
-/// Opens conversations of the first of so many shards until one is refused, and tells how many are open, the id that was
-/// refused, and why.
+/// Opens conversations of the first of so many shards until one is refused, and tells how many are open, the id that
+/// was refused, and why.
 pub(crate) fn push_full_shard(
     rt: &impl Wait,
     alloc: Global,

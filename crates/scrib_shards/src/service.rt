@@ -31,9 +31,9 @@ pub enum ServiceFault {
     OutOfMemory,
 }
 
-/// A library behind a lock for reading and writing, and 1 to 64 shards, each behind a lock of its own. An edit takes the
-/// library's lock for writing; each other call takes it for reading, where it needs the library, and then the lock of
-/// its conversation's shard, whose number is the id modulo the number of shards.
+/// A library behind a lock for reading and writing, and 1 to 64 shards, each behind a lock of its own. An edit takes
+/// the library's lock for writing; each other call takes it for reading, where it needs the library, and then the lock
+/// of its conversation's shard, whose number is the id modulo the number of shards.
 #[derive(Drop)]
 pub struct Service {
     pub(crate) alloc: Global,
@@ -48,8 +48,8 @@ pub struct Service {
 }
 
 impl Service {
-    /// A service of so many shards, without modules and conversations. All shards together may have 65,536 conversations,
-    /// each the same number.
+    /// A service of so many shards, without modules and conversations. All shards together may have 65,536
+    /// conversations, each the same number.
     ///
     /// # Errors
     /// `BadShards` exactly where there are to be none or more than 64; `OutOfMemory` where memory was refused.
@@ -128,9 +128,8 @@ impl Service {
 
     /// Opens a conversation of the protocol.
     ///
-    /// # Errors
-    /// `AlreadyOpen`, `UnknownProtocol`, `TooManyConversations` where its shard is full, or `OutOfMemory`, the first that
-    /// is due. Nothing changes.
+    /// # Errors `AlreadyOpen`, `UnknownProtocol`, `TooManyConversations` where its shard is full, or `OutOfMemory`,
+    /// the first that is due. Nothing changes.
     pub fn open(&self, rt: &impl Wait, id: u32, name: &Dotted) -> Result<(), Refusal>
         ensures ok { OnOk result (IsOpenedSome id name.now) }
         ensures fault { IfErr result (OpenFailsSome id name.now) }
@@ -154,13 +153,12 @@ impl Service {
         connect_locked(&shard, id)
     }
 
-    /// Notes the event in the pass's conversation, of which the pass then has the receipt. Where a verdict is told, it is
-    /// that on a log of as many events as the place says, which ends with the event and has the newest earlier receipt at
-    /// its place.
+    /// Notes the event in the pass's conversation, of which the pass then has the receipt. Where a verdict is told, it
+    /// is that on a log of as many events as the place says, which ends with the event and has the newest earlier
+    /// receipt at its place.
     ///
-    /// # Errors
-    /// `Mismatch` where the newest receipt doesn't stand at its place, else `NoConversation`, `LogFull` or `OutOfMemory`,
-    /// the first that is due. Nothing changes, nor does the pass.
+    /// # Errors `Mismatch` where the newest receipt doesn't stand at its place, else `NoConversation`, `LogFull` or
+    /// `OutOfMemory`, the first that is due. Nothing changes, nor does the pass.
     pub fn note<G: Gate>(
         &self,
         rt: &impl Wait,

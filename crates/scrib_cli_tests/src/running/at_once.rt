@@ -49,7 +49,8 @@ impl Write for Count<'_> {
     }
 }
 
-// The reply to the put has 22 bytes, that to the opening 19, and each of the six others 14. The last read finds the end.
+// The reply to the put has 22 bytes, that to the opening 19, and each of the six others 14. The last read finds the
+// end.
 #[test]
 fn flushes_each_reply_before_the_next_read(rt: HostRuntime) -> Result<(), Fail> {
     let flushed = Cell::new(0usize);

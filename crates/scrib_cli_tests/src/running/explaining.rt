@@ -61,8 +61,8 @@ const EXPLAINED: [(&[u8], &[u8]); 3] = [
     (CUT, b"refused NoConversation\n"),
 ];
 
-// Fails read 1, then 2 and so on, or each write and flush, until no call fails. After a failing read nothing was written,
-// and after a failing write a beginning of what is explained.
+// Fails read 1, then 2 and so on, or each write and flush, until no call fails. After a failing read nothing was
+// written, and after a failing write a beginning of what is explained.
 fn fail_in_turn(
     rt: &impl Abort,
     alloc: Global,
