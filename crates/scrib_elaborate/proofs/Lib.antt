@@ -31,6 +31,7 @@ pub mod Moved
 mod TypesKept
 mod Slots
 mod Filing
+mod Chained
 mod Steps
 mod Joined
 mod Finished

@@ -48,7 +48,7 @@ found_by_slot ds size s k home name first n at = record {
 
 -- slots, filled one protocol after the other
 
-empty_slot : (n s : ℕ) (k : ℕ) → slice_get (replicate n None) s ≡ Some (Some k) → ⊥
+pub empty_slot : (n s : ℕ) (k : ℕ) → slice_get (replicate n None) s ≡ Some (Some k) → ⊥
 empty_slot zero s k e = cc e
 empty_slot (suc n) zero k e = cc e
 empty_slot (suc n) (suc s) k e = empty_slot n s k e
@@ -74,7 +74,7 @@ set_here (y ∷ xs) zero n o e = refl
 set_here (y ∷ xs) (suc i) n o e = set_here xs i n o e
 
 -- one of the first n, or the next
-last_or_before : (j n : ℕ) → j < n + 1 → (j < n) ⊎ (j ≡ n)
+pub last_or_before : (j n : ℕ) → j < n + 1 → (j < n) ⊎ (j ≡ n)
 last_or_before j n l = case (leb n j) refl
   where
     case : (t : Bool) → leb n j ≡ t → (j < n) ⊎ (j ≡ n)
@@ -148,7 +148,7 @@ next_declared ds size n c slots new l e t f = next_filed (shown ds) size n (decl
 
 -- the protocols of one module more
 
-get_before : {X : Type 0} (xs ys : List X) (j : ℕ) (x : X) → j < length xs → slice_get (xs ++ ys) j ≡ Some x → slice_get xs j ≡ Some x
+pub get_before : {X : Type 0} (xs ys : List X) (j : ℕ) (x : X) → j < length xs → slice_get (xs ++ ys) j ≡ Some x → slice_get xs j ≡ Some x
 get_before [] ys j x l e = absurd (omega (arith, l))
 get_before (y ∷ xs) ys zero x l e = e
 get_before (y ∷ xs) ys (suc j) x l e = get_before xs ys j x (omega (arith, l)) e

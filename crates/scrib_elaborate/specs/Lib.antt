@@ -7,6 +7,7 @@ pub mod Elaboration
 pub mod Lifting
 pub mod Renaming
 pub mod Directory
+pub mod Operators
 pub mod Sizes
 pub mod Faults
 pub mod Sound

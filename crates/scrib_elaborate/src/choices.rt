@@ -2,7 +2,6 @@
 
 ghost use Rattle.std.specs.Prelude.{◌≡◌, ◌↔◌, List, ◌∷◌, length, Option, IsTrue, IfOk, IfErr, OnOk, MatchOption, MatchResult, reverse};
 ghost use Rattle.scrib_types.specs.GlobalView.{global_of, global_branches};
-ghost use Rattle.scrib_types.specs.WellFormed.{has_operator, same_operator};
 ghost use Rattle.scrib_elaborate.specs.declared.built.Typed.{Typed};
 ghost use Rattle.scrib_elaborate.specs.declared.tasks.Task.{Task};
 ghost use Rattle.scrib_elaborate.specs.declared.tasks.Task.TheVariants.{Join};
@@ -12,18 +11,20 @@ ghost use Rattle.scrib_parser.specs.declared.tree.ModuleTree.{ModuleTree};
 ghost use Rattle.scrib_elaborate.specs.Source.{Chooses};
 ghost use Rattle.scrib_elaborate.specs.SourceView.{blocks_of};
 ghost use Rattle.scrib_elaborate.specs.Names.{Declaration};
+ghost use Rattle.scrib_elaborate.specs.Operators.{AreFiled};
 ghost use Rattle.scrib_elaborate.specs.Standing.{scope_of};
 ghost use Rattle.scrib_elaborate.specs.Typing.{type_of, made_of, AddsOrigins, IsBefore, IsState, TypingFails, StopsAhead, IsChoosing, IsFirst, IsAdded, IsHeadFault};
 
 use crate::built::{Origin, Typed};
 use crate::fault::FaultKind;
+use crate::operators::Operators;
 use crate::standing::Standing;
 use crate::stop::BrokenRule;
 use crate::tasks::{Choosing, Task};
 use crate::untyped::Untyped;
 use scrib_parser::tree::{Block, ModuleTree};
 use scrib_types::global::GlobalType;
-use scrib_types::name::{Name, Role};
+use scrib_types::name::Role;
 use scrib_types::plain::{Items, at};
 use scrib_types::shared_message::SharedMessage;
 use scrib_types::spot::Spot;
@@ -34,6 +35,7 @@ use std::alloc::{AllocError, Global};
 struct Heads<'a> {
     receiver: Option<Role>,
     branches: Items<(SharedMessage, GlobalType)>,
+    operators: Operators,
     joins: Vec<Option<Origin<'a>>>,
 }
 
@@ -147,9 +149,11 @@ fn joined<'a>(
 {
     let home = standing.within.home;
     let chooser = standing.role(given);
+    let operators = Operators::new(alloc, count_others(types.as_slice()))?;
     let mut so_far = Heads {
         receiver: None,
         branches: Items::new(alloc),
+        operators,
         joins: Vec::new(alloc),
     };
     for (block, typed) in blocks.iter().zip(types) {
@@ -159,6 +163,7 @@ fn joined<'a>(
         receiver,
         branches,
         mut joins,
+        ..
     } = so_far;
     let Some(to) = receiver else {
         return Err(broken(home, FaultKind::EmptyBranch, spot));
@@ -182,7 +187,9 @@ fn add<'a>(
     so_far: &mut Heads<'a>,
     typed: Typed<'a>,
 ) -> Result<(), Untyped<'a>>
+    requires { AreFiled so_far.old.branches so_far.old.operators.latest.items so_far.old.operators.earlier.items }
     ensures ok { OnOk result (IsAdded chooser.now so_far.old.receiver so_far.new.receiver (global_branches so_far.old.branches) (global_branches so_far.new.branches) (type_of typed.entry)) }
+    ensures filed { OnOk result (AreFiled so_far.new.branches so_far.new.operators.latest.items so_far.new.operators.earlier.items) }
     ensures joins { OnOk result (AddsOrigins so_far.old.joins.items so_far.new.joins.items typed.entry.joins.items) }
     ensures fault { IfErr result (IsHeadFault home.now spot chooser.now so_far.old.receiver (global_branches so_far.old.branches) (type_of typed.entry)) }
 {
@@ -198,10 +205,11 @@ fn add<'a>(
             if !is_first(&so_far.receiver, &to) {
                 return Err(broken(home, FaultKind::TwoReceivers, spot));
             }
-            if share_operator(so_far.branches.as_slice(), branches.as_slice()) {
+            if share_operator(so_far, branches.as_slice()) {
                 return Err(broken(home, FaultKind::SameOperator, spot));
             }
             so_far.branches.append(branches)?;
+            so_far.operators.file(so_far.branches.as_slice())?;
             so_far.receiver = Some(to);
             // The communication itself is told again for the whole choice.
             joins.pop();
@@ -227,38 +235,31 @@ fn is_first(receiver: &Option<Role>, to: &Role) -> bool
     }
 }
 
-// Whether the two have an operator in common.
-fn share_operator(
-    first: &[(SharedMessage, GlobalType)],
-    other: &[(SharedMessage, GlobalType)],
-) -> bool
-    ensures { result ≡ share_operator (global_branches first.now) (global_branches other.now) }
+// Whether these branches have an operator in common with those before them.
+fn share_operator(first: &Heads, other: &[(SharedMessage, GlobalType)]) -> bool
+    requires { AreFiled first.now.branches first.now.operators.latest.items first.now.operators.earlier.items }
+    ensures { result ≡ share_operator (global_branches first.now.branches) (global_branches other.now) }
 {
-    for (message, _) in first {
-        if has_operator(&message.get().op, other) {
+    for (message, _) in other {
+        if first
+            .operators
+            .has(&message.get().op, first.branches.as_slice())
+        {
             return true;
         }
     }
     false
 }
 
-fn has_operator(op: &Option<Name>, branches: &[(SharedMessage, GlobalType)]) -> bool
-    ensures { result ≡ has_operator op.now (global_branches branches.now) }
-{
-    for (message, _) in branches {
-        if same_operator(op, &message.get().op) {
-            return true;
+// How many branches the communications have that these types begin with, but for those of the widest one.
+fn count_others(types: &[Typed]) -> usize {
+    let mut count: usize = 0;
+    let mut most: usize = 0;
+    for typed in types {
+        if let GlobalType::Comm { branches, .. } = &typed.global {
+            count = count.saturating_add(branches.len());
+            most = most.max(branches.len());
         }
     }
-    false
-}
-
-fn same_operator(a: &Option<Name>, b: &Option<Name>) -> bool
-    ensures { result ≡ same_operator a.now b.now }
-{
-    match (a, b) {
-        (None, None) => true,
-        (Some(a), Some(b)) => a.equal(b),
-        _ => false,
-    }
+    count.saturating_sub(most)
 }

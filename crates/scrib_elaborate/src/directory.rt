@@ -44,8 +44,8 @@ pub fn slot_of(size: usize, home: &Dotted, name: &Name) -> usize
     number % size
 }
 
-// The bytes, mixed into the number, which stays below a power of two: a remainder by it costs little.
-fn mixed(so_far: usize, bytes: &[u8]) -> usize
+/// The bytes, mixed into the number, which stays below a power of two: a remainder by it costs little.
+pub fn mixed(so_far: usize, bytes: &[u8]) -> usize
     requires { so_far < 2 ^ 32 }
     ensures mixed { result ≡ spec.mixed so_far bytes.now }
     ensures within { result < 2 ^ 32 }

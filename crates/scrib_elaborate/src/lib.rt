@@ -16,6 +16,7 @@ mod known;
 mod lift;
 pub mod modules;
 mod names;
+mod operators;
 mod own_names;
 mod renamed;
 mod shape;

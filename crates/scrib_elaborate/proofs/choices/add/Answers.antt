@@ -1,9 +1,11 @@
-use Rattle.std.proofs.Common.{◌≡◌, true, false, refl, sym, ap, ◌∙◌}
+use Rattle.std.proofs.Common.{◌≡◌, true, false, length, refl, sym, ap, ◌∙◌, subst}
 use Rattle.std.proofs.lemmas.Bool.{false≢true}
 use Rattle.scrib_types.specs.GlobalView.{global_of, global_branches, end_of, var_of, rec_of, comm_of}
 use Rattle.scrib_types.specs.Trees.{Comm}
 use Rattle.scrib_elaborate.specs.Faults.{share_operator}
+use Rattle.scrib_elaborate.specs.Operators.{AreChained, AreFiled}
 use Rattle.scrib_elaborate.proofs.Branches.{branches_append}
+use Rattle.scrib_elaborate.proofs.Chained.{chained_more}
 use Rattle.scrib_elaborate.proofs.Joined.{not_first}
 use Rattle.scrib_elaborate.proofs.choices.add.Goals as goal
 
@@ -35,7 +37,7 @@ returns-then-share_operator-clause-fault c =
     let cs = global_branches c.in-Comm.branches in
     let is = ap global_of c.in-Comm.is ∙ comm_of c.in-Comm.from c.in-Comm.to c.in-Comm.branches ∙ ap (λ p. Comm p c.in-Comm.to cs) (c.equal.ensures.same.0 c.if-not-equal.false) in
     let shared : share_operator (global_branches c.args.so_far.now.branches) cs ≡ true =
-    sym (c.share_operator.ensures ∙ (λ i. share_operator (global_branches (c.as_slice.ensures i)) (global_branches (c.as_slice-in-Comm.ensures i)))) ∙ c.if-share_operator.true in
+    sym (c.share_operator.ensures ∙ ap (λ bs. share_operator (global_branches c.args.so_far.now.branches) (global_branches bs)) c.as_slice.ensures) ∙ c.if-share_operator.true in
     rw c.broken-then-share_operator.ensures (refl, refl, (c.in-Comm.to, cs, is, c.is_first.ensures.0 c.if-not-is_first.false, shared))
 
 pub returns-clause-ok : goal.returns-clause-ok
@@ -43,7 +45,7 @@ returns-clause-ok c =
     let cs = global_branches c.in-Comm.branches in
     let is = ap global_of c.in-Comm.is ∙ comm_of c.in-Comm.from c.in-Comm.to c.in-Comm.branches ∙ ap (λ p. Comm p c.in-Comm.to cs) (c.equal.ensures.same.0 c.if-not-equal.false) in
     let apart : share_operator (global_branches c.args.so_far.now.branches) cs ≡ false =
-    sym (c.share_operator.ensures ∙ (λ i. share_operator (global_branches (c.as_slice.ensures i)) (global_branches (c.as_slice-in-Comm.ensures i)))) ∙ c.if-share_operator.false in
+    sym (c.share_operator.ensures ∙ ap (λ bs. share_operator (global_branches c.args.so_far.now.branches) (global_branches bs)) c.as_slice.ensures) ∙ c.if-share_operator.false in
     record {
       receiver = c.in-Comm.to;
       branches = cs;
@@ -53,3 +55,14 @@ returns-clause-ok c =
       apart = apart;
       joined = ap global_branches c.in_ok-append-in-Comm.ensures ∙ branches_append c.args.so_far.now.branches c.in-Comm.branches;
     }
+
+pub file-requires : goal.file-requires
+file-requires c = λ some.
+    let earlier = c.args.so_far.now.operators.earlier.items in
+    let latest = c.args.so_far.now.operators.latest.items in
+    let all = c.as_slice-in-Comm.ensures ∙ c.in_ok-append-in-Comm.ensures in
+    subst (λ bs. AreChained bs (length earlier) latest earlier) (sym all) (chained_more c.args.so_far.now.branches c.in-Comm.branches latest earlier (c.requires some))
+
+pub returns-clause-filed : goal.returns-clause-filed
+returns-clause-filed c =
+    subst (λ bs. AreFiled bs c.file.new.self.latest.items c.file.new.self.earlier.items) c.as_slice-in-Comm.ensures c.in_ok-file.ensures

@@ -5,4 +5,4 @@ use Rattle.scrib_elaborate.proofs.choices.share_operator.Given as goal
 
 abbrev pub invariant-loop-message : goal.invariant-loop-message
 invariant-loop-message l =
-    share_operator (global_branches (drop l.message-index l.first)) (global_branches l.other) ≡ share_operator (global_branches l.first) (global_branches l.other)
+    share_operator (global_branches (drop l.message-index l.other)) (global_branches l.first.branches) ≡ share_operator (global_branches l.first.branches) (global_branches l.other)

@@ -1,7 +1,7 @@
 use Rattle.std.proofs.Common.{◌≡◌, drop}
 use Rattle.scrib_types.specs.GlobalView.{global_branches}
 use Rattle.scrib_types.specs.WellFormed.{has_operator}
-use Rattle.scrib_elaborate.proofs.choices.has_operator.Given as goal
+use Rattle.scrib_elaborate.proofs.operators.has_operator.Given as goal
 
 abbrev pub invariant-loop-message : goal.invariant-loop-message
 invariant-loop-message l =
