@@ -1,5 +1,5 @@
 -- Frames and their types under one recursion more.
-use Rattle.std.proofs.Common.{◌≡◌, ℕ, ◌+◌, ◌<◌, ◌≤◌, Bool, true, false, leb, List, [], ◌∷◌, map, Option, Some, if◌then◌else◌, refl, ap, ◌∙◌, subst, arith}
+use Rattle.std.proofs.Common.{◌≡◌, ℕ, ◌+◌, ◌<◌, ◌≤◌, Bool, true, false, leb, List, [], ◌∷◌, map, Option, Some, if◌then◌else◌, refl, sym, ap, ◌∙◌, subst, arith}
 use Rattle.std.proofs.lemmas.Bool.{leb-true, leb-false, le-leb}
 use Rattle.std.specs.Str.{bytes_eq}
 use Rattle.scrib_types.specs.declared.message.Message.{Message}
@@ -128,6 +128,27 @@ mutual
   lift_joins joins_none c k e = joins_none
   lift_joins (joins {cs = cs} {ds = ds} t f j g) c k e =
       joins (lift_types t c k e) (ap (lifted k) f) (lift_joins j c k e) (ap (branches_lifted k) g ∙ and_lifted k cs ds)
+
+-- where n recursions stand round a type, it has no variable of one further out
+mutual
+  pub lift_none : {ms : List ModuleTree} {n : ℕ} {fs : Frames} {g : GlobalTree} → Types ms n fs g → lifted n g ≡ g
+  lift_none ends = refl
+  lift_none (closes t) = lift_none t
+  lift_none (sends {n = n} {sc = sc} {m = m} {p = p} {qs = qs} {g = g} t f) =
+      ap (lifted n) f ∙ sent_lifted n m (role_in sc p) (map (role_in sc) qs) g ∙ ap (sent m (role_in sc p) (map (role_in sc) qs)) (lift_none t) ∙ sym f
+  lift_none (chooses {n = n} {sc = sc} {p = p} {q = q} j some d f) =
+      ap (lifted n) f ∙ ap (Comm (role_in sc p) q) (lift_none_joins j) ∙ sym f
+  lift_none (repeats {n = n} i t l f) = ap (lifted n) f ∙ ap GlobalRec (lift_none t) ∙ sym f
+  lift_none (passes i t) = lift_none t
+  lift_none (continues {n = n} {k = level} {i = i} l m f) = ap (lifted n) f ∙ var_not n i (omega arith) ∙ sym f
+  lift_none (calls i t) = lift_none t
+
+  pub lift_none_joins : {ms : List ModuleTree} {n : ℕ} {sc : Scope} {bs : Blocks} {fs : Frames} {p q : List ℕ} {cs : GlobalBranches} → JoinsTo ms n sc bs fs p q cs → branches_lifted n cs ≡ cs
+  lift_none_joins joins_none = refl
+  lift_none_joins (joins {n = n} {p = p} {q = q} {cs = cs} {ds = ds} t f j g) =
+      let whole : lifted n (Comm p q cs) ≡ Comm p q cs = subst (λ x. lifted n x ≡ x) f (lift_none t) in
+      let first : branches_lifted n cs ≡ cs = cc whole in
+      ap (branches_lifted n) g ∙ and_lifted n cs ds ∙ (λ i. and_branches (first i) (lift_none_joins j i)) ∙ sym g
 
 -- levels below c stay
 

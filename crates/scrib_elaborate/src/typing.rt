@@ -12,7 +12,8 @@ ghost use Rattle.scrib_elaborate.specs.Source.{Sends, Chooses, Repeats, Continue
 ghost use Rattle.scrib_elaborate.specs.SourceView.{step_of, body_of};
 ghost use Rattle.scrib_elaborate.specs.Names.{Declaration, declarations, called};
 ghost use Rattle.scrib_elaborate.specs.Statements.{KeepsRules};
-ghost use Rattle.scrib_elaborate.specs.Elaboration.{role_in, sent, start_of};
+ghost use Rattle.scrib_elaborate.specs.Elaboration.{Frames, Types, role_in, sent, start_of};
+ghost use Rattle.scrib_elaborate.specs.Lifting.{lifted};
 ghost use Rattle.scrib_elaborate.specs.Table.{shown, declaration_of};
 ghost use Rattle.scrib_elaborate.specs.Shape.{IsShapeOf};
 ghost use Rattle.scrib_elaborate.specs.Standing.{scope_of};
@@ -74,13 +75,26 @@ fn repeat<'a>(
 {
     if continues_in(name, body) {
         let inside = standing.inside(alloc, name)?;
-        let follows = typed.lifted(alloc)?;
+        let follows = deeper(alloc, standing.depth, typed)?;
         tasks.push(Task::Close(standing.within.home, spot))?;
         tasks.push(Task::Front(inside, body))?;
         return Ok(follows);
     }
     tasks.push(Task::Front(standing, body))?;
     Ok(typed)
+}
+
+// The type under one recursion more, round which so many stand. Where none does, it has no variable of one, and stays
+// as it is.
+fn deeper<'a>(alloc: Global, depth: u32, typed: Typed<'a>) -> Result<Typed<'a>, Refused>
+    ensures global { (modules : List ModuleTree) (frames : Frames) → Types modules depth frames (type_of typed.entry)
+        → IfOk result (λ t. type_of t ≡ lifted 0 (type_of typed.entry)) }
+    ensures joins { IfOk result (λ t. t.joins.items ≡ typed.entry.joins.items) }
+{
+    if depth == 0 {
+        return Ok(typed);
+    }
+    typed.lifted(alloc)
 }
 
 // Enters a called protocol, where what follows the call has this type, unless the call adds nothing to it, or the

@@ -65,4 +65,4 @@ file-requires c = λ some.
 
 pub returns-clause-filed : goal.returns-clause-filed
 returns-clause-filed c =
-    subst (λ bs. AreFiled bs c.file.new.self.latest.items c.file.new.self.earlier.items) c.as_slice-in-Comm.ensures c.in_ok-file.ensures
+    subst (λ bs. AreFiled bs c.file.new.self.latest.items c.file.new.self.earlier.items) c.as_slice-in-Comm.ensures c.in_ok-file-in-Comm.ensures

@@ -19,7 +19,7 @@ use Rattle.scrib_elaborate.proofs.choices.joined.Goals as goal
 
 pub returns-in_err-add : goal.returns-in_err-add
 returns-in_err-add c = λ modules root tasks follows x long.
-    let p = err_from_is_err_and c.from_residual.result c.from_residual.ensures.1 in
+    let p = err_from_is_err_and c.from_residual-in_err-add.result c.from_residual-in_err-add.ensures.1 in
     let standing = c.args.standing.now in
     let begun = c.into_iter-block-iterator.result in
     let same = c.into_iter-block-iterator.ensures.into_iter_gives in
