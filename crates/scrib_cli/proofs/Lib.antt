@@ -1,3 +1,4 @@
+pub mod Faults
 pub mod Writes
 pub mod Running
 pub mod Tellings

@@ -19,14 +19,21 @@ use Rattle.scrib_script.specs.declared.item.Item.{Item}
 use Rattle.scrib_script.specs.declared.item.Item.TheVariants as item
 use Rattle.scrib_script.specs.declared.script.Script.{Script}
 use Rattle.scrib_script.specs.Scripts.{Spells, lines, steps_of, listed}
-use Rattle.scrib_script.specs.Standing.{Holds, Takes, TakesFront, EndsIn, Read}
+use Rattle.scrib_script.specs.Standing.{Holds, Takes, TakesFront, PassesLimits, EndsIn, Read}
+use Rattle.scrib_script.specs.declared.limits.Limits.{Limits}
+use Rattle.scrib_script.specs.declared.fault.SpellFault.{SpellFault}
+use Rattle.scrib_script.specs.declared.fault.SpellFault.TheVariants as spell
+use Rattle.scrib_script.specs.Limits.{of_scripts, IsWithin, IsPast}
 use Rattle.scrib_script.proofs.Places.{are_spelled}
-use Rattle.scrib_script.proofs.Reading.{read_none, read_more, read_all, read_first}
+use Rattle.scrib_script.proofs.Reading.{read_none, read_more, read_all, read_first, read_past}
+use Rattle.scrib_cli.specs.declared.fault.ScriptFault.{ScriptFault}
+use Rattle.scrib_cli.specs.declared.fault.ScriptFault.TheVariants as fault
+use Rattle.scrib_cli.specs.Faults.{fault_of}
 use Rattle.scrib_cli.specs.declared.run.Run.{Run}
 use Rattle.scrib_cli.specs.declared.telling.Telling.{Telling}
 use Rattle.scrib_cli.specs.declared.telling.Telling.TheVariants.{Printed, Silent}
 use Rattle.scrib_cli.specs.Scripts.{IsOutput, AppendsPart, written, bad_line, end_of_text, reply_format, reply_text}
-use Rattle.scrib_cli.specs.Progress.{Whole, Short, FailedOn, Ran, RanShort, Came, IsNew, Went, Stopped, Ended, Failed, Does, IsTold, IsPartTold, said, told, output_format, told_reply, told_bad_line, told_end, GoesOn}
+use Rattle.scrib_cli.specs.Progress.{Whole, Short, FailedOn, Ran, RanShort, Came, IsNew, Went, Stopped, StoppedPast, Ended, Failed, Does, IsTold, IsPartTold, said, told, output_format, told_reply, told_bad_line, told_end, GoesOn}
 use Rattle.scrib_cli.proofs.Writes.{appends_none, appends_more, appends_kept, consumes_none, consumes_more, consumes_kept}
 
 -- memory may be refused at any step
@@ -127,7 +134,7 @@ telt_more t items i w v replies rs x out answered on is d = record {
 
 -- a run that came so far, one item further
 came_told : (t : Telling) (old new : Run) (seen more : List ℕ) (i : Item) (w0 w w' : Option (List ℕ)) → (c : Came t old seen w0 w) → new.telling ≡ old.telling
-    → Read new.script (seen ++ more) (c.items ++ i ∷ []) → IsTold t i (state_of old.core) (state_of new.core) w w' → Came t new (seen ++ more) w0 w'
+    → Read of_scripts new.script (seen ++ more) (c.items ++ i ∷ []) → IsTold t i (state_of old.core) (state_of new.core) w w' → Came t new (seen ++ more) w0 w'
 came_told t old new seen more i w0 w w' c telling read it =
     let x = told t c.items c.replies in
     let telt = telt_more t c.items i (state_of old.core) (state_of new.core) c.replies it.0 x it.1 c.answered c.goes_on refl it.2 in
@@ -175,7 +182,7 @@ short_first Silent input part items rest v out end h e spelled = none_before par
 -- a run that came so far failed, and told nothing more
 failed_came : (t : Telling) (run : Run) (seen : List ℕ) (w0 w : Option (List ℕ)) → Came t run seen w0 w → (more : List ℕ) → FailedOn t (seen ++ more) w0 w
 failed_came t run seen w0 w c more =
-    let p = read_first run.script seen c.items c.read more in
+    let p = read_first of_scripts run.script seen c.items c.read more in
     let out = told t c.items c.replies in (
       out,
       short_first t (seen ++ more) out c.items p.0 (state_of run.core) out [] (record { replies = c.replies; answered = c.answered; goes_on = c.goes_on; is = refl }) (sym (append-nil out)) p.1,
@@ -198,13 +205,13 @@ failed_item t old seen more i rest w0 w w' c spelled (inr q) =
     )
 
 -- a run before its first byte
-pub is_new : (t : Telling) (run : Run) → run.telling ≡ t → Holds run.script None [] → run.script.lines ≡ 0 → state_of run.core ≡ initial → IsNew t run
-is_new t run telling holds no_lines no_state = record {
+pub is_new : (t : Telling) (run : Run) → run.telling ≡ t → Holds run.script None [] → run.script.lines ≡ 0 → run.script.bytes ≡ 0 → run.script.limits ≡ of_scripts → state_of run.core ≡ initial → IsNew t run
+is_new t run telling holds no_lines no_bytes limits no_state = record {
   came = λ w. record {
     telling = telling;
     items = [];
     replies = [];
-    read = read_none run.script holds no_lines;
+    read = read_none of_scripts run.script holds no_lines no_bytes limits;
     answered = no_state;
     goes_on = All-nil (GoesOn t);
     appends = subst (λ (u : List ℕ). Appends w w u) (said_none t) (appends_none w);
@@ -233,7 +240,7 @@ Carried t (Some i) w v was now = IsTold t i w v was now
 came_listed : (t : Telling) (old new : Run) (seen front : List ℕ) (o : Option Item) (w0 w w' : Option (List ℕ)) → Came t old seen w0 w → new.telling ≡ old.telling
     → Takes old.script new.script front (listed o) → Carried t o (state_of old.core) (state_of new.core) w w' → Came t new (seen ++ front) w0 w'
 came_listed t old new seen front None w0 w w' c telling takes carried =
-    let read = subst (λ (items : List Item). Read new.script (seen ++ front) items) (append-nil c.items) (read_more old.script new.script seen front c.items [] c.read takes) in
+    let read = subst (λ (items : List Item). Read of_scripts new.script (seen ++ front) items) (append-nil c.items) (read_more of_scripts old.script new.script seen front c.items [] c.read takes) in
     record {
       telling = telling ∙ c.telling;
       items = c.items;
@@ -244,7 +251,7 @@ came_listed t old new seen front None w0 w w' c telling takes carried =
       appends = subst (λ (u : Option (List ℕ)). Appends w0 u (told t c.items c.replies)) (sym carried.1) c.appends;
     }
 came_listed t old new seen front (Some i) w0 w w' c telling takes carried =
-    came_told t old new seen front i w0 w w' c telling (read_more old.script new.script seen front c.items (i ∷ []) c.read takes) carried
+    came_told t old new seen front i w0 w w' c telling (read_more of_scripts old.script new.script seen front c.items (i ∷ []) c.read takes) carried
 
 pub took_item : (old mid new : Run) (piece rest after : List ℕ) (o : Option Item) (w0 w1 w2 : Option (List ℕ)) → Took old mid piece rest w0 w1 → new.telling ≡ mid.telling
     → TakesFront mid.script new.script rest after (listed o) → Carried mid.telling o (state_of mid.core) (state_of new.core) w1 w2 → Took old new piece after w0 w2
@@ -292,19 +299,57 @@ stopped_item old mid script piece rest after i w0 w1 w2 k takes part = record {
       let d = k.went.goes t seen v c in
       let here = subst (λ (m : Telling). IsPartTold m i (state_of mid.core) w1 w2) d.telling part in
       let so_far = seen ++ k.done in
-      let read = read_more mid.script script (seen ++ k.done) takes.0 d.items (i ∷ []) d.read takes.2 in
-      let p = read_first script ((seen ++ k.done) ++ takes.0) (d.items ++ i ∷ []) read (after ++ more) in
+      let read = read_more of_scripts mid.script script (seen ++ k.done) takes.0 d.items (i ∷ []) d.read takes.2 in
+      let p = read_first of_scripts script ((seen ++ k.done) ++ takes.0) (d.items ++ i ∷ []) read (after ++ more) in
       let bytes : (so_far ++ takes.0) ++ (after ++ more) ≡ so_far ++ (rest ++ more) = ahead so_far takes.0 after more rest takes.1 in
       let spelled = subst (λ (u : List ℕ). Spells 1 None (lines u) ((d.items ++ i ∷ []) ++ p.0)) bytes p.1 in
       subst (λ (u : List ℕ). FailedOn t u v w2) (ahead seen k.done rest more piece k.is)
       (failed_item t mid so_far (rest ++ more) i p.0 v w1 w2 d spelled here);
 }
 
+-- a fault of reading a script that is told as the reader's
+pub limit_told : (e : SpellFault) (f : ScriptFault) → f ≡ fault_of e → f ≡ fault.Read → e ≡ spell.TooLong
+limit_told spell.TooLong f is read = refl
+limit_told spell.OutOfMemory f is read = let same : fault.OutOfMemory ≡ fault.Read = sym is ∙ read in cc
+
+-- and one that isn't
+pub not_limit : (e : SpellFault) (f : ScriptFault) → f ≡ fault_of e → e ≡ spell.OutOfMemory → f ≢ fault.Read
+not_limit e f is other = λ read. let same : spell.OutOfMemory ≡ spell.TooLong = sym other ∙ limit_told e f is read in cc
+
+-- it stopped at the limits
+pub stopped_past : (old mid : Run) (piece rest : List ℕ) (w0 w : Option (List ℕ)) → Took old mid piece rest w0 w → PassesLimits mid.script rest → StoppedPast old piece w0 w
+stopped_past old mid piece rest w0 w k passes = record {
+  so = λ t seen v c.
+      let d = k.went.goes t seen v c in
+      let so_far = seen ++ k.done in
+      let before = passes.before in
+      let p = read_past of_scripts mid.script (seen ++ k.done) rest d.items d.read passes in
+      let here = append_assoc seen k.done before.0 in
+      let came : Came t (record mid { script = passes.mid }) ((seen ++ k.done) ++ before.0) v w = record {
+        telling = d.telling;
+        items = d.items;
+        replies = d.replies;
+        read = p.0;
+        answered = d.answered;
+        goes_on = d.goes_on;
+        appends = d.appends;
+      } in (
+        record mid { script = passes.mid },
+        k.done ++ before.0,
+        passes.line,
+        passes.rest,
+        k.is ∙ ap (λ (u : List ℕ). k.done ++ u) before.1 ∙ sym (append_assoc k.done before.0 (passes.line ++ passes.rest)),
+        passes.first,
+        subst (λ (u : List ℕ). Came t (record mid { script = passes.mid }) u v w) here came,
+        subst (λ (u : List ℕ). IsPast of_scripts (u ++ passes.line)) here p.1,
+      );
+}
+
 -- the end: nothing more is spelled
 pub ended_none : (run : Run) (o : Option Item) (w : Option (List ℕ)) → o ≡ None → EndsIn run.script (listed o) → Ended run (state_of run.core) w w
 ended_none run o w none ends = record {
   so = λ t seen w0 c.
-      let all = read_all run.script seen c.items [] c.read (subst (λ (x : Option Item). EndsIn run.script (listed x)) none ends) in (
+      let all = read_all of_scripts run.script seen c.items [] c.read (subst (λ (x : Option Item). EndsIn run.script (listed x)) none ends) in (
         told t c.items c.replies,
         record {
           items = c.items;
@@ -315,6 +360,7 @@ ended_none run o w none ends = record {
           is = refl;
         },
         c.appends,
+        c.read.within,
       );
 }
 
@@ -329,12 +375,13 @@ ended_item run i v w w' ends it = record {
         record {
           items = c.items ++ i ∷ [];
           replies = telt.replies;
-          spelled = read_all run.script seen c.items (i ∷ []) c.read ends;
+          spelled = read_all of_scripts run.script seen c.items (i ∷ []) c.read ends;
           answered = telt.answered;
           goes_on = telt.goes_on;
           is = telt.is;
         },
         appends_more w0 w w' x here.1 c.appends here.3,
+        c.read.within,
       );
 }
 
@@ -343,7 +390,7 @@ pub failed_last : (run : Run) (i : Item) (w w' : Option (List ℕ)) → EndsIn r
 failed_last run i w w' ends part = record {
   so = λ t seen w0 c.
       let here = subst (λ (m : Telling). IsPartTold m i (state_of run.core) w w') c.telling part in
-      let all = read_all run.script seen c.items (i ∷ []) c.read ends in
+      let all = read_all of_scripts run.script seen c.items (i ∷ []) c.read ends in
       let at_end = subst (λ (u : List ℕ). Spells 1 None (lines u) (c.items ++ i ∷ [])) (sym (append-nil seen)) all in
       let spelled = subst (λ (items : List Item). Spells 1 None (lines (seen ++ [])) items) (sym (append-nil (c.items ++ i ∷ []))) at_end in
       subst (λ (u : List ℕ). FailedOn t u w0 w') (append-nil seen) (failed_item t run seen [] i [] w0 w w' c spelled here);
@@ -407,7 +454,13 @@ reached_end t run v None r w0 w w' h at_end ended = search rules
 reached_end t run v (Some input) None w0 w w' h at_end ended = absurd h.read
 reached_end t run v (Some input) (Some left) w0 w w' h at_end ended =
     let p = ended.so t h.seen w0 h.came in
-    (p.0, subst (λ (u : List ℕ). Whole t u v p.0) (at_end_is input h.seen left h.read at_end) p.1, p.2)
+    let all : h.seen ≡ input = at_end_is input h.seen left h.read at_end in
+    (p.0, subst (λ (u : List ℕ). Whole t u v p.0) all p.1, p.2, subst (λ (u : List ℕ). IsWithin of_scripts u) all p.3)
+
+-- what was run is within the limits
+pub ran_within : (t : Telling) (r : Option (List ℕ)) (v : State) (was now : Option (List ℕ)) → Ran t r v was now → IfSome r (λ input. IsWithin of_scripts input)
+ran_within t None v was now h = search rules
+ran_within t (Some input) v was now h = h.3
 
 -- the end failed
 pub end_failed : (t : Telling) (run : Run) (r0 r w0 w w' : Option (List ℕ)) → Reaches t run r0 r w0 w → IsAtEnd r → Failed run w w' → RanShort t r0 w0 w'

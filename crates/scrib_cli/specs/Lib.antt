@@ -5,3 +5,4 @@ pub mod Checks
 pub mod Projections
 pub mod ProjectionSteps
 pub mod Commands
+pub mod Faults

@@ -13,6 +13,7 @@ use Rattle.scrib_script.specs.declared.format.Format.TheVariants as format
 use Rattle.scrib_script.specs.declared.item.Item.{Item}
 use Rattle.scrib_script.specs.declared.item.Item.TheVariants as item
 use Rattle.scrib_script.specs.Scripts.{Spells, lines, steps_of}
+use Rattle.scrib_script.specs.Limits.{of_scripts, IsWithin, IsPast}
 use Rattle.scrib_script.specs.Standing.{Read}
 use Rattle.scrib_cli.specs.declared.run.Run.{Run}
 use Rattle.scrib_cli.specs.declared.telling.Telling.{Telling}
@@ -76,9 +77,9 @@ Short Silent input part = part ≡ []
 abbrev pub FailedOn : Telling → List ℕ → Option (List ℕ) → Option (List ℕ) → Type 0
 FailedOn t input was now = (part : List ℕ) × Short t input part × Appends was now part
 
--- a whole script was run, and the world after it
+-- a whole script, which is within the limits, was run, and the world after it
 abbrev pub Ran : Telling → Option (List ℕ) → State → Option (List ℕ) → Option (List ℕ) → Type 0
-Ran t r after was now = IfSome r (λ input. (output : List ℕ) × Whole t input after output × Appends was now output)
+Ran t r after was now = IfSome r (λ input. (output : List ℕ) × Whole t input after output × Appends was now output × IsWithin of_scripts input)
 
 -- a script failed to be run
 abbrev pub RanShort : Telling → Option (List ℕ) → Option (List ℕ) → Option (List ℕ) → Type 0
@@ -89,7 +90,7 @@ pub record Came (t : Telling) (run : Run) (seen : List ℕ) (was now : Option (L
   pub telling : run.telling ≡ t
   pub items : List Item
   pub replies : List Reply
-  pub read : Read run.script seen items
+  pub read : Read of_scripts run.script seen items
   pub answered : Answers initial (steps_of items) replies (state_of run.core)
   pub goes_on : All (GoesOn t) replies
   pub appends : Appends was now (told t items replies)
@@ -106,9 +107,17 @@ pub record Went (old new : Run) (bytes : List ℕ) (was now : Option (List ℕ))
 pub record Stopped (old : Run) (bytes : List ℕ) (was now : Option (List ℕ)) : Type 0 where
   pub so : (t : Telling) (seen : List ℕ) (w : Option (List ℕ)) → Came t old seen w was → (more : List ℕ) → FailedOn t (seen ++ (bytes ++ more)) w now
 
--- the run wrote all of its output, and this is the world after it
+-- The run stopped at the first line of the bytes with which the script is past the limits. What the bytes before that
+-- line spell was told, and nothing more.
+pub record StoppedPast (old : Run) (bytes : List ℕ) (was now : Option (List ℕ)) : Type 0 where
+  pub so : (t : Telling) (seen : List ℕ) (w : Option (List ℕ)) → Came t old seen w was
+      → (mid : Run) × (front : List ℕ) × (line : List ℕ) × (rest : List ℕ)
+      × (bytes ≡ front ++ (line ++ rest)) × (lines (line ++ rest) ≡ line ∷ lines rest)
+      × Came t mid (seen ++ front) w now × IsPast of_scripts (seen ++ front ++ line)
+
+-- the run wrote all of its output, the script is within the limits, and this is the world after it
 pub record Ended (old : Run) (after : State) (was now : Option (List ℕ)) : Type 0 where
-  pub so : (t : Telling) (seen : List ℕ) (w : Option (List ℕ)) → Came t old seen w was → (output : List ℕ) × Whole t seen after output × Appends w now output
+  pub so : (t : Telling) (seen : List ℕ) (w : Option (List ℕ)) → Came t old seen w was → (output : List ℕ) × Whole t seen after output × Appends w now output × IsWithin of_scripts seen
 
 -- the run failed at its end
 pub record Failed (old : Run) (was now : Option (List ℕ)) : Type 0 where

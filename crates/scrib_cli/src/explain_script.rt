@@ -1,9 +1,10 @@
 //! Explaining a conversation of a script.
 
-ghost use Rattle.std.specs.Prelude.{◌≡◌, ◌⊎◌, [], ℕ, List, IfOk, OnErr, IfSome};
+ghost use Rattle.std.specs.Prelude.{◌≡◌, ◌⊎◌, [], ℕ, List, IfOk, OnOk, OnErr, IfSome};
 ghost use Rattle.std.specs.Io.KnownBytes.{Appends};
 ghost use Rattle.scrib_cli.specs.Scripts.{AppendsPart};
 ghost use Rattle.scrib_cli.specs.Explanations.{IsExplanation};
+ghost use Rattle.scrib_script.specs.Limits.{of_scripts, IsWithin};
 ghost use Rattle.scrib_cli.specs.declared.explaining.Explained as declared;
 
 pub use crate::explaining::Explained;
@@ -40,6 +41,7 @@ pub fn explain_script<R: Read, W: Write>(
         Appends (W.contents writer.old) (W.contents writer.new) []
         ⊎ ((explained : declared.Explained) × (output : List ℕ) × IsExplanation input id explained output
         × AppendsPart (W.contents writer.old) (W.contents writer.new) output))) }
+    ensures within { OnOk result (IfSome (R.remaining reader.old) (λ input. IsWithin of_scripts input)) }
 {
     let core = run_whole(alloc, Telling::Silent, reader, writer)?;
     let (explained, text) = explanation(alloc, &core, id)?;

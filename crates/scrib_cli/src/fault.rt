@@ -44,6 +44,11 @@ impl<T: Drop> From<AllocFailed<T>> for ScriptFault {
 }
 
 impl From<SpellFault> for ScriptFault {
+    ghost use Rattle.std.specs.Prelude.{◌≡◌};
+    ghost use Rattle.scrib_cli.specs.Faults.{fault_of};
+
+    ghost from_gives = { λ e f. f ≡ fault_of e };
+
     fn from(e: SpellFault) -> ScriptFault {
         match e {
             SpellFault::TooLong => ScriptFault::Read,

@@ -1,10 +1,11 @@
 //! What is written of replies, of lines that say nothing, and of an end inside a module text, as lines of text or as
 //! JSON.
 
-ghost use Rattle.std.specs.Prelude.{◌≡◌, OnOk, OnErr, IfOk, string_bytes};
+ghost use Rattle.std.specs.Prelude.{◌≡◌, ◌≢◌, OnOk, OnErr, IfOk, IfErr, string_bytes};
 ghost use Rattle.std.specs.Io.KnownBytes.{Appends};
 ghost use Rattle.scrib_cli.specs.Scripts.{AppendsPart, bad_line, end_of_text, reply_format, reply_text};
 ghost use Rattle.scrib_cli.specs.Progress.{told_bad_line, told_end};
+ghost use Rattle.scrib_cli.specs.declared.fault.ScriptFault.TheVariants as fault;
 
 use crate::fault::ScriptFault;
 use crate::telling::Telling;
@@ -47,6 +48,7 @@ pub fn write_reply<W: Write>(
 ) -> Result<(), ScriptFault>
     ensures ok { OnOk result (Appends (W.contents writer.old) (W.contents writer.new) (reply_text format reply.now)) }
     ensures err { OnErr result (AppendsPart (W.contents writer.old) (W.contents writer.new) (reply_text format reply.now)) }
+    ensures fault { IfErr result (λ e. e ≢ fault.Read) }
 {
     let text = reply_text(alloc, reply, format)?;
     write_out(writer, text.as_slice())
@@ -74,6 +76,7 @@ fn refuse_line<W: Write>(
 ) -> Result<(), ScriptFault>
     ensures ok { OnOk result (Appends (W.contents writer.old) (W.contents writer.new) (bad_line format number)) }
     ensures err { OnErr result (AppendsPart (W.contents writer.old) (W.contents writer.new) (bad_line format number)) }
+    ensures fault { IfErr result (λ e. e ≢ fault.Read) }
 {
     let text = bad_line(alloc, number, format)?;
     write_out(writer, text.as_bytes())
@@ -88,6 +91,7 @@ pub fn tell_bad_line<W: Write>(
 ) -> Result<(), ScriptFault>
     ensures ok { OnOk result (Appends (W.contents writer.old) (W.contents writer.new) (told_bad_line telling number)) }
     ensures err { OnErr result (AppendsPart (W.contents writer.old) (W.contents writer.new) (told_bad_line telling number)) }
+    ensures fault { IfErr result (λ e. e ≢ fault.Read) }
 {
     match telling {
         Telling::Printed(format) => refuse_line(alloc, number, format, writer),
@@ -109,6 +113,7 @@ pub fn end_of_text(format: Format) -> &'static [u8]
 pub fn tell_end<W: Write>(telling: Telling, writer: &mut W) -> Result<(), ScriptFault>
     ensures ok { OnOk result (Appends (W.contents writer.old) (W.contents writer.new) (told_end telling)) }
     ensures err { OnErr result (AppendsPart (W.contents writer.old) (W.contents writer.new) (told_end telling)) }
+    ensures fault { IfErr result (λ e. e ≢ fault.Read) }
 {
     match telling {
         Telling::Printed(format) => write_out(writer, end_of_text(format)),

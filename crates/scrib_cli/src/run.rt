@@ -18,9 +18,10 @@ pub struct Run {
 }
 
 impl Run {
-    ghost use Rattle.std.specs.Prelude.{◌≡◌, OnOk, OnErr};
+    ghost use Rattle.std.specs.Prelude.{◌≡◌, ◌≢◌, IfErr, OnOk, OnErr};
     ghost use Rattle.scrib_core.specs.Held.{state_of};
-    ghost use Rattle.scrib_cli.specs.Progress.{IsNew, Went, Stopped, Ended, Failed};
+    ghost use Rattle.scrib_cli.specs.Progress.{IsNew, Went, Stopped, StoppedPast, Ended, Failed};
+    ghost use Rattle.scrib_cli.specs.declared.fault.ScriptFault.TheVariants as fault;
 
     /// A run before its first byte.
     pub fn new(alloc: Global, telling: Telling) -> Run
@@ -42,9 +43,14 @@ impl Run {
     }
 
     /// Takes the next bytes of the script in, and tells what they spell.
+    ///
+    /// # Errors
+    /// `Read` in the line of the first byte past the limits, before which all was told; `Write` and `OutOfMemory` where
+    /// what is spelled can't be told or kept.
     pub fn take_piece<W: Write>(&mut self, writer: &mut W, piece: &[u8]) -> Result<(), ScriptFault>
         ensures ok { OnOk result (Went self.old self.new piece.now (W.contents writer.old) (W.contents writer.new)) }
         ensures err { OnErr result (Stopped self.old piece.now (W.contents writer.old) (W.contents writer.new)) }
+        ensures limit { IfErr result (λ e. e ≡ fault.Read → StoppedPast self.old piece.now (W.contents writer.old) (W.contents writer.new)) }
     {
         let mut rest = piece;
         while !rest.is_empty() {
@@ -61,6 +67,7 @@ impl Run {
     pub fn finish<W: Write>(&mut self, writer: &mut W) -> Result<(), ScriptFault>
         ensures ok { OnOk result (Ended self.old (state_of self.new.core) (W.contents writer.old) (W.contents writer.new)) }
         ensures err { OnErr result (Failed self.old (W.contents writer.old) (W.contents writer.new)) }
+        ensures limit { IfErr result (λ e. e ≢ fault.Read) }
     {
         match self.script.last_item()? {
             Some(item) => tell_item(self.alloc, &mut self.core, item, self.telling, writer),

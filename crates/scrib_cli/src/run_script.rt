@@ -5,6 +5,7 @@ ghost use Rattle.std.specs.Io.KnownBytes.{Appends};
 ghost use Rattle.scrib_core.specs.Held.{state_of};
 ghost use Rattle.scrib_cli.specs.Scripts.{IsOutput, AppendsPart};
 ghost use Rattle.scrib_cli.specs.Progress.{Ran, RanShort};
+ghost use Rattle.scrib_script.specs.Limits.{of_scripts, IsWithin};
 
 pub use crate::fault::ScriptFault;
 use crate::run::Run;
@@ -41,6 +42,7 @@ pub fn run_script<R: Read, W: Write>(
         × Appends (W.contents writer.old) (W.contents writer.new) output)) }
     ensures err { OnErr result (IfSome (R.remaining reader.old) (λ input. (output : List ℕ) × IsOutput format input output
         × AppendsPart (W.contents writer.old) (W.contents writer.new) output)) }
+    ensures within { OnOk result (IfSome (R.remaining reader.old) (λ input. IsWithin of_scripts input)) }
 {
     let _core = run_whole(alloc, Telling::Printed(format), reader, writer)?;
     flush_out(writer)

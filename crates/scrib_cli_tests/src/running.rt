@@ -2,6 +2,7 @@ mod as_json;
 mod at_once;
 mod explaining;
 mod failing;
+mod limits;
 
 use scrib_cli::run_script::{Format, ScriptFault, run_script};
 use std::alloc::{AllocError, Global};

@@ -1,11 +1,11 @@
 -- Lines of exchanges, from their heads.
-use Rattle.std.proofs.Common.{◌≡◌, ◌≢◌, inr, ℕ, suc, ◌<◌, ◌≤◌, ◌-◌, Bool, true, false, ◌||◌, ◌==◌, not, List, [], ◌∷◌, ◌++◌, length, take, drop, get_or, codes, refl, sym, ap, ◌∙◌, subst, arith, rules, if◌then◌else◌}
-use Rattle.std.specs.List.{All, filter, slice_split}
+use Rattle.std.proofs.Common.{◌≡◌, inr, ℕ, suc, ◌<◌, ◌≤◌, true, false, List, [], ◌∷◌, ◌++◌, length, take, drop, get_or, codes, refl, sym, ap, ◌∙◌, subst, arith, rules, if◌then◌else◌}
+use Rattle.std.specs.List.{All, filter, onto_first, slice_split}
 use Rattle.std.specs.Char.{digit_value}
 use Rattle.std.specs.Str.Parse.{AllDigits}
 use Rattle.std.specs.Str.{bytes_eq}
 use Rattle.std.proofs.lemmas.List.Elements.{All-nil, All-cons}
-use Rattle.std.proofs.lemmas.List.Splits.{slice_split_at}
+use Rattle.std.proofs.lemmas.List.Splits.{slice_split-cons_no, slice_split_at, slice_split_none}
 use Rattle.std.proofs.lemmas.Bool.{false≢true}
 use Rattle.std.proofs.lemmas.Bool.Decides.{nat_tests}
 use Rattle.std.proofs.lemmas.Slice.Eq.{bytes_eq-Decides}
@@ -15,10 +15,11 @@ use Rattle.scrib_script.specs.declared.reader.Act.{Act}
 use Rattle.scrib_script.specs.declared.reader.Act.TheVariants as act
 use Rattle.scrib_script.specs.declared.format.Format.TheVariants as format
 use Rattle.scrib_script.specs.declared.line.Line.TheVariants as line
+use Rattle.scrib_core.specs.declared.step.Step.TheVariants as step
 use Rattle.scrib_script.specs.Fields.{fields, is_blank, has_bytes, IsNumber}
 use Rattle.scrib_script.specs.Heads.{IsHead, SpellsExchange, act_word, act_step}
 use Rattle.scrib_types.specs.Texts.{message_text}
-use Rattle.scrib_script.specs.Says.{Says}
+use Rattle.scrib_script.specs.Says.{IsSkipped, Says}
 use Rattle.scrib_script.specs.Steps.{IsExchange}
 use Rattle.scrib_script.proofs.Digits.{decimal}
 
@@ -33,6 +34,23 @@ digits-no-blank : (bytes : List ℕ) → AllDigits 10 bytes → NoBlank bytes
 digits-no-blank [] h = All-nil (λ b. is_blank b ≡ false)
 digits-no-blank (b ∷ bs) h = All-cons (λ b. is_blank b ≡ false) b bs (digit-no-blank b h.0) (digits-no-blank bs h.1)
 
+-- a first field that begins with a `#`
+hash-skipped : (pieces : List (List ℕ)) → IsSkipped (filter has_bytes (onto_first 35 pieces))
+hash-skipped [] =
+    let some : has_bytes (35 ∷ []) ≡ true = grind (arith, nat_tests) in
+    subst (λ t. IsSkipped (if t then (35 ∷ []) ∷ [] else [])) (sym some) refl
+hash-skipped (piece ∷ pieces) =
+    let some : has_bytes (35 ∷ piece) ≡ true = grind (arith, nat_tests) in
+    subst (λ t. IsSkipped (if t then (35 ∷ piece) ∷ filter has_bytes pieces else filter has_bytes pieces)) (sym some) refl
+
+-- the fields of a line that begins with a `#`
+comment-fields : (rest : List ℕ) → IsSkipped (fields (35 ∷ rest))
+unfolding fields
+comment-fields rest = subst (λ parts. IsSkipped (filter has_bytes parts)) (sym (slice_split-cons_no is_blank 35 rest refl)) (hash-skipped (slice_split is_blank rest))
+
+pub comment_skipped : (bytes rest : List ℕ) → bytes ≡ 35 ∷ rest → IsSkipped (fields bytes)
+comment_skipped bytes rest e = subst (λ text. IsSkipped (fields text)) (sym e) (comment-fields rest)
+
 -- a first field, and the fields behind the space after it
 first-field-cut : (x : ℕ) (xs rest : List ℕ) → NoBlank (x ∷ xs) → fields (x ∷ xs ++ 32 ∷ rest) ≡ (x ∷ xs) ∷ fields rest
 unfolding fields
@@ -43,6 +61,17 @@ first-field-cut x xs rest h =
 number-cut : (digits rest : List ℕ) (n : ℕ) → IsNumber digits n → fields (digits ++ 32 ∷ rest) ≡ digits ∷ fields rest
 number-cut [] rest n h = absurd (omega (arith, h.some))
 number-cut (d ∷ ds) rest n h = first-field-cut d ds rest (digits-no-blank (d ∷ ds) h.digits)
+
+-- a number is one field
+number-alone : (digits : List ℕ) (n : ℕ) → IsNumber digits n → fields digits ≡ digits ∷ []
+unfolding fields
+number-alone [] n h = absurd (omega (arith, h.some))
+number-alone (d ∷ ds) n h =
+    let some : has_bytes (d ∷ ds) ≡ true = grind (arith, nat_tests) in
+    ap (filter has_bytes) (slice_split_none is_blank (d ∷ ds) (digits-no-blank (d ∷ ds) h.digits)) ∙ ap (λ t. if t then (d ∷ ds) ∷ [] else []) some
+
+ask-no-blank : NoBlank (codes "ask")
+ask-no-blank = search rules
 
 send-no-blank : NoBlank (codes "send")
 send-no-blank = search rules
@@ -79,6 +108,17 @@ head-says bytes text act.Send id from to m h e =
 head-says bytes text act.Receive id from to m h e =
     let is = head-fields bytes text act.Receive id h in
     (h.0, (fields bytes, (refl, λ more k. apart (codes "recv") (codes "json") refl (head-of-fields _ _ _ _ (sym is ∙ k))), rw is (inr (id, h.1.2, (refl, refl, spelled-exchange text from to m e)))))
+
+-- the fields of a line that asks
+ask-fields : (digits : List ℕ) (id : ℕ) → IsNumber digits id → fields (codes "ask" ++ 32 ∷ digits) ≡ codes "ask" ∷ digits ∷ []
+ask-fields digits id h = first-field-cut 97 (codes "sk") digits ask-no-blank ∙ ap (λ fs. codes "ask" ∷ fs) (number-alone digits id h)
+
+-- a line that asks says it
+pub ask_says : (bytes digits : List ℕ) (id : ℕ) → bytes ≡ codes "ask" ++ 32 ∷ digits → IsNumber digits id → Says bytes (line.Step format.Line (step.Ask id))
+ask_says bytes digits id e h =
+    let is = ap fields e ∙ ask-fields digits id h in
+    let short : length bytes ≤ 131072 = omega (arith, ap length e, h.most) in
+    (short, (fields bytes, (refl, λ more k. apart (codes "ask") (codes "json") refl (head-of-fields _ _ _ _ (sym is ∙ k))), rw is (inr (id, h, (refl, refl, refl)))))
 
 -- a text that is cut at a space
 pub cut-at : (rest : List ℕ) (at : ℕ) → at < length rest → get_or rest at 0 ≡ 32 → rest ≡ take at rest ++ 32 ∷ drop (suc at) rest

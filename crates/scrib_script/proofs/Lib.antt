@@ -1,4 +1,4 @@
-mod Heads
+pub mod Heads
 pub mod Bytes
 pub mod Decisions
 pub mod Digits
@@ -7,5 +7,6 @@ pub mod Formats
 pub mod Pieces
 pub mod Places
 pub mod Printed
+pub mod Counting
 pub mod Reading
 pub mod Steps

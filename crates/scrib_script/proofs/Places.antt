@@ -1,5 +1,5 @@
 -- What is spelled from a place of a script on.
-use Rattle.std.proofs.Common.{◌≡◌, ◌≢◌, ◌+◌, inl, inr, ℕ, List, [], ◌∷◌, ◌++◌, ◌∙◌, Option, Some, None, take, refl, sym, ap, subst}
+use Rattle.std.proofs.Common.{◌≡◌, ◌+◌, inl, inr, ℕ, List, [], ◌∷◌, ◌++◌, Option, Some, None, take, refl, sym, subst}
 use Rattle.std.proofs.lemmas.List.{append_assoc, append-nil}
 use Rattle.scrib_core.specs.declared.step.Step.TheVariants.{Put}
 use Rattle.scrib_script.specs.Says.{Says}
@@ -7,7 +7,7 @@ use Rattle.scrib_script.specs.declared.line.Line.{Line}
 use Rattle.scrib_script.specs.declared.line.Line.TheVariants as line
 use Rattle.scrib_script.specs.declared.item.Item.{Item}
 use Rattle.scrib_script.specs.declared.item.Item.TheVariants as item
-use Rattle.scrib_script.specs.Scripts.{NoLf, Text, empty_text, with_line, Spells, ends, skips, makes, is_bad, begins, goes_on, puts, stops, lines, bare, text_end}
+use Rattle.scrib_script.specs.Scripts.{NoLf, Text, with_line, Spells, ends, skips, makes, is_bad, begins, goes_on, puts, stops, lines, bare, text_end}
 use Rattle.scrib_script.specs.Standing.{Place, SpellsFrom, Leads, spelled_of, begun, items_of}
 use Rattle.scrib_script.proofs.Decisions.{same_bytes, line_said}
 use Rattle.scrib_script.proofs.Bytes.{lines_lf, lines_last}

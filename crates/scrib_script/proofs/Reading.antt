@@ -1,5 +1,5 @@
 -- What a script keeps while it goes from one place to another.
-use Rattle.std.proofs.Common.{◌≡◌, ◌≢◌, ◌<◌, ◌≤◌, ◌+◌, ◌-◌, inl, inr, ℕ, zero, suc, Bool, true, false, List, [], ◌∷◌, ◌++◌, ◌∙◌, Option, Some, None, take, drop, get_or, length, refl, sym, ap, subst, arith, add-one, lit≤, eqb, Vec, Global, vec_len, Result, Ok, Err}
+use Rattle.std.proofs.Common.{◌≡◌, ◌≢◌, ◌<◌, ◌≤◌, ◌+◌, ◌-◌, inl, inr, ℕ, zero, suc, true, false, List, [], ◌∷◌, ◌++◌, ◌∙◌, Option, Some, None, take, drop, get_or, length, refl, sym, ap, subst, arith, add-one, lit≤, eqb, Vec, Global, vec_len, Result, Ok, Err}
 use Rattle.std.specs.Prelude.{option_map, IfOk}
 use Rattle.std.specs.Option.{is_some}
 use Rattle.std.proofs.lemmas.Bool.{eqb-true, eqb-false}
@@ -7,7 +7,6 @@ use Rattle.std.proofs.lemmas.List.{append_assoc, append-nil, take_all, length-ta
 use Rattle.std.proofs.lemmas.List.Elements.{All-nil, All-append}
 use Rattle.scrib_core.specs.declared.step.Step.TheVariants.{Put}
 use Rattle.scrib_script.specs.Says.{Says}
-use Rattle.scrib_script.specs.declared.format.Format.{Format}
 use Rattle.scrib_script.specs.declared.line.Line.{Line}
 use Rattle.scrib_script.specs.declared.line.Line.TheVariants as line
 use Rattle.scrib_script.specs.declared.item.Item.{Item}
@@ -17,8 +16,11 @@ use Rattle.scrib_script.specs.declared.spelling.Spelled.{Spelled}
 use Rattle.scrib_script.specs.declared.spelling.Spelled.TheVariants as spelled
 use Rattle.scrib_script.specs.declared.script.Script.{Script}
 use Rattle.scrib_script.specs.Scripts.{NoLf, listed, Text, empty_text, with_line, Spells, ends, goes_on, puts, stops, lines, bare, text_end}
-use Rattle.scrib_script.specs.Standing.{Place, SpellsFrom, Leads, most, cut, as_text, text_of, Holds, place, start, Takes, TakesFront, EndsIn, Read, LineEnded, spelled_of, begun, items_of, TextGives}
+use Rattle.scrib_script.specs.Standing.{Place, SpellsFrom, Leads, most, cut, as_text, text_of, Holds, place, start, Counts, Takes, TakesFront, IsPastWith, PassesLimits, EndsIn, Read, LineEnded, spelled_of, begun, items_of, TextGives}
 use Rattle.scrib_script.proofs.Bytes.{bare_last, length-bare, all_or_most, take_kept, take_kept_line, take_of_none, end_of_kept, end_is_kept, last_of_kept, last_is_kept}
+use Rattle.scrib_script.specs.declared.limits.Limits.{Limits}
+use Rattle.scrib_script.specs.Limits.{IsPast}
+use Rattle.scrib_script.proofs.Counting.{counts_none, counts_then, counts_line, first_ended, first_last, past_line, within_more}
 use Rattle.scrib_script.proofs.Places.{at, are_spelled, spells_line, spells_last, leads_none, leads_then, leads_part, leads_line}
 
 none_some : {A : Type 0} (x : A) → None ≡ Some x → ⊥
@@ -82,6 +84,7 @@ begun_kept (spelled.Item i) = refl
 -- one stretch and another
 pub takes_then : (a b c : Script) (x y : List ℕ) (i j : List Item) → Takes a b x i → Takes b c y j → Takes a c (x ++ y) (i ++ j)
 takes_then a b c x y i j f g = record {
+  counts = counts_then a b c x y f.counts g.counts;
   goes = λ text line h.
       let p = f.goes text line h in
       let q = g.goes p.0 p.1 p.2 in
@@ -89,9 +92,10 @@ takes_then a b c x y i j f g = record {
 }
 
 -- bytes of a line came
-pub takes_part : (old new : Script) (part : List ℕ) → text_of new ≡ text_of old → new.lines ≡ old.lines
+pub takes_part : (old new : Script) (part : List ℕ) → Counts old new part → text_of new ≡ text_of old → new.lines ≡ old.lines
     → (length old.line.items ≤ most (text_of old) → new.line.items ≡ take (most (text_of old)) (old.line.items ++ part)) → NoLf part → Takes old new part []
-takes_part old new part text_is lines_is line_is no_lf = record {
+takes_part old new part counts text_is lines_is line_is no_lf = record {
+  counts = counts;
   goes = λ text line h.
       let m : most (text_of old) ≡ most text = ap most h.kept_text ∙ most_map text in
       let short : length old.line.items ≤ most (text_of old) = omega (arith, ap length h.kept_line, length-take (most text) line, m) in
@@ -108,7 +112,7 @@ takes_part old new part text_is lines_is line_is no_lf = record {
 
 pub takes_same : (s : Script) (part : List ℕ) → part ≡ [] → NoLf part → Takes s s part []
 takes_same s part e no_lf =
-    takes_part s s part refl refl (λ h. sym (ap (λ (t : List ℕ). take (most (text_of s)) (s.line.items ++ t)) e ∙ ap (take (most (text_of s))) (append-nil s.line.items) ∙ take_all (most (text_of s)) s.line.items h)) no_lf
+    takes_part s s part (subst (λ (t : List ℕ). Counts s s t) (sym e) (counts_none s)) refl refl (λ h. sym (ap (λ (t : List ℕ). take (most (text_of s)) (s.line.items ++ t)) e ∙ ap (take (most (text_of s))) (append-nil s.line.items) ∙ take_all (most (text_of s)) s.line.items h)) no_lf
 
 no_items : (xs : List ℕ) → length xs ≡ 0 → xs ≡ []
 no_items [] e = refl
@@ -194,10 +198,11 @@ module _ (old : Script) (k : List ℕ) (outside : text_of old ≡ None) (empty :
       (begun s, begun_kept s, from_empty line (items_of s) (at (old.lines + 1 + 1) (begun s) []) (sym h.kept_line ∙ empty) leads)
   whole_at word says (Some t) line h = absurd (none_some (cut t) (sym outside ∙ h.kept_text))
 
-  pub takes_whole : (new : Script) (word : Line) → Says (bare (k ++ 10 ∷ [])) word
+  pub takes_whole : (new : Script) (word : Line) → Counts old new (k ++ 10 ∷ []) → Says (bare (k ++ 10 ∷ [])) word
       → text_of new ≡ begun (spelled_of (old.lines + 1) word) → new.line.items ≡ [] → new.lines ≡ old.lines + 1
       → Takes old new (k ++ 10 ∷ []) (items_of (spelled_of (old.lines + 1) word))
-  takes_whole new word says text_is line_is lines_is = record {
+  takes_whole new word counts says text_is line_is lines_is = record {
+    counts = counts;
     goes = λ text line h.
         let p = whole_at word says text line h in
         let holds : Holds new p.0 [] = record {
@@ -210,8 +215,10 @@ module _ (old : Script) (k : List ℕ) (outside : text_of old ≡ None) (empty :
 
 -- the next line begins
 pub takes_line : (old new : Script) (after : Option Text) (items : List Item) → LineEnded old after items
-    → text_of new ≡ after → new.line.items ≡ [] → new.lines ≡ old.lines + 1 → Takes old new (10 ∷ []) items
-takes_line old new after items ended text_is line_is lines_is = record {
+    → text_of new ≡ after → new.line.items ≡ [] → new.lines ≡ old.lines + 1 → new.limits ≡ old.limits → new.bytes ≡ old.bytes + 1 → new.bytes ≤ old.limits.bytes
+    → old.lines < old.limits.lines → Takes old new (10 ∷ []) items
+takes_line old new after items ended text_is line_is lines_is limits bytes few_bytes few_lines = record {
+  counts = counts_line old new [] 1 (omega arith) (All-nil (λ b. b ≢ 10)) limits bytes few_bytes few_lines lines_is;
   goes = λ text line h.
       let p = ended.goes text line h in
       let holds : Holds new p.0 [] = record {
@@ -250,6 +257,33 @@ front_line old mid new piece rest i items t within lf more =
 pub front_all : (old mid new : Script) (piece rest : List ℕ) → TakesFront old mid piece rest [] → Takes mid new rest [] → TakesFront old new piece [] []
 front_all old mid new piece rest t last =
     (t.0 ++ rest, t.1 ∙ sym (append-nil (t.0 ++ rest)), takes_then old mid new t.0 rest [] [] t.2 last)
+
+-- the limits are passed in a line that an LF ends
+pub passes_line : (old mid : Script) (piece rest : List ℕ) (i : ℕ) → TakesFront old mid piece rest [] → i < length rest → get_or rest i 0 ≡ 10 → NoLf (take i rest)
+    → IsPastWith mid (take i rest ++ 10 ∷ []) → PassesLimits old piece
+passes_line old mid piece rest i t within lf no_lf past =
+    let line = take i rest in
+    let after = drop (i + 1) rest in
+    let all : rest ≡ (take i rest ++ 10 ∷ []) ++ drop (i + 1) rest = at_lf rest i within lf ∙ sym (append_assoc line (10 ∷ []) after) in
+    record {
+      mid = mid;
+      line = take i rest ++ 10 ∷ [];
+      rest = drop (i + 1) rest;
+      before = subst (λ (x : List ℕ). TakesFront old mid piece x []) all t;
+      first = first_ended line after no_lf;
+      past = past;
+    }
+
+-- or in what comes of one
+pub passes_part : (old mid : Script) (piece rest : List ℕ) → TakesFront old mid piece rest [] → lines rest ≡ rest ∷ [] → IsPastWith mid rest → PassesLimits old piece
+passes_part old mid piece rest t one past = record {
+  mid = mid;
+  line = rest;
+  rest = [];
+  before = subst (λ (x : List ℕ). TakesFront old mid piece x []) (sym (append-nil rest)) t;
+  first = first_last rest one;
+  past = past;
+}
 
 pub slice_rest : (i : ℕ) (xs : List ℕ) → take (length xs - i) (drop i xs) ≡ drop i xs
 slice_rest i xs = take_all (length xs - i) (drop i xs) (omega (arith, length-drop i xs))
@@ -331,8 +365,12 @@ module _ (old : Script) where
   ends_put kept inside is_end = record { ends = put_at kept inside is_end }
 
 -- For those who read a script: nothing was taken in yet;
-pub read_none : (s : Script) → Holds s None [] → s.lines ≡ 0 → Read s [] []
-read_none s holds no_lines = record {
+pub read_none : (m : Limits) (s : Script) → Holds s None [] → s.lines ≡ 0 → s.bytes ≡ 0 → s.limits ≡ m → Read m s [] []
+read_none m s holds no_lines no_bytes limits = record {
+  limits = limits;
+  bytes = no_bytes;
+  ended = no_lines;
+  within = (omega arith, omega arith);
   text = None;
   line = [];
   holds = holds;
@@ -340,22 +378,31 @@ read_none s holds no_lines = record {
 }
 
 -- more was taken in;
-pub read_more : (a b : Script) (seen bytes : List ℕ) (items more : List Item) → Read a seen items → Takes a b bytes more → Read b (seen ++ bytes) (items ++ more)
-read_more a b seen bytes items more r t =
+pub read_more : (m : Limits) (a b : Script) (seen bytes : List ℕ) (items more : List Item) → Read m a seen items → Takes a b bytes more → Read m b (seen ++ bytes) (items ++ more)
+read_more m a b seen bytes items more r t =
     let p = t.goes r.text r.line r.holds in
-    record { text = p.0; line = p.1; holds = p.2; leads = leads_then start (place a r.text r.line) (place b p.0 p.1) seen bytes items more r.leads p.3 }
+    let q = within_more m a b seen bytes r.limits r.bytes r.ended r.within t.counts in
+    record { limits = q.0; bytes = q.1; ended = q.2; within = q.3; text = p.0; line = p.1; holds = p.2; leads = leads_then start (place a r.text r.line) (place b p.0 p.1) seen bytes items more r.leads p.3 }
 
 -- all was taken in, and the last item is told;
-pub read_all : (s : Script) (seen : List ℕ) (items last : List Item) → Read s seen items → EndsIn s last → Spells 1 None (lines seen) (items ++ last)
-read_all s seen items last r e =
+pub read_all : (m : Limits) (s : Script) (seen : List ℕ) (items last : List Item) → Read m s seen items → EndsIn s last → Spells 1 None (lines seen) (items ++ last)
+read_all m s seen items last r e =
     let all : SpellsFrom start (seen ++ []) (items ++ last) = r.leads [] last (e.ends r.text r.line r.holds) in
     subst (λ (u : List ℕ). Spells 1 None (lines u) (items ++ last)) (append-nil seen) all
 
 -- and whatever comes, the script spells these items first.
-pub read_first : (s : Script) (seen : List ℕ) (items : List Item) → Read s seen items → (more : List ℕ) → (rest : List Item) × Spells 1 None (lines (seen ++ more)) (items ++ rest)
-read_first s seen items r more =
+pub read_first : (m : Limits) (s : Script) (seen : List ℕ) (items : List Item) → Read m s seen items → (more : List ℕ) → (rest : List Item) × Spells 1 None (lines (seen ++ more)) (items ++ rest)
+read_first m s seen items r more =
     let p = are_spelled (lines (r.line ++ more)) (s.lines + 1) r.text in
     (p.0, r.leads more p.0 p.1)
+
+-- Where the limits are passed, what comes before the line was taken in, and with the line the script is past them.
+pub read_past : (m : Limits) (s : Script) (seen piece : List ℕ) (items : List Item) → Read m s seen items → (p : PassesLimits s piece)
+    → Read m p.mid (seen ++ p.before.0) items × IsPast m ((seen ++ p.before.0) ++ p.line)
+read_past m s seen piece items r p =
+    let t = p.before in
+    let read = subst (λ (x : List Item). Read m p.mid (seen ++ p.before.0) x) (append-nil items) (read_more m s p.mid seen t.0 items [] r t.2) in
+    (read, past_line m p.mid (seen ++ p.before.0) p.line p.rest read.limits read.bytes read.ended p.first p.past)
 
 -- For the answers of the functions: what a line that an LF ended gives,
 pub ended_text : {E : Type 0} (r : Result (Option Item × Option KeptText) E) (old : Script) (kept : Text) (l : List ℕ) → text_of old ≡ Some kept → l ≡ old.line.items
@@ -371,13 +418,18 @@ ended_line old word s after items l outside l_is said s_is after_is items_are =
     rw (after_is, items_are, s_is) (ended_outer old word outside (subst (λ (t : List ℕ). Says t word) l_is said))
 
 -- one that lies whole in its piece;
-pub passed : (old new : Script) (k : List ℕ) (word : Line) (s : Spelled) (items : List Item) (l : List ℕ) → text_of old ≡ None → old.line.items ≡ [] → NoLf k → l ≡ bare (k ++ 10 ∷ []) → Says l word
+pub passed : (old new : Script) (k : List ℕ) (word : Line) (s : Spelled) (items : List Item) (l : List ℕ) → Counts old new (k ++ 10 ∷ []) → text_of old ≡ None → old.line.items ≡ [] → NoLf k → l ≡ bare (k ++ 10 ∷ []) → Says l word
     → s ≡ spelled_of (old.lines + 1) word → text_of new ≡ begun s → items ≡ items_of s → new.line.items ≡ [] → new.lines ≡ old.lines + 1 → Takes old new (k ++ 10 ∷ []) items
-passed old new k word s items l outside empty no_lf l_is said s_is text_is items_are line_is lines_is =
+passed old new k word s items l counts outside empty no_lf l_is said s_is text_is items_are line_is lines_is =
     let text_new : text_of new ≡ begun (spelled_of (old.lines + 1) word) = text_is ∙ ap begun s_is in
     let items_new : items ≡ items_of (spelled_of (old.lines + 1) word) = items_are ∙ ap items_of s_is in
     subst (λ (x : List Item). Takes old new (k ++ 10 ∷ []) x) (sym items_new)
-    (takes_whole old k outside empty no_lf new word (subst (λ (t : List ℕ). Says t word) l_is said) text_new line_is lines_is)
+    (takes_whole old k outside empty no_lf new word counts (subst (λ (t : List ℕ). Says t word) l_is said) text_new line_is lines_is)
+
+-- a line of which a part came before;
+pub taken_then : {E : Type 0} (r : Result (Option Item) E) (a b c : Script) (x y : List ℕ) → Takes a b x [] → IfOk r (λ item. Takes b c y (listed item)) → IfOk r (λ item. Takes a c (x ++ y) (listed item))
+taken_then (Ok o) a b c x y f g = takes_then a b c x y [] (listed o) f g
+taken_then (Err e) a b c x y f g = tt
 
 -- and the last line.
 pub last_line : (old : Script) (word : Line) (s : Spelled) (items : List Item) (l : List ℕ) → text_of old ≡ None → (old.line.items ≡ [] → ⊥) → l ≡ old.line.items → Says l word

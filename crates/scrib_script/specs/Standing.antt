@@ -1,7 +1,6 @@
 -- Where a script stands that is read by pieces, and what its bytes spell on the way (this project's own).
-use Rattle.std.specs.Prelude.{◌≡◌, ◌≢◌, ℕ, ◌+◌, ◌≤◌, List, [], ◌∷◌, ◌++◌, length, take, Option, Some, None, option_map}
+use Rattle.std.specs.Prelude.{◌≡◌, ◌≢◌, ◌⊎◌, ℕ, ◌+◌, ◌≤◌, ◌<◌, List, [], ◌∷◌, ◌++◌, length, take, Option, Some, None, option_map}
 use Rattle.scrib_core.specs.declared.step.Step.TheVariants.{Put}
-use Rattle.scrib_script.specs.declared.format.Format.{Format}
 use Rattle.scrib_script.specs.declared.line.Line.{Line}
 use Rattle.scrib_script.specs.declared.line.Line.TheVariants as line
 use Rattle.scrib_script.specs.declared.item.Item.{Item}
@@ -10,7 +9,9 @@ use Rattle.scrib_script.specs.declared.keeping.KeptText.{KeptText}
 use Rattle.scrib_script.specs.declared.spelling.Spelled.{Spelled}
 use Rattle.scrib_script.specs.declared.spelling.Spelled.TheVariants as spelled
 use Rattle.scrib_script.specs.declared.script.Script.{Script}
+use Rattle.scrib_script.specs.declared.limits.Limits.{Limits}
 use Rattle.scrib_script.specs.Scripts.{NoLf, Text, empty_text, with_line, Spells, lines, bare, text_end}
+use Rattle.scrib_script.specs.Limits.{IsWithin, line_feeds}
 
 -- A place of a script: the number of the line that comes, the module text so far, if it is inside one, and what came
 -- of the line so far.
@@ -56,8 +57,17 @@ pub record Holds (s : Script) (text : Option Text) (line : List ℕ) : Type 0 wh
 abbrev pub place : Script → Option Text → List ℕ → Place
 place s text line = record { number = s.lines + 1; text = text; line = line }
 
+-- the bytes were taken in and counted, and with them the script is within its limits
+pub record Counts (old new : Script) (part : List ℕ) : Type 0 where
+  pub limits : new.limits ≡ old.limits
+  pub bytes : new.bytes ≡ old.bytes + length part
+  pub ended : new.lines ≡ old.lines + line_feeds part
+  pub few_bytes : old.bytes + length part ≤ old.limits.bytes
+  pub few_lines : old.lines + length (lines part) ≤ old.limits.lines
+
 -- the bytes were taken in, and spell these items
 pub record Takes (old new : Script) (bytes : List ℕ) (items : List Item) : Type 0 where
+  pub counts : Counts old new bytes
   pub goes : (text : Option Text) (line : List ℕ) → Holds old text line
       → (after : Option Text) × (begun : List ℕ) × Holds new after begun × Leads (place old text line) bytes items (place new after begun)
 
@@ -65,12 +75,34 @@ pub record Takes (old new : Script) (bytes : List ℕ) (items : List Item) : Typ
 abbrev pub TakesFront : (old new : Script) → List ℕ → List ℕ → List Item → Type 0
 TakesFront old new piece rest items = (front : List ℕ) × (piece ≡ front ++ rest) × Takes old new front items
 
+-- these bytes are a line, or what came of one
+abbrev pub IsOneLine : List ℕ → Type 0
+IsOneLine part = lines part ≡ part ∷ []
+
+-- with these bytes of one line, which are some, the script is past its limits
+abbrev pub IsPastWith : Script → List ℕ → Type 0
+IsPastWith s part = (s.limits.bytes < s.bytes + length part) ⊎ (s.limits.lines ≤ s.lines)
+
+-- The script is past its limits with the first line of these bytes that isn't within them. The lines before it were
+-- taken in, and spell nothing.
+pub record PassesLimits (old : Script) (piece : List ℕ) : Type 0 where
+  pub mid : Script
+  pub line : List ℕ
+  pub rest : List ℕ
+  pub before : TakesFront old mid piece (line ++ rest) []
+  pub first : lines (line ++ rest) ≡ line ∷ lines rest
+  pub past : IsPastWith mid line
+
 -- these items are spelled at the end of the script, where all of its bytes were taken in
 pub record EndsIn (s : Script) (items : List Item) : Type 0 where
   pub ends : (text : Option Text) (line : List ℕ) → Holds s text line → SpellsFrom (place s text line) [] items
 
--- the script that begins with these bytes, which spell these items, was taken in so far
-pub record Read (s : Script) (seen : List ℕ) (items : List Item) : Type 0 where
+-- the script that begins with these bytes, which spell these items and are within the limits, was taken in so far
+pub record Read (m : Limits) (s : Script) (seen : List ℕ) (items : List Item) : Type 0 where
+  pub limits : s.limits ≡ m
+  pub bytes : s.bytes ≡ length seen
+  pub ended : s.lines ≡ line_feeds seen
+  pub within : IsWithin m seen
   pub text : Option Text
   pub line : List ℕ
   pub holds : Holds s text line

@@ -1,6 +1,6 @@
 //! Exchanges that were read before, by their texts.
 
-ghost use Rattle.std.specs.Prelude.{IfOk, IfSome};
+ghost use Rattle.std.specs.Prelude.{◌≡◌, ◌↔◌, IfOk, IfSome, IsTrue};
 ghost use Rattle.scrib_script.specs.Heads.{SpellsExchange};
 
 use crate::exchange::{Exchange, exchange_of};
@@ -61,7 +61,7 @@ impl Exchanges {
         let Some(Some(known)) = self.slots.get(slot) else {
             return Ok(None);
         };
-        if known.text.as_slice() != text {
+        if !same_text(known.text.as_slice(), text) {
             return Ok(None);
         }
         Ok(Some(known.exchange.copy()?))
@@ -86,6 +86,22 @@ impl Exchanges {
         }
         Ok(())
     }
+}
+
+/// Whether both are the same bytes. The texts are short, so that a plain loop is quicker than a comparison that is made
+/// for long ones.
+fn same_text(a: &[u8], b: &[u8]) -> bool
+    ensures { IsTrue result ↔ (a.now ≡ b.now) }
+{
+    if a.len() != b.len() {
+        return false;
+    }
+    for (x, y) in a.iter().zip(b) {
+        if x != y {
+            return false;
+        }
+    }
+    true
 }
 
 /// The slot of a text.

@@ -8,6 +8,7 @@ mod fields;
 pub mod format;
 pub mod item;
 pub mod keeping;
+pub mod limits;
 pub mod line;
 mod reader;
 pub mod script;

@@ -1,11 +1,16 @@
 //! Lines of a script.
 
-ghost use Rattle.std.specs.Prelude.{◌↔◌, IfOk, IsTrue, map};
+ghost use Rattle.std.specs.Prelude.{◌≡◌, ◌↔◌, ◌∷◌, ◌++◌, IfOk, IfSome, IsTrue, map, codes};
+ghost use Rattle.scrib_core.specs.declared.step.Step.TheVariants.{Ask};
+ghost use Rattle.scrib_script.specs.Fields.{fields};
 ghost use Rattle.scrib_script.specs.Says.{Says, IsSkipped, IsPutLine, Asks};
+ghost use Rattle.scrib_script.specs.declared.format.Format.TheVariants as format;
+ghost use Rattle.scrib_script.specs.declared.line.Line.TheVariants as line;
 
 use crate::fields::fields_of;
 use crate::format::Format;
 use crate::step::step_of;
+use crate::text::number_of;
 use scrib_core::step::Step;
 use std::alloc::{AllocError, Global};
 
@@ -35,6 +40,12 @@ pub fn line_of(alloc: Global, bytes: &[u8]) -> Result<Line, AllocError>
     if bytes.len() > MAX_LINE_BYTES {
         return Ok(Line::Bad);
     }
+    if is_comment(bytes) {
+        return Ok(Line::Skipped);
+    }
+    if let Some(id) = ask_of(bytes) {
+        return Ok(Line::Step(Format::Line, Step::Ask { id }));
+    }
     let fields = fields_of(alloc, bytes)?;
     let fields = fields.as_slice();
     if is_skipped(fields) {
@@ -48,6 +59,46 @@ pub fn line_of(alloc: Global, bytes: &[u8]) -> Result<Line, AllocError>
         Some(step) => Ok(Line::Step(format, step)),
         None => Ok(Line::Bad),
     }
+}
+
+// What stands behind the `#` of a comment.
+fn comment_of(bytes: &[u8]) -> Option<&[u8]>
+    ensures { IfSome result (λ rest. bytes.now ≡ 35 ∷ rest.now) }
+{
+    match bytes {
+        [b'#', rest @ ..] => Some(rest),
+        _ => None,
+    }
+}
+
+// Whether the line begins with `#`, so that its first field does.
+fn is_comment(bytes: &[u8]) -> bool
+    ensures { IsTrue result → IsSkipped (fields bytes.now) }
+{
+    match comment_of(bytes) {
+        Some(_) => true,
+        None => false,
+    }
+}
+
+// What stands behind `ask` and a single blank.
+fn after_ask(bytes: &[u8]) -> Option<&[u8]>
+    ensures { IfSome result (λ rest. bytes.now ≡ codes "ask" ++ 32 ∷ rest.now) }
+{
+    match bytes {
+        [b'a', b's', b'k', b' ', rest @ ..] => Some(rest),
+        _ => None,
+    }
+}
+
+// The id of a line that asks, where it is spelled with a single blank.
+#[tactic(auto, using(crate::proofs::Heads::ask_says))]
+fn ask_of(bytes: &[u8]) -> Option<u32>
+    ensures { IfSome result (λ id. Says bytes.now (line.Step format.Line (Ask id))) }
+{
+    let digits = after_ask(bytes)?;
+    let id = number_of(digits)?;
+    Some(id)
 }
 
 // Whether there is no field, or the first one begins with `#`.

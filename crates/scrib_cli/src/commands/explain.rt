@@ -1,8 +1,9 @@
 //! Explaining a conversation of a script of standard input or of a file.
 
-ghost use Rattle.std.specs.Prelude.{IfOk, OnErr};
+ghost use Rattle.std.specs.Prelude.{IfOk, IfSome, OnOk, OnErr};
 ghost use Rattle.std.specs.Option.{option_copied};
 ghost use Rattle.scrib_cli.specs.Commands.{source, IsToldOf, IsPartToldOf};
+ghost use Rattle.scrib_script.specs.Limits.{of_scripts, IsWithin};
 
 use crate::commands::folder::Folder;
 use crate::explain_script::{Explained, explain_script};
@@ -27,6 +28,7 @@ pub fn explain<F: Folder, R: Read, W: Write>(
 ) -> Result<bool, ScriptFault>
     ensures ok { IfOk result (λ flights. IsToldOf id (source (F.text folder.now) (option_copied path.entry) (R.remaining reader.old)) flights (W.contents writer.old) (W.contents writer.new)) }
     ensures err { OnErr result (IsPartToldOf id (source (F.text folder.now) (option_copied path.entry) (R.remaining reader.old)) (W.contents writer.old) (W.contents writer.new)) }
+    ensures within { OnOk result (IfSome (source (F.text folder.now) (option_copied path.entry) (R.remaining reader.old)) (λ input. IsWithin of_scripts input)) }
 {
     let explained = match path {
         None => explain_script(alloc, reader, id, writer)?,

@@ -1,8 +1,9 @@
 //! Watching a script of standard input or of a file.
 
-ghost use Rattle.std.specs.Prelude.{◌≡◌, true, IfOk, OnOk, OnErr};
+ghost use Rattle.std.specs.Prelude.{◌≡◌, true, IfOk, IfSome, OnOk, OnErr};
 ghost use Rattle.std.specs.Option.{option_copied};
 ghost use Rattle.scrib_cli.specs.Commands.{source, IsWatched, IsPartWatched};
+ghost use Rattle.scrib_script.specs.Limits.{of_scripts, IsWithin};
 
 use crate::commands::folder::Folder;
 use crate::fault::ScriptFault;
@@ -29,6 +30,7 @@ pub fn watch<F: Folder, R: Read, W: Write>(
     ensures done { IfOk result (λ done. done ≡ true) }
     ensures ok { OnOk result (IsWatched format (source (F.text folder.now) (option_copied path.entry) (R.remaining reader.old)) (W.contents writer.old) (W.contents writer.new)) }
     ensures err { OnErr result (IsPartWatched format (source (F.text folder.now) (option_copied path.entry) (R.remaining reader.old)) (W.contents writer.old) (W.contents writer.new)) }
+    ensures within { OnOk result (IfSome (source (F.text folder.now) (option_copied path.entry) (R.remaining reader.old)) (λ input. IsWithin of_scripts input)) }
 {
     match path {
         None => run_script(alloc, format, reader, writer)?,

@@ -3,6 +3,8 @@ use Rattle.std.specs.Io.KnownBytes.{Appends}
 use Rattle.std.proofs.lemmas.Result.{err_from_is_err_and}
 use Rattle.scrib_core.specs.Held.{state_of}
 use Rattle.scrib_cli.specs.Scripts.{AppendsPart}
+use Rattle.scrib_cli.specs.declared.telling.Telling.TheVariants.{Silent}
+use Rattle.scrib_cli.proofs.Running.{ran_within}
 use Rattle.scrib_cli.proofs.Explained.{run_stopped, untold, told_part, told_all, told_unflushed}
 use Rattle.scrib_cli.proofs.explain_script.explain_script.Goals as goal
 
@@ -35,3 +37,7 @@ returns-in_err-flush_out-clause-err g c =
     let all = subst (λ (t : List ℕ). Appends (g.W.Write.contents c.run_whole.new.writer) (g.W.Write.contents c.write_out.new.writer) t) c.as_slice.ensures.value c.in_ok-write_out.ensures.ok in
     rw p.1 (told_unflushed (g.R.Read.remaining c.args.reader.now) c.args.id (state_of c.in_ok-core.core) c.in_ok-explained.explained c.in_ok-explained.text.items (g.W.Write.contents c.args.writer.now) (g.W.Write.contents c.run_whole.new.writer) (g.W.Write.contents c.write_out.new.writer) (g.W.Write.contents c.flush_out.new.writer)
     c.in_ok-core.ensures.ok c.in_ok-explained.ensures all c.flush_out.ensures.kept)
+
+pub returns-clause-within : goal.returns-clause-within
+returns-clause-within g c =
+    ran_within Silent (g.R.Read.remaining c.args.reader.now) (state_of c.in_ok-core.core) (g.W.Write.contents c.args.writer.now) (g.W.Write.contents c.run_whole.new.writer) c.in_ok-core.ensures.ok

@@ -1,5 +1,6 @@
 use Rattle.scrib_core.specs.Held.{state_of}
-use Rattle.scrib_cli.proofs.Running.{on_ok_any, on_err_any, flushed, flush_failed}
+use Rattle.scrib_cli.specs.declared.telling.Telling.TheVariants.{Printed}
+use Rattle.scrib_cli.proofs.Running.{on_ok_any, on_err_any, flushed, flush_failed, ran_within}
 use Rattle.scrib_cli.proofs.run_script.run_script.Goals as goal
 
 pub returns-clause-ok : goal.returns-clause-ok
@@ -11,3 +12,7 @@ pub returns-clause-err : goal.returns-clause-err
 returns-clause-err g c =
     on_err_any c.flush_out.result
     (flush_failed c.args.format (g.R.Read.remaining c.args.reader.now) (state_of c.in_ok-_core._core) (g.W.Write.contents c.args.writer.now) (g.W.Write.contents c.run_whole.new.writer) (g.W.Write.contents c.flush_out.new.writer) c.in_ok-_core.ensures.ok c.flush_out.ensures.kept)
+
+pub returns-clause-within : goal.returns-clause-within
+returns-clause-within g c =
+    on_ok_any c.flush_out.result (ran_within (Printed c.args.format) (g.R.Read.remaining c.args.reader.now) (state_of c.in_ok-_core._core) (g.W.Write.contents c.args.writer.now) (g.W.Write.contents c.run_whole.new.writer) c.in_ok-_core.ensures.ok)

@@ -4,7 +4,7 @@ use Rattle.scrib_core.specs.Held.{state_of}
 use Rattle.scrib_script.specs.declared.item.Item.{Item}
 use Rattle.scrib_script.specs.Scripts.{listed}
 use Rattle.scrib_script.specs.Standing.{EndsIn}
-use Rattle.scrib_cli.proofs.Running.{on_err_any, ended_none, ended_item, failed_last, failed_none}
+use Rattle.scrib_cli.proofs.Running.{on_err_any, ended_none, ended_item, failed_last, failed_none, not_limit}
 use Rattle.scrib_cli.proofs.run.Run.finish.Goals as goal
 
 pub returns-in_err-item-clause-err : goal.returns-in_err-item-clause-err
@@ -12,10 +12,15 @@ returns-in_err-item-clause-err g c = on_err_any c.from_residual.result (failed_n
 
 pub returns-in-Some-clause-ok : goal.returns-in-Some-clause-ok
 returns-in-Some-clause-ok g c =
-    let ends = subst (λ (o : Option Item). EndsIn c.args.self.now.script (listed o)) c.in-Some.is c.in_ok-item.ensures in
+    let ends = subst (λ (o : Option Item). EndsIn c.args.self.now.script (listed o)) c.in-Some.is c.in_ok-item.ensures.ends in
     on_ok_weaker c.tell_item.result (ended_item c.args.self.now c.in-Some.item (state_of c.tell_item.new.core) (g.W.Write.contents c.args.writer.now) (g.W.Write.contents c.tell_item.new.writer) ends) c.tell_item.ensures.ok
 
 pub returns-in-Some-clause-err : goal.returns-in-Some-clause-err
 returns-in-Some-clause-err g c =
-    let ends = subst (λ (o : Option Item). EndsIn c.args.self.now.script (listed o)) c.in-Some.is c.in_ok-item.ensures in
+    let ends = subst (λ (o : Option Item). EndsIn c.args.self.now.script (listed o)) c.in-Some.is c.in_ok-item.ensures.ends in
     on_err_weaker c.tell_item.result (failed_last c.args.self.now c.in-Some.item (g.W.Write.contents c.args.writer.now) (g.W.Write.contents c.tell_item.new.writer) ends) c.tell_item.ensures.err
+
+pub returns-in_err-item-clause-limit : goal.returns-in_err-item-clause-limit
+returns-in_err-item-clause-limit g c =
+    let p = err_from_is_err_and c.from_residual.result c.from_residual.ensures.1 in
+    rw p.1 (not_limit _ p.0 p.2 c.in_err-item.ensures.limit)

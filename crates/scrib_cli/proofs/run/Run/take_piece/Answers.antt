@@ -1,9 +1,10 @@
-use Rattle.std.proofs.Common.{[], ◌∷◌, List, Option, Some, refl, sym, subst}
+use Rattle.std.proofs.Common.{[], ◌∷◌, ◌∙◌, List, Option, Some, refl, sym, subst}
+use Rattle.std.proofs.lemmas.Result.{err_from_is_err_and}
 use Rattle.scrib_core.specs.Held.{state_of}
 use Rattle.scrib_script.specs.declared.item.Item.{Item}
 use Rattle.scrib_script.specs.Scripts.{listed}
 use Rattle.scrib_script.specs.Standing.{TakesFront}
-use Rattle.scrib_cli.proofs.Running.{Carried, on_err_any, took_item, stopped_took, stopped_item}
+use Rattle.scrib_cli.proofs.Running.{Carried, on_err_any, took_item, stopped_took, stopped_item, stopped_past, limit_told}
 use Rattle.scrib_cli.proofs.run.Run.take_piece.Goals as goal
 
 pub returns-in_err-item-clause-err : goal.returns-in_err-item-clause-err
@@ -27,3 +28,13 @@ pub loop-rest-preserved : goal.loop-rest-preserved
 loop-rest-preserved g c =
     took_item c.args.self.now c.loop-rest.self _ c.args.piece.now c.loop-rest.rest.now c.in_ok-item.after.now c.in_ok-item.item (g.W.Write.contents c.args.writer.now) (g.W.Write.contents c.loop-rest.writer) (g.W.Write.contents c.loop-rest.writer)
     c.loop-rest.invariant refl c.in_ok-item.ensures.taken (subst (λ (o : Option Item). Carried c.loop-rest.self.telling o (state_of c.loop-rest.self.core) (state_of c.loop-rest.self.core) (g.W.Write.contents c.loop-rest.writer) (g.W.Write.contents c.loop-rest.writer)) (sym c.in_default.is) (refl, refl))
+
+pub returns-in_err-item-clause-limit : goal.returns-in_err-item-clause-limit
+returns-in_err-item-clause-limit g c =
+    let p = err_from_is_err_and c.from_residual.result c.from_residual.ensures.1 in
+    rw p.1 (λ e. stopped_past c.args.self.now c.loop-rest.self c.args.piece.now c.loop-rest.rest.now (g.W.Write.contents c.args.writer.now) (g.W.Write.contents c.loop-rest.writer) c.loop-rest.invariant (c.in_err-item.ensures.limit (limit_told _ p.0 p.2 e)))
+
+pub returns-in_err-tell_item-clause-limit : goal.returns-in_err-tell_item-clause-limit
+returns-in_err-tell_item-clause-limit g c =
+    let p = err_from_is_err_and c.from_residual-in_err-tell_item.result c.from_residual-in_err-tell_item.ensures.1 in
+    rw p.1 (λ e. absurd (c.in_err-tell_item.ensures.fault (sym p.2 ∙ e)))
