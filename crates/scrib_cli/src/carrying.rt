@@ -15,12 +15,11 @@ use scrib_core::reply::{Refusal, Reply};
 use scrib_core::step::Step;
 use scrib_script::format::Format;
 use scrib_script::item::Item;
-use std::alloc::Global;
 use std::io::Write;
 
 /// Makes the step and writes its reply to a line that asks for this format, or in silence sees that it had memory.
 fn make_step<W: Write>(
-    alloc: Global,
+    room: &mut Vec<u8>,
     core: &mut Core,
     step: Step,
     format: Format,
@@ -34,7 +33,7 @@ fn make_step<W: Write>(
     let reply = core.apply(step);
     match telling {
         Telling::Printed(output) => {
-            write_reply(alloc, &reply, reply_format(output, format), writer)
+            write_reply(room, &reply, reply_format(output, format), writer)
         }
         Telling::Silent => check_memory(&reply),
     }
@@ -53,9 +52,9 @@ fn check_memory(reply: &Reply) -> Result<(), ScriptFault>
 }
 
 /// Makes the step that the item is, and tells what is answered; or tells of a line that says nothing, or of an end
-/// inside a module text.
+/// inside a module text. The texts of replies are made in this room, whatever that holds.
 pub fn tell_item<W: Write>(
-    alloc: Global,
+    room: &mut Vec<u8>,
     core: &mut Core,
     item: Item,
     telling: Telling,
@@ -66,8 +65,8 @@ pub fn tell_item<W: Write>(
     ensures fault { IfErr result (λ e. e ≢ fault.Read) }
 {
     match item {
-        Item::Step(format, step) => make_step(alloc, core, step, format, telling, writer),
-        Item::BadLine(number) => tell_bad_line(alloc, number, telling, writer),
+        Item::Step(format, step) => make_step(room, core, step, format, telling, writer),
+        Item::BadLine(number) => tell_bad_line(*room.allocator(), number, telling, writer),
         Item::EndOfText => tell_end(telling, writer),
     }
 }

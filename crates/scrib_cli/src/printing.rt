@@ -1,7 +1,7 @@
 //! What is written of replies, of lines that say nothing, and of an end inside a module text, as lines of text or as
 //! JSON.
 
-ghost use Rattle.std.specs.Prelude.{◌≡◌, ◌≢◌, OnOk, OnErr, IfOk, IfErr, string_bytes};
+ghost use Rattle.std.specs.Prelude.{◌≡◌, ◌≢◌, ◌++◌, OnOk, OnErr, IfOk, IfErr, string_bytes};
 ghost use Rattle.std.specs.Io.KnownBytes.{Appends};
 ghost use Rattle.scrib_cli.specs.Scripts.{AppendsPart, bad_line, end_of_text, reply_format, reply_text};
 ghost use Rattle.scrib_cli.specs.Progress.{told_bad_line, told_end};
@@ -12,10 +12,14 @@ use crate::telling::Telling;
 use crate::writing::write_out;
 use scrib_core::reply::Reply;
 use scrib_report::json::json;
-use scrib_report::line::line;
+use scrib_report::line::push_line;
 use scrib_script::format::Format;
+use scrib_types::text::push_bytes;
 use std::alloc::{AllocError, Global};
 use std::io::Write;
+
+// Room for the line of a permitted event, and for the LF behind it, so that the text is made in one piece.
+const USUAL_BYTES: usize = 64;
 
 /// The format of a reply, from those of its output and of its line: JSON where either is.
 pub fn reply_format(output: Format, asked: Format) -> Format
@@ -27,21 +31,35 @@ pub fn reply_format(output: Format, asked: Format) -> Format
     }
 }
 
+/// Adds the reply in this format, with the LF behind it.
+///
+/// # Errors
+/// `AllocError` where memory was refused.
+pub fn push_reply(text: &mut Vec<u8>, reply: &Reply, format: Format) -> Result<(), AllocError>
+    ensures { OnOk result (text.new.items ≡ text.old.items ++ reply_text format reply.now) }
+{
+    match format {
+        Format::Line => push_line(text, reply)?,
+        Format::Json => {
+            let object = json(*text.allocator(), reply)?;
+            push_bytes(text, object.as_slice())?;
+        }
+    }
+    push_bytes(text, b"\n")
+}
+
 /// The reply in this format, with the LF behind it.
 pub fn reply_text(alloc: Global, reply: &Reply, format: Format) -> Result<Vec<u8>, AllocError>
     ensures { IfOk result (λ text. text.items ≡ reply_text format reply.now) }
 {
-    let mut text = match format {
-        Format::Line => line(alloc, reply)?,
-        Format::Json => json(alloc, reply)?,
-    };
-    text.push(b'\n')?;
+    let mut text = Vec::with_capacity(alloc, USUAL_BYTES)?;
+    push_reply(&mut text, reply, format)?;
     Ok(text)
 }
 
-/// Writes the reply in this format.
+/// Writes the reply in this format. Its text is made in this room, whatever that holds.
 pub fn write_reply<W: Write>(
-    alloc: Global,
+    room: &mut Vec<u8>,
     reply: &Reply,
     format: Format,
     writer: &mut W,
@@ -50,8 +68,9 @@ pub fn write_reply<W: Write>(
     ensures err { OnErr result (AppendsPart (W.contents writer.old) (W.contents writer.new) (reply_text format reply.now)) }
     ensures fault { IfErr result (λ e. e ≢ fault.Read) }
 {
-    let text = reply_text(alloc, reply, format)?;
-    write_out(writer, text.as_slice())
+    room.clear();
+    push_reply(room, reply, format)?;
+    write_out(writer, room.as_slice())
 }
 
 /// What is written in this format for the line of this number, which says nothing.

@@ -11,10 +11,11 @@ use std::io::Write;
 /// A script as it runs over a monitor.
 #[derive(Drop)]
 pub struct Run {
-    alloc: Global,
     script: Script,
     core: Core,
     telling: Telling,
+    // Where the text of a reply is made, so that not each one takes memory anew.
+    room: Vec<u8>,
 }
 
 impl Run {
@@ -28,10 +29,10 @@ impl Run {
         ensures { IsNew telling result }
     {
         Run {
-            alloc,
             script: Script::new(alloc),
             core: Core::new(alloc),
             telling,
+            room: Vec::new(alloc),
         }
     }
 
@@ -56,7 +57,7 @@ impl Run {
         while !rest.is_empty() {
             let (item, after) = self.script.next_item(rest)?;
             if let Some(item) = item {
-                tell_item(self.alloc, &mut self.core, item, self.telling, writer)?;
+                tell_item(&mut self.room, &mut self.core, item, self.telling, writer)?;
             }
             rest = after;
         }
@@ -70,7 +71,7 @@ impl Run {
         ensures limit { IfErr result (λ e. e ≢ fault.Read) }
     {
         match self.script.last_item()? {
-            Some(item) => tell_item(self.alloc, &mut self.core, item, self.telling, writer),
+            Some(item) => tell_item(&mut self.room, &mut self.core, item, self.telling, writer),
             None => Ok(()),
         }
     }

@@ -33,8 +33,12 @@ fn push_changes(out: &mut Vec<u8>, changes: &[Change]) -> Result<(), AllocError>
     push_each_change(out, changes)
 }
 
+/// Adds the line that tells the reply, in ASCII bytes, without a line feed.
+///
+/// # Errors
+/// `AllocError` where memory for the longer text was refused.
 #[tactic(auto, unfolding(crate::specs::Lines::line_of))]
-fn push_line(out: &mut Vec<u8>, reply: &Reply) -> Result<(), AllocError>
+pub fn push_line(out: &mut Vec<u8>, reply: &Reply) -> Result<(), AllocError>
     ensures { OnOk result (out.new.items ≡ out.old.items ++ lines.line_of reply.now) }
 {
     match reply {

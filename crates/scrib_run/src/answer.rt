@@ -1,11 +1,11 @@
 //! What a service answers to a line of a connection.
 
-ghost use Rattle.std.specs.Prelude.{◌≡◌, ◌++◌, IfOk, OnOk};
+ghost use Rattle.std.specs.Prelude.{◌≡◌, ◌++◌, OnOk};
 ghost use Rattle.scrib_core.specs.declared.reply.Reply.TheVariants.{Refused};
 ghost use Rattle.scrib_run.specs.declared.answer.Answer.TheVariants as answer;
 ghost use Rattle.scrib_run.specs.Answers.{answer_text, edit_answer, is_change, profile_answer, refusal_answer};
 
-use scrib_cli::printing::reply_text;
+use scrib_cli::printing::push_reply;
 use scrib_core::reply::{Edit, Refusal, Reply};
 use scrib_library::changes::Changes;
 use scrib_library::fault::EditFault;
@@ -16,7 +16,7 @@ use scrib_shards::passing::PassRefusal;
 use scrib_types::event::Told;
 use scrib_types::profile::Profile;
 use scrib_types::text::push_bytes;
-use std::alloc::{AllocError, Global};
+use std::alloc::AllocError;
 
 /// What a service answers to a step.
 #[derive(Drop)]
@@ -87,12 +87,20 @@ pub(crate) fn is_change(answer: &Answer) -> bool
     }
 }
 
-/// The text of the answer in this format, with the LF behind it.
-fn text_of(alloc: Global, answer: &Answer, format: Format) -> Result<Vec<u8>, AllocError>
-    ensures { IfOk result (λ text. text.items ≡ answer_text format answer.now) }
+/// Adds the text of the answer in this format, with the LF behind it.
+///
+/// # Errors
+/// `AllocError` where memory was refused.
+pub(crate) fn push_answer(
+    lines: &mut Vec<u8>,
+    answer: &Answer,
+    format: Format,
+) -> Result<(), AllocError>
+    ensures { OnOk result (lines.new.items ≡ lines.old.items ++ answer_text format answer.now) }
 {
-    let mut text = match (answer, format) {
-        (Answer::Reply(reply), _) => return reply_text(alloc, reply, format),
+    let alloc = *lines.allocator();
+    let text = match (answer, format) {
+        (Answer::Reply(reply), _) => return push_reply(lines, reply, format),
         (Answer::Judged { id, told }, Format::Line) => judged_line(alloc, *id, told)?,
         (Answer::Judged { id, told }, Format::Json) => told_json(alloc, *id, told)?,
         (
@@ -110,22 +118,6 @@ fn text_of(alloc: Global, answer: &Answer, format: Format) -> Result<Vec<u8>, Al
             Format::Json,
         ) => mismatch_json(alloc, *conversation, *place)?,
     };
-    text.push(b'\n')?;
-    Ok(text)
-}
-
-/// Adds the text of the answer in this format, with the LF behind it.
-///
-/// # Errors
-/// `AllocError` where memory was refused.
-pub(crate) fn push_answer(
-    alloc: Global,
-    lines: &mut Vec<u8>,
-    answer: &Answer,
-    format: Format,
-) -> Result<(), AllocError>
-    ensures { OnOk result (lines.new.items ≡ lines.old.items ++ answer_text format answer.now) }
-{
-    let text = text_of(alloc, answer, format)?;
-    push_bytes(lines, text.as_slice())
+    push_bytes(lines, text.as_slice())?;
+    push_bytes(lines, b"\n")
 }

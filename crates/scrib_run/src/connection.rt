@@ -104,7 +104,7 @@ impl<'a> Connection<'a> {
                     self.noted = self.noted.saturating_add(1);
                 }
                 let format = reply_format(self.format, asked);
-                push_answer(self.alloc, &mut self.lines, &answer, format)?;
+                push_answer(&mut self.lines, &answer, format)?;
                 Ok(())
             }
             Item::BadLine(number) => self.tell_bad(number),

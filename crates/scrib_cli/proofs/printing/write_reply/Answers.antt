@@ -2,8 +2,8 @@ use Rattle.std.proofs.lemmas.Result.{err_from_is_err_and}
 use Rattle.scrib_cli.proofs.Faults.{no_read, memory_no_read}
 use Rattle.scrib_cli.proofs.printing.write_reply.Goals as goal
 
-pub returns-in_err-text-clause-fault : goal.returns-in_err-text-clause-fault
-returns-in_err-text-clause-fault g c =
+pub returns-in_err-push_reply-clause-fault : goal.returns-in_err-push_reply-clause-fault
+returns-in_err-push_reply-clause-fault g c =
     let p = err_from_is_err_and c.from_residual.result c.from_residual.ensures.1 in
     rw p.1 (memory_no_read p.0 p.2)
 
