@@ -6,8 +6,8 @@
 Run it from anywhere, after `make run`; times are those of the clock, the best of five runs, so nothing else should run.
 First four connections of 250,000 events each, over 4 shards with 2 workers, against `watch` over the same events in one
 script. Then the time from an edit that changes the one protocol of 10,000 conversations of 100 events each until none is
-out of date, with 1, 2 and 4 workers: that of a run whose connection puts the changed text, less that of one whose
-connection puts the text that stands there. --program names another program, --events and --conversations other sizes,
+out of date, with 1, 2 and 4 workers: that of a run whose connection puts the changed text, which permits all that the
+first one does, less that of one whose connection puts the text that stands there. --program names another program, --events and --conversations other sizes,
 and --cores keeps the runs on these processors, as 2,3. It is no test: it looks only at the number of events in the tables.
 """
 
@@ -22,7 +22,9 @@ PROGRAM = os.path.join(os.path.dirname(os.path.abspath(__file__)), "..", "crates
 RUNS = 5
 CONNECTIONS = 4
 LOG = 60_000
-TEXT = "put\nmodule k; global protocol K(role A, role B) { rec X { ask(Int) from A to B; tell(Int, Str) from B to A; %scontinue X; } }\n%%%%\n"
+BODY = "ask(Int) from A to B; tell(Int, Str) from B to A; continue X;"
+CHANGED_BODY = "choice at A { %s } or { stop() from A to B; }" % BODY
+TEXT = "put\nmodule k; global protocol K(role A, role B) { rec X { %s } }\n%%%%\n"
 
 
 def exchanges(conversation, events):
@@ -57,7 +59,7 @@ def seconds(words, cores):
 
 def beside_watch(program, folder, events, cores):
     """Four connections against one script."""
-    setup, connections, whole = [TEXT % ""], [], [TEXT % ""]
+    setup, connections, whole = [TEXT % BODY], [], [TEXT % BODY]
     for number in range(CONNECTIONS):
         lines = []
         for first in range(0, events, LOG):
@@ -77,13 +79,13 @@ def beside_watch(program, folder, events, cores):
 
 def until_judged(program, folder, conversations, cores):
     """An edit under many conversations, until none is out of date."""
-    setup = [TEXT % ""]
+    setup = [TEXT % BODY]
     for conversation in range(conversations):
         setup.append("open %d k.K" % conversation)
         setup += conversation_lines(conversation, 100)
     setup = write(folder, "many", setup)
-    same = write(folder, "same", [TEXT % ""])
-    changed = write(folder, "changed", [TEXT % "more() from A to B; "])
+    same = write(folder, "same", [TEXT % BODY])
+    changed = write(folder, "changed", [TEXT % CHANGED_BODY])
     for workers in ["1", "2", "4"]:
         words = [program, "run", "--shards", "4", "--workers", workers, setup]
         without, _ = seconds(words + [same], cores)

@@ -1,26 +1,8 @@
-//! Libraries of small modules.
+//! Copies of the types of a library's protocols.
 
 use crate::making::{dotted, library};
 use scrib_types::global::GlobalType;
 use std::test::Fail;
-
-const DEEP: &str = "module other.deep; global protocol Hi(role A) { }";
-
-#[test]
-fn finds_what_is_present(rt: HostRuntime) -> Result<(), Fail> {
-    let alloc = rt.alloc();
-    let library = library(alloc, DEEP)?;
-    for (parts, there) in [
-        (["other", "deep", "Hi"].as_slice(), true),
-        (["other", "deep", "Ho"].as_slice(), false),
-        (["deep", "Hi"].as_slice(), false),
-        (["Hi"].as_slice(), false),
-    ] {
-        let name = dotted(alloc, parts)?;
-        assert_eq!(rt; library.present(&name).is_some(), there);
-    }
-    Ok(())
-}
 
 const LOOPING: &str =
     "module v; global protocol V(role A, role B, role C) { rec X { a() from A to B; continue X; } }";

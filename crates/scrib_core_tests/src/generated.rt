@@ -1,12 +1,12 @@
 //! Generated conversations with edits between their events, against the judgement by the definitions.
 
-use crate::judgement::told as text_of;
 use crate::making::{put, step};
 use scrib_core::monitor::Core;
 use scrib_core::reply::Reply;
 use scrib_global::judge::judge_whole;
+use scrib_report::verdict::verdict;
 use scrib_types::event::{Told, Verdict};
-use std::alloc::Global;
+use std::alloc::{AllocError, Global};
 use std::collections::VecDeque;
 use std::test::Fail;
 
@@ -86,45 +86,44 @@ impl Events {
 #[derive(Drop)]
 struct Reported {
     events: usize,
-    told: Verdict,
+    told: Told,
 }
 
 fn noted(alloc: Global, core: &mut Core, line: &str) -> Result<Reported, Fail> {
-    let Reply::Noted {
-        place: events,
-        told: Told::Judged(told),
-        ..
-    } = core.apply(step(alloc, line)?)
-    else {
-        return Err(Fail::new("not judged"));
-    };
-    Ok(Reported { events, told })
+    match core.apply(step(alloc, line)?) {
+        Reply::Noted {
+            place: events,
+            told,
+            ..
+        } => Ok(Reported { events, told }),
+        _ => Err(Fail::new("not noted")),
+    }
 }
 
 // The verdict on the whole log, by the definitions.
-fn whole(alloc: Global, core: &Core) -> Result<Verdict, Fail> {
+fn whole(alloc: Global, core: &Core) -> Result<Told, Fail> {
     let (protocol, log) = core.view(1).ok_or("not open")?;
     let Some(protocol) = protocol else {
-        return Ok(Verdict::Withdrawn);
+        return Ok(Told::Judged(Verdict::Withdrawn));
     };
-    Ok(judge_whole(alloc, protocol, log)?)
+    Ok(Told::Judged(judge_whole(alloc, protocol, log)?))
 }
 
 // What is told of the first events of a log on which this is the verdict.
-fn of_first(alloc: Global, whole: &Verdict, events: usize) -> Result<Vec<u8>, Fail> {
-    if let Verdict::Offence { place, .. } = whole {
+fn of_first(alloc: Global, whole: &Told, events: usize) -> Result<Vec<u8>, AllocError> {
+    if let Told::Judged(Verdict::Offence { place, .. }) = whole {
         if *place > events {
-            return text_of(alloc, &Verdict::Permitted);
+            return verdict(alloc, &Told::Judged(Verdict::Permitted));
         }
     }
-    text_of(alloc, whole)
+    verdict(alloc, whole)
 }
 
 // Whether each report is what the definitions say of the log as it was.
 fn agree(alloc: Global, core: &Core, reports: &[Reported]) -> Result<bool, Fail> {
     let whole = whole(alloc, core)?;
     for report in reports {
-        let told = text_of(alloc, &report.told)?;
+        let told = verdict(alloc, &report.told)?;
         if told.as_slice() != of_first(alloc, &whole, report.events)?.as_slice() {
             return Ok(false);
         }

@@ -7,8 +7,6 @@ mod edits;
 #[cfg(test)]
 mod generated;
 #[cfg(test)]
-mod judgement;
-#[cfg(test)]
 mod making;
 #[cfg(test)]
 mod monitor;

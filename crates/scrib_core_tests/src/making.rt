@@ -1,10 +1,8 @@
-//! What tests are made of: the library of a module, and steps and events from lines of scripts.
+//! What tests are made of: the library of a module, and steps from lines of scripts.
 
 use scrib_core::step::Step;
 use scrib_library::library::Library;
-use scrib_record::version::Version;
 use scrib_script::line::{Line, line_of};
-use scrib_types::event::Event;
 use scrib_types::name::{Dotted, Name};
 use scrib_types::plain::Items;
 use std::alloc::Global;
@@ -32,12 +30,6 @@ pub(crate) fn library(alloc: Global, text: &str) -> Result<Library, Fail> {
     Ok(library)
 }
 
-/// What the library has for `m.P`.
-pub(crate) fn version(alloc: Global, library: &Library) -> Result<&Version, Fail> {
-    let name = dotted(alloc, &["m", "P"])?;
-    Ok(library.present(&name).ok_or("no protocol")?)
-}
-
 /// The put of a module of this text.
 pub(crate) fn put(alloc: Global, text: &str) -> Result<Step, Fail> {
     let text = Items::from_slice(alloc, text.as_bytes())?;
@@ -51,13 +43,4 @@ pub(crate) fn step(alloc: Global, line: &str) -> Result<Step, Fail> {
         return Err(Fail::new("no step"));
     };
     Ok(step)
-}
-
-/// The event that the line of a script notes.
-pub(crate) fn event(alloc: Global, line: &str) -> Result<Event, Fail> {
-    let line = line_of(alloc, line.as_bytes())?;
-    let Line::Step(_, Step::Note { id: _, event }) = line else {
-        return Err(Fail::new("no event"));
-    };
-    Ok(event)
 }

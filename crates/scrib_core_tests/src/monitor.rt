@@ -46,18 +46,6 @@ fn run_answers_each_step(rt: HostRuntime) -> Result<(), Fail> {
 }
 
 #[test]
-fn apply_answers_as_run_does(rt: HostRuntime) -> Result<(), Fail> {
-    let mut core = Core::new(rt.alloc());
-    let mut replies = Vec::new(rt.alloc());
-    for step in steps(rt.alloc())? {
-        replies.push(core.apply(step))?;
-    }
-    let written = lines(rt.alloc(), replies.as_slice())?;
-    assert_eq!(rt; written.as_slice(), LINES);
-    Ok(())
-}
-
-#[test]
 fn view_shows_the_protocol_and_the_log(rt: HostRuntime) -> Result<(), Fail> {
     let mut core = Core::new(rt.alloc());
     for step in steps(rt.alloc())? {

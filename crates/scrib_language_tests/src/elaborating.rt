@@ -90,49 +90,6 @@ fn sizes_double_at_each_choice(rt: HostRuntime) -> Result<(), Fail> {
     Ok(())
 }
 
-// A message to so many receivers, each of them B.
-fn message_to(alloc: Global, receivers: u32) -> Result<String, Fail> {
-    let mut text = String::from_str(alloc, "a() from A to B")?;
-    for _ in 1..receivers {
-        text.push_str(", B")?;
-    }
-    text.push_str(";")?;
-    Ok(text)
-}
-
-// A message, so many calls of a protocol of 63 messages, and then this.
-fn branch(alloc: Global, first: &str, calls: u32, then: &str) -> Result<String, Fail> {
-    let mut text = format!(in alloc; "{{ {first}() from A to B; ")?;
-    for _ in 0..calls {
-        text.push_str("do P(A, B); ")?;
-    }
-    text.push_str(then)?;
-    text.push_str(" }")?;
-    Ok(text)
-}
-
-#[test]
-fn a_path_has_4096_nodes_at_most(rt: HostRuntime) -> Result<(), Fail> {
-    let alloc = rt.alloc();
-    let called = message_to(alloc, 63)?;
-    let fits = message_to(alloc, 62)?;
-    let rows = [
-        (64, fits.as_str(), 64, "8129"),
-        (64, called.as_str(), 0, "TooLarge t 3:1"),
-        (0, "", 65, "TooLarge t 3:1"),
-    ];
-    for (calls, then, beside, want) in rows {
-        let one = branch(alloc, "b", calls, then)?;
-        let other = branch(alloc, "c", beside, "")?;
-        let text = format!(in alloc;
-            "module t;\nglobal protocol P(role A, role B) {{ {called} }}\nglobal protocol T(role A, role B) {{ choice at A {one} or {other} }}\n"
-        )?;
-        let line = told(alloc, &[text.as_str()], "t", "T")?;
-        assert_eq!(rt; line.as_slice(), want.as_bytes());
-    }
-    Ok(())
-}
-
 // So many protocols, each of which calls the one before it from sixty nested choices; the first sends a message.
 fn deep(alloc: Global, protocols: u32) -> Result<String, Fail> {
     let mut text = String::from_str(

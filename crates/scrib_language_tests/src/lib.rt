@@ -1,15 +1,10 @@
-//! Tests of the lower layers: tokens, trees, types, elaboration of large modules, projections, machines and
-//! queues.
+//! Tests of the lower layers: tokens, trees, types, elaboration of large modules, and queues.
 #![tactic(auto)]
 
 #[cfg(test)]
 mod elaborating;
 #[cfg(test)]
 mod grammar;
-#[cfg(test)]
-mod machines;
-#[cfg(test)]
-mod projecting;
 #[cfg(test)]
 mod queues;
 #[cfg(test)]
