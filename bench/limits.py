@@ -4,7 +4,7 @@
     limits.py [--program FILE]
 
 Run it from anywhere, after `make run`. For each script it prints its bytes, the bytes of the output, the seconds of
-processor time and the most memory that `watch` took. docs/LIMITS.md says what each of them is. It needs 2 GB of memory,
+processor time and the most memory that `watch`, or last `run`, took. docs/LIMITS.md says what each of them is. It needs 2 GB of memory,
 and is no test.
 """
 
@@ -81,14 +81,24 @@ def long_log():
     return put(text) + "open 1 k.K\njoin 1 A\njoin 1 B\n" + "send 1 A B a()\n" * 1_048_574
 
 
-def cost(program, name, script):
-    """Prints what `watch` of the script costs."""
+def wide_events():
+    """20,000 events of conversations of a protocol of 65,535 nodes."""
+    text = "module w;\nglobal protocol W(role R0, role R1) {\n%s}\n" % (CHOICE * 15)
+    opened = (
+        "open %d w.W\njoin %d R0\n" % (c, c) + ("send %d R0 R1 a()\n" % c) * 15 for c in range(1250)
+    )
+    return put(text) + "".join(opened)
+
+
+def cost(program, name, script, command="watch"):
+    """Prints what the script costs under `watch`, or as the setup of `run` with a connection that says nothing."""
     with tempfile.TemporaryDirectory() as folder:
         path, said = os.path.join(folder, "script"), os.path.join(folder, "said")
         with open(path, "w") as file:
             file.writelines(script)
+        words = [program, command, path] + ([os.devnull] if command == "run" else [])
         with open(said, "wb") as file:
-            ran = subprocess.Popen([program, "watch", path], stdout=file)
+            ran = subprocess.Popen(words, stdout=file)
             _, status, used = os.wait4(ran.pid, 0)
         line = "%-16s %9d bytes in, %9d out, %6.2f s, %7.1f MB" % (
             name, os.path.getsize(path), os.path.getsize(said), used.ru_utime + used.ru_stime, used.ru_maxrss / 1024)
@@ -111,6 +121,8 @@ def main():
     cost(program, "large modules", large_modules())
     cost(program, "long replies", long_replies())
     cost(program, "long log", long_log())
+    cost(program, "wide events", wide_events())
+    cost(program, "over a service", wide_events(), "run")
 
 
 if __name__ == "__main__":

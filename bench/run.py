@@ -5,7 +5,7 @@
 
 Run it from anywhere, after `make run`; times are those of the clock, the best of five runs, so nothing else should run.
 First four connections of 250,000 events each, over 4 shards with 2 workers, against `watch` over the same events in one
-script. Then the time from an edit that changes the one protocol of 10,000 conversations of 100 events each until none is
+script, and against four times `watch` beside each other over a quarter each, which is the most that the machine gives. Then the time from an edit that changes the one protocol of 10,000 conversations of 100 events each until none is
 out of date, with 1, 2 and 4 workers: that of a run whose connection puts the changed text, which permits all that the
 first one does, less that of one whose connection puts the text that stands there. --program names another program, --events and --conversations other sizes,
 and --cores keeps the runs on these processors, as 2,3. It is no test: it looks only at the number of events in the tables.
@@ -57,24 +57,42 @@ def seconds(words, cores):
     return best, last
 
 
+def seconds_beside(program, scripts, cores):
+    """The least seconds that `watch` took over these scripts, each in a process of its own."""
+    pin = ["taskset", "-c", cores] if cores else []
+    best = None
+    for _ in range(RUNS):
+        begun = time.monotonic()
+        running = [subprocess.Popen(pin + [program, "watch", script], stdout=subprocess.DEVNULL) for script in scripts]
+        if any(process.wait() for process in running):
+            sys.exit("watch failed")
+        took = time.monotonic() - begun
+        best = took if best is None else min(best, took)
+    return best
+
+
 def beside_watch(program, folder, events, cores):
     """Four connections against one script."""
-    setup, connections, whole = [TEXT % BODY], [], [TEXT % BODY]
+    setup, connections, quarters, whole = [TEXT % BODY], [], [], [TEXT % BODY]
     for number in range(CONNECTIONS):
-        lines = []
+        lines, quarter = [], [TEXT % BODY]
         for first in range(0, events, LOG):
             conversation = number + CONNECTIONS * (first // LOG)
             opened = "open %d k.K" % conversation
             setup.append(opened)
             whole.append(opened)
+            quarter.append(opened)
             lines += conversation_lines(conversation, min(LOG, events - first))
         connections.append(write(folder, "connection%d" % number, lines))
+        quarters.append(write(folder, "quarter%d" % number, quarter + lines))
         whole += lines
     watched, _ = seconds([program, "watch", write(folder, "whole", whole)], cores)
     words = [program, "run", "--shards", "4", "--workers", "2", write(folder, "setup", setup)]
     ran, last = seconds(words + connections, cores)
+    beside = seconds_beside(program, quarters, cores)
     print("watch of %d events in one script: %.3f s" % (CONNECTIONS * events, watched))
     print("run of them over %d connections:   %.3f s, %.2f times as fast (%s)" % (CONNECTIONS, ran, watched / ran, last))
+    print("%d times watch beside each other:   %.3f s, %.2f times as fast" % (CONNECTIONS, beside, watched / beside))
 
 
 def until_judged(program, folder, conversations, cores):
