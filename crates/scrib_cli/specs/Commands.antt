@@ -1,5 +1,5 @@
--- What the commands do with their files, and what the program ends with (this project's own). `text` is what is known of
--- files, from their paths.
+-- What the commands do with their files, and what the program ends with (this project's own). `text` is what is known
+-- of files, from their paths.
 use Rattle.std.specs.Prelude.{◌≡◌, ◌⊎◌, ⊤, ℕ, Bool, true, false, ◌&&◌, List, [], ◌∷◌, take, Option, Some, None, Result, Ok, Err, IfSome, codes}
 use Rattle.std.specs.Borrow.{Bor}
 use Rattle.std.specs.Io.KnownBytes.{Appends}

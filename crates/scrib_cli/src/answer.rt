@@ -14,7 +14,7 @@ ghost use Rattle.scrib_cli.specs.ProjectionSteps.{HasMachine};
 use crate::explaining::refusal;
 use crate::fault::ScriptFault;
 use crate::form::Form;
-use crate::printing::reply_text;
+use crate::printing::push_reply;
 use crate::projection::{Projection, projection_of};
 use crate::writing::{flush_out, write_out};
 use scrib_core::reply::{Refusal, Reply};
@@ -107,5 +107,7 @@ fn fault_line(alloc: Global, fault: EditFault) -> Result<Vec<u8>, AllocError>
     ensures { IfOk result (λ line. line.items ≡ reply_line (Refused (Edit fault))) }
 {
     let reply = Reply::Refused(Refusal::Edit(fault));
-    reply_text(alloc, &reply, Format::Line)
+    let mut text = Vec::new(alloc);
+    push_reply(&mut text, &reply, Format::Line)?;
+    Ok(text)
 }

@@ -19,7 +19,7 @@ use std::io::Write;
 
 /// Makes the step and writes its reply to a line that asks for this format, or in silence sees that it had memory.
 fn make_step<W: Write>(
-    room: &mut Vec<u8>,
+    buffer: &mut Vec<u8>,
     core: &mut Core,
     step: Step,
     format: Format,
@@ -33,7 +33,7 @@ fn make_step<W: Write>(
     let reply = core.apply(step);
     match telling {
         Telling::Printed(output) => {
-            write_reply(room, &reply, reply_format(output, format), writer)
+            write_reply(buffer, &reply, reply_format(output, format), writer)
         }
         Telling::Silent => check_memory(&reply),
     }
@@ -52,9 +52,9 @@ fn check_memory(reply: &Reply) -> Result<(), ScriptFault>
 }
 
 /// Makes the step that the item is, and tells what is answered; or tells of a line that says nothing, or of an end
-/// inside a module text. The texts of replies are made in this room, whatever that holds.
+/// inside a module text. The texts of replies are made in this buffer.
 pub fn tell_item<W: Write>(
-    room: &mut Vec<u8>,
+    buffer: &mut Vec<u8>,
     core: &mut Core,
     item: Item,
     telling: Telling,
@@ -65,8 +65,8 @@ pub fn tell_item<W: Write>(
     ensures fault { IfErr result (λ e. e ≢ fault.Read) }
 {
     match item {
-        Item::Step(format, step) => make_step(room, core, step, format, telling, writer),
-        Item::BadLine(number) => tell_bad_line(*room.allocator(), number, telling, writer),
+        Item::Step(format, step) => make_step(buffer, core, step, format, telling, writer),
+        Item::BadLine(number) => tell_bad_line(*buffer.allocator(), number, telling, writer),
         Item::EndOfText => tell_end(telling, writer),
     }
 }

@@ -47,8 +47,8 @@ fn tell_reply<W: Write>(alloc: Global, reply: &Reply, writer: &mut W) -> Result<
     ensures ok { IfOk result (λ accepted. (accepted ≡ is_accepted reply.now) × Appends (W.contents writer.old) (W.contents writer.new) (reply_line reply.now)) }
     ensures err { OnErr result (AppendsPart (W.contents writer.old) (W.contents writer.new) (reply_line reply.now)) }
 {
-    let mut room = Vec::new(alloc);
-    write_reply(&mut room, reply, Format::Line, writer)?;
+    let mut buffer = Vec::new(alloc);
+    write_reply(&mut buffer, reply, Format::Line, writer)?;
     flush_out(writer)?;
     Ok(is_accepted(reply))
 }

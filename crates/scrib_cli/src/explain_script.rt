@@ -24,8 +24,7 @@ use std::io::{Read, Write};
 ///
 /// # Errors
 /// Nothing was written by then, or a beginning of what was to be written.
-/// - `Read` where the reader fails, and at the first byte past 1,099,511,627,776 bytes or past
-///   16,777,216 lines.
+/// - `Read` where the reader fails, and in the line of the first byte past 16,777,216 lines or 1,099,511,627,776 bytes.
 /// - `Write` where the writer fails.
 /// - `OutOfMemory` where there is no memory for a line, a step or the text.
 pub fn explain_script<R: Read, W: Write>(

@@ -18,9 +18,6 @@ use scrib_types::text::push_bytes;
 use std::alloc::{AllocError, Global};
 use std::io::Write;
 
-// Room for the line of a permitted event, and for the LF behind it, so that the text is made in one piece.
-const USUAL_BYTES: usize = 64;
-
 /// The format of a reply, from those of its output and of its line: JSON where either is.
 pub fn reply_format(output: Format, asked: Format) -> Format
     ensures { result ≡ reply_format output asked }
@@ -48,18 +45,9 @@ pub fn push_reply(text: &mut Vec<u8>, reply: &Reply, format: Format) -> Result<(
     push_bytes(text, b"\n")
 }
 
-/// The reply in this format, with the LF behind it.
-pub fn reply_text(alloc: Global, reply: &Reply, format: Format) -> Result<Vec<u8>, AllocError>
-    ensures { IfOk result (λ text. text.items ≡ reply_text format reply.now) }
-{
-    let mut text = Vec::with_capacity(alloc, USUAL_BYTES)?;
-    push_reply(&mut text, reply, format)?;
-    Ok(text)
-}
-
-/// Writes the reply in this format. Its text is made in this room, whatever that holds.
+/// Writes the reply in this format. Its text is made in this buffer, whose bytes so far are dropped.
 pub fn write_reply<W: Write>(
-    room: &mut Vec<u8>,
+    buffer: &mut Vec<u8>,
     reply: &Reply,
     format: Format,
     writer: &mut W,
@@ -68,9 +56,9 @@ pub fn write_reply<W: Write>(
     ensures err { OnErr result (AppendsPart (W.contents writer.old) (W.contents writer.new) (reply_text format reply.now)) }
     ensures fault { IfErr result (λ e. e ≢ fault.Read) }
 {
-    room.clear();
-    push_reply(room, reply, format)?;
-    write_out(writer, room.as_slice())
+    buffer.clear();
+    push_reply(buffer, reply, format)?;
+    write_out(writer, buffer.as_slice())
 }
 
 /// What is written in this format for the line of this number, which says nothing.
@@ -102,7 +90,7 @@ fn refuse_line<W: Write>(
 }
 
 /// Writes that the line of this number says nothing, or nothing in silence.
-pub fn tell_bad_line<W: Write>(
+pub(crate) fn tell_bad_line<W: Write>(
     alloc: Global,
     number: u32,
     telling: Telling,
@@ -129,7 +117,7 @@ pub fn end_of_text(format: Format) -> &'static [u8]
 }
 
 /// Writes that the script ends inside a module text, or nothing in silence.
-pub fn tell_end<W: Write>(telling: Telling, writer: &mut W) -> Result<(), ScriptFault>
+pub(crate) fn tell_end<W: Write>(telling: Telling, writer: &mut W) -> Result<(), ScriptFault>
     ensures ok { OnOk result (Appends (W.contents writer.old) (W.contents writer.new) (told_end telling)) }
     ensures err { OnErr result (AppendsPart (W.contents writer.old) (W.contents writer.new) (told_end telling)) }
     ensures fault { IfErr result (λ e. e ≢ fault.Read) }

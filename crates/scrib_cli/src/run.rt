@@ -15,7 +15,7 @@ pub struct Run {
     core: Core,
     telling: Telling,
     // Where the text of a reply is made, so that not each one takes memory anew.
-    room: Vec<u8>,
+    buffer: Vec<u8>,
 }
 
 impl Run {
@@ -32,7 +32,7 @@ impl Run {
             script: Script::new(alloc),
             core: Core::new(alloc),
             telling,
-            room: Vec::new(alloc),
+            buffer: Vec::new(alloc),
         }
     }
 
@@ -57,7 +57,7 @@ impl Run {
         while !rest.is_empty() {
             let (item, after) = self.script.next_item(rest)?;
             if let Some(item) = item {
-                tell_item(&mut self.room, &mut self.core, item, self.telling, writer)?;
+                tell_item(&mut self.buffer, &mut self.core, item, self.telling, writer)?;
             }
             rest = after;
         }
@@ -71,7 +71,7 @@ impl Run {
         ensures limit { IfErr result (λ e. e ≢ fault.Read) }
     {
         match self.script.last_item()? {
-            Some(item) => tell_item(&mut self.room, &mut self.core, item, self.telling, writer),
+            Some(item) => tell_item(&mut self.buffer, &mut self.core, item, self.telling, writer),
             None => Ok(()),
         }
     }

@@ -27,8 +27,7 @@ const SCRIPT_PIECE_BYTES: usize = 65_536;
 ///
 /// # Errors
 /// What was written by then is a beginning of the script's output.
-/// - `Read` where the reader fails, and at the first byte past 1,099,511,627,776 bytes or past
-///   16,777,216 lines.
+/// - `Read` where the reader fails, and in the line of the first byte past 16,777,216 lines or 1,099,511,627,776 bytes.
 /// - `Write` where the writer fails.
 /// - `OutOfMemory` where there is no memory for a line or a reply's text. A step that lacks memory
 ///   is refused in its reply, and the script goes on.

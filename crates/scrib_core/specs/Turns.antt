@@ -34,8 +34,8 @@ pub data Stretch : (id : ℕ) → State → ℕ → State → Type 0 where
   none : {id : ℕ} {s : State} → Stretch id s 0 s
   more : {id n : ℕ} {s t u : State} {step : Step} → Stretch id s n t → IsAcceptedBeside id t step u → Stretch id s (n + turns step id) u
 
--- Stays fresh: what isn't marked isn't marked after the stretch. So a conversation becomes stale only where what its name
--- means changes.
+-- Stays fresh: what isn't marked isn't marked after the stretch. So a conversation becomes stale only where what its
+-- name means changes.
 abbrev pub StaysFresh : Type 0
 StaysFresh = (id n : ℕ) (s t : State) → Stretch id s n t → s.marks id ≡ Fresh → t.marks id ≡ Fresh
 

@@ -85,8 +85,8 @@ Follows w (Turn id) v = IsSome (conversation w id) × (v ≡ w)
 Follows w (Ask id) v = IsSome (conversation w id) × (v ≡ w)
 
 -- No other refusal is due, so that the step needs memory. A put needs it to find any refusal but that its text is too
--- long, a withdrawal to name the module that imports its own, and the plain profile, where it is to follow the wider one,
--- to try the protocols.
+-- long, a withdrawal to name the module that imports its own, and the plain profile, where it is to follow the wider
+-- one, to try the protocols.
 abbrev pub NeedsMemory : World → Step → Type 0
 NeedsMemory w (Put text) = length text ≤ max_text_bytes
 NeedsMemory w (Withdraw name) = has_name name (module_names w.modules) ≡ true

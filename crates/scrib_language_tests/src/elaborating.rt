@@ -14,14 +14,11 @@ fn name(alloc: Global, text: &str) -> Result<Name, Fail> {
     Ok(Name::from_bytes(alloc, text.as_bytes())?.ok_or("no name")?)
 }
 
-// The modules of these texts.
-fn modules(alloc: Global, texts: &[&str]) -> Result<Modules, Fail> {
+// The module of this text, and no other.
+fn modules(alloc: Global, text: &str) -> Result<Modules, Fail> {
     let mut modules = Modules::new(alloc);
-    for text in texts {
-        let tokens = lex(alloc, text.as_bytes())?;
-        let tree = parse(alloc, &tokens)?;
-        modules.add(tree)?;
-    }
+    let tokens = lex(alloc, text.as_bytes())?;
+    modules.add(parse(alloc, &tokens)?)?;
     Ok(modules)
 }
 
@@ -34,11 +31,11 @@ fn fault_line(alloc: Global, fault: &Fault) -> Result<Vec<u8>, Fail> {
     Ok(line)
 }
 
-// How many nodes the protocol of this name has, in the module of this name among the texts' modules.
-fn told(alloc: Global, texts: &[&str], module: &str, protocol: &str) -> Result<Vec<u8>, Fail> {
-    let modules = modules(alloc, texts)?;
+// How many nodes the protocol of this name has, in the module `t` that the text is.
+fn told(alloc: Global, text: &str, protocol: &str) -> Result<Vec<u8>, Fail> {
+    let modules = modules(alloc, text)?;
     let mut names = Vec::new(alloc);
-    names.push(name(alloc, module)?)?;
+    names.push(name(alloc, "t")?)?;
     match elaborate(
         alloc,
         &modules,
@@ -59,7 +56,7 @@ fn told_of_body(alloc: Global, body: &str) -> Result<Vec<u8>, Fail> {
     let module = format!(in alloc;
         "module t; global protocol T(role A, role B, role C) {{\n{body}}}"
     )?;
-    told(alloc, &[module.as_str()], "t", "T")
+    told(alloc, module.as_str(), "T")
 }
 
 // So many choices of two branches, one after the other, and then this.
@@ -116,7 +113,7 @@ fn deep(alloc: Global, protocols: u32) -> Result<String, Fail> {
 #[test]
 fn calls_nest_deep(rt: HostRuntime) -> Result<(), Fail> {
     let text = deep(rt.alloc(), 1000)?;
-    let line = told(rt.alloc(), &[text.as_str()], "t", "P999")?;
+    let line = told(rt.alloc(), text.as_str(), "P999")?;
     assert_eq!(rt; line.as_slice(), b"2".as_slice());
     Ok(())
 }
@@ -151,7 +148,7 @@ fn calls_that_double(rt: HostRuntime) -> Result<(), Fail> {
     ];
     for (first, want) in rows {
         let text = doubling(rt.alloc(), first)?;
-        let line = told(rt.alloc(), &[text.as_str()], "t", "P200")?;
+        let line = told(rt.alloc(), text.as_str(), "P200")?;
         assert_eq!(rt; line.as_slice(), want.as_bytes(), "of {first}");
     }
     Ok(())

@@ -1,4 +1,5 @@
--- What the workers of a sweep share: references to the runtime, the allocator, the service and the gate, and their number.
+-- What the workers of a sweep share: references to the runtime, the allocator, the service and the gate, and their
+-- number.
 use Prim.Native.Nat.{ℕ}
 use mathlib.Core.List.{List, [], ◌∷◌}
 use denote.RattleType.{RattleType}

@@ -90,7 +90,8 @@ mismatch_object conversation place =
 abbrev pub mismatch_json : ℕ → ℕ → List ℕ
 mismatch_json conversation place = compact_text (mismatch_object conversation place)
 
--- a settled conversation, as the reply to a question about it is: `{"conversation":1,"events":2,"protocol":"demo.Hello","verdict":"permitted"}`
+-- a settled conversation, as the reply to a question about it is:
+-- `{"conversation":1,"events":2,"protocol":"demo.Hello","verdict":"permitted"}`
 abbrev pub ended_json : Ended → List ℕ
 ended_json e = compact_text (judged_object e.id e.name e.events e.told)
 

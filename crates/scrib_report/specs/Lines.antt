@@ -155,7 +155,8 @@ abbrev pub edit_word : Edit → List ℕ
 edit_word which.Put = codes "put"
 edit_word which.Withdraw = codes "withdraw"
 
--- `put demo: +demo.Hello`, `profile plain`, `open 1: demo.Hello`, `1.3 permitted`, `1 permitted`, `refused NoConversation`
+-- `put demo: +demo.Hello`, `profile plain`, `open 1: demo.Hello`, `1.3 permitted`, `1 permitted`,
+-- `refused NoConversation`
 unfoldable pub line_of : Reply → List ℕ
 line_of (reply.Edited e changes) = edit_word e ++ codes " " ++ dotted_text changes.module ++ codes ":" ++ changes_text changes.list
 line_of (reply.Profiled p) = codes "profile " ++ profile_word p

@@ -1,5 +1,6 @@
 //! Runs worked examples. Each has a title line that begins with `== `, a line with a command of `scribmon` and its
-//! words (`watch`, `judge`, `explain 1`, `project demo.Hello A`, `machine demo.Hello A`), and the script or the module
+//! words (`watch`, `explain 1`, `project demo.Hello A`, `machine demo.Hello A`), or with `judge`, which compares the
+//! verdicts of a script with the judgement of whole logs, or with `edits beside notes`; and the script or the module
 //! texts of the command. What such a command writes where receptions merge is told too, where it is something else.
 //! After the word `files` stands a command as the program takes it, with files of the folder that this is run in, and
 //! behind it standard input. The output is each title with what the command writes, and after `files` what standard

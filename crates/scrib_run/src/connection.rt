@@ -82,8 +82,9 @@ impl<'a> Connection<'a> {
         })
     }
 
-    /// Makes the step that the item of this line is, and adds the line of what is answered; or a line for one that says
-    /// nothing, or for an end inside a module text. A turn or a question whose answer is asked for in JSON says nothing.
+    /// Makes the step that the item of this line is, and adds the line of what is answered; or a line for one that
+    /// says nothing, or for an end inside a module text. A turn or a question whose answer is asked for in JSON says
+    /// nothing.
     ///
     /// # Errors
     /// `OutOfMemory` where there is no memory for a line.
@@ -134,8 +135,8 @@ impl<'a> Connection<'a> {
         Ok(())
     }
 
-    // Names each shard to those who bring verdicts up to date. Where a notice finds no room it is left out: a last sweep
-    // does its work.
+    // Names each shard to those who bring verdicts up to date. Where a notice finds no room it is left out: a last
+    // sweep does its work.
     fn send_notices(&self, rt: &impl Wait) {
         let Some(outbox) = self.outbox else {
             return;
@@ -198,8 +199,8 @@ impl<'a> Connection<'a> {
         }
     }
 
-    // The place among its passes of that to the conversation, to which it connects where it has none. It makes no second
-    // one.
+    // The place among its passes of that to the conversation, to which it connects where it has none. It makes no
+    // second one.
     fn place_of_pass(&mut self, rt: &impl Wait, id: u32) -> Result<usize, Refusal>
         ensures once { IsSome (lookup (nat_eq id) self.old.passes.entries) → self.new.passes ≡ self.old.passes }
         ensures within { IfOk result (λ at. at < index_map_len self.new.passes) }

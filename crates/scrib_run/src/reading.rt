@@ -18,7 +18,7 @@ const PIECE_BYTES: usize = 65_536;
 ///
 /// # Errors
 /// The lines before are the connection's.
-/// - `Read` where the reader fails, and at the first byte past the limits of a script.
+/// - `Read` where the reader fails, and in the line of the first byte past the limits of a script.
 /// - `OutOfMemory` where there is no memory for a line.
 pub(crate) fn run_script<R: Read, P: Progress>(
     rt: &impl Wait,

@@ -8,7 +8,7 @@ use crate::progress::{Phase, Progress, Tally};
 use crate::reading::run_script;
 pub use scrib_cli::fault::ScriptFault;
 use scrib_cli::writing::{flush_out, write_out};
-use scrib_rejudge::workers::{SweepFault, sweep};
+use scrib_rejudge::workers::sweep;
 use scrib_report::table::{table, table_json};
 use scrib_script::format::Format;
 use scrib_settle::ended::Ended;
@@ -33,7 +33,7 @@ use std::thread::Threads;
 ///
 /// # Errors
 /// What was written by then is a beginning of the output.
-/// - `Read` where the reader of the setup fails, and at the first byte of it past the limits of a script.
+/// - `Read` where the reader of the setup fails, and in the line of its first byte past the limits of a script.
 /// - `Write` where the writer fails.
 /// - `Settle` where the passes don't account for each event of the logs; this would be a defect of the service.
 /// - `OutOfMemory` where there is no memory for a line, a thread, the channel, the last sweep or the settling.

@@ -79,7 +79,7 @@ TakesFront old new piece rest items = (front : List ℕ) × (piece ≡ front ++ 
 abbrev pub IsOneLine : List ℕ → Type 0
 IsOneLine part = lines part ≡ part ∷ []
 
--- with these bytes of one line, which are some, the script is past its limits
+-- with these bytes of one line, of which there is one at least, the script is past its limits
 abbrev pub IsPastWith : Script → List ℕ → Type 0
 IsPastWith s part = (s.limits.bytes < s.bytes + length part) ⊎ (s.limits.lines ≤ s.lines)
 

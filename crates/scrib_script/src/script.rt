@@ -82,8 +82,8 @@ impl Script {
     ///
     /// # Errors
     /// The script is then at no place from which it can be read further.
-    /// - `TooLong` in the line of the first byte past the limits, before that line ends an item. They are 16,777,216 lines
-    ///   and 1,099,511,627,776 bytes unless the script was made with others.
+    /// - `TooLong` in the line of the first byte past the limits, before that line ends an item. They are 16,777,216
+    ///   lines and 1,099,511,627,776 bytes unless the script was made with others.
     /// - `OutOfMemory` where memory for a line, a text or a step was refused.
     pub fn next_item<'a>(&mut self, piece: &'a [u8]) -> Result<(Option<Item>, &'a [u8]), SpellFault>
         ensures taken { IfOk result (λ r. TakesFront self.old self.new piece.now r.1.now (listed r.0)) }

@@ -30,8 +30,9 @@ conversation_of shards id = record_at (records_at shards (own_shard shards id)) 
 abbrev pub IsThere : List ShardHeld → List PassHeld → (id place : ℕ) → Type 0
 IsThere shards passes id place = place ≡ 1 → All (λ p. p.conversation ≡ id → IsSome (conversation_of shards id)) passes
 
--- A place of a conversation stands. What the receipts tell of it is its entry and no more. A conversation that is missing
--- or stands elsewhere differs at place 1: there, each pass to it finds it in its own shard, and no other shard has it.
+-- A place of a conversation stands. What the receipts tell of it is its entry and no more. A conversation that is
+-- missing or stands elsewhere differs at place 1: there, each pass to it finds it in its own shard, and no other shard
+-- has it.
 pub record Stands (shards : List ShardHeld) (passes : List PassHeld) (id place : ℕ) : Type 0 where
   pub told : IfSome (conversation_of shards id) (λ r. told_at place (receipts_of id passes) ≡ entry_at place r.log)
   pub there : IsThere shards passes id place

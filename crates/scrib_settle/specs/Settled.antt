@@ -40,7 +40,8 @@ pub record AreEnded (h : Holdings) (rs : Records) (old new : List Ended) : Type 
   pub ids : map (λ e. e.id) added ≡ keys_of rs
   pub each : All (IsEndedIn h rs) added
 
--- Every conversation of the shards, by rising id: each stands in its own shard, with what is listed of its record there.
+-- Every conversation of the shards, by rising id: each stands in its own shard, with what is listed of its record
+-- there.
 pub record IsListed (h : Holdings) (shards : List ShardHeld) (list : List Ended) : Type 0 where
   pub all : IsPermutation (flat_map (λ s. keys_of s.records) shards) (map (λ e. e.id) list)
   pub rise : IsStrictlyIncreasing (map (λ e. e.id) list)

@@ -47,8 +47,8 @@ IsFirstDiffering log receipts None = (place : ℕ) → told_at place receipts �
 IsFirstDiffering log receipts (Some n) =
     (told_at n receipts ≢ entry_at n log) × ((place : ℕ) → place < n → told_at place receipts ≡ entry_at place log)
 
--- the place of a conversation stands in the shard of this number, of so many: in its own shard what is told of it is its
--- entry; in another its place 1 differs
+-- the place of a conversation stands in the shard of this number, of so many: in its own shard what is told of it is
+-- its entry; in another its place 1 differs
 abbrev pub OneStands : (count at : ℕ) → List PassHeld → (id place : ℕ) → Recorded → Type 0
 OneStands count at passes id place r =
     (nat_eq (id % count) at ≡ true → told_at place (receipts_of id passes) ≡ entry_at place r.log)

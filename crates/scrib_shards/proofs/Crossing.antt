@@ -1,5 +1,5 @@
--- A service may be shared by threads: what its library and its shards own says the same to each of them. The search that
--- is made where threads begin gives up on types of this size, so it is made here piece by piece.
+-- A service may be shared by threads: what its library and its shards own says the same to each of them. The search
+-- that is made where threads begin gives up on types of this size, so it is made here piece by piece.
 use Prim.Native.Nat.{ℕ}
 use mathlib.Core.List.{List, [], ◌∷◌}
 use denote.RattleType.{RattleType}

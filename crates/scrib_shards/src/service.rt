@@ -128,8 +128,9 @@ impl Service {
 
     /// Opens a conversation of the protocol.
     ///
-    /// # Errors `AlreadyOpen`, `UnknownProtocol`, `TooManyConversations` where its shard is full, or `OutOfMemory`,
-    /// the first that is due. Nothing changes.
+    /// # Errors
+    /// `AlreadyOpen`, `UnknownProtocol`, `TooManyConversations` where its shard is full, or `OutOfMemory`, the first
+    /// that is due. Nothing changes.
     pub fn open(&self, rt: &impl Wait, id: u32, name: &Dotted) -> Result<(), Refusal>
         ensures ok { OnOk result (IsOpenedSome id name.now) }
         ensures fault { IfErr result (OpenFailsSome id name.now) }
@@ -157,7 +158,8 @@ impl Service {
     /// is that on a log of as many events as the place says, which ends with the event and has the newest earlier
     /// receipt at its place.
     ///
-    /// # Errors `Mismatch` where the newest receipt doesn't stand at its place, else `NoConversation`, `LogFull` or
+    /// # Errors
+    /// `Mismatch` where the newest receipt doesn't stand at its place, else `NoConversation`, `LogFull` or
     /// `OutOfMemory`, the first that is due. Nothing changes, nor does the pass.
     pub fn note<G: Gate>(
         &self,

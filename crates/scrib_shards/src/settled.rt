@@ -36,8 +36,8 @@ impl Settled {
 }
 
 impl Service {
-    /// Ends the service: every conversation, where the passes have exactly one receipt for each place of each log, which
-    /// is equal to the entry there, and none besides.
+    /// Ends the service: every conversation, where the passes have exactly one receipt for each place of each log,
+    /// which is equal to the entry there, and none besides.
     ///
     /// # Errors
     /// `PassesMissing` for the least shard whose passes have other than its number of receipts; else `Mismatch` for the
