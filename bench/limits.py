@@ -4,8 +4,8 @@
     limits.py [--program FILE]
 
 Run it from anywhere, after `make run`. For each script it prints its bytes, the bytes of the output, the seconds of
-processor time and the most memory that `watch`, or last `run`, took. docs/LIMITS.md says what each of them is. It needs 2 GB of memory,
-and is no test.
+processor time and the most memory that `watch`, or last `run`, took. docs/LIMITS.md says what each of them is. It
+needs 2 GB of memory, and is no test.
 """
 
 import argparse
@@ -56,6 +56,20 @@ def wide_choice():
     """One choice of 30,000 messages."""
     branches = " or ".join("{ m%d() from R0 to R1; }" % i for i in range(30_000))
     return put("module c;\nglobal protocol C(role R0, role R1) { choice at R0 %s }\n" % branches)
+
+
+def choice_of_one_hash():
+    """One choice of 18,000 messages whose operators have one hash: `Ab` counts as much as `BA`."""
+    operators = ("".join(("Ab", "BA")[i >> k & 1] for k in range(15)) for i in range(18_000))
+    branches = " or ".join("{ %s() from R0 to R1; }" % operator for operator in operators)
+    return put("module h;\nglobal protocol H(role R0, role R1) { choice at R0 %s }\n" % branches)
+
+
+def learned_choice():
+    """One choice of 16,000 messages, of which a third role is told, where receptions merge."""
+    branches = " or ".join("{ m%d() from R0 to R1; m%d() from R0 to R2; }" % (i, i) for i in range(16_000))
+    text = "module r;\nglobal protocol R(role R0, role R1, role R2) { choice at R0 %s }\n" % branches
+    return "profile reception\n" + put(text)
 
 
 def large_modules():
@@ -117,6 +131,8 @@ def main():
     cost(program, "wide types", wide_protocols(64, 16))
     cost(program, "many loops", many_loops())
     cost(program, "one wide choice", wide_choice())
+    cost(program, "choice, one hash", choice_of_one_hash())
+    cost(program, "learned choice", learned_choice())
     cost(program, "long types", long_protocols(1024, 16))
     cost(program, "large modules", large_modules())
     cost(program, "long replies", long_replies())

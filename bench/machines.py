@@ -8,8 +8,8 @@ new folder, proves and builds the program of `machine_times/` there, which reads
 of rounds. What one round takes is the difference of their processor times by that of the counts; the best of five
 runs counts. The program's files end in `.txt` here, since they are of no crate of this repository, and the gate would
 stop at them. Prints, of machines with so many states, nanoseconds for a step in a state with so many branches (the
-mean of its actions, on a walk from choice to choice); and, of local types with so many nodes, nanoseconds of `compile`
-for each node. It is no test.
+mean of its actions, on a walk from choice to choice); and, of local types with so many nodes, nanoseconds of
+`compile` for each node. It is no test.
 """
 
 import argparse

@@ -3,12 +3,14 @@
 
     run.py [--program FILE] [--events N] [--conversations N] [--cores LIST]
 
-Run it from anywhere, after `make run`; times are those of the clock, the best of five runs, so nothing else should run.
-First four connections of 250,000 events each, over 4 shards with 2 workers, against `watch` over the same events in one
-script, and against four times `watch` beside each other over a quarter each, which is the most that the machine gives. Then the time from an edit that changes the one protocol of 10,000 conversations of 100 events each until none is
-out of date, with 1, 2 and 4 workers: that of a run whose connection puts the changed text, which permits all that the
-first one does, less that of one whose connection puts the text that stands there. --program names another program, --events and --conversations other sizes,
-and --cores keeps the runs on these processors, as 2,3. It is no test: it looks only at the number of events in the tables.
+Run it from anywhere, after `make run`; times are those of the clock, the best of five runs, so nothing else should
+run. First four connections of 250,000 events each, over 4 shards with 2 workers, against `watch` over the same events
+in one script, and against four times `watch` beside each other over a quarter each, which is the most that the
+machine gives. Then the time from an edit that changes the one protocol of 10,000 conversations of 100 events each
+until none is out of date, with 1, 2 and 4 workers: that of a run whose connection puts the changed text, which
+permits all that the first one does, less that of one whose connection puts the text that stands there. --program
+names another program, --events and --conversations other sizes, and --cores keeps the runs on these processors, as
+2,3. It is no test: it looks only at the number of events in the tables.
 """
 
 import argparse

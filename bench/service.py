@@ -3,12 +3,13 @@
 
     service.py [--whole] [--notes N] [--cores LIST]
 
-Run it from anywhere, after `rt run` in crates/scrib_service_notes. The program reads no clock: times are taken here. What
-a note takes is the difference of the seconds of two runs by that of their numbers of notes; the best of three counts.
-Prints microseconds of a core's note on one thread; then, for 1, 2, 4 and 8 threads with 64 shards, and with one shard,
-notes in a second over all threads and microseconds of processor time for each; then the same beside a thread that
-puts a module without pause. With --whole also settles 1,000,000 notes of 16 threads, and prints the seconds. --cores
-keeps the runs on these processors, as 2,3. It is no test.
+Run it from anywhere, after `rt run` in crates/scrib_service_notes. The program reads no clock: times are taken here.
+What a note takes is the difference of the seconds of two runs by that of their numbers of notes; the best of three
+counts. Prints microseconds of a core's note on one thread, and notes in a second of 2, 4 and 8 programs beside each
+other, each with a core of its own, which is the most that the machine gives; then, for 1, 2, 4 and 8 threads with 64
+shards, and with one shard, notes in a second over all threads and microseconds of processor time for each; then the
+same beside a thread that puts a module without pause. With --whole also settles 1,000,000 notes of 16 threads, and
+prints the seconds. --cores keeps the runs on these processors, as 2,3. It is no test.
 """
 
 import argparse
@@ -18,7 +19,8 @@ import subprocess
 import sys
 import time
 
-PROGRAM = os.path.join(os.path.dirname(os.path.abspath(__file__)), "..", "crates", "scrib_service_notes", "out", "scrib_service_notes")
+HERE = os.path.dirname(os.path.abspath(__file__))
+PROGRAM = os.path.join(HERE, "..", "crates", "scrib_service_notes", "out", "scrib_service_notes")
 RUNS = 3
 
 
@@ -46,6 +48,23 @@ def per_note(words, notes, cores):
     return [(best[1][i] - best[0][i]) / (many - few) for i in (0, 1)]
 
 
+def per_note_beside(programs, notes, cores):
+    """Seconds by the clock that one note takes, where so many programs share the notes."""
+    pin = ["taskset", "-c", cores] if cores else []
+    best = []
+    for count in (notes // 4, notes):
+        words = pin + [PROGRAM, "apply", str(count // programs)]
+        took = []
+        for _ in range(RUNS):
+            begun = time.monotonic()
+            running = [subprocess.Popen(words, stdout=subprocess.DEVNULL) for _ in range(programs)]
+            if any(program.wait() for program in running):
+                sys.exit("a program failed")
+            took.append(time.monotonic() - begun)
+        best.append(min(took))
+    return (best[1] - best[0]) / (notes - notes // 4)
+
+
 def main():
     parser = argparse.ArgumentParser(description=__doc__, formatter_class=argparse.RawDescriptionHelpFormatter)
     parser.add_argument("--whole", action="store_true", help="settle a million notes too")
@@ -54,6 +73,9 @@ def main():
     given = parser.parse_args()
     clock, spent = per_note(["apply"], given.notes, given.cores)
     print("core                          %10.0f notes/s %8.2f us" % (1 / clock, spent * 1e6), flush=True)
+    for programs in (2, 4, 8):
+        clock = per_note_beside(programs, given.notes, given.cores)
+        print("%d programs, a core each        %8.0f notes/s" % (programs, 1 / clock), flush=True)
     for task, name in (("notes", "alone"), ("edited", "beside edits")):
         for shards in (64, 1):
             for threads in (1, 2, 4, 8):

@@ -1,7 +1,8 @@
 #!/usr/bin/env python3
 """Feeds scribmon by a pipe that stays open, and sees each reply before the next line is sent.
 
-Usage: held_pipe.py PROGRAM. Prints how many replies came, and ends with status 1 where one didn't come within ten seconds.
+Usage: held_pipe.py PROGRAM. Prints how many replies came, and ends with status 1 where one didn't come within ten
+seconds.
 """
 import select
 import subprocess

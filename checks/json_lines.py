@@ -1,9 +1,9 @@
 #!/usr/bin/env python3
 """Reads JSON lines on standard input back by another parser, and writes each again.
 
-Usage: scribmon watch SCRIPT | json_lines.py. A line that begins with { has to be one object whose keys come in the order
-of their bytes, without blanks; other lines are passed over. Prints how many there were; ends with status 1 at one that
-isn't so, and where there was none.
+Usage: scribmon watch SCRIPT | json_lines.py. A line that begins with { has to be one object whose keys come in the
+order of their bytes, without blanks; other lines are passed over. Prints how many there were; ends with status 1 at
+one that isn't so, and where there was none.
 """
 import json
 import sys

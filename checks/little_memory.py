@@ -1,11 +1,11 @@
 #!/usr/bin/env python3
 """Runs scribmon with its address space cut to 4, 8, 16 and so on to 512 MB, over examples and a long log.
 
-Usage: little_memory.py PROGRAM. Each reply has to be the right one, or `refused OutOfMemory` for a step that then made
-no change: what is answered to the other steps has to be what is answered to them alone with ample memory. Or the program
-ends with `scribmon: out of memory` and status 1 behind some of these replies. Prints for each size how many runs answered
-all, how many steps were refused and how many runs ended early, and ends with status 1 where one did anything else, as
-where it was stopped by a signal.
+Usage: little_memory.py PROGRAM. Each reply has to be the right one, or `refused OutOfMemory` for a step that then
+made no change: what is answered to the other steps has to be what is answered to them alone with ample memory. Or the
+program ends with `scribmon: out of memory` and status 1 behind some of these replies. Prints for each size how many
+runs answered all, how many steps were refused and how many runs ended early, and ends with status 1 where one did
+anything else, as where it was stopped by a signal.
 """
 import glob
 import os
