@@ -144,29 +144,67 @@ fn edit(alloc: Global, core: &mut Core, numbers: &mut Numbers) -> Result<(), Fai
     Ok(())
 }
 
-// Makes a conversation, and tells whether the core and the definitions agree on it.
-fn converse(alloc: Global, numbers: &mut Numbers) -> Result<bool, Fail> {
-    let mut core = Core::new(alloc);
-    core.apply(put(alloc, TEXTS[0])?);
-    core.apply(step(alloc, "open 1 m.P")?);
-    let mut events = Events {
-        flight: VecDeque::new(alloc),
-    };
-    let mut reports = Vec::new(alloc);
-    reports.push(noted(alloc, &mut core, "join 1 A")?)?;
-    reports.push(noted(alloc, &mut core, "join 1 B")?)?;
-    for _ in 2..EVENTS {
+// Conversation 1 of a core, what its roles do next, and what was told since the last edit.
+#[derive(Drop)]
+struct Conversation {
+    core: Core,
+    events: Events,
+    reports: Vec<Reported>,
+}
+
+impl Conversation {
+    fn new(alloc: Global) -> Conversation {
+        Conversation {
+            core: Core::new(alloc),
+            events: Events {
+                flight: VecDeque::new(alloc),
+            },
+            reports: Vec::new(alloc),
+        }
+    }
+
+    fn note(&mut self, alloc: Global, line: &str) -> Result<(), Fail> {
+        let reported = noted(alloc, &mut self.core, line)?;
+        self.reports.push(reported)?;
+        Ok(())
+    }
+
+    fn open(&mut self, alloc: Global) -> Result<(), Fail> {
+        self.core.apply(put(alloc, TEXTS[0])?);
+        self.core.apply(step(alloc, "open 1 m.P")?);
+        self.note(alloc, "join 1 A")?;
+        self.note(alloc, "join 1 B")
+    }
+
+    fn agrees(&self, alloc: Global) -> Result<bool, Fail> {
+        agree(alloc, &self.core, self.reports.as_slice())
+    }
+
+    // One event more, now and then after an edit. Tells whether the reports before the edit were right.
+    fn go_on(&mut self, alloc: Global, numbers: &mut Numbers) -> Result<bool, Fail> {
         if numbers.once_in(60) {
-            if !agree(alloc, &core, reports.as_slice())? {
+            if !self.agrees(alloc)? {
                 return Ok(false);
             }
-            reports.clear();
-            edit(alloc, &mut core, numbers)?;
+            self.reports.clear();
+            edit(alloc, &mut self.core, numbers)?;
         }
-        let line = events.next(numbers)?;
-        reports.push(noted(alloc, &mut core, line)?)?;
+        let line = self.events.next(numbers)?;
+        self.note(alloc, line)?;
+        Ok(true)
     }
-    agree(alloc, &core, reports.as_slice())
+}
+
+// Makes a conversation, and tells whether the core and the definitions agree on it.
+fn converse(alloc: Global, numbers: &mut Numbers) -> Result<bool, Fail> {
+    let mut conversation = Conversation::new(alloc);
+    conversation.open(alloc)?;
+    for _ in 2..EVENTS {
+        if !conversation.go_on(alloc, numbers)? {
+            return Ok(false);
+        }
+    }
+    conversation.agrees(alloc)
 }
 
 #[test]

@@ -23,30 +23,45 @@ fn number(alloc: Global, library: &Library, parts: &[&str]) -> Result<u32, Fail>
     Ok(library.present(&name).ok_or("no protocol")?.number())
 }
 
+// How many protocols the put changes.
+fn count_changes(library: &mut Library, text: &str) -> Result<usize, Fail> {
+    let changes = put(library, text)?;
+    Ok(changes.list.as_slice().len())
+}
+
+// Puts the two texts in turn, 65,536 in all, and tells whether each changed the protocol.
+fn use_all_versions(library: &mut Library) -> Result<bool, Fail> {
+    for i in 0..65_536 {
+        if count_changes(library, if i % 2 == 0 { A } else { B })? != 1 {
+            return Ok(false);
+        }
+    }
+    Ok(true)
+}
+
+// Whether the module is taken out, and its protocol alone is told as withdrawn.
+fn is_withdrawn(alloc: Global, library: &mut Library) -> Result<bool, Fail> {
+    let module = dotted(alloc, &["f"])?;
+    let protocol = dotted(alloc, &["f", "P"])?;
+    match library.withdraw(&module) {
+        Ok(changes) => match changes.list.as_slice() {
+            [change] => Ok(change.kind == ChangeKind::Withdrawn && change.name.equal(&protocol)),
+            _ => Ok(false),
+        },
+        Err(_) => Err(Fail::new("the withdrawal is refused")),
+    }
+}
+
 #[test]
 fn versions_run_out(rt: HostRuntime) -> Result<(), Fail> {
     let alloc = rt.alloc();
     let mut library = Library::new(alloc);
-    for i in 0..65_536 {
-        let changes = put(&mut library, if i % 2 == 0 { A } else { B })?;
-        assert_eq!(rt; changes.list.as_slice().len(), 1);
-    }
+    assert_eq!(rt; use_all_versions(&mut library)?, true);
     assert_eq!(rt; library.used(), 65_536);
     assert!(rt; matches!(library.put(A.as_bytes()), Err(EditFault::VersionsFull)));
     assert_eq!(rt; number(alloc, &library, &["f", "P"])?, 65_535);
-    let changes = put(&mut library, B)?;
-    assert_eq!(rt; changes.list.as_slice().len(), 0);
+    assert_eq!(rt; count_changes(&mut library, B)?, 0);
     // a withdrawal needs no version
-    let name = dotted(alloc, &["f"])?;
-    let Ok(changes) = library.withdraw(&name) else {
-        return Err(Fail::new("the withdrawal is refused"));
-    };
-    assert_eq!(rt; changes.list.as_slice().len(), 1);
-    assert_eq!(rt; changes.list.as_slice()[0].kind, ChangeKind::Withdrawn);
-    assert!(rt;
-        changes.list.as_slice()[0]
-            .name
-            .equal(&dotted(alloc, &["f", "P"])?)
-    );
+    assert_eq!(rt; is_withdrawn(alloc, &mut library)?, true);
     Ok(())
 }

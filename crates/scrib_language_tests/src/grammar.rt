@@ -1,7 +1,9 @@
 use scrib_lexer::lex::lex;
 use scrib_parser::fault::{LeftOutWord, ParseFault};
 use scrib_parser::parse::parse;
-use scrib_parser::tree::{Import, ModuleTree, Statement};
+use scrib_parser::tree::{
+    Block, Import, ModuleTree, ProtocolDeclaration, RoleDeclaration, Statement,
+};
 use scrib_types::name::{Dotted, Name};
 use scrib_types::shared_message::SharedMessage;
 use scrib_types::spot::Spot;
@@ -64,13 +66,33 @@ fn put_import(alloc: Global, out: &mut Vec<u8>, import: &Import) -> Result<(), A
     put_spot(alloc, out, import.spot)
 }
 
+fn put_word(out: &mut Vec<u8>, word: &[u8], name: &Name) -> Result<(), AllocError> {
+    out.extend_from_slice(word)?;
+    out.extend_from_slice(name.as_bytes())?;
+    Ok(())
+}
+
+fn put_count(alloc: Global, out: &mut Vec<u8>, statements: &[Statement]) -> Result<(), AllocError> {
+    let text = format!(in alloc; " {}", statements.len())?;
+    out.extend_from_slice(text.as_bytes())?;
+    Ok(())
+}
+
+fn put_branches(alloc: Global, out: &mut Vec<u8>, branches: &[Block]) -> Result<(), AllocError> {
+    for branch in branches {
+        put_count(alloc, out, branch.body.as_slice())?;
+        put_spot(alloc, out, branch.spot)?;
+    }
+    Ok(())
+}
+
 /// A statement as text; of a block in it the place and how many statements it has.
 fn put_statement(
     alloc: Global,
     out: &mut Vec<u8>,
     statement: &Statement,
 ) -> Result<(), AllocError> {
-    match statement {
+    let spot = match statement {
         Statement::Message {
             message,
             from,
@@ -78,33 +100,24 @@ fn put_statement(
             spot,
         } => {
             put_message(out, message)?;
-            out.push(b' ')?;
-            out.extend_from_slice(from.as_bytes())?;
+            put_word(out, b" ".as_slice(), from)?;
             out.push(b'>')?;
             put_names(out, to.as_slice())?;
-            put_spot(alloc, out, *spot)
+            spot
         }
         Statement::Choice { at, branches, spot } => {
-            out.extend_from_slice(b"choice ".as_slice())?;
-            out.extend_from_slice(at.as_bytes())?;
-            for branch in branches.as_slice() {
-                let text = format!(in alloc; " {}", branch.body.as_slice().len())?;
-                out.extend_from_slice(text.as_bytes())?;
-                put_spot(alloc, out, branch.spot)?;
-            }
-            put_spot(alloc, out, *spot)
+            put_word(out, b"choice ".as_slice(), at)?;
+            put_branches(alloc, out, branches.as_slice())?;
+            spot
         }
         Statement::Rec { name, body, spot } => {
-            out.extend_from_slice(b"rec ".as_slice())?;
-            out.extend_from_slice(name.as_bytes())?;
-            let text = format!(in alloc; " {}", body.as_slice().len())?;
-            out.extend_from_slice(text.as_bytes())?;
-            put_spot(alloc, out, *spot)
+            put_word(out, b"rec ".as_slice(), name)?;
+            put_count(alloc, out, body.as_slice())?;
+            spot
         }
         Statement::Continue { name, spot } => {
-            out.extend_from_slice(b"continue ".as_slice())?;
-            out.extend_from_slice(name.as_bytes())?;
-            put_spot(alloc, out, *spot)
+            put_word(out, b"continue ".as_slice(), name)?;
+            spot
         }
         Statement::Do {
             protocol,
@@ -114,32 +127,54 @@ fn put_statement(
             out.extend_from_slice(b"do ".as_slice())?;
             put_dotted(out, protocol)?;
             put_names(out, roles.as_slice())?;
-            put_spot(alloc, out, *spot)
+            spot
         }
+    };
+    put_spot(alloc, out, *spot)
+}
+
+fn put_roles(
+    alloc: Global,
+    out: &mut Vec<u8>,
+    roles: &[RoleDeclaration],
+) -> Result<(), AllocError> {
+    for role in roles {
+        put_word(out, b" ".as_slice(), &role.name)?;
+        put_spot(alloc, out, role.spot)?;
     }
+    Ok(())
+}
+
+fn put_protocol(
+    alloc: Global,
+    out: &mut Vec<u8>,
+    protocol: &ProtocolDeclaration,
+) -> Result<(), AllocError> {
+    put_word(out, b"\n".as_slice(), &protocol.name)?;
+    put_spot(alloc, out, protocol.spot)?;
+    put_roles(alloc, out, protocol.roles.as_slice())?;
+    for statement in protocol.body.as_slice() {
+        out.extend_from_slice(b"\n  ".as_slice())?;
+        put_statement(alloc, out, statement)?;
+    }
+    Ok(())
+}
+
+fn put_imports(alloc: Global, out: &mut Vec<u8>, imports: &[Import]) -> Result<(), AllocError> {
+    for import in imports {
+        out.extend_from_slice(b"\nimport ".as_slice())?;
+        put_import(alloc, out, import)?;
+    }
+    Ok(())
 }
 
 /// The tree as text, with each place.
 fn shown(alloc: Global, tree: &ModuleTree) -> Result<Vec<u8>, AllocError> {
     let mut out = Vec::new(alloc);
     put_dotted(&mut out, &tree.name)?;
-    for import in tree.imports.as_slice() {
-        out.extend_from_slice(b"\nimport ".as_slice())?;
-        put_import(alloc, &mut out, import)?;
-    }
+    put_imports(alloc, &mut out, tree.imports.as_slice())?;
     for protocol in tree.protocols.as_slice() {
-        out.push(b'\n')?;
-        out.extend_from_slice(protocol.name.as_bytes())?;
-        put_spot(alloc, &mut out, protocol.spot)?;
-        for role in protocol.roles.as_slice() {
-            out.push(b' ')?;
-            out.extend_from_slice(role.name.as_bytes())?;
-            put_spot(alloc, &mut out, role.spot)?;
-        }
-        for statement in protocol.body.as_slice() {
-            out.extend_from_slice(b"\n  ".as_slice())?;
-            put_statement(alloc, &mut out, statement)?;
-        }
+        put_protocol(alloc, &mut out, protocol)?;
     }
     Ok(out)
 }

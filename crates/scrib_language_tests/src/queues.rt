@@ -1,5 +1,7 @@
 //! Queues of messages between roles.
 
+ghost use Rattle.std.specs.Prelude.{◌≡◌, ◌<◌};
+
 use scrib_queues::queues::Queues;
 use scrib_types::message::{Message, Payload};
 use scrib_types::name::Name;
@@ -22,20 +24,39 @@ fn is_message(found: Option<&SharedMessage>, wanted: &SharedMessage) -> bool {
     }
 }
 
+// Pushes the message in room that is made for it.
+fn push(queues: &mut Queues, p: usize, q: usize, message: &SharedMessage) -> Result<(), Fail>
+    requires sender { p < queues.old.roles }
+    requires receiver { q < queues.old.roles }
+    ensures { queues.new.roles ≡ queues.old.roles }
+{
+    let copy = message.copy()?;
+    queues.reserve(p, q)?;
+    queues.push(p, q, copy);
+    Ok(())
+}
+
+// Whether the message is the one that is popped.
+fn pops(queues: &mut Queues, p: usize, q: usize, message: &SharedMessage) -> bool
+    requires sender { p < queues.old.roles }
+    requires receiver { q < queues.old.roles }
+    ensures { queues.new.roles ≡ queues.old.roles }
+{
+    let popped = queues.pop(p, q);
+    is_message(popped.as_ref(), message)
+}
+
 #[test]
 fn what_is_pushed_is_popped(rt: HostRuntime) -> Result<(), Fail> {
     let alloc = rt.alloc();
     let a = message(alloc, b"a")?;
     let mut queues = Queues::new(alloc, 2);
-    assert_eq!(rt; queues.roles(), 2);
-    queues.reserve(0, 1)?;
-    queues.push(0, 1, a.copy()?);
+    push(&mut queues, 0, 1, &a)?;
     assert!(rt; is_message(queues.front(0, 1), &a));
     let copy = queues.copy(alloc)?;
     assert!(rt; is_message(copy.front(0, 1), &a));
     assert!(rt; queues.front(1, 0).is_none());
-    let popped = queues.pop(0, 1);
-    assert!(rt; is_message(popped.as_ref(), &a));
+    assert!(rt; pops(&mut queues, 0, 1, &a));
     assert!(rt; queues.pop(0, 1).is_none());
     assert!(rt; is_message(copy.front(0, 1), &a));
     Ok(())
@@ -46,23 +67,15 @@ fn two_queues_keep_their_orders(rt: HostRuntime) -> Result<(), Fail> {
     let alloc = rt.alloc();
     let a = message(alloc, b"a")?;
     let b = message(alloc, b"b")?;
-    let c = message(alloc, b"c")?;
     let mut queues = Queues::new(alloc, 3);
-    queues.reserve(0, 1)?;
-    queues.push(0, 1, a.copy()?);
-    queues.reserve(2, 0)?;
-    queues.push(2, 0, b.copy()?);
-    queues.reserve(0, 1)?;
-    queues.push(0, 1, c.copy()?);
-    queues.reserve(0, 1)?;
-    queues.push(0, 1, b.copy()?);
-    let first = queues.pop(0, 1);
-    assert!(rt; is_message(first.as_ref(), &a));
-    let second = queues.pop(0, 1);
-    assert!(rt; is_message(second.as_ref(), &c));
-    let other = queues.pop(2, 0);
-    assert!(rt; is_message(other.as_ref(), &b));
-    assert!(rt; is_message(queues.front(0, 1), &b));
+    push(&mut queues, 0, 1, &a)?;
+    push(&mut queues, 2, 0, &b)?;
+    push(&mut queues, 0, 1, &b)?;
+    push(&mut queues, 0, 1, &a)?;
+    assert!(rt; pops(&mut queues, 0, 1, &a));
+    assert!(rt; pops(&mut queues, 0, 1, &b));
+    assert!(rt; pops(&mut queues, 2, 0, &b));
+    assert!(rt; is_message(queues.front(0, 1), &a));
     queues.clear();
     assert!(rt; queues.front(0, 1).is_none());
     assert!(rt; queues.front(2, 0).is_none());

@@ -15,7 +15,7 @@ pub(crate) const MODULE: &str =
 pub(crate) const OTHER: &str =
     "module demo; global protocol Hello(role A, role B) { hello() from A to B; bye() from B to A; }";
 
-/// How many events a log may have.
+/// How many events each log is given at most.
 pub(crate) const PER_LOG: usize = 65_536;
 
 fn step_of(alloc: Global, text: &str) -> Result<Step, NotesFault> {
@@ -47,15 +47,17 @@ pub(crate) struct Events {
     exchange: [Event; 2],
 }
 
+// The events that the two lines note.
+fn pair_of(alloc: Global, first: &str, second: &str) -> Result<[Event; 2], NotesFault> {
+    let first = event_of(alloc, first)?;
+    Ok([first, event_of(alloc, second)?])
+}
+
 impl Events {
     pub(crate) fn new(alloc: Global) -> Result<Events, NotesFault> {
-        Ok(Events {
-            joins: [event_of(alloc, "join 0 A")?, event_of(alloc, "join 0 B")?],
-            exchange: [
-                event_of(alloc, "send 0 A B a()")?,
-                event_of(alloc, "recv 0 A B a()")?,
-            ],
-        })
+        let joins = pair_of(alloc, "join 0 A", "join 0 B")?;
+        let exchange = pair_of(alloc, "send 0 A B a()", "recv 0 A B a()")?;
+        Ok(Events { joins, exchange })
     }
 
     /// The event of this place, from 0.

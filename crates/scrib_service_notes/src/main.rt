@@ -19,6 +19,7 @@ use scrib_report::table::table;
 use scrib_shards::gate::OpenGate;
 use scrib_shards::pass::Pass;
 use scrib_shards::service::Service;
+use scrib_types::name::Dotted;
 use scrib_types::plain::Items;
 use std::alloc::{AllocError, Global};
 use std::io::Write;
@@ -50,6 +51,20 @@ fn note_log(
     Ok(())
 }
 
+// Opens the conversation of this id, notes so many events in it, and gives the pass back.
+fn converse(
+    rt: &impl Wait,
+    service: &Service,
+    id: u32,
+    (name, events): (&Dotted, &Events),
+    notes: usize,
+) -> Result<Pass, NotesFault> {
+    service.open(rt, id, name)?;
+    let mut pass = service.connect(rt, id)?;
+    note_log(rt, service, &mut pass, events, notes)?;
+    Ok(pass)
+}
+
 // Notes so many events in conversations of the thread's own, and gives the passes back.
 fn note_all(
     rt: &impl Wait,
@@ -63,9 +78,8 @@ fn note_all(
     let mut passes = Vec::new(alloc);
     for first in (0..notes).step_by(PER_LOG) {
         let id = id_of(thread.saturating_add(first / PER_LOG * ID_STEP))?;
-        service.open(rt, id, &name)?;
-        let mut pass = service.connect(rt, id)?;
-        note_log(rt, service, &mut pass, &events, PER_LOG.min(notes - first))?;
+        let left = PER_LOG.min(notes - first);
+        let pass = converse(rt, service, id, (&name, &events), left)?;
         passes.push(pass)?;
     }
     Ok(passes)
@@ -156,23 +170,39 @@ fn noted(passes: &[Pass]) -> usize {
     noted
 }
 
+// A core with the module.
+fn monitor(alloc: Global) -> Result<Core, NotesFault> {
+    let text = Items::from_slice(alloc, MODULE.as_bytes())?;
+    let mut core = Core::new(alloc);
+    core.apply(Step::Put { text });
+    Ok(core)
+}
+
+// Notes the event of this place by the core, and opens a conversation for it where the last one is full. Tells whether
+// it was noted.
+fn apply_at(
+    core: &mut Core,
+    (name, events): (&Dotted, &Events),
+    place: usize,
+) -> Result<bool, NotesFault> {
+    let id = id_of(place / PER_LOG)?;
+    if place % PER_LOG == 0 {
+        let name = name.copy()?;
+        core.apply(Step::Open { id, name });
+    }
+    let event = events.at(place % PER_LOG)?;
+    let reply = core.apply(Step::Note { id, event });
+    Ok(matches!(reply, Reply::Noted { .. }))
+}
+
 // Notes so many events by a core.
 fn apply(alloc: Global, notes: usize) -> Result<usize, NotesFault> {
     let events = Events::new(alloc)?;
     let name = name(alloc)?;
-    let mut core = Core::new(alloc);
-    core.apply(Step::Put {
-        text: Items::from_slice(alloc, MODULE.as_bytes())?,
-    });
+    let mut core = monitor(alloc)?;
     let mut noted: usize = 0;
     for place in 0..notes {
-        let id = id_of(place / PER_LOG)?;
-        if place % PER_LOG == 0 {
-            let name = name.copy()?;
-            core.apply(Step::Open { id, name });
-        }
-        let event = events.at(place % PER_LOG)?;
-        if let Reply::Noted { .. } = core.apply(Step::Note { id, event }) {
+        if apply_at(&mut core, (&name, &events), place)? {
             noted = noted.saturating_add(1);
         }
     }
