@@ -148,6 +148,31 @@ fn by_core(alloc: Global, steps: &[Step]) -> Result<Vec<u8>, RowsFault> {
     Ok(lines)
 }
 
+// Adds the lines of the service's replies to a list of steps; whether a core answered alike.
+fn push_answered(
+    rt: &impl Wait,
+    alloc: Global,
+    shards: usize,
+    list: &[Step],
+    lines: &mut Vec<u8>,
+) -> Result<bool, RowsFault> {
+    let told = by_service(rt, alloc, shards, list)?;
+    push_bytes(lines, told.as_slice())?;
+    Ok(told.as_slice() == by_core(alloc, list)?.as_slice())
+}
+
+// Tells what no line told of that some should.
+fn push_untold(lines: Vec<u8>, out: &mut Vec<u8>) -> Result<(), RowsFault> {
+    let lines = String::from_utf8(lines).ok().ok_or(RowsFault::BadRow)?;
+    for text in &TOLD {
+        if !lines.contains(text) {
+            push_bytes(out, b"never told: ")?;
+            push_line(out, text.as_bytes())?;
+        }
+    }
+    Ok(())
+}
+
 /// Tells how many steps there were in all lists under the profile, in how many lists a service of so many shards
 /// answered as a core does, byte for byte, and what no reply told of that some should.
 pub(crate) fn push_generated(
@@ -162,22 +187,13 @@ pub(crate) fn push_generated(
     let mut lines = Vec::new(alloc);
     for _ in 0..LISTS {
         let list = list_of(alloc, profile, &mut numbers)?;
-        let told = by_service(rt, alloc, shards, list.as_slice())?;
-        let is_alike = told.as_slice() == by_core(alloc, list.as_slice())?.as_slice();
+        let is_alike = push_answered(rt, alloc, shards, list.as_slice(), &mut lines)?;
         steps = steps.saturating_add(list.len() as u64);
         alike = alike.saturating_add(u64::from(is_alike));
-        push_bytes(&mut lines, told.as_slice())?;
     }
     push_number(out, steps)?;
     push_bytes(out, b" steps, alike in ")?;
     push_number(out, alike)?;
     push_line(out, b" lists")?;
-    let lines = String::from_utf8(lines).ok().ok_or(RowsFault::BadRow)?;
-    for text in &TOLD {
-        if !lines.contains(text) {
-            push_bytes(out, b"never told: ")?;
-            push_line(out, text.as_bytes())?;
-        }
-    }
-    Ok(())
+    push_untold(lines, out)
 }

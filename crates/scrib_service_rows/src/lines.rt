@@ -115,6 +115,27 @@ pub(crate) fn push_settling(
     }
 }
 
+/// Settles the service with the first pass alone, which is refused, and then with both; adds the line of the fault, and
+/// what the second settling answers.
+pub(crate) fn push_settling_twice(
+    alloc: Global,
+    service: Service,
+    first: Pass,
+    second: Pass,
+    out: &mut Vec<u8>,
+) -> Result<(), RowsFault> {
+    let mut passes = Vec::new(alloc);
+    passes.push(first)?;
+    match service.settle(passes) {
+        Ok(settled) => push_settled(alloc, out, &settled),
+        Err((fault, service, mut passes)) => {
+            push_fault(out, &fault)?;
+            passes.push(second)?;
+            push_settling(alloc, service, passes, out)
+        }
+    }
+}
+
 /// The line of a refused settling.
 pub(crate) fn push_fault(out: &mut Vec<u8>, fault: &SettleFault) -> Result<(), RowsFault> {
     match fault {

@@ -7,9 +7,55 @@ use crate::sweeps::push_counts;
 use scrib_record::record::MAX_EVENTS;
 use scrib_rejudge::workers::sweep;
 use scrib_shards::gate::OpenGate;
+use scrib_shards::pass::Pass;
+use scrib_shards::service::Service;
+use scrib_types::event::Event;
 use std::alloc::Global;
 use std::sync::Wait;
 use std::thread::Threads;
+
+// Notes that A joins, and then its sends, until the log has room for one event.
+fn fill(
+    rt: &impl Wait,
+    alloc: Global,
+    service: &Service,
+    pass: &mut Pass,
+    sent: &Event,
+) -> Result<(), RowsFault> {
+    let joined = event_of(alloc, "join 0 A")?;
+    service.note(rt, pass, joined, &OpenGate)?;
+    for _ in 2..MAX_EVENTS {
+        service.note(rt, pass, sent.copy()?, &OpenGate)?;
+    }
+    Ok(())
+}
+
+// Tells what a note of the event answers.
+fn push_noted(
+    rt: &impl Wait,
+    alloc: Global,
+    service: &Service,
+    pass: &mut Pass,
+    sent: &Event,
+    out: &mut Vec<u8>,
+) -> Result<(), RowsFault> {
+    let answer = service.note(rt, pass, sent.copy()?, &OpenGate);
+    push_line(out, noted(alloc, 0, answer)?.as_slice())
+}
+
+// Fills the log of the conversation; tells what is told of its last event, and of one more.
+fn push_filled(
+    rt: &impl Wait,
+    alloc: Global,
+    service: &Service,
+    out: &mut Vec<u8>,
+) -> Result<(), RowsFault> {
+    let sent = event_of(alloc, "send 0 A B a()")?;
+    let mut pass = service.connect(rt, 0)?;
+    fill(rt, alloc, service, &mut pass, &sent)?;
+    push_noted(rt, alloc, service, &mut pass, &sent, out)?;
+    push_noted(rt, alloc, service, &mut pass, &sent, out)
+}
 
 /// What is told of the last event that a log may have, and of one more; and what one worker makes of the log after an
 /// edit that permits it too.
@@ -21,17 +67,7 @@ pub(crate) fn push_longest_log<R: Threads + Wait + Sync>(
 ) -> Result<(), RowsFault> {
     let service = service(rt, alloc, shards, LOOP)?;
     service.open(rt, 0, &name_of(alloc, "k.K")?)?;
-    let mut pass = service.connect(rt, 0)?;
-    let joins = event_of(alloc, "join 0 A")?;
-    service.note(rt, &mut pass, joins, &OpenGate)?;
-    let sends = event_of(alloc, "send 0 A B a()")?;
-    for _ in 2..MAX_EVENTS {
-        service.note(rt, &mut pass, sends.copy()?, &OpenGate)?;
-    }
-    for _ in 0..2u32 {
-        let answer = service.note(rt, &mut pass, sends.copy()?, &OpenGate);
-        push_line(out, noted(alloc, 0, answer)?.as_slice())?;
-    }
+    push_filled(rt, alloc, &service, out)?;
     service.put(rt, CHOICE.as_bytes())?;
     push_counts(out, sweep(rt, alloc, &service, 1, &OpenGate)?)
 }

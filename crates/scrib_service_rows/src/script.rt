@@ -37,6 +37,42 @@ fn steps_of(alloc: Global, script: &str) -> Result<Vec<Step>, RowsFault> {
     Ok(steps)
 }
 
+// Makes the step on both, and adds the line of the service's reply, with that of the core's where it differs.
+fn push_step(
+    rt: &impl Wait,
+    alloc: Global,
+    connected: &mut Connected,
+    core: &mut Core,
+    step: Step,
+    out: &mut Vec<u8>,
+) -> Result<(), RowsFault> {
+    let told = connected.make(rt, &step)?;
+    push_line(out, told.as_slice())?;
+    let by_core = line(alloc, &core.apply(step))?;
+    if told.as_slice() != by_core.as_slice() {
+        push_bytes(out, b"but the core: ")?;
+        push_line(out, by_core.as_slice())?;
+    }
+    Ok(())
+}
+
+// Makes the steps of the script on the service and on a core.
+fn run_beside(
+    rt: &impl Wait,
+    alloc: Global,
+    service: Service,
+    script: &str,
+    out: &mut Vec<u8>,
+) -> Result<(), RowsFault> {
+    let steps = steps_of(alloc, script)?;
+    let mut connected = Connected::new(alloc, service);
+    let mut core = Core::new(alloc);
+    for step in steps {
+        push_step(rt, alloc, &mut connected, &mut core, step, out)?;
+    }
+    connected.settle(out)
+}
+
 /// Runs the script on a service of so many shards and on a core; adds the lines of the service's replies, with those of
 /// the core's where they differ, and at last what settling answers.
 pub(crate) fn run_script(
@@ -46,21 +82,9 @@ pub(crate) fn run_script(
     script: &str,
     out: &mut Vec<u8>,
 ) -> Result<(), RowsFault> {
-    let service = match Service::new(alloc, shards) {
-        Ok(service) => service,
-        Err(ServiceFault::BadShards) => return push_line(out, b"refused BadShards"),
-        Err(fault) => return Err(fault.into()),
-    };
-    let mut connected = Connected::new(alloc, service);
-    let mut core = Core::new(alloc);
-    for step in steps_of(alloc, script)? {
-        let told = connected.make(rt, &step)?;
-        let by_core = line(alloc, &core.apply(step))?;
-        push_line(out, told.as_slice())?;
-        if told.as_slice() != by_core.as_slice() {
-            push_bytes(out, b"but the core: ")?;
-            push_line(out, by_core.as_slice())?;
-        }
+    match Service::new(alloc, shards) {
+        Ok(service) => run_beside(rt, alloc, service, script, out),
+        Err(ServiceFault::BadShards) => push_line(out, b"refused BadShards"),
+        Err(fault) => Err(fault.into()),
     }
-    connected.settle(out)
 }

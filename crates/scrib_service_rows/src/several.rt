@@ -1,11 +1,13 @@
 //! Rows with more than one service, or with a call that no script makes.
 
 use crate::fault::RowsFault;
-use crate::lines::{asked, noted, push_fault, push_line, push_settled, push_settling, refused};
+use crate::lines::{asked, noted, push_line, push_settling_twice, refused};
 use crate::making::{DEMO, event_of, name_of, service};
+use scrib_core::reply::Refusal;
 use scrib_shards::gate::OpenGate;
 use scrib_shards::pass::Pass;
 use scrib_shards::service::Service;
+use scrib_types::name::Dotted;
 use scrib_types::text::{push_bytes, push_number};
 use std::alloc::Global;
 use std::sync::Wait;
@@ -22,14 +24,26 @@ pub(crate) fn push_full_shard(
     let name = name_of(alloc, "demo.Hello")?;
     for (count, id) in (0..=65_536_u32).step_by(service.shards()).enumerate() {
         if let Err(refusal) = service.open(rt, id, &name) {
-            push_number(out, count as u64)?;
-            push_bytes(out, b" open\n")?;
-            push_number(out, u64::from(id))?;
-            push_bytes(out, b": ")?;
-            return push_line(out, refused(alloc, refusal)?.as_slice());
+            return push_refused(alloc, count as u64, id, refusal, out);
         }
     }
     push_line(out, b"no end")
+}
+
+// Tells how many are open, and what was refused.
+fn push_refused(
+    alloc: Global,
+    count: u64,
+    id: u32,
+    refusal: Refusal,
+    out: &mut Vec<u8>,
+) -> Result<(), RowsFault> {
+    let refusal = refused(alloc, refusal)?;
+    push_number(out, count)?;
+    push_bytes(out, b" open\n")?;
+    push_number(out, u64::from(id))?;
+    push_bytes(out, b": ")?;
+    push_line(out, refusal.as_slice())
 }
 
 // Notes and asks by a pass of another service.
@@ -63,6 +77,20 @@ fn push_foreign(
     Ok(used)
 }
 
+// The conversation is opened in the service, and its pass has the receipt of an event.
+fn own_pass(
+    rt: &impl Wait,
+    alloc: Global,
+    here: &Service,
+    name: &Dotted,
+) -> Result<Pass, RowsFault> {
+    here.open(rt, 0, name)?;
+    let event = event_of(alloc, "join 0 B")?;
+    let mut own = here.connect(rt, 0)?;
+    here.note(rt, &mut own, event, &OpenGate)?;
+    Ok(own)
+}
+
 /// A pass of one service is shown to another of so many shards, where its conversation isn't open: notes and questions
 /// are refused. Then the conversation is opened there, an event is noted by a pass of its own, and settling is refused
 /// with the foreign pass alone, and then with both.
@@ -77,19 +105,6 @@ pub(crate) fn push_strangers(
     let name = name_of(alloc, "demo.Hello")?;
     there.open(rt, 0, &name)?;
     let foreign = push_foreign(rt, alloc, &there, &here, out)?;
-    here.open(rt, 0, &name)?;
-    let mut own = here.connect(rt, 0)?;
-    let event = event_of(alloc, "join 0 B")?;
-    here.note(rt, &mut own, event, &OpenGate)?;
-    let mut passes = Vec::new(alloc);
-    passes.push(foreign)?;
-    let (here, mut passes) = match here.settle(passes) {
-        Ok(settled) => return push_settled(alloc, out, &settled),
-        Err((fault, here, passes)) => {
-            push_fault(out, &fault)?;
-            (here, passes)
-        }
-    };
-    passes.push(own)?;
-    push_settling(alloc, here, passes, out)
+    let own = own_pass(rt, alloc, &here, &name)?;
+    push_settling_twice(alloc, here, foreign, own, out)
 }

@@ -1,7 +1,7 @@
 //! Two threads that note events, and a third that edits, on one service.
 
 use crate::fault::RowsFault;
-use crate::lines::{push_fault, push_settled, push_settling};
+use crate::lines::{push_settling, push_settling_twice};
 use crate::making::{CHOICE, LOOP, event_of, name_of, service};
 use scrib_rejudge::alone::sweep_alone;
 use scrib_rejudge::workers::sweep;
@@ -118,17 +118,7 @@ pub(crate) fn push_threads<R: Threads + Wait + Sync>(
         service.turn(rt, 0, &OpenGate)?;
         service.turn(rt, 1, &OpenGate)?;
     }
-    let mut passes = Vec::new(alloc);
-    passes.push(first)?;
-    let (service, mut passes) = match service.settle(passes) {
-        Ok(settled) => return push_settled(alloc, out, &settled),
-        Err((fault, service, passes)) => {
-            push_fault(out, &fault)?;
-            (service, passes)
-        }
-    };
-    passes.push(second)?;
-    push_settling(alloc, service, passes, out)
+    push_settling_twice(alloc, service, first, second, out)
 }
 
 /// The same threads on a service of two shards. Tells what is settled after a sweep by so many workers, or by one
