@@ -1,6 +1,8 @@
 pub mod Faults
+pub mod Results
 pub mod Writes
 pub mod Running
+pub mod Reaching
 pub mod Tellings
 pub mod Explained
 pub mod KeptTexts

@@ -1,7 +1,7 @@
 -- What a run has told by the time it stands at a place of its script, and where it fails.
-use Rattle.std.proofs.Common.{◌≡◌, ◌≢◌, ◌<◌, ◌≤◌, ◌+◌, ◌-◌, inl, inr, ℕ, Bool, true, false, List, [], ◌∷◌, ◌++◌, ◌∙◌, Option, Some, None, take, length, rules, refl, sym, ap, subst, arith, eqb, Result, Ok, Err}
-use Rattle.std.specs.Prelude.{All, IfSome, OnOk, OnErr}
-use Rattle.std.specs.Io.KnownBytes.{Appends, Consumes, IsAtEnd, Keeps}
+use Rattle.std.proofs.Common.{◌≡◌, inl, inr, ℕ, true, List, [], ◌∷◌, ◌++◌, ◌∙◌, Option, Some, None, length, rules, refl, sym, ap, subst, arith, eqb}
+use Rattle.std.specs.Prelude.{All}
+use Rattle.std.specs.Io.KnownBytes.{Appends}
 use Rattle.std.proofs.lemmas.Bool.{eqb-true}
 use Rattle.std.proofs.lemmas.List.{append_assoc, append-nil}
 use Rattle.std.proofs.lemmas.List.Elements.{All-nil, All-cons, All-append}
@@ -12,7 +12,7 @@ use Rattle.scrib_core.specs.declared.reply.Reply.{Reply}
 use Rattle.scrib_core.specs.declared.reply.Reply.TheVariants.{Refused}
 use Rattle.scrib_core.specs.declared.reply.Refusal.TheVariants.{OutOfMemory}
 use Rattle.scrib_core.specs.World.{World, Refuses}
-use Rattle.scrib_core.specs.Answers.{State, initial, IsAnswered, Answers}
+use Rattle.scrib_core.specs.Answers.{State, initial, Answers}
 use Rattle.scrib_core.specs.Held.{state_of}
 use Rattle.scrib_script.specs.declared.format.Format.{Format}
 use Rattle.scrib_script.specs.declared.item.Item.{Item}
@@ -20,21 +20,15 @@ use Rattle.scrib_script.specs.declared.item.Item.TheVariants as item
 use Rattle.scrib_script.specs.declared.script.Script.{Script}
 use Rattle.scrib_script.specs.Scripts.{Spells, lines, steps_of, listed}
 use Rattle.scrib_script.specs.Standing.{Holds, Takes, TakesFront, PassesLimits, EndsIn, Read}
-use Rattle.scrib_script.specs.declared.limits.Limits.{Limits}
-use Rattle.scrib_script.specs.declared.fault.SpellFault.{SpellFault}
-use Rattle.scrib_script.specs.declared.fault.SpellFault.TheVariants as spell
-use Rattle.scrib_script.specs.Limits.{of_scripts, IsWithin, IsPast}
+use Rattle.scrib_script.specs.Limits.{of_scripts, IsPast}
 use Rattle.scrib_script.proofs.Places.{are_spelled}
 use Rattle.scrib_script.proofs.Reading.{read_none, read_more, read_all, read_first, read_past}
-use Rattle.scrib_cli.specs.declared.fault.ScriptFault.{ScriptFault}
-use Rattle.scrib_cli.specs.declared.fault.ScriptFault.TheVariants as fault
-use Rattle.scrib_cli.specs.Faults.{fault_of}
 use Rattle.scrib_cli.specs.declared.run.Run.{Run}
 use Rattle.scrib_cli.specs.declared.telling.Telling.{Telling}
 use Rattle.scrib_cli.specs.declared.telling.Telling.TheVariants.{Printed, Silent}
-use Rattle.scrib_cli.specs.Scripts.{IsOutput, AppendsPart, written, bad_line, end_of_text, reply_format, reply_text}
-use Rattle.scrib_cli.specs.Progress.{Whole, Short, FailedOn, Ran, RanShort, Came, IsNew, Went, Stopped, StoppedPast, Ended, Failed, Does, IsTold, IsPartTold, said, told, output_format, told_reply, told_bad_line, told_end, GoesOn}
-use Rattle.scrib_cli.proofs.Writes.{appends_none, appends_more, appends_kept, consumes_none, consumes_more, consumes_kept}
+use Rattle.scrib_cli.specs.Scripts.{written, bad_line, end_of_text, reply_format, reply_text}
+use Rattle.scrib_cli.specs.Progress.{Short, FailedOn, RanShort, Came, IsNew, Went, Stopped, StoppedPast, Ended, Failed, Does, IsTold, IsPartTold, said, told, output_format, told_reply, GoesOn}
+use Rattle.scrib_cli.proofs.Writes.{appends_none, appends_more}
 
 -- memory may be refused at any step
 refuses_memory : (w : World) (s : Step) → Refuses w s OutOfMemory
@@ -180,7 +174,7 @@ short_first (Printed o) input part items rest v out end h e spelled =
 short_first Silent input part items rest v out end h e spelled = none_before part end (sym e ∙ h.is)
 
 -- a run that came so far failed, and told nothing more
-failed_came : (t : Telling) (run : Run) (seen : List ℕ) (w0 w : Option (List ℕ)) → Came t run seen w0 w → (more : List ℕ) → FailedOn t (seen ++ more) w0 w
+pub failed_came : (t : Telling) (run : Run) (seen : List ℕ) (w0 w : Option (List ℕ)) → Came t run seen w0 w → (more : List ℕ) → FailedOn t (seen ++ more) w0 w
 failed_came t run seen w0 w c more =
     let p = read_first of_scripts run.script seen c.items c.read more in
     let out = told t c.items c.replies in (
@@ -307,15 +301,6 @@ stopped_item old mid script piece rest after i w0 w1 w2 k takes part = record {
       (failed_item t mid so_far (rest ++ more) i p.0 v w1 w2 d spelled here);
 }
 
--- a fault of reading a script that is told as the reader's
-pub limit_told : (e : SpellFault) (f : ScriptFault) → f ≡ fault_of e → f ≡ fault.Read → e ≡ spell.TooLong
-limit_told spell.TooLong f is read = refl
-limit_told spell.OutOfMemory f is read = let same : fault.OutOfMemory ≡ fault.Read = sym is ∙ read in cc
-
--- and one that isn't
-pub not_limit : (e : SpellFault) (f : ScriptFault) → f ≡ fault_of e → e ≡ spell.OutOfMemory → f ≢ fault.Read
-not_limit e f is other = λ read. let same : spell.OutOfMemory ≡ spell.TooLong = sym other ∙ limit_told e f is read in cc
-
 -- it stopped at the limits
 pub stopped_past : (old mid : Run) (piece rest : List ℕ) (w0 w : Option (List ℕ)) → Took old mid piece rest w0 w → PassesLimits mid.script rest → StoppedPast old piece w0 w
 stopped_past old mid piece rest w0 w k passes = record {
@@ -399,131 +384,9 @@ failed_last run i w w' ends part = record {
 pub failed_none : (run : Run) (w : Option (List ℕ)) → Failed run w w
 failed_none run w = record { so = λ t seen w0 c. subst (λ (u : List ℕ). FailedOn t u w0 w) (append-nil seen) (failed_came t run seen w0 w c []) }
 
--- A run that tells so took in all that was read.
-pub record Reaches (t : Telling) (run : Run) (r0 r w0 w : Option (List ℕ)) : Type 0 where
-  pub seen : List ℕ
-  pub read : Consumes r0 r seen
-  pub came : Came t run seen w0 w
-
-pub reaches_none : (t : Telling) (run : Run) (r w : Option (List ℕ)) → IsNew t run → Reaches t run r r w w
-reaches_none t run r w new = record { seen = []; read = consumes_none r; came = new.came w }
-
--- a read that gave nothing
-pub reaches_kept : (t : Telling) (run : Run) (r0 r r' w0 w : Option (List ℕ)) → Reaches t run r0 r w0 w → Keeps r r' → Reaches t run r0 r' w0 w
-reaches_kept t run r0 r r' w0 w h keeps = record { seen = h.seen; read = consumes_kept r0 r r' h.seen h.read keeps; came = h.came }
-
--- what was written was flushed
-pub reaches_flushed : (t : Telling) (run : Run) (r0 r w0 w w' : Option (List ℕ)) → Reaches t run r0 r w0 w → Keeps w w' → Reaches t run r0 r w0 w'
-reaches_flushed t run r0 r w0 w w' h keeps = record {
-  seen = h.seen;
-  read = h.read;
-  came = record {
-    telling = h.came.telling;
-    items = h.came.items;
-    replies = h.came.replies;
-    read = h.came.read;
-    answered = h.came.answered;
-    goes_on = h.came.goes_on;
-    appends = appends_kept w0 w w' (told t h.came.items h.came.replies) h.came.appends keeps;
-  };
-}
-
-pub reaches_end : (t : Telling) (run : Run) (r0 r r' w0 w : Option (List ℕ)) (n : ℕ) (piece : List ℕ) → Reaches t run r0 r w0 w → Consumes r r' (take n piece) → n ≡ 0 → Reaches t run r0 r' w0 w
-reaches_end t run r0 r r' w0 w n piece h read none =
-    let nothing_read : Consumes r r' [] = subst (λ (i : ℕ). Consumes r r' (take i piece)) none read in
-    record {
-      seen = h.seen;
-      read = subst (λ (u : List ℕ). Consumes r0 r' u) (append-nil h.seen) (consumes_more r0 r r' h.seen [] h.read nothing_read);
-      came = h.came;
-    }
-
-pub reaches_went : (t : Telling) (run new : Run) (r0 r r' w0 w w' : Option (List ℕ)) (piece : List ℕ) → Reaches t run r0 r w0 w → Consumes r r' piece → Went run new piece w w' → Reaches t new r0 r' w0 w'
-reaches_went t run new r0 r r' w0 w w' piece h read went = record {
-  seen = h.seen ++ piece;
-  read = consumes_more r0 r r' h.seen piece h.read read;
-  came = went.goes t h.seen w0 h.came;
-}
-
--- all that is read was taken in
-at_end_is : (input seen left : List ℕ) → input ≡ seen ++ left → left ≡ [] → seen ≡ input
-at_end_is input seen left read none = sym (read ∙ ap (λ (u : List ℕ). seen ++ u) none ∙ append-nil seen)
-
--- all was read and carried out
-pub reached_end : (t : Telling) (run : Run) (v : State) (r0 r w0 w w' : Option (List ℕ)) → Reaches t run r0 r w0 w → IsAtEnd r → Ended run v w w' → Ran t r0 v w0 w'
-reached_end t run v None r w0 w w' h at_end ended = search rules
-reached_end t run v (Some input) None w0 w w' h at_end ended = absurd h.read
-reached_end t run v (Some input) (Some left) w0 w w' h at_end ended =
-    let p = ended.so t h.seen w0 h.came in
-    let all : h.seen ≡ input = at_end_is input h.seen left h.read at_end in
-    (p.0, subst (λ (u : List ℕ). Whole t u v p.0) all p.1, p.2, subst (λ (u : List ℕ). IsWithin of_scripts u) all p.3)
-
--- what was run is within the limits
-pub ran_within : (t : Telling) (r : Option (List ℕ)) (v : State) (was now : Option (List ℕ)) → Ran t r v was now → IfSome r (λ input. IsWithin of_scripts input)
-ran_within t None v was now h = search rules
-ran_within t (Some input) v was now h = h.3
-
--- the end failed
-pub end_failed : (t : Telling) (run : Run) (r0 r w0 w w' : Option (List ℕ)) → Reaches t run r0 r w0 w → IsAtEnd r → Failed run w w' → RanShort t r0 w0 w'
-end_failed t run None r w0 w w' h at_end failed = search rules
-end_failed t run (Some input) None w0 w w' h at_end failed = absurd h.read
-end_failed t run (Some input) (Some left) w0 w w' h at_end failed =
-    subst (λ (u : List ℕ). FailedOn t u w0 w') (at_end_is input h.seen left h.read at_end) (failed.so t h.seen w0 h.came)
-
--- what was to be read failed
-pub read_failed : (t : Telling) (run : Run) (r0 r w0 w : Option (List ℕ)) → Reaches t run r0 r w0 w → RanShort t r0 w0 w
-read_failed t run None r w0 w h = search rules
-read_failed t run (Some input) None w0 w h = absurd h.read
-read_failed t run (Some input) (Some left) w0 w h = subst (λ (u : List ℕ). FailedOn t u w0 w) (sym h.read) (failed_came t run h.seen w0 w h.came left)
-
-stopped_reading : (t : Telling) (run : Run) (r0 r w0 w w' : Option (List ℕ)) (seen piece : List ℕ) → Came t run seen w0 w → Consumes r0 r (seen ++ piece) → Stopped run piece w w' → RanShort t r0 w0 w'
-stopped_reading t run None r w0 w w' seen piece c read stopped = search rules
-stopped_reading t run (Some input) None w0 w w' seen piece c read stopped = absurd read
-stopped_reading t run (Some input) (Some left) w0 w w' seen piece c read stopped =
-    subst (λ (u : List ℕ). FailedOn t u w0 w') (sym (read ∙ append_assoc seen piece left)) (stopped.so t seen w0 c left)
-
--- a piece that was read failed to be taken in
-pub piece_failed : (t : Telling) (run : Run) (r0 r r' w0 w w' : Option (List ℕ)) (piece : List ℕ) → Reaches t run r0 r w0 w → Consumes r r' piece → Stopped run piece w w' → RanShort t r0 w0 w'
-piece_failed t run r0 r r' w0 w w' piece h read stopped = stopped_reading t run r0 r' w0 w w' h.seen piece h.came (consumes_more r0 r r' h.seen piece h.read read) stopped
-
 -- nothing was read or written: what is told of no item
 pub never_started : (t : Telling) (r0 w0 : Option (List ℕ)) → RanShort t r0 w0 w0
 never_started t None w0 = search rules
 never_started t (Some input) w0 =
     let p = are_spelled (lines input) 1 None in
     ([], short_first t input [] [] p.0 initial [] [] (record { replies = []; answered = refl; goes_on = All-nil (GoesOn t); is = said_none t }) refl p.1, appends_none w0)
-
--- all of an output in this format was written
-abbrev pub Writes : Format → Option (List ℕ) → Option (List ℕ) → Option (List ℕ) → Type 0
-Writes o r old new = IfSome r (λ input. (output : List ℕ) × IsOutput o input output × Appends old new output)
-
--- a beginning of an output in this format was written
-abbrev pub WritesPart : Format → Option (List ℕ) → Option (List ℕ) → Option (List ℕ) → Type 0
-WritesPart o r old new = IfSome r (λ input. (output : List ℕ) × IsOutput o input output × AppendsPart old new output)
-
-whole_output : (o : Format) (input : List ℕ) (v : State) (output : List ℕ) → Whole (Printed o) input v output → IsOutput o input output
-whole_output o input v output h = (h.items, h.replies, v, h.spelled, h.answered, h.is)
-
--- what was written stays after a flush
-pub flushed : (o : Format) (r : Option (List ℕ)) (v : State) (was mid now : Option (List ℕ)) → Ran (Printed o) r v was mid → Keeps mid now → Writes o r was now
-flushed o None v was mid now h keeps = search rules
-flushed o (Some input) v was mid now h keeps = (h.0, whole_output o input v h.0 h.1, appends_kept was mid now h.0 h.2 keeps)
-
--- a flush that fails after all was written
-pub flush_failed : (o : Format) (r : Option (List ℕ)) (v : State) (was mid now : Option (List ℕ)) → Ran (Printed o) r v was mid → Keeps mid now → WritesPart o r was now
-flush_failed o None v was mid now h keeps = search rules
-flush_failed o (Some input) v was mid now h keeps = (h.0, whole_output o input v h.0 h.1, (h.0, [], sym (append-nil h.0), appends_kept was mid now h.0 h.2 keeps))
-
--- a script failed to be run
-pub run_failed : (o : Format) (r : Option (List ℕ)) (was now : Option (List ℕ)) → RanShort (Printed o) r was now → WritesPart o r was now
-run_failed o None was now h = search rules
-run_failed o (Some input) was now h =
-    let s = h.1 in
-    (s.output, whole_output o input s.after s.output s.whole, (h.0, s.rest, s.is, h.2))
-
-pub on_ok_any : {T E P : Type 0} (r : Result T E) → P → OnOk r P
-on_ok_any (Ok x) p = p
-on_ok_any (Err e) p = tt
-
-pub on_err_any : {T E P : Type 0} (r : Result T E) → P → OnErr r P
-on_err_any (Ok x) p = tt
-on_err_any (Err e) p = p

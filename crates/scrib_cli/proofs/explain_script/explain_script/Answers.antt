@@ -4,7 +4,7 @@ use Rattle.std.proofs.lemmas.Result.{err_from_is_err_and}
 use Rattle.scrib_core.specs.Held.{state_of}
 use Rattle.scrib_cli.specs.Scripts.{AppendsPart}
 use Rattle.scrib_cli.specs.declared.telling.Telling.TheVariants.{Silent}
-use Rattle.scrib_cli.proofs.Running.{ran_within}
+use Rattle.scrib_cli.proofs.Reaching.{ran_within}
 use Rattle.scrib_cli.proofs.Explained.{run_stopped, untold, told_part, told_all, told_unflushed}
 use Rattle.scrib_cli.proofs.explain_script.explain_script.Goals as goal
 

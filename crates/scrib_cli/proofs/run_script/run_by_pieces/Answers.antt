@@ -4,7 +4,7 @@ use Rattle.std.proofs.lemmas.Result.{err_from_is_err_and}
 use Rattle.scrib_core.specs.Answers.{State}
 use Rattle.scrib_core.specs.Held.{state_of}
 use Rattle.scrib_cli.specs.Progress.{Ran}
-use Rattle.scrib_cli.proofs.Running.{reaches_none, reaches_kept, reaches_flushed, reaches_end, reaches_went, reached_end, end_failed, read_failed, piece_failed}
+use Rattle.scrib_cli.proofs.Reaching.{reaches_none, reaches_kept, reaches_flushed, reaches_end, reaches_went, reached_end, end_failed, read_failed, piece_failed}
 use Rattle.scrib_cli.proofs.run_script.run_by_pieces.Goals as goal
 
 pub loop-init : goal.loop-init

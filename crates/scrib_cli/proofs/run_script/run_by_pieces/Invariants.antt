@@ -1,4 +1,4 @@
-use Rattle.scrib_cli.proofs.Running.{Reaches}
+use Rattle.scrib_cli.proofs.Reaching.{Reaches}
 use Rattle.scrib_cli.proofs.run_script.run_by_pieces.Given as goal
 
 abbrev pub invariant-loop : goal.invariant-loop

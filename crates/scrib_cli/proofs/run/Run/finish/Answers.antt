@@ -4,7 +4,9 @@ use Rattle.scrib_core.specs.Held.{state_of}
 use Rattle.scrib_script.specs.declared.item.Item.{Item}
 use Rattle.scrib_script.specs.Scripts.{listed}
 use Rattle.scrib_script.specs.Standing.{EndsIn}
-use Rattle.scrib_cli.proofs.Running.{on_err_any, ended_none, ended_item, failed_last, failed_none, not_limit}
+use Rattle.scrib_cli.proofs.Faults.{not_limit}
+use Rattle.scrib_cli.proofs.Results.{on_err_any}
+use Rattle.scrib_cli.proofs.Running.{ended_none, ended_item, failed_last, failed_none}
 use Rattle.scrib_cli.proofs.run.Run.finish.Goals as goal
 
 pub returns-in_err-item-clause-err : goal.returns-in_err-item-clause-err

@@ -4,7 +4,9 @@ use Rattle.scrib_core.specs.Held.{state_of}
 use Rattle.scrib_script.specs.declared.item.Item.{Item}
 use Rattle.scrib_script.specs.Scripts.{listed}
 use Rattle.scrib_script.specs.Standing.{TakesFront}
-use Rattle.scrib_cli.proofs.Running.{Carried, on_err_any, took_item, stopped_took, stopped_item, stopped_past, limit_told}
+use Rattle.scrib_cli.proofs.Faults.{limit_told}
+use Rattle.scrib_cli.proofs.Results.{on_err_any}
+use Rattle.scrib_cli.proofs.Running.{Carried, took_item, stopped_took, stopped_item, stopped_past}
 use Rattle.scrib_cli.proofs.run.Run.take_piece.Goals as goal
 
 pub returns-in_err-item-clause-err : goal.returns-in_err-item-clause-err
