@@ -6,3 +6,4 @@ pub mod Wrong
 pub mod Read
 pub mod Steps
 pub mod Lines
+pub mod Classes

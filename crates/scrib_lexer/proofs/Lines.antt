@@ -1,14 +1,17 @@
 -- Tokens hold no line feed, nor do comments to the line's end.
-use Rattle.std.proofs.Common.{◌≡◌, ℕ, Bool, true, false, List, [], ◌∷◌, refl, sym, ap, ◌∙◌}
+use Rattle.std.proofs.Common.{◌≡◌, ℕ, ◌+◌, ◌≤◌, zero, suc, Bool, true, false, List, [], ◌∷◌, Option, Some, None, length, take, drop, get_or, refl, sym, ap, ◌∙◌, subst, arith}
+use Rattle.std.specs.Option.{unwrap_or}
 use Rattle.std.proofs.lemmas.Bool.{and_parts, false≢true, eqb-true}
+use Rattle.std.proofs.lemmas.List.{drop_all}
+use Rattle.memchr.specs.Find.{IsFirstByte, Nowhere, Passes, is_byte}
 use Rattle.scrib_types.specs.Names.{is_letter, is_word_byte, all_word, is_name}
 use Rattle.scrib_lexer.specs.declared.token.Element.TheVariants as element
 use Rattle.scrib_lexer.specs.declared.token.TokenKind.TheVariants as kind
 use Rattle.scrib_lexer.specs.declared.token.TokenKind.{TokenKind}
-use Rattle.scrib_lexer.specs.Words.{is_line_feed, in_line, IsLexeme}
+use Rattle.scrib_lexer.specs.Words.{is_line_feed, in_line, ends_line, IsLexeme}
 use Rattle.scrib_lexer.specs.Pieces.{IsElement}
 use Rattle.scrib_lexer.proofs.Words.{named, keyword-name}
-use Rattle.scrib_lexer.proofs.Quotes.{in_line-push, quotable-in_line}
+use Rattle.scrib_lexer.proofs.Quotes.{in_line-push, in_line-take_more, ends_line-drop, quotable-in_line}
 
 word_no_feed : (b : ℕ) (t : Bool) → is_line_feed b ≡ t → is_word_byte b ≡ true → t ≡ false
 word_no_feed b false e w = refl
@@ -45,3 +48,35 @@ token-in_line kind.CloseAngle bytes h = ap in_line h
 
 pub comment-in_line : (bytes : List ℕ) → IsElement element.LineComment bytes → in_line bytes ≡ true
 comment-in_line bytes h = ap in_line h.1 ∙ h.2
+
+-- ---- the line feed that ends a line
+
+not_so : (t : Bool) → (t ≡ true → ⊥) → t ≡ false
+not_so true n = absurd (n refl)
+not_so false n = refl
+
+before-in_line : (text : List ℕ) (i : ℕ) → i ≤ length text → Nowhere (Passes (is_byte 10) text) 0 i → in_line (take i text) ≡ true
+before-in_line text zero within none = refl
+before-in_line text (suc i) within none =
+    let here : is_line_feed (get_or text i 0) ≡ false = not_so (is_line_feed (get_or text i 0)) (none i (omega arith) (omega arith)) in
+    let front : in_line (take i text) ≡ true = before-in_line text i (omega (arith, within)) (λ k low high. none k low (omega (arith, high))) in
+    let next : i + 1 ≡ suc i = omega arith in
+    subst (λ n. in_line (take n text) ≡ true) next (in_line-take_more text i (omega (arith, within)) here front)
+
+-- where a line ends of which the line feed was looked for
+pub record IsLineEnd (text : List ℕ) (n : ℕ) : Type 0 where
+  pub within : n ≤ length text
+  pub line : in_line (take n text) ≡ true
+  pub longest : ends_line (drop n text) ≡ true
+
+pub line_end : (text : List ℕ) (r : Option ℕ) → IsFirstByte (is_byte 10) text r → IsLineEnd text (unwrap_or r (length text))
+line_end text None h = record {
+  within = omega arith;
+  line = before-in_line text (length text) (omega arith) h;
+  longest = ap ends_line (drop_all (length text) text (omega arith));
+}
+line_end text (Some n) h = record {
+  within = omega (arith, h.0.high);
+  line = before-in_line text n (omega (arith, h.0.high)) h.0.before;
+  longest = ends_line-drop text n h.0.high ∙ h.1;
+}

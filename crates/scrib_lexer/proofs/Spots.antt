@@ -1,13 +1,14 @@
 -- The place after more bytes.
-use Rattle.std.proofs.Common.{◌≡◌, ℕ, ◌+◌, ◌≤◌, Bool, true, false, cond, List, [], ◌∷◌, ◌++◌, length, refl, sym, ap, ◌∙◌, arith, reverse, count_by, not}
+use Rattle.std.proofs.Common.{◌≡◌, ℕ, ◌+◌, ◌-◌, ◌≤◌, Bool, true, false, cond, List, [], ◌∷◌, ◌++◌, length, refl, sym, ap, ◌∙◌, arith, reverse, count_by, not}
 use Rattle.std.specs.List.{prefix_len}
 use Rattle.std.proofs.lemmas.Bool.{and_parts, not-true}
 use Rattle.std.proofs.lemmas.List.{append_assoc, append-nil, reverse-append, length-reverse}
 use Rattle.std.proofs.lemmas.List.Sums.{count_by-le-length, prefix_len-le-length, sum_by-append}
 use Rattle.scrib_types.specs.declared.spot.Spot.{Spot}
+use Rattle.scrib_lexer.specs.declared.lex.Line.{Line}
 use Rattle.scrib_lexer.specs.Words.{is_line_feed, in_line}
 use Rattle.scrib_lexer.specs.Tokens.{spot_after}
-use Rattle.scrib_lexer.specs.Steps.{spot_on, spot_past, spot_past_all}
+use Rattle.scrib_lexer.specs.Steps.{spot_on, spot_in, spot_past, spot_past_all}
 
 lines-push : (before : List ℕ) (b : ℕ) → count_by is_line_feed (before ++ b ∷ []) ≡ count_by is_line_feed before + cond (is_line_feed b) 1 0
 lines-push before b = sum_by-append (λ x. cond (is_line_feed x) 1 0) before (b ∷ []) ∙ omega arith
@@ -62,6 +63,28 @@ past_line spot [] h = sym (spot_on-zero spot)
 past_line spot (b ∷ bytes) h =
     let p = and_parts (not (is_line_feed b)) (in_line bytes) h in
     past_line (spot_past spot b) bytes p.1 ∙ ap (λ s. spot_on s (length bytes)) (spot_past-in_line spot b (not-true (is_line_feed b) p.0)) ∙ spot_on-on spot 1 (length bytes) (length (b ∷ bytes)) (omega arith)
+
+-- ---- places told from a line
+
+-- so many bytes on in the same line
+pub goes_on : (line : Line) (i n k : ℕ) → line.start ≤ i → i + n ≡ k → spot_in line k ≡ spot_on (spot_in line i) n
+unfolding spot_at
+goes_on line i n k within e = same_spot _ _ _ _ refl (omega arith)
+
+-- behind a line feed the next line begins
+pub next_line : (line : Line) (i k : ℕ) (b : ℕ) → b ≡ 10 → k ≡ i + 1 → spot_in (record { number = line.number + 1; start = k }) (i + 1) ≡ spot_past (spot_in line i) b
+unfolding spot_at
+next_line line i k b e s =
+    same_spot (line.number + 1) (line.number + 1) (i + 1 - k + 1) 1 refl (omega arith) ∙ ap (spot_past (spot_in line i)) (sym e)
+
+pub same_line : (line : Line) (i : ℕ) (b : ℕ) → line.start ≤ i → is_line_feed b ≡ false → spot_in line (i + 1) ≡ spot_past (spot_in line i) b
+same_line line i b within e =
+    goes_on line i 1 (i + 1) within refl ∙ sym (spot_past-in_line (spot_in line i) b e)
+
+-- bytes without a line feed leave the line
+pub past_in_line : (line : Line) (i : ℕ) (bytes : List ℕ) → line.start ≤ i → in_line bytes ≡ true → spot_in line (i + length bytes) ≡ spot_past_all (spot_in line i) bytes
+past_in_line line i bytes within e =
+    goes_on line i (length bytes) (i + length bytes) within refl ∙ sym (past_line (spot_in line i) bytes e)
 
 pub line-le : (before : List ℕ) → (spot_after before).line ≤ length before + 1
 line-le before = omega (arith, count_by-le-length is_line_feed before)

@@ -1,7 +1,8 @@
 -- What each step of the lexer answers, over the text from where it stands (this project's own; contracts of
 -- private functions alone cite this file).
-use Rattle.std.specs.Prelude.{◌≡◌, ℕ, ◌+◌, ◌≤◌, ◌<◌, ◌==◌, List, [], ◌∷◌, length, take, drop, Option, Some, None, if◌then◌else◌}
+use Rattle.std.specs.Prelude.{◌≡◌, ℕ, ◌+◌, ◌-◌, ◌≤◌, ◌<◌, ◌==◌, List, [], ◌∷◌, length, take, drop, Option, Some, None, if◌then◌else◌}
 use Rattle.scrib_types.specs.declared.spot.Spot.{Spot}
+use Rattle.scrib_lexer.specs.declared.lex.Line.{Line}
 use Rattle.scrib_lexer.specs.declared.token.Element.{Element}
 use Rattle.scrib_lexer.specs.declared.token.TokenKind.TheVariants as kind
 use Rattle.scrib_lexer.specs.declared.token.TokenKind.{TokenKind}
@@ -53,6 +54,10 @@ close_in (b ∷ bs) = if begins_close (b ∷ bs) then Some 0 else one_on (close_
 abbrev pub quote_in : List ℕ → Option ℕ
 quote_in [] = None
 quote_in (b ∷ bs) = if is_quote b then Some 0 else (if is_line_feed b then None else one_on (quote_in bs))
+
+-- the place of a byte of a line
+abbrev pub spot_in : Line → ℕ → Spot
+spot_in line index = record { line = line.number; column = index - line.start + 1 }
 
 -- the place behind one more byte
 abbrev pub spot_past : Spot → ℕ → Spot

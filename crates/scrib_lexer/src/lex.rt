@@ -9,17 +9,21 @@ ghost use Rattle.scrib_lexer.specs.Tokens.{IsTokens, LexGives, LexFails, FailsAt
 ghost use Rattle.scrib_lexer.specs.Words as words;
 ghost use Rattle.scrib_lexer.specs.Pieces as pieces;
 ghost use Rattle.scrib_lexer.specs.Pieces.{IsElement};
-ghost use Rattle.scrib_lexer.specs.Steps.{IsFrontElement, IsFrontFault, mark_of, close_in, quote_in, spot_past, spot_past_all};
+ghost use Rattle.scrib_lexer.specs.Steps.{IsFrontElement, IsFrontFault, mark_of, close_in, quote_in, spot_in, spot_past, spot_past_all};
 
 use crate::fault::LexFault;
 use crate::token::{Element, Keyword, Token, TokenKind};
-use scrib_types::name::{MAX_NAME_BYTES, is_letter, is_word_byte};
+use memchr::memchr;
+use scrib_types::name::MAX_NAME_BYTES;
 use scrib_types::spot::Spot;
 use std::alloc::Global;
 use std::str;
 
 /// The most bytes that a module's text may have.
 pub const MAX_TEXT_BYTES: usize = 1_048_576;
+
+/// How many bytes of a text there are to a token at least, mostly.
+const BYTES_A_TOKEN: usize = 3;
 
 /// The tokens of a module's text, in order. They borrow its bytes. White space and comments lie between
 /// them.
@@ -42,19 +46,23 @@ pub fn lex<'a>(alloc: Global, text: &'a [u8]) -> Result<Vec<Token<'a>>, LexFault
     if text.len() > MAX_TEXT_BYTES {
         return Err(LexFault::TextTooLong);
     }
-    let mut tokens = Vec::new(alloc);
+    let mut tokens = Vec::with_capacity(alloc, text.len() / BYTES_A_TOKEN)?;
     let mut start = 0;
-    let mut spot = Spot { line: 1, column: 1 };
+    let mut line = Line {
+        number: 1,
+        start: 0,
+    };
     while start < text.len() {
         let first = text[start];
         if is_space(first) {
-            spot = past(spot, first);
+            line = line.past(start, first);
             start += 1;
             continue;
         }
+        let spot = line.spot(start);
         let (element, len) = front_element(&text[start..], spot)?;
         let bytes = &text[start..start + len];
-        let behind = past_element(element, spot, bytes);
+        line = line.past_element(element, start, bytes);
         if let Element::Token(kind) = element {
             tokens.push(Token {
                 kind,
@@ -63,10 +71,81 @@ pub fn lex<'a>(alloc: Global, text: &'a [u8]) -> Result<Vec<Token<'a>>, LexFault
                 spot,
             })?;
         }
-        spot = behind;
         start += len;
     }
     Ok(tokens)
+}
+
+/// The line that is read: its number, and the index of its first byte. A place is told from it where one is wanted,
+/// so most bytes move nothing but the index.
+#[derive(Clone, Copy)]
+struct Line {
+    number: u32,
+    start: usize,
+}
+
+impl Line {
+    /// The place of the byte of this index, which the line has.
+    fn spot(self, index: usize) -> Spot
+        requires within { self.start ≤ index }
+        requires column { index + 1 < 2 ^ 32 }
+        ensures { result ≡ spot_in self index }
+    {
+        Spot {
+            line: self.number,
+            column: (index - self.start + 1) as u32,
+        }
+    }
+
+    /// The line behind the byte of this index.
+    fn past(self, index: usize, byte: u8) -> Line
+        requires within { self.start ≤ index }
+        requires number { self.number + 1 < 2 ^ 32 }
+        requires column { index + 1 < 2 ^ 32 }
+        ensures within { result.start ≤ index + 1 }
+        ensures number { result.number ≤ self.number + 1 }
+        ensures spot { spot_in result (index + 1) ≡ spot_past (spot_in self index) byte }
+    {
+        if byte == b'\n' {
+            Line {
+                number: self.number + 1,
+                start: index + 1,
+            }
+        } else {
+            self
+        }
+    }
+
+    /// The line behind the bytes, of which the first has this index.
+    fn past_all(self, index: usize, bytes: &[u8]) -> Line
+        requires within { self.start ≤ index }
+        requires number { self.number + length bytes.now < 2 ^ 32 }
+        requires column { index + length bytes.now < 2 ^ 32 }
+        ensures within { result.start ≤ index + length bytes.now }
+        ensures spot { spot_in result (index + length bytes.now) ≡ spot_past_all (spot_in self index) bytes.now }
+    {
+        let mut line = self;
+        for (i, byte) in bytes.iter().enumerate() {
+            line = line.past(index + i, *byte);
+        }
+        line
+    }
+
+    /// The line behind the element, of which the first byte has this index. A token holds no line feed, nor does a
+    /// comment to the line's end, so their bytes aren't read once more.
+    fn past_element(self, element: Element, index: usize, bytes: &[u8]) -> Line
+        requires element { IsElement element bytes.now }
+        requires within { self.start ≤ index }
+        requires number { self.number + length bytes.now < 2 ^ 32 }
+        requires column { index + length bytes.now < 2 ^ 32 }
+        ensures within { result.start ≤ index + length bytes.now }
+        ensures spot { spot_in result (index + length bytes.now) ≡ spot_past_all (spot_in self index) bytes.now }
+    {
+        match element {
+            Element::Token(_) | Element::LineComment => self,
+            _ => self.past_all(index, bytes),
+        }
+    }
 }
 
 /// What the text begins with, and the length of that.
@@ -80,7 +159,7 @@ fn front_element(text: &[u8], at: Spot) -> Result<(Element, usize), LexFault>
     if is_space(first) {
         return Ok((Element::Space, 1));
     }
-    if is_letter(first) {
+    if begins_word(first) {
         return front_word(text, at);
     }
     if let Some(mark) = mark_of(first) {
@@ -153,60 +232,36 @@ fn front_comment(text: &[u8], at: Spot) -> Result<(Element, usize), LexFault>
     }
 }
 
-/// The place behind the element, of which the first byte is at the place. A token holds no line feed, nor does a
-/// comment to the line's end, so their bytes aren't read once more.
-fn past_element(element: Element, spot: Spot, bytes: &[u8]) -> Spot
-    requires element { IsElement element bytes.now }
-    requires line { spot.line + length bytes.now < 2 ^ 32 }
-    requires column { spot.column + length bytes.now < 2 ^ 32 }
-    ensures { result ≡ spot_past_all spot bytes.now }
-{
-    match element {
-        Element::Token(_) | Element::LineComment => Spot {
-            line: spot.line,
-            column: spot.column + bytes.len() as u32,
-        },
-        _ => past_all(spot, bytes),
-    }
-}
-
-/// The place behind the bytes, of which the first is at the place.
-fn past_all(spot: Spot, bytes: &[u8]) -> Spot
-    requires line { spot.line + length bytes.now < 2 ^ 32 }
-    requires column { spot.column + length bytes.now < 2 ^ 32 }
-    ensures { result ≡ spot_past_all spot bytes.now }
-{
-    let mut here = spot;
-    for byte in bytes {
-        here = past(here, *byte);
-    }
-    here
-}
-
-/// The place behind a byte.
-fn past(spot: Spot, byte: u8) -> Spot
-    requires line { spot.line + 1 < 2 ^ 32 }
-    requires column { spot.column + 1 < 2 ^ 32 }
-    ensures { result ≡ spot_past spot byte }
-{
-    if byte == b'\n' {
-        Spot {
-            line: spot.line + 1,
-            column: 1,
-        }
-    } else {
-        Spot {
-            line: spot.line,
-            column: spot.column + 1,
-        }
-    }
-}
+// What each byte is: `a` is a letter or an underscore, `0` a digit, `.` white space, and `-` any other.
+static CLASSES: [u8; 256] = *b"\
+    ---------..--.------------------\
+    .---------------0000000000------\
+    -aaaaaaaaaaaaaaaaaaaaaaaaaa----a\
+    -aaaaaaaaaaaaaaaaaaaaaaaaaa-----\
+    --------------------------------\
+    --------------------------------\
+    --------------------------------\
+    --------------------------------";
 
 /// Whether the byte is white space.
 fn is_space(byte: u8) -> bool
     ensures { result ≡ words.is_space byte }
 {
-    matches!(byte, b' ' | b'\t' | b'\r' | b'\n')
+    CLASSES[byte as usize] == b'.'
+}
+
+/// Whether a word may begin with the byte.
+fn begins_word(byte: u8) -> bool
+    ensures { result ≡ names.is_letter byte }
+{
+    CLASSES[byte as usize] == b'a'
+}
+
+/// Whether the byte may stand in a word.
+fn in_word(byte: u8) -> bool
+    ensures { result ≡ names.is_word_byte byte }
+{
+    CLASSES[byte as usize] >= b'0'
 }
 
 /// How many bytes in front may stand in a word.
@@ -216,7 +271,7 @@ fn word_len(text: &[u8]) -> usize
     ensures longest { words.begins_in_word (drop result text.now) ≡ false }
 {
     for (i, byte) in text.iter().enumerate() {
-        if !is_word_byte(*byte) {
+        if !in_word(*byte) {
             return i;
         }
     }
@@ -229,12 +284,7 @@ fn line_len(text: &[u8]) -> usize
     ensures line { IsTrue (words.in_line (take result text.now)) }
     ensures longest { IsTrue (words.ends_line (drop result text.now)) }
 {
-    for (i, byte) in text.iter().enumerate() {
-        if *byte == b'\n' {
-            return i;
-        }
-    }
-    text.len()
+    memchr(b'\n', text).unwrap_or(text.len())
 }
 
 /// How many bytes stand before the first `*/`.

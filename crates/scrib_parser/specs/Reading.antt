@@ -2,6 +2,7 @@
 -- contracts of private functions alone cite this file).
 use Rattle.std.specs.Prelude.{◌≡◌, ℕ, zero, suc, Bool, true, false, ◌||◌, ◌&&◌, if◌then◌else◌, List, [], ◌∷◌, length, Option, Some, None, Result, Ok, Err}
 use Rattle.scrib_types.specs.Names.{is_name}
+use Rattle.scrib_types.specs.declared.message.Message.{Message}
 use Rattle.scrib_types.specs.declared.spot.Spot.{Spot}
 use Rattle.scrib_lexer.specs.declared.token.Keyword as keyword
 use Rattle.scrib_lexer.specs.declared.token.Keyword.TheVariants as words
@@ -186,6 +187,10 @@ more_names_of = repeated (same_kind Comma) (after (token_of Comma) name_of)
 
 unfoldable pub names_of : Reader (List (List ℕ))
 names_of = chain name_of (λ first. mapped (λ more. first ∷ more) more_names_of)
+
+-- the message of an operator and the types of a payload
+abbrev pub message_from : Option (List ℕ) → List (List (List ℕ)) → Message
+message_from op sorts = record { op = op; payload = sorts }
 
 unfoldable pub message_of : Reader Statement
 message_of =

@@ -9,6 +9,7 @@ use crate::fault::{LeftOutWord, ParseFault};
 use crate::messages::RecentMessages;
 use crate::names::RecentNames;
 use crate::sorts::RecentSorts;
+use crate::word::Word;
 use scrib_lexer::token::{Keyword, Token, TokenKind};
 use scrib_types::name::Name;
 use scrib_types::spot::Spot;
@@ -19,7 +20,7 @@ use std::alloc::Global;
 pub(crate) struct Cursor<'t, 'a> {
     pub(crate) rest: &'t [Token<'a>],
     pub(crate) names: RecentNames,
-    pub(crate) sorts: RecentSorts,
+    pub(crate) sorts: RecentSorts<'a>,
     pub(crate) messages: RecentMessages,
 }
 
@@ -119,6 +120,25 @@ impl<'t, 'a> Cursor<'t, 'a> {
                 let name = name.ok_or(ParseFault::Unexpected { at: token.spot })?;
                 self.rest = rest;
                 Ok((name, token.spot))
+            }
+        }
+    }
+
+    /// Takes the next token, which has to be a name, and gives it as it stands in the text.
+    #[tactic(auto, unfolding(crate::specs::Reading::name_of, crate::specs::Reading::placed_name_of))]
+    pub(crate) fn word(&mut self) -> Result<Word<'a>, ParseFault>
+        ensures { Gives result (left self.new) (name_of (left self.old)) }
+    {
+        match self.rest {
+            [] => Err(ParseFault::EndOfText),
+            [token, rest @ ..] => {
+                if token.kind != TokenKind::Name {
+                    return Err(ParseFault::Unexpected { at: token.spot });
+                }
+                let word = Word::from_bytes(token.bytes);
+                let word = word.ok_or(ParseFault::Unexpected { at: token.spot })?;
+                self.rest = rest;
+                Ok(word)
             }
         }
     }

@@ -9,3 +9,4 @@ pub mod parse;
 mod places;
 mod sorts;
 pub mod tree;
+mod word;

@@ -1,17 +1,48 @@
 //! Messages that a text had before, to be shared by those that are the same.
 
-ghost use Rattle.std.specs.Prelude.{◌≡◌, IfOk};
+ghost use Rattle.std.specs.Prelude.{◌≡◌, ◌↔◌, IsTrue, IfOk, []};
+ghost use Rattle.scrib_parser.specs.Reading.{message_from};
 
 use crate::places;
-use scrib_types::message::Message;
-use scrib_types::name::Name;
+use scrib_types::message::{Message, Payload, operators_equal};
+use scrib_types::name::{Dotted, Name};
 use scrib_types::shared_message::SharedMessage;
 use std::alloc::{AllocError, Global};
+use std::marker::Model;
+use std::mem;
 
-/// Messages that a text had before, so that one that comes again is kept once.
+/// Room for the types that most messages carry.
+const FEW: usize = 2;
+
+/// The types of a payload that is read. Contracts see the list.
+#[derive(Drop)]
+pub(crate) struct Sorts {
+    list: Vec<Dotted>,
+}
+
+impl Model for Sorts {
+    ghost use Rattle.std.specs.Prelude.{ℕ, List};
+
+    ghost Value = { List (List (List ℕ)) };
+
+    ghost view = { λ sorts. sorts.list.items };
+}
+
+impl Sorts {
+    /// These types.
+    pub(crate) fn from_vec(list: Vec<Dotted>) -> Sorts
+        ensures { result ≡ list.items }
+    {
+        Sorts { list }
+    }
+}
+
+/// Messages that a text had before, so that one that comes again is kept once, and takes no memory.
 #[derive(Drop)]
 pub(crate) struct RecentMessages {
     places: Vec<Option<SharedMessage>>,
+    /// Room for the types of the next one.
+    room: Vec<Dotted>,
 }
 
 impl RecentMessages {
@@ -21,42 +52,91 @@ impl RecentMessages {
     /// `AllocError` where memory for the places is refused.
     pub(crate) fn new(alloc: Global, tokens: usize) -> Result<RecentMessages, AllocError> {
         let places = places::empty(alloc, tokens)?;
-        Ok(RecentMessages { places })
+        let room = Vec::new(alloc);
+        Ok(RecentMessages { places, room })
     }
 
-    /// The message, shared with one that is the same where that is kept.
+    /// An empty list of types, with the room of the last one that was shared.
+    ///
+    /// # Errors
+    /// `AllocError` where memory for the list is refused.
+    pub(crate) fn room(&mut self, alloc: Global) -> Result<Vec<Dotted>, AllocError>
+        ensures { IfOk result (λ sorts. sorts.items ≡ []) }
+    {
+        if self.room.capacity() == 0 {
+            return Vec::with_capacity(alloc, FEW);
+        }
+        let mut sorts = mem::replace(&mut self.room, Vec::new(alloc));
+        sorts.clear();
+        Ok(sorts)
+    }
+
+    /// The message of the operator and the types, shared with one that is the same where that is kept.
     ///
     /// # Errors
     /// `AllocError` where memory for the message is refused, or the count of those who share it can't rise.
     pub(crate) fn share(
         &mut self,
         alloc: Global,
-        message: Message,
+        op: Option<Name>,
+        sorts: Sorts,
     ) -> Result<SharedMessage, AllocError>
-        ensures { IfOk result (λ shared. shared ≡ message) }
+        ensures { IfOk result (λ shared. shared ≡ message_from op sorts) }
     {
-        let at = places::place(hash_of(&message), self.places.len());
+        let at = places::place(hash_of(&op, &sorts.list), self.places.len());
         if at >= self.places.len() {
-            return SharedMessage::new(alloc, message);
+            return SharedMessage::new(alloc, message(op, sorts));
         }
         if let Some(kept) = &self.places[at] {
-            if kept.get().equal(&message) {
-                return kept.copy();
+            if is_message(kept.get(), &op, &sorts.list) {
+                let shared = kept.copy()?;
+                self.room = sorts.list;
+                return Ok(shared);
             }
         }
-        let shared = SharedMessage::new(alloc, message)?;
+        let shared = SharedMessage::new(alloc, message(op, sorts))?;
         self.places[at] = Some(shared.copy()?);
         Ok(shared)
     }
 }
 
+/// The message of the operator and the types.
+fn message(op: Option<Name>, sorts: Sorts) -> Message
+    ensures { result ≡ message_from op sorts }
+{
+    let payload = Payload::from_vec(sorts.list);
+    Message { op, payload }
+}
+
+/// Whether the message is of this operator and these types.
+fn is_message(message: &Message, op: &Option<Name>, sorts: &[Dotted]) -> bool
+    ensures { IsTrue result ↔ (message.now ≡ message_from op.now sorts.now) }
+{
+    operators_equal(&message.op, op) && sorts_equal(message.payload.as_slice(), sorts)
+}
+
+/// Whether both are the same types, in the same order.
+fn sorts_equal(a: &[Dotted], b: &[Dotted]) -> bool
+    ensures { IsTrue result ↔ (a.now ≡ b.now) }
+{
+    if a.len() != b.len() {
+        return false;
+    }
+    for i in 0..a.len() {
+        if !a[i].equal(&b[i]) {
+            return false;
+        }
+    }
+    true
+}
+
 /// A number that different messages seldom share.
-fn hash_of(message: &Message) -> usize {
-    let mut hash = match &message.op {
+fn hash_of(op: &Option<Name>, sorts: &[Dotted]) -> u64 {
+    let mut hash = match op {
         Some(op) => places::hash_on(1, op.as_bytes()),
         None => 0,
     };
-    for sort in message.payload.as_slice() {
+    for sort in sorts {
         hash = places::hash_names(hash, sort.as_slice());
     }
     hash

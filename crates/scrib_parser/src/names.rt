@@ -4,6 +4,7 @@ ghost use Rattle.std.specs.Prelude.{◌≡◌, IsTrue, IfOk, Some, None, if◌th
 ghost use Rattle.scrib_types.specs.Names as names;
 
 use crate::places;
+use crate::word::Word;
 use scrib_types::name::Name;
 use std::alloc::{AllocError, Global};
 
@@ -51,5 +52,29 @@ impl RecentNames {
         };
         self.places[at] = Some(KnownName { name: name.copy()? });
         Ok(Some(name))
+    }
+
+    /// The names that the words are, in order.
+    ///
+    /// # Errors
+    /// `AllocError` where memory for them is refused, or the count of those who share a name can't rise.
+    pub(crate) fn names(&mut self, alloc: Global, words: &[Word]) -> Result<Vec<Name>, AllocError>
+        ensures { IfOk result (λ names. names.items ≡ words.now) }
+    {
+        let mut names = Vec::with_capacity(alloc, words.len())?;
+        for word in words {
+            names.push(self.name_of_word(alloc, word)?)?;
+        }
+        Ok(names)
+    }
+
+    /// The name that the word is.
+    fn name_of_word(&mut self, alloc: Global, word: &Word) -> Result<Name, AllocError>
+        ensures { IfOk result (λ name. name ≡ word.now) }
+    {
+        match self.name(alloc, word.as_bytes())? {
+            Some(name) => Ok(name),
+            None => unreachable!(),
+        }
     }
 }

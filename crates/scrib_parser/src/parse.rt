@@ -8,12 +8,12 @@ ghost use Rattle.scrib_parser.specs.Reading.{left, Gives, GivesAll};
 
 use crate::cursor::{Cursor, left_out_declaration};
 use crate::fault::ParseFault;
-use crate::messages::RecentMessages;
+use crate::messages::{RecentMessages, Sorts};
 use crate::names::RecentNames;
 use crate::sorts::RecentSorts;
 use crate::tree::{Block, Import, ModuleTree, ProtocolDeclaration, RoleDeclaration, Statement};
+use crate::word::Word;
 use scrib_lexer::token::{Keyword, Token, TokenKind};
-use scrib_types::message::{Message, Payload};
 use scrib_types::name::{Dotted, Name};
 use scrib_types::plain::Items;
 use scrib_types::spot::Spot;
@@ -22,7 +22,7 @@ use std::alloc::Global;
 /// The most levels of blocks, a protocol's own being the first.
 pub const MAX_LEVELS: usize = 64;
 
-/// Room for the receivers or the types that most statements have.
+/// Room for the receivers that most statements have.
 const FEW: usize = 2;
 
 /// The module that the tokens are. The tree keeps the text's order; a type declaration leaves nothing in it.
@@ -366,7 +366,7 @@ fn message(alloc: Global, tokens: &mut Cursor) -> Result<Statement, ParseFault>
     tokens.take(TokenKind::Keyword(Keyword::To))?;
     let to = names(alloc, tokens)?;
     tokens.take(TokenKind::Semicolon)?;
-    let message = tokens.messages.share(alloc, Message { op, payload })?;
+    let message = tokens.messages.share(alloc, op, payload)?;
     Ok(Statement::Message {
         message,
         from,
@@ -414,28 +414,28 @@ fn named_opening(alloc: Global, tokens: &mut Cursor) -> Result<(Option<Name>, Sp
 
 /// `[ element { "," element } ]`
 #[tactic(auto, unfolding(crate::specs::Reading::payload_of))]
-fn payload(alloc: Global, tokens: &mut Cursor) -> Result<Payload, ParseFault>
+fn payload(alloc: Global, tokens: &mut Cursor) -> Result<Sorts, ParseFault>
     ensures { Gives result (left tokens.new) (reading.payload_of (left tokens.old)) }
 {
     if tokens.next_is(TokenKind::Name) {
         elements(alloc, tokens)
     } else {
-        Ok(Payload::from_vec(Vec::new(alloc)))
+        Ok(Sorts::from_vec(Vec::new(alloc)))
     }
 }
 
 /// `element { "," element }`
 #[tactic(auto, unfolding(crate::specs::Reading::elements_of))]
-fn elements(alloc: Global, tokens: &mut Cursor) -> Result<Payload, ParseFault>
+fn elements(alloc: Global, tokens: &mut Cursor) -> Result<Sorts, ParseFault>
     ensures { Gives result (left tokens.new) (reading.elements_of (left tokens.old)) }
 {
-    let mut sorts = Vec::with_capacity(alloc, FEW)?;
+    let mut sorts = tokens.messages.room(alloc)?;
     sorts.push(element(alloc, tokens)?)?;
     while tokens.next_is(TokenKind::Comma) {
         tokens.take(TokenKind::Comma)?;
         sorts.push(element(alloc, tokens)?)?;
     }
-    Ok(Payload::from_vec(sorts))
+    Ok(Sorts::from_vec(sorts))
 }
 
 /// `[ name ":" ] dotted`, without the name before the colon.
@@ -443,7 +443,7 @@ fn elements(alloc: Global, tokens: &mut Cursor) -> Result<Payload, ParseFault>
 fn element(alloc: Global, tokens: &mut Cursor) -> Result<Dotted, ParseFault>
     ensures { Gives result (left tokens.new) (reading.element_of (left tokens.old)) }
 {
-    let first = tokens.name(alloc)?;
+    let first = tokens.word()?;
     if tokens.next_is(TokenKind::Colon) {
         tokens.take(TokenKind::Colon)?;
         dotted(alloc, tokens)
@@ -457,22 +457,26 @@ fn element(alloc: Global, tokens: &mut Cursor) -> Result<Dotted, ParseFault>
 fn dotted(alloc: Global, tokens: &mut Cursor) -> Result<Dotted, ParseFault>
     ensures { Gives result (left tokens.new) (reading.dotted_of (left tokens.old)) }
 {
-    let first = tokens.name(alloc)?;
+    let first = tokens.word()?;
     dotted_from(alloc, first, tokens)
 }
 
 /// `{ "." name }`, behind the first name.
 #[tactic(auto, unfolding(crate::specs::Reading::dotted_from))]
-fn dotted_from(alloc: Global, first: Name, tokens: &mut Cursor) -> Result<Dotted, ParseFault>
-    ensures { Gives result (left tokens.new) (reading.dotted_from first (left tokens.old)) }
+fn dotted_from<'a>(
+    alloc: Global,
+    first: Word<'a>,
+    tokens: &mut Cursor<'_, 'a>,
+) -> Result<Dotted, ParseFault>
+    ensures { Gives result (left tokens.new) (reading.dotted_from first.entry (left tokens.old)) }
 {
-    let mut names = tokens.sorts.room(alloc);
-    names.push(first)?;
+    let mut words = tokens.sorts.room(alloc);
+    words.push(first)?;
     while tokens.next_is(TokenKind::Dot) {
         tokens.take(TokenKind::Dot)?;
-        names.push(tokens.name(alloc)?)?;
+        words.push(tokens.word()?)?;
     }
-    Ok(tokens.sorts.share(alloc, names)?)
+    Ok(tokens.sorts.share(alloc, &mut tokens.names, words)?)
 }
 
 /// The list, which a tree keeps long: without spare room, where memory for the smaller list is given.

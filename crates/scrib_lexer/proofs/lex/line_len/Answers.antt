@@ -1,7 +1,14 @@
-use Rattle.scrib_lexer.proofs.Quotes.{in_line-take_more}
-use Rattle.std.proofs.Common.{arith, ne_eqb}
+use Rattle.scrib_lexer.proofs.Lines.{line_end}
 use Rattle.scrib_lexer.proofs.lex.line_len.Goals as goal
 
-pub loop-i-preserved : goal.loop-i-preserved
-loop-i-preserved c =
-    in_line-take_more c.args.text.now c.loop-i.i (omega arith) (ne_eqb _ _ c.if-byte-eq10.false) c.loop-i.invariant
+pub returns-clause-within : goal.returns-clause-within
+returns-clause-within c =
+    rw c.unwrap_or.ensures ((line_end c.args.text.now c.memchr.result c.memchr.ensures).within)
+
+pub returns-clause-line : goal.returns-clause-line
+returns-clause-line c =
+    rw c.unwrap_or.ensures ((line_end c.args.text.now c.memchr.result c.memchr.ensures).line)
+
+pub returns-clause-longest : goal.returns-clause-longest
+returns-clause-longest c =
+    rw c.unwrap_or.ensures ((line_end c.args.text.now c.memchr.result c.memchr.ensures).longest)

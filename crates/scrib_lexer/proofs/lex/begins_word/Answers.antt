@@ -1,0 +1,9 @@
+use Rattle.std.proofs.Common.{nat_eq, get_or, refl, arith}
+use Rattle.scrib_types.specs.Names.{is_letter}
+use Rattle.scrib_lexer.specs.declared.lex.TheConstants.{CLASSES}
+use Rattle.scrib_lexer.proofs.Classes.{agree_below, agree_at}
+use Rattle.scrib_lexer.proofs.lex.begins_word.Goals as goal
+
+pub returns : goal.returns
+unfolding agree_below
+returns c = agree_at (λ k. nat_eq (get_or CLASSES k 0) 97) is_letter 256 refl c.args.byte (omega arith)
