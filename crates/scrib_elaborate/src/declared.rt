@@ -31,7 +31,8 @@ pub fn all_declared<'a>(
     ensures all { IfOk result (λ ds. shown ds.items ≡ declarations modules.now) }
     ensures settled { IfOk result (λ ds. All IsSettledSo ds.items) }
 {
-    let mut all = Vec::new(alloc);
+    // The directory knows how many were filed last, mostly as many as there are.
+    let mut all = Vec::with_capacity(alloc, modules.directory().filed)?;
     let settled = modules.settled();
     for (i, home) in modules.as_slice().iter().enumerate() {
         declare(&mut all, home, settled[i])?;

@@ -88,7 +88,25 @@ impl Modules {
         ensures ok { IfOk result (IsPlaced tree self.old self.new) }
         ensures err { OnErr result (self.new ≡ self.old) }
     {
-        match place_of(&self.trees, &tree.name) {
+        let place = self.place_of(&tree.name);
+        self.put_there(place, tree)
+    }
+
+    /// Puts the module at this place, where the one of its name stands, or last where there is none, and tells where it
+    /// stands now.
+    ///
+    /// # Errors
+    /// `AllocError` where memory for one more was refused. The modules are the same then.
+    pub fn put_there(
+        &mut self,
+        place: Option<usize>,
+        tree: ModuleTree,
+    ) -> Result<Placed, AllocError>
+        requires { MatchOption place (has_name tree.name (module_names self.old) ≡ false) (IsPlace self.old tree.name) }
+        ensures ok { IfOk result (IsPlaced tree self.old self.new) }
+        ensures err { OnErr result (self.new ≡ self.old) }
+    {
+        match place {
             Some(at) => {
                 let replaced = self.exchange(at, tree);
                 self.file();

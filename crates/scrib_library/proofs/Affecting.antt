@@ -59,15 +59,6 @@ taken_cases {X} xs i x lt at y p =
     let P : List X → Type 0 = λ l. Contains l y in
     Contains-push_cases (take i xs) x y (subst P (take_more xs i x lt ∙ ap (λ z. take i xs ++ z ∷ []) (sym at)) p)
 
--- one more module that isn't of this name, or is
-pub others_more : (ms : List ModuleTree) (name : List (List ℕ)) (i : ℕ) (t : ModuleTree) (xs ys : List ModuleTree) → i < length ms → t ≡ get_or ms i t → ((m : ModuleTree) → Contains (take i ms) m → Contains xs m ⊎ (m.name ≡ name)) → ((m : ModuleTree) → Contains xs m → Contains ys m) → Contains ys t ⊎ (t.name ≡ name)
-    → (m : ModuleTree) → Contains (take (i + 1) ms) m → Contains ys m ⊎ (m.name ≡ name)
-others_more ms name i t xs ys lt at h kept new m p =
-    elim (taken_cases ms i t lt at m p) [
-      | inl q ↦ elim (h m q) [ inl r ↦ inl (kept m r) | inr e ↦ inr e ]
-      | inr is ↦ (let P : ModuleTree → Type 0 = λ x. Contains ys x ⊎ (x.name ≡ name) in subst P is new)
-    ]
-
 -- one more import that isn't of such a name
 pub none_more : (names : List (List (List ℕ))) (is : List Import) (k : ℕ) (i : Import) → k < length is → i ≡ get_or is k i → ((j : Import) → Contains (take k is) j → Contains names j.module → ⊥) → (Contains names i.module → ⊥) → (j : Import) → Contains (take (k + 1) is) j → Contains names j.module → ⊥
 none_more names is k i lt at h non j p q =

@@ -5,6 +5,7 @@ pub mod Places
 pub mod Texts
 pub mod Meant
 pub mod Sieving
+pub mod Outlining
 pub mod Affecting
 pub mod Entering
 pub mod Sifting

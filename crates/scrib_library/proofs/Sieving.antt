@@ -1,15 +1,16 @@
 -- What a sieve lacks isn't among the names that it was made of.
-use Rattle.std.proofs.Common.{◌≡◌, ℕ, ◌+◌, ◌^◌, ◌<◌, ◌≤◌, List, [], ◌∷◌, length, get_or, take, inl, inr, sym, subst, arith}
+use Rattle.std.proofs.Common.{◌≡◌, ℕ, ◌+◌, ◌*◌, ◌%◌, ◌^◌, ◌<◌, ◌≤◌, List, [], ◌∷◌, length, get_or, take, drop, inl, inr, sym, ap, ◌∙◌, subst, arith}
 use Rattle.std.specs.Borrow.{Bor}
 use Rattle.std.specs.List.{Contains}
 use Rattle.std.specs.Int.{bit_at}
 use Rattle.std.specs.Int.Bits.{bit_or}
 use Rattle.std.proofs.lemmas.Nat.Bits.{bit_at_or, bit_at-lt, bit_at-pow_same}
-use Rattle.std.proofs.lemmas.List.{take_all}
+use Rattle.std.proofs.lemmas.List.{drop_more, take_all}
 use Rattle.scrib_parser.specs.declared.tree.Import.{Import}
 use Rattle.scrib_parser.specs.declared.tree.ModuleTree.{ModuleTree}
 use Rattle.scrib_library.specs.Affected.{names_now, ImportsSome}
-use Rattle.scrib_library.specs.Sieve.{bit_of, IsSieve, AreSieved, LacksBit}
+use Rattle.scrib_elaborate.specs.Names.{last_name}
+use Rattle.scrib_library.specs.Sieve.{mixed, bit_of, sieve_from, sieve_of, IsSieve, AreSieved, LacksBit}
 use Rattle.scrib_library.proofs.Lists.{Contains-nil, Contains-cases, Contains-map_back}
 use Rattle.scrib_library.proofs.Entering.{taken_cases}
 
@@ -20,21 +21,36 @@ or_left a b k e = let both = bit_at_or a b k in let low = bit_at-lt b k in omega
 or_right : (a b k : ℕ) → bit_at b k ≡ 1 → bit_at (bit_or a b) k ≡ 1
 or_right a b k e = let both = bit_at_or a b k in let low = bit_at-lt a k in omega (arith, both, e, low)
 
+-- a bit that is there stays
+kept : (is : List Import) (s k : ℕ) → bit_at s k ≡ 1 → bit_at (sieve_from s is) k ≡ 1
+kept [] s k h = h
+kept (i ∷ is) s k h = kept is (bit_or s (2 ^ bit_of i.module)) k (or_left s (2 ^ bit_of i.module) k h)
+
+each_bit : (is : List Import) (s : ℕ) (i : Import) → Contains is i → bit_at (sieve_from s is) (bit_of i.module) ≡ 1
+each_bit [] s i p = absurd (Contains-nil i p)
+each_bit (j ∷ is) s i p =
+    let b = 2 ^ bit_of j.module in
+    elim (Contains-cases j is i p) [
+      | inl e ↦ (
+          let P : Import → Type 0 = λ x. bit_at (bit_or s b) (bit_of x.module) ≡ 1 in
+          kept is (bit_or s b) (bit_of i.module) (subst P e (or_right s b (bit_of j.module) (bit_at-pow_same (bit_of j.module)))))
+      | inr q ↦ each_bit is (bit_or s b) i q
+    ]
+
+pub is_sieve : (is : List Import) → IsSieve is (sieve_of is)
+is_sieve is i p = each_bit is 0 i p
+
 -- one import more
-pub sieve_more : (is : List Import) (k : ℕ) (i : Import) (old new : ℕ) → k < length is → i ≡ get_or is k i → IsSieve (take k is) old → new ≡ bit_or old (2 ^ bit_of i.module) → IsSieve (take (k + 1) is) new
-sieve_more is k i old new lt at h is_new j p =
-    let b = 2 ^ bit_of i.module in
-    let P : ℕ → Type 0 = λ s. bit_at s (bit_of j.module) ≡ 1 in
-    subst P (sym is_new) (elim (taken_cases is k i lt at j p) [
-      | inl q ↦ or_left old b (bit_of j.module) (h j q)
-      | inr e ↦ (let Q : Import → Type 0 = λ x. bit_at (bit_or old b) (bit_of x.module) ≡ 1 in subst Q e (or_right old b (bit_of i.module) (bit_at-pow_same (bit_of i.module))))
-    ])
+pub sieve_more : (is : List Import) (k : ℕ) (i : Import) (old new whole : ℕ) → k < length is → i ≡ get_or is k i → sieve_from old (drop k is) ≡ whole → new ≡ bit_or old (2 ^ bit_of i.module) → sieve_from new (drop (k + 1) is) ≡ whole
+sieve_more is k i old new whole lt at h is_new =
+    ap (λ s. sieve_from s (drop (k + 1) is)) is_new ∙ sym (ap (sieve_from old) (drop_more is k i lt ∙ ap (λ x. x ∷ drop (k + 1) is) (sym at))) ∙ h
 
-pub sieve_all : (is : List Import) (k s : ℕ) → length is ≤ k → IsSieve (take k is) s → IsSieve is s
-sieve_all is k s le h = let P : List Import → Type 0 = λ l. IsSieve l s in subst P (take_all k is le) h
+mixed_small : (h : ℕ) (bs : List ℕ) → h < 64 → mixed h bs < 64
+mixed_small h [] lt = lt
+mixed_small h (b ∷ bs) lt = mixed_small ((h * 5 + b) % 64) bs (omega arith)
 
-pub sieve_none : (is : List Import) (s : ℕ) → IsSieve (take 0 is) s
-sieve_none is s j p = absurd (Contains-nil j p)
+pub bit_small : (name : List (List ℕ)) → bit_of name < 64
+bit_small name = mixed_small 0 (last_name name) (omega arith)
 
 -- a module of whose sieve the name's bit lacks doesn't import it
 pub sifted_out : (m : ModuleTree) (s : ℕ) (name : List (List ℕ)) → IsSieve m.imports s → LacksBit s (bit_of name) → ImportsSome (name ∷ []) m → ⊥

@@ -4,6 +4,7 @@ pub mod Holdings
 pub mod Edits
 pub mod Listed
 pub mod Sieve
+pub mod Outlines
 pub mod Affected
 pub mod Entries
 pub mod Calls

@@ -1,6 +1,6 @@
 -- Sieves of names: which bits they have.
 -- Only contracts of private functions cite this file.
-use Rattle.std.specs.Prelude.{◌≡◌, ℕ, ◌+◌, ◌*◌, ◌%◌, List, [], ◌∷◌, Contains}
+use Rattle.std.specs.Prelude.{◌≡◌, ℕ, ◌+◌, ◌*◌, ◌%◌, ◌^◌, bit_or, List, [], ◌∷◌, Contains}
 use Rattle.std.specs.Int.{bit_at}
 use Rattle.scrib_parser.specs.declared.tree.Import.{Import}
 use Rattle.scrib_elaborate.specs.Names.{last_name}
@@ -13,6 +13,15 @@ mixed h (b ∷ bs) = mixed ((h * 5 + b) % 64) bs
 -- the bit of the name
 abbrev pub bit_of : List (List ℕ) → ℕ
 bit_of name = mixed 0 (last_name name)
+
+-- the bits of the imported modules' names, put to those of a sieve
+abbrev pub sieve_from : (so_far : ℕ) → List Import → ℕ
+sieve_from s [] = s
+sieve_from s (i ∷ is) = sieve_from (bit_or s (2 ^ bit_of i.module)) is
+
+-- the sieve of the imported modules' names
+abbrev pub sieve_of : List Import → ℕ
+sieve_of is = sieve_from 0 is
 
 -- it has the bit of each imported module's name
 abbrev pub IsSieve : List Import → ℕ → Type 0

@@ -1,11 +1,13 @@
 //! The modules whose protocols an edit can change: the edited one, and those that reach it by imports.
 
-ghost use Rattle.std.specs.Prelude.{◌≡◌, ◌<◌, ◌⊎◌, ◌∷◌, [], length, MatchOption, IfOk, IsTrue, Contains, ◌↔◌};
+ghost use Rattle.std.specs.Prelude.{◌≡◌, ◌<◌, ◌∷◌, [], length, MatchOption, IfOk, IsTrue, Contains, ◌↔◌};
 ghost use Rattle.scrib_parser.specs.declared.tree.ModuleTree as parsed;
+ghost use Rattle.scrib_library.specs.Outlines.{outlines_of};
 ghost use Rattle.scrib_library.specs.Affected.{names_now, waiting_trees, ImportsSome, AreAffected};
 
 use crate::names::same;
-use crate::sieve::{Sieved, bit_of, may_have, sieve_of};
+use crate::outlines::Outline;
+use crate::sieve::{Sieved, bit_of, may_have};
 use scrib_parser::tree::ModuleTree;
 use scrib_types::name::Dotted;
 use std::alloc::{AllocError, Global};
@@ -17,11 +19,13 @@ use std::alloc::{AllocError, Global};
 pub fn affected<'a>(
     alloc: Global,
     modules: &'a [ModuleTree],
+    outlines: &[Outline],
     edited: &'a Dotted,
 ) -> Result<Vec<&'a Dotted>, AllocError>
+    requires { outlines.now ≡ outlines_of modules.now }
     ensures { IfOk result (λ names. AreAffected modules.now edited.now (names_now names.items)) }
 {
-    let mut waiting = others(alloc, modules, edited)?;
+    let mut waiting = sieved(alloc, modules, outlines)?;
     let mut names = Vec::new(alloc);
     names.push(edited)?;
     // Each name is compared with the imports of those that wait, and no more once none of them imports it.
@@ -38,22 +42,21 @@ pub fn affected<'a>(
     Ok(names)
 }
 
-/// The modules that don't have this name.
-fn others<'a>(
+/// The modules, with their sieves.
+fn sieved<'a>(
     alloc: Global,
     modules: &'a [ModuleTree],
-    name: &Dotted,
+    outlines: &[Outline],
 ) -> Result<Vec<Sieved<'a>>, AllocError>
-    ensures { IfOk result (λ others. (m : parsed.ModuleTree) → Contains modules.now m → Contains (waiting_trees others.items) m ⊎ (m.name ≡ name.now)) }
+    requires { outlines.now ≡ outlines_of modules.now }
+    ensures { IfOk result (λ all. waiting_trees all.items ≡ modules.now) }
 {
-    let mut others = Vec::with_capacity(alloc, modules.len())?;
-    for tree in modules {
-        if !same(name, &tree.name) {
-            let sieve = sieve_of(tree.imports.as_slice());
-            others.push(Sieved { tree, sieve })?;
-        }
+    let mut all = Vec::with_capacity(alloc, modules.len())?;
+    for (at, tree) in modules.iter().enumerate() {
+        let sieve = outlines[at].sieve;
+        all.push(Sieved { tree, sieve })?;
     }
-    Ok(others)
+    Ok(all)
 }
 
 /// The place of the first of the modules that imports the one of this name. The sieves spare most comparisons.

@@ -1,14 +1,16 @@
 //! The protocols whose meaning an edit can change, by full name.
 
-ghost use Rattle.std.specs.Prelude.{◌↔◌, IsTrue, IfOk, IfErr, OnOk, Contains};
+ghost use Rattle.std.specs.Prelude.{◌≡◌, ◌<◌, ◌↔◌, IsTrue, IfOk, IfErr, OnOk, Contains};
 ghost use Rattle.std.specs.Option.{option_copied};
 ghost use Rattle.scrib_library.specs.Listed.{AreInOrder, IsAt, IsGap};
 ghost use Rattle.scrib_library.specs.Affected.{names_now};
-ghost use Rattle.scrib_library.specs.Sieve.{AreSieved};
+ghost use Rattle.scrib_library.specs.Sieve.{AreSieved, bit_of};
+ghost use Rattle.scrib_library.specs.Outlines.{outlines_of};
 ghost use Rattle.scrib_library.specs.Entries.{entry_names, AreEntries, AreEntered, AreTouched};
 
 use crate::affected::is_one_of;
 use crate::names::{compare, full_name};
+use crate::outlines::Outline;
 use crate::sieve::{bit_of, may_have};
 use scrib_parser::tree::{ModuleTree, ProtocolDeclaration};
 use scrib_types::name::Dotted;
@@ -31,12 +33,14 @@ pub struct Entry<'a> {
 pub fn touched<'a>(
     alloc: Global,
     modules: &'a [ModuleTree],
+    outlines: &[Outline],
     affected: &[&Dotted],
     gone: Option<&'a ModuleTree>,
 ) -> Result<Vec<Entry<'a>>, AllocError>
+    requires { outlines.now ≡ outlines_of modules.now }
     ensures { IfOk result (λ entries. AreTouched modules.now (names_now affected.now) (option_copied gone.entry) entries.items) }
 {
-    let mut entries = entries_of(alloc, modules, affected)?;
+    let mut entries = entries_of(alloc, modules, outlines, affected)?;
     if let Some(tree) = gone {
         enter(alloc, &mut entries, tree, false)?;
     }
@@ -47,14 +51,16 @@ pub fn touched<'a>(
 fn entries_of<'a>(
     alloc: Global,
     modules: &'a [ModuleTree],
+    outlines: &[Outline],
     affected: &[&Dotted],
 ) -> Result<Vec<Entry<'a>>, AllocError>
+    requires { outlines.now ≡ outlines_of modules.now }
     ensures { IfOk result (λ entries. AreEntries modules.now (names_now affected.now) entries.items) }
 {
     let sieve = sieve_of_names(affected);
     let mut entries = Vec::new(alloc);
-    for tree in modules {
-        if is_among(affected, sieve, &tree.name) {
+    for (at, tree) in modules.iter().enumerate() {
+        if is_among(affected, sieve, outlines[at].bit, &tree.name) {
             enter(alloc, &mut entries, tree, true)?;
         }
     }
@@ -72,12 +78,14 @@ fn sieve_of_names(names: &[&Dotted]) -> u64
     sieve
 }
 
-/// Whether the name is one of these, of which this is the sieve. The sieve spares most comparisons.
-fn is_among(names: &[&Dotted], sieve: u64, name: &Dotted) -> bool
-    requires { AreSieved (names_now names.now) sieve }
+/// Whether the name, which has this bit, is one of these, of which this is the sieve. The sieve spares most comparisons.
+fn is_among(names: &[&Dotted], sieve: u64, bit: u32, name: &Dotted) -> bool
+    requires sieve { AreSieved (names_now names.now) sieve }
+    requires bit { bit ≡ bit_of name.now }
+    requires within { bit < 64 }
     ensures { IsTrue result ↔ Contains (names_now names.now) name.now }
 {
-    may_have(sieve, bit_of(name)) && is_one_of(names, name)
+    may_have(sieve, bit) && is_one_of(names, name)
 }
 
 /// Puts the protocols of the module in their places, except those whose names are there.

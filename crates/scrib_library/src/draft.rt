@@ -10,9 +10,10 @@ ghost use Rattle.scrib_library.specs.Drafts.{shown, IsMadeAnew, IsEdit, LacksVer
 
 use crate::changes::{Change, ChangeKind};
 use crate::fault::EditFault;
+use crate::hints::Hints;
 use crate::library::MAX_VERSIONS;
 use crate::meanings::NamedMeaning;
-use crate::versions::{NamedVersion, VersionEdit, version_of};
+use crate::versions::{NamedVersion, VersionEdit, version_near};
 use scrib_project::projected::ProjectedProtocol;
 use scrib_record::version::Version;
 use scrib_types::name::Dotted;
@@ -35,6 +36,7 @@ pub struct Draft {
 pub fn draft_of(
     alloc: Global,
     versions: &[NamedVersion],
+    hints: &Hints,
     meanings: Vec<NamedMeaning>,
     used: u32,
 ) -> Result<Draft, EditFault>
@@ -47,7 +49,8 @@ pub fn draft_of(
     let mut edits = Vec::new(alloc);
     let mut next = used;
     for named in meanings {
-        let before = version_of(versions, &named.name);
+        let near = hints.place_of(&named.name);
+        let before = version_near(versions, near, &named.name);
         if let Some(edit) = edit_of(alloc, before, named, next)? {
             next = used_after(&edit, next);
             edits.push(edit)?;

@@ -1,17 +1,19 @@
 //! Hints where versions stand, by a number that is mixed of their names. Nothing rests on them: whoever takes a hint
 //! compares the name that stands there.
 
+ghost use Rattle.std.specs.Prelude.{◌<◌};
+
 use crate::versions::NamedVersion;
 use scrib_types::name::Dotted;
 use std::alloc::{AllocError, Global};
 
-/// How many places are remembered.
+/// How many places are remembered: a power of two, by which a remainder costs little.
 const SLOTS: usize = 4096;
 
 /// For each mixed number a place among the versions, if memory for them was taken yet.
 #[derive(Drop)]
 pub struct Hints {
-    places: Vec<usize>,
+    places: Vec<u16>,
     // How many versions there were when the places were noted.
     count: usize,
 }
@@ -43,40 +45,44 @@ impl Hints {
     /// Remembers where these versions stand; of two with one number the last. Where there are as many as before, most
     /// stand where they stood, and the hints stay.
     pub fn renew(&mut self, versions: &[NamedVersion]) {
-        let size = self.places.len();
-        if size == 0 || versions.len() == self.count {
+        if versions.len() == self.count {
             return;
         }
         self.count = versions.len();
-        for (place, named) in versions.iter().enumerate() {
-            self.places[mixed(&named.name) % size] = place;
+        for (place, named) in (0..=u16::MAX).zip(versions) {
+            if let Some(noted) = self.places.get_mut(mixed(&named.name)) {
+                *noted = place;
+            }
         }
     }
 
     /// Where the version of this name may stand.
     pub fn place_of(&self, name: &Dotted) -> usize {
-        let size = self.places.len();
-        if size == 0 {
-            return 0;
+        match self.places.get(mixed(name)) {
+            Some(place) => usize::from(*place),
+            None => 0,
         }
-        self.places[mixed(name) % size]
     }
 }
 
-/// The number of the name.
+/// The number of the name, mixed of its last two parts: those before are mostly alike among a library's protocols.
 fn mixed(name: &Dotted) -> usize {
+    let parts = name.as_slice();
     let mut number = 0;
-    for part in name.as_slice() {
+    for part in &parts[parts.len().saturating_sub(2)..] {
         number = mixed_bytes(number, part.as_bytes());
     }
     number
 }
 
 /// The bytes, mixed into the number.
-fn mixed_bytes(so_far: usize, bytes: &[u8]) -> usize {
+fn mixed_bytes(so_far: usize, bytes: &[u8]) -> usize
+    requires { so_far < 4096 }
+    ensures { result < 4096 }
+{
     let mut number = so_far;
     for byte in bytes {
-        number = (number % 65_536) * 33 + usize::from(*byte);
+        number = (number * 33 + usize::from(*byte)) % SLOTS;
     }
     number
 }

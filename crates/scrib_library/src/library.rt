@@ -16,8 +16,8 @@ use crate::plan::{Plan, plan_put, plan_withdrawal};
 use crate::profiles::check_change;
 use crate::read::read;
 use crate::removal::free_place;
+use crate::shelf::Shelf;
 use crate::versions::{NamedVersion, make_all, version_near};
-use scrib_elaborate::modules::Modules;
 use scrib_record::version::Version;
 use scrib_types::name::Dotted;
 use scrib_types::profile::Profile;
@@ -40,7 +40,7 @@ pub const MAX_VERSIONS: u32 = 65_536;
 pub struct Library {
     alloc: Global,
     profile: Profile,
-    modules: Modules,
+    modules: Shelf,
     versions: Vec<NamedVersion>,
     used: u32,
     // Where versions are looked for first.
@@ -77,7 +77,7 @@ impl Library {
         Library {
             alloc,
             profile,
-            modules: Modules::new(alloc),
+            modules: Shelf::new(alloc),
             versions: Vec::new(alloc),
             used: 0,
             hints: Hints::new(alloc),
@@ -111,6 +111,7 @@ impl Library {
             new,
             gone,
             &mut self.versions,
+            &self.hints,
             self.used,
         ) {
             Ok(plan) => {
@@ -119,7 +120,7 @@ impl Library {
                     used,
                     changes,
                 } = plan;
-                make_all(&mut self.versions, edits);
+                make_all(&mut self.versions, &self.hints, edits);
                 self.hints.renew(&self.versions);
                 self.used = used;
                 Ok(changes)
@@ -149,9 +150,9 @@ impl Library {
     {
         let at = free_place(&self.modules, name)?;
         let gone = &self.modules.as_slice()[at];
-        let plan = plan_withdrawal(self.alloc, gone, &mut self.versions, self.used)?;
+        let plan = plan_withdrawal(self.alloc, gone, &mut self.versions, &self.hints, self.used)?;
         let Plan { edits, changes, .. } = plan;
-        make_all(&mut self.versions, edits);
+        make_all(&mut self.versions, &self.hints, edits);
         self.hints.renew(&self.versions);
         self.modules.take_out(at);
         Ok(changes)

@@ -16,12 +16,13 @@ use crate::changes::Changes;
 use crate::declared::touched;
 use crate::draft::{Draft, changes_in, draft_of};
 use crate::fault::EditFault;
+use crate::hints::Hints;
 use crate::meanings::{NamedMeaning, dropped, meanings_of};
 use crate::reaching::reaching;
 use crate::room::check_room;
 use crate::same::same_module;
+use crate::shelf::Shelf;
 use crate::versions::{NamedVersion, VersionEdit};
-use scrib_elaborate::modules::Modules;
 use scrib_parser::tree::ModuleTree;
 use scrib_types::name::Dotted;
 use scrib_types::profile::Profile;
@@ -45,10 +46,11 @@ pub struct Plan {
 pub fn plan_put(
     alloc: Global,
     profile: Profile,
-    modules: &Modules,
+    modules: &Shelf,
     new: &ModuleTree,
     gone: Option<&ModuleTree>,
     versions: &mut Vec<NamedVersion>,
+    hints: &Hints,
     used: u32,
 ) -> Result<Plan, EditFault>
     requires sorted { AreInOrder (version_names versions.old.items) }
@@ -58,9 +60,9 @@ pub fn plan_put(
     ensures room { IfOk result (λ p. vec_len versions.new + vec_len p.edits ≤ vec_capacity versions.new) }
     ensures kept { versions.new.items ≡ versions.old.items }
 {
-    check_room(alloc, modules.as_slice(), new)?;
+    check_room(alloc, modules.as_slice(), modules.outlines(), new)?;
     let meanings = meanings_after(alloc, profile, modules, new, gone)?;
-    plan_edits(alloc, &new.name, versions, meanings, used)
+    plan_edits(alloc, &new.name, versions, hints, meanings, used)
 }
 
 /// What the names mean, in order, that the put of the new module in place of the one that is gone can have changed:
@@ -71,7 +73,7 @@ pub fn plan_put(
 fn meanings_after(
     alloc: Global,
     profile: Profile,
-    modules: &Modules,
+    modules: &Shelf,
     new: &ModuleTree,
     gone: Option<&ModuleTree>,
 ) -> Result<Vec<NamedMeaning>, EditFault>
@@ -84,10 +86,11 @@ fn meanings_after(
         return Ok(Vec::new(alloc));
     }
     let trees = modules.as_slice();
-    let affected = affected(alloc, trees, &new.name)?;
-    let entries = touched(alloc, trees, &affected, gone)?;
+    let outlines = modules.outlines();
+    let affected = affected(alloc, trees, outlines, &new.name)?;
+    let entries = touched(alloc, trees, outlines, &affected, gone)?;
     let reached = reaching(alloc, &new.name, entries)?;
-    meanings_of(alloc, profile, modules, reached)
+    meanings_of(alloc, profile, modules.as_modules(), reached)
 }
 
 /// Whether the module that is gone is this one.
@@ -108,6 +111,7 @@ pub fn plan_withdrawal(
     alloc: Global,
     gone: &ModuleTree,
     versions: &mut Vec<NamedVersion>,
+    hints: &Hints,
     used: u32,
 ) -> Result<Plan, EditFault>
     requires sorted { AreInOrder (version_names versions.old.items) }
@@ -118,7 +122,7 @@ pub fn plan_withdrawal(
     ensures kept { versions.new.items ≡ versions.old.items }
 {
     let meanings = dropped(alloc, gone)?;
-    plan_edits(alloc, &gone.name, versions, meanings, used)
+    plan_edits(alloc, &gone.name, versions, hints, meanings, used)
 }
 
 /// What it does that names have these meanings now, where the edited module has this name. There is room for the new
@@ -127,6 +131,7 @@ fn plan_edits(
     alloc: Global,
     name: &Dotted,
     versions: &mut Vec<NamedVersion>,
+    hints: &Hints,
     meanings: Vec<NamedMeaning>,
     used: u32,
 ) -> Result<Plan, EditFault>
@@ -138,7 +143,7 @@ fn plan_edits(
     ensures room { IfOk result (λ p. vec_len versions.new + vec_len p.edits ≤ vec_capacity versions.new) }
     ensures kept { versions.new.items ≡ versions.old.items }
 {
-    let Draft { edits, used } = draft_of(alloc, versions, meanings, used)?;
+    let Draft { edits, used } = draft_of(alloc, versions, hints, meanings, used)?;
     let list = changes_in(alloc, &edits)?;
     let module = name.copy()?;
     versions.reserve(edits.len())?;

@@ -10,7 +10,7 @@ ghost use Rattle.scrib_library.specs.Withdrawals.{Imports, IsFreePlace, IsFirstO
 use crate::affected::imports_some;
 use crate::fault::EditFault;
 use crate::names::compare;
-use scrib_elaborate::modules::Modules;
+use crate::shelf::Shelf;
 use scrib_parser::tree::ModuleTree;
 use scrib_types::name::Dotted;
 use std::cmp::Ordering;
@@ -20,7 +20,7 @@ use std::cmp::Ordering;
 /// # Errors
 /// `UnknownModule` where there is none; else `StillImported` where another module imports it, with the first such
 /// name; `OutOfMemory` where no copy of that name can be made.
-pub fn free_place(modules: &Modules, name: &Dotted) -> Result<usize, EditFault>
+pub fn free_place(modules: &Shelf, name: &Dotted) -> Result<usize, EditFault>
     requires { (m : parsed.ModuleTree) → Contains modules.now m → IsSpelled m }
     ensures ok { IfOk result (IsFreePlace modules.now name.now) }
     ensures fault { IfErr result (WithdrawFails modules.now name.now) }

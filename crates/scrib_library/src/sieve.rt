@@ -29,7 +29,7 @@ pub fn bit_of(name: &Dotted) -> u32
 
 /// The sieve of the names of the modules that are imported.
 pub fn sieve_of(imports: &[Import]) -> u64
-    ensures { spec.IsSieve imports.now result }
+    ensures { result ≡ spec.sieve_of imports.now }
 {
     let mut sieve = 0;
     for import in imports {

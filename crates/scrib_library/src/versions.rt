@@ -7,6 +7,7 @@ ghost use Rattle.scrib_library.specs.Stored.{version_names, IsVersion};
 ghost use Rattle.scrib_library.specs.Drafts.{edit_names, IsMade, AreMade};
 
 use crate::changes::ChangeKind;
+use crate::hints::Hints;
 use crate::names::compare;
 use scrib_record::version::Version;
 use scrib_types::name::Dotted;
@@ -27,48 +28,36 @@ pub struct VersionEdit {
     pub version: Option<Version>,
 }
 
-/// The version of the protocol of this name.
-pub fn version_of<'a>(versions: &'a [NamedVersion], name: &Dotted) -> Option<&'a Version>
-    requires { AreInOrder (version_names versions.now) }
-    ensures { IsVersion versions.now name.now (option_copied result) }
-{
-    match place_of(versions, name) {
-        Ok(at) => Some(&versions[at].version),
-        Err(_) => None,
-    }
-}
-
 /// The version of the protocol of this name, which is looked for at this place first.
 pub fn version_near<'a>(
     versions: &'a [NamedVersion],
-    place: usize,
+    near: usize,
     name: &Dotted,
 ) -> Option<&'a Version>
     requires { AreInOrder (version_names versions.now) }
     ensures { IsVersion versions.now name.now (option_copied result) }
 {
-    if let Some(named) = versions.get(place) {
-        if named.name.equal(name) {
-            return Some(&named.version);
-        }
+    match place_near(versions, near, name) {
+        Ok(at) => Some(&versions[at].version),
+        Err(_) => None,
     }
-    version_of(versions, name)
 }
 
 /// Makes the edits, which are of different names, where there is room for them.
-pub fn make_all(versions: &mut Vec<NamedVersion>, edits: Vec<VersionEdit>)
+pub fn make_all(versions: &mut Vec<NamedVersion>, hints: &Hints, edits: Vec<VersionEdit>)
     requires versions { AreInOrder (version_names versions.old.items) }
     requires edits { AreInOrder (edit_names edits.items) }
     requires room { vec_len versions.old + vec_len edits ≤ vec_capacity versions.old }
     ensures { AreMade versions.old.items edits.items versions.new.items }
 {
     for edit in edits {
-        make(versions, edit);
+        let near = hints.place_of(&edit.name);
+        make(versions, near, edit);
     }
 }
 
-/// Makes the edit, where there is room for one version more.
-fn make(versions: &mut Vec<NamedVersion>, edit: VersionEdit)
+/// Makes the edit, where there is room for one version more. The version of its name is looked for at this place first.
+fn make(versions: &mut Vec<NamedVersion>, near: usize, edit: VersionEdit)
     requires versions { AreInOrder (version_names versions.old.items) }
     requires room { vec_len versions.old < vec_capacity versions.old }
     ensures made { IsMade versions.old.items edit versions.new.items }
@@ -76,7 +65,7 @@ fn make(versions: &mut Vec<NamedVersion>, edit: VersionEdit)
     ensures room { vec_capacity versions.new ≡ vec_capacity versions.old }
 {
     let VersionEdit { name, version, .. } = edit;
-    match (place_of(versions, &name), version) {
+    match (place_near(versions, near, &name), version) {
         (Ok(at), Some(version)) => {
             let _before = replace(&mut versions[at], NamedVersion { name, version });
         }
@@ -87,6 +76,18 @@ fn make(versions: &mut Vec<NamedVersion>, edit: VersionEdit)
             let _ = versions.insert(at, NamedVersion { name, version });
         }
         (Err(_), None) => {}
+    }
+}
+
+/// The place of the version of this name, which is looked for at this one first, or the place for it.
+fn place_near(versions: &[NamedVersion], near: usize, name: &Dotted) -> Result<usize, usize>
+    requires { AreInOrder (version_names versions.now) }
+    ensures found { IfOk result (IsAt (version_names versions.now) name.now) }
+    ensures gap { IfErr result (IsGap (version_names versions.now) name.now) }
+{
+    match versions.get(near) {
+        Some(named) if named.name.equal(name) => Ok(near),
+        _ => place_of(versions, name),
     }
 }
 

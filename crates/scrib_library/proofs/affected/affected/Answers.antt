@@ -1,4 +1,6 @@
-use Rattle.std.proofs.Common.{refl, ap, arith}
+use Rattle.std.proofs.Common.{List, inl, refl, sym, ap, subst, arith}
+use Rattle.std.specs.List.{Contains}
+use Rattle.scrib_parser.specs.declared.tree.ModuleTree.{ModuleTree}
 use Rattle.scrib_library.specs.Affected.{names_now, waiting_trees}
 use Rattle.scrib_library.proofs.Lists.{Contains-nil}
 use Rattle.scrib_library.proofs.Affecting.{sorted_first, sorted_moved, sorted_all, none_removed, none_next, none_all, within_more}
@@ -7,7 +9,7 @@ use Rattle.scrib_library.proofs.affected.affected.Goals as goal
 pub loop-at-init : goal.loop-at-init
 loop-at-init c =
     let items = rw c.new-names.ensures.items at c.in_ok-push.ensures.items in
-    (sorted_first c.args.modules.now c.args.edited.now (waiting_trees c.in_ok-waiting.waiting.items) (names_now c.push.new.self.items) (ap names_now items) c.in_ok-waiting.ensures, λ m p s. Contains-nil s.by.module s.named, omega arith)
+    (sorted_first c.args.modules.now c.args.edited.now (waiting_trees c.in_ok-waiting.waiting.items) (names_now c.push.new.self.items) (ap names_now items) (λ m p. let P : List ModuleTree → Type 0 = λ l. Contains l m in inl (subst P (sym c.in_ok-waiting.ensures) p)), λ m p s. Contains-nil s.by.module s.named, omega arith)
 
 pub loop-at-preserved-in-Continue-branch-3 : goal.loop-at-preserved-in-Continue-branch-3
 loop-at-preserved-in-Continue-branch-3 c =

@@ -1,4 +1,4 @@
-use Rattle.std.proofs.Common.{List, subst}
+use Rattle.std.proofs.Common.{List, sym, ◌∙◌, subst}
 use Rattle.std.specs.Option.{option_copied}
 use Rattle.std.proofs.lemmas.Result.{IfOk-weaker, IfErr-weaker}
 use Rattle.scrib_parser.specs.declared.tree.ModuleTree.{ModuleTree}
@@ -27,7 +27,7 @@ returns-clause-sorted c =
     let R : List ModuleTree → Type 0 = λ ms. AreTouched ms names gone es in
     let named = rw c.deref.ensures.value at c.in_ok-entries.ensures in
     let all = covering c.args.profile m c.args.modules.now gone names (subst Q c.as_slice-trees.ensures c.in_ok-affected.ensures) es (subst R c.as_slice-trees.ensures named) rs c.in_ok-reached.ensures in
-    IfOk-weaker c.meanings_of.result (λ ys. AreMeanings c.args.profile c.args.modules.now rs ys.items) (λ ys. AreInOrder (meaning_names ys.items)) (λ ys h. (all ys.items h).0) c.meanings_of.ensures.ok
+    IfOk-weaker c.meanings_of.result (λ ys. AreMeanings c.args.profile c.args.modules.now rs ys.items) (λ ys. AreInOrder (meaning_names ys.items)) (λ ys h. (all ys.items h).0) (rw c.as_modules.ensures at c.meanings_of.ensures.ok)
 
 pub returns-clause-ok : goal.returns-clause-ok
 returns-clause-ok c =
@@ -40,7 +40,7 @@ returns-clause-ok c =
     let R : List ModuleTree → Type 0 = λ ms. AreTouched ms names gone es in
     let named = rw c.deref.ensures.value at c.in_ok-entries.ensures in
     let all = covering c.args.profile m c.args.modules.now gone names (subst Q c.as_slice-trees.ensures c.in_ok-affected.ensures) es (subst R c.as_slice-trees.ensures named) rs c.in_ok-reached.ensures in
-    IfOk-weaker c.meanings_of.result (λ ys. AreMeanings c.args.profile c.args.modules.now rs ys.items) (λ ys. Covers c.args.profile m c.args.modules.now gone ys.items) (λ ys h. (all ys.items h).1) c.meanings_of.ensures.ok
+    IfOk-weaker c.meanings_of.result (λ ys. AreMeanings c.args.profile c.args.modules.now rs ys.items) (λ ys. Covers c.args.profile m c.args.modules.now gone ys.items) (λ ys h. (all ys.items h).1) (rw c.as_modules.ensures at c.meanings_of.ensures.ok)
 
 pub returns-clause-fault : goal.returns-clause-fault
 returns-clause-fault c =
@@ -54,9 +54,9 @@ returns-clause-fault c =
     let named = rw c.deref.ensures.value at c.in_ok-entries.ensures in
     IfErr-weaker c.meanings_of.result (IsRefusal c.args.profile c.args.modules.now rs) (StopsMeanings c.args.profile m c.args.modules.now gone)
     (stopped_meanings c.args.profile m c.args.modules.now gone names (subst Q c.as_slice-trees.ensures c.in_ok-affected.ensures) es (subst R c.as_slice-trees.ensures named) rs c.in_ok-reached.ensures c.requires)
-    c.meanings_of.ensures.fault
+    (rw c.as_modules.ensures at c.meanings_of.ensures.fault)
 
 pub meanings_of-requires-clause-stand : goal.meanings_of-requires-clause-stand
 meanings_of-requires-clause-stand c = λ e p s.
     let P : List ModuleTree → Type 0 = λ ms. IsDeclaredIn ms e in
-    subst P c.as_slice-trees.ensures (c.in_ok-entries.ensures.sound e (c.in_ok-reached.ensures.sound e p) s)
+    subst P (c.as_slice-trees.ensures ∙ sym c.as_modules.ensures) (c.in_ok-entries.ensures.sound e (c.in_ok-reached.ensures.sound e p) s)

@@ -2,7 +2,7 @@ use Rattle.std.proofs.Common.{subst}
 use Rattle.scrib_library.specs.declared.versions.NamedVersion.{NamedVersion}
 use Rattle.scrib_library.specs.Stored.{HasVersion}
 use Rattle.scrib_library.proofs.Making.{found_version, no_version}
-use Rattle.scrib_library.proofs.versions.version_of.Goals as goal
+use Rattle.scrib_library.proofs.versions.version_near.Goals as goal
 
 pub returns-in-Ok : goal.returns-in-Ok
 returns-in-Ok c =

@@ -1,0 +1,22 @@
+use Rattle.std.proofs.Common.{◌++◌, ◌∷◌, [], take, sym, ap, ◌∙◌, subst}
+use Rattle.std.proofs.lemmas.List.{map-append, take_more}
+use Rattle.scrib_library.specs.declared.outlines.Outline.{Outline}
+use Rattle.scrib_library.specs.declared.sieve.Sieved.{Sieved}
+use Rattle.scrib_library.specs.Sieve.{IsSieve}
+use Rattle.scrib_library.specs.Affected.{waiting_trees}
+use Rattle.scrib_library.proofs.Outlining.{outlined_at}
+use Rattle.scrib_library.proofs.Sieving.{is_sieve}
+use Rattle.scrib_library.proofs.affected.sieved.Goals as goal
+
+pub loop-at-preserved : goal.loop-at-preserved
+loop-at-preserved c =
+    let ms = c.args.modules.now in
+    let t = c.index-modules-at.result in
+    ap waiting_trees c.in_ok-push.ensures.items ∙ map-append (λ (w : Sieved). w.tree.now) c.loop-at.all.items _ ∙ ap (λ l. l ++ t ∷ []) c.loop-at.invariant ∙ sym (take_more ms c.loop-at.at t c.loop-at-test.true ∙ ap (λ z. take c.loop-at.at ms ++ z ∷ []) (sym c.index-modules-at.is))
+
+pub invariant_of-push : goal.invariant_of-push
+invariant_of-push c =
+    let t = c.index-modules-at.result in
+    let same = outlined_at c.args.modules.now c.args.outlines.now c.requires c.loop-at.at t _ c.loop-at-test.true c.index-modules-at.is in
+    let P : Outline → Type 0 = λ o. IsSieve t.imports o.sieve in
+    record { sieved = subst P (sym same) (is_sieve t.imports) }
