@@ -106,7 +106,6 @@ pub fn turn(
 /// Tells what the verdict on a conversation is, or that it is out of date. Answers `Judged`, or refuses with
 /// `NoConversation` or `OutOfMemory`.
 pub fn ask(
-    alloc: Global,
     library: &Library,
     records: &IndexMap<u32, Record>,
     comparison: Comparison,
@@ -122,7 +121,7 @@ pub fn ask(
         return Reply::Refused(Refusal::OutOfMemory);
     };
     let answer = record.ask(library.present(&name), comparison);
-    match told_of(alloc, answer) {
+    match told_of(answer) {
         Ok(told) => Reply::Judged {
             id,
             name,

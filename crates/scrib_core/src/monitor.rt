@@ -229,13 +229,7 @@ impl Core {
         ensures memory { IsDue (state_of self.now).world (Ask id) result }
     {
         self.library.are_numbered();
-        ask(
-            self.alloc,
-            &self.library,
-            &self.records,
-            Comparison::Numbers,
-            id,
-        )
+        ask(&self.library, &self.records, Comparison::Numbers, id)
     }
 }
 

@@ -4,15 +4,14 @@ ghost use Rattle.std.specs.Prelude.{◌≡◌, IfOk};
 ghost use Rattle.scrib_core.specs.Telling.{IsToldOf};
 
 use scrib_record::answer::Answer;
-use scrib_types::event::{Action, Told, Verdict};
-use scrib_types::plain::Items;
-use std::alloc::{AllocError, Global};
+use scrib_types::event::{Told, Verdict};
+use std::alloc::AllocError;
 
 /// What the record answers.
 ///
 /// # Errors
-/// `AllocError` where memory was refused, here and below.
-pub(crate) fn told_of(alloc: Global, answer: Answer<'_>) -> Result<Told, AllocError>
+/// `AllocError` where the count of those who share a name or a list can't rise.
+pub(crate) fn told_of(answer: Answer<'_>) -> Result<Told, AllocError>
     ensures { IfOk result (IsToldOf answer.entry) }
 {
     match answer {
@@ -24,7 +23,7 @@ pub(crate) fn told_of(alloc: Global, answer: Answer<'_>) -> Result<Told, AllocEr
             allowed,
         } => {
             let role = role.copy()?;
-            let allowed = Items::from_vec(copy_actions(alloc, allowed)?);
+            let allowed = allowed.copy()?;
             Ok(Told::Judged(Verdict::Offence {
                 place,
                 role,
@@ -32,34 +31,5 @@ pub(crate) fn told_of(alloc: Global, answer: Answer<'_>) -> Result<Told, AllocEr
             }))
         }
         Answer::Withdrawn => Ok(Told::Judged(Verdict::Withdrawn)),
-    }
-}
-
-fn copy_actions(alloc: Global, actions: &[Action]) -> Result<Vec<Action>, AllocError>
-    ensures { IfOk result (λ copies. copies.items ≡ actions.now) }
-{
-    let mut copies = Vec::with_capacity(alloc, actions.len())?;
-    for action in actions {
-        let copy = copy_action(action)?;
-        copies.push(copy)?;
-    }
-    Ok(copies)
-}
-
-fn copy_action(action: &Action) -> Result<Action, AllocError>
-    ensures { IfOk result (λ copy. copy ≡ action.now) }
-{
-    match action {
-        Action::Join => Ok(Action::Join),
-        Action::Sends { to, message } => {
-            let to = to.copy()?;
-            let message = message.copy()?;
-            Ok(Action::Sends { to, message })
-        }
-        Action::Receives { from, message } => {
-            let from = from.copy()?;
-            let message = message.copy()?;
-            Ok(Action::Receives { from, message })
-        }
     }
 }

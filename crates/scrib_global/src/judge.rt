@@ -8,6 +8,7 @@ ghost use Rattle.scrib_global.specs.Simulation.{IsJoinedRun};
 
 use crate::allowed::allowed;
 use crate::permitted::first_offence;
+use scrib_types::allowed::Allowed;
 use scrib_types::event::{Event, Verdict};
 use scrib_types::protocol::Protocol;
 use std::alloc::{AllocError, Global};
@@ -26,7 +27,8 @@ pub fn judge_whole(alloc: Global, protocol: &Protocol, log: &[Event]) -> Result<
         None => Ok(Verdict::Permitted),
         Some(at) => {
             let role = log[at].subject().copy()?;
-            let allowed = allowed(alloc, protocol, &log[..at], &role)?;
+            let list = allowed(alloc, protocol, &log[..at], &role)?;
+            let allowed = Allowed::new(alloc, list)?;
             Ok(Verdict::Offence {
                 place: at + 1,
                 role,

@@ -69,7 +69,7 @@ pub fn turn_locked(library: &Library, shard: &mut Shard, id: u32) -> Reply
 pub fn ask_locked(library: &Library, shard: &Shard, id: u32) -> Reply
     ensures { AnswersAsk library.now shard.now.records id result }
 {
-    ask(shard.alloc, library, &shard.records, Comparison::Whole, id)
+    ask(library, &shard.records, Comparison::Whole, id)
 }
 
 /// A pass to a conversation, by which nothing was noted.

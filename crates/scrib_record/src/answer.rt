@@ -1,6 +1,6 @@
 //! What a record answers.
 
-use scrib_types::event::Action;
+use scrib_types::allowed::Allowed;
 use scrib_types::name::Role;
 
 /// What is told of a record, lent from it: that its verdict is out of date, or its verdict.
@@ -15,7 +15,7 @@ pub enum Answer<'a> {
     Offence {
         place: usize,
         role: &'a Role,
-        allowed: &'a [Action],
+        allowed: &'a Allowed,
     },
     /// The library has no such protocol.
     Withdrawn,

@@ -3,14 +3,13 @@
 ghost use Rattle.std.specs.Prelude.{◌≡◌, IfOk};
 
 use scrib_types::event::{Action, Verdict};
-use scrib_types::plain::Items;
-use std::alloc::{AllocError, Global};
+use std::alloc::AllocError;
 
 /// The same verdict once more.
 ///
 /// # Errors
-/// `AllocError` where memory was refused, here and below.
-pub fn copy_verdict(alloc: Global, verdict: &Verdict) -> Result<Verdict, AllocError>
+/// `AllocError` where the count of those who share a name, a message or a list can't rise, here and below.
+pub fn copy_verdict(verdict: &Verdict) -> Result<Verdict, AllocError>
     ensures { IfOk result (λ copy. copy ≡ verdict.now) }
 {
     match verdict {
@@ -21,7 +20,7 @@ pub fn copy_verdict(alloc: Global, verdict: &Verdict) -> Result<Verdict, AllocEr
             allowed,
         } => {
             let role = role.copy()?;
-            let allowed = Items::from_vec(copy_actions(alloc, allowed.as_slice())?);
+            let allowed = allowed.copy()?;
             Ok(Verdict::Offence {
                 place: *place,
                 role,
@@ -30,17 +29,6 @@ pub fn copy_verdict(alloc: Global, verdict: &Verdict) -> Result<Verdict, AllocEr
         }
         Verdict::Withdrawn => Ok(Verdict::Withdrawn),
     }
-}
-
-fn copy_actions(alloc: Global, actions: &[Action]) -> Result<Vec<Action>, AllocError>
-    ensures { IfOk result (λ copies. copies.items ≡ actions.now) }
-{
-    let mut copies = Vec::with_capacity(alloc, actions.len())?;
-    for action in actions {
-        let copy = copy_action(action)?;
-        copies.push(copy)?;
-    }
-    Ok(copies)
 }
 
 /// The same action once more.

@@ -17,6 +17,7 @@ use crate::configuration::Configuration;
 use crate::copies::copy_verdict;
 use crate::version::Version;
 use scrib_queues::queues::Queues;
+use scrib_types::allowed::Allowed;
 use scrib_types::event::{Event, Told, Verdict};
 use std::alloc::{AllocError, Global};
 
@@ -108,8 +109,7 @@ impl Judging {
         if self.is_stale(present, comparison, events) {
             return Ok(Told::Stale);
         }
-        let alloc = *self.configuration.seats.allocator();
-        let verdict = copy_verdict(alloc, &self.verdict)?;
+        let verdict = copy_verdict(&self.verdict)?;
         Ok(Told::Judged(verdict))
     }
 
@@ -124,8 +124,7 @@ impl Judging {
         ensures same { OnErr result (kept.IsSameJudging self.old self.new) }
     {
         let (Some(version), Verdict::Permitted) = (&self.held, &self.verdict) else {
-            let alloc = *self.configuration.seats.allocator();
-            let verdict = copy_verdict(alloc, &self.verdict)?;
+            let verdict = copy_verdict(&self.verdict)?;
             return Ok(Told::Judged(verdict));
         };
         if self.configuration.advance(version, event)? {
@@ -134,8 +133,7 @@ impl Judging {
             return Ok(Told::Judged(Verdict::Permitted));
         }
         let verdict = offence(&self.configuration, version, log.len() + 1, event)?;
-        let alloc = *self.configuration.seats.allocator();
-        let told = copy_verdict(alloc, &verdict)?;
+        let told = copy_verdict(&verdict)?;
         self.judged = log.len() + 1;
         self.reached = log.len() + 1;
         self.verdict = verdict;
@@ -195,8 +193,7 @@ impl Judging {
             Halt::Refused => {
                 let place = self.reached + 1;
                 let verdict = offence(&self.configuration, version, place, &log[self.reached])?;
-                let alloc = *self.configuration.seats.allocator();
-                let told = copy_verdict(alloc, &verdict)?;
+                let told = copy_verdict(&verdict)?;
                 self.judged = place;
                 self.reached = place;
                 self.verdict = verdict;
@@ -269,7 +266,9 @@ fn offence(
     ensures { IfOk result (kept.IsRefusal version.now configuration.now place event.now) }
 {
     let role = event.subject().copy()?;
-    let allowed = choices(configuration, version, &role)?;
+    let alloc = *configuration.seats.allocator();
+    let list = choices(configuration, version, &role)?;
+    let allowed = Allowed::new(alloc, list)?;
     Ok(Verdict::Offence {
         place,
         role,

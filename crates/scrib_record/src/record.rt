@@ -144,7 +144,7 @@ impl Record {
             } => Answer::Offence {
                 place: *place,
                 role,
-                allowed: allowed.as_slice(),
+                allowed,
             },
             Verdict::Withdrawn => Answer::Withdrawn,
         }

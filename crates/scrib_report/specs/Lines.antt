@@ -2,13 +2,12 @@
 -- message in flight (this project's own).
 use Rattle.std.specs.Prelude.{ℕ, List, [], ◌∷◌, ◌++◌, codes}
 use Rattle.std.specs.Fmt.{decimal}
-use Rattle.scrib_types.specs.declared.event.Action.{Action}
 use Rattle.scrib_types.specs.declared.event.Verdict.{Verdict}
 use Rattle.scrib_types.specs.declared.event.Verdict.TheVariants.{Permitted, Offence, Withdrawn}
 use Rattle.scrib_types.specs.declared.event.Told.{Told}
 use Rattle.scrib_types.specs.declared.event.Told.TheVariants.{Stale, Judged}
 use Rattle.scrib_types.specs.declared.spot.Spot.{Spot}
-use Rattle.scrib_types.specs.Texts.{dotted_text, message_text, action_text, profile_word}
+use Rattle.scrib_types.specs.Texts.{dotted_text, message_text, allowed_text, profile_word}
 use Rattle.scrib_global.specs.declared.explain.Flight.{Flight}
 use Rattle.scrib_lexer.specs.declared.fault.LexFault.{LexFault}
 use Rattle.scrib_lexer.specs.declared.fault.LexFault.TheVariants as lex
@@ -34,16 +33,6 @@ use Rattle.scrib_core.specs.declared.reply.Reply.TheVariants as reply
 -- ` 3:14`, the line and the column
 unfoldable pub spot_text : Spot → List ℕ
 spot_text s = codes " " ++ decimal s.line ++ codes ":" ++ decimal s.column
-
--- each action after a comma and a blank
-abbrev pub further_actions : List Action → List ℕ
-further_actions [] = []
-further_actions (a ∷ as_) = codes ", " ++ action_text a ++ further_actions as_
-
--- the actions with commas between them, or `none`
-abbrev pub allowed_text : List Action → List ℕ
-allowed_text [] = codes "none"
-allowed_text (a ∷ as_) = action_text a ++ further_actions as_
 
 -- `offence at 3 by A`
 unfoldable pub offence_text : ℕ → List ℕ → List ℕ

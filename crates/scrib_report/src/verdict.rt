@@ -3,32 +3,10 @@
 ghost use Rattle.std.specs.Prelude.{◌≡◌, ◌++◌, IfOk, OnOk};
 ghost use Rattle.scrib_report.specs.Lines as lines;
 
-use scrib_types::event::{Action, Told, Verdict};
+use scrib_types::event::{Told, Verdict};
 use scrib_types::name::Role;
-use scrib_types::text::{push_action, push_bytes, push_number};
+use scrib_types::text::{push_bytes, push_number};
 use std::alloc::{AllocError, Global};
-
-fn push_further_actions(out: &mut Vec<u8>, actions: &[Action]) -> Result<(), AllocError>
-    ensures { OnOk result (out.new.items ≡ out.old.items ++ lines.further_actions actions.now) }
-{
-    for action in actions {
-        push_bytes(out, b", ")?;
-        push_action(out, action)?;
-    }
-    Ok(())
-}
-
-fn push_allowed(out: &mut Vec<u8>, actions: &[Action]) -> Result<(), AllocError>
-    ensures { OnOk result (out.new.items ≡ out.old.items ++ lines.allowed_text actions.now) }
-{
-    match actions {
-        [] => push_bytes(out, b"none"),
-        [first, others @ ..] => {
-            push_action(out, first)?;
-            push_further_actions(out, others)
-        }
-    }
-}
 
 #[tactic(auto, unfolding(crate::specs::Lines::offence_text))]
 fn push_offence(out: &mut Vec<u8>, place: usize, role: &Role) -> Result<(), AllocError>
@@ -54,7 +32,7 @@ fn push_verdict(out: &mut Vec<u8>, verdict: &Verdict) -> Result<(), AllocError>
         } => {
             push_offence(out, *place, role)?;
             push_bytes(out, b", allowed: ")?;
-            push_allowed(out, allowed.as_slice())
+            push_bytes(out, allowed.text())
         }
     }
 }

@@ -7,6 +7,7 @@ pub mod Same
 pub mod GlobalBack
 pub mod LocalBack
 pub mod Texts
+pub mod Flat
 pub mod Nodes
 pub mod Projection
 pub mod Profiles

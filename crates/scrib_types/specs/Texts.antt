@@ -37,6 +37,16 @@ action_text Join = codes "join"
 action_text (Sends q m) = q ++ 33 ∷ message_text m
 action_text (Receives p m) = p ++ 63 ∷ message_text m
 
+-- each action after a comma and a blank
+abbrev pub further_actions : List Action → List ℕ
+further_actions [] = []
+further_actions (a ∷ as_) = codes ", " ++ action_text a ++ further_actions as_
+
+-- the actions with commas between them, or `none`
+abbrev pub allowed_text : List Action → List ℕ
+allowed_text [] = codes "none"
+allowed_text (a ∷ as_) = action_text a ++ further_actions as_
+
 -- `plain` or `reception`
 abbrev pub profile_word : Profile → List ℕ
 profile_word Plain = codes "plain"

@@ -3,9 +3,9 @@
 ghost use Rattle.std.specs.Prelude.{◌≡◌, IfOk};
 ghost use Rattle.scrib_types.specs.Logs.{subject_of};
 
+use crate::allowed::Allowed;
 use crate::name::Role;
 use crate::shared_message::SharedMessage;
-use sqlite_items::Items;
 use std::alloc::AllocError;
 
 /// What one role may do next: join, send a message to another role, or receive one from it.
@@ -85,7 +85,7 @@ pub enum Verdict {
     Offence {
         place: usize,
         role: Role,
-        allowed: Items<Action>,
+        allowed: Allowed,
     },
     /// The library has no such protocol.
     Withdrawn,

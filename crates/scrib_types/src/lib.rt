@@ -1,7 +1,9 @@
 //! The vocabulary of the monitor: names, messages, global and local types, protocols, events and verdicts.
 #![tactic(auto)]
 
+pub mod allowed;
 pub mod event;
+pub mod flat;
 pub mod global;
 pub mod local;
 pub mod message;

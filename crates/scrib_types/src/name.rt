@@ -174,7 +174,7 @@ pub fn is_name(bytes: &[u8]) -> bool
 
 /// Whether both are the same bytes. Names are short and mostly differ in length or near the front, so a plain loop is
 /// quicker than a comparison that is made for long texts.
-fn same_bytes(a: &[u8], b: &[u8]) -> bool
+pub(crate) fn same_bytes(a: &[u8], b: &[u8]) -> bool
     ensures { IsTrue result ↔ (a.now ≡ b.now) }
 {
     if a.len() != b.len() {

@@ -1,24 +1,42 @@
 //! Messages as types, events and actions hold them.
 
 ghost use Rattle.std.specs.Prelude.{◌≡◌, ◌↔◌, IsTrue, IfOk};
+ghost use Rattle.scrib_types.specs.Flat.{message_bytes};
 
+use crate::flat::push_message;
 use crate::message::Message;
+use crate::name::same_bytes;
 use std::alloc::{AllocError, Global};
 use std::marker::Model;
 use std::sync::Arc;
 
-/// A message that its copies share, so that a copy costs a count. Contracts see the message.
+// Room for the flat form of a usual message.
+const USUAL_FLAT_BYTES: usize = 32;
+
+/// A message beside its flat form.
+#[derive(Drop)]
+struct Flattened {
+    message: Message,
+    flat: Vec<u8>,
+}
+
+/// A message that its copies share, so that a copy costs a count. It keeps its flat form, so that two are compared as
+/// bytes that lie side by side. Contracts see the message.
 #[derive(Drop)]
 pub struct SharedMessage {
-    message: Arc<Message>,
+    shared: Arc<Flattened>,
 }
 
 impl Model for SharedMessage {
+    ghost use Rattle.std.specs.Prelude.{◌≡◌};
     ghost use Rattle.scrib_types.specs.declared.message.Message.{Message};
+    ghost use Rattle.scrib_types.specs.Flat.{message_bytes};
 
     ghost Value = { Message };
 
-    ghost view = { λ shared. shared.message.value };
+    ghost view = { λ m. m.shared.value.message };
+
+    ghost invariant = { λ m. m.shared.value.flat.items ≡ message_bytes m.shared.value.message };
 }
 
 impl SharedMessage {
@@ -29,22 +47,32 @@ impl SharedMessage {
     pub fn new(alloc: Global, message: Message) -> Result<SharedMessage, AllocError>
         ensures { IfOk result (λ shared. shared ≡ message) }
     {
-        let message = Arc::new(alloc, message)?;
-        Ok(SharedMessage { message })
+        let mut flat = Vec::with_capacity(alloc, USUAL_FLAT_BYTES)?;
+        push_message(&mut flat, &message)?;
+        let shared = Arc::new(alloc, Flattened { message, flat })?;
+        Ok(SharedMessage { shared })
     }
 
     /// The message.
     pub fn get(&self) -> &Message
         ensures { result.now ≡ self.now }
     {
-        &self.message
+        &self.shared.message
+    }
+
+    /// The flat form, which no other message's begins with.
+    pub fn flat(&self) -> &[u8]
+        ensures { result.now ≡ message_bytes self.now }
+    {
+        self.shared.flat.as_slice()
     }
 
     /// Whether the two are the same.
+    #[tactic(auto, using(crate::proofs::ReadOnce::same_message))]
     pub fn equal(&self, other: &SharedMessage) -> bool
         ensures { IsTrue result ↔ (self.now ≡ other.now) }
     {
-        self.message.equal(&other.message)
+        same_bytes(self.flat(), other.flat())
     }
 
     /// The same message once more.
@@ -54,7 +82,7 @@ impl SharedMessage {
     pub fn copy(&self) -> Result<SharedMessage, AllocError>
         ensures { IfOk result (λ shared. shared ≡ self.now) }
     {
-        let message = self.message.clone()?;
-        Ok(SharedMessage { message })
+        let shared = self.shared.clone()?;
+        Ok(SharedMessage { shared })
     }
 }

@@ -1,4 +1,6 @@
-use Rattle.std.proofs.Common.{◌∙◌}
+use Rattle.std.proofs.Common.{◌∙◌, List, subst, sym}
+use Rattle.scrib_types.specs.declared.event.Action.{Action}
+use Rattle.scrib_types.specs.Judgement.{AreAllowed}
 use Rattle.scrib_record.specs.Versions.{meaning_of}
 use Rattle.scrib_record.proofs.Kept.{offends_there, throughout_all}
 use Rattle.scrib_record.proofs.judging.offence.Goals as goal
@@ -7,4 +9,4 @@ pub returns : goal.returns
 returns c log st p at never d =
     let a = meaning_of c.args.version.now in
     offends_there a log c.args.event.now c.args.place c.in_ok-role.role c.in_ok-allowed.allowed p at never (c.in_ok-role.ensures ∙ c.subject.ensures)
-    (c.in_ok-allowed.ensures log st (throughout_all a log p))
+    (subst (λ (list : List Action). AreAllowed a log c.in_ok-role.role list) (sym c.in_ok-allowed.ensures) (c.in_ok-list.ensures log st (throughout_all a log p)))

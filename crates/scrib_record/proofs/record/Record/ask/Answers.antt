@@ -1,6 +1,5 @@
-use Rattle.std.proofs.Common.{◌∙◌, not, List, ap, sym, subst}
+use Rattle.std.proofs.Common.{◌∙◌, not, ap, subst}
 use Rattle.std.specs.Option.{option_copied}
-use Rattle.scrib_types.specs.declared.event.Action.{Action}
 use Rattle.scrib_types.specs.declared.event.Verdict.TheVariants.{Permitted, Offence}
 use Rattle.scrib_record.specs.Stale.{Recorded}
 use Rattle.scrib_record.proofs.Telling.{is_fresh, fresh_at, not_stale, Answers, answered}
@@ -20,6 +19,5 @@ returns-in-Offence c =
     let r = c.self.inside in
     let test = c.is_stale.ensures ∙ ap not (fresh_at present r.log.items r.judging c.len.result (c.len.ensures ∙ r.log.ok.0)) in
     let fresh = not_stale (is_fresh present r.log.items r.judging) c.is_stale.result test c.if-is_stale.false in
-    let same = c.in-Offence.is ∙ ap (λ (acts : List Action). Offence c.in-Offence.place c.in-Offence.role acts) (sym c.as_slice.ensures) in
-    subst (λ (x : Recorded). Answers present x (Offence c.in-Offence.place c.in-Offence.role c.as_slice.result.now)) c.self.view_is
-    (answered present r.name r.log.items r.judging (Offence c.in-Offence.place c.in-Offence.role c.as_slice.result.now) c.self.invariant.kept fresh same)
+    subst (λ (x : Recorded). Answers present x (Offence c.in-Offence.place c.in-Offence.role c.in-Offence.allowed)) c.self.view_is
+    (answered present r.name r.log.items r.judging (Offence c.in-Offence.place c.in-Offence.role c.in-Offence.allowed) c.self.invariant.kept fresh c.in-Offence.is)

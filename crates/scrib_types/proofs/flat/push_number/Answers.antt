@@ -1,6 +1,6 @@
 use Rattle.std.proofs.Common.{arith}
-use Rattle.scrib_record.proofs.Written.{number_written}
-use Rattle.scrib_record.proofs.flat.push_number.Goals as goal
+use Rattle.scrib_types.proofs.Written.{number_written}
+use Rattle.scrib_types.proofs.flat.push_number.Goals as goal
 
 pub returns : goal.returns
 returns c =

@@ -1,6 +1,6 @@
 use Rattle.std.proofs.Common.{◌≡◌, ◌++◌, drop}
-use Rattle.scrib_report.specs.Lines.{further_actions}
-use Rattle.scrib_report.proofs.verdict.push_further_actions.Given as goal
+use Rattle.scrib_types.specs.Texts.{further_actions}
+use Rattle.scrib_types.proofs.allowed.push_further_actions.Given as goal
 
 abbrev pub invariant-loop-action : goal.invariant-loop-action
 invariant-loop-action l =

@@ -1,6 +1,6 @@
 use Rattle.std.proofs.Common.{◌≡◌, ◌++◌, drop}
-use Rattle.scrib_record.specs.Flat.{payload_bytes}
-use Rattle.scrib_record.proofs.flat.push_payload.Given as goal
+use Rattle.scrib_types.specs.Flat.{payload_bytes}
+use Rattle.scrib_types.proofs.flat.push_payload.Given as goal
 
 abbrev pub invariant-loop-sort : goal.invariant-loop-sort
 invariant-loop-sort l =

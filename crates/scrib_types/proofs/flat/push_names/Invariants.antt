@@ -1,6 +1,6 @@
 use Rattle.std.proofs.Common.{◌≡◌, ◌++◌, drop}
-use Rattle.scrib_record.specs.Flat.{names_bytes}
-use Rattle.scrib_record.proofs.flat.push_names.Given as goal
+use Rattle.scrib_types.specs.Flat.{names_bytes}
+use Rattle.scrib_types.proofs.flat.push_names.Given as goal
 
 abbrev pub invariant-loop-name : goal.invariant-loop-name
 invariant-loop-name l =

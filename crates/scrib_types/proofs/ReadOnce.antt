@@ -1,0 +1,96 @@
+-- The flat form of a message tells apart what it is made of.
+use Rattle.std.proofs.Common.{◌≡◌, ◌↔◌, IsTrue, Bool, ℕ, zero, suc, ◌/◌, ◌%◌, ◌<◌, List, [], ◌∷◌, ◌++◌, length, replicate, Some, None, refl, sym, ap, ◌∙◌, append_assoc, arith}
+use Rattle.scrib_types.specs.declared.message.Message.{Message}
+use Rattle.scrib_types.specs.Flat.{number_bytes, name_bytes, names_bytes, payload_bytes, operator_bytes, message_bytes}
+
+-- what begins with the bytes of something can be read in one way only
+abbrev pub IsReadOnce : {A : Type 0} → (A → List ℕ) → Type 0
+IsReadOnce {A = A} f = (x y : A) (s t : List ℕ) → f x ++ s ≡ f y ++ t → (x ≡ y) × (s ≡ t)
+
+laced : (a b q r : ℕ) (s t : List ℕ) → q < 255 → r < 255 → (replicate a 255 ++ q ∷ []) ++ s ≡ (replicate b 255 ++ r ∷ []) ++ t → (a ≡ b) × (q ≡ r) × (s ≡ t)
+laced zero zero q r s t m n e = (refl, cc, cc)
+laced zero (suc b) q r s t m n e = let k : q ≡ 255 = cc in absurd (omega arith)
+laced (suc a) zero q r s t m n e = let k : 255 ≡ r = cc in absurd (omega arith)
+laced (suc a) (suc b) q r s t m n e =
+    let k : (replicate a 255 ++ q ∷ []) ++ s ≡ (replicate b 255 ++ r ∷ []) ++ t = cc in
+    let h = laced a b q r s t m n k in (ap suc h.0, h.1, h.2)
+
+pub numbers : IsReadOnce number_bytes
+unfolding number_bytes
+numbers m n s t e =
+    let h = laced (m / 255) (n / 255) (m % 255) (n % 255) s t (omega arith) (omega arith) e in
+    let q : m / 255 ≡ n / 255 = h.0 in
+    let r : m % 255 ≡ n % 255 = h.1 in
+    (omega arith, h.2)
+
+same_length : (x y s t : List ℕ) → length x ≡ length y → x ++ s ≡ y ++ t → (x ≡ y) × (s ≡ t)
+same_length [] [] s t n e = (refl, e)
+same_length [] (b ∷ y) s t n e = absurd (omega arith)
+same_length (a ∷ x) [] s t n e = absurd (omega arith)
+same_length (a ∷ x) (b ∷ y) s t n e =
+    let k : length x ≡ length y = omega arith in
+    let f : x ++ s ≡ y ++ t = cc in
+    let g : a ≡ b = cc in
+    let h = same_length x y s t k f in (λ i. g i ∷ h.0 i, h.1)
+
+pub named : IsReadOnce name_bytes
+unfolding name_bytes
+named x y s t e =
+    let f = sym (append_assoc (number_bytes (length x)) x s) ∙ e ∙ append_assoc (number_bytes (length y)) y t in
+    let h = numbers (length x) (length y) (x ++ s) (y ++ t) f in
+    same_length x y s t h.0 h.1
+
+-- one part after another
+pub after : {A B : Type 0} (f : A → List ℕ) (g : B → List ℕ) → IsReadOnce f → IsReadOnce g → (a c : A) (b d : B) (s t : List ℕ) → (f a ++ g b) ++ s ≡ (f c ++ g d) ++ t → (a ≡ c) × (b ≡ d) × (s ≡ t)
+after f g once_f once_g a c b d s t e =
+    let k = sym (append_assoc (f a) (g b) s) ∙ e ∙ append_assoc (f c) (g d) t in
+    let h = once_f a c (g b ++ s) (g d ++ t) k in
+    let j = once_g b d s t h.1 in
+    (h.0, j.0, j.1)
+
+pub names_read : IsReadOnce names_bytes
+names_read [] [] s t e = (refl, cc)
+names_read [] (y ∷ ys) s t e = absurd (cc)
+names_read (x ∷ xs) [] s t e = absurd (cc)
+names_read (x ∷ xs) (y ∷ ys) s t e =
+    let k : (name_bytes x ++ names_bytes xs) ++ s ≡ (name_bytes y ++ names_bytes ys) ++ t = cc in
+    let f = sym (append_assoc (name_bytes x) (names_bytes xs) s) ∙ k ∙ append_assoc (name_bytes y) (names_bytes ys) t in
+    let h = named x y (names_bytes xs ++ s) (names_bytes ys ++ t) f in
+    let j = names_read xs ys s t h.1 in
+    (λ i. h.0 i ∷ j.0 i, j.1)
+
+pub payloads : IsReadOnce payload_bytes
+payloads [] [] s t e = (refl, cc)
+payloads [] (y ∷ ys) s t e = absurd (cc)
+payloads (x ∷ xs) [] s t e = absurd (cc)
+payloads (x ∷ xs) (y ∷ ys) s t e =
+    let k : (names_bytes x ++ payload_bytes xs) ++ s ≡ (names_bytes y ++ payload_bytes ys) ++ t = cc in
+    let f = sym (append_assoc (names_bytes x) (payload_bytes xs) s) ∙ k ∙ append_assoc (names_bytes y) (payload_bytes ys) t in
+    let h = names_read x y (payload_bytes xs ++ s) (payload_bytes ys ++ t) f in
+    let j = payloads xs ys s t h.1 in
+    (λ i. h.0 i ∷ j.0 i, j.1)
+
+operators : IsReadOnce operator_bytes
+operators None None s t e = (refl, cc)
+operators None (Some y) s t e = absurd (cc)
+operators (Some x) None s t e = absurd (cc)
+operators (Some x) (Some y) s t e =
+    let k : name_bytes x ++ s ≡ name_bytes y ++ t = cc in
+    let h = named x y s t k in (ap Some h.0, h.1)
+
+pub messages : IsReadOnce message_bytes
+unfolding message_bytes
+messages m n s t e =
+    let h = after operator_bytes payload_bytes operators payloads m.op n.op m.payload n.payload s t e in
+    (λ i. record { op = h.0 i; payload = h.1 i }, h.2)
+
+-- one flat form, one message
+pub message_bytes-injective : (m n : Message) → message_bytes m ≡ message_bytes n → m ≡ n
+message_bytes-injective m n e = (messages m n [] [] (ap (λ x. x ++ []) e)).0
+
+-- a test of flat forms is one of messages
+pub same_message : (r : Bool) (x y : List ℕ) (m n : Message) → (IsTrue r ↔ (x ≡ y)) → x ≡ message_bytes m → y ≡ message_bytes n → IsTrue r ↔ (m ≡ n)
+same_message r x y m n t p q = (
+  λ h. message_bytes-injective m n (sym p ∙ t.0 h ∙ q),
+  λ h. t.1 (p ∙ ap message_bytes h ∙ sym q),
+)
