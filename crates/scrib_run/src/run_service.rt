@@ -16,10 +16,12 @@ use scrib_settle::fault::SettleFault;
 use scrib_shards::gate::OpenGate;
 use scrib_shards::pass::Pass;
 use scrib_shards::service::Service;
+use scrib_shards::settled::Settled;
 use scrib_types::text::{push_bytes, push_number};
 use std::alloc::{AllocError, Global};
 use std::io::{Read, Write};
 use std::marker::Send;
+use std::mem::forget;
 use std::sync::Wait;
 use std::thread::Threads;
 
@@ -29,7 +31,7 @@ use std::thread::Threads;
 /// and the service is settled. Then for each connection, in order, the line `connection 1` with its number is written,
 /// and its lines; and at last the table of all conversations. A connection whose reader failed has `read fault` as its
 /// last line. In JSON these lines are `{"connection":1}`, `{"fault":"read"}`, and a line for each conversation and for
-/// their number.
+/// their number. The memory of the service isn't given back: a process makes one run.
 ///
 /// # Errors
 /// What was written by then is a beginning of the output.
@@ -79,10 +81,13 @@ pub fn run_service<
         return Err(ScriptFault::OutOfMemory);
     }
     tally.begin(Phase::Settling);
-    let (passes, lines) = collected(alloc, *format, prepared, closed)?;
-    let ended = settled(alloc, *format, service, passes)?;
-    write_out(writer, lines.as_slice())?;
-    write_out(writer, ended.as_slice())?;
+    let (passes, texts) = parted(alloc, prepared, closed)?;
+    let settled = settled(service, passes)?;
+    let table = table_text(alloc, *format, settled.list.as_slice())?;
+    write_connections(alloc, *format, texts.as_slice(), writer)?;
+    write_out(writer, table.as_slice())?;
+    // To give the memory of long logs back, event by event, takes a tenth of a run, and the process ends here.
+    forget(settled);
     flush_out(writer)
 }
 
@@ -102,45 +107,54 @@ fn run_setup<S: Read, P: Progress, W: Write>(
     Ok(passes)
 }
 
-// Adds the line before those of the connection of this number.
-fn push_heading(lines: &mut Vec<u8>, format: Format, number: u64) -> Result<(), AllocError> {
+// The line before those of the connection of this number.
+fn heading(alloc: Global, format: Format, number: u64) -> Result<Vec<u8>, AllocError> {
     let (before, after): (&[u8], &[u8]) = match format {
         Format::Line => (b"connection ", b"\n"),
         Format::Json => (b"{\"connection\":", b"}\n"),
     };
-    push_bytes(lines, before)?;
-    push_number(lines, number)?;
-    push_bytes(lines, after)
+    let mut line = Vec::new(alloc);
+    push_bytes(&mut line, before)?;
+    push_number(&mut line, number)?;
+    push_bytes(&mut line, after)?;
+    Ok(line)
 }
 
-// All passes, and the lines of the connections, each behind a line with its number, from 1.
-fn collected(
+// Writes the lines of the connections, each behind a line with its number, from 1.
+fn write_connections<W: Write>(
     alloc: Global,
     format: Format,
+    texts: &[Vec<u8>],
+    writer: &mut W,
+) -> Result<(), ScriptFault> {
+    let mut number = 0u64;
+    for lines in texts {
+        number = number.saturating_add(1);
+        write_out(writer, heading(alloc, format, number)?.as_slice())?;
+        write_out(writer, lines.as_slice())?;
+    }
+    Ok(())
+}
+
+// All passes, and the lines of each connection.
+fn parted(
+    alloc: Global,
     prepared: Vec<Pass>,
     connections: Vec<Closed>,
-) -> Result<(Vec<Pass>, Vec<u8>), AllocError> {
+) -> Result<(Vec<Pass>, Vec<Vec<u8>>), AllocError> {
     let mut passes = prepared;
-    let mut lines = Vec::new(alloc);
-    let mut number = 0u64;
+    let mut texts = Vec::with_capacity(alloc, connections.len())?;
     for closed in connections {
-        number = number.saturating_add(1);
-        push_heading(&mut lines, format, number)?;
-        push_bytes(&mut lines, closed.lines.as_slice())?;
+        texts.push(closed.lines)?;
         passes.extend(closed.passes)?;
     }
-    Ok((passes, lines))
+    Ok((passes, texts))
 }
 
-// Settles the service, and gives the table in this format.
-fn settled(
-    alloc: Global,
-    format: Format,
-    service: Service,
-    passes: Vec<Pass>,
-) -> Result<Vec<u8>, ScriptFault> {
+// Settles the service.
+fn settled(service: Service, passes: Vec<Pass>) -> Result<Settled, ScriptFault> {
     match service.settle(passes) {
-        Ok(settled) => Ok(table_text(alloc, format, settled.list.as_slice())?),
+        Ok(settled) => Ok(settled),
         Err((SettleFault::OutOfMemory, _, _)) => Err(ScriptFault::OutOfMemory),
         Err(_) => Err(ScriptFault::Settle),
     }

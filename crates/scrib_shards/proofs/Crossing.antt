@@ -20,7 +20,8 @@ use Rattle.std.proofs.rt.Memory.TheSendSync as Memorys
 use Rattle.std.proofs.sync.Arc.TheSendSync as Arcs
 use Rattle.std.proofs.vec.Vec.TheSendSync as Vecs
 use Rattle.std.proofs.sync.Mutex.TheSendSync as Mutexes
-use Rattle.std.proofs.sync.RwLock.TheSendSync as RwLocks
+use Rattle.crossbeam_utils.proofs.cache_padded.CachePadded.TheSendSync as CachePaddeds
+use Rattle.crossbeam_utils.proofs.sync.sharded_lock.ShardedLock.TheSendSync as ShardedLocks
 use Rattle.sqlite_items.proofs.boxed.Boxed.TheSendSync as Boxeds
 use Rattle.sqlite_items.proofs.items.Items.TheSendSync as Itemss
 use Rattle.indexmap.proofs.columns.Columns.TheSendSync as Columnss
@@ -46,6 +47,8 @@ use Rattle.scrib_queues.proofs.queues.Pair.TheSendSync as Pairs
 use Rattle.scrib_queues.proofs.queues.Queues.TheSendSync as Queuess
 use Rattle.scrib_record.proofs.configuration.Configuration.TheSendSync as Configurations
 use Rattle.scrib_record.proofs.seat.Seat.TheSendSync as Seats
+use Rattle.crossbeam_utils.specs.contracts.cache_padded.CachePadded as CachePadded
+use Rattle.crossbeam_utils.specs.contracts.sync.sharded_lock.ShardedLock as ShardedLock
 use Rattle.scrib_types.proofs.global.GlobalType.TheLaws.TheKnot as types
 use Rattle.scrib_parser.proofs.tree.Statement.TheLaws.TheKnot as statements
 use Rattle.scrib_parser.specs.contracts.tree.ModuleTree as ModuleTree
@@ -59,7 +62,6 @@ use Rattle.scrib_locked.specs.contracts.pass.Pass as Pass
 use Rattle.scrib_locked.proofs.pass.Pass.TheSendSync as Passes
 use Rattle.scrib_shards.specs.contracts.service.Service as Service
 use Rattle.std.specs.contracts.sync.Mutex as Mutex
-use Rattle.std.specs.contracts.sync.RwLock as RwLock
 use Rattle.std.specs.contracts.vec.Vec as Vec
 use Rattle.std.specs.contracts.alloc.Global as Heap
 use Rattle.std.specs.contracts.impls.GlobalAllocator.TheImpl.{ghosts}
@@ -215,11 +217,17 @@ shard_send = search (record_send, plain) depth 60 fits 20000
 shard_sync : IsSync Shard.the_row
 shard_sync = search (record_sync, plain) depth 60 fits 20000
 
-library_lock : IsSync (RwLock.the_row Library.the_row)
-library_lock = search (RwLocks.the_sync, library_send, library_sync, plain) depth 60 fits 20000
+library_lock : IsSync (ShardedLock.the_row Library.the_row Heap.the_row ghosts)
+library_lock = search (ShardedLocks.the_sync, library_send, library_sync, heap.crosses, sendable) depth 60 fits 20000
 
-shard_locks : IsSync (Vec.the_row (Mutex.the_row Shard.the_row) Heap.the_row ghosts)
-shard_locks = heap.Vec-sync (Mutex.the_row Shard.the_row) (Mutexes.the_sync Shard.the_row shard_send)
+abbrev ShardLock : RattleType
+ShardLock = CachePadded.the_row (Mutex.the_row Shard.the_row)
+
+shard_lock : IsSync ShardLock
+shard_lock = search (CachePaddeds.the_sync, Mutexes.the_sync, shard_send, sendable) depth 60 fits 20000
+
+shard_locks : IsSync (Vec.the_row ShardLock Heap.the_row ghosts)
+shard_locks = heap.Vec-sync ShardLock shard_lock
 
 shard_values : IsSync (Vec.the_row Shard.the_row Heap.the_row ghosts)
 shard_values = heap.Vec-sync Shard.the_row shard_sync

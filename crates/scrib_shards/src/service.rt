@@ -5,6 +5,8 @@ ghost use Rattle.scrib_locked.specs.Passes.{IsReceipted, IsAnsweredOn};
 ghost use Rattle.scrib_shards.specs.Called.{IsPutSome, PutFailsSome, IsWithdrawnSome, WithdrawFailsSome, IsProfiledSome, ProfileFailsSome, IsOpenedSome, OpenFailsSome, IsConnectedSome, ConnectFailsSome, IsNotedSome, NoteFailsSome, IsTurnedSome, TellFailsSome, IsAskedSome, AskFailsSome};
 
 use crate::gate::Gate;
+use crossbeam_utils::CachePadded;
+use crossbeam_utils::sync::ShardedLock;
 use scrib_core::monitor::MAX_CONVERSATIONS;
 use scrib_core::reply::Refusal;
 use scrib_library::changes::Changes;
@@ -20,7 +22,7 @@ use scrib_types::event::{Event, Told};
 use scrib_types::name::Dotted;
 use scrib_types::profile::Profile;
 use std::alloc::Global;
-use std::sync::{Mutex, RwLock, Wait};
+use std::sync::{Mutex, Wait};
 
 /// Why a service isn't made.
 #[derive(Drop)]
@@ -31,14 +33,18 @@ pub enum ServiceFault {
     OutOfMemory,
 }
 
+/// The lock of a shard. No other is on its cache lines.
+pub(crate) type ShardLock = CachePadded<Mutex<Shard>>;
+
 /// A library behind a lock for reading and writing, and 1 to 64 shards, each behind a lock of its own. An edit takes
 /// the library's lock for writing; each other call takes it for reading, where it needs the library, and then the lock
-/// of its conversation's shard, whose number is the id modulo the number of shards.
+/// of its conversation's shard, whose number is the id modulo the number of shards. Who reads the library takes that
+/// part of its lock that the shard's number picks, so that threads on different shards write different words.
 #[derive(Drop)]
 pub struct Service {
     pub(crate) alloc: Global,
-    pub(crate) library: RwLock<Library>,
-    pub(crate) shards: Vec<Mutex<Shard>>,
+    pub(crate) library: ShardedLock<Library>,
+    pub(crate) shards: Vec<ShardLock>,
     // room for the values of all shards, so that settling needs none
     pub(crate) spare: Vec<Shard>,
     pub ghost some: { 0 < vec_len shards },
@@ -68,10 +74,12 @@ impl Service {
             return Err(ServiceFault::OutOfMemory);
         };
         for _ in 0..shards {
-            locks.push_reserved(Mutex::new(Shard::new(alloc, most)));
+            locks.push_reserved(shard_lock(Shard::new(alloc, most)));
         }
-        let library = RwLock::new(Library::new(alloc));
-        Ok(made(alloc, library, locks, spare))
+        match ShardedLock::new(alloc, Library::new(alloc)) {
+            Ok(library) => Ok(made(alloc, library, locks, spare)),
+            Err(_) => Err(ServiceFault::OutOfMemory),
+        }
     }
 
     /// How many shards there are.
@@ -136,7 +144,7 @@ impl Service {
         ensures fault { IfErr result (OpenFailsSome id name.now) }
     {
         let at = self.shard_of(id);
-        let library = self.library.read(rt);
+        let library = self.library.read(rt, at);
         let mut shard = self.shards[at].lock(rt);
         open_step(&library, &mut shard, id, name)
     }
@@ -174,7 +182,7 @@ impl Service {
         ensures err { OnErr result (pass.new ≡ pass.old) }
     {
         let at = self.shard_of(pass.conversation());
-        let library = self.library.read(rt);
+        let library = self.library.read(rt, at);
         let mut shard = self.shards[at].lock(rt);
         let noted = note_by_pass(&library, &mut shard, pass, event);
         gate.hold(at);
@@ -190,7 +198,7 @@ impl Service {
         ensures fault { IfErr result (TellFailsSome id) }
     {
         let at = self.shard_of(id);
-        let library = self.library.read(rt);
+        let library = self.library.read(rt, at);
         let mut shard = self.shards[at].lock(rt);
         let turned = turn_step(&library, &mut shard, id);
         gate.hold(at);
@@ -207,17 +215,22 @@ impl Service {
         ensures fault { IfErr result (AskFailsSome pass.now) }
     {
         let at = self.shard_of(pass.conversation());
-        let library = self.library.read(rt);
+        let library = self.library.read(rt, at);
         let shard = self.shards[at].lock(rt);
         ask_by_pass(&library, &shard, pass)
     }
 }
 
+// A lock of the shard.
+pub(crate) fn shard_lock(shard: Shard) -> ShardLock {
+    CachePadded::new(Mutex::new(shard))
+}
+
 // A service of these parts, with room for the values of its shards.
 pub(crate) fn made(
     alloc: Global,
-    library: RwLock<Library>,
-    shards: Vec<Mutex<Shard>>,
+    library: ShardedLock<Library>,
+    shards: Vec<ShardLock>,
     spare: Vec<Shard>,
 ) -> Service
     requires some { 0 < vec_len shards }

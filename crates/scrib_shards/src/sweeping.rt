@@ -17,26 +17,29 @@ impl Service {
         requires { shard < vec_len self.now.shards }
         ensures { IfOk result (λ ids. IsTouchedSome ids.items) }
     {
-        let library = self.library.read(rt);
+        let library = self.library.read(rt, shard);
         let shard = self.shards[shard].lock(rt);
         touched_locked(&library, &shard)
     }
 
     /// Brings the verdict of each conversation up to date, shard after shard, with at most 4,096 turns of each
-    /// conversation. It takes no lock.
+    /// conversation. It waits for no lock.
     ///
     /// # Errors
     /// `AllocError` where memory was refused. Each turn that was made before stays.
     pub fn sweep_shards(&mut self) -> Result<Swept, AllocError>
         ensures { IfOk result (λ s. s.judged ≤ s.turns) }
     {
-        let library = self.library.get_mut();
+        let Some(library) = self.library.try_read(0) else {
+            // Not reached: who sweeps has the service alone, and no call of this crate forgets a guard.
+            return Err(AllocError);
+        };
         let mut swept = Swept {
             turns: 0,
             judged: 0,
         };
         for shard in self.shards.iter_mut() {
-            let more = sweep_shard(library, shard.get_mut())?;
+            let more = sweep_shard(&library, shard.get_mut())?;
             swept.turns = swept.turns.saturating_add(more.turns);
             swept.judged = swept.judged.saturating_add(more.judged);
         }
