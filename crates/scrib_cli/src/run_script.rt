@@ -15,6 +15,7 @@ use scrib_core::monitor::Core;
 pub use scrib_script::format::Format;
 use std::alloc::Global;
 use std::io::{ErrorKind, Read, Write};
+use std::mem::forget;
 
 // How many bytes of a script are read at once.
 const SCRIPT_PIECE_BYTES: usize = 65_536;
@@ -24,6 +25,7 @@ const SCRIPT_PIECE_BYTES: usize = 65_536;
 /// reply in JSON either way. A line that says nothing and an end inside a module text are told in this format too, as
 /// `refused BadLine 3` and `refused EndOfText`, or as `{"line":3,"refused":"BadLine"}` and `{"refused":"EndOfText"}`.
 /// The writer is flushed before each read, so that nothing that was answered waits for further input, and at the end.
+/// The memory of the monitor isn't given back: a process runs one script.
 ///
 /// # Errors
 /// What was written by then is a beginning of the script's output.
@@ -43,7 +45,9 @@ pub fn run_script<R: Read, W: Write>(
         × AppendsPart (W.contents writer.old) (W.contents writer.new) output)) }
     ensures within { OnOk result (IfSome (R.remaining reader.old) (λ input. IsWithin of_scripts input)) }
 {
-    let _core = run_whole(alloc, Telling::Printed(format), reader, writer)?;
+    let core = run_whole(alloc, Telling::Printed(format), reader, writer)?;
+    // To give the memory of long logs back, event by event, takes up to a tenth of a run, and the process ends here.
+    forget(core);
     flush_out(writer)
 }
 

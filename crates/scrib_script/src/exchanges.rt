@@ -7,8 +7,11 @@ use crate::exchange::{Exchange, exchange_of};
 use crate::fields::fields_of;
 use std::alloc::{AllocError, Global};
 
-/// How many exchanges are kept at most, each at the slot that its text's hash names.
+/// How many exchanges are kept at most, each at the slot that its text's hash names: as many as ten bits have values.
 const SLOTS: usize = 1024;
+
+/// An odd number whose bits look random: 2^64 divided by the golden ratio (Knuth, The Art of Computer Programming 3).
+const SPREAD: u64 = 0x9e37_79b9_7f4a_7c15;
 
 /// The most bytes of a text that is kept.
 const MAX_KEPT_BYTES: usize = 256;
@@ -104,11 +107,11 @@ fn same_text(a: &[u8], b: &[u8]) -> bool
     true
 }
 
-/// The slot of a text.
+/// The slot of a text. Each byte costs one rotation, and the product spreads what differs in few bits.
 fn slot_of(text: &[u8]) -> usize {
-    let mut hash = 0u32;
+    let mut hash = 0u64;
     for byte in text {
-        hash = hash.wrapping_mul(31).wrapping_add(u32::from(*byte));
+        hash = hash.rotate_left(5) ^ u64::from(*byte);
     }
-    hash as usize % SLOTS
+    (hash.wrapping_mul(SPREAD) >> 54) as usize
 }
