@@ -4,7 +4,7 @@ ghost use Rattle.std.specs.Prelude.{◌≡◌, ◌↔◌, IsTrue, IfOk, []};
 ghost use Rattle.scrib_parser.specs.Reading.{message_from};
 
 use crate::places;
-use scrib_types::message::{Message, Payload, operators_equal};
+use scrib_types::message::{Message, Payload, operators_equal, sorts_equal};
 use scrib_types::name::{Dotted, Name};
 use scrib_types::shared_message::SharedMessage;
 use std::alloc::{AllocError, Global};
@@ -113,21 +113,6 @@ fn is_message(message: &Message, op: &Option<Name>, sorts: &[Dotted]) -> bool
     ensures { IsTrue result ↔ (message.now ≡ message_from op.now sorts.now) }
 {
     operators_equal(&message.op, op) && sorts_equal(message.payload.as_slice(), sorts)
-}
-
-/// Whether both are the same types, in the same order.
-fn sorts_equal(a: &[Dotted], b: &[Dotted]) -> bool
-    ensures { IsTrue result ↔ (a.now ≡ b.now) }
-{
-    if a.len() != b.len() {
-        return false;
-    }
-    for i in 0..a.len() {
-        if !a[i].equal(&b[i]) {
-            return false;
-        }
-    }
-    true
 }
 
 /// A number that different messages seldom share.

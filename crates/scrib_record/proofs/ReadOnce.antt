@@ -77,8 +77,12 @@ flat_form-injective a b e =
     λ i. record { roles = h.0 i; global = h.1 i }
 
 -- a test of flat forms is one of meanings
-pub same_form : (r : Bool) (x y : List ℕ) (a b : Agreement) → r ≡ bytes_eq x y → x ≡ flat_form a → y ≡ flat_form b → IsTrue r ↔ (a ≡ b)
-same_form r x y a b e p q = (
-  λ h. flat_form-injective a b (sym p ∙ (bytes_eq-Decides x y).0 (sym e ∙ h) ∙ q),
-  λ h. e ∙ (bytes_eq-Decides x y).1 (p ∙ ap flat_form h ∙ sym q),
+pub same_by_form : (r : Bool) (x y : List ℕ) (a b : Agreement) → IsTrue r ↔ (x ≡ y) → x ≡ flat_form a → y ≡ flat_form b → IsTrue r ↔ (a ≡ b)
+same_by_form r x y a b e p q = (
+  λ h. flat_form-injective a b (sym p ∙ e.0 h ∙ q),
+  λ h. e.1 (p ∙ ap flat_form h ∙ sym q),
 )
+
+pub same_form : (r : Bool) (x y : List ℕ) (a b : Agreement) → r ≡ bytes_eq x y → x ≡ flat_form a → y ≡ flat_form b → IsTrue r ↔ (a ≡ b)
+same_form r x y a b e p q =
+    same_by_form r x y a b (λ h. (bytes_eq-Decides x y).0 (sym e ∙ h), λ h. e ∙ (bytes_eq-Decides x y).1 h) p q

@@ -7,6 +7,7 @@ ghost use Rattle.scrib_record.specs.Flat.{flat_form};
 use crate::flat::flat_form;
 use crate::machines::machines_of;
 use scrib_machine::machine::Machine;
+use scrib_types::bytes::same_bytes;
 use scrib_types::local::Local;
 use scrib_types::plain::Items;
 use scrib_types::protocol::Protocol;
@@ -119,7 +120,7 @@ impl Version {
     pub fn same_meaning(&self, other: &Version) -> bool
         ensures { IsTrue result ↔ (meaning_of self.now ≡ meaning_of other.now) }
     {
-        self.edition.flat.as_slice() == other.edition.flat.as_slice()
+        same_bytes(self.edition.flat.as_slice(), other.edition.flat.as_slice())
     }
 
     /// Whether the stamps are the same: the numbers, which are compared first, and the meanings.

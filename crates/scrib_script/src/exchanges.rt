@@ -1,10 +1,11 @@
 //! Exchanges that were read before, by their texts.
 
-ghost use Rattle.std.specs.Prelude.{◌≡◌, ◌↔◌, IfOk, IfSome, IsTrue};
+ghost use Rattle.std.specs.Prelude.{IfOk, IfSome};
 ghost use Rattle.scrib_script.specs.Heads.{SpellsExchange};
 
 use crate::exchange::{Exchange, exchange_of};
 use crate::fields::fields_of;
+use scrib_types::bytes::same_bytes;
 use std::alloc::{AllocError, Global};
 
 /// How many exchanges are kept at most, each at the slot that its text's hash names: as many as ten bits have values.
@@ -64,7 +65,7 @@ impl Exchanges {
         let Some(Some(known)) = self.slots.get(slot) else {
             return Ok(None);
         };
-        if !same_text(known.text.as_slice(), text) {
+        if !same_bytes(known.text.as_slice(), text) {
             return Ok(None);
         }
         Ok(Some(known.exchange.copy()?))
@@ -91,27 +92,22 @@ impl Exchanges {
     }
 }
 
-/// Whether both are the same bytes. The texts are short, so that a plain loop is quicker than a comparison that is made
-/// for long ones.
-fn same_text(a: &[u8], b: &[u8]) -> bool
-    ensures { IsTrue result ↔ (a.now ≡ b.now) }
-{
-    if a.len() != b.len() {
-        return false;
-    }
-    for (x, y) in a.iter().zip(b) {
-        if x != y {
-            return false;
-        }
-    }
-    true
-}
-
-/// The slot of a text. Each byte costs one rotation, and the product spreads what differs in few bits.
+/// The slot of a text. Each eight bytes, and each of the last few, cost one product, which spreads what differs in few
+/// bits.
 fn slot_of(text: &[u8]) -> usize {
     let mut hash = 0u64;
-    for byte in text {
-        hash = hash.rotate_left(5) ^ u64::from(*byte);
+    let mut rest = text;
+    while let [a, b, c, d, e, f, g, h, behind @ ..] = rest {
+        hash = mixed(hash, u64::from_le_bytes([*a, *b, *c, *d, *e, *f, *g, *h]));
+        rest = behind;
     }
-    (hash.wrapping_mul(SPREAD) >> 54) as usize
+    for byte in rest {
+        hash = mixed(hash, u64::from(*byte));
+    }
+    (hash >> 54) as usize
+}
+
+/// The hash of what has this hash and of the word behind it.
+fn mixed(hash: u64, word: u64) -> u64 {
+    (hash.rotate_left(5) ^ word).wrapping_mul(SPREAD)
 }

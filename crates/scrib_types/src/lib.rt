@@ -2,6 +2,7 @@
 #![tactic(auto)]
 
 pub mod allowed;
+pub mod bytes;
 pub mod event;
 pub mod flat;
 pub mod global;

@@ -70,7 +70,8 @@ pub fn operators_equal(a: &Option<Name>, b: &Option<Name>) -> bool
     }
 }
 
-fn sorts_equal(a: &[Dotted], b: &[Dotted]) -> bool
+/// Whether both are the same types of a payload, in the same order.
+pub fn sorts_equal(a: &[Dotted], b: &[Dotted]) -> bool
     ensures { IsTrue result ↔ (a.now ≡ b.now) }
 {
     if a.len() != b.len() {

@@ -4,6 +4,7 @@ ghost use Rattle.std.specs.Prelude.{◌≡◌, ◌↔◌, ◌<◌, IsTrue, IfOk,
 ghost use Rattle.std.specs.Str.{bytes_eq};
 ghost use Rattle.scrib_types.specs.Names as names;
 
+use crate::bytes::same_bytes;
 use std::alloc::{AllocError, Global};
 use std::marker::Model;
 use std::sync::Arc;
@@ -170,22 +171,6 @@ pub fn is_name(bytes: &[u8]) -> bool
         return false;
     }
     is_letter(bytes[0]) && all_word(&bytes[1..])
-}
-
-/// Whether both are the same bytes. Names are short and mostly differ in length or near the front, so a plain loop is
-/// quicker than a comparison that is made for long texts.
-pub(crate) fn same_bytes(a: &[u8], b: &[u8]) -> bool
-    ensures { IsTrue result ↔ (a.now ≡ b.now) }
-{
-    if a.len() != b.len() {
-        return false;
-    }
-    for (x, y) in a.iter().zip(b) {
-        if x != y {
-            return false;
-        }
-    }
-    true
 }
 
 /// Whether both are the same names, in the same order.

@@ -3,9 +3,9 @@
 ghost use Rattle.std.specs.Prelude.{◌≡◌, ◌↔◌, IsTrue, IfOk};
 ghost use Rattle.scrib_types.specs.Flat.{message_bytes};
 
+use crate::bytes::same_bytes;
 use crate::flat::push_message;
 use crate::message::Message;
-use crate::name::same_bytes;
 use std::alloc::{AllocError, Global};
 use std::marker::Model;
 use std::sync::Arc;
