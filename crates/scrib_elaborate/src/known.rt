@@ -29,7 +29,7 @@ pub fn unknown<'a>(alloc: Global, count: usize) -> Result<Vec<Option<Typed<'a>>>
 {
     let mut known = Vec::with_capacity(alloc, count)?;
     for _ in 0..count {
-        known.push(None)?;
+        known.push_reserved(None);
     }
     Ok(known)
 }

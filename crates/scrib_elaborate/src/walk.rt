@@ -222,7 +222,7 @@ pub fn unwalked(alloc: Global, count: usize) -> Result<Vec<State>, AllocError>
 {
     let mut states = Vec::with_capacity(alloc, count)?;
     for _ in 0..count {
-        states.push(State::Unwalked)?;
+        states.push_reserved(State::Unwalked);
     }
     Ok(states)
 }

@@ -59,7 +59,9 @@ fn sieved<'a>(
     Ok(all)
 }
 
-/// The place of the first of the modules that imports the one of this name. The sieves spare most comparisons.
+/// The place of the first of the modules that imports the one of this name. The sieves spare most comparisons. It stands
+/// apart, so that its loop, through which each edit goes most often, keeps its few values in registers.
+#[inline(never)]
 fn place_of_importer(waiting: &[Sieved], name: &Dotted) -> Option<usize>
     ensures { MatchOption result
         ((m : parsed.ModuleTree) → Contains (waiting_trees waiting.now) m → ImportsSome (name.now ∷ []) m → ⊥)
