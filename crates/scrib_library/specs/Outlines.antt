@@ -6,9 +6,11 @@ use Rattle.scrib_parser.specs.declared.tree.ModuleTree.{ModuleTree}
 use Rattle.scrib_library.specs.declared.outlines.Outline.{Outline}
 use Rattle.scrib_library.specs.Sieve.{bit_of, sieve_of}
 
+-- the outline of a module: the bit of its name, the sieve of its imports, and how many protocols it declares
 abbrev pub outline : ModuleTree → Outline
 outline m = record { bit = bit_of m.name; sieve = sieve_of m.imports; protocols = length m.protocols }
 
+-- those of the modules, in the same order
 abbrev pub outlines_of : List ModuleTree → List Outline
 outlines_of ms = map outline ms
 

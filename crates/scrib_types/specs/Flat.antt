@@ -26,5 +26,6 @@ abbrev pub operator_bytes : Option (List ℕ) → List ℕ
 operator_bytes None = 0 ∷ []
 operator_bytes (Some name) = 1 ∷ name_bytes name
 
+-- the operator, and then the types of the payload
 unfoldable pub message_bytes : Message → List ℕ
 message_bytes m = operator_bytes m.op ++ payload_bytes m.payload

@@ -26,6 +26,7 @@ pub fn same_bytes(a: &[u8], b: &[u8]) -> bool
     same_one_by_one(left, right)
 }
 
+/// Whether both are the same bytes, of which there are few.
 fn same_one_by_one(a: &[u8], b: &[u8]) -> bool
     ensures { IsTrue result ↔ (a.now ≡ b.now) }
 {

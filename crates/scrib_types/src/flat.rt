@@ -73,6 +73,7 @@ fn push_operator(out: &mut Vec<u8>, op: &Option<Name>) -> Result<(), AllocError>
     }
 }
 
+/// Adds the operator, and then the types of the payload.
 #[tactic(auto, unfolding(crate::specs::Flat::message_bytes))]
 pub fn push_message(out: &mut Vec<u8>, message: &Message) -> Result<(), AllocError>
     ensures { OnOk result (out.new.items ≡ out.old.items ++ flat.message_bytes message.now) }
