@@ -35,11 +35,14 @@ printed_edges ps = map (λ (p : Printed). p.edge) ps
 abbrev pub AllPrinted : List Printed → Type 0
 AllPrinted ps = All (λ (p : Printed). p.text.items ≡ action_text p.edge.action) ps
 
+abbrev pub edge_of : Action → ℕ → Edge
+edge_of a k = record { action = a; next = k }
+
 -- an edge for each branch, to the state at its place in the list
 abbrev pub edges_of : (Message → Action) → LocalBranches → List ℕ → List Edge
 edges_of f NoChoice ks = []
 edges_of f (Choice m l ls) [] = []
-edges_of f (Choice m l ls) (k ∷ ks) = record { action = f m; next = k } ∷ edges_of f ls ks
+edges_of f (Choice m l ls) (k ∷ ks) = edge_of (f m) k ∷ edges_of f ls ks
 
 -- state n has these edges, sorted
 pub record IsRow (m : List (List Edge)) (n : ℕ) (f : Message → Action) (ls : LocalBranches) (ks : List ℕ) : Type 0 where

@@ -1,4 +1,5 @@
 pub mod Machines
+pub mod Rows
 pub mod Compilable
 pub mod Layout
 pub mod Paths

@@ -10,11 +10,11 @@ ghost use Rattle.scrib_machine.specs.Compilable.{IsCompilable, Closed, ClosedAll
 ghost use Rattle.scrib_machine.specs.Layout as layout;
 
 use crate::machine::{Edge, Machine, State};
+use crate::row::Row;
 use crate::sorted::sorted;
 use scrib_types::event::Action;
 use scrib_types::local::Local;
 use scrib_types::name::Role;
-use scrib_types::plain::Items;
 use scrib_types::shared_message::SharedMessage;
 use smallvec::SmallVec;
 use std::alloc::{AllocError, Global};
@@ -47,7 +47,7 @@ pub fn compile(alloc: Global, local: &Local) -> Result<Machine, AllocError>
 fn lay(
     alloc: Global,
     local: &Local,
-    rows: &mut Vec<Items<Edge>>,
+    rows: &mut Vec<Row>,
     outer: &mut Vec<State>,
 ) -> Result<State, AllocError>
     requires room { length rows.old.items + nodes (local_of local.now) ≤ most_nodes }
@@ -59,7 +59,7 @@ fn lay(
     match local {
         Local::End => {
             let at = rows.len();
-            rows.push(Items::new(alloc))?;
+            rows.push(Row::none(alloc))?;
             Ok(at as State)
         }
         Local::Var(i) => Ok(outer[outer.len() - 1 - *i as usize]),
@@ -71,14 +71,14 @@ fn lay(
         }
         Local::Send { to, branches } => {
             let at = rows.len();
-            rows.push(Items::new(alloc))?;
+            rows.push(Row::none(alloc))?;
             let nexts = lay_all(alloc, branches.as_slice(), rows, outer)?;
             rows[at] = sends(alloc, to, branches.as_slice(), nexts.as_slice())?;
             Ok(at as State)
         }
         Local::Recv { from, branches } => {
             let at = rows.len();
-            rows.push(Items::new(alloc))?;
+            rows.push(Row::none(alloc))?;
             let nexts = lay_all(alloc, branches.as_slice(), rows, outer)?;
             rows[at] = receptions(alloc, from, branches.as_slice(), nexts.as_slice())?;
             Ok(at as State)
@@ -91,7 +91,7 @@ fn lay(
 fn lay_all(
     alloc: Global,
     branches: &[(SharedMessage, Local)],
-    rows: &mut Vec<Items<Edge>>,
+    rows: &mut Vec<Row>,
     outer: &mut Vec<State>,
 ) -> Result<SmallVec<State, FEW>, AllocError>
     requires room { length rows.old.items + nodes_all (local_branches branches.now) ≤ most_nodes }
@@ -115,15 +115,19 @@ fn sends(
     to: &Role,
     branches: &[(SharedMessage, Local)],
     nexts: &[State],
-) -> Result<Items<Edge>, AllocError>
+) -> Result<Row, AllocError>
     requires each { length nexts.now ≡ length branches.now }
     requires differ { Differ (local_branches branches.now) }
     ensures same { IfOk result (λ row. IsPermutation (layout.edges_of (Sends to.now) (local_branches branches.now) nexts.now) row) }
     ensures sorted { IfOk result (λ row. AllPairs ComesBefore (layout.actions_of row)) }
 {
+    if branches.len() == 1 {
+        let edge = send_edge(to, &branches[0].0, nexts[0])?;
+        return Ok(Row::one(edge));
+    }
     let edges = send_edges(alloc, to, branches, nexts)?;
     let edges = sorted(alloc, edges)?;
-    Ok(Items::from_vec(edges))
+    Ok(Row::from_vec(edges))
 }
 
 /// The row of a choice of receptions, likewise.
@@ -132,15 +136,19 @@ fn receptions(
     from: &Role,
     branches: &[(SharedMessage, Local)],
     nexts: &[State],
-) -> Result<Items<Edge>, AllocError>
+) -> Result<Row, AllocError>
     requires each { length nexts.now ≡ length branches.now }
     requires differ { Differ (local_branches branches.now) }
     ensures same { IfOk result (λ row. IsPermutation (layout.edges_of (Receives from.now) (local_branches branches.now) nexts.now) row) }
     ensures sorted { IfOk result (λ row. AllPairs ComesBefore (layout.actions_of row)) }
 {
+    if branches.len() == 1 {
+        let edge = reception_edge(from, &branches[0].0, nexts[0])?;
+        return Ok(Row::one(edge));
+    }
     let edges = reception_edges(alloc, from, branches, nexts)?;
     let edges = sorted(alloc, edges)?;
-    Ok(Items::from_vec(edges))
+    Ok(Row::from_vec(edges))
 }
 
 /// A send of each branch's message, in the order of the branches.
@@ -155,11 +163,8 @@ fn send_edges(
 {
     let mut edges = Vec::with_capacity(alloc, branches.len())?;
     for i in 0..branches.len() {
-        let to = to.copy()?;
-        let message = branches[i].0.copy()?;
-        let action = Action::Sends { to, message };
-        let next = nexts[i];
-        edges.push(Edge { action, next })?;
+        let edge = send_edge(to, &branches[i].0, nexts[i])?;
+        edges.push(edge)?;
     }
     Ok(edges)
 }
@@ -176,11 +181,28 @@ fn reception_edges(
 {
     let mut edges = Vec::with_capacity(alloc, branches.len())?;
     for i in 0..branches.len() {
-        let from = from.copy()?;
-        let message = branches[i].0.copy()?;
-        let action = Action::Receives { from, message };
-        let next = nexts[i];
-        edges.push(Edge { action, next })?;
+        let edge = reception_edge(from, &branches[i].0, nexts[i])?;
+        edges.push(edge)?;
     }
     Ok(edges)
+}
+
+/// A send of the message to the role, that leads to the state.
+fn send_edge(to: &Role, message: &SharedMessage, next: State) -> Result<Edge, AllocError>
+    ensures { IfOk result (λ edge. edge ≡ layout.edge_of (Sends to.now message.now) next) }
+{
+    let to = to.copy()?;
+    let message = message.copy()?;
+    let action = Action::Sends { to, message };
+    Ok(Edge { action, next })
+}
+
+/// A reception of the message from the role, that leads to the state.
+fn reception_edge(from: &Role, message: &SharedMessage, next: State) -> Result<Edge, AllocError>
+    ensures { IfOk result (λ edge. edge ≡ layout.edge_of (Receives from.now message.now) next) }
+{
+    let from = from.copy()?;
+    let message = message.copy()?;
+    let action = Action::Receives { from, message };
+    Ok(Edge { action, next })
 }

@@ -4,4 +4,5 @@
 pub mod compile;
 pub mod graph;
 pub mod machine;
+mod row;
 mod sorted;

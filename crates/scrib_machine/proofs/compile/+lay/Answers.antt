@@ -30,7 +30,7 @@ lay-lay-requires t c =
 pub lay-returns-in_ok-push-in-End-clause-placed : goal.lay-returns-in_ok-push-in-End-clause-placed
 lay-returns-in_ok-push-in-End-clause-placed t c =
     let at : c.len-at.result ≡ length c.args.rows.now.items = search rules in
-    placed_end c.args.rows.now.items c.push.new.self.items (reverse c.args.outer.now.items) (local_of c.args.local.now) c.len-at.result (ap local_of c.in-End.is ∙ end_of) (pushed_as c.args.rows.now.items c.push.new.self.items c.new.result [] c.in_ok-push-in-End.ensures.items c.new.ensures) at
+    placed_end c.args.rows.now.items c.push.new.self.items (reverse c.args.outer.now.items) (local_of c.args.local.now) c.len-at.result (ap local_of c.in-End.is ∙ end_of) (pushed_as c.args.rows.now.items c.push.new.self.items c.none.result [] c.in_ok-push-in-End.ensures.items c.none.ensures) at
 
 pub lay-returns-in-Var-clause-placed : goal.lay-returns-in-Var-clause-placed
 lay-returns-in-Var-clause-placed t c =
@@ -70,7 +70,7 @@ lay-lay_all-requires t c =
     let falls : 2 * nodes_all (local_branches c.as_slice.result.now) + 1 < t = omega (arith, c.decreases, ap nodes form) in (
       falls,
       (
-        choice_room (local_of c.args.local.now) (Send c.in-Send.to (local_branches c.as_slice.result.now)) (local_branches c.as_slice.result.now) c.args.rows.now.items c.push-in-Send.new.self.items c.new-in-Send.result most_nodes form refl c.in_ok-push-in-Send.ensures.items c.requires.room,
+        choice_room (local_of c.args.local.now) (Send c.in-Send.to (local_branches c.as_slice.result.now)) (local_branches c.as_slice.result.now) c.args.rows.now.items c.push-in-Send.new.self.items c.none-in-Send.result most_nodes form refl c.in_ok-push-in-Send.ensures.items c.requires.room,
         (
           subst (λ x. Closed x (length c.args.outer.now.items)) form c.requires.closed,
           (subst (λ x. Distinct x) form c.requires.distinct).1,
@@ -98,7 +98,7 @@ lay-returns-in_ok-rows-in-Send-clause-placed t c =
     let at : c.len-at-in-Send.result ≡ length c.args.rows.now.items = search rules in
     placed_send c.args.rows.now.items c.push-in-Send.new.self.items c.lay_all.new.rows.items _ (reverse c.args.outer.now.items) (local_of c.args.local.now) c.in-Send.to (local_branches bs) ks es c.len-at-in-Send.result
     (ap local_of c.in-Send.is ∙ send_of c.in-Send.to bs)
-    (pushed_as c.args.rows.now.items c.push-in-Send.new.self.items c.new-in-Send.result [] c.in_ok-push-in-Send.ensures.items c.new-in-Send.ensures)
+    (pushed_as c.args.rows.now.items c.push-in-Send.new.self.items c.none-in-Send.result [] c.in_ok-push-in-Send.ensures.items c.none-in-Send.ensures)
     laid (ap (λ n. set c.lay_all.new.rows.items n es) at) same c.in_ok-rows-in-Send.ensures.sorted at
 
 pub lay-lay_all-requires-in-Recv : goal.lay-lay_all-requires-in-Recv
@@ -107,7 +107,7 @@ lay-lay_all-requires-in-Recv t c =
     let falls : 2 * nodes_all (local_branches c.as_slice-in-Recv.result.now) + 1 < t = omega (arith, c.decreases, ap nodes form) in (
       falls,
       (
-        choice_room (local_of c.args.local.now) (Recv c.in-Recv.from (local_branches c.as_slice-in-Recv.result.now)) (local_branches c.as_slice-in-Recv.result.now) c.args.rows.now.items c.push-in-Recv.new.self.items c.new-in-Recv.result most_nodes form refl c.in_ok-push-in-Recv.ensures.items c.requires.room,
+        choice_room (local_of c.args.local.now) (Recv c.in-Recv.from (local_branches c.as_slice-in-Recv.result.now)) (local_branches c.as_slice-in-Recv.result.now) c.args.rows.now.items c.push-in-Recv.new.self.items c.none-in-Recv.result most_nodes form refl c.in_ok-push-in-Recv.ensures.items c.requires.room,
         (
           subst (λ x. Closed x (length c.args.outer.now.items)) form c.requires.closed,
           (subst (λ x. Distinct x) form c.requires.distinct).1,
@@ -135,5 +135,5 @@ lay-returns-in_ok-rows-in-Recv-clause-placed t c =
     let at : c.len-at-in-Recv.result ≡ length c.args.rows.now.items = search rules in
     placed_recv c.args.rows.now.items c.push-in-Recv.new.self.items c.lay_all-in-Recv.new.rows.items _ (reverse c.args.outer.now.items) (local_of c.args.local.now) c.in-Recv.from (local_branches bs) ks es c.len-at-in-Recv.result
     (ap local_of c.in-Recv.is ∙ recv_of c.in-Recv.from bs)
-    (pushed_as c.args.rows.now.items c.push-in-Recv.new.self.items c.new-in-Recv.result [] c.in_ok-push-in-Recv.ensures.items c.new-in-Recv.ensures)
+    (pushed_as c.args.rows.now.items c.push-in-Recv.new.self.items c.none-in-Recv.result [] c.in_ok-push-in-Recv.ensures.items c.none-in-Recv.ensures)
     laid (ap (λ n. set c.lay_all-in-Recv.new.rows.items n es) at) same c.in_ok-rows-in-Recv.ensures.sorted at
