@@ -1,10 +1,10 @@
 -- The modules that reach the edited one by imports, found one after another.
-use Rattle.std.proofs.Common.{◌≡◌, ℕ, zero, suc, ◌+◌, ◌<◌, ◌≤◌, List, [], ◌∷◌, ◌++◌, length, get_or, take, ◌⊎◌, inl, inr, refl, sym, ap, ◌∙◌, subst, arith}
+use Rattle.std.proofs.Common.{◌≡◌, ℕ, zero, suc, ◌+◌, ◌-◌, ◌<◌, ◌≤◌, List, [], ◌∷◌, ◌++◌, length, get_or, take, drop, ◌⊎◌, inl, inr, refl, sym, ap, ◌∙◌, subst, arith}
 use Rattle.std.specs.Borrow.{Bor}
 use Rattle.std.specs.List.{Contains, remove}
 use Rattle.std.proofs.Math.ListN.{length-append}
-use Rattle.std.proofs.lemmas.List.{take_more, take_all, take-append-le, map-append, length-map, get_or-map}
-use Rattle.std.proofs.lemmas.List.Elements.{Contains-push, Contains-push_cases, Contains-append_left}
+use Rattle.std.proofs.lemmas.List.{take_more, take_all, take-append-le, take-append-drop, length-drop, map-append, length-map, get_or-map}
+use Rattle.std.proofs.lemmas.List.Elements.{Contains-push, Contains-push_cases, Contains-append_left, Contains-append_cases}
 use Rattle.scrib_parser.specs.declared.tree.ModuleTree.{ModuleTree}
 use Rattle.scrib_parser.specs.declared.tree.Import.{Import}
 use Rattle.scrib_library.specs.declared.sieve.Sieved.{Sieved}
@@ -116,18 +116,25 @@ module _ (ws : List Sieved) (ns : List (Bor (List (List ℕ)))) (at : ℕ) (h : 
       let Q : List (Bor (List (List ℕ))) → Type 0 = λ l. ImportsSome (names_now l) m in
       h m (Contains-remove_back (waiting_trees ws) i m (omega (arith, lt, long)) (subst P (map-remove (λ (x : Sieved). x.tree.now) ws i) p)) (subst Q (take-append-le at ns (n ∷ []) le) s)
 
-  pub none_next : (r : Bor (List (List ℕ))) → at < length ns → r ≡ get_or ns at r → ImportNone ws (r ∷ []) → ImportNone ws (take (at + 1) ns)
-  none_next r lt is none m p s =
-      let all : names_now (take (at + 1) ns) ≡ names_now (take at ns) ++ r.now ∷ [] =
-      ap names_now (take_more ns at r lt ∙ ap (λ z. take at ns ++ z ∷ []) (sym is)) ∙ map-append (λ (x : Bor (List (List ℕ))). x.now) (take at ns) (r ∷ []) in
+  -- none of those that wait imports one of the names behind these either
+  pub none_rest : ImportNone ws (take (length ns - at) (drop at ns)) → ImportNone ws ns
+  none_rest behind m p s =
+      let short : length (drop at ns) ≤ length ns - at = omega (arith, length-drop at ns) in
+      let Q : List (Bor (List (List ℕ))) → Type 0 = λ l. ImportNone ws l in
+      let none = subst Q (take_all (length ns - at) (drop at ns) short) behind in
+      let all : names_now ns ≡ names_now (take at ns) ++ names_now (drop at ns) =
+      ap names_now (sym (take-append-drop at ns)) ∙ map-append (λ (x : Bor (List (List ℕ))). x.now) (take at ns) (drop at ns) in
       let P : List (List (List ℕ)) → Type 0 = λ l. Contains l s.by.module in
-      elim (Contains-push_cases (names_now (take at ns)) r.now s.by.module (subst P all s.named)) [
+      elim (Contains-append_cases (names_now (take at ns)) (names_now (drop at ns)) s.by.module (subst P all s.named)) [
         | inl q ↦ h m p (record { by = s.by; imports = s.imports; named = q })
-        | inr same ↦ none m p (record { by = s.by; imports = s.imports; named = Contains-head_at r.now [] s.by.module same })
+        | inr q ↦ none m p (record { by = s.by; imports = s.imports; named = q })
       ]
 
   pub none_all : length ns ≤ at → ImportNone ws ns
   none_all le m p s = h m p (let Q : List (Bor (List (List ℕ))) → Type 0 = λ l. ImportsSome (names_now l) m in subst Q (sym (take_all at ns le)) s)
+
+pub none_taken : (ws : List Sieved) (ns : List (Bor (List (List ℕ)))) (at : ℕ) → length ns ≤ at → ImportNone ws ns → ImportNone ws (take at ns)
+none_taken ws ns at le h m p s = h m p (let Q : List (Bor (List (List ℕ))) → Type 0 = λ l. ImportsSome (names_now l) m in subst Q (take_all at ns le) s)
 
 pub within_more : {X : Type 0} (xs : List X) (x : X) (at : ℕ) → at ≤ length xs → at ≤ length (xs ++ x ∷ [])
 within_more xs x at le = omega (arith, le, length-append xs (x ∷ []))

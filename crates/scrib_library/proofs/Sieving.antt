@@ -1,10 +1,10 @@
 -- What a sieve lacks isn't among the names that it was made of.
-use Rattle.std.proofs.Common.{◌≡◌, ℕ, ◌+◌, ◌*◌, ◌%◌, ◌^◌, ◌<◌, ◌≤◌, List, [], ◌∷◌, length, get_or, take, drop, inl, inr, sym, ap, ◌∙◌, subst, arith}
+use Rattle.std.proofs.Common.{◌≡◌, ℕ, zero, suc, min, ◌⊎◌, refl, ◌+◌, ◌*◌, ◌%◌, ◌^◌, ◌<◌, ◌≤◌, List, [], ◌∷◌, length, get_or, take, drop, inl, inr, sym, ap, ◌∙◌, subst, arith}
 use Rattle.std.specs.Borrow.{Bor}
 use Rattle.std.specs.List.{Contains}
 use Rattle.std.specs.Int.{bit_at}
-use Rattle.std.specs.Int.Bits.{bit_or}
-use Rattle.std.proofs.lemmas.Nat.Bits.{bit_at_or, bit_at-lt, bit_at-pow_same}
+use Rattle.std.specs.Int.Bits.{bit_or, bit_and}
+use Rattle.std.proofs.lemmas.Nat.Bits.{bit_at_or, bit_at_and, bit_at-zero, bit_at-lt, bit_at-pow_same}
 use Rattle.std.proofs.lemmas.List.{drop_more, take_all}
 use Rattle.scrib_parser.specs.declared.tree.Import.{Import}
 use Rattle.scrib_parser.specs.declared.tree.ModuleTree.{ModuleTree}
@@ -52,15 +52,24 @@ mixed_small h (b ∷ bs) lt = mixed_small ((h * 5 + b) % 64) bs (omega arith)
 pub bit_small : (name : List (List ℕ)) → bit_of name < 64
 bit_small name = mixed_small 0 (last_name name) (omega arith)
 
--- a module of whose sieve the name's bit lacks doesn't import it
-pub sifted_out : (m : ModuleTree) (s : ℕ) (name : List (List ℕ)) → IsSieve m.imports s → LacksBit s (bit_of name) → ImportsSome (name ∷ []) m → ⊥
-sifted_out m s name h lacks i =
-    elim (Contains-cases name [] i.by.module i.named) [
-      | inl e ↦ (
-          let P : List (List ℕ) → Type 0 = λ n. bit_at s (bit_of n) ≡ 1 in
-          let has = subst P (sym e) (h i.by i.imports) in
-          absurd (omega (arith, has, lacks)))
-      | inr p ↦ Contains-nil i.by.module p
+-- sieves with no bit in common
+least : (x y : ℕ) → min x y ≡ 0 → (x ≡ 0) ⊎ (y ≡ 0)
+least zero y e = inl refl
+least (suc x) zero e = inr refl
+least (suc x) (suc y) e = absurd (omega (arith, e))
+
+pub no_common : (a b : ℕ) → bit_and a b ≡ 0 → (k : ℕ) → LacksBit a k ⊎ LacksBit b k
+no_common a b e k =
+    least (bit_at a k) (bit_at b k) (sym (bit_at_and a b k) ∙ ap (λ n. bit_at n k) e ∙ bit_at-zero k)
+
+-- a module whose sieve has no bit in common with that of the names imports none of them
+pub sifted_out : (m : ModuleTree) (s t : ℕ) (names : List (List (List ℕ))) → IsSieve m.imports s → AreSieved names t → ((k : ℕ) → LacksBit s k ⊎ LacksBit t k) → ImportsSome names m → ⊥
+sifted_out m s t names h g apart i =
+    let one = h i.by i.imports in
+    let other = g i.by.module i.named in
+    elim (apart (bit_of i.by.module)) [
+      | inl lacks ↦ absurd (omega (arith, one, lacks))
+      | inr lacks ↦ absurd (omega (arith, other, lacks))
     ]
 
 -- the sieve has the bit of each of these

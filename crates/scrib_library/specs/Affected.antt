@@ -1,14 +1,10 @@
 -- The modules whose protocols an edit can change.
 -- Only contracts of private functions cite this file.
 use Rattle.std.specs.Prelude.{ℕ, List, map, Contains}
-use Rattle.std.specs.Borrow.{Bor}
 use Rattle.scrib_parser.specs.declared.tree.ModuleTree.{ModuleTree}
 use Rattle.scrib_parser.specs.declared.tree.Import.{Import}
 use Rattle.scrib_library.specs.declared.sieve.Sieved.{Sieved}
-
--- names without where they lie in memory
-abbrev pub names_now : List (Bor (List (List ℕ))) → List (List (List ℕ))
-names_now rs = map (λ (r : Bor (List (List ℕ))). r.now) rs
+pub use Rattle.scrib_library.specs.Sieve.{names_now}
 
 abbrev pub waiting_trees : List Sieved → List ModuleTree
 waiting_trees ws = map (λ (w : Sieved). w.tree.now) ws

@@ -1,9 +1,14 @@
 -- Sieves of names: which bits they have.
 -- Only contracts of private functions cite this file.
-use Rattle.std.specs.Prelude.{◌≡◌, ℕ, ◌+◌, ◌*◌, ◌%◌, ◌^◌, bit_or, List, [], ◌∷◌, Contains}
+use Rattle.std.specs.Prelude.{◌≡◌, ℕ, ◌+◌, ◌*◌, ◌%◌, ◌^◌, bit_or, List, [], ◌∷◌, map, Contains}
+use Rattle.std.specs.Borrow.{Bor}
 use Rattle.std.specs.Int.{bit_at}
 use Rattle.scrib_parser.specs.declared.tree.Import.{Import}
 use Rattle.scrib_elaborate.specs.Names.{last_name}
+
+-- names without where they lie in memory
+abbrev pub names_now : List (Bor (List (List ℕ))) → List (List (List ℕ))
+names_now rs = map (λ (r : Bor (List (List ℕ))). r.now) rs
 
 -- the bytes, mixed into a number below 64
 abbrev pub mixed : (so_far : ℕ) → List ℕ → ℕ

@@ -1,13 +1,13 @@
 //! The modules whose protocols an edit can change: the edited one, and those that reach it by imports.
 
-ghost use Rattle.std.specs.Prelude.{◌≡◌, ◌<◌, ◌∷◌, [], length, MatchOption, IfOk, IsTrue, Contains, ◌↔◌};
+ghost use Rattle.std.specs.Prelude.{◌≡◌, ◌<◌, length, MatchOption, IfOk, IsTrue, Contains, ◌↔◌};
 ghost use Rattle.scrib_parser.specs.declared.tree.ModuleTree as parsed;
 ghost use Rattle.scrib_library.specs.Outlines.{outlines_of};
 ghost use Rattle.scrib_library.specs.Affected.{names_now, waiting_trees, ImportsSome, AreAffected};
 
 use crate::names::same;
 use crate::outlines::Outline;
-use crate::sieve::{Sieved, bit_of, may_have};
+use crate::sieve::{Sieved, may_meet, sieve_of_names};
 use scrib_parser::tree::ModuleTree;
 use scrib_types::name::Dotted;
 use std::alloc::{AllocError, Global};
@@ -28,15 +28,16 @@ pub fn affected<'a>(
     let mut waiting = sieved(alloc, modules, outlines)?;
     let mut names = Vec::new(alloc);
     names.push(edited)?;
-    // Each name is compared with the imports of those that wait, and no more once none of them imports it.
+    // The names from `at` on are compared with the imports of those that wait, all at once, and no more once none of
+    // those imports one of them.
     let mut at = 0;
     while at < names.len() {
-        match place_of_importer(&waiting, names[at]) {
+        match place_of_importer(&waiting, &names[at..]) {
             Some(place) => {
                 let importer = waiting.remove(place);
                 names.push(&importer.tree.name)?;
             }
-            None => at += 1,
+            None => at = names.len(),
         }
     }
     Ok(names)
@@ -59,17 +60,17 @@ fn sieved<'a>(
     Ok(all)
 }
 
-/// The place of the first of the modules that imports the one of this name. The sieves spare most comparisons. It stands
+/// The place of the first of the modules that imports one of these names. The sieves spare most comparisons. It stands
 /// apart, so that its loop, through which each edit goes most often, keeps its few values in registers.
 #[inline(never)]
-fn place_of_importer(waiting: &[Sieved], name: &Dotted) -> Option<usize>
+fn place_of_importer(waiting: &[Sieved], names: &[&Dotted]) -> Option<usize>
     ensures { MatchOption result
-        ((m : parsed.ModuleTree) → Contains (waiting_trees waiting.now) m → ImportsSome (name.now ∷ []) m → ⊥)
+        ((m : parsed.ModuleTree) → Contains (waiting_trees waiting.now) m → ImportsSome (names_now names.now) m → ⊥)
         (λ at. at < length waiting.now) }
 {
-    let bit = bit_of(name);
+    let sieve = sieve_of_names(names);
     for (at, one) in waiting.iter().enumerate() {
-        if may_have(one.sieve, bit) && imports_some(one.tree, &[name]) {
+        if may_meet(one.sieve, sieve) && imports_some(one.tree, names) {
             return Some(at);
         }
     }

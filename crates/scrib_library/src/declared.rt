@@ -11,7 +11,7 @@ ghost use Rattle.scrib_library.specs.Entries.{entry_names, AreEntries, AreEntere
 use crate::affected::is_one_of;
 use crate::names::{compare, full_name};
 use crate::outlines::Outline;
-use crate::sieve::{bit_of, may_have};
+use crate::sieve::{may_have, sieve_of_names};
 use scrib_parser::tree::{ModuleTree, ProtocolDeclaration};
 use scrib_types::name::Dotted;
 use std::alloc::{AllocError, Global};
@@ -65,17 +65,6 @@ fn entries_of<'a>(
         }
     }
     Ok(entries)
-}
-
-/// The sieve of the names.
-fn sieve_of_names(names: &[&Dotted]) -> u64
-    ensures { AreSieved (names_now names.now) result }
-{
-    let mut sieve = 0;
-    for name in names {
-        sieve |= 1 << bit_of(name);
-    }
-    sieve
 }
 
 /// Whether the name, which has this bit, is one of these, of which this is the sieve. The sieve spares most comparisons.

@@ -1,6 +1,6 @@
 //! Sieves of names: sets of bits, by which most names that aren't among some others are told without a comparison.
 
-ghost use Rattle.std.specs.Prelude.{◌≡◌, ◌<◌, false};
+ghost use Rattle.std.specs.Prelude.{◌≡◌, ◌<◌, ◌⊎◌, ℕ, false};
 ghost use Rattle.scrib_library.specs.Sieve as spec;
 
 use scrib_parser::tree::{Import, ModuleTree};
@@ -38,10 +38,28 @@ pub fn sieve_of(imports: &[Import]) -> u64
     sieve
 }
 
+/// The sieve of the names.
+pub fn sieve_of_names(names: &[&Dotted]) -> u64
+    ensures { spec.AreSieved (spec.names_now names.now) result }
+{
+    let mut sieve = 0;
+    for name in names {
+        sieve |= 1 << bit_of(name);
+    }
+    sieve
+}
+
 /// Whether the sieve has the bit.
 pub fn may_have(sieve: u64, bit: u32) -> bool
     requires { bit < 64 }
     ensures { result ≡ false → spec.LacksBit sieve bit }
 {
     (sieve >> bit) % 2 == 1
+}
+
+/// Whether the sieves have a bit in common.
+pub fn may_meet(a: u64, b: u64) -> bool
+    ensures { result ≡ false → (bit : ℕ) → spec.LacksBit a bit ⊎ spec.LacksBit b bit }
+{
+    a & b != 0
 }

@@ -1,9 +1,10 @@
-use Rattle.std.proofs.Common.{List, inl, refl, sym, ap, subst, arith}
+use Rattle.std.proofs.Common.{ℕ, List, inl, refl, sym, ap, subst, arith}
+use Rattle.std.specs.Borrow.{Bor}
 use Rattle.std.specs.List.{Contains}
 use Rattle.scrib_parser.specs.declared.tree.ModuleTree.{ModuleTree}
 use Rattle.scrib_library.specs.Affected.{names_now, waiting_trees}
 use Rattle.scrib_library.proofs.Lists.{Contains-nil}
-use Rattle.scrib_library.proofs.Affecting.{sorted_first, sorted_moved, sorted_all, none_removed, none_next, none_all, within_more}
+use Rattle.scrib_library.proofs.Affecting.{ImportNone, sorted_first, sorted_moved, sorted_all, none_removed, none_rest, none_taken, none_all, within_more}
 use Rattle.scrib_library.proofs.affected.affected.Goals as goal
 
 pub loop-at-init : goal.loop-at-init
@@ -23,11 +24,12 @@ loop-at-preserved-in-Continue-branch-3 c =
 
 pub loop-at-preserved : goal.loop-at-preserved
 loop-at-preserved c =
-    let none = rw c.deref.ensures.value at c.in-None.ensures in
-    let lt = c.loop-at-test.true in (
+    let ws = c.loop-at.waiting.items in
+    let ns = c.loop-at.names.items in
+    let none = none_rest ws ns c.loop-at.at c.loop-at.invariant.1 (rw (c.deref.ensures.value, c.deref-in-loop-at.ensures.value) at c.in-None.ensures) in (
       c.loop-at.invariant.0,
-      none_next c.loop-at.waiting.items c.loop-at.names.items c.loop-at.at c.loop-at.invariant.1 c.index.result.now (omega (arith, lt, c.len.ensures)) c.index.ensures none,
-      omega (arith, lt, c.len.ensures),
+      none_taken ws ns c.len-at.result (omega (arith, c.len-at.ensures)) none,
+      omega (arith, c.len-at.ensures),
     )
 
 pub returns : goal.returns

@@ -1,9 +1,9 @@
-use Rattle.std.proofs.Common.{[], ◌∷◌, take}
+use Rattle.std.proofs.Common.{take}
 use Rattle.std.specs.List.{Contains}
 use Rattle.scrib_parser.specs.declared.tree.ModuleTree.{ModuleTree}
-use Rattle.scrib_library.specs.Affected.{waiting_trees, ImportsSome}
+use Rattle.scrib_library.specs.Affected.{names_now, waiting_trees, ImportsSome}
 use Rattle.scrib_library.proofs.affected.place_of_importer.Given as goal
 
 abbrev pub invariant-loop-at : goal.invariant-loop-at
 invariant-loop-at l =
-    (m : ModuleTree) → Contains (waiting_trees (take l.at l.waiting)) m → ImportsSome (l.name ∷ []) m → ⊥
+    (m : ModuleTree) → Contains (waiting_trees (take l.at l.waiting)) m → ImportsSome (names_now l.names) m → ⊥

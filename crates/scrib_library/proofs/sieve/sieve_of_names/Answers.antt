@@ -1,7 +1,7 @@
 use Rattle.std.proofs.Common.{◌^◌, bit_or, ◌∙◌, ap}
 use Rattle.std.proofs.lemmas.Nat.{one_shl}
 use Rattle.scrib_library.proofs.Sieving.{each_none, each_more, each_all}
-use Rattle.scrib_library.proofs.declared.sieve_of_names.Goals as goal
+use Rattle.scrib_library.proofs.sieve.sieve_of_names.Goals as goal
 
 pub loop-name-init : goal.loop-name-init
 loop-name-init c = each_none c.args.names.now _
