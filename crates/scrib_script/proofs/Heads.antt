@@ -73,6 +73,9 @@ number-alone (d ∷ ds) n h =
 ask-no-blank : NoBlank (codes "ask")
 ask-no-blank = search rules
 
+turn-no-blank : NoBlank (codes "turn")
+turn-no-blank = search rules
+
 send-no-blank : NoBlank (codes "send")
 send-no-blank = search rules
 
@@ -119,6 +122,17 @@ ask_says bytes digits id e h =
     let is = ap fields e ∙ ask-fields digits id h in
     let short : length bytes ≤ 131072 = omega (arith, ap length e, h.most) in
     (short, (fields bytes, (refl, λ more k. apart (codes "ask") (codes "json") refl (head-of-fields _ _ _ _ (sym is ∙ k))), rw is (inr (id, h, (refl, refl, refl)))))
+
+-- the fields of a line that turns
+turn-fields : (digits : List ℕ) (id : ℕ) → IsNumber digits id → fields (codes "turn" ++ 32 ∷ digits) ≡ codes "turn" ∷ digits ∷ []
+turn-fields digits id h = first-field-cut 116 (codes "urn") digits turn-no-blank ∙ ap (λ fs. codes "turn" ∷ fs) (number-alone digits id h)
+
+-- a line that turns says it
+pub turn_says : (bytes digits : List ℕ) (id : ℕ) → bytes ≡ codes "turn" ++ 32 ∷ digits → IsNumber digits id → Says bytes (line.Step format.Line (step.Turn id))
+turn_says bytes digits id e h =
+    let is = ap fields e ∙ turn-fields digits id h in
+    let short : length bytes ≤ 131072 = omega (arith, ap length e, h.most) in
+    (short, (fields bytes, (refl, λ more k. apart (codes "turn") (codes "json") refl (head-of-fields _ _ _ _ (sym is ∙ k))), rw is (inr (id, h, (refl, refl, refl)))))
 
 -- a text that is cut at a space
 pub cut-at : (rest : List ℕ) (at : ℕ) → at < length rest → get_or rest at 0 ≡ 32 → rest ≡ take at rest ++ 32 ∷ drop (suc at) rest

@@ -1,7 +1,7 @@
 //! Lines of a script.
 
 ghost use Rattle.std.specs.Prelude.{◌≡◌, ◌↔◌, ◌∷◌, ◌++◌, IfOk, IfSome, IsTrue, map, codes};
-ghost use Rattle.scrib_core.specs.declared.step.Step.TheVariants.{Ask};
+ghost use Rattle.scrib_core.specs.declared.step.Step.TheVariants.{Ask, Turn};
 ghost use Rattle.scrib_script.specs.Fields.{fields};
 ghost use Rattle.scrib_script.specs.Says.{Says, IsSkipped, IsPutLine, Asks};
 ghost use Rattle.scrib_script.specs.declared.format.Format.TheVariants as format;
@@ -45,6 +45,9 @@ pub fn line_of(alloc: Global, bytes: &[u8]) -> Result<Line, AllocError>
     }
     if let Some(id) = ask_of(bytes) {
         return Ok(Line::Step(Format::Line, Step::Ask { id }));
+    }
+    if let Some(id) = turn_of(bytes) {
+        return Ok(Line::Step(Format::Line, Step::Turn { id }));
     }
     let fields = fields_of(alloc, bytes)?;
     let fields = fields.as_slice();
@@ -97,6 +100,26 @@ fn ask_of(bytes: &[u8]) -> Option<u32>
     ensures { IfSome result (λ id. Says bytes.now (line.Step format.Line (Ask id))) }
 {
     let digits = after_ask(bytes)?;
+    let id = number_of(digits)?;
+    Some(id)
+}
+
+// What stands behind `turn` and a single blank.
+fn after_turn(bytes: &[u8]) -> Option<&[u8]>
+    ensures { IfSome result (λ rest. bytes.now ≡ codes "turn" ++ 32 ∷ rest.now) }
+{
+    match bytes {
+        [b't', b'u', b'r', b'n', b' ', rest @ ..] => Some(rest),
+        _ => None,
+    }
+}
+
+// The id of a line that turns, where it is spelled with a single blank.
+#[tactic(auto, using(crate::proofs::Heads::turn_says))]
+fn turn_of(bytes: &[u8]) -> Option<u32>
+    ensures { IfSome result (λ id. Says bytes.now (line.Step format.Line (Turn id))) }
+{
+    let digits = after_turn(bytes)?;
     let id = number_of(digits)?;
     Some(id)
 }
