@@ -1,5 +1,4 @@
 pub mod Machines
-pub mod Rows
 pub mod Compilable
 pub mod Layout
 pub mod Paths

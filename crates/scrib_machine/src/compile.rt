@@ -10,9 +10,9 @@ ghost use Rattle.scrib_machine.specs.Compilable.{IsCompilable, Closed, ClosedAll
 ghost use Rattle.scrib_machine.specs.Layout as layout;
 
 use crate::machine::{Edge, Machine, State};
-use crate::row::Row;
 use crate::sorted::sorted;
 use scrib_types::event::Action;
+use scrib_types::few::Few;
 use scrib_types::local::Local;
 use scrib_types::name::Role;
 use scrib_types::shared_message::SharedMessage;
@@ -47,7 +47,7 @@ pub fn compile(alloc: Global, local: &Local) -> Result<Machine, AllocError>
 fn lay(
     alloc: Global,
     local: &Local,
-    rows: &mut Vec<Row>,
+    rows: &mut Vec<Few<Edge>>,
     outer: &mut Vec<State>,
 ) -> Result<State, AllocError>
     requires room { length rows.old.items + nodes (local_of local.now) ≤ most_nodes }
@@ -59,7 +59,7 @@ fn lay(
     match local {
         Local::End => {
             let at = rows.len();
-            rows.push(Row::none(alloc))?;
+            rows.push(Few::none(alloc))?;
             Ok(at as State)
         }
         Local::Var(i) => Ok(outer[outer.len() - 1 - *i as usize]),
@@ -71,14 +71,14 @@ fn lay(
         }
         Local::Send { to, branches } => {
             let at = rows.len();
-            rows.push(Row::none(alloc))?;
+            rows.push(Few::none(alloc))?;
             let nexts = lay_all(alloc, branches.as_slice(), rows, outer)?;
             rows[at] = sends(alloc, to, branches.as_slice(), nexts.as_slice())?;
             Ok(at as State)
         }
         Local::Recv { from, branches } => {
             let at = rows.len();
-            rows.push(Row::none(alloc))?;
+            rows.push(Few::none(alloc))?;
             let nexts = lay_all(alloc, branches.as_slice(), rows, outer)?;
             rows[at] = receptions(alloc, from, branches.as_slice(), nexts.as_slice())?;
             Ok(at as State)
@@ -91,7 +91,7 @@ fn lay(
 fn lay_all(
     alloc: Global,
     branches: &[(SharedMessage, Local)],
-    rows: &mut Vec<Row>,
+    rows: &mut Vec<Few<Edge>>,
     outer: &mut Vec<State>,
 ) -> Result<SmallVec<State, FEW>, AllocError>
     requires room { length rows.old.items + nodes_all (local_branches branches.now) ≤ most_nodes }
@@ -115,7 +115,7 @@ fn sends(
     to: &Role,
     branches: &[(SharedMessage, Local)],
     nexts: &[State],
-) -> Result<Row, AllocError>
+) -> Result<Few<Edge>, AllocError>
     requires each { length nexts.now ≡ length branches.now }
     requires differ { Differ (local_branches branches.now) }
     ensures same { IfOk result (λ row. IsPermutation (layout.edges_of (Sends to.now) (local_branches branches.now) nexts.now) row) }
@@ -123,11 +123,11 @@ fn sends(
 {
     if branches.len() == 1 {
         let edge = send_edge(to, &branches[0].0, nexts[0])?;
-        return Ok(Row::one(edge));
+        return Ok(Few::one(edge));
     }
     let edges = send_edges(alloc, to, branches, nexts)?;
     let edges = sorted(alloc, edges)?;
-    Ok(Row::from_vec(edges))
+    Ok(Few::from_vec(edges))
 }
 
 /// The row of a choice of receptions, likewise.
@@ -136,7 +136,7 @@ fn receptions(
     from: &Role,
     branches: &[(SharedMessage, Local)],
     nexts: &[State],
-) -> Result<Row, AllocError>
+) -> Result<Few<Edge>, AllocError>
     requires each { length nexts.now ≡ length branches.now }
     requires differ { Differ (local_branches branches.now) }
     ensures same { IfOk result (λ row. IsPermutation (layout.edges_of (Receives from.now) (local_branches branches.now) nexts.now) row) }
@@ -144,11 +144,11 @@ fn receptions(
 {
     if branches.len() == 1 {
         let edge = reception_edge(from, &branches[0].0, nexts[0])?;
-        return Ok(Row::one(edge));
+        return Ok(Few::one(edge));
     }
     let edges = reception_edges(alloc, from, branches, nexts)?;
     let edges = sorted(alloc, edges)?;
-    Ok(Row::from_vec(edges))
+    Ok(Few::from_vec(edges))
 }
 
 /// A send of each branch's message, in the order of the branches.

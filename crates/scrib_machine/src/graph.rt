@@ -4,7 +4,7 @@ ghost use Rattle.std.specs.Prelude.{◌≡◌, ℕ, ◌++◌, IfOk, OnOk};
 ghost use Rattle.scrib_machine.specs.Graph as spec;
 
 use crate::machine::{Edge, Machine};
-use crate::row::Row;
+use scrib_types::few::Few;
 use scrib_types::text::{push_action, push_bytes, push_number};
 use std::alloc::{AllocError, Global};
 
@@ -32,7 +32,7 @@ pub fn graph_text(alloc: Global, machine: &Machine) -> Result<Vec<u8>, AllocErro
 }
 
 /// Adds a line for each state.
-fn push_states(out: &mut Vec<u8>, rows: &[Row]) -> Result<(), AllocError>
+fn push_states(out: &mut Vec<u8>, rows: &[Few<Edge>]) -> Result<(), AllocError>
     ensures { OnOk result (out.new.items ≡ out.old.items ++ spec.state_lines 0 rows.now) }
 {
     for (i, row) in rows.iter().enumerate() {
@@ -63,7 +63,7 @@ fn shape_of(edges: &[Edge]) -> &'static [u8]
 }
 
 /// Adds a line for each edge of each state.
-fn push_edges(out: &mut Vec<u8>, rows: &[Row]) -> Result<(), AllocError>
+fn push_edges(out: &mut Vec<u8>, rows: &[Few<Edge>]) -> Result<(), AllocError>
     ensures { OnOk result (out.new.items ≡ out.old.items ++ spec.edge_lines 0 rows.now) }
 {
     for (i, row) in rows.iter().enumerate() {

@@ -4,5 +4,4 @@
 pub mod compile;
 pub mod graph;
 pub mod machine;
-mod row;
 mod sorted;

@@ -5,8 +5,8 @@ ghost use Rattle.scrib_types.specs.Judgement.{ComesBefore};
 ghost use Rattle.scrib_types.specs.declared.event.Action.TheVariants.{Sends, Receives};
 ghost use Rattle.scrib_machine.specs.Machines as machines;
 
-use crate::row::Row;
 use scrib_types::event::Action;
+use scrib_types::few::Few;
 use scrib_types::name::Role;
 use scrib_types::shared_message::SharedMessage;
 use std::marker::Model;
@@ -25,7 +25,7 @@ pub struct Edge {
 /// Contracts see the row of edges of each state, in the order of the states.
 #[derive(Drop)]
 pub struct Machine {
-    rows: Vec<Row>,
+    rows: Vec<Few<Edge>>,
 }
 
 impl Model for Machine {
@@ -42,7 +42,7 @@ impl Model for Machine {
 
 impl Machine {
     /// The machine whose states have these rows of edges.
-    pub(crate) fn from_rows(rows: Vec<Row>) -> Machine
+    pub(crate) fn from_rows(rows: Vec<Few<Edge>>) -> Machine
         requires { machines.IsMachine rows.items }
         ensures { result ≡ rows.items }
     {
@@ -50,7 +50,7 @@ impl Machine {
     }
 
     /// The row of edges of each state.
-    pub(crate) fn rows(&self) -> &[Row]
+    pub(crate) fn rows(&self) -> &[Few<Edge>]
         ensures { result.now ≡ self.now }
     {
         self.rows.as_slice()

@@ -14,6 +14,7 @@ use crate::sorts::RecentSorts;
 use crate::tree::{Block, Import, ModuleTree, ProtocolDeclaration, RoleDeclaration, Statement};
 use crate::word::Word;
 use scrib_lexer::token::{Keyword, Token, TokenKind};
+use scrib_types::few::Few;
 use scrib_types::name::{Dotted, Name};
 use scrib_types::plain::Items;
 use scrib_types::spot::Spot;
@@ -377,16 +378,20 @@ fn message(alloc: Global, tokens: &mut Cursor) -> Result<Statement, ParseFault>
 
 /// `name { "," name }`
 #[tactic(auto, unfolding(crate::specs::Reading::names_of))]
-fn names(alloc: Global, tokens: &mut Cursor) -> Result<Items<Name>, ParseFault>
+fn names(alloc: Global, tokens: &mut Cursor) -> Result<Few<Name>, ParseFault>
     ensures { Gives result (left tokens.new) (reading.names_of (left tokens.old)) }
 {
+    let first = tokens.name(alloc)?;
+    if !tokens.next_is(TokenKind::Comma) {
+        return Ok(Few::one(first));
+    }
     let mut names = Vec::with_capacity(alloc, FEW)?;
-    names.push(tokens.name(alloc)?)?;
+    names.push(first)?;
     while tokens.next_is(TokenKind::Comma) {
         tokens.take(TokenKind::Comma)?;
         names.push(tokens.name(alloc)?)?;
     }
-    Ok(Items::from_vec(names))
+    Ok(Few::from_vec(names))
 }
 
 /// `[ name ] "("`, with the place of the first token.

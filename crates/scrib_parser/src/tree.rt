@@ -1,5 +1,6 @@
 //! Module trees.
 
+use scrib_types::few::Few;
 use scrib_types::name::{Dotted, Name, Role};
 use scrib_types::plain::Items;
 use scrib_types::shared_message::SharedMessage;
@@ -48,7 +49,7 @@ pub enum Statement {
     Message {
         message: SharedMessage,
         from: Role,
-        to: Items<Role>,
+        to: Few<Role>,
         spot: Spot,
     },
     /// A choice of a role between one or more blocks.
@@ -71,7 +72,7 @@ pub enum Statement {
     /// A call of a protocol, the part before the last dot naming an import, with its roles in order.
     Do {
         protocol: Dotted,
-        roles: Items<Role>,
+        roles: Few<Role>,
         spot: Spot,
     },
 }

@@ -1,4 +1,5 @@
 pub mod Names
+pub mod Few
 pub mod Trees
 pub mod GlobalView
 pub mod LocalView

@@ -4,6 +4,7 @@
 pub mod allowed;
 pub mod bytes;
 pub mod event;
+pub mod few;
 pub mod flat;
 pub mod global;
 pub mod local;
