@@ -26,12 +26,10 @@ fn tokens_of_a_module(rt: HostRuntime) -> Result<(), Fail> {
     let first = tokens[0];
     assert_eq!(rt; first.kind, TokenKind::Keyword(Keyword::Module));
     assert_eq!(rt; first.bytes, b"module".as_slice());
-    assert_eq!(rt; first.start, 0);
     assert_eq!(rt; first.spot, spot(1, 1));
     let second = tokens[1];
     assert_eq!(rt; second.kind, TokenKind::Name);
     assert_eq!(rt; second.bytes, b"demo".as_slice());
-    assert_eq!(rt; second.start, 7);
     assert_eq!(rt; second.spot, spot(1, 8));
     Ok(())
 }

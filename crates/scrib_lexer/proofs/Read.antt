@@ -258,13 +258,12 @@ pub lexemes_of-push : (tokens more : List Token) (token : Token) → more ≡ to
 lexemes_of-push tokens more token e = ap lexemes_of e ∙ map-append lexeme_of tokens (token ∷ [])
 
 -- the loop's two steps: over a token, and over what is none
-pub read_token : (text : List ℕ) (i len : ℕ) (e : Element) (k : TokenKind) (tokens more : List Token) (token : Token) → i ≤ length text → e ≡ element.Token k → IsFrontElement (drop i text) e len → IsRead text i (lexemes_of tokens) → more ≡ tokens ++ token ∷ [] → lexeme_of token ≡ record { kind = k; bytes = take len (drop i text); start = i; spot = spot_after (take i text) } → IsRead text (i + len) (lexemes_of more)
+pub read_token : (text : List ℕ) (i len : ℕ) (e : Element) (k : TokenKind) (tokens more : List Token) (token : Token) → i ≤ length text → e ≡ element.Token k → IsFrontElement (drop i text) e len → IsRead text i (lexemes_of tokens) → more ≡ tokens ++ token ∷ [] → lexeme_of token ≡ record { kind = k; bytes = take len (drop i text); spot = spot_after (take i text) } → IsRead text (i + len) (lexemes_of more)
 read_token text i len e k tokens more token l is f h pushed same =
-    let whole : length (take i text) ≡ i = length-take-le i text l in
     let next = read_more text i len e (lexemes_of tokens) f h in
     let bytes : List ℕ = take len (drop i text) in
     let one : token_at (take i text) e bytes ≡ lexeme_of token ∷ [] =
-    ap (λ x. token_at (take i text) x bytes) is ∙ ap (λ x. record { kind = k; bytes = bytes; start = x; spot = spot_after (take i text) } ∷ []) whole ∙ ap (λ x. x ∷ []) (sym same) in
+    ap (λ x. token_at (take i text) x bytes) is ∙ ap (λ x. x ∷ []) (sym same) in
     subst (λ x. IsRead text (i + len) x) (ap (λ x. lexemes_of tokens ++ x) one ∙ sym (lexemes_of-push tokens more token pushed)) next
 
 no_token_at : (before bytes : List ℕ) (e : Element) → ((k : TokenKind) → e ≡ element.Token k → ⊥) → token_at before e bytes ≡ []

@@ -24,7 +24,7 @@ spot_after before =
 
 -- the token that a piece behind `before` is, if it is one
 abbrev pub token_at : (before : List ℕ) → Element → (bytes : List ℕ) → List Lexeme
-token_at before (element.Token k) bytes = record { kind = k; bytes = bytes; start = length before; spot = spot_after before } ∷ []
+token_at before (element.Token k) bytes = record { kind = k; bytes = bytes; spot = spot_after before } ∷ []
 token_at before _ bytes = []
 
 -- the tokens among pieces that stand behind `before`, in order

@@ -64,12 +64,7 @@ pub fn lex<'a>(alloc: Global, text: &'a [u8]) -> Result<Vec<Token<'a>>, LexFault
         let bytes = &text[start..start + len];
         line = line.past_element(element, start, bytes);
         if let Element::Token(kind) = element {
-            tokens.push(Token {
-                kind,
-                bytes,
-                start,
-                spot,
-            })?;
+            tokens.push(Token { kind, bytes, spot })?;
         }
         start += len;
     }

@@ -55,11 +55,10 @@ pub enum Element {
     Token(TokenKind),
 }
 
-/// A token of a text: its kind, its bytes, the index of its first byte and that byte's place.
+/// A token of a text: its kind, its bytes and the place of the first of them.
 #[derive(Clone, Copy)]
 pub struct Token<'a> {
     pub kind: TokenKind,
     pub bytes: &'a [u8],
-    pub start: usize,
     pub spot: Spot,
 }

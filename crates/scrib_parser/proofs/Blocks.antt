@@ -90,7 +90,7 @@ statement_no_or _ e = absurd cc
 
 -- the jump with which a statement may begin
 a_token : TokenKind → Lexeme
-a_token kind = record { kind = kind; bytes = 97 ∷ []; start = 0; spot = record { line = 1; column = 1 } }
+a_token kind = record { kind = kind; bytes = 97 ∷ []; spot = record { line = 1; column = 1 } }
 
 abbrev a_jump : List Lexeme
 a_jump = a_token Name ∷ a_token Semicolon ∷ []

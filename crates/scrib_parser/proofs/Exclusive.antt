@@ -195,9 +195,9 @@ word_kind Name bytes word h = (refl, h)
 word_kind _ bytes word h = absurd cc
 
 -- a left-out word, and what stands behind it
-module _ (bytes : List ℕ) (start : ℕ) (spot : Spot) (u : Lexeme) (word : LeftOutWord) (told : statement_word bytes ≡ Some word) where
+module _ (bytes : List ℕ) (spot : Spot) (u : Lexeme) (word : LeftOutWord) (told : statement_word bytes ≡ Some word) where
   abbrev w : Lexeme
-  w = record { kind = Name; bytes = bytes; start = start; spot = spot }
+  w = record { kind = Name; bytes = bytes; spot = spot }
 
   open_paren : same_kind OpenParen u.kind ≡ true → opening_of (w ∷ u ∷ []) ≡ Ok ((Some bytes, spot), [])
   unfolding opening_of named_opening_of placed_name_of paren_behind
@@ -241,8 +241,8 @@ module _ (bytes : List ℕ) (start : ℕ) (spot : Spot) (u : Lexeme) (word : Lef
 no_statement : (front : List Lexeme) (w u : Lexeme) (word : LeftOutWord) → whole_of 64 (front ++ w ∷ u ∷ []) ≡ Err (Unexpected u.spot) → left_out_statement w ≡ Some word → MayStand go front → ⊥
 no_statement front w u word e h may =
     let k = word_kind w.kind w.bytes word h in
-    let same : w ≡ record { kind = Name; bytes = w.bytes; start = w.start; spot = w.spot } = λ i. record { kind = k.0 i; bytes = w.bytes; start = w.start; spot = w.spot } in
-    not_told w.bytes w.start w.spot u word k.1 front (ap (λ v. whole_of 64 (front ++ v ∷ u ∷ [])) (sym same) ∙ e) may
+    let same : w ≡ record { kind = Name; bytes = w.bytes; spot = w.spot } = λ i. record { kind = k.0 i; bytes = w.bytes; spot = w.spot } in
+    not_told w.bytes w.spot u word k.1 front (ap (λ v. whole_of 64 (front ++ v ∷ u ∷ [])) (sym same) ∙ e) may
 
 -- ---- both
 

@@ -55,7 +55,7 @@ paren_taken op (t ∷ ts) x rest e = by (same_kind OpenParen t.kind) refl e
 
 -- a parenthesis at any place
 some_paren : Lexeme
-some_paren = record { kind = OpenParen; bytes = []; start = 0; spot = record { line = 1; column = 1 } }
+some_paren = record { kind = OpenParen; bytes = []; spot = record { line = 1; column = 1 } }
 
 refused_by : (op : List ℕ × Spot) (t : Lexeme) (ts : List Lexeme) (o : Option LeftOutWord) (f : ParseFault) → statement_word op.0 ≡ o → refusal_behind o op.1 t ≡ f → IsCause (behind_name op) [] (t ∷ ts) f
 refused_by op t ts None f o e = subst (λ (g : ParseFault). IsCause (behind_name op) [] (t ∷ ts) g) e (t, ts, refl, refl)

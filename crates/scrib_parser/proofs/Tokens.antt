@@ -150,7 +150,7 @@ somewhere = record { line = 1; column = 1 }
 
 -- a token of this kind, with these bytes
 some_token : TokenKind → List ℕ → Lexeme
-some_token kind bytes = record { kind = kind; bytes = bytes; start = 0; spot = somewhere }
+some_token kind bytes = record { kind = kind; bytes = bytes; spot = somewhere }
 
 -- a token of this kind, and its place
 pub token_reads : (kind : TokenKind) → Reads never (token_of kind) (token_at kind) (token_at kind) free

@@ -96,7 +96,7 @@ loop-start-preserved c =
     let old = c.loop-start.tokens.items in
     let more : IsRead text (i + len) (lexemes_of c.match-element.tokens.items) =
     elim c.match-element.branch [
-      | in-Token+in_ok-push w ↦ read_token text i len e w.in-Token.kind old c.match-element.tokens.items _ c.loop-start.invariant.within w.in-Token.is f c.loop-start.invariant.read (ap (λ v. v.items) w.tokens-is ∙ w.in_ok-push.ensures.items) (λ j. record { kind = w.in-Token.kind; bytes = bytes j; start = i; spot = (c.spot-spot.ensures ∙ c.loop-start.invariant.place) j })
+      | in-Token+in_ok-push w ↦ read_token text i len e w.in-Token.kind old c.match-element.tokens.items _ c.loop-start.invariant.within w.in-Token.is f c.loop-start.invariant.read (ap (λ v. v.items) w.tokens-is ∙ w.in_ok-push.ensures.items) (λ j. record { kind = w.in-Token.kind; bytes = bytes j; spot = (c.spot-spot.ensures ∙ c.loop-start.invariant.place) j })
       | in_default w ↦ subst (λ v. IsRead text (i + len) (lexemes_of v.items)) (sym w.tokens-is) (read_other text i len e (lexemes_of old) w.in_default.not-Token f c.loop-start.invariant.read)
     ] in
     record {
