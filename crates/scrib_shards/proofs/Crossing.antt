@@ -32,6 +32,7 @@ use Rattle.indexmap.proofs.map.IndexMap.TheSendSync as IndexMaps
 use Rattle.scrib_types.proofs.event.Action.TheSendSync as Actions
 use Rattle.scrib_types.proofs.event.Event.TheSendSync as Events
 use Rattle.scrib_types.proofs.event.Verdict.TheSendSync as Verdicts
+use Rattle.scrib_types.proofs.few.Few.TheSendSync as Fews
 use Rattle.scrib_types.proofs.message.Message.TheSendSync as Messages
 use Rattle.scrib_types.proofs.message.Payload.TheSendSync as Payloads
 use Rattle.scrib_types.proofs.name.Dotted.TheSendSync as Dotteds
@@ -125,6 +126,8 @@ ruleset plain = (
   Verdicts.the_field_sync,
   Verdicts.the_send,
   Verdicts.the_sync,
+  Fews.the_send,
+  Fews.the_sync,
   Messages.the_field_send,
   Messages.the_field_sync,
   Messages.the_send,
