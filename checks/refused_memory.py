@@ -1,13 +1,11 @@
 #!/usr/bin/env python3
 """Refuses each request for memory in turn, in worked examples.
 
-Usage: refused_memory.py PROGRAM [ROW..]. PROGRAM is built from `memory_rows/`, whose files end in `.txt` here, since
-they are of no crate of this repository, and the gate would stop at them: a crate that stands on all that `scrib_run`
-does, and on scrib_run and scrib_queues, scrib_machine, scrib_local. It makes the calls of a row; where one is refused
-memory it compares what stands then with what stood before, makes the call once more, and compares each answer with
-the row's. Here it runs again and again, and request 1, then 2, then 3 and so on is refused (by refused_request.c.txt,
-which the C compiler `cc` builds and the loader puts before the C library), until a run meets no refusal. Prints for
-each row how many requests were refused, and ends with status 1 where a run didn't answer as the row.
+Usage: refused_memory.py PROGRAM [ROW..]. PROGRAM is that of the crate `scrib_memory_rows`. It makes the calls of a row;
+where one is refused memory it compares what stands then with what stood before, makes the call once more, and compares
+each answer with the row's. Here it runs again and again, and request 1, then 2, then 3 and so on is refused (by
+refused_request.c.txt, which the C compiler `cc` builds and the loader puts before the C library), until a run meets no
+refusal. Prints for each row how many requests were refused, and ends with status 1 where a run didn't answer as the row.
 """
 import os
 import subprocess

@@ -1,33 +1,34 @@
 //! Rows of the front end, of machines and of queues.
 
+ghost use Rattle.std.specs.Prelude.{◌≡◌, IfOk};
+
 use crate::core_rows::is_refused;
 use crate::fault::{RowFault, again, check};
 use crate::making::{event_of, step_of};
 use crate::rows::{DEMO, PUT_DEMO, PUT_TWO_OF_THREE};
 use crate::script_rows::page;
 use scrib_cli::fault::ScriptFault;
+use scrib_cli::machine::machine_text;
 use scrib_cli::project::project_text;
 use scrib_core::monitor::Core;
 use scrib_lexer::fault::LexFault;
 use scrib_lexer::lex::lex;
-use scrib_local::projection::project_type;
-use scrib_machine::compile::compile;
-use scrib_machine::machine::{Machine, State};
 use scrib_queues::queues::Queues;
-use scrib_types::event::{Action, Event};
+use scrib_types::event::Event;
 use scrib_types::global::GlobalType;
 use scrib_types::plain::Items;
 use scrib_types::profile::Profile;
 use scrib_types::protocol::Protocol;
 use scrib_types::shared_message::SharedMessage;
-use scrib_types::text::push_action;
 use std::alloc::Global;
+
+// The machine of A in the demonstration.
+const MACHINE: &str =
+    "digraph machine {\n  rankdir=LR;\n  node [shape=circle];\n  start [shape=point];\n  start -> 0;\n  0;\n  1;\n  2 [shape=doublecircle];\n  0 -> 1 [label=\"B!hello()\"];\n  1 -> 2 [label=\"B?bye()\"];\n}\n";
 
 fn check_tokens(alloc: Global) -> Result<(), RowFault> {
     match lex(alloc, DEMO.as_bytes()) {
-        Ok(tokens) => check(
-            tokens.len() == 31 && tokens[0].start == 0 && tokens[0].bytes.len() == 6,
-        ),
+        Ok(tokens) => check(tokens.len() == 31 && tokens[0].bytes.len() == 6),
         Err(LexFault::OutOfMemory) => Err(RowFault::Memory),
         Err(_) => Err(RowFault::Wrong),
     }
@@ -39,18 +40,50 @@ fn texts(alloc: Global) -> Result<Vec<Option<Items<u8>>>, RowFault> {
     Ok(texts)
 }
 
-// What the role's projection prints, or nothing where memory is refused.
-fn check_projection(alloc: Global, role: &str, want: &str) -> Result<(), RowFault> {
-    let texts = again(|| texts(alloc))?;
-    let mut written = page(alloc)?;
-    match project_text(alloc, Profile::Plain, "demo.Hello", role, &texts, &mut written) {
-        Ok(_) => check(written.as_slice() == want.as_bytes()),
+// What was to be written is written, or nothing where memory is refused.
+fn check_written(
+    answered: Result<bool, ScriptFault>,
+    written: &[u8],
+    want: &str,
+) -> Result<(), RowFault> {
+    match answered {
+        Ok(_) => check(written == want.as_bytes()),
         Err(ScriptFault::OutOfMemory) => {
             check(written.is_empty())?;
             Err(RowFault::Memory)
         }
         Err(_) => Err(RowFault::Wrong),
     }
+}
+
+// What the role's projection prints.
+fn check_projection(alloc: Global, role: &str, want: &str) -> Result<(), RowFault> {
+    let texts = again(|| texts(alloc))?;
+    let mut written = page(alloc)?;
+    let answered = project_text(
+        alloc,
+        Profile::Plain,
+        "demo.Hello",
+        role,
+        &texts,
+        &mut written,
+    );
+    check_written(answered, &written, want)
+}
+
+// What the machine of A prints.
+fn check_machine(alloc: Global) -> Result<(), RowFault> {
+    let texts = again(|| texts(alloc))?;
+    let mut written = page(alloc)?;
+    let answered = machine_text(
+        alloc,
+        Profile::Plain,
+        "demo.Hello",
+        "A",
+        &texts,
+        &mut written,
+    );
+    check_written(answered, &written, MACHINE)
 }
 
 // A core with a conversation of the one protocol of the module.
@@ -71,36 +104,12 @@ fn protocol_of(core: &Core) -> Result<&Protocol, RowFault> {
     }
 }
 
-// The state to which the one edge of this state leads, whose action has this text.
-fn behind(alloc: Global, machine: &Machine, state: State, text: &str) -> Result<State, RowFault> {
-    let [edge] = machine.edges(state) else {
-        return Err(RowFault::Wrong);
-    };
-    check(again(|| action_text(alloc, &edge.action))?.as_slice() == text.as_bytes())?;
-    Ok(edge.next)
-}
-
-fn action_text(alloc: Global, action: &Action) -> Result<Vec<u8>, RowFault> {
-    let mut text = Vec::new(alloc);
-    push_action(&mut text, action)?;
-    Ok(text)
-}
-
 /// The tokens of a module, the projections of its protocol, and the machine of one.
 pub(crate) fn run_front_end(alloc: Global) -> Result<(), RowFault> {
     again(|| check_tokens(alloc))?;
     again(|| check_projection(alloc, "A", "B!hello().B?bye().end\n"))?;
     again(|| check_projection(alloc, "B", "A?hello().A!bye().end\n"))?;
-    let core = again(|| core_of(alloc, PUT_DEMO, "open 1 demo.Hello"))?;
-    let protocol = protocol_of(&core)?;
-    let sender = &protocol.roles()[0];
-    let local = again(|| project_type(alloc, protocol.global(), sender, Profile::Plain)?.ok_or(
-        RowFault::Wrong,
-    ))?;
-    let machine = again(|| Ok(compile(alloc, &local)?))?;
-    let sent = behind(alloc, &machine, machine.start(), "B!hello()")?;
-    let received = behind(alloc, &machine, sent, "B?bye()")?;
-    check(machine.edges(received).is_empty())
+    again(|| check_machine(alloc))
 }
 
 fn message_of(alloc: Global) -> Result<SharedMessage, RowFault> {
@@ -114,17 +123,36 @@ fn is(front: Option<&SharedMessage>, message: &SharedMessage) -> bool {
     front.is_some_and(|front| front.equal(message))
 }
 
-/// A queue and its copy.
-pub(crate) fn run_queues(alloc: Global) -> Result<(), RowFault> {
-    let message = again(|| message_of(alloc))?;
-    let pushed = again(|| Ok(message.copy()?))?;
+// Queues of two roles, with the message in one.
+fn queues_with(alloc: Global, message: SharedMessage) -> Result<Queues, RowFault>
+    ensures { IfOk result (λ queues. queues.roles ≡ 2) }
+{
     let mut queues = Queues::new(alloc, 2);
     if queues.reserve(0, 1).is_err() {
         check(queues.front(0, 1).is_none())?;
         queues.reserve(0, 1)?;
     }
-    queues.push(0, 1, pushed);
-    let copy = again(|| Ok(queues.copy(alloc)?))?;
+    queues.push(0, 1, message);
+    Ok(queues)
+}
+
+// The copy of the queues.
+fn copied(alloc: Global, queues: &Queues) -> Result<Queues, RowFault>
+    ensures { IfOk result (λ copy. copy.roles ≡ queues.now.roles) }
+{
+    if let Ok(copy) = queues.copy(alloc) {
+        return Ok(copy);
+    }
+    let copy = queues.copy(alloc)?;
+    Ok(copy)
+}
+
+/// A queue and its copy.
+pub(crate) fn run_queues(alloc: Global) -> Result<(), RowFault> {
+    let message = again(|| message_of(alloc))?;
+    let pushed = again(|| Ok(message.copy()?))?;
+    let mut queues = queues_with(alloc, pushed)?;
+    let copy = copied(alloc, &queues)?;
     check(is(queues.front(0, 1), &message) && is(copy.front(0, 1), &message))?;
     check(queues.front(1, 0).is_none())?;
     let popped = queues.pop(0, 1);

@@ -43,7 +43,9 @@ impl From<io::Error> for RowFault {
 }
 
 /// Makes the call, and where memory is refused makes it once more.
-pub(crate) fn again<T, F: Fn() -> Result<T, RowFault>>(call: F) -> Result<T, RowFault> {
+pub(crate) fn again<T, F: Fn() -> Result<T, RowFault>>(call: F) -> Result<T, RowFault>
+    requires { F.IsAlwaysCallable call }
+{
     match call() {
         Err(RowFault::Memory) => call(),
         answer => answer,
