@@ -35,6 +35,7 @@ printed_edges ps = map (λ (p : Printed). p.edge) ps
 abbrev pub AllPrinted : List Printed → Type 0
 AllPrinted ps = All (λ (p : Printed). p.text.items ≡ action_text p.edge.action) ps
 
+-- the edge of an action that leads to a state
 abbrev pub edge_of : Action → ℕ → Edge
 edge_of a k = record { action = a; next = k }
 

@@ -4,5 +4,5 @@ use Rattle.scrib_types.specs.declared.few.Kept.{Kept}
 use Rattle.scrib_types.specs.declared.few.Kept.TheVariants.{One, Listed}
 
 abbrev pub items_in : {T : Type 0} → Kept T → List T
-items_in (One e) = e ∷ []
-items_in (Listed es) = es
+items_in (One x) = x ∷ []
+items_in (Listed xs) = xs

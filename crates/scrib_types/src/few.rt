@@ -15,7 +15,8 @@ enum Kept<T> {
     Listed(Items<T>),
 }
 
-/// A list whose item, where it has one alone, takes no memory of its own. Contracts see the list of the items.
+/// A list that takes no memory of its own where it is made of one item, of a type of less than 2^63 bytes. Contracts
+/// see the list of the items.
 #[derive(Drop)]
 pub struct Few<T> {
     kept: Kept<T>,
@@ -43,7 +44,7 @@ impl<T> Few<T> {
         }
     }
 
-    /// This item alone.
+    /// This item alone, without memory of its own.
     pub fn one(item: T) -> Few<T>
         ensures { result ≡ item ∷ [] }
     {
@@ -52,7 +53,7 @@ impl<T> Few<T> {
         }
     }
 
-    /// These items.
+    /// These items, in the memory that they have.
     pub fn from_vec(items: Vec<T>) -> Few<T>
         ensures { result ≡ items.items }
     {
