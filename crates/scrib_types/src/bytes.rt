@@ -3,7 +3,7 @@
 ghost use Rattle.std.specs.Prelude.{◌≡◌, ◌↔◌, IsTrue};
 
 /// Whether both are the same bytes. Most texts here are too short for a comparison that is made for long ones: eight
-/// bytes are compared at a time, and then one by one.
+/// bytes are compared at a time, then four, and then one by one.
 pub fn same_bytes(a: &[u8], b: &[u8]) -> bool
     ensures { IsTrue result ↔ (a.now ≡ b.now) }
 {
@@ -23,10 +23,21 @@ pub fn same_bytes(a: &[u8], b: &[u8]) -> bool
         left = left_rest;
         right = right_rest;
     }
-    same_one_by_one(left, right)
+    same_few(left, right)
 }
 
 /// Whether both are the same bytes, of which there are few.
+fn same_few(a: &[u8], b: &[u8]) -> bool
+    ensures { IsTrue result ↔ (a.now ≡ b.now) }
+{
+    let ([a0, a1, a2, a3, a_rest @ ..], [b0, b1, b2, b3, b_rest @ ..]) = (a, b) else {
+        return same_one_by_one(a, b);
+    };
+    let word = u32::from_le_bytes([*a0, *a1, *a2, *a3]);
+    word == u32::from_le_bytes([*b0, *b1, *b2, *b3]) && same_one_by_one(a_rest, b_rest)
+}
+
+/// Whether both are the same bytes, one by one.
 fn same_one_by_one(a: &[u8], b: &[u8]) -> bool
     ensures { IsTrue result ↔ (a.now ≡ b.now) }
 {
