@@ -12,7 +12,7 @@ use crate::telling::Telling;
 use crate::writing::write_out;
 use scrib_core::reply::Reply;
 use scrib_report::json::json;
-use scrib_report::line::push_line;
+use scrib_report::line::push_whole_line;
 use scrib_script::format::Format;
 use scrib_types::text::push_bytes;
 use std::alloc::{AllocError, Global};
@@ -36,13 +36,13 @@ pub fn push_reply(text: &mut Vec<u8>, reply: &Reply, format: Format) -> Result<(
     ensures { OnOk result (text.new.items ≡ text.old.items ++ reply_text format reply.now) }
 {
     match format {
-        Format::Line => push_line(text, reply)?,
+        Format::Line => push_whole_line(text, reply),
         Format::Json => {
             let object = json(*text.allocator(), reply)?;
             push_bytes(text, object.as_slice())?;
+            push_bytes(text, b"\n")
         }
     }
-    push_bytes(text, b"\n")
 }
 
 /// Writes the reply in this format. Its text is made in this buffer, whose bytes so far are dropped.

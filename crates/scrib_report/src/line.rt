@@ -1,6 +1,6 @@
 //! The line of a reply.
 
-ghost use Rattle.std.specs.Prelude.{◌≡◌, ◌++◌, IfOk, OnOk};
+ghost use Rattle.std.specs.Prelude.{◌≡◌, ◌++◌, ◌∷◌, [], IfOk, OnOk};
 ghost use Rattle.scrib_report.specs.Lines as lines;
 
 use crate::edit::{edit_word, push_change};
@@ -8,6 +8,7 @@ use crate::fault::push_refusal;
 use crate::verdict::push_told;
 use scrib_core::reply::Reply;
 use scrib_library::changes::Change;
+use scrib_types::event::{Told, Verdict};
 use scrib_types::text::{push_bytes, push_dotted, push_number};
 use std::alloc::{AllocError, Global};
 
@@ -74,6 +75,33 @@ pub fn push_line(out: &mut Vec<u8>, reply: &Reply) -> Result<(), AllocError>
         Reply::Refused(refusal) => {
             push_bytes(out, b"refused ")?;
             push_refusal(out, refusal)
+        }
+    }
+}
+
+/// Adds the line that tells the reply, in ASCII bytes, with the line feed behind it.
+///
+/// # Errors
+/// `AllocError` where memory for the longer text was refused.
+#[tactic(auto, unfolding(crate::specs::Lines::line_of, crate::specs::Lines::told_text, crate::specs::Lines::verdict_text))]
+pub fn push_whole_line(out: &mut Vec<u8>, reply: &Reply) -> Result<(), AllocError>
+    ensures { OnOk result (out.new.items ≡ out.old.items ++ lines.line_of reply.now ++ 10 ∷ []) }
+{
+    match reply {
+        // most replies of a long script: in as few pieces as there are
+        Reply::Noted {
+            id,
+            place,
+            told: Told::Judged(Verdict::Permitted),
+        } => {
+            push_number(out, u64::from(*id))?;
+            push_bytes(out, b".")?;
+            push_number(out, *place as u64)?;
+            push_bytes(out, b" permitted\n")
+        }
+        _ => {
+            push_line(out, reply)?;
+            push_bytes(out, b"\n")
         }
     }
 }
