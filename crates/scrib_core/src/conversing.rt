@@ -38,7 +38,8 @@ pub fn open(
     if records.len() >= most {
         return Reply::Refused(Refusal::TooManyConversations);
     }
-    let (Ok(record), Ok(told)) = (begin(alloc, name, version), name.copy()) else {
+    let shared = library.shared_name(name);
+    let (Ok(record), Ok(told)) = (begin(alloc, shared, version), shared.copy()) else {
         return Reply::Refused(Refusal::OutOfMemory);
     };
     match records.insert(id, record) {
@@ -49,6 +50,8 @@ pub fn open(
 
 /// Notes the event. Answers `Noted`, or refuses with `NoConversation`, `LogFull` or `OutOfMemory`, the first that is
 /// due, and changes nothing.
+// Its reply is made where the caller wants it: moved, it would wait until the event is in memory.
+#[inline(always)]
 pub fn note(
     library: &Library,
     records: &mut IndexMap<u32, Record>,
@@ -62,13 +65,16 @@ pub fn note(
     let Some(record) = records.get_mut(&id) else {
         return Reply::Refused(Refusal::NoConversation);
     };
-    let present = library.present(record.name());
+    let (near, present) = library.present_near(record.near(), record.name());
     match record.note(present, comparison, event) {
-        Ok(told) => Reply::Noted {
-            id,
-            place: record.log().len(),
-            told,
-        },
+        Ok(told) => {
+            record.keep_near(near);
+            Reply::Noted {
+                id,
+                place: record.log().len(),
+                told,
+            }
+        }
         Err(NoteFault::LogFull) => Reply::Refused(Refusal::LogFull),
         Err(NoteFault::OutOfMemory) => Reply::Refused(Refusal::OutOfMemory),
     }

@@ -76,6 +76,7 @@ impl Core {
     /// Makes one step and answers it. A refused step changes nothing. What is told of a conversation that isn't marked
     /// stale is the verdict on its whole log under what its protocol means now; it is marked only where that changed
     /// since it was judged.
+    #[inline(always)]
     #[tactic(auto, using(crate::proofs::Runs::permits_runs))]
     pub fn apply(&mut self, step: Step) -> Reply
         ensures answered { IsAnswered (state_of self.old) step result (state_of self.new) }
@@ -202,6 +203,7 @@ impl Core {
         )
     }
 
+    #[inline(always)]
     fn note(&mut self, id: u32, event: Event) -> Reply
         ensures answered { IsAnswered (state_of self.old) (Note id event) result (state_of self.new) }
         ensures memory { IsDue (state_of self.old).world (Note id event) result }

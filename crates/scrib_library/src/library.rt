@@ -17,7 +17,7 @@ use crate::profiles::check_change;
 use crate::read::read;
 use crate::removal::free_place;
 use crate::shelf::Shelf;
-use crate::versions::{NamedVersion, make_all, version_near};
+use crate::versions::{NamedVersion, found_near, make_all, version_near};
 use scrib_record::version::Version;
 use scrib_types::name::Dotted;
 use scrib_types::profile::Profile;
@@ -189,6 +189,27 @@ impl Library {
         ensures number { IsNumber self.now name.now (option_map (λ v. number_of v.now) result) }
     {
         version_near(&self.versions, self.hints.place_of(name), name)
+    }
+
+    /// The version of a protocol that is there, by its full name, behind the place where it stands or would stand. It
+    /// is looked for first at the place that is given, which may be any: who asks often for one name gives the place
+    /// that was told last.
+    pub fn present_near(&self, near: usize, name: &Dotted) -> (usize, Option<&Version>)
+        ensures meaning { IsMeaning self.now.modules name.now (option_map (λ v. meaning_of v.now) result.1) }
+        ensures number { IsNumber self.now name.now (option_map (λ v. number_of v.now) result.1) }
+    {
+        found_near(&self.versions, near, name)
+    }
+
+    /// The name, in the library's own copy where it declares a protocol of this name, so that all who keep it share
+    /// one.
+    pub fn shared_name<'a>(&'a self, name: &'a Dotted) -> &'a Dotted
+        ensures { result.now ≡ name.now }
+    {
+        match self.versions.get(self.hints.place_of(name)) {
+            Some(named) if named.name.equal(name) => &named.name,
+            _ => name,
+        }
     }
 
     /// How many versions were ever used.

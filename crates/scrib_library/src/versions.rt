@@ -37,9 +37,23 @@ pub fn version_near<'a>(
     requires { AreInOrder (version_names versions.now) }
     ensures { IsVersion versions.now name.now (option_copied result) }
 {
+    let (_, version) = found_near(versions, near, name);
+    version
+}
+
+/// The version of the protocol of this name, which is looked for at this place first, behind the place where it stands
+/// or would stand.
+pub fn found_near<'a>(
+    versions: &'a [NamedVersion],
+    near: usize,
+    name: &Dotted,
+) -> (usize, Option<&'a Version>)
+    requires { AreInOrder (version_names versions.now) }
+    ensures { IsVersion versions.now name.now (option_copied result.1) }
+{
     match place_near(versions, near, name) {
-        Ok(at) => Some(&versions[at].version),
-        Err(_) => None,
+        Ok(at) => (at, Some(&versions[at].version)),
+        Err(at) => (at, None),
     }
 }
 

@@ -28,6 +28,8 @@ pub struct Record {
     name: Dotted,
     log: Vec<Event>,
     judging: Judging,
+    // Where the version of the protocol was found last. Nothing rests on it.
+    near: usize,
 }
 
 impl Model for Record {
@@ -58,6 +60,7 @@ impl Record {
             name,
             log: Vec::new(alloc),
             judging,
+            near: 0,
         })
     }
 
@@ -66,6 +69,18 @@ impl Record {
         ensures { result.now ≡ self.now.name }
     {
         &self.name
+    }
+
+    /// The place that was kept last, or 0: a hint for who looks the version of the protocol up, on which nothing rests.
+    pub fn near(&self) -> usize {
+        self.near
+    }
+
+    /// Keeps a place where the version of the protocol may be found the next time.
+    pub fn keep_near(&mut self, near: usize)
+        ensures { self.new ≡ self.old }
+    {
+        self.near = near;
     }
 
     /// The events, oldest first.
@@ -81,6 +96,7 @@ impl Record {
     ///
     /// # Errors
     /// `LogFull` where the log has 1,048,576 events, and else `OutOfMemory` where memory was refused. Nothing changes.
+    #[inline(always)]
     pub fn note(
         &mut self,
         present: Option<&Version>,
@@ -93,17 +109,23 @@ impl Record {
         ensures fault { IfErr result (NoteFails self.old) }
         ensures err { OnErr result (self.new ≡ self.old) }
     {
-        if self.log.len() >= MAX_EVENTS {
+        let events = self.log.len();
+        if events >= MAX_EVENTS {
             return Err(NoteFault::LogFull);
         }
         self.log.reserve(1)?;
-        if self.judging.is_stale(present, comparison, self.log.len()) {
-            self.log.push_reserved(event);
+        // Appended before it is judged, so that the judgement doesn't wait for the end of a long log to come from memory.
+        self.log.push_reserved(event);
+        if self.judging.is_stale(present, comparison, events) {
             return Ok(Told::Stale);
         }
-        let told = self.judging.note(&self.log, &event)?;
-        self.log.push_reserved(event);
-        Ok(told)
+        match self.judging.note(&self.log[..events], &self.log[events]) {
+            Ok(told) => Ok(told),
+            Err(_) => {
+                self.log.pop();
+                Err(NoteFault::OutOfMemory)
+            }
+        }
     }
 
     /// Judges anew what is stale: withdrawn at once where no version is present, from event 1 where another version is

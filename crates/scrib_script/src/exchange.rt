@@ -19,6 +19,7 @@ pub(crate) struct Exchange {
 
 impl Exchange {
     /// An equal exchange, which shares its names and its message.
+    #[inline(always)]
     pub fn copy(&self) -> Result<Exchange, AllocError>
         ensures { IfOk result (λ copy. copy ≡ self.now) }
     {

@@ -52,6 +52,7 @@ impl Reader {
     ///
     /// # Errors
     /// `AllocError` where memory for the fields or for the step was refused.
+    #[inline(always)]
     pub fn line(&mut self, bytes: &[u8]) -> Result<Line, AllocError>
         ensures { IfOk result (Says bytes.now) }
     {

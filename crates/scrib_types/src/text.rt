@@ -14,6 +14,7 @@ use std::alloc::AllocError;
 ///
 /// # Errors
 /// `AllocError` where memory for the longer text is refused, here and in the functions below.
+#[inline(always)]
 pub fn push_bytes(out: &mut Vec<u8>, bytes: &[u8]) -> Result<(), AllocError>
     ensures { OnOk result (out.new.items ≡ out.old.items ++ bytes.now) }
 {
@@ -21,6 +22,7 @@ pub fn push_bytes(out: &mut Vec<u8>, bytes: &[u8]) -> Result<(), AllocError>
 }
 
 /// Adds the number in decimal digits.
+#[inline(always)]
 pub fn push_number(out: &mut Vec<u8>, number: u64) -> Result<(), AllocError>
     ensures { OnOk result (out.new.items ≡ out.old.items ++ decimal number) }
 {

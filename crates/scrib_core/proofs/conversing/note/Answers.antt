@@ -11,8 +11,8 @@ use Rattle.scrib_core.proofs.conversing.note.Goals as goal
 pub note-requires : goal.note-requires
 note-requires c =
     let there : record_at c.args.records.now.entries c.args.id ≡ Some c.in-Some.record.now = sym c.get_mut.ensures.value ∙ ap option_copied_mut c.in-Some.is in
-    let here = subst (λ (n : List (List ℕ)). IsPresent c.args.library.now n (option_copied c.present-present.result)) c.name.ensures (present_copied c.args.library.now c.name.result.now c.present-present.result c.present-present.ensures.meaning c.present-present.ensures.number) in
-    serves_for c.args.comparison c.args.library.now c.args.records.now.entries c.args.id c.in-Some.record.now (option_copied c.present-present.result) c.requires there here
+    let here = subst (λ (n : List (List ℕ)). IsPresent c.args.library.now n (option_copied c.present_near-near.result.1)) c.name.ensures (present_copied c.args.library.now c.name.result.now c.present_near-near.result.1 c.present_near-near.ensures.meaning c.present_near-near.ensures.number) in
+    serves_for c.args.comparison c.args.library.now c.args.records.now.entries c.args.id c.in-Some.record.now (option_copied c.present_near-near.result.1) c.requires there here
 
 pub returns-in-Err-LogFull : goal.returns-in-Err-LogFull
 returns-in-Err-LogFull c =
