@@ -1,6 +1,6 @@
 -- First-in-first-out queues, one for each ordered pair of roles, which stand by their positions. One queue is
 -- called a channel, as in communicating finite-state machines (Brand and Zafiropulo, JACM 1983).
-use Rattle.std.specs.Prelude.{◌≡◌, ◌==◌, ℕ, Bool, false, ◌&&◌, IsTrue, List, [], ◌∷◌, if◌then◌else◌}
+use Rattle.std.specs.Prelude.{◌≡◌, ◌==◌, ℕ, Bool, true, false, ◌&&◌, IsTrue, List, [], ◌∷◌, if◌then◌else◌}
 use Rattle.scrib_types.specs.declared.message.Message.{Message}
 use Rattle.scrib_queues.specs.declared.queues.Pair.{Pair}
 
@@ -51,3 +51,8 @@ KeepsRoom old new = (p q : ℕ) → IsTrue (has_room old p q) → IsTrue (has_ro
 abbrev pub SameElsewhere : ℕ → ℕ → Channels → Channels → Type 0
 SameElsewhere p q old new =
     (from to : ℕ) → ¬ ((from ≡ p) × (to ≡ q)) → (queue_of new from to ≡ queue_of old from to) × (has_room new from to ≡ has_room old from to)
+
+-- the oldest message was this one and is taken out; or it wasn't, and all wait as before (this project's own)
+abbrev pub IsTaken : Message → Bool → List Message → List Message → Type 0
+IsTaken message true old new = old ≡ message ∷ new
+IsTaken message false old new = (new ≡ old) × ((rest : List Message) → old ≡ message ∷ rest → ⊥)

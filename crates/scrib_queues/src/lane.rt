@@ -1,6 +1,7 @@
 //! One queue.
 
-ghost use Rattle.std.specs.Prelude.{◌≡◌, [], ◌∷◌, ◌++◌, IsTrue, IfOk, OnOk, MatchOption, drop};
+ghost use Rattle.std.specs.Prelude.{◌≡◌, [], ◌∷◌, ◌++◌, false, IsTrue, IfOk, OnOk, MatchOption, drop, if◌then◌else◌, is_ok};
+ghost use Rattle.scrib_queues.specs.Channels.{IsTaken};
 ghost use Rattle.scrib_queues.specs.Layout.{fresh};
 
 use scrib_types::shared_message::SharedMessage;
@@ -40,6 +41,16 @@ impl Lane {
     {
         Lane {
             first: None,
+            rest: VecDeque::new(alloc),
+        }
+    }
+
+    /// A queue of one message.
+    pub(crate) fn of(alloc: Global, message: SharedMessage) -> Lane
+        ensures { result.messages ≡ message ∷ [] }
+    {
+        Lane {
+            first: Some(message),
             rest: VecDeque::new(alloc),
         }
     }
@@ -85,6 +96,31 @@ impl Lane {
     {
         let next = self.rest.pop_front();
         mem::replace(&mut self.first, next)
+    }
+
+    /// Puts the message behind the others, in room that is made for it.
+    ///
+    /// # Errors
+    /// `AllocError` where memory is refused.
+    pub(crate) fn send(&mut self, message: SharedMessage) -> Result<(), AllocError>
+        ensures { self.new.messages ≡ (if is_ok result then self.old.messages ++ message ∷ [] else self.old.messages) }
+    {
+        self.reserve()?;
+        self.push(message);
+        Ok(())
+    }
+
+    /// Takes the oldest message out where it is this one, and returns whether it was.
+    pub(crate) fn receive(&mut self, message: &SharedMessage) -> bool
+        ensures taken { IsTaken message.now result self.old.messages self.new.messages }
+        ensures same { result ≡ false → self.new ≡ self.old }
+    {
+        match &self.first {
+            Some(first) if first.equal(message) => {}
+            _ => return false,
+        }
+        let _received = self.pop();
+        true
     }
 
     /// The same messages in a queue of their own.

@@ -1,7 +1,7 @@
 //! The queues of all pairs.
 
-ghost use Rattle.std.specs.Prelude.{◌≡◌, ◌<◌, [], ◌∷◌, ◌++◌, IsTrue, IfOk, OnOk, OnSome, MatchOption, drop, if◌then◌else◌, is_ok, length, position};
-ghost use Rattle.scrib_queues.specs.Channels.{AllEmpty, KeepsRoom, SameElsewhere, SameQueues, has_room, is_pair, queue_of};
+ghost use Rattle.std.specs.Prelude.{◌≡◌, ◌<◌, [], ◌∷◌, ◌++◌, false, IsTrue, IfOk, OnOk, OnErr, OnSome, MatchOption, drop, if◌then◌else◌, is_ok, length, position};
+ghost use Rattle.scrib_queues.specs.Channels.{AllEmpty, IsTaken, KeepsRoom, SameElsewhere, SameQueues, has_room, is_pair, queue_of};
 ghost use Rattle.scrib_queues.specs.Layout.{fresh, messages_of};
 
 use crate::lane::Lane;
@@ -78,7 +78,10 @@ impl Queues {
                 let lane = &mut self.lanes[place];
                 lane.reserve()
             }
-            None => add_lane(&mut self.pairs, &mut self.lanes, Pair { from: p, to: q }),
+            None => {
+                let lane = Lane::new(*self.lanes.allocator());
+                add_lane(&mut self.pairs, &mut self.lanes, Pair { from: p, to: q }, lane)
+            }
         }
     }
 
@@ -124,6 +127,47 @@ impl Queues {
         lane.pop()
     }
 
+    /// Puts the message behind those from `p` to `q`, as `reserve` and `push` do, but finds the queue once.
+    ///
+    /// # Errors
+    /// `AllocError` where memory is refused. All messages stay.
+    pub fn send(&mut self, p: usize, q: usize, message: SharedMessage) -> Result<(), AllocError>
+        requires sender { p < self.old.roles }
+        requires receiver { q < self.old.roles }
+        ensures roles { self.new.roles ≡ self.old.roles }
+        ensures sent { OnOk result (queue_of self.new p q ≡ queue_of self.old p q ++ message ∷ []) }
+        ensures others { OnOk result (SameElsewhere p q self.old self.new) }
+        ensures err { OnErr result (SameQueues self.old self.new) }
+    {
+        match place_of(&self.pairs, p, q) {
+            Some(place) => {
+                let lane = &mut self.lanes[place];
+                lane.send(message)
+            }
+            None => {
+                let lane = Lane::of(*self.lanes.allocator(), message);
+                add_lane(&mut self.pairs, &mut self.lanes, Pair { from: p, to: q }, lane)
+            }
+        }
+    }
+
+    /// Takes the oldest message from `p` to `q` out where it is this one, and returns whether it was, as `front` and
+    /// `pop` do, but finds the queue once.
+    pub fn receive(&mut self, p: usize, q: usize, message: &SharedMessage) -> bool
+        requires sender { p < self.old.roles }
+        requires receiver { q < self.old.roles }
+        ensures roles { self.new.roles ≡ self.old.roles }
+        ensures taken { IsTaken message.now result (queue_of self.old p q) (queue_of self.new p q) }
+        ensures others { SameElsewhere p q self.old self.new }
+        ensures same { result ≡ false → self.new ≡ self.old }
+    {
+        let Some(place) = place_of(&self.pairs, p, q) else {
+            return false;
+        };
+        let lane = &mut self.lanes[place];
+        lane.receive(message)
+    }
+
     /// Forgets all messages, and all room.
     pub fn clear(&mut self)
         ensures roles { self.new.roles ≡ self.old.roles }
@@ -158,14 +202,18 @@ fn place_of(pairs: &[Pair], p: usize, q: usize) -> Option<usize>
     pairs.iter().position(|pair| pair.from == p && pair.to == q)
 }
 
-// Puts an empty queue of the pair behind the others.
-fn add_lane(pairs: &mut Vec<Pair>, lanes: &mut Vec<Lane>, pair: Pair) -> Result<(), AllocError>
+// Puts a pair and its queue behind the others.
+fn add_lane(
+    pairs: &mut Vec<Pair>,
+    lanes: &mut Vec<Lane>,
+    pair: Pair,
+    lane: Lane,
+) -> Result<(), AllocError>
     ensures pairs { pairs.new.items ≡ (if is_ok result then pairs.old.items ++ pair ∷ [] else pairs.old.items) }
-    ensures lanes { lanes.new.items ≡ (if is_ok result then lanes.old.items ++ fresh ∷ [] else lanes.old.items) }
+    ensures lanes { lanes.new.items ≡ (if is_ok result then lanes.old.items ++ lane ∷ [] else lanes.old.items) }
 {
     pairs.reserve(1)?;
-    let alloc = *lanes.allocator();
-    lanes.push(Lane::new(alloc))?;
+    lanes.push(lane)?;
     pairs.push(pair)?;
     Ok(())
 }

@@ -1,6 +1,6 @@
 -- The answers of a configuration at an event.
-use Rattle.std.proofs.Common.{◌≡◌, ◌↔◌, true, false, ℕ, ◌<◌, List, [], ◌∷◌, ◌++◌, Option, Some, None, length, get_or, set, slice_get, MatchOption, refl, sym, ap, subst, ◌∙◌, arith}
-use Rattle.std.proofs.lemmas.Bool.{true≢false}
+use Rattle.std.proofs.Common.{◌≡◌, ◌↔◌, true, false, ℕ, ◌<◌, List, [], ◌∷◌, ◌++◌, Option, Some, None, length, get_or, nat_lt, set, slice_get, MatchOption, refl, sym, ap, subst, ◌∙◌, arith}
+use Rattle.std.proofs.lemmas.Bool.{true≢false, ltb-true}
 use Rattle.std.proofs.lemmas.Option.{slice_get_read}
 use Rattle.scrib_types.specs.declared.message.Message.{Message}
 use Rattle.scrib_types.specs.declared.event.Action.TheVariants.{Sends, Receives}
@@ -16,7 +16,7 @@ use Rattle.scrib_record.specs.declared.configuration.Configuration.{Configuratio
 use Rattle.scrib_record.specs.RoleMachines.{AreMachinesOf}
 use Rattle.scrib_record.specs.Following.{MayAct, MayFollow}
 use Rattle.scrib_record.specs.Configurations.{place_in, AreFlying, Stands, Others, IsFront, IsNext}
-use Rattle.scrib_record.proofs.RolePlaces.{place_within, not_declared, is_declared}
+use Rattle.scrib_record.proofs.RolePlaces.{place_at, place_within, not_declared, is_declared}
 use Rattle.scrib_record.proofs.Compiled.{valid}
 use Rattle.scrib_record.proofs.Partners.{acts_among}
 use Rattle.scrib_record.proofs.Standing.{IsAt, is_at, seat_for, seat_within, acts_on, acts_from, front_oldest, oldest_front, seat_joined, seat_sent, seat_received, flying_still, flying_sent, flying_taken, stands_on}
@@ -40,6 +40,12 @@ machine_read a ms xs r i m w same e is =
 pub at_read : (a : Agreement) (ms xs : List (List (List Edge))) (log : List Event) (c : Configuration) (r : List ℕ) (i : ℕ) (s : Seat) (m : List (List Edge)) → AreMachinesOf a ms → Stands a ms log c → place_in a.roles r ≡ Some i → s ≡ get_or c.seats.items i s → xs ≡ ms → m ≡ get_or xs i m → IsAt a ms log r i s m
 at_read a ms xs log c r i s m w st e seat same is =
     is_at a ms log c r i s m w st e (seat_read a ms log c r i s st e seat) (machine_read a ms xs r i m w same e is)
+
+-- what stands where it was hinted is at its place
+pub hinted : (a : Agreement) (xs : List (List ℕ)) (r x : List ℕ) (i : ℕ) → is_protocol a.roles a.global ≡ true → xs ≡ a.roles → true ≡ nat_lt i (length xs) → x ≡ get_or xs i x → r ≡ x → Some i ≡ place_in a.roles r
+hinted a xs r x i v same n is e =
+    let there : slice_get a.roles i ≡ Some x = read_at xs a.roles i x same (ltb-true i (length xs) (sym n)) is in
+    sym (place_at a.roles r i (valid a.roles a.global v).differ (there ∙ ap Some (sym e)))
 
 pub formed : (p a : Agreement) → p ≡ a → is_protocol p.roles p.global ≡ true → well_formed a.roles a.global ≡ true
 formed p a e v = subst (λ (x : Agreement). well_formed x.roles x.global ≡ true) e (valid p.roles p.global v).formed

@@ -10,7 +10,7 @@ use Rattle.scrib_types.specs.Agreement.{Agreement}
 use Rattle.scrib_types.specs.Projection.{projection, is_closed}
 use Rattle.scrib_types.specs.Trees.{GlobalTree}
 use Rattle.scrib_types.specs.declared.profile.Profile.TheVariants.{Reception}
-use Rattle.scrib_types.specs.WellFormed.{is_protocol, well_formed}
+use Rattle.scrib_types.specs.WellFormed.{distinct_roles, is_protocol, well_formed}
 use Rattle.scrib_local.specs.Projections.{are_projections}
 use Rattle.scrib_machine.specs.declared.machine.Edge.{Edge}
 use Rattle.scrib_machine.specs.Compilable.{IsCompilable, most_nodes}
@@ -20,6 +20,7 @@ use Rattle.scrib_record.proofs.Projections.{projections_length, projection_at}
 
 -- the parts of what each protocol is
 pub record Valid (roles : List (List ℕ)) (g : GlobalTree) : Type 0 where
+  pub differ : distinct_roles roles ≡ true
   pub closed : is_closed g ≡ true
   pub formed : well_formed roles g ≡ true
 
@@ -29,7 +30,8 @@ valid roles g h =
     let all = and_parts _ _ h in
     let formed = and_parts _ _ all.0 in
     let closed = and_parts _ _ formed.0 in
-    record { closed = closed.1; formed = formed.1 }
+    let differ = and_parts _ _ closed.0 in
+    record { differ = differ.1; closed = closed.1; formed = formed.1 }
 
 -- each projection can be compiled
 pub all_compilable : (roles : List (List ℕ)) (g : GlobalTree) (ls : List Local) → is_protocol roles g ≡ true → global_nodes g ≤ most_nodes → are_projections g roles ls ≡ true → All (λ l. IsCompilable (local_of l)) ls

@@ -7,7 +7,7 @@ use Rattle.std.proofs.lemmas.Grind.{common_steps}
 use Rattle.std.proofs.lemmas.List.Quantifiers.{position-Some}
 use Rattle.std.proofs.lemmas.Option.{same_Some, slice_get-get_or}
 use Rattle.std.proofs.lemmas.Slice.Eq.{bytes_eq-Decides}
-use Rattle.scrib_types.specs.WellFormed.{has_role}
+use Rattle.scrib_types.specs.WellFormed.{has_role, distinct_roles}
 use Rattle.scrib_record.specs.Configurations.{place_in}
 
 pub bytes_same : (p q : List ℕ) → bytes_eq p q ≡ true → p ≡ q
@@ -68,3 +68,24 @@ stands_there r (x ∷ xs) (suc i) e = by (bytes_eq r x) (stands_there r xs i e)
 -- a role with a place is one of the roles
 pub is_declared : (roles : List (List ℕ)) (r : List ℕ) (i : ℕ) → place_in roles r ≡ Some i → has_role r roles ≡ true
 is_declared roles r i e = stands_there r roles i (place_role roles r i e)
+
+-- the first of roles that differ isn't among the others
+twice : (r x : List ℕ) (xs : List (List ℕ)) → distinct_roles (x ∷ xs) ≡ true → x ≡ r → has_role r xs ≡ true → ⊥
+twice r x xs d same h = grind (arith, common_steps)
+
+others : (x : List ℕ) (xs : List (List ℕ)) → distinct_roles (x ∷ xs) ≡ true → distinct_roles xs ≡ true
+others x xs d = grind (arith, common_steps)
+
+-- of roles that differ each stands at one place
+stands_once : (r : List ℕ) (roles : List (List ℕ)) (i j : ℕ) → distinct_roles roles ≡ true → slice_get roles i ≡ Some r → slice_get roles j ≡ Some r → i ≡ j
+stands_once r [] i j d e f = absurd (cc)
+stands_once r (x ∷ xs) zero zero d e f = refl
+stands_once r (x ∷ xs) zero (suc j) d e f = absurd (twice r x xs d (same_Some x r e) (stands_there r xs j f))
+stands_once r (x ∷ xs) (suc i) zero d e f = absurd (twice r x xs d (same_Some x r f) (stands_there r xs i e))
+stands_once r (x ∷ xs) (suc i) (suc j) d e f = ap suc (stands_once r xs i j (others x xs d) e f)
+
+-- the place at which one of roles that differ stands is its place
+pub place_at : (roles : List (List ℕ)) (r : List ℕ) (i : ℕ) → distinct_roles roles ≡ true → slice_get roles i ≡ Some r → place_in roles r ≡ Some i
+place_at roles r i d e =
+    let found = place_for roles r (stands_there r roles i e) in
+    found.1 ∙ ap Some (stands_once r roles found.0 i d (place_role roles r found.0 found.1) e)

@@ -10,7 +10,7 @@ ghost use Rattle.scrib_queues.specs.Channels.{SameQueues, queue_of};
 ghost use Rattle.scrib_record.specs.Configurations as conf;
 ghost use Rattle.scrib_record.specs.Versions.{meaning_of};
 
-use crate::seat::{Seat, place_of};
+use crate::seat::Seat;
 use crate::version::Version;
 use scrib_queues::queues::Queues;
 use scrib_types::event::{Action, Event};
@@ -66,7 +66,7 @@ impl Configuration {
         requires { conf.IsReached (meaning_of version.now) version.now.machines self.old }
         ensures { conf.Advances (meaning_of version.now) version.now.machines (Join role.now) self.old self.new result }
     {
-        let Some(at) = place_of(version.protocol().roles(), role) else {
+        let Some(at) = version.place_of(role) else {
             return false;
         };
         let seat = self.seats[at];
@@ -91,11 +91,10 @@ impl Configuration {
         ensures ok { IfOk result (conf.Advances (meaning_of version.now) version.now.machines (Sent from.now to.now message.now) self.old self.new) }
         ensures err { OnErr result (conf.IsSame self.old self.new) }
     {
-        let roles = version.protocol().roles();
-        let Some(p) = place_of(roles, from) else {
+        let Some(p) = version.place_of(from) else {
             return Ok(false);
         };
-        let Some(q) = place_of(roles, to) else {
+        let Some(q) = version.place_of(to) else {
             return Ok(false);
         };
         let Some(state) = self.seats[p].step_send(&version.machines()[p], to, message) else {
@@ -119,11 +118,10 @@ impl Configuration {
         requires { conf.IsReached (meaning_of version.now) version.now.machines self.old }
         ensures { conf.Advances (meaning_of version.now) version.now.machines (Received from.now to.now message.now) self.old self.new result }
     {
-        let roles = version.protocol().roles();
-        let Some(p) = place_of(roles, from) else {
+        let Some(p) = version.place_of(from) else {
             return false;
         };
-        let Some(q) = place_of(roles, to) else {
+        let Some(q) = version.place_of(to) else {
             return false;
         };
         if !is_first(&self.queues, p, q, message) {

@@ -12,5 +12,6 @@ mod judging;
 pub mod law;
 mod machines;
 pub mod record;
+mod role_hints;
 mod seat;
 pub mod version;

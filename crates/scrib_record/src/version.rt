@@ -6,9 +6,12 @@ ghost use Rattle.scrib_record.specs.Flat.{flat_form};
 
 use crate::flat::flat_form;
 use crate::machines::machines_of;
+use crate::role_hints::RoleHints;
+use crate::seat::place_of;
 use scrib_machine::machine::Machine;
 use scrib_types::bytes::same_bytes;
 use scrib_types::local::Local;
+use scrib_types::name::Role;
 use scrib_types::plain::Items;
 use scrib_types::protocol::Protocol;
 use std::alloc::{AllocError, Global};
@@ -16,13 +19,15 @@ use std::marker::Model;
 use std::sync::Arc;
 
 /// What the copies of a version share: a protocol with the machine of its projection on each role, in the order in
-/// which the roles are declared, the number of its stamp, and the flat form of what it means.
+/// which the roles are declared, the number of its stamp, the flat form of what it means, and hints where its roles
+/// stand.
 #[derive(Drop)]
 pub struct Edition {
     protocol: Protocol,
     machines: Items<Machine>,
     number: u32,
     flat: Items<u8>,
+    hints: RoleHints,
     pub ghost flattened: { flat ≡ flat_form (agreement_of protocol) },
 }
 
@@ -48,8 +53,10 @@ impl Model for Version {
 }
 
 impl Version {
-    ghost use Rattle.std.specs.Prelude.{◌≡◌, ◌↔◌, ◌≤◌, IfOk, IsTrue};
+    ghost use Rattle.std.specs.Prelude.{◌≡◌, ◌↔◌, ◌≤◌, IfOk, IsTrue, position};
+    ghost use Rattle.std.specs.Str.{bytes_eq};
     ghost use Rattle.scrib_types.specs.Meaning.{agreement_of};
+    ghost use Rattle.scrib_types.specs.WellFormed.{is_protocol};
     ghost use Rattle.scrib_machine.specs.Compilable.{most_nodes};
     ghost use Rattle.scrib_machine.specs.Projected.{global_nodes};
     ghost use Rattle.scrib_record.specs.RoleMachines.{AreMachinesOf};
@@ -73,11 +80,13 @@ impl Version {
     {
         let flat = flat_form(alloc, &protocol)?;
         let machines = machines_of(alloc, &protocol, locals)?;
+        let hints = RoleHints::new(protocol.roles());
         let edition = Edition {
             protocol,
             machines,
             number,
             flat,
+            hints,
         };
         let edition = Arc::new(alloc, edition)?;
         Ok(Version { edition })
@@ -99,6 +108,19 @@ impl Version {
         ensures { agreement_of result.now ≡ meaning_of self.now }
     {
         &self.edition.protocol
+    }
+
+    /// The place of the role among the protocol's roles. It is looked for where the role's name hints first.
+    pub fn place_of(&self, role: &Role) -> Option<usize>
+        ensures place { result ≡ position (bytes_eq role.now) (meaning_of self.now).roles }
+        ensures valid { IsTrue (is_protocol (meaning_of self.now).roles (meaning_of self.now).global) }
+    {
+        let roles = self.protocol().roles();
+        let near = self.edition.hints.near(role);
+        match roles.get(near) {
+            Some(other) if role.equal(other) => Some(near),
+            _ => place_of(roles, role),
+        }
     }
 
     /// The machine of each role's projection, in the order in which the roles are declared.

@@ -1,25 +1,21 @@
-use Rattle.std.proofs.Common.{◌∙◌, ap, refl}
+use Rattle.std.proofs.Common.{◌∙◌, sym, refl}
 use Rattle.scrib_types.specs.declared.event.Action.TheVariants.{Sends}
-use Rattle.scrib_types.specs.Agreement.{Agreement}
-use Rattle.scrib_types.specs.Meaning.{agreement_of}
 use Rattle.scrib_record.specs.Versions.{meaning_of}
-use Rattle.scrib_record.proofs.Advancing.{place_is, at_read, machine_read, formed, act_nobody, send_nowhere, send_stuck, sends_on}
+use Rattle.scrib_record.proofs.Advancing.{at_read, machine_read, formed, act_nobody, send_nowhere, send_stuck, sends_on}
 use Rattle.scrib_record.proofs.Standing.{state_within}
 use Rattle.scrib_record.proofs.configuration.Configuration.send.Goals as goal
 
 pub returns-in_default-clause-ok : goal.returns-in_default-clause-ok
 returns-in_default-clause-ok c log st =
     let a = meaning_of c.args.version.now in
-    let roles = c.roles-roles.ensures.roles ∙ ap (λ (x : Agreement). x.roles) c.protocol.ensures in
-    let place = place_is c.roles-roles.result.now a.roles c.args.from.now c.place_of.result _ roles c.place_of.ensures c.in_default.is in
+    let place = sym c.place_of.ensures.place ∙ c.in_default.is in
     (act_nobody a log c.args.from.now place (Sends c.args.to.now c.args.message.now), st)
 
 pub returns-in_default-place_of-clause-ok : goal.returns-in_default-place_of-clause-ok
 returns-in_default-place_of-clause-ok c log st =
     let a = meaning_of c.args.version.now in
-    let roles = c.roles-roles.ensures.roles ∙ ap (λ (x : Agreement). x.roles) c.protocol.ensures in
-    let place = place_is c.roles-roles.result.now a.roles c.args.to.now c.place_of-2.result _ roles c.place_of-2.ensures c.in_default-place_of.is in
-    let ok = formed (agreement_of c.protocol.result.now) a c.protocol.ensures c.roles-roles.ensures.valid in
+    let place = sym c.place_of-2.ensures.place ∙ c.in_default-place_of.is in
+    let ok = formed a a refl c.place_of.ensures.valid in
     (send_nowhere a log c.args.from.now c.args.to.now c.args.message.now ok place, st)
 
 pub step_send-requires : goal.step_send-requires
@@ -28,8 +24,7 @@ step_send-requires c =
     let a = meaning_of v in
     let self = c.args.self.now in
     let log = c.requires.0 in
-    let roles = c.roles-roles.ensures.roles ∙ ap (λ (x : Agreement). x.roles) c.protocol.ensures in
-    let place = place_is c.roles-roles.result.now a.roles c.args.from.now c.place_of.result _ roles c.place_of.ensures c.in-Some.is in
+    let place = sym c.place_of.ensures.place ∙ c.in-Some.is in
     state_within a v.machines log c.args.from.now c.in-Some.p c.index.result.now c.index-machines-p.result
     (at_read a v.machines c.machines.result.now log self c.args.from.now c.in-Some.p c.index.result.now c.index-machines-p.result c.machines.ensures.follow c.requires.1 place c.index.ensures c.machines.ensures.machines c.index-machines-p.is)
 
@@ -38,8 +33,7 @@ returns-in_default-step_send-clause-ok c log st =
     let v = c.args.version.now in
     let a = meaning_of v in
     let self = c.args.self.now in
-    let roles = c.roles-roles.ensures.roles ∙ ap (λ (x : Agreement). x.roles) c.protocol.ensures in
-    let place = place_is c.roles-roles.result.now a.roles c.args.from.now c.place_of.result _ roles c.place_of.ensures c.in-Some.is in
+    let place = sym c.place_of.ensures.place ∙ c.in-Some.is in
     let at = at_read a v.machines c.machines.result.now log self c.args.from.now c.in-Some.p c.index.result.now c.index-machines-p.result c.machines.ensures.follow st place c.index.ensures c.machines.ensures.machines c.index-machines-p.is in
     (send_stuck a v.machines log c.args.from.now c.args.to.now c.args.message.now c.in-Some.p c.index.result.now c.index-machines-p.result c.step_send.result at c.step_send.ensures c.in_default-step_send.is, st)
 
@@ -48,9 +42,8 @@ returns-clause-ok c log st =
     let v = c.args.version.now in
     let a = meaning_of v in
     let self = c.args.self.now in
-    let roles = c.roles-roles.ensures.roles ∙ ap (λ (x : Agreement). x.roles) c.protocol.ensures in
-    let place = place_is c.roles-roles.result.now a.roles c.args.from.now c.place_of.result _ roles c.place_of.ensures c.in-Some.is in
-    let other = place_is c.roles-roles.result.now a.roles c.args.to.now c.place_of-2.result _ roles c.place_of-2.ensures c.in-Some-place_of.is in
+    let place = sym c.place_of.ensures.place ∙ c.in-Some.is in
+    let other = sym c.place_of-2.ensures.place ∙ c.in-Some-place_of.is in
     let at = at_read a v.machines c.machines.result.now log self c.args.from.now c.in-Some.p c.index.result.now c.index-machines-p.result c.machines.ensures.follow st place c.index.ensures c.machines.ensures.machines c.index-machines-p.is in
     let runs = machine_read a v.machines c.machines.result.now c.args.from.now c.in-Some.p c.index-machines-p.result c.machines.ensures.follow c.machines.ensures.machines place c.index-machines-p.is in
     let step = (c.step_send.ensures c.in-Some-step_send.state).0 c.in-Some-step_send.is in
