@@ -1,7 +1,8 @@
 -- The same of the queues as contracts see them.
-use Rattle.std.proofs.Common.{◌≡◌, ℕ, ◌⊎◌, inl, inr, Bool, true, false, IsTrue, List, [], ◌∷◌, ◌++◌, length, set, get_or, zip, position, Some, None, Option, Result, Ok, Err, is_ok, OnOk, OnSome, if◌then◌else◌, rules, refl, sym, ap, ◌∙◌, arith}
+use Rattle.std.proofs.Common.{◌≡◌, ℕ, ◌⊎◌, inl, inr, Bool, true, false, IsTrue, List, [], ◌∷◌, ◌++◌, length, set, get_or, zip, position, Some, None, Option, Result, Ok, Err, is_ok, OnOk, OnErr, OnSome, if◌then◌else◌, rules, refl, sym, ap, ◌∙◌, arith}
 use Rattle.std.proofs.lemmas.Bool.{cases_eq}
 use Rattle.std.proofs.lemmas.Grind.{common_steps}
+use Rattle.scrib_types.specs.declared.message.Message.{Message}
 use Rattle.scrib_queues.specs.declared.queues.Pair.{Pair}
 use Rattle.scrib_queues.specs.Channels.{Channel, Channels, SameElsewhere, SameQueues, KeepsRoom, AllEmpty, is_pair, queue_of, has_room}
 use Rattle.scrib_queues.specs.Layout.{fresh, messages_of}
@@ -45,12 +46,12 @@ set_elsewhere n p q ks ls i l e from to differ =
     let same = changed_elsewhere p q from to ks ls i l (is_first p q ks i e) differ in
     (ap (λ (c : Channel). c.messages) same, ap (λ (c : Channel). c.room) same)
 
-pub added_elsewhere_seen : (n p q : ℕ) (ks : List Pair) (ls : List Channel) → length ks ≡ length ls → SameElsewhere p q (seen n ks ls) (seen n (ks ++ record { from = p; to = q } ∷ []) (ls ++ fresh ∷ []))
+pub added_elsewhere_seen : (n p q : ℕ) (ks : List Pair) (ls : List Channel) (l : Channel) → length ks ≡ length ls → SameElsewhere p q (seen n ks ls) (seen n (ks ++ record { from = p; to = q } ∷ []) (ls ++ l ∷ []))
 unfolding queue_of has_room
-added_elsewhere_seen n p q ks ls long from to differ =
+added_elsewhere_seen n p q ks ls l long from to differ =
     let k : Pair = record { from = p; to = q } in
     let other : is_pair from to k ≡ false = not_pair p q from to differ in
-    let same = added_elsewhere from to ks ls k fresh long other in
+    let same = added_elsewhere from to ks ls k l long other in
     (ap (λ (c : Channel). c.messages) same, ap (λ (c : Channel). c.room) same)
   where
     not_pair : (p q from to : ℕ) → ¬ ((from ≡ p) × (to ≡ q)) → is_pair from to record { from = p; to = q } ≡ false
@@ -63,9 +64,9 @@ pub room_added : (n p q : ℕ) (ks : List Pair) (ls : List Channel) → position
 unfolding has_room
 room_added n p q ks ls e long = ap (λ (c : Channel). c.room) (added_here p q ks ls record { from = p; to = q } fresh (is_past p q ks e) long (is_own p q))
 
-pub messages_added : (n p q : ℕ) (ks : List Pair) (ls : List Channel) → position (is_pair p q) ks ≡ None → length ks ≡ length ls → queue_of (seen n (ks ++ record { from = p; to = q } ∷ []) (ls ++ fresh ∷ [])) p q ≡ []
+pub messages_added : (n p q : ℕ) (ks : List Pair) (ls : List Channel) (l : Channel) → position (is_pair p q) ks ≡ None → length ks ≡ length ls → queue_of (seen n (ks ++ record { from = p; to = q } ∷ []) (ls ++ l ∷ [])) p q ≡ l.messages
 unfolding queue_of
-messages_added n p q ks ls e long = ap (λ (c : Channel). c.messages) (added_here p q ks ls record { from = p; to = q } fresh (is_past p q ks e) long (is_own p q))
+messages_added n p q ks ls l e long = ap (λ (c : Channel). c.messages) (added_here p q ks ls record { from = p; to = q } l (is_past p q ks e) long (is_own p q))
 
 -- one queue and all others are all
 same_pair_or_not : (p q from to : ℕ) → ((from ≡ p) × (to ≡ q)) ⊎ (¬ ((from ≡ p) × (to ≡ q)))
@@ -97,17 +98,44 @@ copied n ks ls new e p q = same_messages p q ks ls new e
 -- and where a queue is added or, without memory, isn't
 pub queues_added : (b : Bool) (n p q : ℕ) (ks new_ks : List Pair) (ls new_ls : List Channel) → position (is_pair p q) ks ≡ None → length ks ≡ length ls → new_ks ≡ (if b then ks ++ record { from = p; to = q } ∷ [] else ks) → new_ls ≡ (if b then ls ++ fresh ∷ [] else ls) → SameQueues (seen n ks ls) (seen n new_ks new_ls)
 queues_added true n p q ks new_ks ls new_ls none long e f =
-    rw (e, f) (same_queues p q _ _ (added_elsewhere_seen n p q ks ls long) (messages_added n p q ks ls none long ∙ sym (none_waits n p q ks ls none)))
+    rw (e, f) (same_queues p q _ _ (added_elsewhere_seen n p q ks ls fresh long) (messages_added n p q ks ls fresh none long ∙ sym (none_waits n p q ks ls none)))
 queues_added false n p q ks new_ks ls new_ls none long e f = rw (e, f) (λ from to. refl)
 
 pub room_kept : (b : Bool) (n p q : ℕ) (ks new_ks : List Pair) (ls new_ls : List Channel) → position (is_pair p q) ks ≡ None → length ks ≡ length ls → new_ks ≡ (if b then ks ++ record { from = p; to = q } ∷ [] else ks) → new_ls ≡ (if b then ls ++ fresh ∷ [] else ls) → KeepsRoom (seen n ks ls) (seen n new_ks new_ls)
 room_kept true n p q ks new_ks ls new_ls none long e f =
-    rw (e, f) (keeps_room p q _ _ (added_elsewhere_seen n p q ks ls long) (λ _. room_added n p q ks ls none long))
+    rw (e, f) (keeps_room p q _ _ (added_elsewhere_seen n p q ks ls fresh long) (λ _. room_added n p q ks ls none long))
 room_kept false n p q ks new_ks ls new_ls none long e f = rw (e, f) (λ from to room. room)
 
 pub room_made : {E : Type 0} (r : Result (Unit {0}) E) (n p q : ℕ) (ks new_ks : List Pair) (ls new_ls : List Channel) → position (is_pair p q) ks ≡ None → length ks ≡ length ls → new_ks ≡ (if is_ok r then ks ++ record { from = p; to = q } ∷ [] else ks) → new_ls ≡ (if is_ok r then ls ++ fresh ∷ [] else ls) → OnOk r (IsTrue (has_room (seen n new_ks new_ls) p q))
 room_made (Ok u) n p q ks new_ks ls new_ls none long e f = rw (e, f) (room_added n p q ks ls none long)
 room_made (Err u) n p q ks new_ks ls new_ls none long e f = search rules
+
+-- the same where the queue that is added has a message
+pub sent_added : {E : Type 0} (r : Result (Unit {0}) E) (n p q : ℕ) (ks new_ks : List Pair) (ls new_ls : List Channel) (l : Channel) (m : Message) → position (is_pair p q) ks ≡ None → length ks ≡ length ls → new_ks ≡ (if is_ok r then ks ++ record { from = p; to = q } ∷ [] else ks) → new_ls ≡ (if is_ok r then ls ++ l ∷ [] else ls) → l.messages ≡ m ∷ [] → OnOk r (queue_of (seen n new_ks new_ls) p q ≡ queue_of (seen n ks ls) p q ++ m ∷ [])
+sent_added (Ok u) n p q ks new_ks ls new_ls l m none long e f one =
+    rw (e, f, none_waits n p q ks ls none) (messages_added n p q ks ls l none long ∙ one)
+sent_added (Err u) n p q ks new_ks ls new_ls l m none long e f one = search rules
+
+pub others_added : {E : Type 0} (r : Result (Unit {0}) E) (n p q : ℕ) (ks new_ks : List Pair) (ls new_ls : List Channel) (l : Channel) → length ks ≡ length ls → new_ks ≡ (if is_ok r then ks ++ record { from = p; to = q } ∷ [] else ks) → new_ls ≡ (if is_ok r then ls ++ l ∷ [] else ls) → OnOk r (SameElsewhere p q (seen n ks ls) (seen n new_ks new_ls))
+others_added (Ok u) n p q ks new_ks ls new_ls l long e f = rw (e, f) (added_elsewhere_seen n p q ks ls l long)
+others_added (Err u) n p q ks new_ks ls new_ls l long e f = search rules
+
+-- a message behind those of one queue
+pub sent_there : {E : Type 0} (r : Result (Unit {0}) E) (new old : List Message) (m : Message) → new ≡ (if is_ok r then old ++ m ∷ [] else old) → OnOk r (new ≡ old ++ m ∷ [])
+sent_there (Ok u) new old m e = e
+sent_there (Err u) new old m e = search rules
+
+pub on_ok : {E : Type 0} (r : Result (Unit {0}) E) (P : Type 0) → P → OnOk r P
+on_ok (Ok u) P p = p
+on_ok (Err u) P p = search rules
+
+pub stay_there : {E : Type 0} (r : Result (Unit {0}) E) (p q : ℕ) (old new : Channels) (m : Message) → SameElsewhere p q old new → queue_of new p q ≡ (if is_ok r then queue_of old p q ++ m ∷ [] else queue_of old p q) → OnErr r (SameQueues old new)
+stay_there (Ok u) p q old new m others e = search rules
+stay_there (Err u) p q old new m others e = same_queues p q old new others e
+
+-- nothing is taken out of a queue in which none waits
+pub none_taken : (m : Message) (ms : List Message) → ms ≡ [] → (rest : List Message) → ms ≡ m ∷ rest → ⊥
+none_taken m ms e rest f = (cc)
 
 pub on_some : {X : Type 0} (P : Type 0) (o : Option X) → P → OnSome o P
 on_some P (Some x) p = p

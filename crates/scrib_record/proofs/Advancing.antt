@@ -1,5 +1,5 @@
 -- The answers of a configuration at an event.
-use Rattle.std.proofs.Common.{◌≡◌, ◌↔◌, true, false, ℕ, ◌<◌, List, [], ◌∷◌, ◌++◌, Option, Some, None, length, get_or, nat_lt, set, slice_get, MatchOption, refl, sym, ap, subst, ◌∙◌, arith}
+use Rattle.std.proofs.Common.{◌≡◌, ◌↔◌, Bool, true, false, ℕ, ◌<◌, List, [], ◌∷◌, ◌++◌, Option, Some, None, length, get_or, nat_lt, set, slice_get, refl, sym, ap, subst, ◌∙◌, arith}
 use Rattle.std.proofs.lemmas.Bool.{true≢false, ltb-true}
 use Rattle.std.proofs.lemmas.Option.{slice_get_read}
 use Rattle.scrib_types.specs.declared.message.Message.{Message}
@@ -10,7 +10,7 @@ use Rattle.scrib_types.specs.Agreement.{Agreement}
 use Rattle.scrib_types.specs.WellFormed.{is_protocol, well_formed}
 use Rattle.scrib_machine.specs.declared.machine.Edge.{Edge}
 use Rattle.scrib_machine.specs.Machines.{Steps}
-use Rattle.scrib_queues.specs.Channels.{Channels, queue_of}
+use Rattle.scrib_queues.specs.Channels.{Channels, IsTaken, queue_of}
 use Rattle.scrib_record.specs.declared.seat.Seat.{Seat}
 use Rattle.scrib_record.specs.declared.configuration.Configuration.{Configuration}
 use Rattle.scrib_record.specs.RoleMachines.{AreMachinesOf}
@@ -107,10 +107,12 @@ receives_on a ms log c d p q m i j s t k st at runs e front tj step seats roles 
       (flying_taken a log p q m i j c.queues d.queues st.flying e at.place popped others),
 )
 
--- a queue with a front loses it
-pub popped : (m : Message) (o : Option Message) (old new : List Message) → ((rest : List Message) × (old ≡ m ∷ rest)) → MatchOption o ((old ≡ []) × (new ≡ [])) (λ x. old ≡ x ∷ new) → old ≡ m ∷ new
-popped m None old new f h = absurd (no_front m f.0 (sym f.1 ∙ h.0))
-  where
-    no_front : (m : Message) (rest : List Message) → m ∷ rest ≡ [] → ⊥
-    no_front m rest e = cc
-popped m (Some x) old new f h = let same : m ∷ f.0 ≡ x ∷ new = sym f.1 ∙ h in let first : x ≡ m = cc in h ∙ ap (λ y. y ∷ new) first
+-- the oldest message was taken out
+pub was_taken : (m : Message) (b : Bool) (old new : List Message) → b ≡ true → IsTaken m b old new → old ≡ m ∷ new
+was_taken m true old new e h = h
+was_taken m false old new e h = absurd (true≢false (sym e))
+
+-- it was another, or none
+pub was_left : (m : Message) (b : Bool) (old new : List Message) → b ≡ false → IsTaken m b old new → (rest : List Message) → old ≡ m ∷ rest → ⊥
+was_left m true old new e h = absurd (true≢false e)
+was_left m false old new e h = h.1

@@ -8,7 +8,7 @@ ghost use Rattle.scrib_types.specs.Permitted.{IsPermitted};
 ghost use Rattle.scrib_record.specs.Configurations as conf;
 ghost use Rattle.scrib_record.specs.Versions.{meaning_of};
 
-use crate::configuration::{Configuration, is_first};
+use crate::configuration::Configuration;
 use crate::copies::copy_action;
 use crate::seat::place_of;
 use crate::version::Version;
@@ -17,6 +17,7 @@ use scrib_queues::queues::Queues;
 use scrib_types::event::Action;
 use scrib_types::name::Role;
 use scrib_types::plain::Items;
+use scrib_types::shared_message::SharedMessage;
 use std::alloc::{AllocError, Global};
 
 /// The actions that the role may make next, sorted by their printed texts, none twice.
@@ -85,5 +86,17 @@ fn is_due(roles: &[Role], queues: &Queues, at: usize, action: &Action) -> bool
             Some(sender) => is_first(queues, sender, at, message),
             None => false,
         },
+    }
+}
+
+/// Whether the message is the oldest from `p` to `q`.
+fn is_first(queues: &Queues, p: usize, q: usize, message: &SharedMessage) -> bool
+    requires sender { p < queues.now.roles }
+    requires receiver { q < queues.now.roles }
+    ensures { IsTrue result ↔ conf.IsFront p q message.now queues.now }
+{
+    match queues.front(p, q) {
+        Some(first) => first.equal(message),
+        None => false,
     }
 }

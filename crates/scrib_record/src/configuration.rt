@@ -124,13 +124,12 @@ impl Configuration {
         let Some(q) = version.place_of(to) else {
             return false;
         };
-        if !is_first(&self.queues, p, q, message) {
-            return false;
-        }
         let Some(state) = self.seats[q].step_receive(&version.machines()[q], from, message) else {
             return false;
         };
-        let _received = self.queues.pop(p, q);
+        if !self.queues.receive(p, q, message) {
+            return false;
+        }
         self.seats[q] = Seat {
             joined: true,
             state,
@@ -154,19 +153,5 @@ fn enqueue(
     ensures err { OnErr result (SameQueues queues.old queues.new) }
 {
     let message = message.copy()?;
-    queues.reserve(p, q)?;
-    queues.push(p, q, message);
-    Ok(())
-}
-
-/// Whether the message is the oldest from `p` to `q`.
-pub fn is_first(queues: &Queues, p: usize, q: usize, message: &SharedMessage) -> bool
-    requires sender { p < queues.now.roles }
-    requires receiver { q < queues.now.roles }
-    ensures { IsTrue result ↔ conf.IsFront p q message.now queues.now }
-{
-    match queues.front(p, q) {
-        Some(first) => first.equal(message),
-        None => false,
-    }
+    queues.send(p, q, message)
 }
