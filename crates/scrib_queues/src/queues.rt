@@ -2,18 +2,19 @@
 
 ghost use Rattle.std.specs.Prelude.{◌≡◌, ◌<◌, [], ◌∷◌, ◌++◌, false, IsTrue, IfOk, OnOk, OnErr, OnSome, MatchOption, drop, if◌then◌else◌, is_ok, length, position};
 ghost use Rattle.scrib_queues.specs.Channels.{AllEmpty, IsTaken, KeepsRoom, SameElsewhere, SameQueues, has_room, is_pair, queue_of};
-ghost use Rattle.scrib_queues.specs.Layout.{fresh, messages_of};
+ghost use Rattle.scrib_queues.specs.Layout.{messages_of, pair_of};
 
 use crate::lane::Lane;
 use scrib_types::shared_message::SharedMessage;
 use std::alloc::{AllocError, Global};
 use std::marker::Model;
 
-/// The positions of a sender and of a receiver.
+/// The positions of a sender and of a receiver. They have few bits, so that the pairs of a conversation, which are
+/// read at each of its events, lie on one cache line where there are at most sixteen.
 #[derive(Clone, Copy)]
 struct Pair {
-    from: usize,
-    to: usize,
+    from: u16,
+    to: u16,
 }
 
 /// A first-in-first-out queue of messages for each ordered pair of roles, which stand by their positions.
@@ -64,7 +65,8 @@ impl Queues {
     /// Makes room for one `push` from `p` to `q`, and takes none away.
     ///
     /// # Errors
-    /// `AllocError` where memory is refused. All messages stay.
+    /// `AllocError` where memory is refused, or where a position is above 65,535, for which there is no room in a pair.
+    /// All messages stay.
     pub fn reserve(&mut self, p: usize, q: usize) -> Result<(), AllocError>
         requires sender { p < self.old.roles }
         requires receiver { q < self.old.roles }
@@ -80,7 +82,7 @@ impl Queues {
             }
             None => {
                 let lane = Lane::new(*self.lanes.allocator());
-                add_lane(&mut self.pairs, &mut self.lanes, Pair { from: p, to: q }, lane)
+                add_lane(&mut self.pairs, &mut self.lanes, p, q, lane)
             }
         }
     }
@@ -130,7 +132,7 @@ impl Queues {
     /// Puts the message behind those from `p` to `q`, as `reserve` and `push` do, but finds the queue once.
     ///
     /// # Errors
-    /// `AllocError` where memory is refused. All messages stay.
+    /// `AllocError` where `reserve` answers it. All messages stay.
     pub fn send(&mut self, p: usize, q: usize, message: SharedMessage) -> Result<(), AllocError>
         requires sender { p < self.old.roles }
         requires receiver { q < self.old.roles }
@@ -146,7 +148,7 @@ impl Queues {
             }
             None => {
                 let lane = Lane::of(*self.lanes.allocator(), message);
-                add_lane(&mut self.pairs, &mut self.lanes, Pair { from: p, to: q }, lane)
+                add_lane(&mut self.pairs, &mut self.lanes, p, q, lane)
             }
         }
     }
@@ -199,23 +201,35 @@ impl Queues {
 fn place_of(pairs: &[Pair], p: usize, q: usize) -> Option<usize>
     ensures { result ≡ position (is_pair p q) pairs.now }
 {
-    pairs.iter().position(|pair| pair.from == p && pair.to == q)
+    pairs.iter().position(|pair| usize::from(pair.from) == p && usize::from(pair.to) == q)
 }
 
-// Puts a pair and its queue behind the others.
+// Puts the pair and its queue behind the others.
 fn add_lane(
     pairs: &mut Vec<Pair>,
     lanes: &mut Vec<Lane>,
-    pair: Pair,
+    p: usize,
+    q: usize,
     lane: Lane,
 ) -> Result<(), AllocError>
-    ensures pairs { pairs.new.items ≡ (if is_ok result then pairs.old.items ++ pair ∷ [] else pairs.old.items) }
+    ensures pairs { pairs.new.items ≡ (if is_ok result then pairs.old.items ++ pair_of p q ∷ [] else pairs.old.items) }
     ensures lanes { lanes.new.items ≡ (if is_ok result then lanes.old.items ++ lane ∷ [] else lanes.old.items) }
 {
+    let pair = pair_of(p, q)?;
     pairs.reserve(1)?;
     lanes.push(lane)?;
     pairs.push(pair)?;
     Ok(())
+}
+
+// The pair of these positions. A position above 65,535 has no room in one.
+fn pair_of(p: usize, q: usize) -> Result<Pair, AllocError>
+    ensures { IfOk result (λ pair. pair ≡ pair_of p q) }
+{
+    match (u16::try_from(p), u16::try_from(q)) {
+        (Ok(from), Ok(to)) => Ok(Pair { from, to }),
+        _ => Err(AllocError),
+    }
 }
 
 // The same messages, queue by queue.
