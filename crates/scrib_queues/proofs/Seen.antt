@@ -1,5 +1,5 @@
 -- The same of the queues as contracts see them.
-use Rattle.std.proofs.Common.{◌≡◌, ℕ, ◌⊎◌, inl, inr, Bool, true, false, IsTrue, List, [], ◌∷◌, ◌++◌, length, set, get_or, zip, position, Some, None, Option, Result, Ok, Err, is_ok, OnOk, OnErr, OnSome, if◌then◌else◌, rules, refl, sym, ap, ◌∙◌, arith}
+use Rattle.std.proofs.Common.{◌≡◌, ℕ, ◌⊎◌, inl, inr, Bool, true, false, IsTrue, List, [], ◌∷◌, ◌++◌, length, set, get_or, zip, position, Some, None, Option, Result, Ok, Err, is_ok, OnOk, OnErr, if◌then◌else◌, rules, refl, sym, ap, ◌∙◌, arith}
 use Rattle.std.proofs.lemmas.Bool.{cases_eq}
 use Rattle.std.proofs.lemmas.Grind.{common_steps}
 use Rattle.scrib_types.specs.declared.message.Message.{Message}
@@ -136,10 +136,6 @@ stay_there (Err u) p q old new m others e = same_queues p q old new others e
 -- nothing is taken out of a queue in which none waits
 pub none_taken : (m : Message) (ms : List Message) → ms ≡ [] → (rest : List Message) → ms ≡ m ∷ rest → ⊥
 none_taken m ms e rest f = (cc)
-
-pub on_some : {X : Type 0} (P : Type 0) (o : Option X) → P → OnSome o P
-on_some P (Some x) p = p
-on_some P None p = tt
 
 -- what a search of the pairs found, once these have another name
 pub stands : (p q : ℕ) (read ks : List Pair) (r o : Option ℕ) → r ≡ position (is_pair p q) read → read ≡ ks → r ≡ o → position (is_pair p q) ks ≡ o

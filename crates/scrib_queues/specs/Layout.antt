@@ -1,6 +1,9 @@
 -- Words of private contracts (this project's own).
-use Rattle.std.specs.Prelude.{ℕ, true, List, [], map}
+use Rattle.std.specs.Prelude.{ℕ, Bool, true, false, List, [], ◌∷◌, map, nat_lt}
+use Rattle.std.specs.VecDeque.{deque_len, deque_capacity}
 use Rattle.scrib_types.specs.declared.message.Message.{Message}
+use Rattle.scrib_queues.specs.declared.lane.Kept.{Kept}
+use Rattle.scrib_queues.specs.declared.lane.Kept.TheVariants.{Nowhere, Here, Ring}
 use Rattle.scrib_queues.specs.declared.queues.Pair.{Pair}
 use Rattle.scrib_queues.specs.Channels.{Channel}
 
@@ -15,3 +18,15 @@ messages_of queues = map (λ queue. queue.messages) queues
 -- the pair of sender p and receiver q
 abbrev pub pair_of : ℕ → ℕ → Pair
 pair_of p q = record { from = p; to = q }
+
+-- the messages that lie there, the oldest first
+abbrev pub messages_in : Kept → List Message
+messages_in Nowhere = []
+messages_in (Here message) = message ∷ []
+messages_in (Ring ring) = ring.value.items
+
+-- whether there is room for one more
+abbrev pub room_in : Kept → Bool
+room_in Nowhere = true
+room_in (Here message) = false
+room_in (Ring ring) = nat_lt (deque_len ring.value) (deque_capacity ring.value)

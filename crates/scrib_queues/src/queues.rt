@@ -77,13 +77,11 @@ impl Queues {
     {
         match place_of(&self.pairs, p, q) {
             Some(place) => {
+                let alloc = *self.lanes.allocator();
                 let lane = &mut self.lanes[place];
-                lane.reserve()
+                lane.reserve(alloc)
             }
-            None => {
-                let lane = Lane::new(*self.lanes.allocator());
-                add_lane(&mut self.pairs, &mut self.lanes, p, q, lane)
-            }
+            None => add_lane(&mut self.pairs, &mut self.lanes, p, q, Lane::new()),
         }
     }
 
@@ -143,11 +141,12 @@ impl Queues {
     {
         match place_of(&self.pairs, p, q) {
             Some(place) => {
+                let alloc = *self.lanes.allocator();
                 let lane = &mut self.lanes[place];
-                lane.send(message)
+                lane.send(alloc, message)
             }
             None => {
-                let lane = Lane::of(*self.lanes.allocator(), message);
+                let lane = Lane::of(message);
                 add_lane(&mut self.pairs, &mut self.lanes, p, q, lane)
             }
         }

@@ -1,2 +1,3 @@
+mod Laid
 mod Members
 mod Totals

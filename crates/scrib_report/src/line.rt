@@ -1,11 +1,13 @@
 //! The line of a reply.
 
-ghost use Rattle.std.specs.Prelude.{◌≡◌, ◌++◌, ◌∷◌, [], IfOk, OnOk};
+ghost use Rattle.std.specs.Prelude.{◌≡◌, ◌++◌, ◌∷◌, [], IfOk, OnOk, codes};
+ghost use Rattle.std.specs.Fmt.{decimal};
 ghost use Rattle.scrib_report.specs.Lines as lines;
 
 use crate::edit::{edit_word, push_change};
 use crate::fault::push_refusal;
 use crate::verdict::push_told;
+use itoa::write_digits;
 use scrib_core::reply::Reply;
 use scrib_library::changes::Change;
 use scrib_types::event::{Told, Verdict};
@@ -14,6 +16,13 @@ use std::alloc::{AllocError, Global};
 
 // Room for the line of a permitted event, and for the line feed behind it, so that the text is made in one piece.
 const USUAL_BYTES: usize = 64;
+
+// The end of the line of a permitted event, behind room for the digits of a conversation and of a place, and the dot
+// between them.
+const PERMITTED: [u8; 48] = *b"                                      permitted\n";
+
+// Where the digits of the place end in it.
+const DIGITS_END: usize = 37;
 
 fn push_each_change(out: &mut Vec<u8>, changes: &[Change]) -> Result<(), AllocError>
     ensures { OnOk result (out.new.items ≡ out.old.items ++ lines.change_texts changes.now) }
@@ -79,6 +88,19 @@ pub fn push_line(out: &mut Vec<u8>, reply: &Reply) -> Result<(), AllocError>
     }
 }
 
+/// Adds the line of a permitted event, with the line feed behind it. It is laid from its end, so that it is added in one
+/// piece.
+#[inline(always)]
+fn push_permitted(out: &mut Vec<u8>, id: u32, place: u64) -> Result<(), AllocError>
+    ensures { OnOk result (out.new.items ≡ out.old.items ++ (decimal id ++ codes "." ++ decimal place ++ codes " permitted\n")) }
+{
+    let mut line = PERMITTED;
+    let place_at = write_digits(place, &mut line, DIGITS_END);
+    line[place_at - 1] = b'.';
+    let id_at = write_digits(u64::from(id), &mut line, place_at - 1);
+    out.extend_from_slice(&line[id_at..])
+}
+
 /// Adds the line that tells the reply, in ASCII bytes, with the line feed behind it.
 ///
 /// # Errors
@@ -88,17 +110,12 @@ pub fn push_whole_line(out: &mut Vec<u8>, reply: &Reply) -> Result<(), AllocErro
     ensures { OnOk result (out.new.items ≡ out.old.items ++ lines.line_of reply.now ++ 10 ∷ []) }
 {
     match reply {
-        // most replies of a long script: in as few pieces as there are
+        // most replies of a long script
         Reply::Noted {
             id,
             place,
             told: Told::Judged(Verdict::Permitted),
-        } => {
-            push_number(out, u64::from(*id))?;
-            push_bytes(out, b".")?;
-            push_number(out, *place as u64)?;
-            push_bytes(out, b" permitted\n")
-        }
+        } => push_permitted(out, *id, *place as u64),
         _ => {
             push_line(out, reply)?;
             push_bytes(out, b"\n")

@@ -1,6 +1,6 @@
-use Rattle.std.proofs.Common.{◌≡◌, ◌∙◌, Some, None, position}
+use Rattle.std.proofs.Common.{◌≡◌, ◌∙◌, sym, Some, None, position}
 use Rattle.scrib_queues.specs.Channels.{is_pair}
-use Rattle.scrib_queues.proofs.Seen.{stands, none_waits, messages_at, messages_set, room_set, set_elsewhere, keeps_room, on_some}
+use Rattle.scrib_queues.proofs.Seen.{stands, none_waits, messages_at, messages_set, room_set, set_elsewhere, keeps_room, room_at}
 use Rattle.scrib_queues.proofs.queues.Queues.pop.Goals as goal
 
 pub returns-in_err-place-clause-popped : goal.returns-in_err-place-clause-popped
@@ -24,10 +24,12 @@ returns-clause-others c =
 pub returns-clause-room : goal.returns-clause-room
 returns-clause-room c =
     let at : position (is_pair c.args.p c.args.q) c.self.inside.pairs.items ≡ Some c.in_ok-place.place = stands _ _ _ _ _ _ c.place_of.ensures c.deref.ensures.value c.in_ok-place.was in
-    on_some _ c.pop.result (room_set c.self.inside.roles c.args.p c.args.q c.self.inside.pairs.items c.self.inside.lanes.items c.in_ok-place.place c.pop.new.self at c.self.invariant ∙ c.pop.ensures.room)
+    rw (room_set c.self.inside.roles c.args.p c.args.q c.self.inside.pairs.items c.self.inside.lanes.items c.in_ok-place.place c.pop.new.self at c.self.invariant) c.pop.ensures.room
 
 pub returns-clause-kept : goal.returns-clause-kept
 returns-clause-kept c =
     let at : position (is_pair c.args.p c.args.q) c.self.inside.pairs.items ≡ Some c.in_ok-place.place = stands _ _ _ _ _ _ c.place_of.ensures c.deref.ensures.value c.in_ok-place.was in
     let others = set_elsewhere c.self.inside.roles c.args.p c.args.q c.self.inside.pairs.items c.self.inside.lanes.items c.in_ok-place.place c.pop.new.self at in
-    rw (← c.self.view_is) (keeps_room c.args.p c.args.q _ _ others (λ _. room_set c.self.inside.roles c.args.p c.args.q c.self.inside.pairs.items c.self.inside.lanes.items c.in_ok-place.place c.pop.new.self at c.self.invariant ∙ c.pop.ensures.room))
+    let old = room_at c.self.inside.roles c.args.p c.args.q c.self.inside.pairs.items c.self.inside.lanes.items c.in_ok-place.place c.index_mut-lane.result.now at c.self.invariant c.index_mut-lane.ensures.value in
+    let new = room_set c.self.inside.roles c.args.p c.args.q c.self.inside.pairs.items c.self.inside.lanes.items c.in_ok-place.place c.pop.new.self at c.self.invariant in
+    rw (← c.self.view_is) (keeps_room c.args.p c.args.q _ _ others (λ room. new ∙ c.pop.ensures.kept (sym old ∙ room)))

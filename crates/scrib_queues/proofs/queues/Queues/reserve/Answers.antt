@@ -25,14 +25,14 @@ returns-in-Some-clause-kept c =
 pub returns-in-None-clause-messages : goal.returns-in-None-clause-messages
 returns-in-None-clause-messages c =
     let none : position (is_pair c.args.p c.args.q) c.self.inside.pairs.items ≡ None = stands _ _ _ _ _ _ c.place_of.ensures c.deref.ensures.value c.in-None.is in
-    rw (← c.self.view_is) (queues_added _ c.self.inside.roles c.args.p c.args.q c.self.inside.pairs.items c.add_lane.new.pairs.items c.self.inside.lanes.items c.add_lane.new.lanes.items none c.self.invariant c.add_lane.ensures.pairs (c.add_lane.ensures.lanes ∙ ap (λ (l : Channel). if is_ok c.add_lane.result then c.self.inside.lanes.items ++ l ∷ [] else c.self.inside.lanes.items) c.new-lane.ensures))
+    rw (← c.self.view_is) (queues_added _ c.self.inside.roles c.args.p c.args.q c.self.inside.pairs.items c.add_lane.new.pairs.items c.self.inside.lanes.items c.add_lane.new.lanes.items none c.self.invariant c.add_lane.ensures.pairs (c.add_lane.ensures.lanes ∙ ap (λ (l : Channel). if is_ok c.add_lane.result then c.self.inside.lanes.items ++ l ∷ [] else c.self.inside.lanes.items) c.new.ensures))
 
 pub returns-in-None-clause-room : goal.returns-in-None-clause-room
 returns-in-None-clause-room c =
     let none : position (is_pair c.args.p c.args.q) c.self.inside.pairs.items ≡ None = stands _ _ _ _ _ _ c.place_of.ensures c.deref.ensures.value c.in-None.is in
-    room_made c.add_lane.result c.self.inside.roles c.args.p c.args.q c.self.inside.pairs.items c.add_lane.new.pairs.items c.self.inside.lanes.items c.add_lane.new.lanes.items none c.self.invariant c.add_lane.ensures.pairs (c.add_lane.ensures.lanes ∙ ap (λ (l : Channel). if is_ok c.add_lane.result then c.self.inside.lanes.items ++ l ∷ [] else c.self.inside.lanes.items) c.new-lane.ensures)
+    room_made c.add_lane.result c.self.inside.roles c.args.p c.args.q c.self.inside.pairs.items c.add_lane.new.pairs.items c.self.inside.lanes.items c.add_lane.new.lanes.items none c.self.invariant c.add_lane.ensures.pairs (c.add_lane.ensures.lanes ∙ ap (λ (l : Channel). if is_ok c.add_lane.result then c.self.inside.lanes.items ++ l ∷ [] else c.self.inside.lanes.items) c.new.ensures)
 
 pub returns-in-None-clause-kept : goal.returns-in-None-clause-kept
 returns-in-None-clause-kept c =
     let none : position (is_pair c.args.p c.args.q) c.self.inside.pairs.items ≡ None = stands _ _ _ _ _ _ c.place_of.ensures c.deref.ensures.value c.in-None.is in
-    rw (← c.self.view_is) (room_kept _ c.self.inside.roles c.args.p c.args.q c.self.inside.pairs.items c.add_lane.new.pairs.items c.self.inside.lanes.items c.add_lane.new.lanes.items none c.self.invariant c.add_lane.ensures.pairs (c.add_lane.ensures.lanes ∙ ap (λ (l : Channel). if is_ok c.add_lane.result then c.self.inside.lanes.items ++ l ∷ [] else c.self.inside.lanes.items) c.new-lane.ensures))
+    rw (← c.self.view_is) (room_kept _ c.self.inside.roles c.args.p c.args.q c.self.inside.pairs.items c.add_lane.new.pairs.items c.self.inside.lanes.items c.add_lane.new.lanes.items none c.self.invariant c.add_lane.ensures.pairs (c.add_lane.ensures.lanes ∙ ap (λ (l : Channel). if is_ok c.add_lane.result then c.self.inside.lanes.items ++ l ∷ [] else c.self.inside.lanes.items) c.new.ensures))
