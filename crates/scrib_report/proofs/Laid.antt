@@ -20,7 +20,10 @@ laid m n at from byte one two end some within e f =
     let whole : decimal m ++ byte ∷ (decimal n ++ end) ≡ (decimal m ++ byte ∷ []) ++ decimal n ++ end = sym (append_assoc (decimal m ++ byte ∷ []) (decimal n) end ∙ append_assoc (decimal m) (byte ∷ []) (decimal n ++ end)) in
     f ∙ ap (λ rest. decimal m ++ rest) between ∙ whole
 
--- what is added is what was laid
-pub added : {E : Type 0} (r : Result (Unit {0}) E) (new old laid text : List ℕ) → laid ≡ text → new ≡ (if is_ok r then old ++ laid else old) → OnOk r (new ≡ old ++ text)
-added (Ok u) new old laid text e f = f ∙ ap (λ rest. old ++ rest) e
-added (Err u) new old laid text e f = search rules
+-- what is added is what was laid, piece behind piece
+pub added : {E : Type 0} (r : Result (Unit {0}) E) (new old laid a b c d : List ℕ) → laid ≡ a ++ b ++ c ++ d → new ≡ (if is_ok r then old ++ laid else old) → OnOk r (new ≡ old ++ a ++ b ++ c ++ d)
+added (Ok u) new old laid a b c d e f = f ∙ ap (λ rest. old ++ rest) e ∙ apart old a b c d
+  where
+    apart : (old a b c d : List ℕ) → old ++ (a ++ b ++ c ++ d) ≡ old ++ a ++ b ++ c ++ d
+    apart old a b c d = sym (append_assoc old (a ++ b ++ c) d) ∙ ap (λ rest. rest ++ d) (sym (append_assoc old (a ++ b) c) ∙ ap (λ rest. rest ++ c) (sym (append_assoc old a b)))
+added (Err u) new old laid a b c d e f = search rules

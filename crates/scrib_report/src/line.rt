@@ -92,7 +92,7 @@ pub fn push_line(out: &mut Vec<u8>, reply: &Reply) -> Result<(), AllocError>
 /// piece.
 #[inline(always)]
 fn push_permitted(out: &mut Vec<u8>, id: u32, place: u64) -> Result<(), AllocError>
-    ensures { OnOk result (out.new.items ≡ out.old.items ++ (decimal id ++ codes "." ++ decimal place ++ codes " permitted\n")) }
+    ensures { OnOk result (out.new.items ≡ out.old.items ++ decimal id ++ codes "." ++ decimal place ++ codes " permitted\n") }
 {
     let mut line = PERMITTED;
     let place_at = write_digits(place, &mut line, DIGITS_END);
