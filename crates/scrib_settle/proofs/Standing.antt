@@ -14,8 +14,7 @@ use Rattle.scrib_locked.specs.Shards.{ShardHeld}
 use Rattle.scrib_locked.specs.Receipts.{entry_at}
 use Rattle.scrib_locked.specs.Passes.{PassHeld}
 use Rattle.scrib_settle.specs.Shares.{no_shard, records_at, AreDistinct}
-use Rattle.scrib_settle.specs.Places.{IsLeast, IsThere, Stands, conversation_of, own_shard, receipts_of, told_at, earlier_of}
-use Rattle.scrib_settle.specs.Tallies.{StandsInShard}
+use Rattle.scrib_settle.specs.Places.{IsLeast, IsThere, Stands, StandsInShard, conversation_of, own_shard, receipts_of, told_at, earlier_of}
 use Rattle.scrib_settle.specs.declared.differing.Differing.{Differing}
 use Rattle.scrib_settle.proofs.Leasts.{least_both, least_same}
 use Rattle.scrib_settle.proofs.Tallied.{take_step}

@@ -10,8 +10,8 @@ use Rattle.scrib_record.specs.Stale.{Recorded}
 use Rattle.scrib_core.specs.Held.{Records}
 use Rattle.scrib_locked.specs.Passes.{PassHeld}
 use Rattle.scrib_locked.specs.Receipts.{entry_at}
-use Rattle.scrib_settle.specs.Places.{receipts_of, told_at, IsLeast, earlier_of}
-use Rattle.scrib_settle.specs.Tallies.{Counts, AreTallies, OneStands, StandsInShard, StandsBelow, IsFirstDiffering, placed_in}
+use Rattle.scrib_settle.specs.Places.{receipts_of, told_at, OneStands, StandsInShard, IsLeast, earlier_of}
+use Rattle.scrib_settle.specs.Tallies.{Counts, AreTallies, StandsBelow, IsFirstDiffering, placed_in}
 use Rattle.scrib_settle.specs.declared.differing.Differing.{Differing}
 use Rattle.scrib_settle.specs.declared.tally.Tally.{Tally}
 use Rattle.scrib_settle.proofs.Leasts.{IsFirst, least_both, least_same, least_one}

@@ -1,8 +1,9 @@
 -- Which places of logs stand: those that have exactly one receipt, equal to the entry (this project's own).
-use Rattle.std.specs.Prelude.{◌≡◌, ℕ, ◌<◌, ◌%◌, ◌⊎◌, ◌&&◌, ◌||◌, nat_eq, nat_lt, List, [], length, cond, map, filter, flat_map, Bool, Option, Some, None, IfSome, IsSome, All}
+use Rattle.std.specs.Prelude.{◌≡◌, ◌≢◌, ℕ, ◌<◌, ◌%◌, ◌⊎◌, ◌&&◌, ◌||◌, nat_eq, nat_lt, List, [], length, cond, map, filter, flat_map, slice_get, slice_index_or, Bool, true, false, Option, Some, None, IfSome, IsSome, Result, IfOk, All}
+use Rattle.std.specs.declared.alloc.AllocError.{AllocError}
 use Rattle.scrib_types.specs.declared.event.Event.{Event}
 use Rattle.scrib_record.specs.Stale.{Recorded}
-use Rattle.scrib_core.specs.Held.{record_at}
+use Rattle.scrib_core.specs.Held.{Records, record_at}
 use Rattle.scrib_locked.specs.declared.pass.Receipt.{Receipt}
 use Rattle.scrib_locked.specs.Shards.{ShardHeld}
 use Rattle.scrib_locked.specs.Receipts.{entry_at}
@@ -38,6 +39,17 @@ pub record Stands (shards : List ShardHeld) (passes : List PassHeld) (id place :
   pub there : IsThere shards passes id place
   pub home : place ≡ 1 → (k : ℕ) → k < length shards → IsSome (record_at (records_at shards k) id) → k ≡ own_shard shards id
 
+-- the place of a conversation stands in the shard of this number, of so many: in its own shard what is told of it is
+-- its entry; in another its place 1 differs
+abbrev pub OneStands : (count at : ℕ) → List PassHeld → (id place : ℕ) → Recorded → Type 0
+OneStands count at passes id place r =
+    (nat_eq (id % count) at ≡ true → told_at place (receipts_of id passes) ≡ entry_at place r.log)
+    × (nat_eq (id % count) at ≡ false → place ≢ 1)
+
+-- the place stands in the shard, if the shard has the conversation
+abbrev pub StandsInShard : (count at : ℕ) → Records → List PassHeld → (id place : ℕ) → Type 0
+StandsInShard count at rs passes id place = (k : ℕ) (r : Recorded) → slice_get rs k ≡ Some (id, r) → OneStands count at passes id place r
+
 -- before another place: in a conversation of lesser id, or at a lesser place of the same
 abbrev pub IsBefore : (id place : ℕ) → Differing → Type 0
 IsBefore id place d = (id < d.conversation) ⊎ ((id ≡ d.conversation) × (place < d.place))
@@ -55,3 +67,13 @@ abbrev pub earlier_of : Option Differing → Option Differing → Option Differi
 earlier_of None b = b
 earlier_of (Some a) None = Some a
 earlier_of (Some a) (Some b) = cond (is_before b a) (Some b) (Some a)
+
+-- what was found in the shard of this number: the least place of it that differs, if any does; or that memory was
+-- refused
+abbrev pub IsFound : List ShardHeld → List PassHeld → ℕ → Result (Option Differing) AllocError → Type 0
+IsFound shards passes k found = IfOk found (IsLeast (StandsInShard (length shards) k (records_at shards k) passes))
+
+-- what was found in each shard, in order
+pub record AreFound (shards : List ShardHeld) (passes : List PassHeld) (found : List (Result (Option Differing) AllocError)) : Type 0 where
+  pub all : length found ≡ length shards
+  pub each : (k : ℕ) (d : Result (Option Differing) AllocError) → k < length shards → IsFound shards passes k (slice_index_or found k d)

@@ -1,6 +1,6 @@
 -- Tallies of receipts against logs.
 -- Only contracts of private functions cite this file.
-use Rattle.std.specs.Prelude.{◌≡◌, ◌≢◌, ℕ, ◌<◌, ◌+◌, ◌%◌, ◌++◌, List, [], length, Bool, true, false, cond, Option, Some, None, IfSome, nat_eq, slice_get, slice_index_or}
+use Rattle.std.specs.Prelude.{◌≡◌, ◌≢◌, ℕ, ◌<◌, ◌+◌, ◌%◌, ◌++◌, List, [], length, Bool, true, false, cond, Option, Some, None, IfSome, slice_get, slice_index_or}
 use Rattle.scrib_types.specs.declared.event.Event.{Event}
 use Rattle.scrib_record.specs.Stale.{Recorded}
 use Rattle.scrib_core.specs.Held.{Records}
@@ -9,7 +9,7 @@ use Rattle.scrib_locked.specs.Receipts.{entry_at, or_less}
 use Rattle.scrib_locked.specs.Passes.{PassHeld}
 use Rattle.scrib_settle.specs.declared.differing.Differing.{Differing}
 use Rattle.scrib_settle.specs.declared.tally.Tally.{Tally}
-use Rattle.scrib_settle.specs.Places.{told_at, receipts_of}
+use Rattle.scrib_settle.specs.Places.{OneStands, told_at, receipts_of}
 
 -- whether the entry at a place is still to be told
 abbrev pub is_due : ℕ → List Bool → Bool
@@ -47,18 +47,7 @@ IsFirstDiffering log receipts None = (place : ℕ) → told_at place receipts �
 IsFirstDiffering log receipts (Some n) =
     (told_at n receipts ≢ entry_at n log) × ((place : ℕ) → place < n → told_at place receipts ≡ entry_at place log)
 
--- the place of a conversation stands in the shard of this number, of so many: in its own shard what is told of it is
--- its entry; in another its place 1 differs
-abbrev pub OneStands : (count at : ℕ) → List PassHeld → (id place : ℕ) → Recorded → Type 0
-OneStands count at passes id place r =
-    (nat_eq (id % count) at ≡ true → told_at place (receipts_of id passes) ≡ entry_at place r.log)
-    × (nat_eq (id % count) at ≡ false → place ≢ 1)
-
--- the place stands in the shard, if the shard has the conversation
-abbrev pub StandsInShard : (count at : ℕ) → Records → List PassHeld → (id place : ℕ) → Type 0
-StandsInShard count at rs passes id place = (k : ℕ) (r : Recorded) → slice_get rs k ≡ Some (id, r) → OneStands count at passes id place r
-
--- the same of the shard's first conversations
+-- the place stands among the shard's first conversations
 abbrev pub StandsBelow : (n count at : ℕ) → Records → List PassHeld → (id place : ℕ) → Type 0
 StandsBelow n count at rs passes id place = (k : ℕ) (r : Recorded) → k < n → slice_get rs k ≡ Some (id, r) → OneStands count at passes id place r
 

@@ -1,9 +1,10 @@
 //! The end of a service: what its passes were told against what its shards hold.
 #![tactic(auto)]
 
-mod differing;
+pub mod differing;
 pub mod ended;
 pub mod fault;
+pub mod firsts;
 mod places;
 pub mod settle;
 pub mod shares;

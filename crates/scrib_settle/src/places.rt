@@ -1,12 +1,10 @@
 //! The least place of a shard that differs.
 
-ghost use Rattle.std.specs.Prelude.{◌≡◌, ◌<◌, ◌++◌, ◌∷◌, ◌%◌, [], ℕ, IfOk, List, Some, length, slice_get, nat_eq};
-ghost use Rattle.std.specs.List.{IsDistinct};
-ghost use Rattle.std.specs.Map.{keys_of};
+ghost use Rattle.std.specs.Prelude.{◌≡◌, ◌<◌, ◌++◌, ◌∷◌, ◌%◌, [], ℕ, IfOk, List, Some, length, slice_get};
 ghost use Rattle.scrib_record.specs.Stale.{Recorded};
 ghost use Rattle.scrib_locked.specs.Passes.{PassHeld};
-ghost use Rattle.scrib_settle.specs.Places.{IsLeast, receipts_of};
-ghost use Rattle.scrib_settle.specs.Tallies.{Counts, AreTallies, StandsInShard, OneStands, placed_in};
+ghost use Rattle.scrib_settle.specs.Places.{IsLeast, OneStands, StandsInShard, receipts_of};
+ghost use Rattle.scrib_settle.specs.Tallies.{Counts, AreTallies, placed_in};
 
 use crate::differing::{Differing, earlier};
 use crate::tally::Tally;
@@ -26,10 +24,8 @@ pub fn first_in_shard(
     passes: &[Pass],
 ) -> Result<Option<Differing>, AllocError>
     requires { 0 < count }
-    ensures least { IfOk result (IsLeast (StandsInShard count at shard.now.records passes.now)) }
-    ensures distinct { IsDistinct nat_eq (keys_of shard.now.records) }
+    ensures { IfOk result (IsLeast (StandsInShard count at shard.now.records passes.now)) }
 {
-    let _conversations = shard.len();
     let mut tallies = new_tallies(alloc, shard)?;
     count_passes(tallies.as_mut_slice(), shard, count, at, passes);
     Ok(least_of(shard, count, at, tallies.as_slice()))

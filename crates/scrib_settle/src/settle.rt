@@ -1,7 +1,7 @@
 //! Settling.
 
 ghost use Rattle.std.specs.Prelude.{◌≡◌, ◌<◌, ◌≤◌, ℕ, Err, IfOk, IfErr, IsErrAnd, OnOk, IsSome, Some, length};
-ghost use Rattle.scrib_settle.specs.Places.{IsLeast, IsThere, Stands, conversation_of};
+ghost use Rattle.scrib_settle.specs.Places.{AreFound, IsLeast, IsThere, Stands, conversation_of};
 ghost use Rattle.scrib_settle.specs.Settled.{IsFault, IsSettled, Names};
 ghost use Rattle.scrib_settle.specs.declared.differing.Differing.{Differing};
 ghost use Rattle.scrib_settle.specs.Shares.{AllAddUp, AreDistinct, IsLeastShort};
@@ -9,7 +9,7 @@ ghost use Rattle.scrib_settle.specs.Shares.{AllAddUp, AreDistinct, IsLeastShort}
 use crate::differing::{Differing, earlier};
 use crate::ended::{Ended, ended_by_id};
 use crate::fault::SettleFault;
-use crate::places::first_in_shard;
+use crate::firsts::{Found, found_in_each};
 use crate::shares::first_short;
 use scrib_library::library::Library;
 use scrib_locked::pass::Pass;
@@ -37,10 +37,37 @@ pub fn settle_parts(
     ensures missing { (k : ℕ) → IsLeastShort shards.now passes.now k → result ≡ Err (SettleFault.PassesMissing k) }
     ensures mismatch { (d : Differing) → AllAddUp shards.now passes.now → IsLeast (Stands shards.now passes.now) (Some d) → IsErrAnd result (Names d) }
 {
+    let found = found_in_each(alloc, shards, passes);
+    settle_found(alloc, library, shards, passes, found)
+}
+
+/// Decides a settling of 1 to 64 shards as `settle_parts` does, by what was found in each of them, or by that there was
+/// no memory for the list.
+///
+/// # Errors
+/// Those of `settle_parts`.
+pub fn settle_found(
+    alloc: Global,
+    library: &Library,
+    shards: &[Shard],
+    passes: &[Pass],
+    found: Result<Vec<Found>, AllocError>,
+) -> Result<Vec<Ended>, SettleFault>
+    requires some { 0 < length shards.now }
+    requires most { length shards.now ≤ 64 }
+    requires found { IfOk found (λ all. AreFound shards.now passes.now all.items) }
+    ensures settled { IfOk result (λ list. IsSettled library.now shards.now passes.now list.items) }
+    ensures fault { IfErr result (IsFault shards.now passes.now) }
+    ensures missing { (k : ℕ) → IsLeastShort shards.now passes.now k → result ≡ Err (SettleFault.PassesMissing k) }
+    ensures mismatch { (d : Differing) → AllAddUp shards.now passes.now → IsLeast (Stands shards.now passes.now) (Some d) → IsErrAnd result (Names d) }
+{
     if let Some(shard) = first_short(shards, passes) {
         return Err(SettleFault::PassesMissing { shard });
     }
-    match first_differing(alloc, shards, passes) {
+    let Ok(found) = found else {
+        return Err(SettleFault::OutOfMemory);
+    };
+    match first_differing(shards, passes, found.as_slice()) {
         Err(_) => Err(SettleFault::OutOfMemory),
         Ok(Some(differing)) => Err(SettleFault::Mismatch {
             conversation: differing.conversation,
@@ -53,22 +80,23 @@ pub fn settle_parts(
     }
 }
 
-// The least place that differs.
+// The least place that differs, by what was found in each shard.
 fn first_differing(
-    alloc: Global,
     shards: &[Shard],
     passes: &[Pass],
+    found: &[Found],
 ) -> Result<Option<Differing>, AllocError>
     requires some { 0 < length shards.now }
+    requires found { AreFound shards.now passes.now found.now }
     ensures least { IfOk result (IsLeast (Stands shards.now passes.now)) }
     ensures distinct { OnOk result (AreDistinct shards.now) }
 {
     let mut least = first_stray(shards, passes);
     for (at, shard) in shards.iter().enumerate() {
-        least = earlier(
-            least,
-            first_in_shard(alloc, shard, shards.len(), at, passes)?,
-        );
+        // The number of a shard's conversations comes with the fact that no id stands twice in it.
+        let _conversations = shard.len();
+        let own = found[at]?;
+        least = earlier(least, own);
     }
     Ok(least)
 }

@@ -2,8 +2,8 @@ use Rattle.std.proofs.Common.{◌≡◌, ◌∙◌, length, ap, sym}
 use Rattle.scrib_settle.proofs.Tallied.{lent_back}
 use Rattle.scrib_settle.proofs.places.first_in_shard.Goals as goal
 
-pub returns-clause-least : goal.returns-clause-least
-returns-clause-least c =
+pub returns : goal.returns
+returns c =
     let fresh = c.in_ok-tallies.ensures.fresh c.args.count c.args.at in
     let items = c.in_ok-tallies.tallies.items in
     let after = c.count_passes.new.tallies in

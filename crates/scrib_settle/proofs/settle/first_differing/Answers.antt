@@ -1,20 +1,25 @@
-use Rattle.std.proofs.Common.{◌≡◌, ◌<◌, ℕ, length, nat_eq, subst, arith, below_more}
+use Rattle.std.proofs.Common.{◌≡◌, ◌<◌, ℕ, None, Ok, length, nat_eq, refl, subst, arith, below_more}
 use Rattle.std.specs.List.{IsDistinct}
 use Rattle.std.specs.Map.{keys_of}
 use Rattle.scrib_core.specs.Held.{Records}
 use Rattle.scrib_settle.specs.Shares.{records_at}
+use Rattle.scrib_settle.specs.Places.{IsLeast, StandsInShard}
 use Rattle.scrib_settle.proofs.Standing.{records_read, so_far_more, stands_all}
 use Rattle.scrib_settle.proofs.settle.first_differing.Goals as goal
 
 pub loop-at-preserved : goal.loop-at-preserved
 loop-at-preserved c =
-    let within : c.loop-at.at < length c.args.shards.now = omega arith in
-    let here : c.index-shards-at.result.records ≡ records_at c.args.shards.now c.loop-at.at = records_read c.args.shards.now c.loop-at.at c.index-shards-at.result within c.index-shards-at.is in
+    let shards = c.args.shards.now in
+    let at = c.loop-at.at in
+    let within : at < length shards = omega arith in
+    let here : c.index-shards-at.result.records ≡ records_at shards at = records_read shards at c.index-shards-at.result within c.index-shards-at.is in
+    let own : IsLeast (StandsInShard (length shards) at (records_at shards at) c.args.passes.now) c.in_ok-own.own =
+    rw c.in_ok-own.was at (c.requires.found.each at (Ok None) within) in
     record {
-      least = rw c.earlier-least.ensures (so_far_more c.loop-at.at c.args.shards.now c.args.passes.now c.index-shards-at.result.records c.loop-at.least
-          c.in_ok-first_in_shard.field-0 here c.loop-at.invariant.least c.in_ok-first_in_shard.ensures.least);
-      distinct = below_more (λ (k : ℕ). IsDistinct nat_eq (keys_of (records_at c.args.shards.now k))) c.loop-at.at c.loop-at.invariant.distinct
-          (subst (λ (rs : Records). IsDistinct nat_eq (keys_of rs)) here c.first_in_shard.ensures.distinct);
+      least = rw c.earlier-least.ensures (so_far_more at shards c.args.passes.now (records_at shards at) c.loop-at.least
+          c.in_ok-own.own refl c.loop-at.invariant.least own);
+      distinct = below_more (λ (k : ℕ). IsDistinct nat_eq (keys_of (records_at shards k))) at c.loop-at.invariant.distinct
+          (subst (λ (rs : Records). IsDistinct nat_eq (keys_of rs)) here c.len-conversations.ensures.kept.distinct);
     }
 
 pub returns-clause-least : goal.returns-clause-least
