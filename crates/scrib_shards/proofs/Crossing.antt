@@ -6,9 +6,9 @@ use denote.RattleType.{RattleType}
 use denote.Param.{param}
 use denote.Param.Send.{IsSend, IsSync, sendable}
 use denote.Ref.{NamedLft}
-use denote.Struct.Field.{shr_ref_field}
+use denote.Struct.Field.{shr_ref_field, shr_slice_field}
 use denote.Struct.Tuple.{TupleAt}
-use denote.Param.SendFields.{declared_sync}
+use denote.Param.SendFields.{declared_send, declared_sync}
 use Rattle.std.proofs.Crossing as heap
 use Rattle.std.proofs.alloc.Global.TheSendSync as Globals
 use Rattle.std.proofs.boxed.Box.TheSendSync as Boxs
@@ -238,6 +238,17 @@ shard_values = heap.Vec-sync Shard.the_row shard_sync
 pub service_sync : IsSync Service.the_row
 service_sync = declared_sync Service.the_type (Globals.the_sync, (library_lock, (shard_locks, (shard_values, tt))))
 
+library_lock_send : IsSend (ShardedLock.the_row Library.the_row Heap.the_row ghosts)
+library_lock_send = search (ShardedLocks.the_send, library_send, library_sync, heap.crosses, sendable) depth 60 fits 20000
+
+shard_lock_send : IsSend ShardLock
+shard_lock_send = search (CachePaddeds.the_send, Mutexes.the_send, shard_send, sendable) depth 60 fits 20000
+
+-- A service may go to a thread that ends it.
+pub service_send : IsSend Service.the_row
+service_send = declared_send Service.the_type
+    (Globals.the_send, (library_lock_send, (heap.Vec-send ShardLock shard_lock_send, (heap.Vec-send Shard.the_row shard_send, tt))))
+
 -- What a closure that is run on a thread holds may go there, where it holds these, in the order in which it first names
 -- them: the runtime and the service, by reference;
 pub editing_send : (R : RattleType) (ν : List ℕ) (a b : NamedLft) → IsSync R
@@ -248,3 +259,9 @@ editing_send R ν a b r = search (service_sync, sendable) depth 60 fits 20000
 pub noting_send : (R : RattleType) (ν : List ℕ) (a b d : NamedLft) → IsSync R
     → IsSend (TupleAt ν ((shr_ref_field a (param 0 R) tt).row ∷ (shr_ref_field b Heap.the_row tt).row ∷ (shr_ref_field d Service.the_row tt).row ∷ Pass.the_row ∷ []))
 noting_send R ν a b d r = search (service_sync, Passes.the_send, Globals.the_sync, sendable) depth 60 fits 20000
+
+-- What threads share that each look for the least place of a shard: the allocator, by reference, the shards' values and
+-- the passes.
+pub finding_sync : (ν : List ℕ) (a b d : NamedLft)
+    → IsSync (TupleAt ν ((shr_ref_field a Heap.the_row tt).row ∷ (shr_slice_field b Shard.the_row tt).row ∷ (shr_slice_field d Pass.the_row tt).row ∷ []))
+finding_sync ν a b d = search (shard_sync, Passes.the_sync, Globals.the_sync, sendable) depth 60 fits 20000

@@ -5,6 +5,7 @@ ghost use Rattle.std.specs.Option.{option_map};
 ghost use Rattle.scrib_record.specs.Versions.{meaning_of, number_of};
 ghost use Rattle.scrib_library.specs.Holdings.{IsNumber};
 ghost use Rattle.scrib_library.specs.Modules.{IsMeaning};
+ghost use Rattle.scrib_settle.specs.Places.{AreFound};
 ghost use Rattle.scrib_settle.specs.Settled.{IsFault, IsSettled};
 ghost use Rattle.scrib_shards.specs.Settling.{IsSettledSome, IsFaultSome};
 
@@ -16,10 +17,12 @@ use scrib_locked::shard::Shard;
 use scrib_record::version::Version;
 use scrib_settle::ended::Ended;
 use scrib_settle::fault::SettleFault;
-use scrib_settle::settle::settle_parts;
+use scrib_settle::firsts::{Found, found_in, found_in_each};
+use scrib_settle::settle::settle_found;
 use scrib_types::name::Dotted;
-use std::alloc::Global;
-use std::mem;
+use std::alloc::{AllocError, Global};
+use std::thread::Threads;
+use std::{mem, thread};
 
 /// A service at its end: the library, and every conversation by rising id; and what was settled, the shards with their
 /// logs and the passes with their receipts.
@@ -62,42 +65,111 @@ impl Service {
             spare,
         } = self;
         let (values, locks) = unlock_all(shards, spare);
-        match settle_values(alloc, &library, values.as_slice(), passes.as_slice()) {
-            Ok((library, list)) => Ok(Settled {
-                library,
-                list,
-                shards: values,
-                passes,
-            }),
-            Err(fault) => {
-                let (locks, spare) = lock_all(locks, values);
-                let service = made(alloc, library, locks, spare);
-                Err((fault, service, passes))
-            }
+        let found = found_in_each(alloc, values.as_slice(), passes.as_slice());
+        settle_unlocked(alloc, library, values, locks, passes, found)
+    }
+
+    /// Ends the service as `settle` does. The logs of each shard are compared with the receipts on a thread of its own;
+    /// where none can be started, on one that there is.
+    ///
+    /// # Errors
+    /// Those of `settle`.
+    pub fn settle_on_threads<R: Threads + Sync>(
+        self,
+        rt: &R,
+        passes: Vec<Pass>,
+    ) -> Result<Settled, (SettleFault, Service, Vec<Pass>)>
+        ensures settled { IfOk result (λ s. IsSettledSome (vec_len self.shards) s.library passes.items s.list.items) }
+        ensures fault { IfErr result (λ e. IsFaultSome (vec_len self.shards) passes.items e.0) }
+        ensures shards { IfErr result (λ e. vec_len e.1.shards ≡ vec_len self.shards) }
+        ensures passes { IfErr result (λ e. e.2 ≡ passes) }
+    {
+        let Service {
+            alloc,
+            library,
+            shards,
+            spare,
+        } = self;
+        let (values, locks) = unlock_all(shards, spare);
+        let found = found_on_threads(rt, alloc, values.as_slice(), passes.as_slice());
+        settle_unlocked(alloc, library, values, locks, passes, found)
+    }
+}
+
+// What is found in each shard, on a thread of its own.
+fn found_on_threads<R: Threads + Sync>(
+    rt: &R,
+    alloc: Global,
+    shards: &[Shard],
+    passes: &[Pass],
+) -> Result<Vec<Found>, AllocError>
+    ensures { IfOk result (λ found. AreFound shards.now passes.now found.items) }
+{
+    thread::map_indices(
+        rt,
+        alloc,
+        shards.len(),
+        &|at| found_in(alloc, shards, passes, at),
+    )
+}
+
+// Settles the shards by what was found in each. On a fault they are put behind locks again, for which there is room.
+fn settle_unlocked(
+    alloc: Global,
+    library: ShardedLock<Library>,
+    shards: Vec<Shard>,
+    locks: Vec<ShardLock>,
+    passes: Vec<Pass>,
+    found: Result<Vec<Found>, AllocError>,
+) -> Result<Settled, (SettleFault, Service, Vec<Pass>)>
+    requires some { 0 < vec_len shards }
+    requires few { vec_len shards ≤ 64 }
+    requires back { vec_len shards ≤ vec_capacity shards }
+    requires empty { vec_len locks ≡ 0 }
+    requires room { vec_len shards ≤ vec_capacity locks }
+    requires found { IfOk found (λ all. AreFound shards.items passes.items all.items) }
+    ensures settled { IfOk result (λ s. IsSettledSome (vec_len shards) s.library passes.items s.list.items) }
+    ensures fault { IfErr result (λ e. IsFaultSome (vec_len shards) passes.items e.0) }
+    ensures shards { IfErr result (λ e. vec_len e.1.shards ≡ vec_len shards) }
+    ensures passes { IfErr result (λ e. e.2 ≡ passes) }
+{
+    match settle_values(alloc, &library, shards.as_slice(), passes.as_slice(), found) {
+        Ok((library, list)) => Ok(Settled {
+            library,
+            list,
+            shards,
+            passes,
+        }),
+        Err(fault) => {
+            let (locks, spare) = lock_all(locks, shards);
+            let service = made(alloc, library, locks, spare);
+            Err((fault, service, passes))
         }
     }
 }
 
-// Settles the shards under the library behind the lock, and takes the library out where they settle. On a fault it
-// stays.
+// Settles the shards under the library behind the lock, by what was found in each, and takes the library out where they
+// settle. On a fault it stays.
 fn settle_values(
     alloc: Global,
     lock: &ShardedLock<Library>,
     shards: &[Shard],
     passes: &[Pass],
+    found: Result<Vec<Found>, AllocError>,
 ) -> Result<(Library, Vec<Ended>), SettleFault>
     requires some { 0 < length shards.now }
     requires few { length shards.now ≤ 64 }
+    requires found { IfOk found (λ all. AreFound shards.now passes.now all.items) }
     ensures settled { IfOk result (λ s. IsSettled s.0 shards.now passes.now s.1.items) }
     ensures fault { IfErr result (IsFault shards.now passes.now) }
 {
     let Some(mut library) = lock.try_write() else {
         // Not reached: who settles has the service alone, and no call of this crate forgets a guard. A fault that
         // needs no library is told first.
-        settle_parts(alloc, &Library::new(alloc), shards, passes)?;
+        settle_found(alloc, &Library::new(alloc), shards, passes, found)?;
         return Err(SettleFault::OutOfMemory);
     };
-    let list = settle_parts(alloc, &library, shards, passes)?;
+    let list = settle_found(alloc, &library, shards, passes, found)?;
     let library = mem::replace(&mut *library, Library::new(alloc));
     Ok((library, list))
 }
