@@ -8,7 +8,7 @@ use Rattle.std.proofs.lemmas.List.Quantifiers.{position-Some}
 use Rattle.std.proofs.lemmas.Map.Entries.{lookup_from_place}
 use Rattle.std.proofs.lemmas.Map.Keys.{apart_from_distinct}
 
-key_at : {X : Type 0} (es : List (ℕ × X)) (i id : ℕ) (x : X) → slice_get es i ≡ Some (id, x) → slice_get (keys_of es) i ≡ Some id
+pub key_at : {X : Type 0} (es : List (ℕ × X)) (i id : ℕ) (x : X) → slice_get es i ≡ Some (id, x) → slice_get (keys_of es) i ≡ Some id
 key_at {X} es i id x h = slice_get-map (λ (e : ℕ × X). e.0) es i ∙ ap (option_map (λ (e : ℕ × X). e.0)) h
 
 -- what stands at a key's position

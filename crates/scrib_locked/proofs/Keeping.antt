@@ -1,5 +1,5 @@
 -- What the steps keep of a shard: its book, and that its records are lawful and within its limits.
-use Rattle.std.proofs.Common.{◌≡◌, ℕ, ◌+◌, ◌<◌, ◌≤◌, List, [], ◌∷◌, ◌++◌, length, Option, Some, None, IfSome, All, nat_eq, refl, sym, ap, subst, ◌∙◌, arith, length-append, true≢false, IsSome, option_to_list}
+use Rattle.std.proofs.Common.{◌≡◌, ℕ, ◌+◌, ◌<◌, ◌≤◌, List, [], ◌∷◌, ◌++◌, length, Option, Some, None, Result, Ok, Err, IfOk, OnErr, IfSome, All, nat_eq, refl, sym, ap, subst, ◌∙◌, arith, length-append, true≢false, IsSome, option_to_list}
 use Rattle.std.specs.Map.{set_value, values_of}
 use Rattle.std.specs.List.{sum_by}
 use Rattle.std.proofs.lemmas.List.{map-append, same_from_push}
@@ -20,10 +20,13 @@ use Rattle.scrib_core.specs.declared.reply.Reply.{Reply}
 use Rattle.scrib_core.specs.declared.reply.Reply.TheVariants as reply
 use Rattle.scrib_core.specs.declared.reply.Refusal.TheVariants.{OutOfMemory}
 use Rattle.scrib_core.specs.Held.{Records, record_at}
-use Rattle.scrib_core.specs.Conversing.{IsOpened, AnswersOpen, AnswersNote, AnswersTurn}
+use Rattle.scrib_core.specs.Conversing.{IsOpened, IsNotedAt, AnswersOpen, AnswersNote, AnswersTurn}
+use Rattle.scrib_locked.specs.declared.passing.PassRefusal.{PassRefusal}
+use Rattle.scrib_locked.specs.declared.stepping.Noted.{Noted}
 use Rattle.scrib_locked.specs.Indexing.{Listing, listed, only_under}
 use Rattle.scrib_locked.specs.Shards.{IsWithin, AreWithin, IsStored}
 use Rattle.scrib_locked.specs.Locked.{entries_of}
+use Rattle.scrib_locked.specs.Noting.{notes_of}
 use Rattle.scrib_locked.proofs.Listed.{index_none, index_push, index_set, index_kept}
 
 abbrev events_in : Recorded → ℕ
@@ -129,6 +132,16 @@ note_keeps most h old id e (reply.Edited d changes) new es book x s = absurd x
 note_keeps most h old id e (reply.Profiled p) new es book x s = absurd x
 note_keeps most h old id e (reply.Opened i n) new es book x s = absurd x
 note_keeps most h old id e (reply.Judged i n events told) new es book x s = absurd x
+
+pub notes_few : (answer : Result Noted PassRefusal) → notes_of answer ≤ 1
+notes_few (Ok n) = omega arith
+notes_few (Err f) = omega arith
+
+-- so it is where the answer is no reply
+pub pass_note_keeps : (most : ℕ) (h : Holdings) (old : Records) (id : ℕ) (e : Event) (answer : Result Noted PassRefusal) (new : Records) (es : Listing) (book : ℕ)
+    → IfOk answer (λ n. IsNotedAt h old id e n.place n.told new) → OnErr answer (new ≡ old) → IsStored most old es book → IsStored most new es (book + notes_of answer)
+pass_note_keeps most h old id e (Ok n) new es book noted same s = note_keeps most h old id e (reply.Noted id n.place n.told) new es book (refl, noted) s
+pass_note_keeps most h old id e (Err f) new es book noted same s = none_more most new es book (stored_same most old new es book same s)
 
 -- a record that is there is lawful and within the limit
 pub within_at : (rs : Records) (id : ℕ) (r : Recorded) → AreWithin rs → record_at rs id ≡ Some r → IsWithin r

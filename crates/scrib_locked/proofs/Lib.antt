@@ -1,6 +1,8 @@
 pub mod Indexes
 pub mod Keeping
 pub mod Listed
+pub mod Notes
+pub mod Places
 pub mod Receipting
 pub mod Strays
 pub mod Sweeping

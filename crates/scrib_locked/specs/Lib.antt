@@ -4,4 +4,5 @@ pub mod Receipts
 pub mod Passes
 pub mod Locked
 pub mod Passing
+pub mod Noting
 pub mod Sweeping

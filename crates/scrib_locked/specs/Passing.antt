@@ -13,6 +13,10 @@ use Rattle.scrib_locked.specs.Locked.{IsAskedFor}
 use Rattle.scrib_locked.specs.Receipts.{StandsIn, IsLeastStray}
 use Rattle.scrib_locked.specs.Passes.{PassHeld, newest_of}
 
+-- the newest receipt of the pass stands
+abbrev pub NewestStands : Records → PassHeld → Type 0
+NewestStands rs p = All (StandsIn (log_at rs p.conversation)) (newest_of p.receipts)
+
 -- the newest receipt stood, and the event was noted in the pass's conversation
 pub record IsNotedBy (h : Holdings) (old : ShardHeld) (p : PassHeld) (e : Event) (n : Noted) (new : ShardHeld) : Type 0 where
   pub stood : All (StandsIn (log_at old.records p.conversation)) (newest_of p.receipts)

@@ -3,6 +3,7 @@
 
 pub mod index;
 pub mod locked;
+pub mod noting;
 pub mod pass;
 pub mod passing;
 pub mod shard;

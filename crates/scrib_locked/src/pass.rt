@@ -20,6 +20,8 @@ pub struct Receipt {
 pub struct Pass {
     pub(crate) conversation: u32,
     pub(crate) receipts: Vec<Receipt>,
+    // Where the record of the conversation stood last. Nothing rests on it.
+    pub(crate) near: usize,
 }
 
 impl Model for Pass {
@@ -41,6 +43,7 @@ impl Pass {
         Pass {
             conversation,
             receipts: Vec::new(alloc),
+            near: 0,
         }
     }
 
@@ -59,7 +62,21 @@ impl Pass {
         self.receipts.as_slice()
     }
 
+    /// The place that was kept last, or 0: a hint for who looks the record of the conversation up, on which nothing
+    /// rests.
+    pub(crate) fn near(&self) -> usize {
+        self.near
+    }
+
+    /// Keeps a place where the record of the conversation may be found the next time.
+    pub(crate) fn keep_near(&mut self, near: usize)
+        ensures { self.new ≡ self.old }
+    {
+        self.near = near;
+    }
+
     /// The newest receipt, alone, or none.
+    #[inline(always)]
     pub fn newest(&self) -> &[Receipt]
         ensures { result.now ≡ newest_of self.now.receipts }
     {

@@ -1,17 +1,22 @@
 //! Notes and questions by passes, whose receipts are compared with the log first.
 
-ghost use Rattle.std.specs.Prelude.{◌≡◌, IfOk, IfErr, OnErr};
-ghost use Rattle.scrib_core.specs.Conversing.{NoteFails};
-ghost use Rattle.scrib_locked.specs.Passes.{IsReceipted, IsAnsweredOn};
-ghost use Rattle.scrib_locked.specs.Passing.{IsNotedBy, PassNoteFails, IsAskedBy, PassAskFails};
+ghost use Rattle.std.specs.Prelude.{◌≡◌, None, IfOk, IfErr, OnOk, OnErr};
+ghost use Rattle.scrib_core.specs.Held.{Records, record_at};
+ghost use Rattle.scrib_core.specs.Conversing.{IsNotedAt};
+ghost use Rattle.scrib_locked.specs.Noting.{StandsAt, notes_of};
+ghost use Rattle.scrib_locked.specs.Passes.{PassHeld, IsReceipted, IsAnsweredOn, newest_of};
+ghost use Rattle.scrib_locked.specs.Passing.{NewestStands, IsNotedBy, PassNoteFails, IsAskedBy, PassAskFails};
 
 use crate::locked::stands_locked;
+use crate::noting::{note_in, place_near, refusal_of, without_memory};
 use crate::pass::{Pass, Receipt};
 use crate::shard::Shard;
-use crate::stepping::{Noted, ask_step, note_step};
+use crate::standing::least_stray;
+use crate::stepping::{Noted, ask_step};
+use indexmap::IndexMap;
 use scrib_core::reply::Refusal;
 use scrib_library::library::Library;
-use scrib_record::record::MAX_EVENTS;
+use scrib_record::record::Record;
 use scrib_types::event::{Event, Told};
 
 /// Why a call by a pass was refused. Nothing changes then.
@@ -28,6 +33,7 @@ pub enum PassRefusal {
 /// # Errors
 /// `Mismatch` where the newest receipt doesn't stand, else `NoConversation`, `LogFull` or `OutOfMemory`, the first that
 /// is due. Shard and pass stay as they are.
+#[inline(always)]
 pub fn note_by_pass(
     library: &Library,
     shard: &mut Shard,
@@ -40,26 +46,9 @@ pub fn note_by_pass(
     ensures shard { OnErr result (shard.new ≡ shard.old) }
     ensures pass { OnErr result (pass.new ≡ pass.old) }
 {
-    let id = pass.conversation();
-    if let Some(place) = stands_locked(shard, id, pass.newest()) {
-        return Err(PassRefusal::Mismatch {
-            conversation: id,
-            place,
-        });
-    }
-    let (Ok(kept), Ok(())) = (event.copy(), pass.receipts.reserve(1)) else {
-        return Err(PassRefusal::Step(without_memory(shard, id)));
-    };
-    match note_step(library, shard, id, event) {
-        Ok(noted) => {
-            pass.receipts.push_reserved(Receipt {
-                place: noted.place,
-                event: kept,
-            });
-            Ok(noted)
-        }
-        Err(refusal) => Err(PassRefusal::Step(refusal)),
-    }
+    let noted = note_among(library, &mut shard.records, pass, event);
+    shard.book += notes_of(&noted);
+    noted
 }
 
 /// What is told of the pass's conversation, whose log has all its receipts.
@@ -84,18 +73,91 @@ pub fn ask_by_pass(library: &Library, shard: &Shard, pass: &Pass) -> Result<Told
     }
 }
 
-// The refusal of a note for which there is no memory: the first that is due.
-fn without_memory(shard: &Shard, id: u32) -> Refusal
-    ensures { NoteFails shard.now.records id result }
+// Notes the event in the record of the pass's conversation, which is looked for first where it stood last.
+#[inline(always)]
+fn note_among(
+    library: &Library,
+    records: &mut IndexMap<u32, Record>,
+    pass: &mut Pass,
+    event: Event,
+) -> Result<Noted, PassRefusal>
+    ensures stood { OnOk result (NewestStands records.old.entries pass.old) }
+    ensures noted { IfOk result (λ n. IsNotedAt library.now records.old.entries pass.old.conversation event n.place n.told records.new.entries) }
+    ensures receipted { IfOk result (λ n. IsReceipted pass.old event n pass.new) }
+    ensures fault { IfErr result (PassNoteFails records.old.entries pass.old) }
+    ensures records { OnErr result (records.new.entries ≡ records.old.entries) }
+    ensures pass { OnErr result (pass.new ≡ pass.old) }
 {
-    match shard.record(id) {
-        None => Refusal::NoConversation,
-        Some(record) => {
-            if record.log().len() >= MAX_EVENTS {
-                Refusal::LogFull
-            } else {
-                Refusal::OutOfMemory
-            }
+    let id = pass.conversation();
+    match place_near(records, pass.near(), id) {
+        Some(at) => {
+            pass.keep_near(at);
+            note_at(library, records, at, pass, event)
         }
+        None => Err(unopened(id, pass.newest())),
+    }
+}
+
+// Notes the event in the record at this place, where the pass's newest receipt stands in its log.
+#[inline(always)]
+fn note_at(
+    library: &Library,
+    records: &mut IndexMap<u32, Record>,
+    at: usize,
+    pass: &mut Pass,
+    event: Event,
+) -> Result<Noted, PassRefusal>
+    requires { StandsAt records.old.entries at pass.old.conversation }
+    ensures stood { OnOk result (NewestStands records.old.entries pass.old) }
+    ensures noted { IfOk result (λ n. IsNotedAt library.now records.old.entries pass.old.conversation event n.place n.told records.new.entries) }
+    ensures receipted { IfOk result (λ n. IsReceipted pass.old event n pass.new) }
+    ensures fault { IfErr result (PassNoteFails records.old.entries pass.old) }
+    ensures records { OnErr result (records.new.entries ≡ records.old.entries) }
+    ensures pass { OnErr result (pass.new ≡ pass.old) }
+{
+    let Some(conversation) = records.get_index_mut(at) else {
+        unreachable!()
+    };
+    if let Some(place) = least_stray(conversation.log(), pass.newest()) {
+        return Err(PassRefusal::Mismatch {
+            conversation: pass.conversation(),
+            place,
+        });
+    }
+    let (Ok(kept), Ok(())) = (event.copy(), pass.receipts.reserve(1)) else {
+        return Err(PassRefusal::Step(refusal_of(without_memory(conversation))));
+    };
+    match note_in(library, conversation, event) {
+        Ok(noted) => {
+            pass.receipts.push_reserved(Receipt {
+                place: noted.place,
+                event: kept,
+            });
+            Ok(noted)
+        }
+        Err(fault) => Err(PassRefusal::Step(refusal_of(fault))),
+    }
+}
+
+// Why nothing is noted where no conversation of the id is open.
+fn unopened(id: u32, newest: &[Receipt]) -> PassRefusal
+    ensures { (rs : Records) (p : PassHeld) → record_at rs id ≡ None → p.conversation ≡ id → newest.now ≡ newest_of p.receipts → PassNoteFails rs p result }
+{
+    match least_stray(&[], newest) {
+        Some(place) => PassRefusal::Mismatch {
+            conversation: id,
+            place,
+        },
+        None => PassRefusal::Step(Refusal::NoConversation),
+    }
+}
+
+// How many entries the note has added to a log.
+fn notes_of(noted: &Result<Noted, PassRefusal>) -> u64
+    ensures { result ≡ notes_of noted.now }
+{
+    match noted {
+        Ok(_) => 1,
+        Err(_) => 0,
     }
 }

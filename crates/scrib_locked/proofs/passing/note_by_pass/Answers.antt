@@ -1,39 +1,27 @@
-use Rattle.std.proofs.Common.{◌≡◌, ◌++◌, ◌∷◌, [], ◌∙◌, ℕ, List, ap, subst}
-use Rattle.scrib_core.specs.Conversing.{NoteFails, IsNotedAt}
-use Rattle.scrib_locked.specs.declared.pass.Receipt.{Receipt}
-use Rattle.scrib_locked.proofs.Receipting.{receipt_of, stood_there, pass_rises, pass_receipted}
+use Rattle.std.proofs.Common.{IfOk, IfErr, refl, subst, arith}
+use Rattle.scrib_locked.specs.declared.stepping.Noted.{Noted}
+use Rattle.scrib_locked.specs.Passing.{IsNotedBy, PassNoteFails}
+use Rattle.scrib_locked.specs.Shards.{ShardHeld}
+use Rattle.scrib_locked.proofs.Keeping.{book_small, notes_few, pass_note_keeps}
+use Rattle.scrib_locked.proofs.Notes.{noted_by}
 use Rattle.scrib_locked.proofs.passing.note_by_pass.Goals as goal
 
-pub returns-in_default-2-clause-fault : goal.returns-in_default-2-clause-fault
-returns-in_default-2-clause-fault c = (
-  stood_there c.args.shard.now.records c.args.pass.now c.conversation-id.result c.newest.result.now c.conversation-id.ensures c.newest.ensures c.in_default.ensures,
-  subst (λ (i : ℕ). NoteFails c.args.shard.now.records i c.without_memory.result) c.conversation-id.ensures c.without_memory.ensures,
-)
+pub overflow_add-shard : goal.overflow_add-shard
+overflow_add-shard c = omega (arith, book_small c.shard.inside.most c.shard.inside.records.entries c.shard.inside.index.entries c.shard.inside.book c.shard.invariant, notes_few c.note_among-noted.result, c.notes_of.ensures)
 
-pub returns-in-Err-clause-fault : goal.returns-in-Err-clause-fault
-returns-in-Err-clause-fault c = (
-  stood_there c.args.shard.now.records c.args.pass.now c.conversation-id.result c.newest.result.now c.conversation-id.ensures c.newest.ensures c.in_default.ensures,
-  subst (λ (i : ℕ). NoteFails c.args.shard.now.records i c.in-Err.refusal) c.conversation-id.ensures c.in-Err.ensures.fault,
-)
+pub invariant_of-shard : goal.invariant_of-shard
+invariant_of-shard c =
+    rw c.notes_of.ensures (pass_note_keeps c.shard.inside.most c.args.library.now c.shard.inside.records.entries c.args.pass.now.conversation c.args.event c.note_among-noted.result c.note_among-noted.new.records.entries
+    c.shard.inside.index.entries c.shard.inside.book c.note_among-noted.ensures.noted c.note_among-noted.ensures.records c.shard.invariant)
 
-pub invariant_of-pass-in-Ok : goal.invariant_of-pass-in-Ok
-invariant_of-pass-in-Ok c =
-    let n = c.in-Ok.noted in
-    let p = c.args.pass.now in
-    let pushed : c.push_reserved.new.self.items ≡ c.pass.inside.receipts.items ++ receipt_of n c.in-Ok-Ok.kept ∷ [] =
-    c.push_reserved.ensures.items ∙ ap (λ (rs : List Receipt). rs ++ receipt_of n c.in-Ok-Ok.kept ∷ []) c.reserve.ensures.items in
-    let stood = stood_there c.args.shard.now.records p c.conversation-id.result c.newest.result.now c.conversation-id.ensures c.newest.ensures c.in_default.ensures in
-    let noted = subst (λ (i : ℕ). IsNotedAt c.args.library.now c.args.shard.now.records i c.args.event n.place n.told c.note_step.new.shard.records) c.conversation-id.ensures c.in-Ok.ensures.ok in
-    pass_rises c.args.library.now c.args.shard.now.records p c.pass.inside.conversation c.pass.inside.receipts.items c.push_reserved.new.self.items c.args.event c.in-Ok-Ok.kept n
-    c.note_step.new.shard.records c.pass.view_is pushed c.in-Ok-Ok.ensures c.pass.invariant stood noted
+pub returns-clause-noted : goal.returns-clause-noted
+returns-clause-noted c =
+    let noted = c.note_among-noted in
+    let old : ShardHeld = record { most = c.shard.inside.most; records = c.shard.inside.records.entries } in
+    let new : ShardHeld = record { most = c.shard.inside.most; records = noted.new.records.entries } in
+    subst (λ (s : ShardHeld). IfOk noted.result (λ (n : Noted). IsNotedBy c.args.library.now s c.args.pass.now c.args.event n new)) c.shard.view_is
+    (noted_by c.args.library.now old new c.args.pass.now c.args.event noted.result noted.ensures.stood noted.ensures.noted refl)
 
-pub returns-in-Ok-clause-receipted : goal.returns-in-Ok-clause-receipted
-returns-in-Ok-clause-receipted c =
-    let n = c.in-Ok.noted in
-    let p = c.args.pass.now in
-    let pushed : c.push_reserved.new.self.items ≡ c.pass.inside.receipts.items ++ receipt_of n c.in-Ok-Ok.kept ∷ [] =
-    c.push_reserved.ensures.items ∙ ap (λ (rs : List Receipt). rs ++ receipt_of n c.in-Ok-Ok.kept ∷ []) c.reserve.ensures.items in
-    let stood = stood_there c.args.shard.now.records p c.conversation-id.result c.newest.result.now c.conversation-id.ensures c.newest.ensures c.in_default.ensures in
-    let noted = subst (λ (i : ℕ). IsNotedAt c.args.library.now c.args.shard.now.records i c.args.event n.place n.told c.note_step.new.shard.records) c.conversation-id.ensures c.in-Ok.ensures.ok in
-    pass_receipted c.args.library.now c.args.shard.now.records p c.pass.inside.conversation c.pass.inside.receipts.items c.push_reserved.new.self.items c.args.event c.in-Ok-Ok.kept n
-    c.note_step.new.shard.records c.pass.view_is pushed c.in-Ok-Ok.ensures c.pass.invariant stood noted
+pub returns-clause-fault : goal.returns-clause-fault
+returns-clause-fault c =
+    subst (λ (s : ShardHeld). IfErr c.note_among-noted.result (PassNoteFails s.records c.args.pass.now)) c.shard.view_is c.note_among-noted.ensures.fault
