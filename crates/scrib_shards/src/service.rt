@@ -92,6 +92,7 @@ impl Service {
     }
 
     // The shard of a conversation.
+    #[inline(always)]
     fn shard_of(&self, id: u32) -> usize
         ensures { result < vec_len self.now.shards }
     {
@@ -169,6 +170,8 @@ impl Service {
     /// # Errors
     /// `Mismatch` where the newest receipt doesn't stand at its place, else `NoConversation`, `LogFull` or
     /// `OutOfMemory`, the first that is due. Nothing changes, nor does the pass.
+    // Its answer is made where the caller wants it: moved, it would wait until the event is in memory.
+    #[inline(always)]
     pub fn note<G: Gate>(
         &self,
         rt: &impl Wait,
