@@ -1,6 +1,10 @@
 -- A line that is laid from its end.
 use Rattle.std.proofs.Common.{◌≡◌, ◌≤◌, ◌<◌, ◌+◌, ◌-◌, ◌^◌, ℕ, List, [], ◌∷◌, ◌++◌, codes, drop, length, set, sym, ap, ◌∙◌, append_assoc, Result, Ok, Err, is_ok, OnOk, if◌then◌else◌, rules, arith}
 use Rattle.std.specs.Fmt.{decimal}
+use Rattle.scrib_types.specs.declared.event.Told.TheVariants.{Judged}
+use Rattle.scrib_types.specs.declared.event.Verdict.TheVariants.{Permitted}
+use Rattle.scrib_core.specs.declared.reply.Reply.TheVariants.{Noted}
+use Rattle.scrib_report.specs.Lines.{line_of, told_text, verdict_text}
 use Rattle.std.proofs.lemmas.Fmt.{length-decimal-le}
 use Rattle.std.proofs.lemmas.Grind.{drop-set_at}
 use Rattle.std.proofs.lemmas.List.{drop-set}
@@ -20,10 +24,22 @@ laid m n at from byte one two end some within e f =
     let whole : decimal m ++ byte ∷ (decimal n ++ end) ≡ (decimal m ++ byte ∷ []) ++ decimal n ++ end = sym (append_assoc (decimal m ++ byte ∷ []) (decimal n) end ∙ append_assoc (decimal m) (byte ∷ []) (decimal n ++ end)) in
     f ∙ ap (λ rest. decimal m ++ rest) between ∙ whole
 
--- what is added is what was laid, piece behind piece
+-- what stands behind an old text, piece behind piece
+apart : (old a b c d : List ℕ) → old ++ (a ++ b ++ c ++ d) ≡ old ++ a ++ b ++ c ++ d
+apart old a b c d = sym (append_assoc old (a ++ b ++ c) d) ∙ ap (λ rest. rest ++ d) (sym (append_assoc old (a ++ b) c) ∙ ap (λ rest. rest ++ c) (sym (append_assoc old a b)))
+
+-- what is added is what was laid
 pub added : {E : Type 0} (r : Result (Unit {0}) E) (new old laid a b c d : List ℕ) → laid ≡ a ++ b ++ c ++ d → new ≡ (if is_ok r then old ++ laid else old) → OnOk r (new ≡ old ++ a ++ b ++ c ++ d)
 added (Ok u) new old laid a b c d e f = f ∙ ap (λ rest. old ++ rest) e ∙ apart old a b c d
-  where
-    apart : (old a b c d : List ℕ) → old ++ (a ++ b ++ c ++ d) ≡ old ++ a ++ b ++ c ++ d
-    apart old a b c d = sym (append_assoc old (a ++ b ++ c) d) ∙ ap (λ rest. rest ++ d) (sym (append_assoc old (a ++ b) c) ∙ ap (λ rest. rest ++ c) (sym (append_assoc old a b)))
 added (Err u) new old laid a b c d e f = search rules
+
+-- and that is the line of a permitted event, and its end
+pub line_and_end : (old : List ℕ) (id place : ℕ) → old ++ decimal id ++ codes "." ++ decimal place ++ codes " permitted\n" ≡ old ++ line_of (Noted id place (Judged Permitted)) ++ 10 ∷ []
+unfolding line_of told_text verdict_text
+line_and_end old id place =
+    let numbers = decimal id ++ codes "." ++ decimal place in
+    let end : List ℕ = 10 ∷ [] in
+    let inside = append_assoc (numbers ++ codes " ") (codes "permitted") end ∙ append_assoc numbers (codes " ") (codes "permitted" ++ end) in
+    sym (apart old (decimal id) (codes ".") (decimal place) (codes " permitted\n"))
+    ∙ ap (λ rest. old ++ rest) (sym inside)
+    ∙ sym (append_assoc old (numbers ++ codes " " ++ codes "permitted") end)

@@ -105,7 +105,7 @@ fn push_permitted(out: &mut Vec<u8>, id: u32, place: u64) -> Result<(), AllocErr
 ///
 /// # Errors
 /// `AllocError` where memory for the longer text was refused.
-#[tactic(auto, unfolding(crate::specs::Lines::line_of, crate::specs::Lines::told_text, crate::specs::Lines::verdict_text))]
+#[tactic(auto, using(crate::proofs::Laid::line_and_end))]
 pub fn push_whole_line(out: &mut Vec<u8>, reply: &Reply) -> Result<(), AllocError>
     ensures { OnOk result (out.new.items ≡ out.old.items ++ lines.line_of reply.now ++ 10 ∷ []) }
 {
