@@ -8,6 +8,7 @@ use denote.Ref.{NamedLft}
 use denote.Struct.Field.{shr_ref_field, u64-field}
 use denote.Struct.Tuple.{TupleAt}
 use Rattle.std.specs.contracts.alloc.Global as Global
+use Rattle.std.specs.contracts.vec.Vec as Vec
 use Rattle.std.specs.contracts.impls.GlobalAllocator.TheImpl.{ghosts}
 use Rattle.std.proofs.alloc.Global.TheSendSync as Globals
 use Rattle.crossbeam_channel.specs.contracts.channel.Receiver as Receiver
@@ -15,10 +16,14 @@ use Rattle.crossbeam_channel.specs.contracts.channel.Sender as Sender
 use Rattle.crossbeam_channel.proofs.channel.Receiver.TheSendSync as Receivers
 use Rattle.crossbeam_channel.proofs.channel.Sender.TheSendSync as Senders
 use Rattle.std.proofs.Crossing as heap
+use Rattle.scrib_locked.specs.contracts.pass.Pass as Pass
+use Rattle.scrib_locked.proofs.pass.Pass.TheSendSync as Passes
+use Rattle.scrib_script.specs.contracts.format.Format as Format
+use Rattle.scrib_script.proofs.format.Format.TheSendSync as Formats
 use Rattle.scrib_rejudge.specs.contracts.notices.Notice as Notice
 use Rattle.scrib_rejudge.proofs.notices.Notice.TheSendSync as Notices
 use Rattle.scrib_shards.specs.contracts.service.Service as Service
-use Rattle.scrib_shards.proofs.Crossing.{service_sync}
+use Rattle.scrib_shards.proofs.Crossing.{service_send, service_sync}
 use Rattle.scrib_run.specs.contracts.common.Common as Common
 use Rattle.scrib_run.proofs.progress.Tally.TheSendSync as Tallies
 
@@ -45,3 +50,9 @@ common_sync a P p = search (service_sync, Tallies.the_sync, sendable) depth 60 f
 pub connecting_sync : (R P : RattleType) (ν : List ℕ) (a b d e : NamedLft) → IsSync R → IsSync P
     → IsSync (TupleAt ν ((shr_ref_field a (param 0 R) tt).row ∷ (shr_ref_field b (Common.the_row d (param 2 P)) tt).row ∷ (shr_ref_field e (Sender.the_row Notice.the_row Global.the_row ghosts) tt).row ∷ []))
 connecting_sync R P ν a b d e r p = search (common_sync, outbox_sync, sendable) depth 60 fits 20000
+
+-- what goes to the thread that settles: the runtime, the allocator and the format, by reference, the service and the
+-- passes
+pub settling_send : (R : RattleType) (ν : List ℕ) (a b d : NamedLft) → IsSync R
+    → IsSend (TupleAt ν ((shr_ref_field a (param 0 R) tt).row ∷ (shr_ref_field b Global.the_row tt).row ∷ (shr_ref_field d Format.the_row tt).row ∷ Service.the_row ∷ Vec.the_row Pass.the_row Global.the_row ghosts ∷ []))
+settling_send R ν a b d r = search (service_send, heap.crosses, Passes.the_send, Formats.the_sync, Globals.the_sync, sendable) depth 60 fits 20000

@@ -30,6 +30,8 @@ pub(crate) struct Connection<'a> {
     outbox: Option<&'a Sender<Notice>>,
     format: Format,
     passes: IndexMap<u32, Pass>,
+    // Where the pass stands that was used last. Nothing rests on it.
+    near: usize,
     lines: Vec<u8>,
     // How many events it noted that weren't counted yet.
     noted: u64,
@@ -43,9 +45,9 @@ pub(crate) struct Closed {
 }
 
 impl<'a> Connection<'a> {
-    ghost use Rattle.std.specs.Prelude.{◌≡◌, ◌<◌, IfOk, OnErr, IsSome, nat_eq};
+    ghost use Rattle.std.specs.Prelude.{◌≡◌, ◌<◌, IfOk, IfSome, OnErr, IsSome, None, Some, nat_eq, slice_get};
     ghost use Rattle.std.specs.Map.{lookup};
-    ghost use Rattle.indexmap.specs.IndexMap.{index_map_len};
+    ghost use Rattle.indexmap.specs.IndexMap.{index_map_len, keys};
 
     /// A connection that used no conversation. What it is answered is told in the format of the run.
     pub(crate) fn new<P>(
@@ -58,6 +60,7 @@ impl<'a> Connection<'a> {
             outbox,
             format: common.format,
             passes: IndexMap::new(common.alloc),
+            near: 0,
             lines: Vec::new(common.alloc),
             noted: 0,
         }
@@ -88,6 +91,7 @@ impl<'a> Connection<'a> {
     ///
     /// # Errors
     /// `OutOfMemory` where there is no memory for a line.
+    #[inline(always)]
     pub(crate) fn tell(
         &mut self,
         rt: &impl Wait,
@@ -146,7 +150,8 @@ impl<'a> Connection<'a> {
         }
     }
 
-    // Makes the step.
+    // Makes the step. What it answers is made where it is told: moved, it would wait until it is in memory.
+    #[inline(always)]
     fn carry_out(&mut self, rt: &impl Wait, step: Step) -> Answer {
         match step {
             Step::Put { text } => edited(Edit::Put, self.service.put(rt, text.as_slice())),
@@ -162,6 +167,7 @@ impl<'a> Connection<'a> {
         }
     }
 
+    #[inline(always)]
     fn note(&mut self, rt: &impl Wait, id: u32, event: Event) -> Answer {
         let service = self.service;
         let pass = match self.pass_to(rt, id) {
@@ -191,6 +197,7 @@ impl<'a> Connection<'a> {
     }
 
     // Its pass to the conversation, to which it connects where it has none.
+    #[inline(always)]
     fn pass_to(&mut self, rt: &impl Wait, id: u32) -> Result<&mut Pass, Refusal> {
         let at = self.place_of_pass(rt, id)?;
         match self.passes.get_index_mut(at) {
@@ -201,14 +208,38 @@ impl<'a> Connection<'a> {
 
     // The place among its passes of that to the conversation, to which it connects where it has none. It makes no
     // second one.
+    #[inline(always)]
     fn place_of_pass(&mut self, rt: &impl Wait, id: u32) -> Result<usize, Refusal>
         ensures once { IsSome (lookup (nat_eq id) self.old.passes.entries) → self.new.passes ≡ self.old.passes }
         ensures within { IfOk result (λ at. at < index_map_len self.new.passes) }
+        ensures found { IfOk result (λ at. slice_get (keys self.new.passes) at ≡ Some id) }
         ensures fault { OnErr result (self.new.passes.entries ≡ self.old.passes.entries) }
     {
-        if let Some(at) = self.passes.get_index_of(&id) {
-            return Ok(at);
+        let at = match self.place_near(id) {
+            Some(at) => at,
+            None => self.connect(rt, id)?,
+        };
+        self.near = at;
+        Ok(at)
+    }
+
+    // The place of the pass to the conversation, if it has one. It is looked for first where the last one stood.
+    #[inline(always)]
+    fn place_near(&self, id: u32) -> Option<usize>
+        ensures found { IfSome result (λ at. slice_get (keys self.now.passes) at ≡ Some id) }
+        ensures absent { result ≡ None → lookup (nat_eq id) self.now.passes.entries ≡ None }
+    {
+        match self.passes.get_index(self.near) {
+            Some((key, _)) if *key == id => Some(self.near),
+            _ => self.passes.get_index_of(&id),
         }
+    }
+
+    // Connects to the conversation, to which it has no pass. Gives the place of the pass.
+    fn connect(&mut self, rt: &impl Wait, id: u32) -> Result<usize, Refusal>
+        ensures found { IfOk result (λ at. slice_get (keys self.new.passes) at ≡ Some id) }
+        ensures fault { OnErr result (self.new.passes.entries ≡ self.old.passes.entries) }
+    {
         let pass = self.service.connect(rt, id)?;
         match self.passes.insert_full(id, pass) {
             Ok((at, _)) => Ok(at),

@@ -23,15 +23,16 @@ use std::io::{Read, Write};
 use std::marker::Send;
 use std::mem::forget;
 use std::sync::Wait;
+use std::thread;
 use std::thread::Threads;
 
 /// Runs scripts over one new service, by these options. First the setup script is carried out, and its lines are
 /// written. Then each connection script is, on a thread of its own and over passes of its own, while workers bring
-/// verdicts up to date that edits put out of date. When all have ended, a last sweep brings every verdict up to date
-/// and the service is settled. Then for each connection, in order, the line `connection 1` with its number is written,
-/// and its lines; and at last the table of all conversations. A connection whose reader failed has `read fault` as its
-/// last line. In JSON these lines are `{"connection":1}`, `{"fault":"read"}`, and a line for each conversation and for
-/// their number. The memory of the service isn't given back: a process makes one run.
+/// verdicts up to date that edits put out of date. When all have ended, a last sweep brings every verdict up to date.
+/// Then for each connection, in order, the line `connection 1` with its number is written, and its lines, while the
+/// service is settled on other threads; and at last the table of all conversations. A connection whose reader failed
+/// has `read fault` as its last line. In JSON these lines are `{"connection":1}`, `{"fault":"read"}`, and a line for
+/// each conversation and for their number. The memory of the service isn't given back: a process makes one run.
 ///
 /// # Errors
 /// What was written by then is a beginning of the output.
@@ -82,13 +83,15 @@ pub fn run_service<
     }
     tally.begin(Phase::Settling);
     let (passes, texts) = parted(alloc, prepared, closed)?;
-    let settled = settled(service, passes)?;
-    let table = table_text(alloc, *format, settled.list.as_slice())?;
-    write_connections(alloc, *format, texts.as_slice(), writer)?;
-    write_out(writer, table.as_slice())?;
-    // To give the memory of long logs back, event by event, takes a tenth of a run, and the process ends here.
-    forget(settled);
-    flush_out(writer)
+    finish(
+        rt,
+        alloc,
+        *format,
+        service,
+        passes,
+        texts.as_slice(),
+        writer,
+    )
 }
 
 // Carries out the setup, and writes its lines. Gives its passes.
@@ -151,9 +154,49 @@ fn parted(
     Ok((passes, texts))
 }
 
+// Writes the lines of the connections while the service settles, and then the table.
+fn finish<R: Threads + Sync, W: Write>(
+    rt: &R,
+    alloc: Global,
+    format: Format,
+    service: Service,
+    passes: Vec<Pass>,
+    texts: &[Vec<u8>],
+    writer: &mut W,
+) -> Result<(), ScriptFault> {
+    let (table, written) = thread::join(
+        rt,
+        || settled_table(rt, alloc, format, service, passes),
+        || write_connections(alloc, format, texts, writer),
+    );
+    let table = table?;
+    written?;
+    write_out(writer, table.as_slice())?;
+    flush_out(writer)
+}
+
+// Settles the service, and gives the text of the table.
+fn settled_table<R: Threads + Sync>(
+    rt: &R,
+    alloc: Global,
+    format: Format,
+    service: Service,
+    passes: Vec<Pass>,
+) -> Result<Vec<u8>, ScriptFault> {
+    let settled = settled(rt, service, passes)?;
+    let table = table_text(alloc, format, settled.list.as_slice())?;
+    // To give the memory of long logs back, event by event, takes a tenth of a run, and the process ends soon.
+    forget(settled);
+    Ok(table)
+}
+
 // Settles the service.
-fn settled(service: Service, passes: Vec<Pass>) -> Result<Settled, ScriptFault> {
-    match service.settle(passes) {
+fn settled<R: Threads + Sync>(
+    rt: &R,
+    service: Service,
+    passes: Vec<Pass>,
+) -> Result<Settled, ScriptFault> {
+    match service.settle_on_threads(rt, passes) {
         Ok(settled) => Ok(settled),
         Err((SettleFault::OutOfMemory, _, _)) => Err(ScriptFault::OutOfMemory),
         Err(_) => Err(ScriptFault::Settle),
