@@ -1,6 +1,6 @@
 //! Rows of calls of a core.
 
-use crate::fault::{RowFault, again, check};
+use crate::fault::{RowFault, check, second};
 use crate::making::step_of;
 use crate::rows::Call;
 use scrib_core::monitor::Core;
@@ -51,7 +51,12 @@ fn same_event(a: &Event, b: &Event) -> bool {
 }
 
 fn same_log(a: &[Event], b: &[Event]) -> bool {
-    a.len() == b.len() && a.iter().zip(b).all(|(a, b)| same_event(a, b))
+    for (a, b) in a.iter().zip(b) {
+        if !same_event(a, b) {
+            return false;
+        }
+    }
+    a.len() == b.len()
 }
 
 fn same_protocol(a: Option<&Protocol>, b: Option<&Protocol>) -> bool {
@@ -73,17 +78,16 @@ fn same_view(a: &Core, b: &Core, id: u32) -> bool {
     }
 }
 
-/// Whether the conversations 1 and 2 of both stand the same, and are told the same.
-pub(crate) fn same_conversations(
-    a: &mut Core,
-    b: &mut Core,
-    alloc: Global,
-) -> Result<bool, RowFault> {
+fn same_line(alloc: Global, a: &Reply, b: &Reply) -> Result<bool, RowFault> {
+    Ok(line(alloc, a)?.as_slice() == line(alloc, b)?.as_slice())
+}
+
+// Whether the conversations 1 and 2 of both stand the same, and are told the same.
+fn same_conversations(alloc: Global, a: &mut Core, b: &mut Core) -> Result<bool, RowFault> {
     for id in 1..=2 {
-        let told = line(alloc, &a.apply(Step::Ask { id }))?;
-        if !same_view(a, b, id)
-            || told.as_slice() != line(alloc, &b.apply(Step::Ask { id }))?.as_slice()
-        {
+        let told_a = a.apply(Step::Ask { id });
+        let told_b = b.apply(Step::Ask { id });
+        if !same_view(a, b, id) || !same_line(alloc, &told_a, &told_b)? {
             return Ok(false);
         }
     }
@@ -99,6 +103,23 @@ fn core_after(alloc: Global, calls: &[Call]) -> Result<Core, RowFault> {
     Ok(core)
 }
 
+// The core is to stand as one that made these calls.
+fn check_core(alloc: Global, core: &mut Core, calls: &[Call]) -> Result<(), RowFault> {
+    let mut other = core_after(alloc, calls)?;
+    check(same_conversations(alloc, core, &mut other)?)
+}
+
+// The reply to the step, which is made once more, since memory was refused to it after these calls.
+fn second_reply(
+    alloc: Global,
+    core: &mut Core,
+    before: &[Call],
+    step: &str,
+) -> Result<Reply, RowFault> {
+    check_core(alloc, core, before)?;
+    Ok(core.apply(step_of(alloc, step)?.1))
+}
+
 // The reply to the step, which comes after these calls. Where memory is refused, the core is to stand as one that made
 // those calls, and the step is made once more.
 fn reply_to(
@@ -107,24 +128,32 @@ fn reply_to(
     before: &[Call],
     step: &str,
 ) -> Result<(Format, Reply), RowFault> {
-    let (format, first) = again(|| step_of(alloc, step))?;
+    let (format, first) = step_of(alloc, step)?;
     let reply = core.apply(first);
-    if !is_refused(&reply) {
-        return Ok((format, reply));
+    if is_refused(&reply) {
+        return Ok((format, second(second_reply(alloc, core, before, step))?));
     }
-    let mut other = core_after(alloc, before)?;
-    check(same_conversations(core, &mut other, alloc)?)?;
-    let (format, second) = step_of(alloc, step)?;
-    Ok((format, core.apply(second)))
+    Ok((format, reply))
+}
+
+// Makes the call, which comes after those, and compares the line of its reply.
+fn check_call(
+    alloc: Global,
+    core: &mut Core,
+    before: &[Call],
+    call: &Call,
+) -> Result<(), RowFault> {
+    let (step, answer) = call;
+    let (format, reply) = reply_to(alloc, core, before, step)?;
+    let text = text_of(alloc, format, &reply)?;
+    check(is_answer(answer, text.as_slice()))
 }
 
 /// Makes the calls of a row, and compares the lines of their replies.
 pub(crate) fn run_calls(alloc: Global, calls: &[Call]) -> Result<(), RowFault> {
     let mut core = Core::new(alloc);
-    for (at, (step, answer)) in calls.iter().enumerate() {
-        let (format, reply) = reply_to(alloc, &mut core, &calls[..at], step)?;
-        let text = again(|| text_of(alloc, format, &reply))?;
-        check(is_answer(answer, text.as_slice()))?;
+    for (at, call) in calls.iter().enumerate() {
+        check_call(alloc, &mut core, &calls[..at], call)?;
     }
     Ok(())
 }
@@ -145,44 +174,58 @@ fn is_answer(answer: &str, text: &[u8]) -> bool {
     }
 }
 
-/// Makes the calls of a row at once. Where there is no room for the replies, no step is made, and the calls are made
-/// once more; where one of them is refused memory, the others are answered as without it.
-pub(crate) fn run_at_once(alloc: Global, calls: &[Call]) -> Result<(), RowFault> {
-    let steps = again(|| steps_of(alloc, calls))?;
-    let mut core = Core::new(alloc);
-    let replies = match core.run(&steps) {
-        Ok(replies) => replies,
-        Err(_) => {
-            check(same_conversations(&mut core, &mut Core::new(alloc), alloc)?)?;
-            core.run(&steps)?
+fn has_refused(replies: &[Reply]) -> bool {
+    for reply in replies {
+        if is_refused(reply) {
+            return true;
         }
-    };
+    }
+    false
+}
+
+// The step's reply where none is refused memory; and the step is made once more where it is.
+fn reply_alone(alloc: Global, core: &mut Core, step: &str) -> Result<Reply, RowFault> {
+    let reply = core.apply(step_of(alloc, step)?.1);
+    if is_refused(&reply) {
+        return Ok(core.apply(second(step_of(alloc, step))?.1));
+    }
+    Ok(reply)
+}
+
+// Compares the replies with those that a core gives to the steps one by one, but for a reply that memory was refused.
+fn check_replies(alloc: Global, calls: &[Call], replies: &[Reply]) -> Result<(), RowFault> {
     let mut other = Core::new(alloc);
-    for ((step, _), reply) in calls.iter().zip(&replies) {
+    for ((step, _), reply) in calls.iter().zip(replies) {
         if !is_refused(reply) {
-            let alone = applied(alloc, &mut other, step)?;
-            let (text, want) = (
-                again(|| line_of(alloc, reply))?,
-                again(|| line_of(alloc, &alone))?,
-            );
-            check(text.as_slice() == want.as_slice())?;
+            let alone = reply_alone(alloc, &mut other, step)?;
+            check(same_line(alloc, reply, &alone)?)?;
         }
     }
     Ok(())
 }
 
-fn line_of(alloc: Global, reply: &Reply) -> Result<Vec<u8>, RowFault> {
-    Ok(line(alloc, reply)?)
+// Where there was no room for the replies, no step was made, and the calls are made once more.
+fn run_at_once_again(
+    alloc: Global,
+    core: &mut Core,
+    calls: &[Call],
+    steps: &[Step],
+) -> Result<(), RowFault> {
+    check_core(alloc, core, &[])?;
+    let replies = core.run(steps)?;
+    check_replies(alloc, calls, &replies)
 }
 
-// Makes the step, and where memory is refused makes it once more.
-fn applied(alloc: Global, core: &mut Core, step: &str) -> Result<Reply, RowFault> {
-    let (_, first) = again(|| step_of(alloc, step))?;
-    let reply = core.apply(first);
-    if !is_refused(&reply) {
-        return Ok(reply);
+/// Makes the calls of a row at once. Where there is no room for the replies, no step is made, and the calls are made
+/// once more; where one of them is refused memory, the others are answered as without it.
+pub(crate) fn run_at_once(alloc: Global, calls: &[Call]) -> Result<(), RowFault> {
+    let steps = steps_of(alloc, calls)?;
+    let mut core = Core::new(alloc);
+    match core.run(&steps) {
+        Ok(replies) if has_refused(&replies) => second(check_replies(alloc, calls, &replies)),
+        Ok(replies) => check_replies(alloc, calls, &replies),
+        Err(_) => second(run_at_once_again(alloc, &mut core, calls, &steps)),
     }
-    Ok(core.apply(step_of(alloc, step)?.1))
 }
 
 fn steps_of(alloc: Global, calls: &[Call]) -> Result<Vec<Step>, RowFault> {

@@ -7,8 +7,10 @@ use std::io;
 /// Why a row ends early.
 #[derive(Drop)]
 pub(crate) enum RowFault {
-    /// Memory was refused.
+    /// Memory was refused to a call that makes a value. The row is run once more.
     Memory,
+    /// Memory was refused again, to what was done because it was refused before.
+    Again,
     /// An answer isn't the row's, or something changed that was to stay.
     Wrong,
     /// The writer failed.
@@ -42,12 +44,10 @@ impl From<io::Error> for RowFault {
     }
 }
 
-/// Makes the call, and where memory is refused makes it once more.
-pub(crate) fn again<T, F: Fn() -> Result<T, RowFault>>(call: F) -> Result<T, RowFault>
-    requires { F.IsAlwaysCallable call }
-{
-    match call() {
-        Err(RowFault::Memory) => call(),
+/// The answer of what was done because memory was refused before, where the row isn't to be run once more.
+pub(crate) fn second<T>(answer: Result<T, RowFault>) -> Result<T, RowFault> {
+    match answer {
+        Err(RowFault::Memory) => Err(RowFault::Again),
         answer => answer,
     }
 }

@@ -3,7 +3,7 @@
 ghost use Rattle.std.specs.Prelude.{◌≡◌, IfOk};
 
 use crate::core_rows::is_refused;
-use crate::fault::{RowFault, again, check};
+use crate::fault::{RowFault, check};
 use crate::making::{event_of, step_of};
 use crate::rows::{DEMO, PUT_DEMO, PUT_TWO_OF_THREE};
 use crate::script_rows::page;
@@ -58,7 +58,7 @@ fn check_written(
 
 // What the role's projection prints.
 fn check_projection(alloc: Global, role: &str, want: &str) -> Result<(), RowFault> {
-    let texts = again(|| texts(alloc))?;
+    let texts = texts(alloc)?;
     let mut written = page(alloc)?;
     let answered = project_text(
         alloc,
@@ -73,7 +73,7 @@ fn check_projection(alloc: Global, role: &str, want: &str) -> Result<(), RowFaul
 
 // What the machine of A prints.
 fn check_machine(alloc: Global) -> Result<(), RowFault> {
-    let texts = again(|| texts(alloc))?;
+    let texts = texts(alloc)?;
     let mut written = page(alloc)?;
     let answered = machine_text(
         alloc,
@@ -106,10 +106,10 @@ fn protocol_of(core: &Core) -> Result<&Protocol, RowFault> {
 
 /// The tokens of a module, the projections of its protocol, and the machine of one.
 pub(crate) fn run_front_end(alloc: Global) -> Result<(), RowFault> {
-    again(|| check_tokens(alloc))?;
-    again(|| check_projection(alloc, "A", "B!hello().B?bye().end\n"))?;
-    again(|| check_projection(alloc, "B", "A?hello().A!bye().end\n"))?;
-    again(|| check_machine(alloc))
+    check_tokens(alloc)?;
+    check_projection(alloc, "A", "B!hello().B?bye().end\n")?;
+    check_projection(alloc, "B", "A?hello().A!bye().end\n")?;
+    check_machine(alloc)
 }
 
 fn message_of(alloc: Global) -> Result<SharedMessage, RowFault> {
@@ -120,7 +120,10 @@ fn message_of(alloc: Global) -> Result<SharedMessage, RowFault> {
 }
 
 fn is(front: Option<&SharedMessage>, message: &SharedMessage) -> bool {
-    front.is_some_and(|front| front.equal(message))
+    match front {
+        Some(front) => front.equal(message),
+        None => false,
+    }
 }
 
 // Queues of two roles, with the message in one.
@@ -130,7 +133,9 @@ fn queues_with(alloc: Global, message: SharedMessage) -> Result<Queues, RowFault
     let mut queues = Queues::new(alloc, 2);
     if queues.reserve(0, 1).is_err() {
         check(queues.front(0, 1).is_none())?;
-        queues.reserve(0, 1)?;
+        if queues.reserve(0, 1).is_err() {
+            return Err(RowFault::Again);
+        }
     }
     queues.push(0, 1, message);
     Ok(queues)
@@ -143,26 +148,31 @@ fn copied(alloc: Global, queues: &Queues) -> Result<Queues, RowFault>
     if let Ok(copy) = queues.copy(alloc) {
         return Ok(copy);
     }
-    let copy = queues.copy(alloc)?;
-    Ok(copy)
+    queues.copy(alloc).ok().ok_or(RowFault::Again)
+}
+
+// The message stands in the queues and in their copy, and nothing else does.
+fn check_queues(alloc: Global, queues: &mut Queues, message: &SharedMessage) -> Result<(), RowFault>
+    requires { queues.old.roles ≡ 2 }
+{
+    let copy = copied(alloc, queues)?;
+    check(is(queues.front(0, 1), message) && is(copy.front(0, 1), message))?;
+    check(queues.front(1, 0).is_none())?;
+    let popped = queues.pop(0, 1);
+    check(is(popped.as_ref(), message) && queues.pop(0, 1).is_none())
 }
 
 /// A queue and its copy.
 pub(crate) fn run_queues(alloc: Global) -> Result<(), RowFault> {
-    let message = again(|| message_of(alloc))?;
-    let pushed = again(|| Ok(message.copy()?))?;
-    let mut queues = queues_with(alloc, pushed)?;
-    let copy = copied(alloc, &queues)?;
-    check(is(queues.front(0, 1), &message) && is(copy.front(0, 1), &message))?;
-    check(queues.front(1, 0).is_none())?;
-    let popped = queues.pop(0, 1);
-    check(is(popped.as_ref(), &message) && queues.pop(0, 1).is_none())
+    let message = message_of(alloc)?;
+    let mut queues = queues_with(alloc, message.copy()?)?;
+    check_queues(alloc, &mut queues, &message)
 }
 
 /// A global type and its copy.
 pub(crate) fn run_copies(alloc: Global) -> Result<(), RowFault> {
-    let core = again(|| core_of(alloc, PUT_TWO_OF_THREE, "open 1 v.V"))?;
+    let core = core_of(alloc, PUT_TWO_OF_THREE, "open 1 v.V")?;
     let global = protocol_of(&core)?.global();
-    let copy = again(|| Ok(GlobalType::copy(alloc, global)?))?;
+    let copy = GlobalType::copy(alloc, global)?;
     check(GlobalType::equal(&copy, global))
 }

@@ -1,7 +1,8 @@
-//! Worked examples as calls of which one is to be refused memory. Where a call is, what stood before it is compared with
-//! what stands after it, the call is made once more, and the answers are those of the example. Its word is a row's name,
-//! or `all`; it prints a line for each row, and ends with status 1 where an answer isn't the row's, and with 3 where a
-//! second request was refused.
+//! Worked examples as calls of which one is to be refused memory. Where a call is that works on a core, a service or
+//! queues, what stood before it is compared with what stands after it, and the call is made once more on the same; where
+//! a call is that makes a value from others, the row is run once more. The answers are those of the example. Its word is
+//! a row's name, or `all`; it prints a line for each row, and ends with status 1 where an answer isn't the row's, and
+//! with 3 where a second request was refused.
 #![tactic(auto)]
 
 mod core_rows;
@@ -14,7 +15,7 @@ mod script_rows;
 mod service_rows;
 
 use crate::core_rows::{run_at_once, run_calls};
-use crate::fault::{RowFault, again};
+use crate::fault::{RowFault, second};
 use crate::front_rows::{run_copies, run_front_end, run_queues};
 use crate::making::repeated;
 use crate::rows::Call;
@@ -60,7 +61,7 @@ fn run_row<R: Threads + Wait + Sync>(rt: &R, alloc: Global, name: &str) -> Resul
         "withdrawn" => run_in_each_way(alloc, rows::WITHDRAWN),
         "unmergeable" => run_in_each_way(alloc, rows::UNMERGEABLE),
         "turns" => {
-            let calls = again(|| repeated(alloc, rows::JOINED, rows::SENT, 511, rows::JUDGED))?;
+            let calls = repeated(alloc, rows::JOINED, rows::SENT, 511, rows::JUDGED)?;
             run_calls(alloc, &calls)
         }
         "json" => {
@@ -80,6 +81,18 @@ fn run_row<R: Threads + Wait + Sync>(rt: &R, alloc: Global, name: &str) -> Resul
     }
 }
 
+// Runs the row, and once more where memory is refused to a call that makes a value.
+fn run_row_again<R: Threads + Wait + Sync>(
+    rt: &R,
+    alloc: Global,
+    name: &str,
+) -> Result<(), RowFault> {
+    match run_row(rt, alloc, name) {
+        Err(RowFault::Memory) => second(run_row(rt, alloc, name)),
+        answer => answer,
+    }
+}
+
 // Runs the row of this name, or each row, and prints its name.
 fn run<R: Threads + Wait + Sync + Print + AllocGlobal>(
     rt: &R,
@@ -88,7 +101,7 @@ fn run<R: Threads + Wait + Sync + Print + AllocGlobal>(
     let mut writer = io::writer(rt);
     for name in NAMES {
         if wanted == "all" || *name == wanted {
-            run_row(rt, rt.alloc(), name)?;
+            run_row_again(rt, rt.alloc(), name)?;
             writer.write_all(name.as_bytes())?;
             writer.write_all(b"\n")?;
         }
@@ -97,17 +110,25 @@ fn run<R: Threads + Wait + Sync + Print + AllocGlobal>(
 }
 
 // The first word, if there is one.
-fn first_word<R: AllocGlobal + Env>(rt: &R) -> Result<Option<String>, RowFault> {
+fn word_of<R: AllocGlobal + Env>(rt: &R) -> Result<Option<String>, RowFault> {
     match env::args(rt) {
         Ok(mut words) => Ok(words.nth(1)),
         Err(_) => Err(RowFault::Memory),
     }
 }
 
+// The first word, asked for once more where memory is refused.
+fn first_word<R: AllocGlobal + Env>(rt: &R) -> Result<Option<String>, RowFault> {
+    match word_of(rt) {
+        Err(RowFault::Memory) => second(word_of(rt)),
+        answer => answer,
+    }
+}
+
 fn run_wanted<R: Threads + Wait + Sync + Print + AllocGlobal + Env>(
     rt: &R,
 ) -> Result<(), RowFault> {
-    match again(|| first_word(rt))? {
+    match first_word(rt)? {
         Some(word) => run(rt, word.as_str()),
         None => run(rt, "all"),
     }
@@ -116,7 +137,7 @@ fn run_wanted<R: Threads + Wait + Sync + Print + AllocGlobal + Env>(
 fn main(rt: HostRuntime) -> ExitCode {
     match run_wanted(&rt) {
         Ok(()) => ExitCode::SUCCESS,
-        Err(RowFault::Memory) => ExitCode::from(3),
+        Err(RowFault::Memory | RowFault::Again) => ExitCode::from(3),
         Err(_) => ExitCode::from(1),
     }
 }

@@ -1,6 +1,6 @@
 //! A row of scripts over a service.
 
-use crate::fault::{RowFault, again, check};
+use crate::fault::{RowFault, check};
 use crate::script_rows::{page, refused_line};
 use scrib_cli::fault::ScriptFault;
 use scrib_run::options::Options;
@@ -44,10 +44,7 @@ pub(crate) fn run_connections<R: Threads + Wait + Sync>(
         format: Format::Line,
         progress: None::<Nobody>,
     };
-    let connections = again(|| Ok(Vec::from_slice(
-        alloc,
-        &[FIRST.as_bytes(), SECOND.as_bytes()],
-    )?))?;
+    let connections = Vec::from_slice(alloc, &[FIRST.as_bytes(), SECOND.as_bytes()])?;
     let mut written = page(alloc)?;
     let setup = &mut SETUP.as_bytes();
     match run_service(rt, alloc, &options, setup, connections, &mut written) {

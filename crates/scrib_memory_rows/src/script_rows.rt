@@ -1,6 +1,6 @@
 //! Rows as scripts.
 
-use crate::fault::{RowFault, again, check};
+use crate::fault::{RowFault, check, second};
 use crate::making::{answers_of, script_of};
 use crate::rows::Call;
 use scrib_cli::explain_script::explain_script;
@@ -13,13 +13,17 @@ const OUTPUT_BYTES: usize = 65_536;
 
 /// What is written goes here, which needs no further memory.
 pub(crate) fn page(alloc: Global) -> Result<Vec<u8>, RowFault> {
-    again(|| Ok(Vec::with_capacity(alloc, OUTPUT_BYTES)?))
+    Ok(Vec::with_capacity(alloc, OUTPUT_BYTES)?)
 }
 
 /// The number of the line, from 0, that says that memory was refused.
 pub(crate) fn refused_line(output: &str) -> Option<usize> {
-    output.split('\n').position(|line| line == "refused OutOfMemory"
-        || line == "{\"refused\":\"OutOfMemory\"}")
+    for (at, line) in output.split('\n').enumerate() {
+        if line == "refused OutOfMemory" || line == "{\"refused\":\"OutOfMemory\"}" {
+            return Some(at);
+        }
+    }
+    None
 }
 
 // The output without the line of this number.
@@ -48,23 +52,28 @@ fn check_refused(alloc: Global, calls: &[Call], output: &str) -> Result<(), RowF
     check(written.as_slice() == rest.as_bytes())
 }
 
-/// Runs the calls as a script. Where memory is refused, one line says so and the others are as without that step; or the
-/// script ends with the fault, and what was written is a beginning of the row's output.
-pub(crate) fn run_as_script(alloc: Global, calls: &[Call]) -> Result<(), RowFault> {
-    let script = again(|| script_of(alloc, calls, None))?;
-    let want = again(|| answers_of(alloc, calls))?;
+// Runs the script of the calls, whose output is to be this.
+fn check_script(alloc: Global, calls: &[Call], script: &str, want: &str) -> Result<(), RowFault> {
     let mut written = page(alloc)?;
     match run_script(alloc, Format::Line, &mut script.as_bytes(), &mut written) {
         Ok(()) if written.as_slice() == want.as_bytes() => Ok(()),
-        Ok(()) => check_refused(alloc, calls, text_of(&written)?),
+        Ok(()) => second(check_refused(alloc, calls, text_of(&written)?)),
         Err(ScriptFault::OutOfMemory) => check(want.as_bytes().starts_with(&written)),
         Err(_) => Err(RowFault::Wrong),
     }
 }
 
+/// Runs the calls as a script. Where memory is refused, one line says so and the others are as without that step; or the
+/// script ends with the fault, and what was written is a beginning of the row's output.
+pub(crate) fn run_as_script(alloc: Global, calls: &[Call]) -> Result<(), RowFault> {
+    let script = script_of(alloc, calls, None)?;
+    let want = answers_of(alloc, calls)?;
+    check_script(alloc, calls, script.as_str(), want.as_str())
+}
+
 /// Runs the calls as a script and explains conversation 1, or tells that memory was refused and writes nothing.
 pub(crate) fn run_explained(alloc: Global, calls: &[Call], flights: &str) -> Result<(), RowFault> {
-    let script = again(|| script_of(alloc, calls, None))?;
+    let script = script_of(alloc, calls, None)?;
     let mut written = page(alloc)?;
     match explain_script(alloc, &mut script.as_bytes(), 1, &mut written) {
         Ok(_) => check(written.as_slice() == flights.as_bytes()),

@@ -1,9 +1,10 @@
 //! Rows of calls of a service.
 
-use crate::fault::{RowFault, again, check};
+use crate::fault::{RowFault, check, second};
 use crate::making::{event_of, name_of};
 use crate::rows::{CHOICE, LOOP};
 use scrib_core::reply::Refusal;
+use scrib_library::changes::Changes;
 use scrib_library::fault::EditFault;
 use scrib_rejudge::alone::sweep_alone;
 use scrib_report::table::table;
@@ -12,7 +13,9 @@ use scrib_shards::gate::OpenGate;
 use scrib_shards::pass::Pass;
 use scrib_shards::passing::PassRefusal;
 use scrib_shards::service::{Service, ServiceFault};
+use scrib_shards::stepping::Noted;
 use scrib_types::event::Event;
+use scrib_types::name::Dotted;
 use std::alloc::Global;
 use std::sync::Wait;
 
@@ -60,30 +63,55 @@ impl From<PassRefusal> for RowFault {
     }
 }
 
-// A service of two shards, with a conversation in each.
-fn opened(rt: &impl Wait, alloc: Global) -> Result<Service, RowFault> {
-    let service = Service::new(alloc, 2)?;
-    again(|| Ok(service.put(rt, LOOP.as_bytes())?))?;
-    let name = again(|| name_of(alloc, "open 0 k.K"))?;
-    for id in 0..2 {
-        again(|| Ok(service.open(rt, id, &name)?))?;
+// Puts the module, and once more where memory is refused.
+fn put(rt: &impl Wait, service: &Service, text: &str) -> Result<Changes, RowFault> {
+    match service.put(rt, text.as_bytes()) {
+        Ok(changes) => Ok(changes),
+        Err(EditFault::OutOfMemory) => Ok(service.put(rt, text.as_bytes())?),
+        Err(fault) => Err(RowFault::from(fault)),
     }
-    Ok(service)
+}
+
+// Opens the conversation, and once more where memory is refused.
+fn open(rt: &impl Wait, service: &Service, id: u32, name: &Dotted) -> Result<(), RowFault> {
+    match service.open(rt, id, name) {
+        Err(Refusal::OutOfMemory) => Ok(service.open(rt, id, name)?),
+        answer => Ok(answer?),
+    }
+}
+
+// Puts the module, and opens a conversation in each of two shards.
+fn open_both(rt: &impl Wait, alloc: Global, service: &Service) -> Result<(), RowFault> {
+    second(put(rt, service, LOOP))?;
+    let name = name_of(alloc, "open 0 k.K")?;
+    for id in 0..2 {
+        second(open(rt, service, id, &name))?;
+    }
+    Ok(())
 }
 
 // Notes the event. Where memory is refused, the pass is to stand as before, and the event is noted once more.
 fn note(rt: &impl Wait, service: &Service, pass: &mut Pass, event: &Event) -> Result<(), RowFault> {
     let receipts = pass.receipts().len();
-    let first = again(|| Ok(event.copy()?))?;
-    let noted = match service.note(rt, pass, first, &OpenGate) {
+    let noted = match service.note(rt, pass, event.copy()?, &OpenGate) {
         Err(PassRefusal::Step(Refusal::OutOfMemory)) => {
             check(pass.receipts().len() == receipts)?;
-            service.ask(rt, pass)?;
-            service.note(rt, pass, event.copy()?, &OpenGate)?
+            second(note_again(rt, service, pass, event))?
         }
         noted => noted?,
     };
     check(noted.place == receipts + 1 && pass.receipts().len() == receipts + 1)
+}
+
+// Notes the event, of which a first note was refused memory.
+fn note_again(
+    rt: &impl Wait,
+    service: &Service,
+    pass: &mut Pass,
+    event: &Event,
+) -> Result<Noted, RowFault> {
+    service.ask(rt, pass)?;
+    Ok(service.note(rt, pass, event.copy()?, &OpenGate)?)
 }
 
 // Puts the module's two texts in turn.
@@ -93,7 +121,7 @@ fn edit(rt: &impl Wait, service: &Service, number: usize) -> Result<(), RowFault
     } else {
         LOOP
     };
-    let changes = again(|| Ok(service.put(rt, text.as_bytes())?))?;
+    let changes = second(put(rt, service, text))?;
     check(changes.list.as_slice().len() == 1)
 }
 
@@ -104,8 +132,8 @@ fn note_all(
     service: &Service,
     passes: &mut [Pass],
 ) -> Result<(), RowFault> {
-    let joined = again(|| event_of(alloc, "join 0 A"))?;
-    let sent = again(|| event_of(alloc, "send 0 A B a()"))?;
+    let joined = event_of(alloc, "join 0 A")?;
+    let sent = event_of(alloc, "send 0 A B a()")?;
     for number in 0..EVENTS {
         let event = if number == 0 { &joined } else { &sent };
         for pass in passes.iter_mut() {
@@ -142,29 +170,41 @@ fn settle(alloc: Global, service: Service, passes: Vec<Pass>) -> Result<(), RowF
         },
         Err(_) => return Err(RowFault::Wrong),
     };
-    let text = again(|| Ok(table(alloc, settled.list.as_slice())?))?;
+    let text = table(alloc, settled.list.as_slice())?;
     check(text.as_slice() == TABLE.as_bytes())
 }
 
 fn connected(rt: &impl Wait, alloc: Global, service: &Service) -> Result<Vec<Pass>, RowFault> {
-    let mut passes = again(|| Ok(Vec::with_capacity(alloc, 2)?))?;
+    let mut passes = Vec::with_capacity(alloc, 2)?;
     for id in 0..2 {
         passes.push(service.connect(rt, id)?)?;
     }
     Ok(passes)
 }
 
+// Opens two conversations, of which a pass each notes events while their protocol is edited. Gives the passes back.
+fn noted(rt: &impl Wait, alloc: Global, service: &Service) -> Result<Vec<Pass>, RowFault> {
+    open_both(rt, alloc, service)?;
+    let mut passes = connected(rt, alloc, service)?;
+    note_all(rt, alloc, service, &mut passes)?;
+    Ok(passes)
+}
+
+// Settles the service, first without the second pass.
+fn settle_twice(alloc: Global, service: Service, mut passes: Vec<Pass>) -> Result<(), RowFault> {
+    let last = passes.pop().ok_or(RowFault::Wrong)?;
+    let (service, mut passes) = refuse_settling(service, passes)?;
+    passes.push(last)?;
+    settle(alloc, service, passes)
+}
+
 /// Two conversations are noted by a pass each, while their protocol is edited; a sweep brings their verdicts up to date,
 /// and the service is settled, first without the second pass.
 pub(crate) fn run_passes(rt: &impl Wait, alloc: Global) -> Result<(), RowFault> {
-    let mut service = again(|| opened(rt, alloc))?;
-    let mut passes = connected(rt, alloc, &service)?;
-    note_all(rt, alloc, &service, &mut passes)?;
-    if sweep_alone(&mut service).is_err() {
-        sweep_alone(&mut service)?;
+    let mut service = Service::new(alloc, 2)?;
+    let passes = noted(rt, alloc, &service)?;
+    if sweep_alone(&mut service).is_err() && sweep_alone(&mut service).is_err() {
+        return Err(RowFault::Again);
     }
-    let second = passes.pop().ok_or(RowFault::Wrong)?;
-    let (service, mut passes) = refuse_settling(service, passes)?;
-    passes.push(second)?;
-    settle(alloc, service, passes)
+    settle_twice(alloc, service, passes)
 }

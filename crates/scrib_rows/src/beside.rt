@@ -83,35 +83,67 @@ fn edits_of(alloc: Global, numbers: &mut Numbers) -> Result<String, RowsFault> {
     Ok(script)
 }
 
+// Adds an event of this conversation.
+fn push_event(
+    alloc: Global,
+    script: &mut String,
+    word: &str,
+    id: usize,
+    label: &str,
+) -> Result<(), RowsFault> {
+    let line = format!(in alloc; "{word} {id} A B {label}()\n")?;
+    script.push_str(&line)?;
+    Ok(())
+}
+
 // A script whose lines are all events of this conversation: sends and receives in order, but for one in sixty.
 fn notes_of(alloc: Global, numbers: &mut Numbers, id: usize) -> Result<String, RowsFault> {
     let mut script = format!(in alloc; "join {id} A\njoin {id} B\n")?;
     let mut flying = 0u64;
     for _ in 0..EVENTS {
-        let line = if numbers.below(60) == 0 {
-            format!(in alloc; "send {id} A B b()\n")?
+        let (word, label) = if numbers.below(60) == 0 {
+            ("send", "b")
         } else if flying == 0 || numbers.below(2) == 0 {
             flying = flying.saturating_add(1);
-            format!(in alloc; "send {id} A B a()\n")?
+            ("send", "a")
         } else {
             flying = flying.saturating_sub(1);
-            format!(in alloc; "recv {id} A B a()\n")?
+            ("recv", "a")
         };
-        script.push_str(&line)?;
+        push_event(alloc, &mut script, word, id, label)?;
     }
     Ok(script)
 }
 
-fn scripts_of(alloc: Global, seed: u32) -> Result<Scripts, RowsFault> {
-    let mut numbers = Numbers { last: seed };
+fn push_open(alloc: Global, script: &mut String, id: usize) -> Result<(), RowsFault> {
+    let line = format!(in alloc; "open {id} k.K\n")?;
+    script.push_str(&line)?;
+    Ok(())
+}
+
+// A script that puts the first text and opens the conversations.
+fn setup_of(alloc: Global) -> Result<String, RowsFault> {
     let mut setup = String::new(alloc);
     push_put(&mut setup, TEXTS[0])?;
+    for id in 0..CONVERSATIONS {
+        push_open(alloc, &mut setup, id)?;
+    }
+    Ok(setup)
+}
+
+// A script of notes for each conversation.
+fn all_notes(alloc: Global, numbers: &mut Numbers) -> Result<Vec<String>, RowsFault> {
     let mut notes = Vec::new(alloc);
     for id in 0..CONVERSATIONS {
-        let line = format!(in alloc; "open {id} k.K\n")?;
-        setup.push_str(&line)?;
-        notes.push(notes_of(alloc, &mut numbers, id)?)?;
+        notes.push(notes_of(alloc, numbers, id)?)?;
     }
+    Ok(notes)
+}
+
+fn scripts_of(alloc: Global, seed: u32) -> Result<Scripts, RowsFault> {
+    let mut numbers = Numbers { last: seed };
+    let setup = setup_of(alloc)?;
+    let notes = all_notes(alloc, &mut numbers)?;
     let edits = edits_of(alloc, &mut numbers)?;
     Ok(Scripts {
         setup,
@@ -120,77 +152,96 @@ fn scripts_of(alloc: Global, seed: u32) -> Result<Scripts, RowsFault> {
     })
 }
 
-// What the scripts are answered over a service: the last connection edits, and each other one notes.
+// What the connections read: each but the last notes, and that one edits.
+fn readers_of(alloc: Global, scripts: &Scripts) -> Result<Vec<&[u8]>, RowsFault> {
+    let mut readers = Vec::new(alloc);
+    for notes in &scripts.notes {
+        readers.push(notes.as_bytes())?;
+    }
+    readers.push(scripts.edits.as_bytes())?;
+    Ok(readers)
+}
+
+// What the scripts are answered over a service.
 fn run_beside<R: Threads + Wait + Sync>(
     rt: &R,
     alloc: Global,
     scripts: &Scripts,
 ) -> Result<String, RowsFault> {
     let options = Options {
-        shape: Shape::new(2, 2).map_err(|_| RowsFault::NoCommand)?,
+        shape: Shape::new(2, 2).ok().ok_or(RowsFault::NoCommand)?,
         format: Format::Json,
         progress: None::<Unwatched>,
     };
-    let mut readers = Vec::new(alloc);
-    for notes in &scripts.notes {
-        readers.push(notes.as_bytes())?;
-    }
-    readers.push(scripts.edits.as_bytes())?;
+    let readers = readers_of(alloc, scripts)?;
     let mut output = Vec::new(alloc);
-    run_service(
-        rt,
-        alloc,
-        &options,
-        &mut scripts.setup.as_bytes(),
-        readers,
-        &mut output,
-    )?;
-    String::from_utf8(output).map_err(|_| RowsFault::Io)
+    let setup = &mut scripts.setup.as_bytes();
+    run_service(rt, alloc, &options, setup, readers, &mut output)?;
+    String::from_utf8(output).ok().ok_or(RowsFault::Io)
 }
 
-// What one monitor answers to these scripts, one after the other.
-fn watched(alloc: Global, scripts: &[&str]) -> Result<String, RowsFault> {
-    let mut whole = String::new(alloc);
-    for script in scripts {
-        whole.push_str(script)?;
-    }
+// What one monitor answers to the script.
+fn watched(alloc: Global, script: &str) -> Result<String, RowsFault> {
     let mut output = Vec::new(alloc);
-    run_script(alloc, Format::Json, &mut whole.as_bytes(), &mut output)?;
-    String::from_utf8(output).map_err(|_| RowsFault::Io)
+    run_script(alloc, Format::Json, &mut script.as_bytes(), &mut output)?;
+    String::from_utf8(output).ok().ok_or(RowsFault::Io)
+}
+
+// What one monitor answers to the notes, on the library that the text makes.
+fn judged_on(alloc: Global, text: &str, id: usize, notes: &str) -> Result<String, RowsFault> {
+    let mut script = String::new(alloc);
+    push_put(&mut script, text)?;
+    push_open(alloc, &mut script, id)?;
+    script.push_str(notes)?;
+    watched(alloc, &script)
 }
 
 // What one monitor answers to the notes, on the library that each text makes.
 fn judged_on_each(alloc: Global, id: usize, notes: &str) -> Result<Vec<String>, RowsFault> {
     let mut outputs = Vec::new(alloc);
     for text in &TEXTS {
-        let mut put = String::new(alloc);
-        push_put(&mut put, text)?;
-        let open = format!(in alloc; "open {id} k.K\n")?;
-        outputs.push(watched(alloc, &[&put, &open, notes])?)?;
+        outputs.push(judged_on(alloc, text, id, notes)?)?;
     }
     Ok(outputs)
 }
 
-// Whether each line of a connection tells at its place what one of the outputs has there, behind two lines of edits, or
-// that the verdict is out of date.
+// The lines of each output.
+fn lines_of(alloc: Global, outputs: &[String]) -> Result<Vec<Vec<&str>>, RowsFault> {
+    let mut lists = Vec::new(alloc);
+    for output in outputs {
+        let lines: Vec<&str> = output.lines().collect(alloc)?;
+        lists.push(lines)?;
+    }
+    Ok(lists)
+}
+
+// Whether a line of a connection tells at its place, from 1, what one of the lists has there, behind two lines of edits,
+// or that the verdict is out of date.
+fn is_judged(
+    alloc: Global,
+    id: usize,
+    place: usize,
+    line: &str,
+    lists: &[Vec<&str>],
+) -> Result<bool, RowsFault> {
+    let stale = format!(in alloc;
+        "{{\"conversation\":{id},\"place\":{place},\"verdict\":\"stale\"}}"
+    )?;
+    Ok(line == stale.as_str() || is_among(lists, place.saturating_add(1), line))
+}
+
+// Whether each line of a connection is judged on one of the libraries, of which these are the outputs, or out of date.
 fn are_judged(
     alloc: Global,
     id: usize,
     lines: &str,
     outputs: &[String],
 ) -> Result<bool, RowsFault> {
-    let mut told = Vec::new(alloc);
-    for output in outputs {
-        let lines: Vec<&str> = output.lines().collect(alloc)?;
-        told.push(lines)?;
-    }
+    let lists = lines_of(alloc, outputs)?;
     let mut place = 0usize;
     for line in lines.lines() {
         place = place.saturating_add(1);
-        let stale = format!(in alloc;
-            "{{\"conversation\":{id},\"place\":{place},\"verdict\":\"stale\"}}"
-        )?;
-        if line != stale.as_str() && !is_among(&told, place.saturating_add(1), line) {
+        if !is_judged(alloc, id, place, line, &lists)? {
             return Ok(false);
         }
     }
@@ -200,8 +251,9 @@ fn are_judged(
 // Whether one of the lists has this line at this place, from 0.
 fn is_among(lists: &[Vec<&str>], place: usize, line: &str) -> bool {
     for list in lists {
-        if list.get(place).is_some_and(|told| *told == line) {
-            return true;
+        match list.get(place) {
+            Some(told) if *told == line => return true,
+            _ => {}
         }
     }
     false
@@ -220,47 +272,74 @@ fn are_all_judged(alloc: Global, scripts: &Scripts, output: &str) -> Result<bool
     Ok(true)
 }
 
+// Adds a line of this word, which is a turn or a question.
+fn push_about(alloc: Global, script: &mut String, word: &str, id: usize) -> Result<(), RowsFault> {
+    let line = format!(in alloc; "{word} {id}\n")?;
+    script.push_str(&line)?;
+    Ok(())
+}
+
+// A script that makes the edits first and then all notes, with a turn of each conversation.
+fn edits_then_notes(alloc: Global, scripts: &Scripts) -> Result<String, RowsFault> {
+    let mut script = String::new(alloc);
+    script.push_str(&scripts.setup)?;
+    script.push_str(&scripts.edits)?;
+    for (id, notes) in scripts.notes.iter().enumerate() {
+        script.push_str(notes)?;
+        push_about(alloc, &mut script, "turn", id)?;
+    }
+    Ok(script)
+}
+
 // The table of one monitor to which the edits were made first and then all notes, with a turn of each conversation.
 fn table_of(alloc: Global, scripts: &Scripts) -> Result<String, RowsFault> {
-    let mut whole = String::new(alloc);
-    whole.push_str(&scripts.setup)?;
-    whole.push_str(&scripts.edits)?;
-    let mut questions = String::new(alloc);
-    for (id, notes) in scripts.notes.iter().enumerate() {
-        whole.push_str(notes)?;
-        let turn = format!(in alloc; "turn {id}\n")?;
-        whole.push_str(&turn)?;
-        let question = format!(in alloc; "ask {id}\n")?;
-        questions.push_str(&question)?;
+    let mut script = edits_then_notes(alloc, scripts)?;
+    let before = watched(alloc, &script)?;
+    for id in 0..CONVERSATIONS {
+        push_about(alloc, &mut script, "ask", id)?;
     }
-    let before = watched(alloc, &[&whole])?;
-    let after = watched(alloc, &[&whole, &questions])?;
-    let rows = after
-        .as_str()
-        .strip_prefix(before.as_str())
-        .ok_or(RowsFault::NoCommand)?;
+    let after = watched(alloc, &script)?;
+    table_behind(alloc, before.as_str(), after.as_str())
+}
+
+// The table of which the answers to questions are the rows: what was answered behind this.
+fn table_behind(alloc: Global, before: &str, after: &str) -> Result<String, RowsFault> {
+    let rows = after.strip_prefix(before).ok_or(RowsFault::NoCommand)?;
     let events = CONVERSATIONS * (EVENTS + 2);
     Ok(format!(in alloc; "{rows}{{\"conversations\":{CONVERSATIONS},\"events\":{events}}}\n")?)
 }
 
-/// Runs scripts with so many seeds over a service, and tells of each run whether what the connections were answered and
-/// the table are as they must be.
+// Runs the scripts of this seed over a service, and tells where what the connections were answered or the table isn't as
+// it must be.
+fn tell_run<R: Threads + Wait + Sync, W: Write>(
+    rt: &R,
+    alloc: Global,
+    seed: u32,
+    writer: &mut W,
+) -> Result<(), RowsFault> {
+    let scripts = scripts_of(alloc, seed)?;
+    let output = run_beside(rt, alloc, &scripts)?;
+    let judged = are_all_judged(alloc, &scripts, &output)?;
+    let settled = output
+        .as_str()
+        .ends_with(table_of(alloc, &scripts)?.as_str());
+    if judged && settled {
+        return Ok(());
+    }
+    let line = format!(in alloc; "run {seed}: judged {judged}, settled {settled}\n")?;
+    writer.write_all(line.as_bytes())?;
+    Ok(())
+}
+
+/// Runs scripts with so many seeds over a service, and tells of each run where what the connections were answered or the
+/// table isn't as it must be; and how many runs there were.
 pub(crate) fn tell_runs<R: Threads + Wait + Sync, W: Write>(
     rt: &R,
     alloc: Global,
     writer: &mut W,
 ) -> Result<(), RowsFault> {
     for seed in 0..RUNS {
-        let scripts = scripts_of(alloc, seed)?;
-        let output = run_beside(rt, alloc, &scripts)?;
-        let judged = are_all_judged(alloc, &scripts, &output)?;
-        let settled = output
-            .as_str()
-            .ends_with(table_of(alloc, &scripts)?.as_str());
-        if !judged || !settled {
-            let line = format!(in alloc; "run {seed}: judged {judged}, settled {settled}\n")?;
-            writer.write_all(line.as_bytes())?;
-        }
+        tell_run(rt, alloc, seed, writer)?;
     }
     let line = format!(in alloc; "{RUNS} runs\n")?;
     writer.write_all(line.as_bytes())?;

@@ -122,7 +122,9 @@ fn shape_of(shards: &str, workers: &str) -> Result<Shape, RowsFault> {
     let (Some(shards), Some(workers)) = (id_of(shards), id_of(workers)) else {
         return Err(RowsFault::NoCommand);
     };
-    Shape::new(shards as usize, workers as usize).map_err(|_| RowsFault::NoCommand)
+    Shape::new(shards as usize, workers as usize)
+        .ok()
+        .ok_or(RowsFault::NoCommand)
 }
 
 // Standard output, where the marks of a run stand among its lines.
@@ -245,11 +247,20 @@ where
     let alloc = rt.alloc();
     let words: Vec<&str> = command.split_whitespace().collect(alloc)?;
     let answer = answer(rt, &words, input.as_bytes(), writer)?;
-    if let Err(fault) = &answer {
+    tell_ending(alloc, &answer, writer)
+}
+
+// Tells what the program would end with.
+fn tell_ending<W: Write>(
+    alloc: Global,
+    answer: &Result<bool, ScriptFault>,
+    writer: &mut W,
+) -> Result<(), RowsFault> {
+    if let Err(fault) = answer {
         let text = format!(in alloc; "{}\n", fault_text(fault))?;
         writer.write_all(text.as_bytes())?;
     }
-    let text = format!(in alloc; "status {}\n", status_of(&answer))?;
+    let text = format!(in alloc; "status {}\n", status_of(answer))?;
     writer.write_all(text.as_bytes())?;
     Ok(())
 }

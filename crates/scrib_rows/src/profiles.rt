@@ -26,9 +26,7 @@ fn written(
 
 // Whether what follows the command is a script.
 fn is_script(command: &str) -> bool {
-    ["watch", "judge", "explain"]
-        .iter()
-        .any(|word| command.starts_with(word))
+    command.starts_with("watch") || command.starts_with("judge") || command.starts_with("explain")
 }
 
 /// Adds what the command writes where receptions merge, behind a line that says so, where that is something else than
@@ -47,10 +45,15 @@ pub(crate) fn tell_wider<W: Write>(
         command,
         body,
     )?;
+    tell_other(plain.as_slice(), wider.as_slice(), writer)
+}
+
+// Adds what was written where receptions merge, where that is something else than this.
+fn tell_other<W: Write>(plain: &[u8], wider: &[u8], writer: &mut W) -> Result<(), RowsFault> {
     let wider = wider
         .strip_prefix(b"profile reception\n".as_slice())
-        .unwrap_or(wider.as_slice());
-    if wider == plain.as_slice() {
+        .unwrap_or(wider);
+    if wider == plain {
         return Ok(());
     }
     writer.write_all(b"-- where receptions merge\n")?;

@@ -12,21 +12,30 @@ use scrib_types::event::{Told, Verdict};
 use std::alloc::{AllocError, Global};
 use std::io::Write;
 
+// Adds the step that the item is, if it is one.
+fn push_step(steps: &mut Vec<Step>, item: Option<Item>) -> Result<(), RowsFault> {
+    if let Some(Item::Step(_, step)) = item {
+        steps.push(step)?;
+    }
+    Ok(())
+}
+
 // The steps that a script spells; what says nothing is left out.
 fn steps_of(alloc: Global, script: &[u8]) -> Result<Vec<Step>, RowsFault> {
     let mut steps = Vec::new(alloc);
     let mut reading = Script::new(alloc);
     let mut rest = script;
     while !rest.is_empty() {
-        let (item, after) = reading.next_item(rest).map_err(|_| RowsFault::Script)?;
-        if let Some(Item::Step(_, step)) = item {
-            steps.push(step)?;
-        }
+        let Ok((item, after)) = reading.next_item(rest) else {
+            return Err(RowsFault::Script);
+        };
+        push_step(&mut steps, item)?;
         rest = after;
     }
-    if let Some(Item::Step(_, step)) = reading.last_item().map_err(|_| RowsFault::Script)? {
-        steps.push(step)?;
-    }
+    let Ok(item) = reading.last_item() else {
+        return Err(RowsFault::Script);
+    };
+    push_step(&mut steps, item)?;
     Ok(steps)
 }
 
@@ -50,6 +59,19 @@ fn judged_whole(alloc: Global, core: &Core, id: u32) -> Result<Vec<u8>, AllocErr
     verdict(alloc, &Told::Judged(judged))
 }
 
+// Makes the step. Where it comes to a verdict that isn't out of date, whether the text is that of the judgement of the
+// whole log.
+fn agrees(alloc: Global, core: &mut Core, step: Step) -> Result<Option<bool>, RowsFault> {
+    let reply = core.apply(step);
+    match fresh_verdict(alloc, &reply)? {
+        Some((id, told)) => {
+            let whole = judged_whole(alloc, core, id)?;
+            Ok(Some(told.as_slice() == whole.as_slice()))
+        }
+        None => Ok(None),
+    }
+}
+
 /// Makes the steps of the script, and tells how many verdicts came that weren't out of date, and of how many the text
 /// is that of the judgement of the whole log.
 pub(crate) fn tell_judgements<W: Write>(
@@ -60,12 +82,9 @@ pub(crate) fn tell_judgements<W: Write>(
     let mut core = Core::new(alloc);
     let (mut verdicts, mut agreed) = (0u64, 0u64);
     for step in steps_of(alloc, script)? {
-        let reply = core.apply(step);
-        if let Some((id, told)) = fresh_verdict(alloc, &reply)? {
+        if let Some(is_same) = agrees(alloc, &mut core, step)? {
             verdicts = verdicts.saturating_add(1);
-            if told.as_slice() == judged_whole(alloc, &core, id)?.as_slice() {
-                agreed = agreed.saturating_add(1);
-            }
+            agreed = agreed.saturating_add(u64::from(is_same));
         }
     }
     let line = format!(in alloc; "{agreed} of {verdicts} verdicts are those on the whole logs\n")?;

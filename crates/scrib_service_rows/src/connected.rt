@@ -65,17 +65,25 @@ impl Connected {
     fn note(&mut self, rt: &impl Wait, id: u32, event: &Event) -> Result<Vec<u8>, RowsFault> {
         for pass in self.passes.iter_mut() {
             if pass.conversation() == id {
-                let answer = self.service.note(rt, pass, event.copy()?, &OpenGate);
-                return noted(self.alloc, id, answer);
+                return note_by(rt, self.alloc, &self.service, pass, event);
             }
         }
-        let mut pass = match self.service.connect(rt, id) {
-            Ok(pass) => pass,
-            Err(refusal) => return refused(self.alloc, refusal),
-        };
-        let answer = self.service.note(rt, &mut pass, event.copy()?, &OpenGate);
+        match self.service.connect(rt, id) {
+            Ok(pass) => self.note_first(rt, pass, event),
+            Err(refusal) => refused(self.alloc, refusal),
+        }
+    }
+
+    // Notes the event by a new pass, which is kept.
+    fn note_first(
+        &mut self,
+        rt: &impl Wait,
+        mut pass: Pass,
+        event: &Event,
+    ) -> Result<Vec<u8>, RowsFault> {
+        let answer = note_by(rt, self.alloc, &self.service, &mut pass, event);
         self.passes.push(pass)?;
-        noted(self.alloc, id, answer)
+        answer
     }
 
     fn ask(&mut self, rt: &impl Wait, id: u32) -> Result<Vec<u8>, RowsFault> {
@@ -99,4 +107,16 @@ impl Connected {
         } = self;
         push_settling(alloc, service, passes, out)
     }
+}
+
+// The line of what a note by the pass answers.
+fn note_by(
+    rt: &impl Wait,
+    alloc: Global,
+    service: &Service,
+    pass: &mut Pass,
+    event: &Event,
+) -> Result<Vec<u8>, RowsFault> {
+    let answer = service.note(rt, pass, event.copy()?, &OpenGate);
+    noted(alloc, pass.conversation(), answer)
 }

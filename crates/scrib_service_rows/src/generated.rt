@@ -104,10 +104,8 @@ fn next_step(alloc: Global, numbers: &mut Numbers, made: usize) -> Result<Step, 
     line_with(alloc, EXCHANGED[made % 2], id)
 }
 
-// A list of steps: the profile, three modules, four conversations that two roles join, and what the numbers say.
-fn list_of(alloc: Global, profile: Profile, numbers: &mut Numbers) -> Result<Vec<Step>, RowsFault> {
-    let mut steps = Vec::new(alloc);
-    steps.push(Step::Profile { profile })?;
+// Adds the steps that each list begins with: three modules, and four conversations that two roles join.
+fn push_beginning(alloc: Global, steps: &mut Vec<Step>) -> Result<(), RowsFault> {
     for text in [CALLED, CALLING, LOOP] {
         steps.push(put(alloc, text)?)?;
     }
@@ -118,6 +116,14 @@ fn list_of(alloc: Global, profile: Profile, numbers: &mut Numbers) -> Result<Vec
         steps.push(line_with(alloc, "join A", id)?)?;
         steps.push(line_with(alloc, "join B", id)?)?;
     }
+    Ok(())
+}
+
+// A list of steps: the profile, what each list begins with, and what the numbers say.
+fn list_of(alloc: Global, profile: Profile, numbers: &mut Numbers) -> Result<Vec<Step>, RowsFault> {
+    let mut steps = Vec::new(alloc);
+    steps.push(Step::Profile { profile })?;
+    push_beginning(alloc, &mut steps)?;
     for made in steps.len()..STEPS {
         steps.push(next_step(alloc, numbers, made)?)?;
     }
@@ -173,6 +179,34 @@ fn push_untold(lines: Vec<u8>, out: &mut Vec<u8>) -> Result<(), RowsFault> {
     Ok(())
 }
 
+// Makes all lists, and adds the lines of the service's replies; how many steps there were, and in how many lists a core
+// answered alike.
+fn push_lists(
+    rt: &impl Wait,
+    alloc: Global,
+    profile: Profile,
+    shards: usize,
+    lines: &mut Vec<u8>,
+) -> Result<(u64, u64), RowsFault> {
+    let mut numbers = Numbers { last: 1 };
+    let (mut steps, mut alike) = (0u64, 0u64);
+    for _ in 0..LISTS {
+        let list = list_of(alloc, profile, &mut numbers)?;
+        let is_alike = push_answered(rt, alloc, shards, list.as_slice(), lines)?;
+        steps = steps.saturating_add(list.len() as u64);
+        alike = alike.saturating_add(u64::from(is_alike));
+    }
+    Ok((steps, alike))
+}
+
+// Tells the two numbers.
+fn push_tally(out: &mut Vec<u8>, (steps, alike): (u64, u64)) -> Result<(), RowsFault> {
+    push_number(out, steps)?;
+    push_bytes(out, b" steps, alike in ")?;
+    push_number(out, alike)?;
+    push_line(out, b" lists")
+}
+
 /// Tells how many steps there were in all lists under the profile, in how many lists a service of so many shards
 /// answered as a core does, byte for byte, and what no reply told of that some should.
 pub(crate) fn push_generated(
@@ -182,18 +216,7 @@ pub(crate) fn push_generated(
     shards: usize,
     out: &mut Vec<u8>,
 ) -> Result<(), RowsFault> {
-    let mut numbers = Numbers { last: 1 };
-    let (mut steps, mut alike) = (0u64, 0u64);
     let mut lines = Vec::new(alloc);
-    for _ in 0..LISTS {
-        let list = list_of(alloc, profile, &mut numbers)?;
-        let is_alike = push_answered(rt, alloc, shards, list.as_slice(), &mut lines)?;
-        steps = steps.saturating_add(list.len() as u64);
-        alike = alike.saturating_add(u64::from(is_alike));
-    }
-    push_number(out, steps)?;
-    push_bytes(out, b" steps, alike in ")?;
-    push_number(out, alike)?;
-    push_line(out, b" lists")?;
+    push_tally(out, push_lists(rt, alloc, profile, shards, &mut lines)?)?;
     push_untold(lines, out)
 }

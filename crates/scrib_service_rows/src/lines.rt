@@ -115,25 +115,34 @@ pub(crate) fn push_settling(
     }
 }
 
-/// Settles the service with the first pass alone, which is refused, and then with both; adds the line of the fault, and
-/// what the second settling answers.
+/// Settles the service without the last pass, which is refused, and then with all; adds the line of the fault, and what
+/// the second settling answers.
 pub(crate) fn push_settling_twice(
     alloc: Global,
     service: Service,
-    first: Pass,
-    second: Pass,
+    mut passes: Vec<Pass>,
     out: &mut Vec<u8>,
 ) -> Result<(), RowsFault> {
-    let mut passes = Vec::new(alloc);
-    passes.push(first)?;
+    let last = passes.pop().ok_or(RowsFault::BadRow)?;
     match service.settle(passes) {
         Ok(settled) => push_settled(alloc, out, &settled),
-        Err((fault, service, mut passes)) => {
+        Err((fault, service, passes)) => {
             push_fault(out, &fault)?;
-            passes.push(second)?;
-            push_settling(alloc, service, passes, out)
+            push_settling_with(alloc, service, passes, last, out)
         }
     }
+}
+
+// Settles the service with the passes and one more.
+fn push_settling_with(
+    alloc: Global,
+    service: Service,
+    mut passes: Vec<Pass>,
+    last: Pass,
+    out: &mut Vec<u8>,
+) -> Result<(), RowsFault> {
+    passes.push(last)?;
+    push_settling(alloc, service, passes, out)
 }
 
 /// The line of a refused settling.

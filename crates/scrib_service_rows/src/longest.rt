@@ -2,7 +2,7 @@
 
 use crate::fault::RowsFault;
 use crate::lines::{noted, push_line};
-use crate::making::{CHOICE, LOOP, event_of, name_of, service};
+use crate::making::{CHOICE, LOOP, event_of, note, open, service};
 use crate::sweeps::push_counts;
 use scrib_record::record::MAX_EVENTS;
 use scrib_rejudge::workers::sweep;
@@ -22,8 +22,7 @@ fn fill(
     pass: &mut Pass,
     sent: &Event,
 ) -> Result<(), RowsFault> {
-    let joined = event_of(alloc, "join 0 A")?;
-    service.note(rt, pass, joined, &OpenGate)?;
+    note(rt, alloc, service, pass, "join 0 A")?;
     for _ in 2..MAX_EVENTS {
         service.note(rt, pass, sent.copy()?, &OpenGate)?;
     }
@@ -66,7 +65,7 @@ pub(crate) fn push_longest_log<R: Threads + Wait + Sync>(
     out: &mut Vec<u8>,
 ) -> Result<(), RowsFault> {
     let service = service(rt, alloc, shards, LOOP)?;
-    service.open(rt, 0, &name_of(alloc, "k.K")?)?;
+    open(rt, alloc, &service, 0, "k.K")?;
     push_filled(rt, alloc, &service, out)?;
     service.put(rt, CHOICE.as_bytes())?;
     push_counts(out, sweep(rt, alloc, &service, 1, &OpenGate)?)

@@ -2,7 +2,7 @@
 
 use crate::fault::RowsFault;
 use crate::lines::{push_line, push_settling};
-use crate::making::{DEMO, event_of, name_of, service};
+use crate::making::{DEMO, both, event_of, opened, service};
 use scrib_shards::gate::{Gate, OpenGate};
 use scrib_shards::pass::Pass;
 use scrib_shards::service::Service;
@@ -90,6 +90,26 @@ fn meet<R: Threads + Wait + Sync>(
     )
 }
 
+// Runs the threads, and adds a line where each found what it waited for. Gives their passes back.
+fn push_met<R: Threads + Wait + Sync>(
+    rt: &R,
+    alloc: Global,
+    service: &Service,
+    out: &mut Vec<u8>,
+) -> Result<Vec<Pass>, RowsFault> {
+    let (first, second) = opened(rt, alloc, service, "demo.Hello")?;
+    let meeting = Meeting {
+        entered: AtomicU64::new(0),
+        answered: AtomicU64::new(0),
+        seen: AtomicU64::new(0),
+    };
+    let (first, second) = meet(rt, alloc, service, &meeting, first, second);
+    if meeting.seen.load(Ordering::SeqCst) == 2 {
+        push_line(out, b"each saw the other")?;
+    }
+    both(alloc, first, second)
+}
+
 /// Two threads note an event each, in shards 0 and 1, where each waits for the other. Tells how many of the two looks
 /// found what they waited for, and the table.
 pub(crate) fn push_meeting<R: Threads + Wait + Sync>(
@@ -99,21 +119,6 @@ pub(crate) fn push_meeting<R: Threads + Wait + Sync>(
     out: &mut Vec<u8>,
 ) -> Result<(), RowsFault> {
     let service = service(rt, alloc, shards, DEMO)?;
-    let name = name_of(alloc, "demo.Hello")?;
-    service.open(rt, 0, &name)?;
-    service.open(rt, 1, &name)?;
-    let (first, second) = (service.connect(rt, 0)?, service.connect(rt, 1)?);
-    let meeting = Meeting {
-        entered: AtomicU64::new(0),
-        answered: AtomicU64::new(0),
-        seen: AtomicU64::new(0),
-    };
-    let (first, second) = meet(rt, alloc, &service, &meeting, first, second);
-    let mut passes = Vec::new(alloc);
-    passes.push(first)?;
-    passes.push(second)?;
-    if meeting.seen.load(Ordering::SeqCst) == 2 {
-        push_line(out, b"each saw the other")?;
-    }
+    let passes = push_met(rt, alloc, &service, out)?;
     push_settling(alloc, service, passes, out)
 }

@@ -2,12 +2,11 @@
 
 use crate::fault::RowsFault;
 use crate::lines::{asked, noted, push_line, push_settling_twice, refused};
-use crate::making::{DEMO, event_of, name_of, service};
+use crate::making::{DEMO, both, event_of, name_of, note, open, service};
 use scrib_core::reply::Refusal;
 use scrib_shards::gate::OpenGate;
 use scrib_shards::pass::Pass;
 use scrib_shards::service::Service;
-use scrib_types::name::Dotted;
 use scrib_types::text::{push_bytes, push_number};
 use std::alloc::Global;
 use std::sync::Wait;
@@ -60,6 +59,18 @@ fn push_answers(
     push_line(out, asked(alloc, 0, service.ask(rt, pass))?.as_slice())
 }
 
+// A pass to conversation 0, which has the receipt of the event of this line.
+fn pass_with(
+    rt: &impl Wait,
+    alloc: Global,
+    service: &Service,
+    text: &str,
+) -> Result<Pass, RowsFault> {
+    let mut pass = service.connect(rt, 0)?;
+    note(rt, alloc, service, &mut pass, text)?;
+    Ok(pass)
+}
+
 // Two passes of one service, of which the first has a receipt, are shown to another service.
 fn push_foreign(
     rt: &impl Wait,
@@ -68,27 +79,25 @@ fn push_foreign(
     here: &Service,
     out: &mut Vec<u8>,
 ) -> Result<Pass, RowsFault> {
-    let mut used = there.connect(rt, 0)?;
-    let mut unused = there.connect(rt, 0)?;
-    let event = event_of(alloc, "join 0 A")?;
-    there.note(rt, &mut used, event, &OpenGate)?;
+    let mut used = pass_with(rt, alloc, there, "join 0 A")?;
     push_answers(rt, alloc, here, &mut used, out)?;
-    push_answers(rt, alloc, here, &mut unused, out)?;
+    push_answers(rt, alloc, here, &mut there.connect(rt, 0)?, out)?;
     Ok(used)
 }
 
-// The conversation is opened in the service, and its pass has the receipt of an event.
-fn own_pass(
+// Shows passes of one service to another, where their conversation is opened then. Gives a pass of each, both with the
+// receipt of an event.
+fn push_shown(
     rt: &impl Wait,
     alloc: Global,
+    there: &Service,
     here: &Service,
-    name: &Dotted,
-) -> Result<Pass, RowsFault> {
-    here.open(rt, 0, name)?;
-    let event = event_of(alloc, "join 0 B")?;
-    let mut own = here.connect(rt, 0)?;
-    here.note(rt, &mut own, event, &OpenGate)?;
-    Ok(own)
+    out: &mut Vec<u8>,
+) -> Result<Vec<Pass>, RowsFault> {
+    open(rt, alloc, there, 0, "demo.Hello")?;
+    let foreign = push_foreign(rt, alloc, there, here, out)?;
+    open(rt, alloc, here, 0, "demo.Hello")?;
+    both(alloc, foreign, pass_with(rt, alloc, here, "join 0 B")?)
 }
 
 /// A pass of one service is shown to another of so many shards, where its conversation isn't open: notes and questions
@@ -102,9 +111,6 @@ pub(crate) fn push_strangers(
 ) -> Result<(), RowsFault> {
     let there = service(rt, alloc, shards, DEMO)?;
     let here = service(rt, alloc, shards, DEMO)?;
-    let name = name_of(alloc, "demo.Hello")?;
-    there.open(rt, 0, &name)?;
-    let foreign = push_foreign(rt, alloc, &there, &here, out)?;
-    let own = own_pass(rt, alloc, &here, &name)?;
-    push_settling_twice(alloc, here, foreign, own, out)
+    let passes = push_shown(rt, alloc, &there, &here, out)?;
+    push_settling_twice(alloc, here, passes, out)
 }

@@ -2,7 +2,7 @@
 
 use crate::fault::RowsFault;
 use crate::lines::{push_settling, push_settling_twice};
-use crate::making::{CHOICE, LOOP, event_of, name_of, service};
+use crate::making::{CHOICE, LOOP, both, event_of, note, opened, service};
 use scrib_rejudge::alone::sweep_alone;
 use scrib_rejudge::workers::sweep;
 use scrib_shards::gate::OpenGate;
@@ -30,8 +30,7 @@ fn note_events(
     service: &Service,
     pass: &mut Pass,
 ) -> Result<(), RowsFault> {
-    let joined = event_of(alloc, "join 0 A")?;
-    service.note(rt, pass, joined, &OpenGate)?;
+    note(rt, alloc, service, pass, "join 0 A")?;
     let sent = event_of(alloc, "send 0 A B a()")?;
     for _ in 1..EVENTS {
         service.note(rt, pass, sent.copy()?, &OpenGate)?;
@@ -91,16 +90,13 @@ fn converse<R: Threads + Wait + Sync>(
     rt: &R,
     alloc: Global,
     service: &Service,
-) -> Result<(Pass, Pass), RowsFault> {
-    let name = name_of(alloc, "k.K")?;
-    service.open(rt, 0, &name)?;
-    service.open(rt, 1, &name)?;
-    let (first, second) = (service.connect(rt, 0)?, service.connect(rt, 1)?);
+) -> Result<Vec<Pass>, RowsFault> {
+    let (first, second) = opened(rt, alloc, service, "k.K")?;
     let (is_edited, (first, second)) = run_all(rt, alloc, service, first, second);
     if !is_edited || !first.is_granted || !second.is_granted {
         return Err(RowsFault::Refused);
     }
-    Ok((first.pass, second.pass))
+    both(alloc, first.pass, second.pass)
 }
 
 /// Two threads note the events of a conversation each, while a third edits their protocol; the last edit brings the
@@ -113,12 +109,12 @@ pub(crate) fn push_threads<R: Threads + Wait + Sync>(
     out: &mut Vec<u8>,
 ) -> Result<(), RowsFault> {
     let service = service(rt, alloc, shards, LOOP)?;
-    let (first, second) = converse(rt, alloc, &service)?;
+    let passes = converse(rt, alloc, &service)?;
     for _ in 0..4 {
         service.turn(rt, 0, &OpenGate)?;
         service.turn(rt, 1, &OpenGate)?;
     }
-    push_settling_twice(alloc, service, first, second, out)
+    push_settling_twice(alloc, service, passes, out)
 }
 
 /// The same threads on a service of two shards. Tells what is settled after a sweep by so many workers, or by one
@@ -130,14 +126,11 @@ pub(crate) fn push_threads_swept<R: Threads + Wait + Sync>(
     out: &mut Vec<u8>,
 ) -> Result<(), RowsFault> {
     let mut service = service(rt, alloc, 2, LOOP)?;
-    let (first, second) = converse(rt, alloc, &service)?;
+    let passes = converse(rt, alloc, &service)?;
     if workers == 0 {
         sweep_alone(&mut service)?;
     } else {
         sweep(rt, alloc, &service, workers, &OpenGate)?;
     }
-    let mut passes = Vec::new(alloc);
-    passes.push(first)?;
-    passes.push(second)?;
     push_settling(alloc, service, passes, out)
 }
