@@ -18,6 +18,8 @@ use scrib_script::item::Item;
 use std::io::Write;
 
 /// Makes the step and writes its reply to a line that asks for this format, or in silence sees that it had memory.
+// As the way to the record is: what is handed on through memory waits for it.
+#[inline(always)]
 fn make_step<W: Write>(
     buffer: &mut Vec<u8>,
     core: &mut Core,
@@ -53,6 +55,7 @@ fn check_memory(reply: &Reply) -> Result<(), ScriptFault>
 
 /// Makes the step that the item is, and tells what is answered; or tells of a line that says nothing, or of an end
 /// inside a module text. The texts of replies are made in this buffer.
+#[inline(always)]
 pub fn tell_item<W: Write>(
     buffer: &mut Vec<u8>,
     core: &mut Core,
