@@ -51,7 +51,8 @@ pub(crate) fn note_in(
     })
 }
 
-/// Why nothing is noted in the record of a conversation for want of memory, where the log is full all the same.
+/// Why nothing is noted in the record of a conversation where memory was refused: that the log is full, if it is, which
+/// comes before want of memory.
 pub(crate) fn without_memory(conversation: &Record) -> NoteFault
     ensures { told.NoteFails conversation.now result }
 {
