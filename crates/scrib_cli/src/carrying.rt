@@ -18,7 +18,7 @@ use scrib_script::item::Item;
 use std::io::Write;
 
 /// Makes the step and writes its reply to a line that asks for this format, or in silence sees that it had memory.
-// As the way to the record is: what is handed on through memory waits for it.
+// Compiled into its caller, as the way to the record is: an item that is handed on through memory waits there.
 #[inline(always)]
 fn make_step<W: Write>(
     buffer: &mut Vec<u8>,

@@ -1,4 +1,5 @@
 -- Notes in records that are found by their places (this project's own).
+-- Only contracts of private functions cite this file.
 use Rattle.std.specs.Prelude.{◌≡◌, ℕ, ◌<◌, length, Option, Some, slice_get, Result, Ok, Err}
 use Rattle.scrib_types.specs.declared.event.Event.{Event}
 use Rattle.scrib_record.specs.declared.fault.NoteFault.{NoteFault}

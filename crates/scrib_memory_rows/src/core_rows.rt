@@ -183,7 +183,7 @@ fn has_refused(replies: &[Reply]) -> bool {
     false
 }
 
-// The step's reply where none is refused memory; and the step is made once more where it is.
+// The step's reply; the step is made once more where memory is refused to it.
 fn reply_alone(alloc: Global, core: &mut Core, step: &str) -> Result<Reply, RowFault> {
     let reply = core.apply(step_of(alloc, step)?.1);
     if is_refused(&reply) {

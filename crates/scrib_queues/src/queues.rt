@@ -19,10 +19,11 @@ struct Pair {
 
 /// A first-in-first-out queue of messages for each ordered pair of roles, which stand by their positions.
 ///
-/// Kept are the pairs that were ever reserved for, and beside them their queues. So a pair that isn't used takes
-/// no memory, where a table of all pairs would grow with the square of the number of roles, in each
+/// Kept are the pairs that were ever sent on or reserved for, and beside them their queues. So a pair that isn't used
+/// takes no memory, where a table of all pairs would grow with the square of the number of roles, in each
 /// conversation. Finding a queue reads these pairs, which lie side by side, and no queue; a conversation uses few.
-/// How many messages are in flight matters to `clear` and `copy` alone, and to a `reserve` that has to grow a queue.
+/// How many messages are in flight matters to `clear` and `copy` alone, and to a `reserve` or `send` that has to grow
+/// a queue.
 /// Contracts see the number of roles and, of each pair, the messages and whether there is room for one more.
 #[derive(Drop)]
 pub struct Queues {
