@@ -1,8 +1,8 @@
 //! Worked examples as calls of which one is to be refused memory. Where a call is that works on a core, what stood before
 //! it is compared with what stands after it, and the call is made once more on the same; one on a service or queues is
-//! made once more; where a call is that makes a value from others, the row is run once more. The answers are those of the example. Its word is
-//! a row's name, or `all`; it prints a line for each row, and ends with status 1 where an answer isn't the row's, and
-//! with 3 where a second request was refused.
+//! made once more; where a call is that makes a value from others, the row is run once more. The answers are those of the
+//! example. Its word is a row's name, or `all`; it prints a line for each row, and ends with status 1 where an answer
+//! isn't the row's, and with 3 where a second request was refused.
 #![tactic(auto)]
 
 mod core_rows;
