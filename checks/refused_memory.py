@@ -6,7 +6,8 @@ where one is refused memory that works on a core it compares what stands then wi
 once more, one on a service or queues it makes once more, and where one is refused that makes a value it makes the row
 once more; it compares each answer with the row's. Here it runs again and again, and request 1, then 2, then 3 and so on
 is refused (by refused_request.c.txt, which the C compiler `cc` builds and the loader puts before the C library), until
-a run meets no refusal. Prints for each row how many requests were refused, and ends with status 1 where a run didn't answer as the row.
+a run meets no refusal. Prints for each row how many requests were refused, and ends with status 1 where a run didn't
+answer as the row.
 """
 import os
 import subprocess

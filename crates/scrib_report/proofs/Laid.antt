@@ -6,7 +6,6 @@ use Rattle.scrib_types.specs.declared.event.Verdict.TheVariants.{Permitted}
 use Rattle.scrib_core.specs.declared.reply.Reply.TheVariants.{Noted}
 use Rattle.scrib_report.specs.Lines.{line_of, told_text, verdict_text}
 use Rattle.std.proofs.lemmas.Fmt.{length-decimal-le}
-use Rattle.std.proofs.lemmas.Grind.{drop-set_at}
 use Rattle.std.proofs.lemmas.List.{drop-set}
 
 -- how many digits numbers of 64 bits and of 32 bits have at most
