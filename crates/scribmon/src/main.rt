@@ -26,6 +26,9 @@ use std::sync::Wait;
 use std::thread::Threads;
 use std::{env, io};
 
+// How many bytes of the output are written at once at most where nobody waits for them: as many as a pipe takes.
+const OUTPUT_BYTES: usize = 65_536;
+
 fn file_arg<'a>(alloc: Global) -> Arg<'a> {
     Arg::new(alloc, "FILE").help("The script; standard input where none is named")
 }
@@ -327,7 +330,8 @@ fn obey<R: Print + Eprint + Input + Files + Threads + Wait + AllocGlobal + Sync>
 where
     R::File: Send,
 {
-    let Ok(mut writer) = BufWriter::new(rt.alloc(), io::writer(rt)) else {
+    let made = BufWriter::with_capacity(rt.alloc(), OUTPUT_BYTES, io::writer(rt));
+    let Ok(mut writer) = made else {
         return Ok(told(rt, &Err(ScriptFault::OutOfMemory)));
     };
     match matches.subcommand() {
