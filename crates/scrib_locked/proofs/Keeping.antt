@@ -26,7 +26,7 @@ use Rattle.scrib_locked.specs.declared.stepping.Noted.{Noted}
 use Rattle.scrib_locked.specs.Indexing.{Listing, listed, only_under}
 use Rattle.scrib_locked.specs.Shards.{IsWithin, AreWithin, IsStored}
 use Rattle.scrib_locked.specs.Locked.{entries_of}
-use Rattle.scrib_locked.specs.Noting.{notes_of}
+use Rattle.scrib_locked.specs.Passing.{notes_of}
 use Rattle.scrib_locked.proofs.Listed.{index_none, index_push, index_set, index_kept}
 
 abbrev events_in : Recorded → ℕ
@@ -49,7 +49,7 @@ entries_few (reply.Refused f) = omega arith
 pub stored_none : (most : ℕ) → most ≤ 65536 → IsStored most [] [] 0
 stored_none most few = record { counted = refl; indexed = index_none; lawful = All-nil IsWithin; limited = omega arith; few = few }
 
-stored_same : (most : ℕ) (old new : Records) (es : Listing) (book : ℕ) → new ≡ old → IsStored most old es book → IsStored most new es book
+pub stored_same : (most : ℕ) (old new : Records) (es : Listing) (book : ℕ) → new ≡ old → IsStored most old es book → IsStored most new es book
 stored_same most old new es book e s = subst (λ (rs : Records). IsStored most rs es book) (sym e) s
 
 -- one record is written, with so many entries more

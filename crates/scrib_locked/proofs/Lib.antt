@@ -1,7 +1,9 @@
+pub mod AllNoted
 pub mod Indexes
 pub mod Keeping
 pub mod Listed
 pub mod Notes
+pub mod OneByOne
 pub mod Places
 pub mod Receipting
 pub mod Strays

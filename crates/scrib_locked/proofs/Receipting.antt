@@ -1,9 +1,10 @@
 -- Receipts that stand, and the receipt of a note.
 use Rattle.std.proofs.Common.{◌≡◌, ℕ, zero, suc, ◌+◌, ◌-◌, ◌<◌, ◌≤◌, ◌&&◌, Bool, true, false, List, [], ◌∷◌, ◌++◌, length, drop, Option, Some, None, All, slice_get, get_or, option_to_list, option_map, nat_lt, refl, sym, ap, subst, ◌∙◌, arith, length-append, true≢false, ltb-true, lt-ltb}
 use Rattle.std.proofs.Math.ListN.{get_or-append}
+use Rattle.std.proofs.Math.Seq.{drop-append_seam}
 use Rattle.std.proofs.lemmas.Option.{slice_get_within, get_or_from_slice_get, slice_get-get_or}
 use Rattle.std.proofs.lemmas.List.{get_or_push}
-use Rattle.std.proofs.lemmas.List.Elements.{All-cons, All-head}
+use Rattle.std.proofs.lemmas.List.Elements.{All-nil, All-cons, All-head}
 use Rattle.scrib_types.specs.declared.event.Event.{Event}
 use Rattle.scrib_types.specs.declared.event.Told.{Told}
 use Rattle.scrib_types.specs.declared.event.Told.TheVariants.{Stale, Judged}
@@ -13,13 +14,13 @@ use Rattle.scrib_record.specs.Told.{IsTold}
 use Rattle.scrib_record.specs.Versions.{meaning_of}
 use Rattle.scrib_library.specs.Holdings.{Holdings}
 use Rattle.scrib_core.specs.Held.{Records, record_at}
-use Rattle.scrib_core.specs.Conversing.{IsNotedAt}
 use Rattle.scrib_locked.specs.declared.pass.Receipt.{Receipt}
 use Rattle.scrib_locked.specs.declared.stepping.Noted.{Noted}
 use Rattle.scrib_locked.specs.Shards.{log_at, log_in}
 use Rattle.scrib_locked.specs.Receipts.{entry_at, StandsIn}
 use Rattle.scrib_locked.specs.Passes.{PassHeld, rises, newest_of, IsVerdictOn, IsReceipted, IsAnsweredOn}
 use Rattle.scrib_locked.specs.Passing.{IsAskedBy}
+use Rattle.scrib_locked.specs.Noting.{IsNotedIn}
 
 -- ---- places of a log
 
@@ -86,68 +87,77 @@ log_there rs id r e = ap log_in e
 abbrev pub receipt_of : Noted → Event → Receipt
 receipt_of n e = record { place = n.place; event = e }
 
--- each earlier place is below that of the note
-pub noted_above : (h : Holdings) (old : Records) (p : PassHeld) (e : Event) (n : Noted) (new : Records) → rises 0 p.receipts ≡ true
-    → All (StandsIn (log_at old p.conversation)) (newest_of p.receipts) → IsNotedAt h old p.conversation e n.place n.told new → All (λ r. r.place < n.place) p.receipts
-noted_above h old p e n new rise stood x k d below =
-    let log : log_at old p.conversation ≡ x.before.log = log_there old p.conversation x.before x.there in
-    let newest : All (λ (r : Receipt). r.place ≤ length x.before.log) (newest_of p.receipts) =
-    λ i c h. stands_within (get_or (newest_of p.receipts) i c).place x.before.log (get_or (newest_of p.receipts) i c).event (subst (λ (l : List Event). StandsIn l (get_or (newest_of p.receipts) i c)) log (stood i c h)) in
-    let high : (get_or p.receipts k d).place ≤ length x.before.log = newest_highest 0 (length x.before.log) p.receipts rise newest k d below in
-    let longer : length x.after.log ≡ length x.before.log + 1 = ap length x.noted.log ∙ length-append x.before.log (e ∷ []) in
-    omega (arith, x.place_is)
+-- ---- a note in a record
 
-pub receipted : (h : Holdings) (old : Records) (p : PassHeld) (e : Event) (n : Noted) (new : Records) → rises 0 p.receipts ≡ true
-    → All (StandsIn (log_at old p.conversation)) (newest_of p.receipts) → IsNotedAt h old p.conversation e n.place n.told new
-    → IsReceipted p e n (record { conversation = p.conversation; receipts = p.receipts ++ receipt_of n e ∷ [] })
-receipted h old p e n new rise stood x =
-    let log : log_at old p.conversation ≡ x.before.log = log_there old p.conversation x.before x.there in
-    let longer : length x.after.log ≡ length x.before.log + 1 = ap length x.noted.log ∙ length-append x.before.log (e ∷ []) in
-    record {
-      added = refl;
-      above = noted_above h old p e n new rise stood x;
-      log = x.after.log;
-      place = x.place_is;
-      ends = subst (λ (l : List Event). entry_at n.place l ≡ e ∷ []) (sym x.noted.log) (ends_with x.before.log e n.place (omega (arith, x.place_is, longer)));
-      stood = λ i c h. subst (λ (l : List Event). StandsIn l (get_or (newest_of p.receipts) i c)) (sym x.noted.log)
-          (stands_more (get_or (newest_of p.receipts) i c).place x.before.log (get_or (newest_of p.receipts) i c).event e
-          (subst (λ (l : List Event). StandsIn l (get_or (newest_of p.receipts) i c)) log (stood i c h)));
-      told = told_verdict x.present x.after n.told x.noted.told;
-    }
+-- what is pushed is the newest
+newest_pushed : (rs : List Receipt) (r : Receipt) → newest_of (rs ++ r ∷ []) ≡ r ∷ []
+newest_pushed rs r =
+    let at : length (rs ++ r ∷ []) - 1 ≡ length rs = omega (arith, length-append rs (r ∷ [])) in
+    ap (λ (i : ℕ). drop i (rs ++ r ∷ [])) at ∙ drop-append_seam rs (r ∷ [])
+
+module _ (present : Option Version) (before : Recorded) (p : PassHeld) (e : Event) (n : Noted) (after : Recorded)
+    (stood : All (StandsIn before.log) (newest_of p.receipts)) (noted : IsNotedIn present before e n after) where
+  longer : length after.log ≡ length before.log + 1
+  longer = ap length noted.noted.log ∙ length-append before.log (e ∷ [])
+
+  -- the event is the last entry
+  ended : entry_at n.place after.log ≡ e ∷ []
+  ended = subst (λ (l : List Event). entry_at n.place l ≡ e ∷ []) (sym noted.noted.log) (ends_with before.log e n.place (omega (arith, noted.place_is, longer)))
+
+  -- each earlier place is below that of the note
+  above : rises 0 p.receipts ≡ true → All (λ r. r.place < n.place) p.receipts
+  above rise k d below =
+      let newest : All (λ (r : Receipt). r.place ≤ length before.log) (newest_of p.receipts) =
+      λ i c h. stands_within (get_or (newest_of p.receipts) i c).place before.log (get_or (newest_of p.receipts) i c).event (stood i c h) in
+      let high : (get_or p.receipts k d).place ≤ length before.log = newest_highest 0 (length before.log) p.receipts rise newest k d below in
+      omega (arith, noted.place_is, longer)
+
+  receipted : rises 0 p.receipts ≡ true → IsReceipted p e n (record { conversation = p.conversation; receipts = p.receipts ++ receipt_of n e ∷ [] })
+  receipted rise = record {
+    added = refl;
+    above = above rise;
+    log = after.log;
+    place = noted.place_is;
+    ends = ended;
+    stood = λ i c h. subst (λ (l : List Event). StandsIn l (get_or (newest_of p.receipts) i c)) (sym noted.noted.log)
+        (stands_more (get_or (newest_of p.receipts) i c).place before.log (get_or (newest_of p.receipts) i c).event e (stood i c h));
+    told = told_verdict present after n.told noted.noted.told;
+  }
 
 same_held : (c d : ℕ) (rs ss : List Receipt) → c ≡ d → rs ≡ ss → (let p : PassHeld = record { conversation = c; receipts = rs } in let q : PassHeld = record { conversation = d; receipts = ss } in p ≡ q)
 same_held c d rs ss e f =
     ap (λ (i : ℕ). let p : PassHeld = record { conversation = i; receipts = rs } in p) e
     ∙ ap (λ (xs : List Receipt). let p : PassHeld = record { conversation = d; receipts = xs } in p) f
 
--- what was compared with the log is the newest receipt of the pass
-pub stood_there : (rs : Records) (p : PassHeld) (id : ℕ) (newest : List Receipt) → id ≡ p.conversation → newest ≡ newest_of p.receipts
-    → All (StandsIn (log_at rs id)) newest → All (StandsIn (log_at rs p.conversation)) (newest_of p.receipts)
-stood_there rs p id newest at is stood =
-    subst (λ (i : ℕ). All (StandsIn (log_at rs i)) (newest_of p.receipts)) at (subst (λ (xs : List Receipt). All (StandsIn (log_at rs id)) xs) is stood)
-
 -- the fields of a pass after a note, whose receipt was pushed
-module _ (h : Holdings) (rs : Records) (before : PassHeld) (conversation : ℕ) (old new : List Receipt) (e kept : Event) (n : Noted) (after : Records)
-    (view : (let p : PassHeld = record { conversation = conversation; receipts = old } in p ≡ before)) (pushed : new ≡ old ++ receipt_of n kept ∷ []) (copied : kept ≡ e)
-    (rise : rises 0 old ≡ true) (stood : All (StandsIn (log_at rs before.conversation)) (newest_of before.receipts)) (noted : IsNotedAt h rs before.conversation e n.place n.told after) where
-  rises_before : rises 0 before.receipts ≡ true
-  rises_before = subst (λ (p : PassHeld). rises 0 p.receipts ≡ true) view rise
+module _ (present : Option Version) (before : Recorded) (p : PassHeld) (conversation : ℕ) (old new : List Receipt) (e kept : Event) (n : Noted) (after : Recorded)
+    (view : (let q : PassHeld = record { conversation = conversation; receipts = old } in q ≡ p)) (pushed : new ≡ old ++ receipt_of n kept ∷ []) (copied : kept ≡ e)
+    (rise : rises 0 old ≡ true) (stood : All (StandsIn before.log) (newest_of p.receipts)) (noted : IsNotedIn present before e n after) where
+  rises_before : rises 0 p.receipts ≡ true
+  rises_before = subst (λ (q : PassHeld). rises 0 q.receipts ≡ true) view rise
 
-  same_receipts : before.receipts ++ receipt_of n e ∷ [] ≡ new
+  same_receipts : p.receipts ++ receipt_of n e ∷ [] ≡ new
   same_receipts =
-      ap (λ (x : Event). before.receipts ++ receipt_of n x ∷ []) (sym copied)
-      ∙ ap (λ (p : PassHeld). p.receipts ++ receipt_of n kept ∷ []) (sym view) ∙ sym pushed
+      ap (λ (x : Event). p.receipts ++ receipt_of n x ∷ []) (sym copied)
+      ∙ ap (λ (q : PassHeld). q.receipts ++ receipt_of n kept ∷ []) (sym view) ∙ sym pushed
 
   pub pass_rises : rises 0 new ≡ true
   pass_rises =
-      let above = noted_above h rs before e n after rises_before stood noted in
-      let positive : 0 < n.place = omega (arith, noted.place_is, ap length noted.noted.log, length-append noted.before.log (e ∷ [])) in
-      subst (λ (xs : List Receipt). rises 0 xs ≡ true) same_receipts (rises_push 0 before.receipts (receipt_of n e) rises_before positive above)
+      let positive : 0 < n.place = omega (arith, noted.place_is, longer present before p e n after stood noted) in
+      subst (λ (xs : List Receipt). rises 0 xs ≡ true) same_receipts
+      (rises_push 0 p.receipts (receipt_of n e) rises_before positive (above present before p e n after stood noted rises_before))
 
-  pub pass_receipted : IsReceipted before e n (record { conversation = conversation; receipts = new })
+  pub pass_receipted : IsReceipted p e n (record { conversation = conversation; receipts = new })
   pass_receipted =
-      subst (IsReceipted before e n) (same_held before.conversation conversation (before.receipts ++ receipt_of n e ∷ []) new (ap (λ (p : PassHeld). p.conversation) (sym view)) same_receipts)
-      (receipted h rs before e n after rises_before stood noted)
+      subst (IsReceipted p e n) (same_held p.conversation conversation (p.receipts ++ receipt_of n e ∷ []) new (ap (λ (q : PassHeld). q.conversation) (sym view)) same_receipts)
+      (receipted present before p e n after stood noted rises_before)
+
+  -- and the newest receipt stands again
+  pub pass_stands : All (StandsIn after.log) (newest_of new)
+  pass_stands =
+      subst (λ (xs : List Receipt). All (StandsIn after.log) (newest_of xs)) same_receipts
+      (subst (λ (xs : List Receipt). All (StandsIn after.log) xs) (sym (newest_pushed p.receipts (receipt_of n e)))
+      (All-cons (StandsIn after.log) (receipt_of n e) [] (ended present before p e n after stood noted) (All-nil (StandsIn after.log))))
 
 -- an answer to a question by a pass
 pub answered : (h : Holdings) (rs : Records) (p : PassHeld) (answer : Told) → IsAskedBy h rs p answer → IsAnsweredOn p.receipts answer

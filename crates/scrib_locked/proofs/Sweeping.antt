@@ -38,7 +38,7 @@ at_written rs id i s r e = lookup-set_value nat_eq_equiv (nat_eq id) one i s rs 
     one : (x y : ℕ) → nat_eq id x ≡ true → nat_eq id y ≡ nat_eq x y
     one x y t = ap (λ (n : ℕ). nat_eq n y) ((Decides-eqb id x).0 t)
 
-at_itself : (rs : Records) (id : ℕ) (s r : Recorded) → record_at rs id ≡ Some r → record_at (set_value (nat_eq id) rs s) id ≡ Some s
+pub at_itself : (rs : Records) (id : ℕ) (s r : Recorded) → record_at rs id ≡ Some r → record_at (set_value (nat_eq id) rs s) id ≡ Some s
 at_itself rs id s r e = at_written rs id id s r e ∙ ap (λ (b : Bool). cond b (Some s) (record_at rs id)) ((Decides-eqb id id).1 refl)
 
 at_other : (rs : Records) (id i : ℕ) (s r : Recorded) → record_at rs id ≡ Some r → (id ≡ i → ⊥) → record_at (set_value (nat_eq id) rs s) i ≡ record_at rs i

@@ -1,5 +1,5 @@
 -- What notes and questions by a pass do in a shard, and why they are refused (this project's own).
-use Rattle.std.specs.Prelude.{◌≡◌, Some, All}
+use Rattle.std.specs.Prelude.{◌≡◌, ℕ, Some, All, Result, Ok, Err}
 use Rattle.scrib_types.specs.declared.event.Event.{Event}
 use Rattle.scrib_types.specs.declared.event.Told.{Told}
 use Rattle.scrib_library.specs.Holdings.{Holdings}
@@ -11,7 +11,7 @@ use Rattle.scrib_locked.specs.declared.passing.PassRefusal.TheVariants.{Mismatch
 use Rattle.scrib_locked.specs.Shards.{ShardHeld, log_at}
 use Rattle.scrib_locked.specs.Locked.{IsAskedFor}
 use Rattle.scrib_locked.specs.Receipts.{StandsIn, IsLeastStray}
-use Rattle.scrib_locked.specs.Passes.{PassHeld, newest_of}
+use Rattle.scrib_locked.specs.Passes.{PassHeld, IsReceipted, newest_of}
 
 -- the newest receipt of the pass stands
 abbrev pub NewestStands : Records → PassHeld → Type 0
@@ -37,3 +37,13 @@ pub record IsAskedBy (h : Holdings) (rs : Records) (p : PassHeld) (answer : Told
 abbrev pub PassAskFails : Records → PassHeld → PassRefusal → Type 0
 PassAskFails rs p (Mismatch id place) = (id ≡ p.conversation) × IsLeastStray (log_at rs p.conversation) p.receipts (Some place)
 PassAskFails rs p (Step f) = All (StandsIn (log_at rs p.conversation)) p.receipts × TellFails rs p.conversation f
+
+-- what is answered to a note by the pass, and what the records and the pass are then
+abbrev pub AnswersBy : Holdings → Records × PassHeld → Event → Result Noted PassRefusal → Records × PassHeld → Type 0
+AnswersBy h s e (Ok n) t = NewestStands s.0 s.1 × IsNotedAt h s.0 s.1.conversation e n.place n.told t.0 × IsReceipted s.1 e n t.1
+AnswersBy h s e (Err f) t = PassNoteFails s.0 s.1 f × (t ≡ s)
+
+-- how many entries a note by a pass adds to a log
+abbrev pub notes_of : Result Noted PassRefusal → ℕ
+notes_of (Ok n) = 1
+notes_of (Err f) = 0

@@ -6,6 +6,7 @@ pub mod locked;
 pub mod noting;
 pub mod pass;
 pub mod passing;
+pub mod several;
 pub mod shard;
 pub mod standing;
 pub mod stepping;

@@ -2,13 +2,12 @@
 
 ghost use Rattle.std.specs.Prelude.{◌≡◌, None, IfOk, IfErr, OnOk, OnErr};
 ghost use Rattle.scrib_core.specs.Held.{Records, record_at};
-ghost use Rattle.scrib_core.specs.Conversing.{IsNotedAt};
-ghost use Rattle.scrib_locked.specs.Noting.{StandsAt, notes_of};
+ghost use Rattle.scrib_locked.specs.Noting.{StandsAt};
 ghost use Rattle.scrib_locked.specs.Passes.{PassHeld, IsReceipted, IsAnsweredOn, newest_of};
-ghost use Rattle.scrib_locked.specs.Passing.{NewestStands, IsNotedBy, PassNoteFails, IsAskedBy, PassAskFails};
+ghost use Rattle.scrib_locked.specs.Passing.{AnswersBy, IsNotedBy, PassNoteFails, IsAskedBy, PassAskFails, notes_of};
 
 use crate::locked::stands_locked;
-use crate::noting::{note_in, place_near, refusal_of, without_memory};
+use crate::noting::{note_for, place_near, present_of};
 use crate::pass::{Pass, Receipt};
 use crate::shard::Shard;
 use crate::standing::least_stray;
@@ -81,12 +80,7 @@ fn note_among(
     pass: &mut Pass,
     event: Event,
 ) -> Result<Noted, PassRefusal>
-    ensures stood { OnOk result (NewestStands records.old.entries pass.old) }
-    ensures noted { IfOk result (λ n. IsNotedAt library.now records.old.entries pass.old.conversation event n.place n.told records.new.entries) }
-    ensures receipted { IfOk result (λ n. IsReceipted pass.old event n pass.new) }
-    ensures fault { IfErr result (PassNoteFails records.old.entries pass.old) }
-    ensures records { OnErr result (records.new.entries ≡ records.old.entries) }
-    ensures pass { OnErr result (pass.new ≡ pass.old) }
+    ensures { AnswersBy library.now (records.old.entries, pass.old) event result (records.new.entries, pass.new) }
 {
     let id = pass.conversation();
     match place_near(records, pass.near(), id) {
@@ -108,12 +102,7 @@ fn note_at(
     event: Event,
 ) -> Result<Noted, PassRefusal>
     requires { StandsAt records.old.entries at pass.old.conversation }
-    ensures stood { OnOk result (NewestStands records.old.entries pass.old) }
-    ensures noted { IfOk result (λ n. IsNotedAt library.now records.old.entries pass.old.conversation event n.place n.told records.new.entries) }
-    ensures receipted { IfOk result (λ n. IsReceipted pass.old event n pass.new) }
-    ensures fault { IfErr result (PassNoteFails records.old.entries pass.old) }
-    ensures records { OnErr result (records.new.entries ≡ records.old.entries) }
-    ensures pass { OnErr result (pass.new ≡ pass.old) }
+    ensures { AnswersBy library.now (records.old.entries, pass.old) event result (records.new.entries, pass.new) }
 {
     let Some(conversation) = records.get_index_mut(at) else {
         unreachable!()
@@ -124,23 +113,12 @@ fn note_at(
             place,
         });
     }
-    let (Ok(kept), Ok(())) = (event.copy(), pass.receipts.reserve(1)) else {
-        return Err(PassRefusal::Step(refusal_of(without_memory(conversation))));
-    };
-    match note_in(library, conversation, event) {
-        Ok(noted) => {
-            pass.receipts.push_reserved(Receipt {
-                place: noted.place,
-                event: kept,
-            });
-            Ok(noted)
-        }
-        Err(fault) => Err(PassRefusal::Step(refusal_of(fault))),
-    }
+    let present = present_of(library, conversation);
+    note_for(present, conversation, pass, event)
 }
 
-// Why nothing is noted where no conversation of the id is open.
-fn unopened(id: u32, newest: &[Receipt]) -> PassRefusal
+/// Why nothing is noted where no conversation of the id is open.
+pub(crate) fn unopened(id: u32, newest: &[Receipt]) -> PassRefusal
     ensures { (rs : Records) (p : PassHeld) → record_at rs id ≡ None → p.conversation ≡ id → newest.now ≡ newest_of p.receipts → PassNoteFails rs p result }
 {
     match least_stray(&[], newest) {
@@ -152,8 +130,8 @@ fn unopened(id: u32, newest: &[Receipt]) -> PassRefusal
     }
 }
 
-// How many entries the note has added to a log.
-fn notes_of(noted: &Result<Noted, PassRefusal>) -> u64
+/// How many entries the note has added to a log.
+pub(crate) fn notes_of(noted: &Result<Noted, PassRefusal>) -> u64
     ensures { result ≡ notes_of noted.now }
 {
     match noted {

@@ -2,8 +2,9 @@ use Rattle.std.proofs.Common.{IfOk, IfErr, refl, subst, arith}
 use Rattle.scrib_locked.specs.declared.stepping.Noted.{Noted}
 use Rattle.scrib_locked.specs.Passing.{IsNotedBy, PassNoteFails}
 use Rattle.scrib_locked.specs.Shards.{ShardHeld}
-use Rattle.scrib_locked.proofs.Keeping.{book_small, notes_few, pass_note_keeps}
-use Rattle.scrib_locked.proofs.Notes.{noted_by}
+use Rattle.scrib_locked.proofs.AllNoted.{one_keeps}
+use Rattle.scrib_locked.proofs.Keeping.{book_small, notes_few}
+use Rattle.scrib_locked.proofs.Notes.{noted_by, receipted_by, fails_by, shard_left_by, pass_left_by}
 use Rattle.scrib_locked.proofs.passing.note_by_pass.Goals as goal
 
 pub overflow_add-shard : goal.overflow_add-shard
@@ -11,8 +12,9 @@ overflow_add-shard c = omega (arith, book_small c.shard.inside.most c.shard.insi
 
 pub invariant_of-shard : goal.invariant_of-shard
 invariant_of-shard c =
-    rw c.notes_of.ensures (pass_note_keeps c.shard.inside.most c.args.library.now c.shard.inside.records.entries c.args.pass.now.conversation c.args.event c.note_among-noted.result c.note_among-noted.new.records.entries
-    c.shard.inside.index.entries c.shard.inside.book c.note_among-noted.ensures.noted c.note_among-noted.ensures.records c.shard.invariant)
+    let noted = c.note_among-noted in
+    rw c.notes_of.ensures (one_keeps c.shard.inside.most c.args.library.now (c.shard.inside.records.entries, c.args.pass.now) (noted.new.records.entries, noted.new.pass) c.args.event noted.result
+    c.shard.inside.index.entries c.shard.inside.book noted.ensures c.shard.invariant)
 
 pub returns-clause-noted : goal.returns-clause-noted
 returns-clause-noted c =
@@ -20,8 +22,25 @@ returns-clause-noted c =
     let old : ShardHeld = record { most = c.shard.inside.most; records = c.shard.inside.records.entries } in
     let new : ShardHeld = record { most = c.shard.inside.most; records = noted.new.records.entries } in
     subst (λ (s : ShardHeld). IfOk noted.result (λ (n : Noted). IsNotedBy c.args.library.now s c.args.pass.now c.args.event n new)) c.shard.view_is
-    (noted_by c.args.library.now old new c.args.pass.now c.args.event noted.result noted.ensures.stood noted.ensures.noted refl)
+    (noted_by c.args.library.now old new c.args.pass.now noted.new.pass c.args.event noted.result refl noted.ensures)
+
+pub returns-clause-receipted : goal.returns-clause-receipted
+returns-clause-receipted c =
+    let noted = c.note_among-noted in
+    receipted_by c.args.library.now (c.shard.inside.records.entries, c.args.pass.now) (noted.new.records.entries, noted.new.pass) c.args.event noted.result noted.ensures
 
 pub returns-clause-fault : goal.returns-clause-fault
 returns-clause-fault c =
-    subst (λ (s : ShardHeld). IfErr c.note_among-noted.result (PassNoteFails s.records c.args.pass.now)) c.shard.view_is c.note_among-noted.ensures.fault
+    let noted = c.note_among-noted in
+    subst (λ (s : ShardHeld). IfErr noted.result (PassNoteFails s.records c.args.pass.now)) c.shard.view_is
+    (fails_by c.args.library.now (c.shard.inside.records.entries, c.args.pass.now) (noted.new.records.entries, noted.new.pass) c.args.event noted.result noted.ensures)
+
+pub returns-clause-shard : goal.returns-clause-shard
+returns-clause-shard c =
+    let noted = c.note_among-noted in
+    shard_left_by c.shard.inside.most c.args.shard.now c.args.library.now (c.shard.inside.records.entries, c.args.pass.now) (noted.new.records.entries, noted.new.pass) c.args.event noted.result noted.ensures c.shard.view_is
+
+pub returns-clause-pass : goal.returns-clause-pass
+returns-clause-pass c =
+    let noted = c.note_among-noted in
+    pass_left_by c.args.library.now (c.shard.inside.records.entries, c.args.pass.now) (noted.new.records.entries, noted.new.pass) c.args.event noted.result noted.ensures

@@ -1,0 +1,9 @@
+-- What is done for one thing after another (this project's own).
+use Rattle.std.specs.Prelude.{◌≡◌, List, [], ◌∷◌}
+
+-- each of these takes a step from where the one before it led, and has the answer at the same place of the other list
+abbrev pub OneByOne : {S A B : Type 0} → (S → A → B → S → Type 0) → S → List A → List B → S → Type 0
+OneByOne {S} {A} {B} Step s [] [] t = t ≡ s
+OneByOne {S} {A} {B} Step s [] (b ∷ bs) t = ⊥
+OneByOne {S} {A} {B} Step s (a ∷ aa) [] t = ⊥
+OneByOne {S} {A} {B} Step s (a ∷ aa) (b ∷ bs) t = (u : S) × Step s a b u × OneByOne Step u aa bs t
