@@ -16,10 +16,15 @@ use scrib_script::item::Item;
 use scrib_shards::gate::OpenGate;
 use scrib_shards::pass::Pass;
 use scrib_shards::service::Service;
+use scrib_shards::several::PassAnswer;
 use scrib_types::event::{Event, Told};
 use scrib_types::text::push_bytes;
 use std::alloc::{AllocError, Global};
+use std::mem::replace;
 use std::sync::Wait;
+
+/// How many events of a conversation are put off at most, and so noted while the locks are held once.
+const MAX_PENDING: usize = 64;
 
 /// A connection to a service: its pass to each conversation that it used, and the lines of what it was answered.
 #[derive(Drop)]
@@ -33,6 +38,9 @@ pub(crate) struct Connection<'a> {
     // Where the pass stands that was used last. Nothing rests on it.
     near: usize,
     lines: Vec<u8>,
+    // Events of one conversation that are still to be noted.
+    pending: Vec<Event>,
+    pending_id: u32,
     // How many events it noted that weren't counted yet.
     noted: u64,
 }
@@ -45,7 +53,7 @@ pub(crate) struct Closed {
 }
 
 impl<'a> Connection<'a> {
-    ghost use Rattle.std.specs.Prelude.{◌≡◌, ◌<◌, IfOk, IfSome, OnErr, IsSome, None, Some, nat_eq, slice_get};
+    ghost use Rattle.std.specs.Prelude.{◌≡◌, ◌<◌, ◌≤◌, [], IfOk, IfSome, OnErr, IsSome, None, Some, nat_eq, slice_get, vec_len, vec_capacity};
     ghost use Rattle.std.specs.Map.{lookup};
     ghost use Rattle.indexmap.specs.IndexMap.{index_map_len, keys};
 
@@ -62,6 +70,8 @@ impl<'a> Connection<'a> {
             passes: IndexMap::new(common.alloc),
             near: 0,
             lines: Vec::new(common.alloc),
+            pending: Vec::new(common.alloc),
+            pending_id: 0,
             noted: 0,
         }
     }
@@ -73,7 +83,7 @@ impl<'a> Connection<'a> {
         noted
     }
 
-    /// What is left of it at its end.
+    /// What is left of it at its end, when no event is put off any more.
     ///
     /// # Errors
     /// `AllocError` where memory was refused.
@@ -87,7 +97,8 @@ impl<'a> Connection<'a> {
 
     /// Makes the step that the item of this line is, and adds the line of what is answered; or a line for one that
     /// says nothing, or for an end inside a module text. A turn or a question whose answer is asked for in JSON says
-    /// nothing.
+    /// nothing. Events of one conversation that follow one another are put off and noted some at a time, since the
+    /// service's locks are taken once for them; `catch_up` notes those that are left.
     ///
     /// # Errors
     /// `OutOfMemory` where there is no memory for a line.
@@ -99,18 +110,103 @@ impl<'a> Connection<'a> {
         number: u32,
     ) -> Result<(), ScriptFault> {
         match item {
+            Item::Step(Format::Line, Step::Note { id, event }) => self.put_off(rt, id, event),
+            item => {
+                self.catch_up(rt)?;
+                self.tell_now(rt, item, number)
+            }
+        }
+    }
+
+    /// Notes the events that were put off, and adds the lines of what is answered.
+    ///
+    /// # Errors
+    /// `OutOfMemory` where there is no memory for a line.
+    pub(crate) fn catch_up(&mut self, rt: &impl Wait) -> Result<(), ScriptFault> {
+        if self.pending.is_empty() {
+            return Ok(());
+        }
+        let events = replace(&mut self.pending, Vec::new(self.alloc));
+        match Vec::with_capacity(self.alloc, events.len()) {
+            Ok(room) => self.note_all(rt, self.pending_id, events, room),
+            Err(_) => self.note_each(rt, self.pending_id, events),
+        }
+    }
+
+    // Puts the event off, behind those of its conversation that are put off. Without memory for that it is noted now.
+    #[inline(always)]
+    fn put_off(&mut self, rt: &impl Wait, id: u32, event: Event) -> Result<(), ScriptFault> {
+        if self.pending_id != id || self.pending.len() >= MAX_PENDING {
+            self.catch_up(rt)?;
+            self.pending_id = id;
+        }
+        if self.pending.reserve(1).is_err() {
+            self.catch_up(rt)?;
+            return self.note_now(rt, id, event);
+        }
+        self.pending.push_reserved(event);
+        Ok(())
+    }
+
+    // Notes the events of the conversation by one call, whose answers there is room for.
+    fn note_all(
+        &mut self,
+        rt: &impl Wait,
+        id: u32,
+        events: Vec<Event>,
+        room: Vec<PassAnswer>,
+    ) -> Result<(), ScriptFault>
+        requires empty { room.items ≡ [] }
+        requires room { vec_len events ≤ vec_capacity room }
+    {
+        let service = self.service;
+        let Ok(pass) = self.pass_to(rt, id) else {
+            return self.note_each(rt, id, events);
+        };
+        for answer in service.note_all(rt, pass, events, room, &OpenGate) {
+            self.tell_answer(&noted_answer(id, answer), Format::Line)?;
+        }
+        Ok(())
+    }
+
+    // Notes the events of the conversation one by one.
+    fn note_each(
+        &mut self,
+        rt: &impl Wait,
+        id: u32,
+        events: Vec<Event>,
+    ) -> Result<(), ScriptFault> {
+        for event in events {
+            self.note_now(rt, id, event)?;
+        }
+        Ok(())
+    }
+
+    fn note_now(&mut self, rt: &impl Wait, id: u32, event: Event) -> Result<(), ScriptFault> {
+        let answer = self.note(rt, id, event);
+        self.tell_answer(&answer, Format::Line)
+    }
+
+    // Adds the line of what is answered, which is asked for in this format.
+    fn tell_answer(&mut self, answer: &Answer, asked: Format) -> Result<(), ScriptFault> {
+        if is_noted(answer) {
+            self.noted = self.noted.saturating_add(1);
+        }
+        let format = reply_format(self.format, asked);
+        push_answer(&mut self.lines, answer, format)?;
+        Ok(())
+    }
+
+    // Makes the step of the item, or says that it is none, when no event is put off.
+    fn tell_now(&mut self, rt: &impl Wait, item: Item, number: u32) -> Result<(), ScriptFault> {
+        match item {
             Item::Step(Format::Json, Step::Turn { .. } | Step::Ask { .. }) => self.tell_bad(number),
             Item::Step(asked, step) => {
                 let answer = self.carry_out(rt, step);
                 if is_change(&answer) {
                     self.send_notices(rt);
                 }
-                if is_noted(&answer) {
-                    self.noted = self.noted.saturating_add(1);
-                }
-                let format = reply_format(self.format, asked);
-                push_answer(&mut self.lines, &answer, format)?;
-                Ok(())
+                self.tell_answer(&answer, asked)
             }
             Item::BadLine(number) => self.tell_bad(number),
             Item::EndOfText => {
@@ -150,8 +246,7 @@ impl<'a> Connection<'a> {
         }
     }
 
-    // Makes the step. What it answers is made where it is told: moved, it would wait until it is in memory.
-    #[inline(always)]
+    // Makes the step.
     fn carry_out(&mut self, rt: &impl Wait, step: Step) -> Answer {
         match step {
             Step::Put { text } => edited(Edit::Put, self.service.put(rt, text.as_slice())),
@@ -167,20 +262,11 @@ impl<'a> Connection<'a> {
         }
     }
 
-    #[inline(always)]
     fn note(&mut self, rt: &impl Wait, id: u32, event: Event) -> Answer {
         let service = self.service;
-        let pass = match self.pass_to(rt, id) {
-            Ok(pass) => pass,
-            Err(refusal) => return refused(refusal),
-        };
-        match service.note(rt, pass, event, &OpenGate) {
-            Ok(noted) => Answer::Reply(Reply::Noted {
-                id,
-                place: noted.place,
-                told: noted.told,
-            }),
-            Err(refusal) => refused_by_pass(refusal),
+        match self.pass_to(rt, id) {
+            Ok(pass) => noted_answer(id, service.note(rt, pass, event, &OpenGate)),
+            Err(refusal) => refused(refusal),
         }
     }
 
@@ -245,6 +331,19 @@ impl<'a> Connection<'a> {
             Ok((at, _)) => Ok(at),
             Err(_) => Err(Refusal::OutOfMemory),
         }
+    }
+}
+
+// What is answered to a note in this conversation.
+#[inline(always)]
+fn noted_answer(id: u32, answer: PassAnswer) -> Answer {
+    match answer {
+        Ok(noted) => Answer::Reply(Reply::Noted {
+            id,
+            place: noted.place,
+            told: noted.told,
+        }),
+        Err(refusal) => refused_by_pass(refusal),
     }
 }
 

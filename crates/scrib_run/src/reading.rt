@@ -49,7 +49,7 @@ pub(crate) fn run_script<R: Read, P: Progress>(
     Err(ScriptFault::Read)
 }
 
-// Takes the next bytes of the script in.
+// Takes the next bytes of the script in, and carries out what they spell.
 fn take_piece(
     rt: &impl Wait,
     connection: &mut Connection<'_>,
@@ -64,7 +64,7 @@ fn take_piece(
         }
         rest = after;
     }
-    Ok(())
+    connection.catch_up(rt)
 }
 
 // Carries out what the script spells at its end.
@@ -74,8 +74,8 @@ fn end_script(
     script: &mut Script,
 ) -> Result<(), ScriptFault> {
     let number = script.lines() + 1;
-    match script.last_item()? {
-        Some(item) => connection.tell(rt, item, number),
-        None => Ok(()),
+    if let Some(item) = script.last_item()? {
+        connection.tell(rt, item, number)?;
     }
+    connection.catch_up(rt)
 }

@@ -1,5 +1,5 @@
 -- What a call that takes a lock says of what it found there: that there were such values (this project's own).
-use Rattle.std.specs.Prelude.{◌≡◌, ℕ, List}
+use Rattle.std.specs.Prelude.{◌≡◌, ℕ, List, Result}
 use Rattle.scrib_types.specs.declared.profile.Profile.{Profile}
 use Rattle.scrib_types.specs.declared.event.Event.{Event}
 use Rattle.scrib_types.specs.declared.event.Told.{Told}
@@ -18,7 +18,8 @@ use Rattle.scrib_locked.specs.declared.stepping.Noted.{Noted}
 use Rattle.scrib_locked.specs.Shards.{ShardHeld}
 use Rattle.scrib_locked.specs.Locked.{IsConnected, ConnectFails, IsTurnedFor}
 use Rattle.scrib_locked.specs.Passes.{PassHeld}
-use Rattle.scrib_locked.specs.Passing.{IsNotedBy, PassNoteFails, IsAskedBy, PassAskFails}
+use Rattle.scrib_locked.specs.OneByOne.{OneByOne}
+use Rattle.scrib_locked.specs.Passing.{AnswersBy, IsNotedBy, PassNoteFails, IsAskedBy, PassAskFails}
 use Rattle.scrib_locked.specs.Sweeping.{AreTouched}
 
 -- some library, and what a put of the text made of it
@@ -81,6 +82,10 @@ IsNotedSome p e n = (h : Holdings) × (old : ShardHeld) × (new : ShardHeld) × 
 -- some records, in which the note by the pass is refused for this
 abbrev pub NoteFailsSome : PassHeld → PassRefusal → Type 0
 NoteFailsSome p f = (rs : Records) × PassNoteFails rs p f
+
+-- some library and records, in which these are the answers to notes by the pass, one after another
+abbrev pub AreAnsweredSome : PassHeld → List Event → List (Result Noted PassRefusal) → PassHeld → Type 0
+AreAnsweredSome p es xs q = (h : Holdings) × (old : Records) × (new : Records) × OneByOne (AnswersBy h) (old, p) es xs (new, q)
 
 -- some library and records, in which the turn was taken
 abbrev pub IsTurnedSome : ℕ → Told → Type 0

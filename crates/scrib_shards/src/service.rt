@@ -2,7 +2,7 @@
 
 ghost use Rattle.std.specs.Prelude.{◌≡◌, ◌⊎◌, ◌↔◌, ◌<◌, ◌≤◌, [], IfOk, IfErr, OnOk, OnErr, IsErrOf, vec_len, vec_capacity};
 ghost use Rattle.scrib_locked.specs.Passes.{IsReceipted, IsAnsweredOn};
-ghost use Rattle.scrib_shards.specs.Called.{IsPutSome, PutFailsSome, IsWithdrawnSome, WithdrawFailsSome, IsProfiledSome, ProfileFailsSome, IsOpenedSome, OpenFailsSome, IsConnectedSome, ConnectFailsSome, IsNotedSome, NoteFailsSome, IsTurnedSome, TellFailsSome, IsAskedSome, AskFailsSome};
+ghost use Rattle.scrib_shards.specs.Called.{IsPutSome, PutFailsSome, IsWithdrawnSome, WithdrawFailsSome, IsProfiledSome, ProfileFailsSome, IsOpenedSome, OpenFailsSome, IsConnectedSome, ConnectFailsSome, IsNotedSome, NoteFailsSome, AreAnsweredSome, IsTurnedSome, TellFailsSome, IsAskedSome, AskFailsSome};
 
 use crate::gate::Gate;
 use crossbeam_utils::CachePadded;
@@ -15,6 +15,7 @@ use scrib_library::library::Library;
 use scrib_locked::locked::connect_locked;
 use scrib_locked::pass::Pass;
 use scrib_locked::passing::{PassRefusal, ask_by_pass, note_by_pass};
+use scrib_locked::several::{PassAnswer, note_all_by_pass};
 use scrib_locked::shard::Shard;
 use scrib_locked::stepping::{Noted, open_step, turn_step};
 use scrib_settle::shares::MAX_SHARDS;
@@ -190,6 +191,29 @@ impl Service {
         let noted = note_by_pass(&library, &mut shard, pass, event);
         gate.hold(at);
         noted
+    }
+
+    /// Notes the events one after another in the pass's conversation, as so many calls of `note` do between which nobody
+    /// else is heard: the locks are taken once, so who notes many events takes a few of them at a time. Gives what is
+    /// answered to each, in their order, in the list that has room for it.
+    pub fn note_all<G: Gate>(
+        &self,
+        rt: &impl Wait,
+        pass: &mut Pass,
+        events: Vec<Event>,
+        room: Vec<PassAnswer>,
+        gate: &G,
+    ) -> Vec<PassAnswer>
+        requires empty { room.items ≡ [] }
+        requires room { vec_len events ≤ vec_capacity room }
+        ensures { AreAnsweredSome pass.old events.items result.items pass.new }
+    {
+        let at = self.shard_of(pass.conversation());
+        let library = self.library.read(rt, at);
+        let mut shard = self.shards[at].lock(rt);
+        let answers = note_all_by_pass(&library, &mut shard, pass, events, room);
+        gate.hold(at);
+        answers
     }
 
     /// Judges up to 256 further events of a conversation whose verdict is out of date, and tells what is told then.
