@@ -48,23 +48,21 @@ fn check_command<'a>(alloc: Global) -> Result<Command<'a>, AllocError> {
         .arg(files_arg(alloc))
 }
 
+fn value_arg<'a>(alloc: Global, name: &'a str, help: &'a str) -> Arg<'a> {
+    Arg::new(alloc, name).help(help).required(true)
+}
+
 // A command on what a role does in a protocol of some modules.
 fn role_command<'a>(
     alloc: Global,
     name: &'a str,
     about: &'a str,
 ) -> Result<Command<'a>, AllocError> {
-    let protocol = Arg::new(alloc, "PROTOCOL")
-        .help("The protocol's full name, as demo.Hello")
-        .required(true);
-    let role = Arg::new(alloc, "ROLE")
-        .help("A role of the protocol")
-        .required(true);
     Command::new(alloc, name)
         .about(about)
         .arg(reception_arg(alloc))?
-        .arg(protocol)?
-        .arg(role)?
+        .arg(value_arg(alloc, "PROTOCOL", "The protocol's full name, as demo.Hello"))?
+        .arg(value_arg(alloc, "ROLE", "A role of the protocol"))?
         .arg(files_arg(alloc))
 }
 
@@ -110,12 +108,9 @@ fn watch_command<'a>(alloc: Global) -> Result<Command<'a>, AllocError> {
 }
 
 fn explain_command<'a>(alloc: Global) -> Result<Command<'a>, AllocError> {
-    let id = Arg::new(alloc, "ID")
-        .help("The conversation's number in the script")
-        .required(true);
     Command::new(alloc, "explain")
         .about("Runs a script in silence, and prints the messages in flight in a conversation")
-        .arg(id)?
+        .arg(value_arg(alloc, "ID", "The conversation's number in the script"))?
         .arg(file_arg(alloc))
 }
 
@@ -127,42 +122,54 @@ fn count_arg<'a>(alloc: Global, name: &'a str, help: &'a str, usual: &'a str) ->
         .default_value(usual)
 }
 
-fn run_command<'a>(alloc: Global) -> Result<Command<'a>, AllocError> {
-    let shards = count_arg(
+fn shards_arg<'a>(alloc: Global) -> Arg<'a> {
+    count_arg(
         alloc,
         "shards",
         "How many shards the service has, 1 to 64",
         "4",
-    );
-    let workers = count_arg(
+    )
+}
+
+fn workers_arg<'a>(alloc: Global) -> Arg<'a> {
+    count_arg(
         alloc,
         "workers",
         "How many threads bring verdicts up to date, 1 to 16",
         "2",
-    );
-    let progress = flag_arg(
+    )
+}
+
+fn progress_arg<'a>(alloc: Global) -> Arg<'a> {
+    flag_arg(
         alloc,
         "progress",
         "Tell on standard error how far the run is, after each 100,000 events",
-    );
-    let setup = Arg::new(alloc, "SETUP")
-        .help("The script that is carried out first")
-        .required(true);
-    let connections = Arg::new(alloc, "CONNECTION")
-        .help("The scripts that are then carried out, each on a thread of its own")
-        .required(true)
-        .num_args(1..)
-        .action(ArgAction::Append);
+    )
+}
+
+fn connections_arg<'a>(alloc: Global) -> Arg<'a> {
+    value_arg(
+        alloc,
+        "CONNECTION",
+        "The scripts that are then carried out, each on a thread of its own",
+    )
+    .num_args(1..)
+    .action(ArgAction::Append)
+}
+
+// Each argument is made where it is taken: the time of a proof grows with what is alive at each `?`.
+fn run_command<'a>(alloc: Global) -> Result<Command<'a>, AllocError> {
     Command::new(alloc, "run")
         .about(
             "Runs scripts of many connections over one service, and prints a table of the conversations",
         )
-        .arg(shards)?
-        .arg(workers)?
+        .arg(shards_arg(alloc))?
+        .arg(workers_arg(alloc))?
         .arg(json_arg(alloc))?
-        .arg(progress)?
-        .arg(setup)?
-        .arg(connections)
+        .arg(progress_arg(alloc))?
+        .arg(value_arg(alloc, "SETUP", "The script that is carried out first"))?
+        .arg(connections_arg(alloc))
 }
 
 // With the commands that read modules.
