@@ -13,7 +13,7 @@ use scrib_shards::gate::OpenGate;
 use scrib_shards::pass::Pass;
 use scrib_shards::service::Service;
 use scrib_types::event::{Event, Told};
-use scrib_types::name::{Dotted, Name};
+use scrib_types::name::Dotted;
 use scrib_types::text::push_bytes;
 use std::alloc::Global;
 use std::io::Write;
@@ -36,22 +36,26 @@ const FIRST: [&str; 5] = [
 
 const SECOND: [&str; 3] = ["join 0 C", "send 0 C D c()", "send 0 C D c()"];
 
-// The full name of the protocol.
-fn name(alloc: Global) -> Result<Dotted, ExampleFault> {
-    let mut names = Vec::new(alloc);
-    for part in [b"demo".as_slice(), b"Pairs"] {
-        names.push(Name::from_bytes(alloc, part)?.ok_or(ExampleFault::Text)?)?;
+// The step of a line.
+fn step_of(alloc: Global, text: &str) -> Result<Step, ExampleFault> {
+    match line_of(alloc, text.as_bytes())? {
+        Line::Step(_, step) => Ok(step),
+        _ => Err(ExampleFault::Text),
     }
-    if names.is_empty() {
-        return Err(ExampleFault::Text);
-    }
-    Ok(Dotted::from_vec(alloc, names)?)
 }
 
 // The event of a line.
 fn event_of(alloc: Global, text: &str) -> Result<Event, ExampleFault> {
-    match line_of(alloc, text.as_bytes())? {
-        Line::Step(_, Step::Note { event, .. }) => Ok(event),
+    match step_of(alloc, text)? {
+        Step::Note { event, .. } => Ok(event),
+        _ => Err(ExampleFault::Text),
+    }
+}
+
+// The full name of the protocol.
+fn name(alloc: Global) -> Result<Dotted, ExampleFault> {
+    match step_of(alloc, "open 0 demo.Pairs")? {
+        Step::Open { name, .. } => Ok(name),
         _ => Err(ExampleFault::Text),
     }
 }
