@@ -21,7 +21,7 @@ use Rattle.scrib_locked.specs.declared.passing.PassRefusal.TheVariants.{Mismatch
 use Rattle.scrib_locked.specs.Passing.{NewestStands, IsNotedBy, PassNoteFails, AnswersBy}
 use Rattle.scrib_locked.specs.Noting.{IsNotedIn, FailsIn, AnswersIn, refusal_of}
 
-pub noted_at : (h : Holdings) (present : Option Version) (rs new : Records) (id : ℕ) (before after : Recorded) (e : Event) (n : Noted) → record_at rs id ≡ Some before → new ≡ set_value (nat_eq id) rs after
+noted_at : (h : Holdings) (present : Option Version) (rs new : Records) (id : ℕ) (before after : Recorded) (e : Event) (n : Noted) → record_at rs id ≡ Some before → new ≡ set_value (nat_eq id) rs after
     → IsPresent h before.name present → IsNotedIn present before e n after → IsNotedAt h rs id e n.place n.told new
 noted_at h present rs new id before after e n there put is x = record {
   before = before;
@@ -36,13 +36,7 @@ noted_at h present rs new id before after e n there put is x = record {
   place_is = x.place_is;
 }
 
--- what was compared with the record's log was compared with the log of its id
-pub compared_at : (rs : Records) (p : PassHeld) (r : Recorded) (log : List Event) (newest : List Receipt) (o : Option ℕ) → record_at rs p.conversation ≡ Some r → log ≡ r.log → newest ≡ newest_of p.receipts
-    → IsLeastStray log newest o → IsLeastStray (log_at rs p.conversation) (newest_of p.receipts) o
-compared_at rs p r log newest o there is newest_is x =
-    subst (λ (l : List Event). IsLeastStray l (newest_of p.receipts) o) (is ∙ sym (ap log_in there)) (subst (λ (xs : List Receipt). IsLeastStray log xs o) newest_is x)
-
--- and with that of the record
+-- what was compared with a log that was lent was compared with the record's
 pub compared_in : (p : PassHeld) (r : Recorded) (log : List Event) (newest : List Receipt) (o : Option ℕ) → log ≡ r.log → newest ≡ newest_of p.receipts
     → IsLeastStray log newest o → IsLeastStray r.log (newest_of p.receipts) o
 compared_in p r log newest o is newest_is x =
@@ -56,13 +50,9 @@ compared_none rs p id newest o absent at newest_is x =
     subst (λ (l : List Event). IsLeastStray l (newest_of p.receipts) o) (sym (ap log_in here)) (subst (λ (xs : List Receipt). IsLeastStray [] xs o) newest_is x)
 
 -- why nothing is noted in the record
-pub fails_at : (rs : Records) (id : ℕ) (r : Recorded) (f : NoteFault) → record_at rs id ≡ Some r → told.NoteFails r f → NoteFails rs id (refusal_of f)
+fails_at : (rs : Records) (id : ℕ) (r : Recorded) (f : NoteFault) → record_at rs id ≡ Some r → told.NoteFails r f → NoteFails rs id (refusal_of f)
 fails_at rs id r fault.LogFull there x = (r, there, x)
 fails_at rs id r fault.OutOfMemory there x = (r, there, x)
-
--- a record that is written as it was
-pub same_there : (rs new : Records) (id : ℕ) (r s : Recorded) → record_at rs id ≡ Some r → new ≡ set_value (nat_eq id) rs s → s ≡ r → new ≡ rs
-same_there rs new id r s there put same = put ∙ ap (set_value (nat_eq id) rs) same ∙ set_value_same (nat_eq id) rs r there
 
 -- ---- what an answer says, clause by clause
 
@@ -97,7 +87,7 @@ log_of rs id r p at there = sym (ap log_in there) ∙ ap (log_at rs) (sym at)
 stands_there : (rs : Records) (id : ℕ) (r : Recorded) (p : PassHeld) → p.conversation ≡ id → record_at rs id ≡ Some r → All (StandsIn r.log) (newest_of p.receipts) → NewestStands rs p
 stands_there rs id r p at there stood = subst (λ (l : List Event). All (StandsIn l) (newest_of p.receipts)) (log_of rs id r p at there) stood
 
-pub fails_there : (rs : Records) (id : ℕ) (r : Recorded) (p : PassHeld) (f : PassRefusal) → p.conversation ≡ id → record_at rs id ≡ Some r → FailsIn r p f → PassNoteFails rs p f
+fails_there : (rs : Records) (id : ℕ) (r : Recorded) (p : PassHeld) (f : PassRefusal) → p.conversation ≡ id → record_at rs id ≡ Some r → FailsIn r p f → PassNoteFails rs p f
 fails_there rs id r p (Mismatch i place) at there x =
     (x.0, subst (λ (l : List Event). IsLeastStray l (newest_of p.receipts) (Some place)) (log_of rs id r p at there) x.1)
 fails_there rs id r p (Step f) at there x = (
@@ -105,7 +95,7 @@ fails_there rs id r p (Step f) at there x = (
   subst (NoteFails rs p.conversation) (sym x.1.1) (fails_at rs p.conversation r x.1.0 (ap (record_at rs) at ∙ there) x.1.2),
 )
 
-pub noted_there : (h : Holdings) (present : Option Version) (rs : Records) (id : ℕ) (s t : Recorded × PassHeld) (e : Event) (n : Noted) → s.1.conversation ≡ id → record_at rs id ≡ Some s.0
+noted_there : (h : Holdings) (present : Option Version) (rs : Records) (id : ℕ) (s t : Recorded × PassHeld) (e : Event) (n : Noted) → s.1.conversation ≡ id → record_at rs id ≡ Some s.0
     → IsPresent h s.0.name present → AnswersIn present s e (Ok n) t → AnswersBy h (rs, s.1) e (Ok n) (set_value (nat_eq id) rs t.0, t.1)
 noted_there h present rs id s t e n at there is x = (
   stands_there rs id s.0 s.1 at there x.0,

@@ -1,6 +1,6 @@
 //! The parts of a service's calls that hold the locks. Each is lent the library and the value of a shard, and is one
 //! step of the monitor on the conversation of its id; every other conversation stays as it is. A service notes by
-//! `note_by_pass`, which compares a receipt first.
+//! `note_by_pass` and `note_all_by_pass`, which compare a receipt first.
 
 ghost use Rattle.std.specs.Prelude.{◌≡◌, [], ℕ, IfOk, IfErr};
 ghost use Rattle.scrib_core.specs.Conversing.{AnswersOpen, AnswersNote, AnswersTurn, AnswersAsk};

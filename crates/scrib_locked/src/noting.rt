@@ -7,10 +7,10 @@ ghost use Rattle.scrib_core.specs.Held.{record_at};
 ghost use Rattle.scrib_core.specs.Conversing.{IsPresent};
 ghost use Rattle.scrib_locked.specs.Noting.{AnswersIn, IsNotedIn, StandsAt, refusal_of};
 ghost use Rattle.scrib_locked.specs.Passes.{newest_of};
-ghost use Rattle.scrib_locked.specs.Receipts.{StandsIn};
+ghost use Rattle.scrib_locked.specs.Receipts.{IsLeastStray, StandsIn};
 
 use crate::pass::{Pass, Receipt};
-use crate::passing::PassRefusal;
+use crate::passing::{PassAnswer, PassRefusal};
 use crate::stepping::Noted;
 use indexmap::IndexMap;
 use scrib_core::reply::Refusal;
@@ -34,14 +34,11 @@ pub(crate) fn place_near(records: &IndexMap<u32, Record>, near: usize, id: u32) 
     }
 }
 
-/// Notes the event in the record of a conversation, where this is the present version of its protocol or none is there.
-/// Tells its place in the log, from 1, and what is told of the log.
-///
-/// # Errors
-/// `LogFull` where the log has 1,048,576 events, and else `OutOfMemory` where memory was refused. Nothing changes.
+// Notes the event in the record of a conversation, where this is the present version of its protocol or none is there.
+// Tells its place in the log, from 1, and what is told of the log.
 // What is noted is made where the caller wants it: moved, it would wait until the event is in memory.
 #[inline(always)]
-pub(crate) fn note_in(
+fn note_in(
     present: Option<&Version>,
     conversation: &mut Record,
     event: Event,
@@ -57,8 +54,8 @@ pub(crate) fn note_in(
     })
 }
 
-/// The version that the library has of the conversation's protocol, if it has one. It is looked for first where it stood
-/// last.
+/// The version that the library has of the conversation's protocol, if it has one. It is looked for first where it
+/// stood last.
 #[inline(always)]
 pub(crate) fn present_of<'a>(library: &'a Library, conversation: &mut Record) -> Option<&'a Version>
     ensures present { IsPresent library.now conversation.old.name (option_copied result) }
@@ -70,17 +67,41 @@ pub(crate) fn present_of<'a>(library: &'a Library, conversation: &mut Record) ->
 }
 
 /// Notes the event in the record of the pass's conversation, where this is the present version of its protocol or none
-/// is there, and the newest receipt stands. The pass then has the receipt of the event.
+/// is there, unless the newest receipt doesn't stand in its log, for which this is the place.
 ///
 /// # Errors
-/// `Step` with `LogFull` or `OutOfMemory`, the first that is due. Record and pass stay as they are.
+/// `Mismatch` with that place, if there is one; else `Step` with `LogFull` or `OutOfMemory`, the first that is due.
+/// Record and pass stay as they are.
 #[inline(always)]
-pub(crate) fn note_for(
+pub(crate) fn note_unless(
+    stray: Option<usize>,
     present: Option<&Version>,
     conversation: &mut Record,
     pass: &mut Pass,
     event: Event,
-) -> Result<Noted, PassRefusal>
+) -> PassAnswer
+    requires { IsLeastStray conversation.old.log (newest_of pass.old.receipts) stray }
+    ensures answered { AnswersIn (option_copied present.entry) (conversation.old, pass.old) event result (conversation.new, pass.new) }
+    ensures stray { IsLeastStray conversation.new.log (newest_of pass.new.receipts) stray }
+{
+    match stray {
+        Some(place) => Err(PassRefusal::Mismatch {
+            conversation: pass.conversation(),
+            place,
+        }),
+        None => note_for(present, conversation, pass, event),
+    }
+}
+
+// Notes the event in the record of the pass's conversation, in which the newest receipt stands. The pass then has the
+// receipt of the event.
+#[inline(always)]
+fn note_for(
+    present: Option<&Version>,
+    conversation: &mut Record,
+    pass: &mut Pass,
+    event: Event,
+) -> PassAnswer
     requires { All (StandsIn conversation.old.log) (newest_of pass.old.receipts) }
     ensures answered { AnswersIn (option_copied present.entry) (conversation.old, pass.old) event result (conversation.new, pass.new) }
     ensures stands { All (StandsIn conversation.new.log) (newest_of pass.new.receipts) }

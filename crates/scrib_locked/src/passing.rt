@@ -1,13 +1,13 @@
 //! Notes and questions by passes, whose receipts are compared with the log first.
 
-ghost use Rattle.std.specs.Prelude.{◌≡◌, None, IfOk, IfErr, OnOk, OnErr};
+ghost use Rattle.std.specs.Prelude.{◌≡◌, None, IfOk, IfErr, OnErr};
 ghost use Rattle.scrib_core.specs.Held.{Records, record_at};
 ghost use Rattle.scrib_locked.specs.Noting.{StandsAt};
 ghost use Rattle.scrib_locked.specs.Passes.{PassHeld, IsReceipted, IsAnsweredOn, newest_of};
 ghost use Rattle.scrib_locked.specs.Passing.{AnswersBy, IsNotedBy, PassNoteFails, IsAskedBy, PassAskFails, notes_of};
 
 use crate::locked::stands_locked;
-use crate::noting::{note_for, place_near, present_of};
+use crate::noting::{note_unless, place_near, present_of};
 use crate::pass::{Pass, Receipt};
 use crate::shard::Shard;
 use crate::standing::least_stray;
@@ -27,6 +27,9 @@ pub enum PassRefusal {
     Step(Refusal),
 }
 
+/// What is answered to a note by a pass.
+pub type PassAnswer = Result<Noted, PassRefusal>;
+
 /// Notes the event in the pass's conversation, of which the pass then has the receipt.
 ///
 /// # Errors
@@ -38,7 +41,7 @@ pub fn note_by_pass(
     shard: &mut Shard,
     pass: &mut Pass,
     event: Event,
-) -> Result<Noted, PassRefusal>
+) -> PassAnswer
     ensures noted { IfOk result (λ n. IsNotedBy library.now shard.old pass.old event n shard.new) }
     ensures receipted { IfOk result (λ n. IsReceipted pass.old event n pass.new) }
     ensures fault { IfErr result (PassNoteFails shard.old.records pass.old) }
@@ -79,7 +82,7 @@ fn note_among(
     records: &mut IndexMap<u32, Record>,
     pass: &mut Pass,
     event: Event,
-) -> Result<Noted, PassRefusal>
+) -> PassAnswer
     ensures { AnswersBy library.now (records.old.entries, pass.old) event result (records.new.entries, pass.new) }
 {
     let id = pass.conversation();
@@ -92,7 +95,7 @@ fn note_among(
     }
 }
 
-// Notes the event in the record at this place, where the pass's newest receipt stands in its log.
+// Notes the event in the record at this place, unless the pass's newest receipt doesn't stand in its log.
 #[inline(always)]
 fn note_at(
     library: &Library,
@@ -100,21 +103,16 @@ fn note_at(
     at: usize,
     pass: &mut Pass,
     event: Event,
-) -> Result<Noted, PassRefusal>
+) -> PassAnswer
     requires { StandsAt records.old.entries at pass.old.conversation }
     ensures { AnswersBy library.now (records.old.entries, pass.old) event result (records.new.entries, pass.new) }
 {
     let Some(conversation) = records.get_index_mut(at) else {
         unreachable!()
     };
-    if let Some(place) = least_stray(conversation.log(), pass.newest()) {
-        return Err(PassRefusal::Mismatch {
-            conversation: pass.conversation(),
-            place,
-        });
-    }
+    let stray = least_stray(conversation.log(), pass.newest());
     let present = present_of(library, conversation);
-    note_for(present, conversation, pass, event)
+    note_unless(stray, present, conversation, pass, event)
 }
 
 /// Why nothing is noted where no conversation of the id is open.
@@ -131,7 +129,7 @@ pub(crate) fn unopened(id: u32, newest: &[Receipt]) -> PassRefusal
 }
 
 /// How many entries the note has added to a log.
-pub(crate) fn notes_of(noted: &Result<Noted, PassRefusal>) -> u64
+pub(crate) fn notes_of(noted: &PassAnswer) -> u64
     ensures { result ≡ notes_of noted.now }
 {
     match noted {

@@ -7,28 +7,23 @@ ghost use Rattle.scrib_library.specs.Holdings.{Holdings};
 ghost use Rattle.scrib_core.specs.Held.{Records, record_at};
 ghost use Rattle.scrib_locked.specs.Noting.{AnswersIn, StandsAt};
 ghost use Rattle.scrib_locked.specs.OneByOne.{OneByOne};
-ghost use Rattle.scrib_locked.specs.Passes.{newest_of};
 ghost use Rattle.scrib_locked.specs.Passing.{AnswersBy, notes_of};
-ghost use Rattle.scrib_locked.specs.Receipts.{IsLeastStray};
 
-use crate::noting::{note_for, place_near, present_of};
+use crate::noting::{note_unless, place_near, present_of};
 use crate::pass::Pass;
-use crate::passing::{PassRefusal, notes_of, unopened};
+use crate::passing::{PassAnswer, notes_of, unopened};
 use crate::shard::Shard;
 use crate::standing::least_stray;
-use crate::stepping::Noted;
 use indexmap::IndexMap;
 use scrib_library::library::Library;
 use scrib_record::record::Record;
 use scrib_record::version::Version;
 use scrib_types::event::Event;
 
-/// What is answered to a note by a pass.
-pub type PassAnswer = Result<Noted, PassRefusal>;
-
 /// Notes the events one after another in the pass's conversation, as so many calls of `note_by_pass` do between which
 /// nobody else is heard. Gives what is answered to each, in their order, in the list that has room for it. The record
-/// of the conversation, the version of its protocol and the newest receipt are looked for once.
+/// of the conversation and the version of its protocol are looked for once; where there is a record, the newest receipt
+/// is compared once.
 pub fn note_all_by_pass(
     library: &Library,
     shard: &mut Shard,
@@ -108,28 +103,6 @@ fn note_all_in(
         answers.push_reserved(answer);
     }
     answers
-}
-
-// Notes the event in the record, unless the newest receipt doesn't stand, for which this is the place.
-#[inline(always)]
-fn note_unless(
-    stray: Option<usize>,
-    present: Option<&Version>,
-    conversation: &mut Record,
-    pass: &mut Pass,
-    event: Event,
-) -> PassAnswer
-    requires { IsLeastStray conversation.old.log (newest_of pass.old.receipts) stray }
-    ensures answered { AnswersIn (option_copied present.entry) (conversation.old, pass.old) event result (conversation.new, pass.new) }
-    ensures stray { IsLeastStray conversation.new.log (newest_of pass.new.receipts) stray }
-{
-    match stray {
-        Some(place) => Err(PassRefusal::Mismatch {
-            conversation: pass.conversation(),
-            place,
-        }),
-        None => note_for(present, conversation, pass, event),
-    }
 }
 
 // Refuses each event where no conversation is open for the pass.

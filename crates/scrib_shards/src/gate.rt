@@ -1,6 +1,6 @@
 //! Gates, by which a test sees a call while it holds its locks.
 
-/// What is done once in each note and each turn, while the locks are held and before the reply.
+/// What is done once in each call of `note`, `note_all` and `turn`, while the locks are held and before the reply.
 pub trait Gate {
     /// The call holds the lock of the shard of this number, from 0.
     fn hold(&self, shard: usize);

@@ -14,8 +14,8 @@ use scrib_library::fault::EditFault;
 use scrib_library::library::Library;
 use scrib_locked::locked::connect_locked;
 use scrib_locked::pass::Pass;
-use scrib_locked::passing::{PassRefusal, ask_by_pass, note_by_pass};
-use scrib_locked::several::{PassAnswer, note_all_by_pass};
+use scrib_locked::passing::{PassAnswer, PassRefusal, ask_by_pass, note_by_pass};
+use scrib_locked::several::note_all_by_pass;
 use scrib_locked::shard::Shard;
 use scrib_locked::stepping::{Noted, open_step, turn_step};
 use scrib_settle::shares::MAX_SHARDS;
@@ -193,9 +193,10 @@ impl Service {
         noted
     }
 
-    /// Notes the events one after another in the pass's conversation, as so many calls of `note` do between which nobody
-    /// else is heard: the locks are taken once, so who notes many events takes a few of them at a time. Gives what is
-    /// answered to each, in their order, in the list that has room for it.
+    /// Notes the events one after another in the pass's conversation, as so many calls of `note` do between which
+    /// nobody else is heard: the locks are taken once, so who notes many events takes a few of them at a time. Gives
+    /// what is answered to each, in their order, in the list that has room for it. A refused event changes nothing, nor
+    /// does the pass.
     pub fn note_all<G: Gate>(
         &self,
         rt: &impl Wait,
