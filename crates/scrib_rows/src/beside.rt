@@ -47,9 +47,9 @@ impl Numbers {
     }
 }
 
-// Nobody is told how far a run is.
+/// Nobody is told how far a run is.
 #[derive(Clone, Copy)]
-struct Unwatched;
+pub(crate) struct Unwatched;
 
 impl Progress for Unwatched {
     fn tell(&self, _mark: Mark) {}

@@ -1,17 +1,19 @@
 //! Runs worked examples. Each has a title line that begins with `== `, a line with a command of `scribmon` and its
 //! words (`watch`, `explain 1`, `project demo.Hello A`, `machine demo.Hello A`), or with `judge`, which compares the
-//! verdicts of a script with the judgement of whole logs, or with `edits beside notes`; and the script or the module
-//! texts of the command. What such a command writes where receptions merge is told too, where it is something else.
-//! After the word `files` stands a command as the program takes it, with files of the folder that this is run in, and
-//! behind it standard input. The output is each title with what the command writes, and after `files` what standard
-//! error is told, and the exit status.
+//! verdicts of a script with the judgement of whole logs, or with `edits beside notes` or `one line too many`; and the
+//! script or the module texts of the command. What such a command writes where receptions merge is told too, where it
+//! is something else. After the word `files` stands a command as the program takes it, with files of the folder that
+//! this is run in, and behind it standard input. The output is each title with what the command writes, and after
+//! `files` what standard error is told, and the exit status.
 #![tactic(auto)]
 
 mod beside;
+mod past;
 mod profiles;
 mod whole;
 
 use crate::beside::tell_runs;
+use crate::past::tell_past;
 use crate::profiles::tell_wider;
 use crate::whole::tell_judgements;
 use scrib_cli::commands::check::check_files;
@@ -279,8 +281,10 @@ where
     writer.write_all(b"== ")?;
     writer.write_all(title.as_bytes())?;
     writer.write_all(b"\n")?;
-    if command == "edits beside notes" {
-        return tell_runs(rt, rt.alloc(), writer);
+    match command {
+        "edits beside notes" => return tell_runs(rt, rt.alloc(), writer),
+        "one line too many" => return tell_past(rt, rt.alloc(), body, writer),
+        _ => {}
     }
     match command.strip_prefix("files ") {
         Some(command) => obey_files(rt, command, body, writer),

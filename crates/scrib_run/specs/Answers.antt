@@ -1,4 +1,5 @@
 -- What a service's answers are, and their text (this project's own).
+-- Only contracts of private functions cite this file.
 use Rattle.std.specs.Prelude.{ℕ, Bool, true, false, List, [], ◌∷◌, ◌++◌, Result, Ok, Err}
 use Rattle.scrib_types.specs.declared.profile.Profile.{Profile}
 use Rattle.scrib_library.specs.declared.changes.Change.{Change}

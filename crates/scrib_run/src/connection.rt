@@ -15,8 +15,8 @@ use scrib_script::format::Format;
 use scrib_script::item::Item;
 use scrib_shards::gate::OpenGate;
 use scrib_shards::pass::Pass;
+use scrib_shards::passing::PassAnswer;
 use scrib_shards::service::Service;
-use scrib_shards::several::PassAnswer;
 use scrib_types::event::{Event, Told};
 use scrib_types::text::push_bytes;
 use std::alloc::{AllocError, Global};
@@ -38,7 +38,7 @@ pub(crate) struct Connection<'a> {
     // Where the pass stands that was used last. Nothing rests on it.
     near: usize,
     lines: Vec<u8>,
-    // Events of one conversation that are still to be noted.
+    // Events that are still to be noted, all of the conversation of this id.
     pending: Vec<Event>,
     pending_id: u32,
     // How many events it noted that weren't counted yet.
@@ -133,7 +133,8 @@ impl<'a> Connection<'a> {
         }
     }
 
-    // Puts the event off, behind those of its conversation that are put off. Without memory for that it is noted now.
+    // Puts the event off, once those of another conversation, or as many as may be, are noted. Without memory for that it
+    // is noted now.
     #[inline(always)]
     fn put_off(&mut self, rt: &impl Wait, id: u32, event: Event) -> Result<(), ScriptFault> {
         if self.pending_id != id || self.pending.len() >= MAX_PENDING {

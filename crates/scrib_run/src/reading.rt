@@ -49,8 +49,20 @@ pub(crate) fn run_script<R: Read, P: Progress>(
     Err(ScriptFault::Read)
 }
 
-// Takes the next bytes of the script in, and carries out what they spell.
+// Takes the next bytes of the script in, and carries out what they spell; before a fault, what they spell up to there.
 fn take_piece(
+    rt: &impl Wait,
+    connection: &mut Connection<'_>,
+    script: &mut Script,
+    piece: &[u8],
+) -> Result<(), ScriptFault> {
+    let told = tell_items(rt, connection, script, piece);
+    connection.catch_up(rt)?;
+    told
+}
+
+// Takes the next bytes of the script in, and tells the connection of what they spell, which may put events off.
+fn tell_items(
     rt: &impl Wait,
     connection: &mut Connection<'_>,
     script: &mut Script,
@@ -64,7 +76,7 @@ fn take_piece(
         }
         rest = after;
     }
-    connection.catch_up(rt)
+    Ok(())
 }
 
 // Carries out what the script spells at its end.
