@@ -33,12 +33,21 @@ fn file_arg<'a>(alloc: Global) -> Arg<'a> {
     Arg::new(alloc, "FILE").help("The script; standard input where none is named")
 }
 
-fn files_arg<'a>(alloc: Global) -> Arg<'a> {
-    Arg::new(alloc, "FILE")
-        .help("The modules' texts, in the order in which they are read")
-        .required(true)
+// A word that has to stand.
+fn value_arg<'a>(alloc: Global, name: &'a str, help: &'a str) -> Arg<'a> {
+    Arg::new(alloc, name).help(help).required(true)
+}
+
+// A word that has to stand, once or more.
+fn values_arg<'a>(alloc: Global, name: &'a str, help: &'a str) -> Arg<'a> {
+    value_arg(alloc, name, help)
         .num_args(1..)
         .action(ArgAction::Append)
+}
+
+fn files_arg<'a>(alloc: Global) -> Arg<'a> {
+    let help = "The modules' texts, in the order in which they are read";
+    values_arg(alloc, "FILE", help)
 }
 
 fn check_command<'a>(alloc: Global) -> Result<Command<'a>, AllocError> {
@@ -46,10 +55,6 @@ fn check_command<'a>(alloc: Global) -> Result<Command<'a>, AllocError> {
         .about("Puts modules into one library, and prints a line for each put")
         .arg(reception_arg(alloc))?
         .arg(files_arg(alloc))
-}
-
-fn value_arg<'a>(alloc: Global, name: &'a str, help: &'a str) -> Arg<'a> {
-    Arg::new(alloc, name).help(help).required(true)
 }
 
 // A command on what a role does in a protocol of some modules.
@@ -149,13 +154,8 @@ fn progress_arg<'a>(alloc: Global) -> Arg<'a> {
 }
 
 fn connections_arg<'a>(alloc: Global) -> Arg<'a> {
-    value_arg(
-        alloc,
-        "CONNECTION",
-        "The scripts that are then carried out, each on a thread of its own",
-    )
-    .num_args(1..)
-    .action(ArgAction::Append)
+    let help = "The scripts that are then carried out, each on a thread of its own";
+    values_arg(alloc, "CONNECTION", help)
 }
 
 // Each argument is made where it is taken: the time of a proof grows with what is alive at each `?`.
