@@ -1,9 +1,9 @@
 //! Comparisons of short texts.
 
-ghost use Rattle.std.specs.Prelude.{◌≡◌, ◌↔◌, IsTrue};
+ghost use Rattle.std.specs.Prelude.{◌≡◌, ◌≤◌, ◌<◌, ◌↔◌, IsTrue, length, take};
 
 /// Whether both are the same bytes. Most texts here are too short for a comparison that is made for long ones: eight
-/// bytes are compared at a time, then four, and then one by one.
+/// bytes are compared at a time, then four, and then the rest.
 pub fn same_bytes(a: &[u8], b: &[u8]) -> bool
     ensures { IsTrue result ↔ (a.now ≡ b.now) }
 {
@@ -12,12 +12,11 @@ pub fn same_bytes(a: &[u8], b: &[u8]) -> bool
     }
     let mut left = a;
     let mut right = b;
-    while let [a0, a1, a2, a3, a4, a5, a6, a7, left_rest @ ..] = left {
-        let [b0, b1, b2, b3, b4, b5, b6, b7, right_rest @ ..] = right else {
+    while let [_, _, _, _, _, _, _, _, left_rest @ ..] = left {
+        let [_, _, _, _, _, _, _, _, right_rest @ ..] = right else {
             return false;
         };
-        let word = u64::from_le_bytes([*a0, *a1, *a2, *a3, *a4, *a5, *a6, *a7]);
-        if word != u64::from_le_bytes([*b0, *b1, *b2, *b3, *b4, *b5, *b6, *b7]) {
+        if !same_eight(left, right) {
             return false;
         }
         left = left_rest;
@@ -26,28 +25,49 @@ pub fn same_bytes(a: &[u8], b: &[u8]) -> bool
     same_few(left, right)
 }
 
-/// Whether both are the same bytes, of which there are few.
-fn same_few(a: &[u8], b: &[u8]) -> bool
-    ensures { IsTrue result ↔ (a.now ≡ b.now) }
+/// Whether both begin with the same eight bytes, which are compared as one number.
+fn same_eight(a: &[u8], b: &[u8]) -> bool
+    requires a { 8 ≤ length a.now }
+    requires b { 8 ≤ length b.now }
+    ensures { IsTrue result ↔ (take 8 a.now ≡ take 8 b.now) }
 {
-    let ([a0, a1, a2, a3, a_rest @ ..], [b0, b1, b2, b3, b_rest @ ..]) = (a, b) else {
-        return same_one_by_one(a, b);
-    };
-    let word = u32::from_le_bytes([*a0, *a1, *a2, *a3]);
-    word == u32::from_le_bytes([*b0, *b1, *b2, *b3]) && same_one_by_one(a_rest, b_rest)
+    match (a.first_chunk::<8>(), b.first_chunk::<8>()) {
+        (Some(x), Some(y)) => same_word(x, y),
+        _ => false,
+    }
 }
 
-/// Whether both are the same bytes, one by one.
-fn same_one_by_one(a: &[u8], b: &[u8]) -> bool
+/// Whether the eight bytes are the same.
+fn same_word(a: &[u8; 8], b: &[u8; 8]) -> bool
     ensures { IsTrue result ↔ (a.now ≡ b.now) }
 {
-    if a.len() != b.len() {
-        return false;
-    }
-    for (x, y) in a.iter().zip(b) {
-        if x != y {
-            return false;
+    u64::from_le_bytes(*a) == u64::from_le_bytes(*b)
+}
+
+/// Whether both are the same bytes, of which the first ones are fewer than eight.
+fn same_few(a: &[u8], b: &[u8]) -> bool
+    requires { length a.now < 8 }
+    ensures { IsTrue result ↔ (a.now ≡ b.now) }
+{
+    match (a.first_chunk::<4>(), b.first_chunk::<4>()) {
+        (Some(x), Some(y)) => {
+            u32::from_le_bytes(*x) == u32::from_le_bytes(*y) && same_rest(&a[4..], &b[4..])
         }
+        (None, None) => same_rest(a, b),
+        _ => false,
     }
-    true
+}
+
+/// Whether both are the same bytes, of which the first ones are fewer than four.
+fn same_rest(a: &[u8], b: &[u8]) -> bool
+    requires { length a.now < 4 }
+    ensures { IsTrue result ↔ (a.now ≡ b.now) }
+{
+    match (a, b) {
+        ([], []) => true,
+        ([x0], [y0]) => x0 == y0,
+        ([x0, x1], [y0, y1]) => x0 == y0 && x1 == y1,
+        ([x0, x1, x2], [y0, y1, y2]) => x0 == y0 && x1 == y1 && x2 == y2,
+        _ => false,
+    }
 }
