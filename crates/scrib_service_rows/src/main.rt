@@ -1,6 +1,7 @@
 //! Runs worked examples of the service and of its sweeps. Each has a title line that begins with `== `, a line with a
 //! command, and for `service 2` the script that a service of two shards runs, on one thread, beside a core. The output
-//! is each title with what the command writes. The other commands are rows of this program.
+//! is each title with what the command writes. The other commands are rows of this program. Where its command line has
+//! words, it does what `notes` says of them and reads nothing.
 #![tactic(auto)]
 
 mod connected;
@@ -10,6 +11,7 @@ mod lines;
 mod longest;
 mod making;
 mod meeting;
+mod notes;
 mod script;
 mod several;
 mod sweeps;
@@ -20,6 +22,7 @@ use crate::generated::push_generated;
 use crate::lines::push_line;
 use crate::longest::push_longest_log;
 use crate::meeting::push_meeting;
+use crate::notes::{push_asked, push_many};
 use crate::script::run_script;
 use crate::several::{push_full_shard, push_strangers};
 use crate::sweeps::{
@@ -29,11 +32,12 @@ use crate::threads::{push_threads, push_threads_swept};
 use scrib_types::profile::Profile;
 use scrib_types::text::push_bytes;
 use std::alloc::Global;
-use std::io;
 use std::io::Write;
 use std::process::ExitCode;
+use std::rt::Env;
 use std::sync::Wait;
 use std::thread::Threads;
+use std::{env, io};
 
 // Obeys the command over what follows its line.
 fn obey<R: Threads + Wait + Sync>(
@@ -60,6 +64,7 @@ fn obey<R: Threads + Wait + Sync>(
         "notices" => push_noticed(rt, alloc, number, out),
         "two-workers" => push_two_workers(rt, alloc, number, out),
         "threads-swept" => push_threads_swept(rt, alloc, number, out),
+        "many-threads" => push_many(rt, alloc, number, out),
         _ => Err(RowsFault::BadRow),
     }
 }
@@ -78,12 +83,44 @@ fn tell<R: Threads + Wait + Sync>(
     obey(rt, alloc, command, body, out)
 }
 
-fn run<R: Threads + Wait + Sync + Print + Input + AllocGlobal>(rt: &R) -> Result<(), RowsFault> {
-    let alloc = rt.alloc();
+// Runs the examples of the input.
+fn run_rows<R: Threads + Wait + Sync + Input>(
+    rt: &R,
+    alloc: Global,
+    out: &mut Vec<u8>,
+) -> Result<(), RowsFault> {
     let text = io::read_to_string(alloc, rt.reader())?;
-    let mut out = Vec::new(alloc);
     for example in text.as_str().split("== ").skip(1) {
-        tell(rt, alloc, example, &mut out)?;
+        tell(rt, alloc, example, out)?;
+    }
+    Ok(())
+}
+
+// The words of the command line behind the program's name: the task, empty where there is none, and numbers.
+fn words(rt: &(impl Env + AllocGlobal)) -> Result<(String, Vec<usize>), RowsFault> {
+    let alloc = rt.alloc();
+    let mut task = String::new(alloc);
+    let mut numbers = Vec::new(alloc);
+    for (place, word) in env::args(rt)?.enumerate() {
+        match place {
+            0 => {}
+            1 => task = word,
+            _ => numbers.push(word.parse().ok().ok_or(RowsFault::BadRow)?)?,
+        }
+    }
+    Ok((task, numbers))
+}
+
+fn run<R: Threads + Wait + Sync + Print + Input + AllocGlobal + Env>(
+    rt: &R,
+) -> Result<(), RowsFault> {
+    let alloc = rt.alloc();
+    let (task, numbers) = words(rt)?;
+    let mut out = Vec::new(alloc);
+    if task.is_empty() {
+        run_rows(rt, alloc, &mut out)?;
+    } else {
+        push_asked(rt, alloc, task.as_str(), numbers.as_slice(), &mut out)?;
     }
     io::writer(rt).write_all(out.as_slice())?;
     Ok(())
