@@ -1,27 +1,30 @@
 #!/usr/bin/env python3
 """Times `scribmon run` over the clock.
 
-    run.py [--program FILE] [--events N] [--conversations N] [--cores LIST]
+    run.py [--program FILE] [--rounds N] [--events N] [--conversations N] [--cores LIST]
 
-Run it from anywhere, after `make run`; times are those of the clock, the best of five runs, so nothing else should
-run. First four connections of 250,000 events each, over 4 shards with 2 workers, against `watch` over the same events
-in one script, and against four times `watch` beside each other over a quarter each, which is the most that the
-machine gives. Then the time from an edit that changes the one protocol of 10,000 conversations of 100 events each
+Run it from anywhere, after `make run`; times are those of the clock, so nothing else should run. First four
+connections of 250,000 events each, over 4 shards with 2 workers, against `watch` over the same events in one script,
+and against four times `watch` beside each other over a quarter each, which is the most that the machine gives. Each
+round runs the three in turn, so that a machine that changes its pace does so for all of them; of each the least
+seconds are printed, and how many times as fast as that round's `watch` it was, in the middle of the rounds. Output
+goes nowhere. Then the time from an edit that changes the one protocol of 10,000 conversations of 100 events each
 until none is out of date, with 1, 2 and 4 workers: that of a run whose connection puts the changed text, which
-permits all that the first one does, less that of one whose connection puts the text that stands there. --program
-names another program, --events and --conversations other sizes, and --cores keeps the runs on these processors, as
-2,3. It is no test: it looks only at the number of events in the tables.
+permits all that the first one does, less that of one whose connection puts the text that stands there, the best of so
+many rounds. --program names another program, --rounds, --events and --conversations other sizes, and --cores keeps
+the runs on these processors, as 2,3. It is no test: it looks only at the number of events in the tables.
 """
 
 import argparse
 import os
+import statistics
 import subprocess
 import sys
 import tempfile
 import time
 
 PROGRAM = os.path.join(os.path.dirname(os.path.abspath(__file__)), "..", "crates", "scribmon", "out", "scribmon")
-RUNS = 5
+ROUNDS = 10
 CONNECTIONS = 4
 LOG = 60_000
 BODY = "ask(Int) from A to B; tell(Int, Str) from B to A; continue X;"
@@ -46,34 +49,23 @@ def write(folder, name, lines):
     return path
 
 
-def seconds(words, cores):
-    """The least seconds that the command took, and its last line."""
+def seconds_of(commands, cores):
+    """The seconds until these commands, started at once, have ended."""
     pin = ["taskset", "-c", cores] if cores else []
-    best, last = None, ""
-    for _ in range(RUNS):
-        begun = time.monotonic()
-        done = subprocess.run(pin + words, capture_output=True, check=True)
-        took = time.monotonic() - begun
-        best = took if best is None else min(best, took)
-        last = done.stdout.rsplit(b"\n", 2)[-2].decode()
-    return best, last
+    begun = time.monotonic()
+    running = [subprocess.Popen(pin + words, stdout=subprocess.DEVNULL) for words in commands]
+    if any([process.wait() for process in running]):
+        sys.exit("a command failed")
+    return time.monotonic() - begun
 
 
-def seconds_beside(program, scripts, cores):
-    """The least seconds that `watch` took over these scripts, each in a process of its own."""
-    pin = ["taskset", "-c", cores] if cores else []
-    best = None
-    for _ in range(RUNS):
-        begun = time.monotonic()
-        running = [subprocess.Popen(pin + [program, "watch", script], stdout=subprocess.DEVNULL) for script in scripts]
-        if any(process.wait() for process in running):
-            sys.exit("watch failed")
-        took = time.monotonic() - begun
-        best = took if best is None else min(best, took)
-    return best
+def last_line(words):
+    """The last line that the command prints."""
+    done = subprocess.run(words, capture_output=True, check=True)
+    return done.stdout.rsplit(b"\n", 2)[-2].decode()
 
 
-def beside_watch(program, folder, events, cores):
+def beside_watch(program, folder, events, rounds, cores):
     """Four connections against one script."""
     setup, connections, quarters, whole = [TEXT % BODY], [], [], [TEXT % BODY]
     for number in range(CONNECTIONS):
@@ -88,16 +80,21 @@ def beside_watch(program, folder, events, cores):
         connections.append(write(folder, "connection%d" % number, lines))
         quarters.append(write(folder, "quarter%d" % number, quarter + lines))
         whole += lines
-    watched, _ = seconds([program, "watch", write(folder, "whole", whole)], cores)
-    words = [program, "run", "--shards", "4", "--workers", "2", write(folder, "setup", setup)]
-    ran, last = seconds(words + connections, cores)
-    beside = seconds_beside(program, quarters, cores)
-    print("watch of %d events in one script: %.3f s" % (CONNECTIONS * events, watched))
-    print("run of them over %d connections:   %.3f s, %.2f times as fast (%s)" % (CONNECTIONS, ran, watched / ran, last))
-    print("%d times watch beside each other:   %.3f s, %.2f times as fast" % (CONNECTIONS, beside, watched / beside))
+    words = [program, "run", "--shards", "4", "--workers", "2", write(folder, "setup", setup)] + connections
+    last = last_line(words)
+    ways = [
+        ("watch of %d events in one script:" % (CONNECTIONS * events), [[program, "watch", write(folder, "whole", whole)]]),
+        ("run of them over %d connections (%s):" % (CONNECTIONS, last), [words]),
+        ("%d times watch beside each other:" % CONNECTIONS, [[program, "watch", quarter] for quarter in quarters]),
+    ]
+    taken = [[seconds_of(commands, cores) for _, commands in ways] for _ in range(rounds)]
+    for place, (name, _) in enumerate(ways):
+        least = min(round[place] for round in taken)
+        faster = statistics.median(round[0] / round[place] for round in taken)
+        print("%s %.3f s, %.2f times as fast" % (name, least, faster))
 
 
-def until_judged(program, folder, conversations, cores):
+def until_judged(program, folder, conversations, rounds, cores):
     """An edit under many conversations, until none is out of date."""
     setup = [TEXT % BODY]
     for conversation in range(conversations):
@@ -108,14 +105,16 @@ def until_judged(program, folder, conversations, cores):
     changed = write(folder, "changed", [TEXT % CHANGED_BODY])
     for workers in ["1", "2", "4"]:
         words = [program, "run", "--shards", "4", "--workers", workers, setup]
-        without, _ = seconds(words + [same], cores)
-        with_edit, last = seconds(words + [changed], cores)
+        last = last_line(words + [changed])
+        without = min(seconds_of([words + [same]], cores) for _ in range(rounds))
+        with_edit = min(seconds_of([words + [changed]], cores) for _ in range(rounds))
         print("until none is out of date, %s workers: %.3f s (%s)" % (workers, with_edit - without, last))
 
 
 def main():
     parser = argparse.ArgumentParser()
     parser.add_argument("--program", default=PROGRAM)
+    parser.add_argument("--rounds", type=int, default=ROUNDS)
     parser.add_argument("--events", type=int, default=250_000)
     parser.add_argument("--conversations", type=int, default=10_000)
     parser.add_argument("--cores")
@@ -123,8 +122,8 @@ def main():
     if not os.path.exists(options.program):
         sys.exit("there is no program yet: make run")
     with tempfile.TemporaryDirectory() as folder:
-        beside_watch(options.program, folder, options.events, options.cores)
-        until_judged(options.program, folder, options.conversations, options.cores)
+        beside_watch(options.program, folder, options.events, options.rounds, options.cores)
+        until_judged(options.program, folder, options.conversations, options.rounds, options.cores)
 
 
 if __name__ == "__main__":
