@@ -9,6 +9,7 @@ use scrib_elaborate::modules::Modules;
 use scrib_lexer::lex::lex;
 use scrib_library::fault::EditFault;
 use scrib_parser::parse::parse;
+use scrib_parser::recent::Recent;
 use scrib_parser::tree::ModuleTree;
 use scrib_types::plain::Items;
 use std::alloc::Global;
@@ -46,6 +47,6 @@ fn module_of(alloc: Global, text: &[u8]) -> Result<ModuleTree, EditFault>
     ensures fault { IfErr result (IsUnreadOrRefused text.now) }
 {
     let tokens = lex(alloc, text)?;
-    let tree = parse(alloc, tokens.as_slice())?;
+    let tree = parse(alloc, tokens.as_slice(), &mut Recent::new())?;
     Ok(tree)
 }

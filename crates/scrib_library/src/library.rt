@@ -18,6 +18,7 @@ use crate::read::read;
 use crate::removal::free_place;
 use crate::shelf::Shelf;
 use crate::versions::{NamedVersion, found_near, make_all, version_near};
+use scrib_parser::recent::Recent;
 use scrib_record::version::Version;
 use scrib_types::name::Dotted;
 use scrib_types::profile::Profile;
@@ -45,6 +46,8 @@ pub struct Library {
     used: u32,
     // Where versions are looked for first.
     hints: Hints,
+    // Names and messages of the texts before, which those of the next one share. Nothing rests on them.
+    recent: Recent,
 }
 
 impl Model for Library {
@@ -81,6 +84,7 @@ impl Library {
             versions: Vec::new(alloc),
             used: 0,
             hints: Hints::new(alloc),
+            recent: Recent::new(),
         }
     }
 
@@ -99,7 +103,7 @@ impl Library {
         ensures err { OnErr result (self.new ≡ self.old) }
         ensures profile { self.new.profile ≡ self.old.profile }
     {
-        let tree = read(self.alloc, text)?;
+        let tree = read(self.alloc, text, &mut self.recent)?;
         self.hints.make_room(self.alloc)?;
         let placed = self.modules.put(tree)?;
         let new = &self.modules.as_slice()[placed.at];

@@ -7,6 +7,7 @@ mod messages;
 mod names;
 pub mod parse;
 mod places;
+pub mod recent;
 mod sorts;
 pub mod tree;
 mod word;

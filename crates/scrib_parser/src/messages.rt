@@ -1,4 +1,4 @@
-//! Messages that a text had before, to be shared by those that are the same.
+//! Messages that texts had before, to be shared by those that are the same.
 
 ghost use Rattle.std.specs.Prelude.{◌≡◌, ◌↔◌, IsTrue, IfOk, []};
 ghost use Rattle.scrib_parser.specs.Reading.{message_from};
@@ -13,6 +13,9 @@ use std::mem;
 
 /// Room for the types that most messages carry.
 const FEW: usize = 2;
+
+/// The longest flat form of a message that is kept: a longer one would hold much memory after its text is gone.
+const MOST_KEPT_BYTES: usize = 256;
 
 /// The types of a payload that is read. Contracts see the list.
 #[derive(Drop)]
@@ -37,7 +40,7 @@ impl Sorts {
     }
 }
 
-/// Messages that a text had before, so that one that comes again is kept once, and takes no memory.
+/// Messages that texts had before, so that one that comes again is kept once, and takes no memory.
 #[derive(Drop)]
 pub(crate) struct RecentMessages {
     places: Vec<Option<SharedMessage>>,
@@ -46,12 +49,12 @@ pub(crate) struct RecentMessages {
 }
 
 impl RecentMessages {
-    /// None yet, for a text of so many tokens.
+    /// None yet, with so many places.
     ///
     /// # Errors
     /// `AllocError` where memory for the places is refused.
-    pub(crate) fn new(alloc: Global, tokens: usize) -> Result<RecentMessages, AllocError> {
-        let places = places::empty(alloc, tokens)?;
+    pub(crate) fn new(alloc: Global, count: usize) -> Result<RecentMessages, AllocError> {
+        let places = places::empty(alloc, count)?;
         let room = Vec::new(alloc);
         Ok(RecentMessages { places, room })
     }
@@ -95,7 +98,9 @@ impl RecentMessages {
             }
         }
         let shared = SharedMessage::new(alloc, message(op, sorts))?;
-        self.places[at] = Some(shared.copy()?);
+        if shared.flat().len() <= MOST_KEPT_BYTES {
+            self.places[at] = Some(shared.copy()?);
+        }
         Ok(shared)
     }
 }

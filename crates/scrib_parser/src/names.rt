@@ -1,4 +1,4 @@
-//! Names that a text had before, to be shared by those that are the same.
+//! Names that texts had before, to be shared by those that are the same.
 
 ghost use Rattle.std.specs.Prelude.{◌≡◌, IsTrue, IfOk, Some, None, if◌then◌else◌};
 ghost use Rattle.scrib_types.specs.Names as names;
@@ -15,20 +15,25 @@ struct KnownName {
     ghost named: { IsTrue (names.is_name name) },
 }
 
-/// Names that a text had before, so that one that comes again takes no memory.
+/// Names that texts had before, so that one that comes again takes no memory.
 #[derive(Drop)]
 pub(crate) struct RecentNames {
     places: Vec<Option<KnownName>>,
 }
 
 impl RecentNames {
-    /// None yet, for a text of so many tokens.
+    /// None yet, with so many places.
     ///
     /// # Errors
     /// `AllocError` where memory for the places is refused.
-    pub(crate) fn new(alloc: Global, tokens: usize) -> Result<RecentNames, AllocError> {
-        let places = places::empty(alloc, tokens)?;
+    pub(crate) fn new(alloc: Global, count: usize) -> Result<RecentNames, AllocError> {
+        let places = places::empty(alloc, count)?;
         Ok(RecentNames { places })
+    }
+
+    /// How many places there are.
+    pub(crate) fn count(&self) -> usize {
+        self.places.len()
     }
 
     /// The name that the bytes are, or `None` where they are no name.

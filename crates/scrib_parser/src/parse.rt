@@ -8,8 +8,9 @@ ghost use Rattle.scrib_parser.specs.Reading.{left, Gives, GivesAll};
 
 use crate::cursor::{Cursor, left_out_declaration};
 use crate::fault::ParseFault;
-use crate::messages::{RecentMessages, Sorts};
-use crate::names::RecentNames;
+use crate::messages::Sorts;
+use crate::places;
+use crate::recent::Recent;
 use crate::sorts::RecentSorts;
 use crate::tree::{Block, Import, ModuleTree, ProtocolDeclaration, RoleDeclaration, Statement};
 use crate::word::Word;
@@ -26,7 +27,8 @@ pub const MAX_LEVELS: usize = 64;
 /// Room for the receivers that most statements have.
 const FEW: usize = 2;
 
-/// The module that the tokens are. The tree keeps the text's order; a type declaration leaves nothing in it.
+/// The module that the tokens are. The tree keeps the text's order; a type declaration leaves nothing in it. Names and
+/// messages are shared with those of the texts before, where these are still known.
 ///
 /// # Errors
 /// - `Unexpected` with the place of the first token that, after the tokens before it, no module can have.
@@ -36,7 +38,7 @@ const FEW: usize = 2;
 /// - `TooDeep` with the place of the brace that opens a 65th level of blocks.
 /// - `EndOfText` where all tokens are the beginning of a module, and are no module.
 /// - `OutOfMemory` where memory for the tree, or for reading it, is refused.
-pub fn parse(alloc: Global, tokens: &[Token]) -> Result<ModuleTree, ParseFault>
+pub fn parse(alloc: Global, tokens: &[Token], recent: &mut Recent) -> Result<ModuleTree, ParseFault>
     // What is parsed is spelled so.
     ensures found { IfOk result (λ m. IsModule (lexemes_of tokens.now) m) }
     // What is spelled so is parsed, unless memory runs out: the tree is the grammar's one tree.
@@ -44,21 +46,31 @@ pub fn parse(alloc: Global, tokens: &[Token]) -> Result<ModuleTree, ParseFault>
     // The fault is the first one.
     ensures fault { IfErr result (λ e. IsFaultOf (lexemes_of tokens.now) e) }
 {
-    whole(alloc, tokens)
+    whole(alloc, tokens, recent)
 }
 
 #[tactic(auto, unfolding(crate::specs::Reading::whole_of))]
-fn whole(alloc: Global, tokens: &[Token]) -> Result<ModuleTree, ParseFault>
+fn whole(alloc: Global, tokens: &[Token], recent: &mut Recent) -> Result<ModuleTree, ParseFault>
     ensures { GivesAll result (reading.whole_of 64 (lexemes_of tokens.now)) }
 {
+    let count = places::count_for(tokens.len());
+    let (names, messages) = recent.take(alloc, count)?;
     let mut tokens = Cursor {
         rest: tokens,
-        names: RecentNames::new(alloc, tokens.len())?,
-        sorts: RecentSorts::new(alloc, tokens.len())?,
-        messages: RecentMessages::new(alloc, tokens.len())?,
+        names,
+        sorts: RecentSorts::new(alloc, count)?,
+        messages,
     };
-    let tree = module_tree(alloc, MAX_LEVELS, &mut tokens)?;
-    match tokens.rest {
+    let parsed = module_tree(alloc, MAX_LEVELS, &mut tokens);
+    let Cursor {
+        rest,
+        names,
+        messages,
+        ..
+    } = tokens;
+    recent.give_back(names, messages);
+    let tree = parsed?;
+    match rest {
         [] => Ok(tree),
         [token, ..] => match left_out_declaration(token) {
             Some(word) => Err(ParseFault::LeftOut {

@@ -1,4 +1,4 @@
-//! Tables of what a text had before. Each thing has the place that its bytes give, until another comes there:
+//! Tables of what texts had before. Each thing has the place that its bytes give, until another comes there:
 //! which ones are kept is left open.
 
 use scrib_types::name::Name;
@@ -14,14 +14,18 @@ const FEWEST_PLACES: usize = 32;
 /// An odd number without a pattern in its bits.
 const MIX: u64 = 0x9E37_79B9_7F4A_7C15;
 
-/// Empty places for a text of so many tokens, a power of two in number.
+/// How many places there are for a text of so many tokens, a power of two.
+pub(crate) fn count_for(tokens: usize) -> usize {
+    (tokens / TOKENS_A_PLACE)
+        .max(FEWEST_PLACES)
+        .next_power_of_two()
+}
+
+/// So many empty places.
 ///
 /// # Errors
 /// `AllocError` where memory for them is refused.
-pub(crate) fn empty<T: Drop>(alloc: Global, tokens: usize) -> Result<Vec<Option<T>>, AllocError> {
-    let count = (tokens / TOKENS_A_PLACE)
-        .max(FEWEST_PLACES)
-        .next_power_of_two();
+pub(crate) fn empty<T: Drop>(alloc: Global, count: usize) -> Result<Vec<Option<T>>, AllocError> {
     let mut places = Vec::with_capacity(alloc, count)?;
     for _ in 0..count {
         places.push(None)?;

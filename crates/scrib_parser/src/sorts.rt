@@ -19,12 +19,12 @@ pub(crate) struct RecentSorts<'a> {
 }
 
 impl<'a> RecentSorts<'a> {
-    /// None yet, for a text of so many tokens.
+    /// None yet, with so many places.
     ///
     /// # Errors
     /// `AllocError` where memory for the places is refused.
-    pub(crate) fn new(alloc: Global, tokens: usize) -> Result<RecentSorts<'a>, AllocError> {
-        let places = places::empty(alloc, tokens)?;
+    pub(crate) fn new(alloc: Global, count: usize) -> Result<RecentSorts<'a>, AllocError> {
+        let places = places::empty(alloc, count)?;
         let room = Vec::new(alloc);
         Ok(RecentSorts { places, room })
     }

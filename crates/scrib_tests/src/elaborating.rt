@@ -5,6 +5,7 @@ use scrib_elaborate::fault::{ElaborateFault, Fault};
 use scrib_elaborate::modules::Modules;
 use scrib_lexer::lex::lex;
 use scrib_parser::parse::parse;
+use scrib_parser::recent::Recent;
 use scrib_types::name::{Dotted, Name};
 use scrib_types::text::push_dotted;
 use std::alloc::Global;
@@ -18,7 +19,7 @@ fn name(alloc: Global, text: &str) -> Result<Name, Fail> {
 fn modules(alloc: Global, text: &str) -> Result<Modules, Fail> {
     let mut modules = Modules::new(alloc);
     let tokens = lex(alloc, text.as_bytes())?;
-    modules.add(parse(alloc, &tokens)?)?;
+    modules.add(parse(alloc, &tokens, &mut Recent::new())?)?;
     Ok(modules)
 }
 

@@ -1,6 +1,7 @@
 use scrib_lexer::lex::lex;
 use scrib_parser::fault::{LeftOutWord, ParseFault};
 use scrib_parser::parse::parse;
+use scrib_parser::recent::Recent;
 use scrib_parser::tree::{
     Block, Import, ModuleTree, ProtocolDeclaration, RoleDeclaration, Statement,
 };
@@ -181,7 +182,7 @@ fn shown(alloc: Global, tree: &ModuleTree) -> Result<Vec<u8>, AllocError> {
 
 fn parsed(alloc: Global, text: &[u8]) -> Result<Vec<u8>, Fail> {
     let tokens = lex(alloc, text)?;
-    let tree = parse(alloc, &tokens)?;
+    let tree = parse(alloc, &tokens, &mut Recent::new())?;
     Ok(shown(alloc, &tree)?)
 }
 
