@@ -12,8 +12,8 @@ use scrib_record::comparison::Comparison;
 use scrib_record::fault::NoteFault;
 use scrib_record::record::Record;
 use scrib_record::version::Version;
-use scrib_types::event::Event;
 use scrib_types::name::Dotted;
+use scrib_types::shared_event::SharedEvent;
 use std::alloc::{AllocError, Global};
 
 /// Opens a conversation of the protocol, where fewer than `most` are open. Answers `Opened`, or refuses with
@@ -57,7 +57,7 @@ pub fn note(
     records: &mut IndexMap<u32, Record>,
     comparison: Comparison,
     id: u32,
-    event: Event,
+    event: SharedEvent,
 ) -> Reply
     requires { ServesBeside comparison library.now records.old.entries }
     ensures { AnswersNote library.now records.old.entries id event result records.new.entries }

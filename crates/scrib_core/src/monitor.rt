@@ -20,10 +20,10 @@ use scrib_library::fault::EditFault;
 use scrib_library::library::Library;
 use scrib_record::comparison::Comparison;
 use scrib_record::record::{MAX_EVENTS, Record};
-use scrib_types::event::Event;
 use scrib_types::name::Dotted;
 use scrib_types::profile::Profile;
 use scrib_types::protocol::Protocol;
+use scrib_types::shared_event::SharedEvent;
 use std::alloc::{AllocError, Global};
 use std::marker::Model;
 
@@ -119,7 +119,7 @@ impl Core {
     }
 
     /// A conversation's protocol, if the library has it, and its log.
-    pub fn view(&self, id: u32) -> Option<(Option<&Protocol>, &[Event])>
+    pub fn view(&self, id: u32) -> Option<(Option<&Protocol>, &[SharedEvent])>
         ensures { IsViewed (state_of self.now).world id result }
     {
         let record = self.records.get(&id)?;
@@ -143,7 +143,7 @@ impl Core {
         }
     }
 
-    fn note_lent(&mut self, id: u32, event: &Event) -> Reply
+    fn note_lent(&mut self, id: u32, event: &SharedEvent) -> Reply
         ensures answered { IsAnswered (state_of self.old) (Note id event.now) result (state_of self.new) }
         ensures memory { IsDue (state_of self.old).world (Note id event.now) result }
     {
@@ -204,7 +204,7 @@ impl Core {
     }
 
     #[inline(always)]
-    fn note(&mut self, id: u32, event: Event) -> Reply
+    fn note(&mut self, id: u32, event: SharedEvent) -> Reply
         ensures answered { IsAnswered (state_of self.old) (Note id event) result (state_of self.new) }
         ensures memory { IsDue (state_of self.old).world (Note id event) result }
     {

@@ -17,13 +17,14 @@ use crate::logs::event_of;
 use crate::permitted::is_permitted;
 use crate::sorted::insert;
 use scrib_local::projection::project_type;
-use scrib_types::event::{Action, Event};
+use scrib_types::event::Action;
 use scrib_types::global::GlobalType;
 use scrib_types::local::Local;
 use scrib_types::name::Role;
 use scrib_types::plain::Items;
 use scrib_types::profile::Profile;
 use scrib_types::protocol::Protocol;
+use scrib_types::shared_event::SharedEvent;
 use scrib_types::shared_message::SharedMessage;
 use std::alloc::{AllocError, Global};
 
@@ -34,7 +35,7 @@ use std::alloc::{AllocError, Global};
 pub fn allowed(
     alloc: Global,
     protocol: &Protocol,
-    before: &[Event],
+    before: &[SharedEvent],
     role: &Role,
 ) -> Result<Items<Action>, AllocError>
     ensures { IfOk result (AreAllowed (agreement_of protocol.now) before.now role.now) }
@@ -51,7 +52,7 @@ pub fn allowed(
 fn add_allowed(
     alloc: Global,
     protocol: &Protocol,
-    before: &[Event],
+    before: &[SharedEvent],
     role: &Role,
     action: Action,
     list: &mut Vec<Action>,
@@ -72,7 +73,7 @@ fn add_allowed(
 fn may_follow(
     alloc: Global,
     protocol: &Protocol,
-    before: &[Event],
+    before: &[SharedEvent],
     role: &Role,
     action: &Action,
 ) -> Result<bool, AllocError>
@@ -85,7 +86,7 @@ fn may_follow(
 }
 
 /// The same log once more.
-fn copies(alloc: Global, log: &[Event]) -> Result<Vec<Event>, AllocError>
+fn copies(alloc: Global, log: &[SharedEvent]) -> Result<Vec<SharedEvent>, AllocError>
     ensures { IfOk result (λ copies. copies.items ≡ log.now) }
 {
     let mut copies = Vec::with_capacity(alloc, log.len())?;

@@ -7,9 +7,9 @@ ghost use Rattle.scrib_global.specs.Explained as spec;
 use crate::fault::ExplainFault;
 use crate::permitted::first_offence;
 use crate::queues::{received, sent};
-use scrib_types::event::Event;
 use scrib_types::name::Role;
 use scrib_types::protocol::Protocol;
+use scrib_types::shared_event::SharedEvent;
 use scrib_types::shared_message::SharedMessage;
 use std::alloc::{AllocError, Global};
 
@@ -31,7 +31,7 @@ pub struct Flight {
 pub fn explain(
     alloc: Global,
     protocol: &Protocol,
-    log: &[Event],
+    log: &[SharedEvent],
 ) -> Result<Vec<Flight>, ExplainFault>
     ensures { spec.Explains (agreement_of protocol.now) log.now result }
 {
@@ -45,7 +45,11 @@ pub fn explain(
 ///
 /// # Errors
 /// `AllocError` where memory was refused, here and below.
-fn all_in_flight(alloc: Global, roles: &[Role], log: &[Event]) -> Result<Vec<Flight>, AllocError>
+fn all_in_flight(
+    alloc: Global,
+    roles: &[Role],
+    log: &[SharedEvent],
+) -> Result<Vec<Flight>, AllocError>
     ensures { IfOk result (λ flights. flights.items ≡ spec.all_in_flight roles.now log.now) }
 {
     let mut flights = Vec::new(alloc);
@@ -60,7 +64,7 @@ fn push_from(
     alloc: Global,
     from: &Role,
     roles: &[Role],
-    log: &[Event],
+    log: &[SharedEvent],
     flights: &mut Vec<Flight>,
 ) -> Result<(), AllocError>
     ensures { OnOk result (flights.new.items ≡ flights.old.items ++ spec.in_flight_from from.now roles.now log.now) }
@@ -76,7 +80,7 @@ fn push_between(
     alloc: Global,
     from: &Role,
     to: &Role,
-    log: &[Event],
+    log: &[SharedEvent],
     flights: &mut Vec<Flight>,
 ) -> Result<(), AllocError>
     ensures { OnOk result (flights.new.items ≡ flights.old.items ++ spec.in_flight from.now to.now log.now) }

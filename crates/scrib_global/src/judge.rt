@@ -9,8 +9,9 @@ ghost use Rattle.scrib_global.specs.Simulation.{IsJoinedRun};
 use crate::allowed::allowed;
 use crate::permitted::first_offence;
 use scrib_types::allowed::Allowed;
-use scrib_types::event::{Event, Verdict};
+use scrib_types::event::Verdict;
 use scrib_types::protocol::Protocol;
+use scrib_types::shared_event::SharedEvent;
 use std::alloc::{AllocError, Global};
 
 /// The verdict on the whole log under the protocol: `Permitted` exactly where it is a run with lawful joins; and
@@ -19,14 +20,18 @@ use std::alloc::{AllocError, Global};
 ///
 /// # Errors
 /// `AllocError` where memory was refused.
-pub fn judge_whole(alloc: Global, protocol: &Protocol, log: &[Event]) -> Result<Verdict, AllocError>
+pub fn judge_whole(
+    alloc: Global,
+    protocol: &Protocol,
+    log: &[SharedEvent],
+) -> Result<Verdict, AllocError>
     ensures verdict { IfOk result (Judges (Some (agreement_of protocol.now)) log.now) }
     ensures runs { IfOk result (λ verdict. (verdict ≡ Permitted) ↔ IsJoinedRun (agreement_of protocol.now) log.now) }
 {
     match first_offence(alloc, protocol, log)? {
         None => Ok(Verdict::Permitted),
         Some(at) => {
-            let role = log[at].subject().copy()?;
+            let role = log[at].get().subject().copy()?;
             let list = allowed(alloc, protocol, &log[..at], &role)?;
             let allowed = Allowed::new(alloc, list)?;
             Ok(Verdict::Offence {

@@ -6,6 +6,7 @@ ghost use Rattle.scrib_types.specs.WellFormed as form;
 
 use scrib_types::event::{Action, Event};
 use scrib_types::name::Role;
+use scrib_types::shared_event::SharedEvent;
 use std::alloc::{AllocError, Global};
 
 /// Whether the role is one of these.
@@ -21,17 +22,17 @@ pub fn has_role(role: &Role, roles: &[Role]) -> bool
 }
 
 /// Whether the event is the role's join.
-fn is_join_of(role: &Role, event: &Event) -> bool
+fn is_join_of(role: &Role, event: &SharedEvent) -> bool
     ensures { result ≡ logs.is_join_of role.now event.now }
 {
-    match event {
+    match event.get() {
         Event::Join { role: other } => role.equal(other),
         _ => false,
     }
 }
 
 /// Whether the role joined.
-fn has_joined(role: &Role, log: &[Event]) -> bool
+fn has_joined(role: &Role, log: &[SharedEvent]) -> bool
     ensures { result ≡ logs.has_joined role.now log.now }
 {
     for event in log {
@@ -44,10 +45,10 @@ fn has_joined(role: &Role, log: &[Event]) -> bool
 
 /// Whether the event, after these, has its join: a join is of a declared role that hasn't joined, and the
 /// subject of a send or a reception has joined.
-fn is_joined(roles: &[Role], before: &[Event], event: &Event) -> bool
+fn is_joined(roles: &[Role], before: &[SharedEvent], event: &SharedEvent) -> bool
     ensures { IsTrue result ↔ logs.IsJoined roles.now before.now event.now }
 {
-    match event {
+    match event.get() {
         Event::Join { role } => has_role(role, roles) && !has_joined(role, before),
         Event::Sent { from, .. } => has_joined(from, before),
         Event::Received { to, .. } => has_joined(to, before),
@@ -55,7 +56,7 @@ fn is_joined(roles: &[Role], before: &[Event], event: &Event) -> bool
 }
 
 /// Whether only declared roles join, each at most once, and each before its own first action.
-pub fn all_joined(roles: &[Role], log: &[Event]) -> bool
+pub fn all_joined(roles: &[Role], log: &[SharedEvent]) -> bool
     ensures { IsTrue result ↔ logs.AllJoined roles.now log.now }
 {
     for (i, event) in log.iter().enumerate() {
@@ -67,10 +68,10 @@ pub fn all_joined(roles: &[Role], log: &[Event]) -> bool
 }
 
 /// Whether the event is a send or a reception of the role.
-fn is_action_of(role: &Role, event: &Event) -> bool
+fn is_action_of(role: &Role, event: &SharedEvent) -> bool
     ensures { result ≡ logs.is_action_of role.now event.now }
 {
-    match event {
+    match event.get() {
         Event::Join { .. } => false,
         Event::Sent { from, .. } => role.equal(from),
         Event::Received { to, .. } => role.equal(to),
@@ -81,10 +82,10 @@ fn is_action_of(role: &Role, event: &Event) -> bool
 ///
 /// # Errors
 /// `AllocError` where memory was refused, here and below.
-fn action_of(alloc: Global, event: &Event) -> Result<Action, AllocError>
+fn action_of(alloc: Global, event: &SharedEvent) -> Result<Action, AllocError>
     ensures { IfOk result (λ act. act ≡ logs.action_of event.now) }
 {
-    match event {
+    match event.get() {
         Event::Join { .. } => Ok(Action::Join),
         Event::Sent { to, message, .. } => {
             let to = to.copy()?;
@@ -100,29 +101,32 @@ fn action_of(alloc: Global, event: &Event) -> Result<Action, AllocError>
 }
 
 /// The event that is this action of the role.
-pub fn event_of(alloc: Global, role: &Role, action: &Action) -> Result<Event, AllocError>
+pub fn event_of(alloc: Global, role: &Role, action: &Action) -> Result<SharedEvent, AllocError>
     ensures { IfOk result (λ event. event ≡ logs.event_of role.now action.now) }
 {
     let role = role.copy()?;
-    match action {
-        Action::Join => Ok(Event::Join { role }),
-        Action::Sends { to, message } => {
-            let to = to.copy()?;
-            let message = message.copy()?;
-            let from = role;
-            Ok(Event::Sent { from, to, message })
-        }
-        Action::Receives { from, message } => {
-            let from = from.copy()?;
-            let message = message.copy()?;
-            let to = role;
-            Ok(Event::Received { from, to, message })
-        }
-    }
+    let event = match action {
+        Action::Join => Event::Join { role },
+        Action::Sends { to, message } => Event::Sent {
+            from: role,
+            to: to.copy()?,
+            message: message.copy()?,
+        },
+        Action::Receives { from, message } => Event::Received {
+            from: from.copy()?,
+            to: role,
+            message: message.copy()?,
+        },
+    };
+    SharedEvent::new(alloc, event)
 }
 
 /// What the role sent and received, in order.
-pub fn own_actions(alloc: Global, role: &Role, log: &[Event]) -> Result<Vec<Action>, AllocError>
+pub fn own_actions(
+    alloc: Global,
+    role: &Role,
+    log: &[SharedEvent],
+) -> Result<Vec<Action>, AllocError>
     ensures { IfOk result (λ acts. acts.items ≡ logs.own_actions role.now log.now) }
 {
     let mut acts = Vec::new(alloc);

@@ -12,18 +12,22 @@ use crate::logs::{all_joined, own_actions};
 use crate::queues::is_queued;
 use crate::trace::is_trace;
 use scrib_local::projection::project_type;
-use scrib_types::event::Event;
 use scrib_types::global::GlobalType;
 use scrib_types::name::Role;
 use scrib_types::profile::Profile;
 use scrib_types::protocol::Protocol;
+use scrib_types::shared_event::SharedEvent;
 use std::alloc::{AllocError, Global};
 
 /// Whether the protocol permits the log.
 ///
 /// # Errors
 /// `AllocError` where memory was refused, here and below.
-pub fn is_permitted(alloc: Global, protocol: &Protocol, log: &[Event]) -> Result<bool, AllocError>
+pub fn is_permitted(
+    alloc: Global,
+    protocol: &Protocol,
+    log: &[SharedEvent],
+) -> Result<bool, AllocError>
     ensures { IfOk result (λ is. IsTrue is ↔ IsPermitted (agreement_of protocol.now) log.now) }
 {
     let roles = protocol.roles();
@@ -40,7 +44,7 @@ pub fn is_permitted(alloc: Global, protocol: &Protocol, log: &[Event]) -> Result
 pub fn first_offence(
     alloc: Global,
     protocol: &Protocol,
-    log: &[Event],
+    log: &[SharedEvent],
 ) -> Result<Option<usize>, AllocError>
     ensures { IfOk result (FirstOffence (agreement_of protocol.now) log.now) }
 {
@@ -56,7 +60,7 @@ pub fn first_offence(
 fn all_traced(
     alloc: Global,
     global: &GlobalType,
-    log: &[Event],
+    log: &[SharedEvent],
     roles: &[Role],
 ) -> Result<bool, AllocError>
     ensures { IfOk result (λ are. IsTrue are ↔ AllTraced (global_of global.now) log.now roles.now) }
@@ -73,7 +77,7 @@ fn all_traced(
 fn is_traced(
     alloc: Global,
     global: &GlobalType,
-    log: &[Event],
+    log: &[SharedEvent],
     role: &Role,
 ) -> Result<bool, AllocError>
     ensures { IfOk result (λ is. IsTrue is ↔ IsTraced (global_of global.now) log.now role.now) }

@@ -6,6 +6,7 @@ ghost use Rattle.scrib_global.specs.Due.{IsDue};
 
 use scrib_types::event::Event;
 use scrib_types::name::Role;
+use scrib_types::shared_event::SharedEvent;
 use scrib_types::shared_message::SharedMessage;
 use std::alloc::{AllocError, Global};
 
@@ -14,11 +15,11 @@ fn sent_message(
     alloc: Global,
     from: &Role,
     to: &Role,
-    event: &Event,
+    event: &SharedEvent,
 ) -> Result<Option<SharedMessage>, AllocError>
     ensures { IfOk result (λ message. message ≡ queue.sent_message from.now to.now event.now) }
 {
-    match event {
+    match event.get() {
         Event::Sent {
             from: sender,
             to: receiver,
@@ -33,11 +34,11 @@ fn received_message(
     alloc: Global,
     from: &Role,
     to: &Role,
-    event: &Event,
+    event: &SharedEvent,
 ) -> Result<Option<SharedMessage>, AllocError>
     ensures { IfOk result (λ message. message ≡ queue.received_message from.now to.now event.now) }
 {
-    match event {
+    match event.get() {
         Event::Received {
             from: sender,
             to: receiver,
@@ -55,7 +56,7 @@ pub fn sent(
     alloc: Global,
     from: &Role,
     to: &Role,
-    log: &[Event],
+    log: &[SharedEvent],
 ) -> Result<Vec<SharedMessage>, AllocError>
     ensures { IfOk result (λ messages. messages.items ≡ queue.sent from.now to.now log.now) }
 {
@@ -74,7 +75,7 @@ pub fn received(
     alloc: Global,
     from: &Role,
     to: &Role,
-    log: &[Event],
+    log: &[SharedEvent],
 ) -> Result<Vec<SharedMessage>, AllocError>
     ensures { IfOk result (λ messages. messages.items ≡ queue.received from.now to.now log.now) }
 {
@@ -112,10 +113,10 @@ fn is_prefix(a: &[SharedMessage], b: &[SharedMessage]) -> bool
 
 /// Whether, if the event is a reception, what the receiver has from the sender in the log is a prefix of what
 /// was sent.
-fn is_due(alloc: Global, log: &[Event], event: &Event) -> Result<bool, AllocError>
+fn is_due(alloc: Global, log: &[SharedEvent], event: &SharedEvent) -> Result<bool, AllocError>
     ensures { IfOk result (λ due. IsTrue due ↔ IsDue log.now event.now) }
 {
-    match event {
+    match event.get() {
         Event::Received { from, to, .. } => {
             let sent = sent(alloc, from, to, log)?;
             let received = received(alloc, from, to, log)?;
@@ -126,7 +127,7 @@ fn is_due(alloc: Global, log: &[Event], event: &Event) -> Result<bool, AllocErro
 }
 
 /// Whether at each moment what each role received from another is a prefix of what that one sent to it.
-pub fn is_queued(alloc: Global, log: &[Event]) -> Result<bool, AllocError>
+pub fn is_queued(alloc: Global, log: &[SharedEvent]) -> Result<bool, AllocError>
     ensures { IfOk result (λ queued. IsTrue queued ↔ queue.IsQueued log.now) }
 {
     for (i, event) in log.iter().enumerate() {

@@ -16,8 +16,8 @@ use scrib_core::conversing::{ask, note, open, turn};
 use scrib_core::reply::{Refusal, Reply};
 use scrib_library::library::Library;
 use scrib_record::comparison::Comparison;
-use scrib_types::event::Event;
 use scrib_types::name::Dotted;
+use scrib_types::shared_event::SharedEvent;
 
 /// Opens a conversation of the protocol, within the shard's own limit. Answers `Opened`, or refuses with `AlreadyOpen`,
 /// `UnknownProtocol`, `TooManyConversations` or `OutOfMemory`, the first that is due, and changes nothing.
@@ -47,7 +47,7 @@ pub fn open_locked(library: &Library, shard: &mut Shard, id: u32, name: &Dotted)
 
 /// Notes the event. Answers `Noted`, or refuses with `NoConversation`, `LogFull` or `OutOfMemory`, the first that is
 /// due, and changes nothing.
-pub fn note_locked(library: &Library, shard: &mut Shard, id: u32, event: Event) -> Reply
+pub fn note_locked(library: &Library, shard: &mut Shard, id: u32, event: SharedEvent) -> Reply
     ensures answered { AnswersNote library.now shard.old.records id event result shard.new.records }
     ensures limit { shard.new.most ≡ shard.old.most }
 {

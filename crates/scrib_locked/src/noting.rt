@@ -19,7 +19,7 @@ use scrib_record::comparison::Comparison;
 use scrib_record::fault::NoteFault;
 use scrib_record::record::{MAX_EVENTS, Record};
 use scrib_record::version::Version;
-use scrib_types::event::Event;
+use scrib_types::shared_event::SharedEvent;
 
 /// The place of the conversation's record in the order of opening, from 0. It is looked for first at the place that is
 /// given, which may be any: who asks often for one conversation gives the place that was told last.
@@ -41,7 +41,7 @@ pub(crate) fn place_near(records: &IndexMap<u32, Record>, near: usize, id: u32) 
 fn note_in(
     present: Option<&Version>,
     conversation: &mut Record,
-    event: Event,
+    event: SharedEvent,
 ) -> Result<Noted, NoteFault>
     ensures ok { IfOk result (λ n. IsNotedIn (option_copied present.entry) conversation.old event n conversation.new) }
     ensures fault { IfErr result (told.NoteFails conversation.old) }
@@ -78,7 +78,7 @@ pub(crate) fn note_unless(
     present: Option<&Version>,
     conversation: &mut Record,
     pass: &mut Pass,
-    event: Event,
+    event: SharedEvent,
 ) -> PassAnswer
     requires { IsLeastStray conversation.old.log (newest_of pass.old.receipts) stray }
     ensures answered { AnswersIn (option_copied present.entry) (conversation.old, pass.old) event result (conversation.new, pass.new) }
@@ -100,7 +100,7 @@ fn note_for(
     present: Option<&Version>,
     conversation: &mut Record,
     pass: &mut Pass,
-    event: Event,
+    event: SharedEvent,
 ) -> PassAnswer
     requires { All (StandsIn conversation.old.log) (newest_of pass.old.receipts) }
     ensures answered { AnswersIn (option_copied present.entry) (conversation.old, pass.old) event result (conversation.new, pass.new) }

@@ -3,7 +3,7 @@
 ghost use Rattle.std.specs.Prelude.{◌≡◌, ◌-◌, [], true, drop, length};
 ghost use Rattle.scrib_locked.specs.Passes.{newest_of, rises};
 
-use scrib_types::event::Event;
+use scrib_types::shared_event::SharedEvent;
 use std::alloc::Global;
 use std::marker::Model;
 
@@ -11,7 +11,7 @@ use std::marker::Model;
 #[derive(Drop)]
 pub struct Receipt {
     pub place: usize,
-    pub event: Event,
+    pub event: SharedEvent,
 }
 
 /// The right to note events of one conversation. A pass has a receipt of each event that was noted by it, oldest

@@ -16,7 +16,8 @@ use indexmap::IndexMap;
 use scrib_core::reply::Refusal;
 use scrib_library::library::Library;
 use scrib_record::record::Record;
-use scrib_types::event::{Event, Told};
+use scrib_types::event::Told;
+use scrib_types::shared_event::SharedEvent;
 
 /// Why a call by a pass was refused. Nothing changes then.
 #[derive(Drop)]
@@ -40,7 +41,7 @@ pub fn note_by_pass(
     library: &Library,
     shard: &mut Shard,
     pass: &mut Pass,
-    event: Event,
+    event: SharedEvent,
 ) -> PassAnswer
     ensures noted { IfOk result (λ n. IsNotedBy library.now shard.old pass.old event n shard.new) }
     ensures receipted { IfOk result (λ n. IsReceipted pass.old event n pass.new) }
@@ -81,7 +82,7 @@ fn note_among(
     library: &Library,
     records: &mut IndexMap<u32, Record>,
     pass: &mut Pass,
-    event: Event,
+    event: SharedEvent,
 ) -> PassAnswer
     ensures { AnswersBy library.now (records.old.entries, pass.old) event result (records.new.entries, pass.new) }
 {
@@ -102,7 +103,7 @@ fn note_at(
     records: &mut IndexMap<u32, Record>,
     at: usize,
     pass: &mut Pass,
-    event: Event,
+    event: SharedEvent,
 ) -> PassAnswer
     requires { StandsAt records.old.entries at pass.old.conversation }
     ensures { AnswersBy library.now (records.old.entries, pass.old) event result (records.new.entries, pass.new) }

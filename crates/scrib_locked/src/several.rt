@@ -18,7 +18,7 @@ use indexmap::IndexMap;
 use scrib_library::library::Library;
 use scrib_record::record::Record;
 use scrib_record::version::Version;
-use scrib_types::event::Event;
+use scrib_types::shared_event::SharedEvent;
 
 /// Notes the events one after another in the pass's conversation, as so many calls of `note_by_pass` do between which
 /// nobody else is heard. Gives what is answered to each, in their order, in the list that has room for it. The record
@@ -28,7 +28,7 @@ pub fn note_all_by_pass(
     library: &Library,
     shard: &mut Shard,
     pass: &mut Pass,
-    events: Vec<Event>,
+    events: Vec<SharedEvent>,
     room: Vec<PassAnswer>,
 ) -> Vec<PassAnswer>
     requires empty { room.items ≡ [] }
@@ -46,7 +46,7 @@ fn note_all_among(
     library: &Library,
     records: &mut IndexMap<u32, Record>,
     pass: &mut Pass,
-    events: Vec<Event>,
+    events: Vec<SharedEvent>,
     room: Vec<PassAnswer>,
 ) -> Vec<PassAnswer>
     requires empty { room.items ≡ [] }
@@ -68,7 +68,7 @@ fn note_all_at(
     records: &mut IndexMap<u32, Record>,
     at: usize,
     pass: &mut Pass,
-    events: Vec<Event>,
+    events: Vec<SharedEvent>,
     room: Vec<PassAnswer>,
 ) -> Vec<PassAnswer>
     requires stands { StandsAt records.old.entries at pass.old.conversation }
@@ -89,7 +89,7 @@ fn note_all_in(
     present: Option<&Version>,
     conversation: &mut Record,
     pass: &mut Pass,
-    events: Vec<Event>,
+    events: Vec<SharedEvent>,
     room: Vec<PassAnswer>,
 ) -> Vec<PassAnswer>
     requires empty { room.items ≡ [] }
@@ -106,7 +106,7 @@ fn note_all_in(
 }
 
 // Refuses each event where no conversation is open for the pass.
-fn refuse_all(pass: &Pass, events: Vec<Event>, room: Vec<PassAnswer>) -> Vec<PassAnswer>
+fn refuse_all(pass: &Pass, events: Vec<SharedEvent>, room: Vec<PassAnswer>) -> Vec<PassAnswer>
     requires empty { room.items ≡ [] }
     requires room { vec_len events ≤ vec_capacity room }
     ensures { (h : Holdings) (rs : Records) → record_at rs pass.now.conversation ≡ None → OneByOne (AnswersBy h) (rs, pass.now) events.items result.items (rs, pass.now) }
@@ -120,7 +120,7 @@ fn refuse_all(pass: &Pass, events: Vec<Event>, room: Vec<PassAnswer>) -> Vec<Pas
 }
 
 // Refuses the event where no conversation is open for the pass.
-fn refuse(pass: &Pass, _event: Event) -> PassAnswer
+fn refuse(pass: &Pass, _event: SharedEvent) -> PassAnswer
     ensures { (h : Holdings) (rs : Records) → record_at rs pass.now.conversation ≡ None → AnswersBy h (rs, pass.now) _event result (rs, pass.now) }
 {
     Err(unopened(pass.conversation(), pass.newest()))

@@ -8,8 +8,9 @@ use crate::locked::{ask_locked, note_locked, open_locked, turn_locked};
 use crate::shard::Shard;
 use scrib_core::reply::{Refusal, Reply};
 use scrib_library::library::Library;
-use scrib_types::event::{Event, Told};
+use scrib_types::event::Told;
 use scrib_types::name::Dotted;
+use scrib_types::shared_event::SharedEvent;
 
 /// Where an event was noted, from 1, and what is told of the log that ends with it.
 #[derive(Drop)]
@@ -51,7 +52,7 @@ pub fn note_step(
     library: &Library,
     shard: &mut Shard,
     id: u32,
-    event: Event,
+    event: SharedEvent,
 ) -> Result<Noted, Refusal>
     ensures ok { IfOk result (λ n. IsNotedAt library.now shard.old.records id event n.place n.told shard.new.records) }
     ensures fault { IfErr result (NoteFails shard.old.records id) }

@@ -9,8 +9,8 @@ use scrib_core::step::Step;
 use scrib_report::json::json;
 use scrib_report::line::line;
 use scrib_script::format::Format;
-use scrib_types::event::Event;
 use scrib_types::protocol::Protocol;
+use scrib_types::shared_event::SharedEvent;
 use std::alloc::Global;
 
 /// Whether memory was refused.
@@ -18,41 +18,9 @@ pub(crate) fn is_refused(reply: &Reply) -> bool {
     matches!(reply, Reply::Refused(Refusal::OutOfMemory))
 }
 
-// Whether the two are the same.
-fn same_event(a: &Event, b: &Event) -> bool {
-    match (a, b) {
-        (Event::Join { role: a }, Event::Join { role: b }) => a.equal(b),
-        (
-            Event::Sent {
-                from: from_a,
-                to: to_a,
-                message: a,
-            },
-            Event::Sent {
-                from: from_b,
-                to: to_b,
-                message: b,
-            },
-        ) => from_a.equal(from_b) && to_a.equal(to_b) && a.equal(b),
-        (
-            Event::Received {
-                from: from_a,
-                to: to_a,
-                message: a,
-            },
-            Event::Received {
-                from: from_b,
-                to: to_b,
-                message: b,
-            },
-        ) => from_a.equal(from_b) && to_a.equal(to_b) && a.equal(b),
-        _ => false,
-    }
-}
-
-fn same_log(a: &[Event], b: &[Event]) -> bool {
+fn same_log(a: &[SharedEvent], b: &[SharedEvent]) -> bool {
     for (a, b) in a.iter().zip(b) {
-        if !same_event(a, b) {
+        if !a.equal(b) {
             return false;
         }
     }

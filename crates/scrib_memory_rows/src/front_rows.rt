@@ -113,8 +113,8 @@ pub(crate) fn run_front_end(alloc: Global) -> Result<(), RowFault> {
 }
 
 fn message_of(alloc: Global) -> Result<SharedMessage, RowFault> {
-    match event_of(alloc, "send 0 A B a()")? {
-        Event::Sent { message, .. } => Ok(message),
+    match event_of(alloc, "send 0 A B a()")?.get() {
+        Event::Sent { message, .. } => Ok(message.copy()?),
         _ => Err(RowFault::Wrong),
     }
 }

@@ -5,9 +5,9 @@ use crate::rows::Call;
 use scrib_core::step::Step;
 use scrib_script::format::Format;
 use scrib_script::line::{Line, line_of};
-use scrib_types::event::Event;
 use scrib_types::name::Dotted;
 use scrib_types::plain::Items;
+use scrib_types::shared_event::SharedEvent;
 use std::alloc::Global;
 
 /// The step that a line of a script says, or `put` and a module text, and the format of its reply.
@@ -23,7 +23,7 @@ pub(crate) fn step_of(alloc: Global, text: &str) -> Result<(Format, Step), RowFa
 }
 
 /// The event that a line of a script notes.
-pub(crate) fn event_of(alloc: Global, text: &str) -> Result<Event, RowFault> {
+pub(crate) fn event_of(alloc: Global, text: &str) -> Result<SharedEvent, RowFault> {
     match step_of(alloc, text)? {
         (_, Step::Note { event, .. }) => Ok(event),
         _ => Err(RowFault::Wrong),

@@ -14,8 +14,8 @@ use scrib_shards::pass::Pass;
 use scrib_shards::passing::PassRefusal;
 use scrib_shards::service::{Service, ServiceFault};
 use scrib_shards::stepping::Noted;
-use scrib_types::event::Event;
 use scrib_types::name::Dotted;
+use scrib_types::shared_event::SharedEvent;
 use std::alloc::Global;
 use std::sync::Wait;
 
@@ -91,7 +91,12 @@ fn open_both(rt: &impl Wait, alloc: Global, service: &Service) -> Result<(), Row
 }
 
 // Notes the event. Where memory is refused, the pass is to stand as before, and the event is noted once more.
-fn note(rt: &impl Wait, service: &Service, pass: &mut Pass, event: &Event) -> Result<(), RowFault> {
+fn note(
+    rt: &impl Wait,
+    service: &Service,
+    pass: &mut Pass,
+    event: &SharedEvent,
+) -> Result<(), RowFault> {
     let receipts = pass.receipts().len();
     let noted = match service.note(rt, pass, event.copy()?, &OpenGate) {
         Err(PassRefusal::Step(Refusal::OutOfMemory)) => {
@@ -108,7 +113,7 @@ fn note_again(
     rt: &impl Wait,
     service: &Service,
     pass: &mut Pass,
-    event: &Event,
+    event: &SharedEvent,
 ) -> Result<Noted, RowFault> {
     service.ask(rt, pass)?;
     Ok(service.note(rt, pass, event.copy()?, &OpenGate)?)

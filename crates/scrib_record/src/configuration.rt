@@ -16,6 +16,7 @@ use scrib_queues::queues::Queues;
 use scrib_types::event::{Action, Event};
 use scrib_types::name::Role;
 use scrib_types::plain::Items;
+use scrib_types::shared_event::SharedEvent;
 use scrib_types::shared_message::SharedMessage;
 use std::alloc::{AllocError, Global};
 
@@ -50,12 +51,12 @@ impl Configuration {
     }
 
     /// Makes the event and returns whether it may follow. One that may not changes nothing.
-    pub fn advance(&mut self, version: &Version, event: &Event) -> Result<bool, AllocError>
+    pub fn advance(&mut self, version: &Version, event: &SharedEvent) -> Result<bool, AllocError>
         requires { conf.IsReached (meaning_of version.now) version.now.machines self.old }
         ensures ok { IfOk result (conf.Advances (meaning_of version.now) version.now.machines event.now self.old self.new) }
         ensures err { OnErr result (conf.IsSame self.old self.new) }
     {
-        match event {
+        match event.get() {
             Event::Join { role } => Ok(self.join(version, role)),
             Event::Sent { from, to, message } => self.send(version, from, to, message),
             Event::Received { from, to, message } => Ok(self.receive(version, from, to, message)),

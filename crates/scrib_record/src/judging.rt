@@ -18,7 +18,8 @@ use crate::copies::copy_verdict;
 use crate::version::Version;
 use scrib_queues::queues::Queues;
 use scrib_types::allowed::Allowed;
-use scrib_types::event::{Event, Told, Verdict};
+use scrib_types::event::{Told, Verdict};
+use scrib_types::shared_event::SharedEvent;
 use std::alloc::{AllocError, Global};
 
 /// The most events that a turn judges.
@@ -115,7 +116,7 @@ impl Judging {
 
     /// Judges the event that comes next, where all of the log is judged: one step, however long the log is. Without
     /// memory the judgement stays.
-    pub fn note(&mut self, log: &[Event], event: &Event) -> Result<Told, AllocError>
+    pub fn note(&mut self, log: &[SharedEvent], event: &SharedEvent) -> Result<Told, AllocError>
         requires kept { kept.IsKept log.now self.old }
         requires whole { stale.is_final self.old.verdict self.old.judged (length log.now) ≡ true }
         requires room { length log.now < 1048576 }
@@ -146,7 +147,7 @@ impl Judging {
         &mut self,
         present: Option<&Version>,
         comparison: Comparison,
-        log: &[Event],
+        log: &[SharedEvent],
     ) -> Result<Told, AllocError>
         requires serves { ServesFor comparison (option_copied present) self.old.held }
         requires kept { kept.IsKept log.now self.old }
@@ -171,7 +172,7 @@ impl Judging {
     }
 
     /// Judges at most 256 further events of the log, up to an offence.
-    fn go_on(&mut self, log: &[Event]) -> Result<Told, AllocError>
+    fn go_on(&mut self, log: &[SharedEvent]) -> Result<Told, AllocError>
         requires kept { kept.IsKept log.now self.old }
         requires open { self.old.verdict ≡ Permitted }
         requires room { length log.now ≤ 1048576 }
@@ -241,7 +242,11 @@ fn is_final(verdict: &Verdict, judged: usize, events: usize) -> bool
 }
 
 /// Makes the events in order, up to the first that may not follow, and returns how many were made and why no more.
-fn run(configuration: &mut Configuration, version: &Version, events: &[Event]) -> (usize, Halt)
+fn run(
+    configuration: &mut Configuration,
+    version: &Version,
+    events: &[SharedEvent],
+) -> (usize, Halt)
     requires { conf.IsReached (meaning_of version.now) version.now.machines configuration.old }
     ensures { kept.RunsFrom version.now events.now configuration.old configuration.new result.0 result.1 }
 {
@@ -260,12 +265,12 @@ fn offence(
     configuration: &Configuration,
     version: &Version,
     place: usize,
-    event: &Event,
+    event: &SharedEvent,
 ) -> Result<Verdict, AllocError>
     requires { conf.IsReached (meaning_of version.now) version.now.machines configuration.now }
     ensures { IfOk result (kept.IsRefusal version.now configuration.now place event.now) }
 {
-    let role = event.subject().copy()?;
+    let role = event.get().subject().copy()?;
     let alloc = *configuration.seats.allocator();
     let list = choices(configuration, version, &role)?;
     let allowed = Allowed::new(alloc, list)?;

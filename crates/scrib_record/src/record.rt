@@ -12,8 +12,9 @@ use crate::comparison::Comparison;
 use crate::fault::NoteFault;
 use crate::judging::Judging;
 use crate::version::Version;
-use scrib_types::event::{Event, Told, Verdict};
+use scrib_types::event::{Told, Verdict};
 use scrib_types::name::Dotted;
+use scrib_types::shared_event::SharedEvent;
 use std::alloc::{AllocError, Global};
 use std::marker::Model;
 
@@ -26,7 +27,7 @@ pub const MAX_EVENTS: usize = 1_048_576;
 #[derive(Drop)]
 pub struct Record {
     name: Dotted,
-    log: Vec<Event>,
+    log: Vec<SharedEvent>,
     judging: Judging,
     // Where the version of the protocol was found last. Nothing rests on it.
     near: usize,
@@ -84,7 +85,7 @@ impl Record {
     }
 
     /// The events, oldest first.
-    pub fn log(&self) -> &[Event]
+    pub fn log(&self) -> &[SharedEvent]
         ensures log { result.now ≡ self.now.log }
         ensures lawful { IsLawful self.now }
     {
@@ -101,7 +102,7 @@ impl Record {
         &mut self,
         present: Option<&Version>,
         comparison: Comparison,
-        event: Event,
+        event: SharedEvent,
     ) -> Result<Told, NoteFault>
         requires { ServesFor comparison (option_copied present) self.old.held }
         ensures ok { IfOk result (IsNoted (option_copied present.entry) self.old event self.new) }

@@ -17,7 +17,8 @@ use scrib_shards::gate::OpenGate;
 use scrib_shards::pass::Pass;
 use scrib_shards::passing::PassAnswer;
 use scrib_shards::service::Service;
-use scrib_types::event::{Event, Told};
+use scrib_types::event::Told;
+use scrib_types::shared_event::SharedEvent;
 use scrib_types::text::push_bytes;
 use std::alloc::{AllocError, Global};
 use std::mem::replace;
@@ -39,7 +40,7 @@ pub(crate) struct Connection<'a> {
     near: usize,
     lines: Vec<u8>,
     // Events that are still to be noted, all of the conversation of this id.
-    pending: Vec<Event>,
+    pending: Vec<SharedEvent>,
     pending_id: u32,
     // How many events it noted that weren't counted yet.
     noted: u64,
@@ -136,7 +137,7 @@ impl<'a> Connection<'a> {
     // Puts the event off, once those of another conversation, or as many as may be, are noted. Without memory for that it
     // is noted now.
     #[inline(always)]
-    fn put_off(&mut self, rt: &impl Wait, id: u32, event: Event) -> Result<(), ScriptFault> {
+    fn put_off(&mut self, rt: &impl Wait, id: u32, event: SharedEvent) -> Result<(), ScriptFault> {
         if self.pending_id != id || self.pending.len() >= MAX_PENDING {
             self.catch_up(rt)?;
             self.pending_id = id;
@@ -154,7 +155,7 @@ impl<'a> Connection<'a> {
         &mut self,
         rt: &impl Wait,
         id: u32,
-        events: Vec<Event>,
+        events: Vec<SharedEvent>,
         room: Vec<PassAnswer>,
     ) -> Result<(), ScriptFault>
         requires empty { room.items ≡ [] }
@@ -175,7 +176,7 @@ impl<'a> Connection<'a> {
         &mut self,
         rt: &impl Wait,
         id: u32,
-        events: Vec<Event>,
+        events: Vec<SharedEvent>,
     ) -> Result<(), ScriptFault> {
         for event in events {
             self.note_now(rt, id, event)?;
@@ -183,7 +184,7 @@ impl<'a> Connection<'a> {
         Ok(())
     }
 
-    fn note_now(&mut self, rt: &impl Wait, id: u32, event: Event) -> Result<(), ScriptFault> {
+    fn note_now(&mut self, rt: &impl Wait, id: u32, event: SharedEvent) -> Result<(), ScriptFault> {
         let answer = self.note(rt, id, event);
         self.tell_answer(&answer, Format::Line)
     }
@@ -263,7 +264,7 @@ impl<'a> Connection<'a> {
         }
     }
 
-    fn note(&mut self, rt: &impl Wait, id: u32, event: Event) -> Answer {
+    fn note(&mut self, rt: &impl Wait, id: u32, event: SharedEvent) -> Answer {
         let service = self.service;
         match self.pass_to(rt, id) {
             Ok(pass) => noted_answer(id, service.note(rt, pass, event, &OpenGate)),

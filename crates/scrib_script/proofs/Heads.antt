@@ -10,14 +10,15 @@ use Rattle.std.proofs.lemmas.Bool.{false≢true}
 use Rattle.std.proofs.lemmas.Bool.Decides.{nat_tests}
 use Rattle.std.proofs.lemmas.Slice.Eq.{bytes_eq-Decides}
 use Rattle.std.proofs.Math.Seq.{split_at}
+use Rattle.scrib_types.specs.declared.event.Event.{Event}
 use Rattle.scrib_types.specs.declared.message.Message.{Message}
-use Rattle.scrib_script.specs.declared.reader.Act.{Act}
-use Rattle.scrib_script.specs.declared.reader.Act.TheVariants as act
+use Rattle.scrib_script.specs.declared.act.Act.{Act}
+use Rattle.scrib_script.specs.declared.act.Act.TheVariants as act
 use Rattle.scrib_script.specs.declared.format.Format.TheVariants as format
 use Rattle.scrib_script.specs.declared.line.Line.TheVariants as line
 use Rattle.scrib_core.specs.declared.step.Step.TheVariants as step
 use Rattle.scrib_script.specs.Fields.{fields, is_blank, has_bytes, IsNumber}
-use Rattle.scrib_script.specs.Heads.{IsHead, SpellsExchange, act_word, act_step}
+use Rattle.scrib_script.specs.Heads.{IsHead, SpellsEvent, SpellsExchange, act_word, act_event, sender_of, receiver_of, message_of}
 use Rattle.scrib_types.specs.Texts.{message_text}
 use Rattle.scrib_script.specs.Says.{IsSkipped, Says}
 use Rattle.scrib_script.specs.Steps.{IsExchange}
@@ -103,14 +104,18 @@ exchange-spelled text from to m e =
 spelled-exchange : (text : List ℕ) (from to : List ℕ) (m : Message) → SpellsExchange text from to m → IsExchange (fields text) from to m
 spelled-exchange text from to m s = (message_text m, s.0, s.1, s.2, (refl, s.3, s.4))
 
--- a line of an exchange says it
-pub head-says : (bytes text : List ℕ) (a : Act) (id : ℕ) (from to : List ℕ) (m : Message) → IsHead bytes a id text → SpellsExchange text from to m → Says bytes (line.Step format.Line (act_step a id from to m))
-head-says bytes text act.Send id from to m h e =
+-- a line of an exchange says its event
+exchange-says : (bytes text : List ℕ) (a : Act) (id : ℕ) (from to : List ℕ) (m : Message) → IsHead bytes a id text → SpellsExchange text from to m → Says bytes (line.Step format.Line (step.Note id (act_event a from to m)))
+exchange-says bytes text act.Send id from to m h e =
     let is = head-fields bytes text act.Send id h in
     (h.0, (fields bytes, (refl, λ more k. apart (codes "send") (codes "json") refl (head-of-fields _ _ _ _ (sym is ∙ k))), rw is (inr (id, h.1.2, (refl, refl, spelled-exchange text from to m e)))))
-head-says bytes text act.Receive id from to m h e =
+exchange-says bytes text act.Receive id from to m h e =
     let is = head-fields bytes text act.Receive id h in
     (h.0, (fields bytes, (refl, λ more k. apart (codes "recv") (codes "json") refl (head-of-fields _ _ _ _ (sym is ∙ k))), rw is (inr (id, h.1.2, (refl, refl, spelled-exchange text from to m e)))))
+
+pub head-says : (bytes text : List ℕ) (a : Act) (id : ℕ) (e : Event) → IsHead bytes a id text → SpellsEvent text a e → Says bytes (line.Step format.Line (step.Note id e))
+head-says bytes text a id e h s =
+    subst (λ (x : Event). Says bytes (line.Step format.Line (step.Note id x))) (sym s.0) (exchange-says bytes text a id (sender_of e) (receiver_of e) (message_of e) h s.1)
 
 -- the fields of a line that asks
 ask-fields : (digits : List ℕ) (id : ℕ) → IsNumber digits id → fields (codes "ask" ++ 32 ∷ digits) ≡ codes "ask" ∷ digits ∷ []

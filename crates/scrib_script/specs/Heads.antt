@@ -1,12 +1,11 @@
 -- Lines of exchanges before their names are read. Only contracts of private functions cite this file.
-use Rattle.std.specs.Prelude.{◌≡◌, ℕ, ◌≤◌, List, [], ◌∷◌, ◌++◌, length, IsTrue, codes}
+use Rattle.std.specs.Prelude.{◌≡◌, ℕ, ◌≤◌, List, [], ◌∷◌, ◌++◌, None, length, IsTrue, codes}
 use Rattle.std.specs.List.{list_all}
-use Rattle.scrib_script.specs.declared.reader.Act.{Act}
-use Rattle.scrib_script.specs.declared.reader.Act.TheVariants as act
+use Rattle.scrib_script.specs.declared.act.Act.{Act}
+use Rattle.scrib_script.specs.declared.act.Act.TheVariants as act
 use Rattle.scrib_types.specs.declared.message.Message.{Message}
+use Rattle.scrib_types.specs.declared.event.Event.{Event}
 use Rattle.scrib_types.specs.declared.event.Event.TheVariants as event
-use Rattle.scrib_core.specs.declared.step.Step.{Step}
-use Rattle.scrib_core.specs.declared.step.Step.TheVariants as step
 use Rattle.scrib_types.specs.Names.{is_name}
 use Rattle.scrib_types.specs.Texts.{message_text}
 use Rattle.scrib_script.specs.Fields.{IsNumber, fields, is_operator, is_dotted}
@@ -21,13 +20,34 @@ abbrev pub IsHead : List ℕ → Act → ℕ → List ℕ → Type 0
 IsHead bytes a id text =
     (length bytes ≤ 131072) × ((digits : List ℕ) × (bytes ≡ act_word a ++ 32 ∷ digits ++ 32 ∷ text) × IsNumber digits id)
 
--- the note of an act
-abbrev pub act_step : Act → ℕ → (from to : List ℕ) → Message → Step
-act_step act.Send id from to m = step.Note id (event.Sent from to m)
-act_step act.Receive id from to m = step.Note id (event.Received from to m)
+-- the event that is this act of the exchange
+abbrev pub act_event : Act → (from to : List ℕ) → Message → Event
+act_event act.Send from to m = event.Sent from to m
+act_event act.Receive from to m = event.Received from to m
 
 -- the fields of the text are these names and the message's printed text
 abbrev pub SpellsExchange : List ℕ → (from to : List ℕ) → Message → Type 0
 SpellsExchange text from to m =
     (fields text ≡ from ∷ to ∷ message_text m ∷ [])
     × IsTrue (is_name from) × IsTrue (is_name to) × IsTrue (is_operator m.op) × IsTrue (list_all is_dotted m.payload)
+
+-- who sends, who receives, and what; a join says none of this
+abbrev pub sender_of : Event → List ℕ
+sender_of (event.Join r) = []
+sender_of (event.Sent p q m) = p
+sender_of (event.Received p q m) = p
+
+abbrev pub receiver_of : Event → List ℕ
+receiver_of (event.Join r) = []
+receiver_of (event.Sent p q m) = q
+receiver_of (event.Received p q m) = q
+
+abbrev pub message_of : Event → Message
+message_of (event.Join r) = record { op = None; payload = [] }
+message_of (event.Sent p q m) = m
+message_of (event.Received p q m) = m
+
+-- the fields of the text are an exchange, of which the event is this act
+abbrev pub SpellsEvent : List ℕ → Act → Event → Type 0
+SpellsEvent text a e =
+    (e ≡ act_event a (sender_of e) (receiver_of e) (message_of e)) × SpellsExchange text (sender_of e) (receiver_of e) (message_of e)

@@ -1,6 +1,6 @@
 //! Who sends what to whom, as the fields of a line say it.
 
-ghost use Rattle.std.specs.Prelude.{◌≡◌, IfOk, map};
+ghost use Rattle.std.specs.Prelude.{IfOk, map};
 ghost use Rattle.scrib_script.specs.Fields.{Finds};
 ghost use Rattle.scrib_script.specs.Steps.{IsExchange};
 
@@ -15,20 +15,6 @@ pub(crate) struct Exchange {
     pub from: Role,
     pub to: Role,
     pub message: SharedMessage,
-}
-
-impl Exchange {
-    /// An equal exchange, which shares its names and its message.
-    #[inline(always)]
-    pub fn copy(&self) -> Result<Exchange, AllocError>
-        ensures { IfOk result (λ copy. copy ≡ self.now) }
-    {
-        Ok(Exchange {
-            from: self.from.copy()?,
-            to: self.to.copy()?,
-            message: self.message.copy()?,
-        })
-    }
 }
 
 /// The sender, the receiver and the message that the fields are, if they are these.

@@ -1,11 +1,15 @@
 //! Exchanges that were read before, by their texts.
 
-ghost use Rattle.std.specs.Prelude.{IfOk, IfSome};
-ghost use Rattle.scrib_script.specs.Heads.{SpellsExchange};
+ghost use Rattle.std.specs.Prelude.{◌≡◌, IfOk, IfSome};
+ghost use Rattle.scrib_script.specs.declared.act.Act.TheVariants.{Send, Receive};
+ghost use Rattle.scrib_script.specs.Heads.{SpellsEvent, SpellsExchange};
 
+use crate::act::Act;
 use crate::exchange::{Exchange, exchange_of};
 use crate::fields::fields_of;
 use scrib_types::bytes::same_bytes;
+use scrib_types::event::Event;
+use scrib_types::shared_event::SharedEvent;
 use std::alloc::{AllocError, Global};
 
 /// How many exchanges are kept at most, each at the slot that its text's hash names: as many as ten bits have values.
@@ -17,16 +21,29 @@ const SPREAD: u64 = 0x9e37_79b9_7f4a_7c15;
 /// The most bytes of a text that is kept.
 const MAX_KEPT_BYTES: usize = 256;
 
-/// An exchange, with a text whose fields are its sender, its receiver and its message.
+/// The two events of an exchange, with a text whose fields are its sender, its receiver and its message.
 #[derive(Drop)]
 struct Known {
     text: Vec<u8>,
-    exchange: Exchange,
-    ghost spelled: { SpellsExchange text.items exchange.from exchange.to exchange.message },
+    sent: SharedEvent,
+    received: SharedEvent,
+    ghost spelled: { SpellsEvent text.items Send sent × SpellsEvent text.items Receive received },
+}
+
+impl Known {
+    /// The event that is this act of the exchange.
+    fn event(&self, act: Act) -> &SharedEvent
+        ensures { SpellsEvent self.now.text.items act result.now }
+    {
+        match act {
+            Act::Send => &self.sent,
+            Act::Receive => &self.received,
+        }
+    }
 }
 
 /// Exchanges that were read before, by their texts. The events of a conversation repeat few texts, so that most are
-/// found here, with names and messages that all their events share.
+/// found here, made once and shared by all who note them.
 #[derive(Drop)]
 pub(crate) struct Exchanges {
     alloc: Global,
@@ -42,25 +59,27 @@ impl Exchanges {
         }
     }
 
-    /// The exchange that the text's fields are, if they are one.
-    pub fn read(&mut self, text: &[u8]) -> Result<Option<Exchange>, AllocError>
-        ensures { IfOk result (λ found. IfSome found (λ e. SpellsExchange text.now e.from e.to e.message)) }
+    /// The event that is this act of the exchange that the text's fields are, if they are one.
+    pub fn read(&mut self, act: Act, text: &[u8]) -> Result<Option<SharedEvent>, AllocError>
+        ensures { IfOk result (λ found. IfSome found (SpellsEvent text.now act)) }
     {
         let slot = slot_of(text);
-        if let Some(exchange) = self.known(slot, text)? {
-            return Ok(Some(exchange));
+        if let Some(event) = self.known(slot, act, text)? {
+            return Ok(Some(event));
         }
         let fields = fields_of(self.alloc, text)?;
         let Some(exchange) = exchange_of(self.alloc, fields.as_slice())? else {
             return Ok(None);
         };
-        self.keep(slot, text, &exchange)?;
-        Ok(Some(exchange))
+        let known = known_of(self.alloc, text, exchange)?;
+        let event = known.event(act).copy()?;
+        self.keep(slot, known)?;
+        Ok(Some(event))
     }
 
-    /// The exchange that is kept at the slot, where its text is this one.
-    fn known(&self, slot: usize, text: &[u8]) -> Result<Option<Exchange>, AllocError>
-        ensures { IfOk result (λ found. IfSome found (λ e. SpellsExchange text.now e.from e.to e.message)) }
+    /// The event that is kept at the slot, where its text is this one.
+    fn known(&self, slot: usize, act: Act, text: &[u8]) -> Result<Option<SharedEvent>, AllocError>
+        ensures { IfOk result (λ found. IfSome found (SpellsEvent text.now act)) }
     {
         let Some(Some(known)) = self.slots.get(slot) else {
             return Ok(None);
@@ -68,23 +87,17 @@ impl Exchanges {
         if !same_bytes(known.text.as_slice(), text) {
             return Ok(None);
         }
-        Ok(Some(known.exchange.copy()?))
+        Ok(Some(known.event(act).copy()?))
     }
 
     /// Keeps the exchange at the slot, unless its text is long.
-    fn keep(&mut self, slot: usize, text: &[u8], exchange: &Exchange) -> Result<(), AllocError>
-        requires { SpellsExchange text.now exchange.now.from exchange.now.to exchange.now.message }
-    {
-        if text.len() > MAX_KEPT_BYTES {
+    fn keep(&mut self, slot: usize, known: Known) -> Result<(), AllocError> {
+        if known.text.len() > MAX_KEPT_BYTES {
             return Ok(());
         }
         if self.slots.is_empty() {
             self.slots.resize_with(SLOTS, || None)?;
         }
-        let known = Known {
-            text: text.to_vec(self.alloc)?,
-            exchange: exchange.copy()?,
-        };
         if let Some(kept) = self.slots.get_mut(slot) {
             *kept = Some(known);
         }
@@ -92,19 +105,49 @@ impl Exchanges {
     }
 }
 
-/// The slot of a text. Each eight bytes, and each of the last few, cost one product, which spreads what differs in few
-/// bits.
+/// Both events of the exchange, with the text that spells it.
+fn known_of(alloc: Global, text: &[u8], exchange: Exchange) -> Result<Known, AllocError>
+    requires { SpellsExchange text.now exchange.from exchange.to exchange.message }
+    ensures { IfOk result (λ known. known.text.items ≡ text.now) }
+{
+    let Exchange { from, to, message } = exchange;
+    let sent = Event::Sent {
+        from: from.copy()?,
+        to: to.copy()?,
+        message: message.copy()?,
+    };
+    let received = Event::Received { from, to, message };
+    Ok(Known {
+        text: text.to_vec(alloc)?,
+        sent: SharedEvent::new(alloc, sent)?,
+        received: SharedEvent::new(alloc, received)?,
+    })
+}
+
+/// The slot of a text. Each eight bytes cost one product, which spreads what differs in few bits. The last eight are
+/// taken as one word also where some of them were taken before.
 fn slot_of(text: &[u8]) -> usize {
-    let mut hash = 0u64;
+    let mut hash = text.len() as u64;
     let mut rest = text;
     while let [a, b, c, d, e, f, g, h, behind @ ..] = rest {
         hash = mixed(hash, u64::from_le_bytes([*a, *b, *c, *d, *e, *f, *g, *h]));
         rest = behind;
     }
-    for byte in rest {
-        hash = mixed(hash, u64::from(*byte));
+    (mixed(hash, last_word(text)) >> 54) as usize
+}
+
+/// The last eight bytes as one number, or all of them where they are fewer.
+fn last_word(text: &[u8]) -> u64 {
+    match text.last_chunk::<8>() {
+        Some(bytes) => u64::from_le_bytes(*bytes),
+        None => few_bytes(text),
     }
-    (hash >> 54) as usize
+}
+
+/// Fewer than eight bytes as one number.
+fn few_bytes(text: &[u8]) -> u64 {
+    text.iter()
+        .fold(0, |word, byte| (word << 8) | u64::from(*byte))
 }
 
 /// The hash of what has this hash and of the word behind it.

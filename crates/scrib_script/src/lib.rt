@@ -1,6 +1,7 @@
 //! What a script spells.
 #![tactic(auto)]
 
+mod act;
 mod exchange;
 mod exchanges;
 pub mod fault;

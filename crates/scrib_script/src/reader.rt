@@ -3,25 +3,15 @@
 ghost use Rattle.std.specs.Prelude.{◌≡◌, ◌<◌, ◌++◌, ◌∷◌, ℕ, List, IfOk, IfSome, MatchOption, length, slice_index};
 ghost use Rattle.scrib_script.specs.Fields.{IsNumber};
 ghost use Rattle.scrib_script.specs.Says.{Says};
-ghost use Rattle.scrib_script.specs.declared.format.Format.TheVariants as format;
-ghost use Rattle.scrib_script.specs.declared.line.Line.TheVariants as line;
-ghost use Rattle.scrib_script.specs.Heads.{IsHead, act_word, act_step};
+ghost use Rattle.scrib_script.specs.Heads.{IsHead, act_word};
 
-use crate::exchange::Exchange;
+use crate::act::Act;
 use crate::exchanges::Exchanges;
 use crate::format::Format;
 use crate::line::{Line, MAX_LINE_BYTES, line_of};
 use crate::text::number_of;
 use scrib_core::step::Step;
-use scrib_types::event::Event;
 use std::alloc::{AllocError, Global};
-
-/// What is done with the message of an exchange.
-#[derive(Clone, Copy)]
-enum Act {
-    Send,
-    Receive,
-}
 
 /// A line of an exchange before its names are read.
 #[derive(Clone, Copy)]
@@ -59,23 +49,11 @@ impl Reader {
         let Some(head) = head_of(bytes) else {
             return line_of(self.alloc, bytes);
         };
-        match self.exchanges.read(head.text)? {
-            Some(exchange) => Ok(noted(head.act, head.id, exchange)),
-            None => line_of(self.alloc, bytes),
-        }
+        let Some(event) = self.exchanges.read(head.act, head.text)? else {
+            return line_of(self.alloc, bytes);
+        };
+        Ok(Line::Step(Format::Line, Step::Note { id: head.id, event }))
     }
-}
-
-/// The note of a send or of a reception.
-fn noted(act: Act, id: u32, exchange: Exchange) -> Line
-    ensures { result ≡ line.Step format.Line (act_step act id exchange.from exchange.to exchange.message) }
-{
-    let Exchange { from, to, message } = exchange;
-    let event = match act {
-        Act::Send => Event::Sent { from, to, message },
-        Act::Receive => Event::Received { from, to, message },
-    };
-    Line::Step(Format::Line, Step::Note { id, event })
 }
 
 /// The act and the id that a line begins with, where it is spelled with single blanks.

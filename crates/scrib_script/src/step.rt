@@ -11,6 +11,7 @@ use scrib_core::step::Step;
 use scrib_types::event::Event;
 use scrib_types::name::Name;
 use scrib_types::profile::Profile;
+use scrib_types::shared_event::SharedEvent;
 use std::alloc::{AllocError, Global};
 
 // The step that the fields make, if they make one.
@@ -120,7 +121,7 @@ fn join_of(alloc: Global, id: u32, fields: &[&[u8]]) -> Result<Option<Step>, All
     let Some(role) = Name::from_bytes(alloc, role)? else {
         return Ok(None);
     };
-    let event = Event::Join { role };
+    let event = SharedEvent::new(alloc, Event::Join { role })?;
     Ok(Some(Step::Note { id, event }))
 }
 
@@ -131,7 +132,7 @@ fn send_of(alloc: Global, id: u32, fields: &[&[u8]]) -> Result<Option<Step>, All
         return Ok(None);
     };
     let Exchange { from, to, message } = exchange;
-    let event = Event::Sent { from, to, message };
+    let event = SharedEvent::new(alloc, Event::Sent { from, to, message })?;
     Ok(Some(Step::Note { id, event }))
 }
 
@@ -142,6 +143,6 @@ fn recv_of(alloc: Global, id: u32, fields: &[&[u8]]) -> Result<Option<Step>, All
         return Ok(None);
     };
     let Exchange { from, to, message } = exchange;
-    let event = Event::Received { from, to, message };
+    let event = SharedEvent::new(alloc, Event::Received { from, to, message })?;
     Ok(Some(Step::Note { id, event }))
 }

@@ -12,8 +12,9 @@ use scrib_script::line::{Line, line_of};
 use scrib_shards::gate::OpenGate;
 use scrib_shards::pass::Pass;
 use scrib_shards::service::Service;
-use scrib_types::event::{Event, Told};
+use scrib_types::event::Told;
 use scrib_types::name::Dotted;
+use scrib_types::shared_event::SharedEvent;
 use scrib_types::text::push_bytes;
 use std::alloc::Global;
 use std::io::Write;
@@ -45,7 +46,7 @@ fn step_of(alloc: Global, text: &str) -> Result<Step, ExampleFault> {
 }
 
 // The event of a line.
-fn event_of(alloc: Global, text: &str) -> Result<Event, ExampleFault> {
+fn event_of(alloc: Global, text: &str) -> Result<SharedEvent, ExampleFault> {
     match step_of(alloc, text)? {
         Step::Note { event, .. } => Ok(event),
         _ => Err(ExampleFault::Text),

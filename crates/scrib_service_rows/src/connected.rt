@@ -8,8 +8,8 @@ use scrib_report::line::line;
 use scrib_shards::gate::OpenGate;
 use scrib_shards::pass::Pass;
 use scrib_shards::service::Service;
-use scrib_types::event::Event;
 use scrib_types::name::Dotted;
+use scrib_types::shared_event::SharedEvent;
 use std::alloc::Global;
 use std::sync::Wait;
 
@@ -62,7 +62,7 @@ impl Connected {
         }
     }
 
-    fn note(&mut self, rt: &impl Wait, id: u32, event: &Event) -> Result<Vec<u8>, RowsFault> {
+    fn note(&mut self, rt: &impl Wait, id: u32, event: &SharedEvent) -> Result<Vec<u8>, RowsFault> {
         for pass in self.passes.iter_mut() {
             if pass.conversation() == id {
                 return note_by(rt, self.alloc, &self.service, pass, event);
@@ -79,7 +79,7 @@ impl Connected {
         &mut self,
         rt: &impl Wait,
         mut pass: Pass,
-        event: &Event,
+        event: &SharedEvent,
     ) -> Result<Vec<u8>, RowsFault> {
         let answer = note_by(rt, self.alloc, &self.service, &mut pass, event);
         self.passes.push(pass)?;
@@ -115,7 +115,7 @@ fn note_by(
     alloc: Global,
     service: &Service,
     pass: &mut Pass,
-    event: &Event,
+    event: &SharedEvent,
 ) -> Result<Vec<u8>, RowsFault> {
     let answer = service.note(rt, pass, event.copy()?, &OpenGate);
     noted(alloc, pass.conversation(), answer)

@@ -9,7 +9,7 @@ use scrib_rejudge::workers::sweep;
 use scrib_shards::gate::OpenGate;
 use scrib_shards::pass::Pass;
 use scrib_shards::service::Service;
-use scrib_types::event::Event;
+use scrib_types::shared_event::SharedEvent;
 use std::alloc::Global;
 use std::sync::Wait;
 use std::thread::Threads;
@@ -20,7 +20,7 @@ fn fill(
     alloc: Global,
     service: &Service,
     pass: &mut Pass,
-    sent: &Event,
+    sent: &SharedEvent,
 ) -> Result<(), RowsFault> {
     note(rt, alloc, service, pass, "join 0 A")?;
     for _ in 2..MAX_EVENTS {
@@ -35,7 +35,7 @@ fn push_noted(
     alloc: Global,
     service: &Service,
     pass: &mut Pass,
-    sent: &Event,
+    sent: &SharedEvent,
     out: &mut Vec<u8>,
 ) -> Result<(), RowsFault> {
     let answer = service.note(rt, pass, sent.copy()?, &OpenGate);

@@ -6,9 +6,9 @@ use scrib_script::line::{Line, line_of};
 use scrib_shards::gate::OpenGate;
 use scrib_shards::pass::Pass;
 use scrib_shards::service::Service;
-use scrib_types::event::Event;
 use scrib_types::name::Dotted;
 use scrib_types::plain::Items;
+use scrib_types::shared_event::SharedEvent;
 use std::alloc::Global;
 use std::sync::Wait;
 
@@ -33,7 +33,7 @@ pub(crate) fn step_of(alloc: Global, text: &[u8]) -> Result<Step, RowsFault> {
 }
 
 /// The event that a line of a script notes.
-pub(crate) fn event_of(alloc: Global, text: &str) -> Result<Event, RowsFault> {
+pub(crate) fn event_of(alloc: Global, text: &str) -> Result<SharedEvent, RowsFault> {
     match step_of(alloc, text.as_bytes())? {
         Step::Note { event, .. } => Ok(event),
         _ => Err(RowsFault::BadRow),

@@ -7,7 +7,7 @@ ghost use Rattle.scrib_settle.specs.Tallies.{Counts, IsFirstDiffering, IsFirstDu
 
 use scrib_locked::pass::Receipt;
 use scrib_locked::standing::{is_entry, or_less};
-use scrib_types::event::Event;
+use scrib_types::shared_event::SharedEvent;
 use std::alloc::{AllocError, Global};
 
 /// Which entries of a log are still to be told, and the least place of which too much was told, or the wrong thing.
@@ -23,7 +23,7 @@ impl Tally {
     ///
     /// # Errors
     /// `AllocError` where memory was refused.
-    pub fn new(alloc: Global, log: &[Event]) -> Result<Tally, AllocError>
+    pub fn new(alloc: Global, log: &[SharedEvent]) -> Result<Tally, AllocError>
         ensures { IfOk result (λ t. Counts log.now [] t.due.items t.wrong) }
     {
         let mut due = vec![in alloc; true; log.len() + 1]?;
@@ -32,7 +32,7 @@ impl Tally {
     }
 
     /// Counts one more receipt.
-    pub fn count(&mut self, log: &[Event], receipt: &Receipt)
+    pub fn count(&mut self, log: &[SharedEvent], receipt: &Receipt)
         ensures { (told : List Receipt) → Counts log.now told self.old.due.items self.old.wrong
             → Counts log.now (told ++ receipt.now ∷ []) self.new.due.items self.new.wrong }
     {
@@ -45,7 +45,7 @@ impl Tally {
     }
 
     /// Counts more receipts.
-    pub fn count_all(&mut self, log: &[Event], receipts: &[Receipt])
+    pub fn count_all(&mut self, log: &[SharedEvent], receipts: &[Receipt])
         ensures { (told : List Receipt) → Counts log.now told self.old.due.items self.old.wrong
             → Counts log.now (told ++ receipts.now) self.new.due.items self.new.wrong }
     {

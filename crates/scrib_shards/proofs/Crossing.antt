@@ -37,6 +37,7 @@ use Rattle.scrib_types.proofs.message.Message.TheSendSync as Messages
 use Rattle.scrib_types.proofs.message.Payload.TheSendSync as Payloads
 use Rattle.scrib_types.proofs.name.Dotted.TheSendSync as Dotteds
 use Rattle.scrib_types.proofs.name.Name.TheSendSync as Names
+use Rattle.scrib_types.proofs.shared_event.SharedEvent.TheSendSync as SharedEvents
 use Rattle.scrib_types.proofs.shared_message.SharedMessage.TheSendSync as SharedMessages
 use Rattle.scrib_types.proofs.spot.Spot.TheSendSync as Spots
 use Rattle.scrib_parser.proofs.tree.Import.TheSendSync as Imports
@@ -138,6 +139,8 @@ ruleset plain = (
   Dotteds.the_sync,
   Names.the_send,
   Names.the_sync,
+  SharedEvents.the_send,
+  SharedEvents.the_sync,
   SharedMessages.the_send,
   SharedMessages.the_sync,
   Spots.the_field_send,

@@ -19,9 +19,10 @@ use scrib_locked::several::note_all_by_pass;
 use scrib_locked::shard::Shard;
 use scrib_locked::stepping::{Noted, open_step, turn_step};
 use scrib_settle::shares::MAX_SHARDS;
-use scrib_types::event::{Event, Told};
+use scrib_types::event::Told;
 use scrib_types::name::Dotted;
 use scrib_types::profile::Profile;
+use scrib_types::shared_event::SharedEvent;
 use std::alloc::Global;
 use std::sync::{Mutex, Wait};
 
@@ -177,7 +178,7 @@ impl Service {
         &self,
         rt: &impl Wait,
         pass: &mut Pass,
-        event: Event,
+        event: SharedEvent,
         gate: &G,
     ) -> Result<Noted, PassRefusal>
         ensures ok { IfOk result (IsNotedSome pass.old event) }
@@ -201,7 +202,7 @@ impl Service {
         &self,
         rt: &impl Wait,
         pass: &mut Pass,
-        events: Vec<Event>,
+        events: Vec<SharedEvent>,
         room: Vec<PassAnswer>,
         gate: &G,
     ) -> Vec<PassAnswer>

@@ -6,6 +6,7 @@ use scrib_types::local::Local;
 use scrib_types::message::{Message, Payload};
 use scrib_types::name::{Dotted, Name};
 use scrib_types::plain::{Boxed, Items};
+use scrib_types::shared_event::SharedEvent;
 use scrib_types::shared_message::SharedMessage;
 use scrib_types::text::{push_action, push_number};
 use std::alloc::Global;
@@ -127,8 +128,9 @@ fn the_copy_of_an_event_has_its_subject(rt: HostRuntime) -> Result<(), Fail> {
     let from = name(rt.alloc(), b"A")?;
     let to = name(rt.alloc(), b"B")?;
     let message = message(rt.alloc())?;
-    let event = Event::Received { from, to, message };
+    let event = SharedEvent::new(rt.alloc(), Event::Received { from, to, message })?;
     let copied = event.copy()?;
-    assert!(rt; copied.subject().as_bytes() == b"B".as_slice());
+    assert!(rt; copied.get().subject().as_bytes() == b"B".as_slice());
+    assert!(rt; copied.equal(&event));
     Ok(())
 }

@@ -1,7 +1,10 @@
--- The flat form of a message tells apart what it is made of.
+-- The flat form of a message, or of an event, tells apart what it is made of.
 use Rattle.std.proofs.Common.{◌≡◌, ◌↔◌, IsTrue, Bool, ℕ, zero, suc, ◌/◌, ◌%◌, ◌<◌, List, [], ◌∷◌, ◌++◌, length, replicate, Some, None, refl, sym, ap, ◌∙◌, append_assoc, arith}
 use Rattle.scrib_types.specs.declared.message.Message.{Message}
+use Rattle.scrib_types.specs.declared.event.Event.{Event}
+use Rattle.scrib_types.specs.declared.event.Event.TheVariants as event
 use Rattle.scrib_types.specs.Flat.{number_bytes, name_bytes, names_bytes, payload_bytes, operator_bytes, message_bytes}
+use Rattle.scrib_types.specs.FlatEvents.{event_bytes}
 
 -- what begins with the bytes of something can be read in one way only
 abbrev pub IsReadOnce : {A : Type 0} → (A → List ℕ) → Type 0
@@ -93,4 +96,39 @@ pub same_message : (r : Bool) (x y : List ℕ) (m n : Message) → (IsTrue r ↔
 same_message r x y m n t p q = (
   λ h. message_bytes-injective m n (sym p ∙ t.0 h ∙ q),
   λ h. t.1 (p ∙ ap message_bytes h ∙ sym q),
+)
+
+exchanged : (p q a b : List ℕ) (m n : Message) (s t : List ℕ) → (name_bytes p ++ name_bytes q ++ message_bytes m) ++ s ≡ (name_bytes a ++ name_bytes b ++ message_bytes n) ++ t → (p ≡ a) × (q ≡ b) × (m ≡ n) × (s ≡ t)
+exchanged p q a b m n s t e =
+    let k = sym (append_assoc (name_bytes p ++ name_bytes q) (message_bytes m) s) ∙ e ∙ append_assoc (name_bytes a ++ name_bytes b) (message_bytes n) t in
+    let h = after name_bytes name_bytes named named p a q b (message_bytes m ++ s) (message_bytes n ++ t) k in
+    let j = messages m n s t h.2 in
+    (h.0, h.1, j.0, j.1)
+
+pub events : IsReadOnce event_bytes
+events (event.Join r) (event.Join x) s t e =
+    let k : name_bytes r ++ s ≡ name_bytes x ++ t = cc in
+    let h = named r x s t k in (ap event.Join h.0, h.1)
+events (event.Join r) (event.Sent a b n) s t e = absurd (cc)
+events (event.Join r) (event.Received a b n) s t e = absurd (cc)
+events (event.Sent p q m) (event.Join x) s t e = absurd (cc)
+events (event.Sent p q m) (event.Sent a b n) s t e =
+    let k : (name_bytes p ++ name_bytes q ++ message_bytes m) ++ s ≡ (name_bytes a ++ name_bytes b ++ message_bytes n) ++ t = cc in
+    let h = exchanged p q a b m n s t k in (λ i. event.Sent (h.0 i) (h.1 i) (h.2 i), h.3)
+events (event.Sent p q m) (event.Received a b n) s t e = absurd (cc)
+events (event.Received p q m) (event.Join x) s t e = absurd (cc)
+events (event.Received p q m) (event.Sent a b n) s t e = absurd (cc)
+events (event.Received p q m) (event.Received a b n) s t e =
+    let k : (name_bytes p ++ name_bytes q ++ message_bytes m) ++ s ≡ (name_bytes a ++ name_bytes b ++ message_bytes n) ++ t = cc in
+    let h = exchanged p q a b m n s t k in (λ i. event.Received (h.0 i) (h.1 i) (h.2 i), h.3)
+
+-- one flat form, one event
+pub event_bytes-injective : (d e : Event) → event_bytes d ≡ event_bytes e → d ≡ e
+event_bytes-injective d e h = (events d e [] [] (ap (λ x. x ++ []) h)).0
+
+-- a test of flat forms is one of events
+pub same_event : (r : Bool) (x y : List ℕ) (d e : Event) → (IsTrue r ↔ (x ≡ y)) → x ≡ event_bytes d → y ≡ event_bytes e → IsTrue r ↔ (d ≡ e)
+same_event r x y d e t p q = (
+  λ h. event_bytes-injective d e (sym p ∙ t.0 h ∙ q),
+  λ h. t.1 (p ∙ ap event_bytes h ∙ sym q),
 )

@@ -9,6 +9,7 @@ pub mod GlobalBack
 pub mod LocalBack
 pub mod Texts
 pub mod Flat
+pub mod FlatEvents
 pub mod Nodes
 pub mod Projection
 pub mod Profiles

@@ -1,12 +1,11 @@
 //! What roles do, what is recorded of it, and what is judged of the record.
 
-ghost use Rattle.std.specs.Prelude.{◌≡◌, IfOk};
+ghost use Rattle.std.specs.Prelude.{◌≡◌};
 ghost use Rattle.scrib_types.specs.Logs.{subject_of};
 
 use crate::allowed::Allowed;
 use crate::name::Role;
 use crate::shared_message::SharedMessage;
-use std::alloc::AllocError;
 
 /// What one role may do next: join, send a message to another role, or receive one from it.
 #[derive(Drop)]
@@ -44,33 +43,6 @@ impl Event {
             Event::Join { role } => role,
             Event::Sent { from, .. } => from,
             Event::Received { to, .. } => to,
-        }
-    }
-
-    /// The same event once more.
-    ///
-    /// # Errors
-    /// `AllocError` where the count of those who share a name or the message can't rise.
-    pub fn copy(&self) -> Result<Event, AllocError>
-        ensures { IfOk result (λ event. event ≡ self.now) }
-    {
-        match self {
-            Event::Join { role } => {
-                let role = role.copy()?;
-                Ok(Event::Join { role })
-            }
-            Event::Sent { from, to, message } => {
-                let from = from.copy()?;
-                let to = to.copy()?;
-                let message = message.copy()?;
-                Ok(Event::Sent { from, to, message })
-            }
-            Event::Received { from, to, message } => {
-                let from = from.copy()?;
-                let to = to.copy()?;
-                let message = message.copy()?;
-                Ok(Event::Received { from, to, message })
-            }
         }
     }
 }

@@ -12,6 +12,7 @@ pub mod message;
 pub mod name;
 pub mod profile;
 pub mod protocol;
+pub mod shared_event;
 pub mod shared_message;
 pub mod spot;
 pub mod text;

@@ -2,7 +2,7 @@
 
 use crate::fault::RowsFault;
 use crate::making::event_of;
-use scrib_types::event::Event;
+use scrib_types::shared_event::SharedEvent;
 use std::alloc::{AllocError, Global};
 
 /// How many events each log is given at most.
@@ -11,12 +11,12 @@ pub(crate) const PER_LOG: usize = 65_536;
 /// The events of a log.
 #[derive(Drop)]
 pub(crate) struct Events {
-    joins: [Event; 2],
-    exchange: [Event; 2],
+    joins: [SharedEvent; 2],
+    exchange: [SharedEvent; 2],
 }
 
 // The events that the two lines note.
-fn pair_of(alloc: Global, first: &str, second: &str) -> Result<[Event; 2], RowsFault> {
+fn pair_of(alloc: Global, first: &str, second: &str) -> Result<[SharedEvent; 2], RowsFault> {
     let first = event_of(alloc, first)?;
     Ok([first, event_of(alloc, second)?])
 }
@@ -29,7 +29,7 @@ impl Events {
     }
 
     /// The event of this place, from 0.
-    pub(crate) fn at(&self, place: usize) -> Result<Event, AllocError> {
+    pub(crate) fn at(&self, place: usize) -> Result<SharedEvent, AllocError> {
         if place < 2 {
             self.joins[place].copy()
         } else {

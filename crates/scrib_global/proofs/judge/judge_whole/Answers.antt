@@ -1,5 +1,6 @@
-use Rattle.std.proofs.Common.{Some, None, ◌∙◌, subst, sym, take}
+use Rattle.std.proofs.Common.{Some, None, ap, ◌∙◌, subst, sym, take}
 use Rattle.scrib_types.specs.Judgement.{AreAllowed}
+use Rattle.scrib_types.specs.Logs.{subject_of}
 use Rattle.scrib_types.specs.Meaning.{agreement_of}
 use Rattle.scrib_global.specs.Offences.{FirstOffence}
 use Rattle.scrib_global.proofs.Judged.{run_verdict, offence_verdict, is_offence}
@@ -15,7 +16,7 @@ pub returns-in_ok-allowed-in-Some-clause-verdict : goal.returns-in_ok-allowed-in
 returns-in_ok-allowed-in-Some-clause-verdict c =
     let a = agreement_of c.args.protocol.now in
     let first : FirstOffence a c.args.log.now (Some c.in-Some.at) = subst (FirstOffence a c.args.log.now) c.in-Some.is c.in_ok-first_offence.ensures in
-    is_offence a c.args.log.now c.in-Some.at c.index-log-at.result c.in_ok-role-in-Some.role c.in_ok-allowed-in-Some.allowed first c.index-log-at.is (c.in_ok-role-in-Some.ensures ∙ c.subject.ensures)
+    is_offence a c.args.log.now c.in-Some.at c.index-log-at.result c.in_ok-role-in-Some.role c.in_ok-allowed-in-Some.allowed first c.index-log-at.is (c.in_ok-role-in-Some.ensures ∙ c.subject.ensures ∙ ap subject_of c.get.ensures)
     (subst (AreAllowed a (take c.in-Some.at c.args.log.now) c.in_ok-role-in-Some.role) (sym c.in_ok-allowed-in-Some.ensures) c.in_ok-list-in-Some.ensures)
 
 pub returns-in_ok-allowed-in-Some-clause-runs : goal.returns-in_ok-allowed-in-Some-clause-runs

@@ -1,0 +1,12 @@
+-- The flat form of events: bytes by which two events are compared (this project's own).
+-- Each event has bytes of its own, which no other begins with.
+use Rattle.std.specs.Prelude.{ℕ, List, ◌∷◌, ◌++◌}
+use Rattle.scrib_types.specs.declared.event.Event.{Event}
+use Rattle.scrib_types.specs.declared.event.Event.TheVariants as event
+use Rattle.scrib_types.specs.Flat.{name_bytes, message_bytes}
+
+-- what happened by a number, then the roles, and then the message
+abbrev pub event_bytes : Event → List ℕ
+event_bytes (event.Join r) = 0 ∷ name_bytes r
+event_bytes (event.Sent p q m) = (1 ∷ name_bytes p) ++ name_bytes q ++ message_bytes m
+event_bytes (event.Received p q m) = (2 ∷ name_bytes p) ++ name_bytes q ++ message_bytes m
