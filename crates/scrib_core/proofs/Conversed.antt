@@ -183,18 +183,20 @@ left_by_other_turn id i events m other = (λ same. absurd (other same), λ apart
 turned_known : (h : Holdings) (r : Recorded) (present : Option Version) → AreNumbered h → IsPresent h r.name present → AreOfOneStamp present r.held → IsKnown h r
 turned_known h r present numbered here held = record {
   used = λ v e. (by v present here (subst (AreOfOneStamp present) e held)).0;
-  means = λ v e there. (by v present here (subst (AreOfOneStamp present) e held)).1;
+  named = λ v e name there. numbered.once name r.name (number_of v) there (by v present here (subst (AreOfOneStamp present) e held)).1;
+  means = λ v e there. (by v present here (subst (AreOfOneStamp present) e held)).2;
 }
   where
-    by : (v : Version) (p : Option Version) → IsPresent h r.name p → AreOfOneStamp p (Some v) → (number_of v < h.used) × Means h.modules r.name (meaning_of v)
+    by : (v : Version) (p : Option Version) → IsPresent h r.name p → AreOfOneStamp p (Some v) → (number_of v < h.used) × HasNumber h r.name (number_of v) × Means h.modules r.name (meaning_of v)
     by v None i q = absurd q
     by v (Some p) i q =
         let below : number_of p < h.used = numbered.below r.name (number_of p) i.number in
-        (subst (λ (n : ℕ). n < h.used) q.0 below, subst (Means h.modules r.name) q.1 i.meaning)
+        (subst (λ (n : ℕ). n < h.used) q.0 below, subst (HasNumber h r.name) q.0 i.number, subst (Means h.modules r.name) q.1 i.meaning)
 
 noted_known : (h : Holdings) (r s : Recorded) → s.name ≡ r.name → s.held ≡ r.held → IsKnown h r → IsKnown h s
 noted_known h r s name held known = record {
   used = λ v e. known.used v (sym held ∙ e);
+  named = λ v e n there. known.named v (sym held ∙ e) n there ∙ sym name;
   means = λ v e there. subst (λ (n : List (List ℕ)). Means h.modules n (meaning_of v)) (sym name) (known.means v (sym held ∙ e) (subst (λ (n : List (List ℕ)). HasNumber h n (number_of v)) name there));
 }
 

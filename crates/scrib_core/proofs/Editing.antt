@@ -51,6 +51,9 @@ module _ (h k : Holdings) (before : AreNumbered h) (after : AreNumbered k) (stam
     pub known_after : MeansOnce h.modules → IsKnown k r
     known_after once = record {
       used = λ v e. let u = known.used v e in omega (arith, u, grows);
+      named = λ v e name there.
+          let s = stood name (number_of v) (known.used v e) there in
+          known.named v e name s.2.number;
       means = λ v e there.
           let s = stood r.name (number_of v) (known.used v e) there in
           let was : Means h.modules r.name (meaning_of v) = known.means v e s.2.number in
@@ -236,7 +239,7 @@ under p h = record { profile = p; modules = h.modules; stamps = h.stamps; used =
 
 module _ (h : Holdings) (rs : Records) (numbered : AreNumbered h) (once : MeansOnce h.modules) (known : AreKnown h rs) where
   known_under : (p : Profile) → AreKnown (under p h) rs
-  known_under p id r e = let k = known id r e in record { used = k.used; means = k.means }
+  known_under p id r e = let k = known id r e in record { used = k.used; named = k.named; means = k.means }
 
   profile_made : (p : Profile) → AllProject p h.modules → Makes h rs (step.Profile p) (reply.Profiled p) (under p h) rs
   profile_made p projected = record {

@@ -19,7 +19,7 @@ use Rattle.scrib_core.specs.declared.reply.Refusal.{Refusal}
 use Rattle.scrib_core.specs.declared.reply.Refusal.TheVariants.{AlreadyOpen, UnknownProtocol, TooManyConversations, NoConversation, Edit, LogFull, OutOfMemory}
 use Rattle.scrib_core.specs.declared.reply.Reply.{Reply}
 use Rattle.scrib_core.specs.declared.reply.Reply.TheVariants as reply
-use Rattle.scrib_core.specs.Held.{Records, record_at, AreKnown}
+use Rattle.scrib_core.specs.Held.{Records, record_at, IsKnown, AreKnown}
 
 -- the version that the library has by the name, or none
 pub record IsPresent (h : Holdings) (name : List (List ℕ)) (present : Option Version) : Type 0 where
@@ -31,6 +31,11 @@ pub record IsPresent (h : Holdings) (name : List (List ℕ)) (present : Option V
 abbrev pub ServesBeside : Comparison → Holdings → Records → Type 0
 ServesBeside Whole h rs = Unit {0}
 ServesBeside Numbers h rs = AreKnown h rs × MeansOnce h.modules
+
+-- so it does for the version of this record
+abbrev pub ServesRecord : Comparison → Holdings → Recorded → Type 0
+ServesRecord Whole h r = Unit {0}
+ServesRecord Numbers h r = IsKnown h r
 
 -- the library has the protocol, no conversation of the id is open, and fewer than `most` are: one is added
 pub record IsOpened (most : ℕ) (h : Holdings) (old : Records) (id : ℕ) (name : List (List ℕ)) (new : Records) : Type 0 where

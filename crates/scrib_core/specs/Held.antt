@@ -74,10 +74,11 @@ state h rs = record { world = world_of h rs; marks = marks_of h rs }
 abbrev pub state_of : Held → State
 state_of c = state c.library c.records
 
--- The version that the record holds was used before, and where its number is that of its name now, the name means what
--- the version does.
+-- The version that the record holds was used before, and where its number is that of a name now, the name is the record's
+-- and means what the version does.
 pub record IsKnown (h : Holdings) (r : Recorded) : Type 0 where
   pub used : (v : Version) → r.held ≡ Some v → number_of v < h.used
+  pub named : (v : Version) → r.held ≡ Some v → (name : List (List ℕ)) → HasNumber h name (number_of v) → name ≡ r.name
   pub means : (v : Version) → r.held ≡ Some v → HasNumber h r.name (number_of v) → Means h.modules r.name (meaning_of v)
 
 -- so it is of each record

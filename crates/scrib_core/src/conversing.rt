@@ -2,7 +2,8 @@
 
 ghost use Rattle.std.specs.Prelude.{◌≡◌, IfOk};
 ghost use Rattle.scrib_record.specs.Turns.{new_record};
-ghost use Rattle.scrib_core.specs.Conversing.{AnswersOpen, AnswersNote, AnswersTurn, AnswersAsk, ServesBeside};
+ghost use Rattle.std.specs.Option.{option_copied};
+ghost use Rattle.scrib_core.specs.Conversing.{AnswersOpen, AnswersNote, AnswersTurn, AnswersAsk, IsPresent, ServesBeside, ServesRecord};
 
 use crate::reply::{Refusal, Reply};
 use crate::telling::told_of;
@@ -65,7 +66,7 @@ pub fn note(
     let Some(record) = records.get_mut(&id) else {
         return Reply::Refused(Refusal::NoConversation);
     };
-    let (near, present) = library.present_near(record.near(), record.name());
+    let (near, present) = present_of(library, record, comparison);
     match record.note(present, comparison, event) {
         Ok(told) => {
             record.keep_near(near);
@@ -78,6 +79,26 @@ pub fn note(
         Err(NoteFault::LogFull) => Reply::Refused(Refusal::LogFull),
         Err(NoteFault::OutOfMemory) => Reply::Refused(Refusal::OutOfMemory),
     }
+}
+
+// The present version of the record's protocol, if it has one, behind a place where it may be looked for first the next
+// time. Where numbers serve, one that stands where it stood last and has the number that the record holds is it, and no
+// name is compared.
+#[inline(always)]
+fn present_of<'a>(
+    library: &'a Library,
+    record: &Record,
+    comparison: Comparison,
+) -> (usize, Option<&'a Version>)
+    requires { ServesRecord comparison library.now record.now }
+    ensures { IsPresent library.now record.now.name (option_copied result.1) }
+{
+    if let (Comparison::Numbers, Some(number)) = (comparison, record.held_number()) {
+        if let Some(version) = library.numbered_at(record.near(), number) {
+            return (record.near(), Some(version));
+        }
+    }
+    library.present_near(record.near(), record.name())
 }
 
 /// Judges up to 256 further events of a conversation whose verdict is out of date. Answers `Judged`, or refuses with

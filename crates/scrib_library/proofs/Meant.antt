@@ -2,7 +2,7 @@
 use Rattle.std.proofs.Common.{◌≡◌, ℕ, ◌<◌, true, List, length, get_or, Option, Some, None, refl, sym, ap, ◌∙◌, subst, arith}
 use Rattle.std.specs.List.{Contains, AllPairs}
 use Rattle.std.specs.Borrow.{Bor}
-use Rattle.std.specs.Option.{option_map, option_copied}
+use Rattle.std.specs.Option.{IfSome, option_map, option_copied}
 use Rattle.std.specs.Str.{bytes_eq}
 use Rattle.std.proofs.lemmas.Bool.{and_parts}
 use Rattle.std.proofs.lemmas.List.{same_from_push, length-map, get_or-map}
@@ -22,10 +22,10 @@ use Rattle.scrib_library.specs.declared.changes.ChangeKind.{ChangeKind}
 use Rattle.scrib_library.specs.declared.changes.ChangeKind.TheVariants.{Added, Replaced, Withdrawn}
 use Rattle.scrib_library.specs.declared.changes.Change.{Change}
 use Rattle.scrib_library.specs.Modules.{full_name, name_of, Means, IsMeaning, DeclaredMeans}
-use Rattle.scrib_library.specs.Holdings.{Stamp, Holdings, HasNumber, IsNumber, AreNumbered}
+use Rattle.scrib_library.specs.Holdings.{Stamp, Holdings, HasNumber, IsNumber, IsStamp, AreNumbered}
 use Rattle.scrib_library.specs.Listed.{name_cmp, AreInOrder}
 use Rattle.scrib_library.specs.Edits.{Changes, NamedBefore}
-use Rattle.scrib_library.specs.Stored.{version_names, stamps_of, HasVersion, IsVersion, AreVersions, AreCounted, AreNames, IsSpelled}
+use Rattle.scrib_library.specs.Stored.{version_names, stamps_of, HasVersion, IsVersion, IsStored, AreVersions, AreCounted, AreNames, IsSpelled}
 use Rattle.scrib_library.specs.Drafts.{change_names}
 use Rattle.scrib_library.proofs.Lists.{Contains-map, Contains-map_back}
 use Rattle.scrib_library.proofs.Orders.{once, get_or_any}
@@ -184,3 +184,8 @@ answered_now ms vs h n (Some v) p = answered ms vs h n (Some v.now) p
 pub numbered_now : (profile : Profile) (ms : List ModuleTree) (vs : List NamedVersion) (used : ℕ) (n : List (List ℕ)) (r : Option (Bor Version)) → IsVersion vs n (option_copied r) → IsNumber (holdings profile ms vs used) n (option_map (λ v. number_of v.now) r)
 numbered_now profile ms vs used n None p = numbered_answer profile ms vs used n None p
 numbered_now profile ms vs used n (Some v) p = numbered_answer profile ms vs used n (Some v.now) p
+
+-- a version that is stored is a name's
+pub stamp_now : (profile : Profile) (ms : List ModuleTree) (vs : List NamedVersion) (used : ℕ) → AreVersions ms vs → (r : Option (Bor Version)) → IfSome r (λ v. IsStored vs v.now) → IfSome r (λ v. IsStamp (holdings profile ms vs used) (meaning_of v.now) (number_of v.now))
+stamp_now profile ms vs used h None p = tt
+stamp_now profile ms vs used h (Some v) p = (p.0, record { meaning = answered ms vs h p.0 (Some v.now) p.1; number = numbered_answer profile ms vs used p.0 (Some v.now) p.1 })

@@ -40,6 +40,10 @@ pub record HasStamp (h : Holdings) (name : List (List ℕ)) (a : Agreement) (k :
   pub meaning : Means h.modules name a
   pub number : HasNumber h name k
 
+-- a name means this, and this is the number of its version
+abbrev pub IsStamp : Holdings → Agreement → ℕ → Type 0
+IsStamp h a k = (name : List (List ℕ)) × HasStamp h name a k
+
 -- Exactly the names that mean something have numbers, each one. No two names have the same, and each number is below
 -- the count of used versions, which is at most 65,536.
 pub record AreNumbered (h : Holdings) : Type 0 where

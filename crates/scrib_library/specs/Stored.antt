@@ -22,6 +22,10 @@ stamps_of vs = map (λ (v : NamedVersion). record { name = v.name; number = numb
 abbrev pub HasVersion : List NamedVersion → List (List ℕ) → Version → Type 0
 HasVersion vs name w = Contains vs (record { name = name; version = w })
 
+-- the version is a name's
+abbrev pub IsStored : List NamedVersion → Version → Type 0
+IsStored vs w = (name : List (List ℕ)) × HasVersion vs name w
+
 -- the version of the name, if it has one
 abbrev pub IsVersion : List NamedVersion → List (List ℕ) → Option Version → Type 0
 IsVersion vs name None = (w : Version) → HasVersion vs name w → ⊥

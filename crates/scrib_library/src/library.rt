@@ -1,11 +1,11 @@
 //! The library of accepted modules.
 
-ghost use Rattle.std.specs.Prelude.{◌≡◌, IfOk, IfErr, OnOk, OnErr};
+ghost use Rattle.std.specs.Prelude.{◌≡◌, IfOk, IfErr, IfSome, OnOk, OnErr};
 ghost use Rattle.std.specs.Option.{option_map};
 ghost use Rattle.scrib_parser.specs.declared.tree.ModuleTree as parsed;
 ghost use Rattle.scrib_record.specs.Versions.{meaning_of, number_of};
 ghost use Rattle.scrib_library.specs.Modules.{IsMeaning, AllProject, MeansProtocols, MeansOnce};
-ghost use Rattle.scrib_library.specs.Holdings.{no_holdings, no_holdings_under, IsNumber, AreNumbered};
+ghost use Rattle.scrib_library.specs.Holdings.{no_holdings, no_holdings_under, IsNumber, IsStamp, AreNumbered};
 ghost use Rattle.scrib_library.specs.Edits.{IsPut, IsChanges, AreVersionsUsed, PutFails, IsWithdrawal, AreWithdrawn, WithdrawFails};
 ghost use Rattle.scrib_library.specs.Profiles.{ProfileFails};
 
@@ -17,7 +17,7 @@ use crate::profiles::check_change;
 use crate::read::read;
 use crate::removal::free_place;
 use crate::shelf::Shelf;
-use crate::versions::{NamedVersion, found_near, make_all, version_near};
+use crate::versions::{NamedVersion, found_near, make_all, numbered_at, version_near};
 use scrib_parser::recent::Recent;
 use scrib_record::version::Version;
 use scrib_types::name::Dotted;
@@ -203,6 +203,15 @@ impl Library {
         ensures number { IsNumber self.now name.now (option_map (λ v. number_of v.now) result.1) }
     {
         found_near(&self.versions, near, name)
+    }
+
+    /// The version that stands at this place, where it has this number. It is that of a name's protocol, which isn't
+    /// compared: who knows whose number it is needn't look the name up.
+    pub fn numbered_at(&self, place: usize, number: u32) -> Option<&Version>
+        ensures numbered { IfSome result (λ version. number_of version.now ≡ number) }
+        ensures stamp { IfSome result (λ version. IsStamp self.now (meaning_of version.now) (number_of version.now)) }
+    {
+        numbered_at(&self.versions, place, number)
     }
 
     /// The name, in the library's own copy where it declares a protocol of this name, so that all who keep it share

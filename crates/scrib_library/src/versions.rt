@@ -1,9 +1,10 @@
 //! The stored versions, by full name, and edits of them.
 
-ghost use Rattle.std.specs.Prelude.{◌≡◌, ◌+◌, ◌<◌, ◌≤◌, IfOk, IfErr, vec_len, vec_capacity};
+ghost use Rattle.std.specs.Prelude.{◌≡◌, ◌+◌, ◌<◌, ◌≤◌, IfOk, IfErr, IfSome, vec_len, vec_capacity};
 ghost use Rattle.std.specs.Option.{option_copied};
 ghost use Rattle.scrib_library.specs.Listed.{AreInOrder, IsAt, IsGap};
-ghost use Rattle.scrib_library.specs.Stored.{version_names, IsVersion};
+ghost use Rattle.scrib_record.specs.Versions.{number_of};
+ghost use Rattle.scrib_library.specs.Stored.{version_names, IsVersion, IsStored};
 ghost use Rattle.scrib_library.specs.Drafts.{edit_names, IsMade, AreMade};
 
 use crate::changes::ChangeKind;
@@ -54,6 +55,19 @@ pub fn found_near<'a>(
     match place_near(versions, near, name) {
         Ok(at) => (at, Some(&versions[at].version)),
         Err(at) => (at, None),
+    }
+}
+
+/// The version at this place, where it has this number.
+pub fn numbered_at(versions: &[NamedVersion], place: usize, number: u32) -> Option<&Version>
+    ensures numbered { IfSome result (λ version. number_of version.now ≡ number) }
+    ensures stored { IfSome result (λ version. IsStored versions.now version.now) }
+{
+    let named = versions.get(place)?;
+    if named.version.number() == number {
+        Some(&named.version)
+    } else {
+        None
     }
 }
 

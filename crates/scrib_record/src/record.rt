@@ -1,10 +1,11 @@
 //! Records of conversations.
 
 ghost use Rattle.std.specs.Prelude.{◌≡◌, ◌<◌, IfOk, IfErr, OnErr, OnOk, length};
-ghost use Rattle.std.specs.Option.{option_copied};
+ghost use Rattle.std.specs.Option.{option_copied, option_map};
 ghost use Rattle.scrib_record.specs.Comparisons.{ServesFor};
 ghost use Rattle.scrib_record.specs.Stale.{Recorded, IsLawful};
 ghost use Rattle.scrib_record.specs.Turns.{new_record};
+ghost use Rattle.scrib_record.specs.Versions.{number_of};
 ghost use Rattle.scrib_record.specs.Told.{IsAnswer, IsNoted, IsTurned, NoteFails};
 
 use crate::answer::Answer;
@@ -70,6 +71,16 @@ impl Record {
         ensures { result.now ≡ self.now.name }
     {
         &self.name
+    }
+
+    /// The number of the version that the events are judged under, or none where they are judged withdrawn.
+    pub fn held_number(&self) -> Option<u32>
+        ensures { result ≡ option_map number_of self.now.held }
+    {
+        match &self.judging.held {
+            Some(version) => Some(version.number()),
+            None => None,
+        }
     }
 
     /// The place that was kept last, or 0: a hint for who looks the version of the protocol up, on which nothing rests.

@@ -2,17 +2,19 @@ use Rattle.std.proofs.Common.{◌≡◌, ℕ, List, Some, sym, ap, subst, ◌∙
 use Rattle.std.specs.Option.{option_copied, option_copied_mut}
 use Rattle.scrib_record.specs.Told.{NoteFails}
 use Rattle.scrib_core.specs.Held.{record_at}
-use Rattle.scrib_core.specs.Conversing.{IsPresent}
-use Rattle.scrib_core.proofs.Comparing.{serves_for}
+use Rattle.scrib_core.proofs.Comparing.{serves_for, serves_record}
 use Rattle.scrib_core.proofs.Kept.{kept}
-use Rattle.scrib_core.proofs.Told.{present_copied}
 use Rattle.scrib_core.proofs.conversing.note.Goals as goal
+
+pub present_of-near-requires : goal.present_of-near-requires
+present_of-near-requires c =
+    let there : record_at c.args.records.now.entries c.args.id ≡ Some c.in-Some.record.now = sym c.get_mut.ensures.value ∙ ap option_copied_mut c.in-Some.is in
+    serves_record c.args.comparison c.args.library.now c.args.records.now.entries c.args.id c.in-Some.record.now c.requires there
 
 pub note-requires : goal.note-requires
 note-requires c =
     let there : record_at c.args.records.now.entries c.args.id ≡ Some c.in-Some.record.now = sym c.get_mut.ensures.value ∙ ap option_copied_mut c.in-Some.is in
-    let here = subst (λ (n : List (List ℕ)). IsPresent c.args.library.now n (option_copied c.present_near-near.result.1)) c.name.ensures (present_copied c.args.library.now c.name.result.now c.present_near-near.result.1 c.present_near-near.ensures.meaning c.present_near-near.ensures.number) in
-    serves_for c.args.comparison c.args.library.now c.args.records.now.entries c.args.id c.in-Some.record.now (option_copied c.present_near-near.result.1) c.requires there here
+    serves_for c.args.comparison c.args.library.now c.args.records.now.entries c.args.id c.in-Some.record.now (option_copied c.present_of-near.result.1) c.requires there c.present_of-near.ensures
 
 pub returns-in-Err-LogFull : goal.returns-in-Err-LogFull
 returns-in-Err-LogFull c =
