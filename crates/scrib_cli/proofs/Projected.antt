@@ -22,7 +22,7 @@ use Rattle.scrib_parser.specs.declared.fault.ParseFault.{ParseFault}
 use Rattle.scrib_parser.specs.declared.fault.ParseFault.TheVariants as parse
 use Rattle.scrib_parser.specs.declared.tree.ModuleTree.{ModuleTree}
 use Rattle.scrib_parser.specs.Grammar.{IsFaultOf}
-use Rattle.scrib_elaborate.specs.Elaboration.{Elaborates, nodes, branch_nodes}
+use Rattle.scrib_modules.specs.Elaboration.{Elaborates, nodes, branch_nodes}
 use Rattle.scrib_elaborate.specs.Sound.{is_sound}
 use Rattle.scrib_library.specs.declared.fault.EditFault.{EditFault}
 use Rattle.scrib_library.specs.declared.fault.EditFault.TheVariants as edit

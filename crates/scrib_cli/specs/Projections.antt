@@ -10,10 +10,10 @@ use Rattle.scrib_types.specs.declared.local.Local.{Local}
 use Rattle.scrib_lexer.specs.Lexeme.{Lexeme}
 use Rattle.scrib_lexer.specs.Tokens.{IsTokens}
 use Rattle.scrib_parser.specs.declared.tree.ModuleTree.{ModuleTree}
-use Rattle.scrib_elaborate.specs.declared.fault.Fault.{Fault}
-use Rattle.scrib_elaborate.specs.Names.{with_module}
-use Rattle.scrib_elaborate.specs.Elaboration.{Elaborates}
-use Rattle.scrib_elaborate.specs.Faults.{IsBroken}
+use Rattle.scrib_modules.specs.declared.fault.Fault.{Fault}
+use Rattle.scrib_modules.specs.Names.{with_module}
+use Rattle.scrib_modules.specs.Elaboration.{Elaborates}
+use Rattle.scrib_modules.specs.Faults.{IsBroken}
 use Rattle.scrib_project.specs.declared.fault.Unmergeable.{Unmergeable}
 use Rattle.scrib_project.specs.Faults.{IsUnmergeable, IsPlaced}
 use Rattle.scrib_local.specs.Text.{local_text}

@@ -5,9 +5,9 @@ ghost use Rattle.scrib_library.specs.Edits.{Reads};
 ghost use Rattle.scrib_cli.specs.ProjectionSteps.{IsUnreadOrRefused, AreAddedOrFail, StopsAmong};
 
 use crate::fault::ScriptFault;
-use scrib_elaborate::modules::Modules;
 use scrib_lexer::lex::lex;
 use scrib_library::fault::EditFault;
+use scrib_modules::modules::Modules;
 use scrib_parser::parse::parse;
 use scrib_parser::recent::Recent;
 use scrib_parser::tree::ModuleTree;

@@ -14,17 +14,17 @@ use Rattle.scrib_elaborate.specs.declared.tasks.Task.TheVariants.{Front, Join, C
 use Rattle.scrib_elaborate.specs.declared.standing.Standing.{Standing}
 use Rattle.scrib_elaborate.specs.declared.untyped.Untyped.{Untyped}
 use Rattle.scrib_elaborate.specs.declared.untyped.Untyped.TheVariants.{Broken, OutOfMemory}
-use Rattle.scrib_elaborate.specs.Source.{Body, Done, Then, Step, Chooses, Repeats, Calls}
-use Rattle.scrib_elaborate.specs.SourceView.{step_of, body_of, blocks_of}
-use Rattle.scrib_elaborate.specs.Names.{Declaration, called}
-use Rattle.scrib_elaborate.specs.Statements.{KeepsRules, StepKeeps}
-use Rattle.scrib_elaborate.specs.Elaboration.{continues_in, Scope, inside, inside_call, Frames, NoFrame, Under, ends}
-use Rattle.scrib_elaborate.specs.Faults.{later, in_choice, in_rec, StandsIn, needs_itself, needs_branch, needs_repeats, needs_passes, needs_calls}
+use Rattle.scrib_modules.specs.Source.{Body, Done, Then, Step, Chooses, Repeats, Calls}
+use Rattle.scrib_modules.specs.SourceView.{step_of, body_of, blocks_of}
+use Rattle.scrib_modules.specs.Names.{Declaration, called}
+use Rattle.scrib_modules.specs.Statements.{KeepsRules, StepKeeps}
+use Rattle.scrib_modules.specs.Elaboration.{continues_in, Scope, inside, inside_call, Frames, NoFrame, Under, ends}
+use Rattle.scrib_modules.specs.Faults.{later, in_choice, in_rec, StandsIn, needs_itself, needs_branch, needs_repeats, needs_passes, needs_calls}
 use Rattle.scrib_elaborate.specs.Staying.{Stays}
 use Rattle.scrib_elaborate.specs.Standing.{scope_of, IsSame, IsInside, IsInsideCall}
 use Rattle.scrib_elaborate.specs.Typing.{Made, nothing_made, before, IsFront, Path, IsState, TypingFails, IsAhead, IsTaskAhead, AreAhead, StopsAhead}
-use Rattle.scrib_elaborate.proofs.Kept.{of_then, reaches_on}
-use Rattle.scrib_elaborate.proofs.Checks.{stands_here}
+use Rattle.scrib_modules.proofs.Kept.{of_then, reaches_on}
+use Rattle.scrib_modules.proofs.Checks.{stands_here}
 use Rattle.scrib_elaborate.proofs.Lifted.{below_more, levels_more}
 use Rattle.scrib_elaborate.proofs.Needed.{fails_through, fails_rest}
 use Rattle.scrib_elaborate.proofs.Steps.{before_done, block_kept, pushed_twice, opened}

@@ -2,21 +2,21 @@
 use Rattle.std.proofs.Common.{◌≡◌, ℕ, ◌<◌, true, false, List, length, None, Err, refl, sym, ap, ◌∙◌, subst, ⊎_elim, inl, inr}
 use Rattle.scrib_types.specs.Agreement.{Agreement}
 use Rattle.scrib_parser.specs.declared.tree.ModuleTree.{ModuleTree}
-use Rattle.scrib_elaborate.specs.declared.declared.Declared.{Declared}
+use Rattle.scrib_modules.specs.declared.declared.Declared.{Declared}
 use Rattle.std.proofs.lemmas.Option.{slice_get_within}
-use Rattle.scrib_elaborate.specs.declared.stop.State.{State}
-use Rattle.scrib_elaborate.specs.declared.stop.State.TheVariants.{Walked}
-use Rattle.scrib_elaborate.specs.declared.fault.ElaborateFault.{ElaborateFault}
-use Rattle.scrib_elaborate.specs.declared.fault.ElaborateFault.TheVariants as elaborate
-use Rattle.scrib_elaborate.specs.declared.fault.FaultKind.{FaultKind}
-use Rattle.scrib_elaborate.specs.declared.fault.FaultKind.TheVariants as kind
-use Rattle.scrib_elaborate.specs.Names.{Declaration, has_name, module_names, first_where, declarations, is_called}
-use Rattle.scrib_elaborate.specs.Elaboration.{Elaborates}
-use Rattle.scrib_elaborate.specs.Faults.{IsAbsent, FailsAt}
+use Rattle.scrib_modules.specs.declared.stop.State.{State}
+use Rattle.scrib_modules.specs.declared.stop.State.TheVariants.{Walked}
+use Rattle.scrib_modules.specs.declared.fault.ElaborateFault.{ElaborateFault}
+use Rattle.scrib_modules.specs.declared.fault.ElaborateFault.TheVariants as elaborate
+use Rattle.scrib_modules.specs.declared.fault.FaultKind.{FaultKind}
+use Rattle.scrib_modules.specs.declared.fault.FaultKind.TheVariants as kind
+use Rattle.scrib_modules.specs.Names.{Declaration, has_name, module_names, first_where, declarations, is_called}
+use Rattle.scrib_modules.specs.Elaboration.{Elaborates}
+use Rattle.scrib_modules.specs.Faults.{IsAbsent, FailsAt}
 use Rattle.scrib_elaborate.specs.Meaning.{Means}
-use Rattle.scrib_elaborate.specs.Table.{shown, IsFound}
-use Rattle.scrib_elaborate.specs.Walking.{WasWalked, WalkFails, IsAbsentFault}
-use Rattle.scrib_elaborate.proofs.Checks.{entry_within}
+use Rattle.scrib_modules.specs.Table.{shown, IsFound}
+use Rattle.scrib_modules.specs.Walking.{WasWalked, WalkFails, IsAbsentFault}
+use Rattle.scrib_modules.proofs.Checks.{entry_within}
 use Rattle.scrib_elaborate.proofs.Refuted.{refuted}
 
 -- the protocol that was asked for isn't there

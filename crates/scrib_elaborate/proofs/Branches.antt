@@ -6,7 +6,7 @@ use Rattle.scrib_types.specs.declared.global.GlobalType as global
 use Rattle.scrib_types.specs.declared.global.GlobalType.{GlobalType}
 use Rattle.scrib_types.specs.GlobalView.{global_of, global_branches, comm_of}
 use Rattle.scrib_types.specs.Trees.{GlobalTree, Comm, GlobalBranches, NoBranch, Branch}
-use Rattle.scrib_elaborate.specs.Elaboration.{and_branches}
+use Rattle.scrib_modules.specs.Elaboration.{and_branches}
 use Rattle.scrib_elaborate.specs.Sites.{has_several}
 use Rattle.scrib_elaborate.specs.Lifting.{lifted, branches_lifted}
 use Rattle.scrib_elaborate.specs.Renaming.{renamed, branches_renamed}

@@ -10,10 +10,10 @@ use Rattle.scrib_types.specs.declared.global.GlobalType.{GlobalType}
 use Rattle.scrib_types.specs.GlobalView.{global_branches}
 use Rattle.scrib_types.specs.Trees.{GlobalTree, GlobalBranches, NoBranch, Branch}
 use Rattle.scrib_types.specs.WellFormed.{has_operator, same_operator}
-use Rattle.scrib_elaborate.specs.Faults.{share_operator}
+use Rattle.scrib_modules.specs.Faults.{share_operator}
 use Rattle.scrib_elaborate.specs.Operators.{slot_of, IsLatest, AreChained, AreFiled}
-use Rattle.scrib_elaborate.proofs.Slots.{empty_slot, last_or_before, get_before}
-use Rattle.scrib_elaborate.proofs.Walks.{get_either, get_set}
+use Rattle.scrib_modules.proofs.Slots.{empty_slot, last_or_before, get_before}
+use Rattle.scrib_modules.proofs.Walks.{get_either, get_set}
 
 -- two operators
 

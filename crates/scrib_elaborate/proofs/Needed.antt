@@ -4,13 +4,13 @@ use Rattle.std.proofs.lemmas.Bool.{false≢true, or_cases}
 use Rattle.scrib_types.specs.declared.spot.Spot.{Spot}
 use Rattle.scrib_types.specs.Trees.{GlobalBranches}
 use Rattle.scrib_parser.specs.declared.tree.ModuleTree.{ModuleTree}
-use Rattle.scrib_elaborate.specs.declared.fault.FaultKind.{FaultKind}
-use Rattle.scrib_elaborate.specs.declared.fault.FaultKind.TheVariants as kind
-use Rattle.scrib_elaborate.specs.Source.{Body, Then, Step, Repeats, Blocks, NoBlock, OrBlock}
-use Rattle.scrib_elaborate.specs.Names.{Declaration, called}
-use Rattle.scrib_elaborate.specs.Statements.{protocol_keeps, BlockKeeps, end_keeps, then_keeps, StepKeeps, sends_keeps, chooses_keeps, repeats_keeps, continues_keeps, calls_keeps, BlocksKeep, none_keeps, or_keeps}
-use Rattle.scrib_elaborate.specs.Elaboration.{continues_in, Scope, inside, inside_call, Frames, Under, Types}
-use Rattle.scrib_elaborate.specs.Faults.{blocks_before, Needs, needs_itself, needs_close, needs_sends, needs_branch, needs_repeats, needs_passes, needs_calls, IsNeeded, IsBranch, IsOneOf, IsFirstBlock, FailsTyping}
+use Rattle.scrib_modules.specs.declared.fault.FaultKind.{FaultKind}
+use Rattle.scrib_modules.specs.declared.fault.FaultKind.TheVariants as kind
+use Rattle.scrib_modules.specs.Source.{Body, Then, Step, Repeats, Blocks, NoBlock, OrBlock}
+use Rattle.scrib_modules.specs.Names.{Declaration, called}
+use Rattle.scrib_modules.specs.Statements.{protocol_keeps, BlockKeeps, end_keeps, then_keeps, StepKeeps, sends_keeps, chooses_keeps, repeats_keeps, continues_keeps, calls_keeps, BlocksKeep, none_keeps, or_keeps}
+use Rattle.scrib_modules.specs.Elaboration.{continues_in, Scope, inside, inside_call, Frames, Under, Types}
+use Rattle.scrib_modules.specs.Faults.{blocks_before, Needs, needs_itself, needs_close, needs_sends, needs_branch, needs_repeats, needs_passes, needs_calls, IsNeeded, IsBranch, IsOneOf, IsFirstBlock, FailsTyping}
 use Rattle.scrib_elaborate.specs.Lifting.{lifted, branches_lifted, AreBelow}
 use Rattle.scrib_elaborate.proofs.Lifted.{raised_scope, raised, inside_raised, lift_types, leads_lifted, share_lifted, raised_stay, below_more}
 

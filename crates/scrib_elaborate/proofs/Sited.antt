@@ -9,10 +9,10 @@ use Rattle.scrib_types.specs.Trees.{GlobalTree, GlobalEnd, GlobalVar, GlobalRec,
 use Rattle.scrib_parser.specs.declared.tree.ModuleTree.{ModuleTree}
 use Rattle.scrib_elaborate.specs.declared.built.Origin.{Origin}
 use Rattle.scrib_elaborate.specs.declared.elaborated.Join.{Join}
-use Rattle.scrib_elaborate.specs.Source.{Then, Chooses}
-use Rattle.scrib_elaborate.specs.Names.{Declaration}
-use Rattle.scrib_elaborate.specs.Elaboration.{Frames, NoFrame, Under, and_branches, sent, Types, ends, start_of}
-use Rattle.scrib_elaborate.specs.Faults.{Needs}
+use Rattle.scrib_modules.specs.Source.{Then, Chooses}
+use Rattle.scrib_modules.specs.Names.{Declaration}
+use Rattle.scrib_modules.specs.Elaboration.{Frames, NoFrame, Under, and_branches, sent, Types, ends, start_of}
+use Rattle.scrib_modules.specs.Faults.{Needs}
 use Rattle.scrib_elaborate.specs.Lifting.{lifted, branches_lifted, AreBelow}
 use Rattle.scrib_elaborate.specs.Sites.{communications, branch_communications, has_several, is_several, several_of, IsSite, IsJoinOf}
 use Rattle.scrib_elaborate.specs.Typing.{Made, nothing_made, IsMarked, Makes, none_told, retold, joins_told}

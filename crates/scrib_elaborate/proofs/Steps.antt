@@ -8,24 +8,24 @@ use Rattle.scrib_types.specs.Trees.{GlobalVar, GlobalRec}
 use Rattle.scrib_types.specs.WellFormed.{leads_to_communication}
 use Rattle.scrib_parser.specs.declared.tree.ModuleTree.{ModuleTree}
 use Rattle.scrib_parser.specs.declared.tree.Statement.{Statement}
-use Rattle.scrib_elaborate.specs.declared.fault.FaultKind.{FaultKind}
-use Rattle.scrib_elaborate.specs.declared.fault.FaultKind.TheVariants as kind
+use Rattle.scrib_modules.specs.declared.fault.FaultKind.{FaultKind}
+use Rattle.scrib_modules.specs.declared.fault.FaultKind.TheVariants as kind
 use Rattle.scrib_elaborate.specs.declared.tasks.Task.{Task}
 use Rattle.scrib_elaborate.specs.declared.tasks.Task.TheVariants.{Front, Close}
 use Rattle.scrib_elaborate.specs.declared.standing.Standing.{Standing}
-use Rattle.scrib_elaborate.specs.Source.{Body, Done, Then, Step, Sends, Repeats, Continues, Calls}
-use Rattle.scrib_elaborate.specs.SourceView.{step_of, body_of}
-use Rattle.scrib_elaborate.specs.Names.{Declaration, called}
-use Rattle.scrib_elaborate.specs.Statements.{KeepsRules, BlockKeeps, StepKeeps}
-use Rattle.scrib_elaborate.specs.Elaboration.{continues_in, Scope, role_in, level_of, inside, inside_call, Frames, NoFrame, Under, sent, closes, sends, repeats, passes, continues, calls, start_of}
-use Rattle.scrib_elaborate.specs.Faults.{Stands, here, later, in_rec, Reaches, itself, needs_itself, needs_close, needs_sends, needs_repeats, needs_passes, needs_calls, FailsTyping}
+use Rattle.scrib_modules.specs.Source.{Body, Done, Then, Step, Sends, Repeats, Continues, Calls}
+use Rattle.scrib_modules.specs.SourceView.{step_of, body_of}
+use Rattle.scrib_modules.specs.Names.{Declaration, called}
+use Rattle.scrib_modules.specs.Statements.{KeepsRules, BlockKeeps, StepKeeps}
+use Rattle.scrib_modules.specs.Elaboration.{continues_in, Scope, role_in, level_of, inside, inside_call, Frames, NoFrame, Under, sent, closes, sends, repeats, passes, continues, calls, start_of}
+use Rattle.scrib_modules.specs.Faults.{Stands, here, later, in_rec, Reaches, itself, needs_itself, needs_close, needs_sends, needs_repeats, needs_passes, needs_calls, FailsTyping}
 use Rattle.scrib_elaborate.specs.Lifting.{lifted, AreBelow}
-use Rattle.scrib_elaborate.specs.Table.{IsPart}
+use Rattle.scrib_modules.specs.Table.{IsPart}
 use Rattle.scrib_elaborate.specs.Standing.{scope_of, start_scope, IsStart, IsSame, IsInside}
 use Rattle.scrib_elaborate.specs.Sites.{communications}
 use Rattle.scrib_elaborate.specs.Typing.{Made, nothing_made, none_told, Makes, before, FailsUp, IsFront, Path, IsState, IsBefore}
-use Rattle.scrib_elaborate.proofs.Kept.{of_then, of_protocol, kept_at, kept_along, reaches_on}
-use Rattle.scrib_elaborate.proofs.Checks.{stands_here}
+use Rattle.scrib_modules.proofs.Kept.{of_then, of_protocol, kept_at, kept_along, reaches_on}
+use Rattle.scrib_modules.proofs.Checks.{stands_here}
 use Rattle.scrib_elaborate.proofs.Lifted.{below_more, levels_more}
 use Rattle.scrib_elaborate.proofs.Needed.{fails_through, fails_rest}
 use Rattle.scrib_elaborate.proofs.Sited.{marks_through, made_through, made_from, made_deeper, nothing_follows, marks_sent}

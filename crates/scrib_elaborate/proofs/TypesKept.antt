@@ -1,22 +1,21 @@
 -- The types of protocols alone that are known.
-use Rattle.std.proofs.Common.{◌≡◌, ℕ, true, ltb, List, [], ◌∷◌, ◌++◌, length, get_or, set, Option, Some, None, option_map, refl, sym, ap, ◌∙◌, subst, ⊎_elim}
-use Rattle.std.proofs.lemmas.Bool.{ltb-true}
+use Rattle.std.proofs.Common.{◌≡◌, ℕ, List, [], ◌∷◌, ◌++◌, length, set, Option, Some, None, refl, sym, ap, ◌∙◌, subst, ⊎_elim}
 use Rattle.std.specs.List.{slice_get}
 use Rattle.std.specs.Option.{IfSome}
-use Rattle.std.proofs.lemmas.Option.{slice_get-map, slice_get_read}
 use Rattle.scrib_parser.specs.declared.tree.ModuleTree.{ModuleTree}
 use Rattle.scrib_elaborate.specs.declared.built.Typed.{Typed}
-use Rattle.scrib_elaborate.specs.declared.declared.Declared.{Declared}
-use Rattle.scrib_elaborate.specs.declared.stop.State.{State}
-use Rattle.scrib_elaborate.specs.declared.stop.State.TheVariants.{Walked}
-use Rattle.scrib_elaborate.specs.declared.stop.Summary.{Summary}
-use Rattle.scrib_elaborate.specs.Elaboration.{start_of}
-use Rattle.scrib_elaborate.specs.Names.{Declaration}
-use Rattle.scrib_elaborate.specs.Statements.{KeepsRules}
-use Rattle.scrib_elaborate.specs.Table.{declaration_of, shown}
+use Rattle.scrib_modules.specs.declared.declared.Declared.{Declared}
+use Rattle.scrib_modules.specs.declared.stop.State.{State}
+use Rattle.scrib_modules.specs.declared.stop.State.TheVariants.{Walked}
+use Rattle.scrib_modules.specs.declared.stop.Summary.{Summary}
+use Rattle.scrib_modules.specs.Elaboration.{start_of}
+use Rattle.scrib_modules.specs.Names.{Declaration}
+use Rattle.scrib_modules.specs.Statements.{KeepsRules}
+use Rattle.scrib_modules.specs.Table.{declaration_of, shown}
 use Rattle.scrib_elaborate.specs.Typing.{Made, made_of, Makes, IsAlone, AreKnown, AreUnknown, IsAloneAt}
-use Rattle.scrib_elaborate.specs.Walking.{AreSummaries}
-use Rattle.scrib_elaborate.proofs.Walks.{get_either, get_set}
+use Rattle.scrib_modules.specs.Walking.{AreSummaries}
+use Rattle.scrib_modules.proofs.Shown.{there_shown}
+use Rattle.scrib_modules.proofs.Walks.{get_either, get_set}
 
 pub unknown_none : (known : List (Option Typed)) → known ≡ [] → AreUnknown known
 unknown_none known e = subst AreUnknown (sym e) (λ k o h. absurd (cc h))
@@ -34,15 +33,6 @@ none_known ms ds known a k d t p q =
 pub known_more : (ms : List ModuleTree) (ds : List Declaration) (old : List (Option Typed)) (place : ℕ) (t : Typed) → IsAloneAt ms ds place (made_of t) → AreKnown ms ds old → AreKnown ms ds (set old place (Some t))
 known_more ms ds old place t here a k d u p q =
     ⊎_elim (λ x. let same : t ≡ u = cc (x.1) in subst (λ v. IsAlone ms d (made_of v)) same (here d (ap (slice_get ds) (sym x.0) ∙ p))) (λ x. a k d u p x.1) (get_set old place (Some t) k (Some u) q)
-
--- the element that is lent at a place
-pub lent_at : {X : Type 0} (xs : List X) (i : ℕ) (x : X) → true ≡ ltb i (length xs) → x ≡ get_or xs i x → slice_get xs i ≡ Some x
-lent_at xs i x e f = slice_get_read xs (length xs) i x refl (ltb-true i (length xs) (sym e)) f
-
--- the protocol at a place of the table
-
-pub there_shown : (declared : List Declared) (place : ℕ) (root : Declared) → slice_get declared place ≡ Some root → slice_get (shown declared) place ≡ Some (declaration_of root)
-there_shown declared place root e = slice_get-map declaration_of declared place ∙ ap (option_map declaration_of) e
 
 pub kept_there : (ms : List ModuleTree) (declared : List Declared) (states : List State) (place : ℕ) (root : Declared) (s : Summary) → AreSummaries ms (shown declared) states → slice_get declared place ≡ Some root → slice_get states place ≡ Some (Walked s)
     → KeepsRules ms (declaration_of root) s.exits

@@ -2,7 +2,7 @@
 -- Only contracts of private functions cite this file.
 use Rattle.std.specs.Prelude.{ℕ, ◌+◌, ◌<◌, nat_le, List, [], ◌∷◌, if◌then◌else◌}
 use Rattle.scrib_types.specs.Trees.{GlobalTree, GlobalEnd, GlobalVar, GlobalRec, Comm, Flight, GlobalBranches, NoBranch, Branch}
-use Rattle.scrib_elaborate.specs.Elaboration.{Frames, NoFrame, Under}
+use Rattle.scrib_modules.specs.Elaboration.{Frames, NoFrame, Under}
 
 -- each variable of a recursion round the type counts one more, where so many recursions of the type stand round it
 abbrev mutual

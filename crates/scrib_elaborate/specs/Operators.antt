@@ -3,7 +3,7 @@
 use Rattle.std.specs.Prelude.{◌≡◌, ◌≢◌, ℕ, ◌%◌, ◌<◌, ◌≤◌, List, length, slice_get, Option, Some, None}
 use Rattle.scrib_types.specs.declared.message.Message.{Message}
 use Rattle.scrib_types.specs.declared.global.GlobalType.{GlobalType}
-use Rattle.scrib_elaborate.specs.Directory.{mixed}
+use Rattle.scrib_modules.specs.Directory.{mixed}
 
 -- the slot of an operator
 abbrev pub slot_of : (size : ℕ) → Option (List ℕ) → ℕ

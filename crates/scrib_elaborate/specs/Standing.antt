@@ -4,9 +4,9 @@ use Rattle.std.specs.Prelude.{◌≡◌, ℕ, ◌+◌, List, [], map}
 use Rattle.std.specs.Borrow.{Bor}
 use Rattle.scrib_elaborate.specs.declared.standing.Level.{Level}
 use Rattle.scrib_elaborate.specs.declared.standing.Standing.{Standing}
-use Rattle.scrib_elaborate.specs.Names.{Declaration, roles_of}
-use Rattle.scrib_elaborate.specs.Elaboration.{Scope, inside, inside_call}
-use Rattle.scrib_elaborate.specs.Table.{declaration_of}
+use Rattle.scrib_modules.specs.Names.{Declaration, roles_of}
+use Rattle.scrib_modules.specs.Elaboration.{Scope, inside, inside_call}
+use Rattle.scrib_modules.specs.Table.{declaration_of}
 
 -- names without where they lie in memory
 abbrev pub named : List (Bor (List ℕ)) → List (List ℕ)

@@ -10,27 +10,27 @@ use Rattle.scrib_parser.specs.declared.tree.Statement.{Statement}
 use Rattle.scrib_parser.specs.declared.tree.Block.{Block}
 use Rattle.scrib_elaborate.specs.declared.built.Typed.{Typed}
 use Rattle.scrib_elaborate.specs.declared.built.Origin.{Origin}
-use Rattle.scrib_elaborate.specs.declared.declared.Declared.{Declared}
+use Rattle.scrib_modules.specs.declared.declared.Declared.{Declared}
 use Rattle.scrib_elaborate.specs.declared.elaborated.Join.{Join as TheJoin}
-use Rattle.scrib_elaborate.specs.declared.shape.Shape.{Shape}
-use Rattle.scrib_elaborate.specs.declared.shape.Shape.TheVariants.{Joining}
-use Rattle.scrib_elaborate.specs.declared.stop.State.{State}
+use Rattle.scrib_modules.specs.declared.shape.Shape.{Shape}
+use Rattle.scrib_modules.specs.declared.shape.Shape.TheVariants.{Joining}
+use Rattle.scrib_modules.specs.declared.stop.State.{State}
 use Rattle.scrib_elaborate.specs.declared.tasks.Program.{Program}
 use Rattle.scrib_elaborate.specs.declared.tasks.Task.{Task}
 use Rattle.scrib_elaborate.specs.declared.tasks.Task.TheVariants.{Front, Join, Close, Trial}
-use Rattle.scrib_elaborate.specs.declared.fault.FaultKind.{FaultKind}
-use Rattle.scrib_elaborate.specs.declared.fault.FaultKind.TheVariants as kind
+use Rattle.scrib_modules.specs.declared.fault.FaultKind.{FaultKind}
+use Rattle.scrib_modules.specs.declared.fault.FaultKind.TheVariants as kind
 use Rattle.scrib_elaborate.specs.declared.untyped.Untyped.{Untyped}
 use Rattle.scrib_elaborate.specs.declared.untyped.Untyped.TheVariants.{Broken, OutOfMemory}
-use Rattle.scrib_elaborate.specs.Source.{Body, Then, Step, Chooses, Repeats}
-use Rattle.scrib_elaborate.specs.SourceView.{step_of, body_of, blocks_of}
-use Rattle.scrib_elaborate.specs.Names.{Declaration, declarations}
-use Rattle.scrib_elaborate.specs.Elaboration.{continues_in, Scope, level_of, inside, Frames, Under, and_branches, Types, start_of}
-use Rattle.scrib_elaborate.specs.Faults.{Reaches, share_operator, FailsTyping}
-use Rattle.scrib_elaborate.specs.Directory.{IsDirectory}
-use Rattle.scrib_elaborate.specs.Statements.{KeepsRules}
-use Rattle.scrib_elaborate.specs.Table.{shown, IsPart, AreParts, IsSettledSo}
-use Rattle.scrib_elaborate.specs.Walking.{AreSummaries, IsIdle}
+use Rattle.scrib_modules.specs.Source.{Body, Then, Step, Chooses, Repeats}
+use Rattle.scrib_modules.specs.SourceView.{step_of, body_of, blocks_of}
+use Rattle.scrib_modules.specs.Names.{Declaration, declarations}
+use Rattle.scrib_modules.specs.Elaboration.{continues_in, Scope, level_of, inside, Frames, Under, and_branches, Types, start_of}
+use Rattle.scrib_modules.specs.Faults.{Reaches, share_operator, FailsTyping}
+use Rattle.scrib_modules.specs.Directory.{IsDirectory}
+use Rattle.scrib_modules.specs.Statements.{KeepsRules}
+use Rattle.scrib_modules.specs.Table.{shown, IsPart, AreParts, IsSettledSo}
+use Rattle.scrib_modules.specs.Walking.{AreSummaries, IsIdle}
 use Rattle.scrib_elaborate.specs.Lifting.{AreBelow}
 use Rattle.scrib_elaborate.specs.Sites.{communications, is_several, IsSite}
 use Rattle.scrib_elaborate.specs.Standing.{scope_of}

@@ -3,8 +3,8 @@
 ghost use Rattle.std.specs.Prelude.{◌≡◌, ◌-◌, [], ◌∷◌, IfOk};
 ghost use Rattle.scrib_types.specs.GlobalView.{global_of};
 ghost use Rattle.scrib_types.specs.Trees.{GlobalEnd, GlobalVar, GlobalRec, Comm, Branch, NoBranch};
-ghost use Rattle.scrib_elaborate.specs.Names.{role_names};
-ghost use Rattle.scrib_elaborate.specs.Elaboration.{given_for, sent};
+ghost use Rattle.scrib_modules.specs.Names.{role_names};
+ghost use Rattle.scrib_modules.specs.Elaboration.{given_for, sent};
 ghost use Rattle.scrib_elaborate.specs.Lifting.{lifted};
 ghost use Rattle.scrib_elaborate.specs.Renaming.{renamed};
 ghost use Rattle.scrib_elaborate.specs.Standing.{named};

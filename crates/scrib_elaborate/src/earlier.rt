@@ -8,21 +8,21 @@
 ghost use Rattle.std.specs.Prelude.{◌≡◌, ℕ, Bool, List, IfOk, IfErr, MatchResult};
 ghost use Rattle.scrib_types.specs.declared.spot.Spot.{Spot};
 ghost use Rattle.scrib_parser.specs.declared.tree.ModuleTree.{ModuleTree};
-ghost use Rattle.scrib_elaborate.specs.Source.{Body, Then, Chooses, Repeats, Calls};
-ghost use Rattle.scrib_elaborate.specs.SourceView.{step_of, body_of, blocks_of};
-ghost use Rattle.scrib_elaborate.specs.Names.{Declaration};
-ghost use Rattle.scrib_elaborate.specs.Statements.{KeepsRules};
-ghost use Rattle.scrib_elaborate.specs.Table.{declaration_of};
+ghost use Rattle.scrib_modules.specs.Source.{Body, Then, Chooses, Repeats, Calls};
+ghost use Rattle.scrib_modules.specs.SourceView.{step_of, body_of, blocks_of};
+ghost use Rattle.scrib_modules.specs.Names.{Declaration};
+ghost use Rattle.scrib_modules.specs.Statements.{KeepsRules};
+ghost use Rattle.scrib_modules.specs.Table.{declaration_of};
 ghost use Rattle.scrib_elaborate.specs.Staying.{Stays};
 ghost use Rattle.scrib_elaborate.specs.Standing.{scope_of};
 ghost use Rattle.scrib_elaborate.specs.Typing.{IsTable, TypingFails, IsAhead, IsTaskAhead, AreAhead, StopsAhead};
 
 use crate::exits::has_exit;
-use crate::size::continues_in;
 use crate::standing::Standing;
 use crate::tasks::{Program, Task};
 use crate::typing::{callee, run};
 use crate::untyped::{Refused, Untyped};
+use scrib_modules::size::continues_in;
 use scrib_parser::tree::{Block, Statement};
 use scrib_types::name::{Dotted, Name, Role};
 use std::alloc::Global;

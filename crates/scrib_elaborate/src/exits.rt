@@ -2,16 +2,16 @@
 
 ghost use Rattle.std.specs.Prelude.{◌≡◌, ◌<◌, List, length, slice_get, Some, false};
 ghost use Rattle.scrib_parser.specs.declared.tree.ModuleTree.{ModuleTree};
-ghost use Rattle.scrib_elaborate.specs.SourceView.{step_of, body_of, blocks_of};
-ghost use Rattle.scrib_elaborate.specs.Names.{Declaration};
-ghost use Rattle.scrib_elaborate.specs.Statements.{KeepsRules};
+ghost use Rattle.scrib_modules.specs.SourceView.{step_of, body_of, blocks_of};
+ghost use Rattle.scrib_modules.specs.Names.{Declaration};
+ghost use Rattle.scrib_modules.specs.Statements.{KeepsRules};
 ghost use Rattle.scrib_elaborate.specs.Staying.{Stays, StepStays, AllStay};
 ghost use Rattle.scrib_elaborate.specs.Typing.{IsTable};
-ghost use Rattle.scrib_elaborate.specs.Walking.{AreSummaries};
+ghost use Rattle.scrib_modules.specs.Walking.{AreSummaries};
 
-use crate::stop::State;
 use crate::tasks::Program;
 use crate::typing::callee;
+use scrib_modules::stop::State;
 use scrib_parser::tree::{Block, ModuleTree, Statement};
 
 /// Whether a way through the block, in this module, leads to its end.

@@ -1,18 +1,18 @@
 //! The types of protocols alone, as if nothing followed them, each of which is made once.
 
 ghost use Rattle.std.specs.Prelude.{◌≡◌, Bool, slice_get, Some, IfOk, IfErr, IfSome};
-ghost use Rattle.scrib_elaborate.specs.Statements.{KeepsRules};
-ghost use Rattle.scrib_elaborate.specs.Elaboration.{start_of};
-ghost use Rattle.scrib_elaborate.specs.Table.{shown, declaration_of};
+ghost use Rattle.scrib_modules.specs.Statements.{KeepsRules};
+ghost use Rattle.scrib_modules.specs.Elaboration.{start_of};
+ghost use Rattle.scrib_modules.specs.Table.{shown, declaration_of};
 ghost use Rattle.scrib_elaborate.specs.Typing.{made_of, Makes, AreKnown, AreUnknown, IsAloneAt, IsTable, IsTabled, TypingFails};
 
 use crate::built::Typed;
-use crate::declared::Declared;
-use crate::directory::Directory;
-use crate::stop::State;
 use crate::tasks::Program;
 use crate::typing::{type_alone, type_of_root};
 use crate::untyped::{Refused, Untyped};
+use scrib_modules::declared::Declared;
+use scrib_modules::directory::Directory;
+use scrib_modules::stop::State;
 use scrib_parser::tree::ModuleTree;
 use std::alloc::{AllocError, Global};
 

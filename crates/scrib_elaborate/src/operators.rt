@@ -5,7 +5,7 @@ ghost use Rattle.scrib_types.specs.GlobalView.{global_branches};
 ghost use Rattle.scrib_types.specs.WellFormed.{has_operator, same_operator};
 ghost use Rattle.scrib_elaborate.specs.Operators as spec;
 
-use crate::directory::{empty, mixed};
+use scrib_modules::directory::{empty, mixed};
 use scrib_types::global::GlobalType;
 use scrib_types::name::Name;
 use scrib_types::shared_message::SharedMessage;

@@ -2,8 +2,8 @@
 
 ghost use Rattle.std.specs.Prelude.{◌≡◌, IfOk};
 ghost use Rattle.scrib_types.specs.GlobalView.{global_of, global_branches};
-ghost use Rattle.scrib_elaborate.specs.Names.{role_names};
-ghost use Rattle.scrib_elaborate.specs.Elaboration.{given_for};
+ghost use Rattle.scrib_modules.specs.Names.{role_names};
+ghost use Rattle.scrib_modules.specs.Elaboration.{given_for};
 ghost use Rattle.scrib_elaborate.specs.Renaming.{renamed, branches_renamed};
 ghost use Rattle.scrib_elaborate.specs.Standing.{named};
 

@@ -1,11 +1,11 @@
 //! What is left to do for the type of a protocol.
 
 use crate::built::Typed;
-use crate::declared::Declared;
-use crate::directory::Directory;
-use crate::shape::Shape;
 use crate::standing::Standing;
-use crate::stop::State;
+use scrib_modules::declared::Declared;
+use scrib_modules::directory::Directory;
+use scrib_modules::shape::Shape;
+use scrib_modules::stop::State;
 use scrib_parser::tree::{Block, ModuleTree, Statement};
 use scrib_types::name::Role;
 use scrib_types::spot::Spot;

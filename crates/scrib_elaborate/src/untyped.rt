@@ -2,8 +2,8 @@
 
 ghost use Rattle.std.specs.Prelude.{◌≡◌, ◌+◌, IfOk};
 
-use crate::fault::ElaborateFault;
-use crate::stop::BrokenRule;
+use scrib_modules::fault::ElaborateFault;
+use scrib_modules::stop::BrokenRule;
 use scrib_parser::tree::ModuleTree;
 use std::alloc::{AllocError, AllocFailed};
 
@@ -45,7 +45,7 @@ impl<'a> From<Refused> for Untyped<'a> {
 
 impl From<Refused> for ElaborateFault {
     ghost use Rattle.std.specs.Prelude.{◌≡◌};
-    ghost use Rattle.scrib_elaborate.specs.declared.fault.ElaborateFault.TheVariants.{OutOfMemory};
+    ghost use Rattle.scrib_modules.specs.declared.fault.ElaborateFault.TheVariants.{OutOfMemory};
 
     ghost from_gives = { λ _ e. e ≡ OutOfMemory };
 

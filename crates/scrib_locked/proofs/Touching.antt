@@ -18,7 +18,7 @@ use Rattle.std.proofs.lemmas.Map.Made.{IsDistinct-keys_filter, IsDistinct-from_A
 use Rattle.std.proofs.lemmas.List.Kept.{AllPairs-filter}
 use Rattle.std.proofs.lemmas.List.{append-nil, append_assoc}
 use Rattle.std.proofs.lemmas.Option.{slice_get_within, slice_get-map, get_or_from_slice_get}
-use Rattle.scrib_elaborate.specs.Names.{dotted_eq}
+use Rattle.scrib_modules.specs.Names.{dotted_eq}
 use Rattle.scrib_record.specs.declared.version.Version.{Version}
 use Rattle.scrib_record.specs.Stale.{Recorded, is_stale}
 use Rattle.scrib_library.specs.Holdings.{Holdings}

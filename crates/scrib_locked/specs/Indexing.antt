@@ -6,7 +6,7 @@ use Rattle.std.specs.List.{filter, flat_map}
 use Rattle.std.specs.Map.{keys_of, lookup}
 use Rattle.std.specs.Hash as fed
 use Rattle.std.proofs.lemmas.Slice.Eq.{bytes_eq-Decides, slice_eq-Decides}
-use Rattle.scrib_elaborate.specs.Names.{dotted_eq}
+use Rattle.scrib_modules.specs.Names.{dotted_eq}
 use Rattle.scrib_core.specs.Held.{Records}
 use Rattle.scrib_locked.specs.declared.index.ProtocolName.{ProtocolName}
 

@@ -17,7 +17,7 @@ pub struct ProtocolName {
 impl PartialEq for ProtocolName {
     ghost use Rattle.std.specs.Cmp.{partial_equiv_from_equiv};
     ghost use Rattle.std.proofs.lemmas.Cmp.{on_equiv, lists_equiv, nat_list_eq_equiv};
-    ghost use Rattle.scrib_elaborate.specs.Names.{dotted_eq};
+    ghost use Rattle.scrib_modules.specs.Names.{dotted_eq};
     ghost use Rattle.scrib_locked.specs.Indexing.{name_of};
 
     ghost eq = { λ a b. dotted_eq a.name b.name };
@@ -39,7 +39,7 @@ impl Eq for ProtocolName {
 impl Hash for ProtocolName {
     ghost use Rattle.std.specs.List.{flat_map};
     ghost use Rattle.std.specs.Hash as fed;
-    ghost use Rattle.scrib_elaborate.specs.Names.{dotted_eq};
+    ghost use Rattle.scrib_modules.specs.Names.{dotted_eq};
     ghost use Rattle.scrib_locked.specs.Indexing.{same_named};
 
     ghost hash_input = { λ a. flat_map (fed.slice fed.u8) a.name };

@@ -6,7 +6,7 @@ use Rattle.scrib_types.specs.Trees.{Comm}
 use Rattle.scrib_parser.specs.declared.tree.ModuleTree.{ModuleTree}
 use Rattle.scrib_local.specs.Differences.{first_difference}
 use Rattle.scrib_elaborate.specs.declared.elaborated.Elaborated.{Elaborated}
-use Rattle.scrib_elaborate.specs.Elaboration.{start_of}
+use Rattle.scrib_modules.specs.Elaboration.{start_of}
 use Rattle.scrib_elaborate.specs.Meaning.{meaning_of, joins_of}
 use Rattle.scrib_elaborate.specs.Sites.{several, IsSite, IsJoinOf, AreSites}
 use Rattle.scrib_project.specs.declared.fault.Unmergeable.{Unmergeable}

@@ -10,8 +10,8 @@ use Rattle.scrib_types.specs.LocalView.{local_of}
 use Rattle.scrib_types.specs.Projection.{projection, branch_projections}
 use Rattle.scrib_parser.specs.declared.tree.ModuleTree.{ModuleTree}
 use Rattle.scrib_elaborate.specs.declared.elaborated.Join.{Join}
-use Rattle.scrib_elaborate.specs.Names.{Declaration, find_protocol}
-use Rattle.scrib_elaborate.specs.Elaboration.{start_of}
+use Rattle.scrib_modules.specs.Names.{Declaration, find_protocol}
+use Rattle.scrib_modules.specs.Elaboration.{start_of}
 use Rattle.scrib_elaborate.specs.Sites.{several, IsSite}
 use Rattle.scrib_project.specs.declared.projected.ProjectedProtocol.{ProjectedProtocol}
 use Rattle.scrib_project.specs.declared.fault.Unmergeable.{Unmergeable}

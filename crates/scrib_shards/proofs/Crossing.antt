@@ -54,7 +54,7 @@ use Rattle.crossbeam_utils.specs.contracts.sync.sharded_lock.ShardedLock as Shar
 use Rattle.scrib_types.proofs.global.GlobalType.TheLaws.TheKnot as types
 use Rattle.scrib_parser.proofs.tree.Statement.TheLaws.TheKnot as statements
 use Rattle.scrib_parser.specs.contracts.tree.ModuleTree as ModuleTree
-use Rattle.scrib_elaborate.specs.contracts.modules.Modules as Modules
+use Rattle.scrib_modules.specs.contracts.modules.Modules as Modules
 use Rattle.scrib_record.specs.contracts.record.Record as Record
 use Rattle.scrib_record.specs.contracts.version.Version as Version
 use Rattle.scrib_library.specs.contracts.versions.NamedVersion as NamedVersion

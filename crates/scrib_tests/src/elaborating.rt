@@ -1,9 +1,9 @@
 //! Elaboration of module texts that are too large to be written down: how many nodes a protocol has, or the fault.
 
 use scrib_elaborate::elaborate::elaborate;
-use scrib_elaborate::fault::{ElaborateFault, Fault};
-use scrib_elaborate::modules::Modules;
 use scrib_lexer::lex::lex;
+use scrib_modules::fault::{ElaborateFault, Fault};
+use scrib_modules::modules::Modules;
 use scrib_parser::parse::parse;
 use scrib_parser::recent::Recent;
 use scrib_types::name::{Dotted, Name};

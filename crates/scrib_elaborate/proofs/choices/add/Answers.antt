@@ -2,7 +2,7 @@ use Rattle.std.proofs.Common.{◌≡◌, true, false, length, refl, sym, ap, ◌
 use Rattle.std.proofs.lemmas.Bool.{false≢true}
 use Rattle.scrib_types.specs.GlobalView.{global_of, global_branches, end_of, var_of, rec_of, comm_of}
 use Rattle.scrib_types.specs.Trees.{Comm}
-use Rattle.scrib_elaborate.specs.Faults.{share_operator}
+use Rattle.scrib_modules.specs.Faults.{share_operator}
 use Rattle.scrib_elaborate.specs.Operators.{AreChained, AreFiled}
 use Rattle.scrib_elaborate.proofs.Branches.{branches_append}
 use Rattle.scrib_elaborate.proofs.Chained.{chained_more}

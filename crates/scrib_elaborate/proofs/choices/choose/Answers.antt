@@ -2,9 +2,9 @@ use Rattle.std.proofs.Common.{◌≡◌, ◌+◌, ◌-◌, length, reverse, refl
 use Rattle.std.proofs.lemmas.Option.{slice_get_within}
 use Rattle.scrib_elaborate.specs.declared.tasks.Task.TheVariants.{Front, Join}
 use Rattle.scrib_elaborate.specs.declared.tasks.Choosing.{Choosing}
-use Rattle.scrib_elaborate.specs.Source.{Then, Chooses}
-use Rattle.scrib_elaborate.specs.SourceView.{blocks_of}
-use Rattle.scrib_elaborate.specs.Elaboration.{Under}
+use Rattle.scrib_modules.specs.Source.{Then, Chooses}
+use Rattle.scrib_modules.specs.SourceView.{blocks_of}
+use Rattle.scrib_modules.specs.Elaboration.{Under}
 use Rattle.scrib_elaborate.specs.Standing.{scope_of}
 use Rattle.scrib_elaborate.specs.Typing.{made_of, StopsAhead}
 use Rattle.scrib_elaborate.proofs.Steps.{pushed_twice}

@@ -6,9 +6,9 @@ use Rattle.scrib_elaborate.specs.declared.built.Typed.{Typed}
 use Rattle.std.proofs.lemmas.Result.{MatchResult-weaker}
 use Rattle.scrib_elaborate.specs.declared.tasks.Task.TheVariants.{Front, Join}
 use Rattle.scrib_elaborate.specs.declared.tasks.Choosing.{Choosing}
-use Rattle.scrib_elaborate.specs.Source.{Then, Chooses}
-use Rattle.scrib_elaborate.specs.SourceView.{blocks_of}
-use Rattle.scrib_elaborate.specs.Elaboration.{Under}
+use Rattle.scrib_modules.specs.Source.{Then, Chooses}
+use Rattle.scrib_modules.specs.SourceView.{blocks_of}
+use Rattle.scrib_modules.specs.Elaboration.{Under}
 use Rattle.scrib_elaborate.specs.Standing.{scope_of}
 use Rattle.scrib_elaborate.specs.Typing.{made_of, IsChoosing}
 use Rattle.scrib_elaborate.proofs.Steps.{pushed_twice}

@@ -4,11 +4,11 @@ use Rattle.scrib_types.specs.GlobalView.{global_branches}
 use Rattle.scrib_parser.specs.declared.tree.ModuleTree.{ModuleTree}
 use Rattle.scrib_elaborate.specs.declared.built.Typed.{Typed}
 use Rattle.scrib_elaborate.specs.declared.tasks.Task.{Task}
-use Rattle.scrib_elaborate.specs.Source.{Then, Chooses}
-use Rattle.scrib_elaborate.specs.SourceView.{blocks_of}
-use Rattle.scrib_elaborate.specs.Names.{Declaration}
+use Rattle.scrib_modules.specs.Source.{Then, Chooses}
+use Rattle.scrib_modules.specs.SourceView.{blocks_of}
+use Rattle.scrib_modules.specs.Names.{Declaration}
 use Rattle.scrib_elaborate.specs.Operators.{AreFiled}
-use Rattle.scrib_elaborate.specs.Elaboration.{role_in, Under}
+use Rattle.scrib_modules.specs.Elaboration.{role_in, Under}
 use Rattle.scrib_elaborate.specs.Sites.{branch_communications}
 use Rattle.scrib_elaborate.specs.Standing.{scope_of}
 use Rattle.scrib_elaborate.specs.Typing.{IsMarked, IsChoosing}

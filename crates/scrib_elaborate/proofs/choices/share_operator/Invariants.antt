@@ -1,6 +1,6 @@
 use Rattle.std.proofs.Common.{◌≡◌, drop}
 use Rattle.scrib_types.specs.GlobalView.{global_branches}
-use Rattle.scrib_elaborate.specs.Faults.{share_operator}
+use Rattle.scrib_modules.specs.Faults.{share_operator}
 use Rattle.scrib_elaborate.proofs.choices.share_operator.Given as goal
 
 abbrev pub invariant-loop-message : goal.invariant-loop-message

@@ -1,6 +1,6 @@
 use Rattle.std.proofs.Common.{sym, ap, ◌∙◌, subst}
-use Rattle.scrib_elaborate.specs.Source.{Then, Chooses, Repeats, Calls}
-use Rattle.scrib_elaborate.specs.SourceView.{step_of, body_of, blocks_of, choice_of, rec_of, do_of}
+use Rattle.scrib_modules.specs.Source.{Then, Chooses, Repeats, Calls}
+use Rattle.scrib_modules.specs.SourceView.{step_of, body_of, blocks_of, choice_of, rec_of, do_of}
 use Rattle.scrib_elaborate.specs.Standing.{scope_of}
 use Rattle.scrib_elaborate.specs.Typing.{IsAhead}
 use Rattle.scrib_elaborate.proofs.earlier.look_into.Goals as goal

@@ -2,12 +2,12 @@ use Rattle.std.proofs.Common.{sym, ap, ◌∙◌, subst, arith}
 use Rattle.std.specs.List.{AllZip}
 use Rattle.scrib_types.specs.Agreement.{Agreement}
 use Rattle.scrib_types.specs.GlobalView.{global_of}
-use Rattle.scrib_elaborate.specs.Names.{role_names}
-use Rattle.scrib_elaborate.specs.Elaboration.{Elaborates}
+use Rattle.scrib_modules.specs.Names.{role_names}
+use Rattle.scrib_modules.specs.Elaboration.{Elaborates}
 use Rattle.scrib_elaborate.specs.Meaning.{joins_of}
 use Rattle.scrib_elaborate.specs.Sites.{communications, several, IsJoinOf}
 use Rattle.scrib_elaborate.specs.Typing.{joins_told}
-use Rattle.scrib_elaborate.specs.Table.{shown, declaration_of}
+use Rattle.scrib_modules.specs.Table.{shown, declaration_of}
 use Rattle.scrib_elaborate.proofs.Accepted.{accepted_sound, size_is_nodes, size_is_height}
 use Rattle.scrib_elaborate.proofs.Finished.{elaborated}
 use Rattle.scrib_elaborate.proofs.Sited.{sites_told}

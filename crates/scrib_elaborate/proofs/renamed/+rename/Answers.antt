@@ -1,5 +1,5 @@
-use Rattle.scrib_elaborate.specs.Names.{role_names}
-use Rattle.scrib_elaborate.specs.Elaboration.{given_for}
+use Rattle.scrib_modules.specs.Names.{role_names}
+use Rattle.scrib_modules.specs.Elaboration.{given_for}
 use Rattle.scrib_elaborate.specs.Standing.{named}
 use Rattle.scrib_elaborate.proofs.Branches.{renamed_more}
 use Rattle.scrib_elaborate.proofs.renamed.+rename.Goals as goal

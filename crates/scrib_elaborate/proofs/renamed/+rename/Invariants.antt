@@ -1,7 +1,7 @@
 use Rattle.std.proofs.Common.{◌≡◌, take}
 use Rattle.scrib_types.specs.GlobalView.{global_branches}
-use Rattle.scrib_elaborate.specs.Names.{role_names}
-use Rattle.scrib_elaborate.specs.Elaboration.{given_for}
+use Rattle.scrib_modules.specs.Names.{role_names}
+use Rattle.scrib_modules.specs.Elaboration.{given_for}
 use Rattle.scrib_elaborate.specs.Renaming.{branches_renamed}
 use Rattle.scrib_elaborate.specs.Standing.{named}
 use Rattle.scrib_elaborate.proofs.renamed.+rename.Given as goal

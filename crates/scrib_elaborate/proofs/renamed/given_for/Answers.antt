@@ -1,7 +1,7 @@
 use Rattle.std.proofs.Common.{◌≡◌, ℕ, List, [], ◌∷◌, drop, sym, ap, ◌∙◌}
 use Rattle.std.proofs.lemmas.List.{drop_all}
-use Rattle.scrib_elaborate.specs.Names.{role_names}
-use Rattle.scrib_elaborate.specs.Elaboration.{given_for}
+use Rattle.scrib_modules.specs.Names.{role_names}
+use Rattle.scrib_modules.specs.Elaboration.{given_for}
 use Rattle.scrib_elaborate.specs.Standing.{named}
 use Rattle.scrib_elaborate.proofs.renamed.given_for.Goals as goal
 

@@ -1,6 +1,6 @@
 use Rattle.std.proofs.Common.{◌≡◌, drop}
-use Rattle.scrib_elaborate.specs.Names.{role_names}
-use Rattle.scrib_elaborate.specs.Elaboration.{given_for}
+use Rattle.scrib_modules.specs.Names.{role_names}
+use Rattle.scrib_modules.specs.Elaboration.{given_for}
 use Rattle.scrib_elaborate.specs.Standing.{named}
 use Rattle.scrib_elaborate.proofs.renamed.given_for.Given as goal
 

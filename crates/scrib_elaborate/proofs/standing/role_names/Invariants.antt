@@ -1,5 +1,5 @@
 use Rattle.std.proofs.Common.{◌≡◌, take}
-use Rattle.scrib_elaborate.specs.Names.{role_names}
+use Rattle.scrib_modules.specs.Names.{role_names}
 use Rattle.scrib_elaborate.specs.Standing.{named}
 use Rattle.scrib_elaborate.proofs.standing.role_names.Given as goal
 

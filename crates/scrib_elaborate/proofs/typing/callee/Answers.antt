@@ -1,10 +1,10 @@
 use Rattle.std.proofs.Common.{Some, ap, ◌∙◌, subst, arith}
 use Rattle.std.proofs.lemmas.Option.{slice_get_within}
-use Rattle.scrib_elaborate.specs.Names.{Declaration}
-use Rattle.scrib_elaborate.specs.Shape.{IsShapeOf}
-use Rattle.scrib_elaborate.specs.Table.{shown}
-use Rattle.scrib_elaborate.proofs.Places.{name_last, called_home-there}
-use Rattle.scrib_elaborate.proofs.Checks.{called-is, entry_is, found_home}
+use Rattle.scrib_modules.specs.Names.{Declaration}
+use Rattle.scrib_modules.specs.Shape.{IsShapeOf}
+use Rattle.scrib_modules.specs.Table.{shown}
+use Rattle.scrib_modules.proofs.Places.{name_last, called_home-there}
+use Rattle.scrib_modules.proofs.Checks.{called-is, entry_is, found_home}
 use Rattle.scrib_elaborate.proofs.typing.callee.Goals as goal
 
 pub shape_at-shape-requires : goal.shape_at-shape-requires

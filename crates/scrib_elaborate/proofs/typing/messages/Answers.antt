@@ -1,6 +1,6 @@
 use Rattle.std.proofs.Common.{[], ◌∷◌, ◌++◌, map, refl, sym, ap, ◌∙◌, subst}
-use Rattle.scrib_elaborate.specs.SourceView.{step_of, message_of}
-use Rattle.scrib_elaborate.specs.Elaboration.{role_in, sent}
+use Rattle.scrib_modules.specs.SourceView.{step_of, message_of}
+use Rattle.scrib_modules.specs.Elaboration.{role_in, sent}
 use Rattle.scrib_elaborate.specs.Standing.{scope_of}
 use Rattle.scrib_elaborate.specs.Typing.{made_of, none_told, IsBefore}
 use Rattle.scrib_elaborate.specs.declared.tasks.Task.TheVariants.{Front}

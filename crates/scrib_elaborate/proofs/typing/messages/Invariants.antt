@@ -4,8 +4,8 @@ use Rattle.scrib_parser.specs.declared.tree.ModuleTree.{ModuleTree}
 use Rattle.scrib_parser.specs.declared.tree.Statement.{Statement}
 use Rattle.scrib_elaborate.specs.declared.tasks.Task.{Task}
 use Rattle.scrib_elaborate.specs.declared.tasks.Task.TheVariants.{Front}
-use Rattle.scrib_elaborate.specs.Names.{Declaration}
-use Rattle.scrib_elaborate.specs.Statements.{KeepsRules}
+use Rattle.scrib_modules.specs.Names.{Declaration}
+use Rattle.scrib_modules.specs.Statements.{KeepsRules}
 use Rattle.scrib_elaborate.specs.Typing.{made_of, IsState}
 use Rattle.scrib_elaborate.proofs.typing.messages.Given as goal
 

@@ -1,6 +1,6 @@
 use Rattle.std.proofs.Common.{Bool, reverse}
-use Rattle.scrib_elaborate.specs.Names.{Declaration}
-use Rattle.scrib_elaborate.specs.Statements.{KeepsRules}
+use Rattle.scrib_modules.specs.Names.{Declaration}
+use Rattle.scrib_modules.specs.Statements.{KeepsRules}
 use Rattle.scrib_elaborate.specs.Typing.{made_of, nothing_made, IsState}
 use Rattle.scrib_elaborate.proofs.typing.run.Given as goal
 

@@ -1,5 +1,5 @@
 use Rattle.std.proofs.Common.{◌≡◌, drop, map}
-use Rattle.scrib_elaborate.specs.Elaboration.{role_in, sent}
+use Rattle.scrib_modules.specs.Elaboration.{role_in, sent}
 use Rattle.scrib_elaborate.specs.Standing.{scope_of}
 use Rattle.scrib_elaborate.specs.Typing.{type_of, none_told}
 use Rattle.scrib_elaborate.proofs.typing.send.Given as goal

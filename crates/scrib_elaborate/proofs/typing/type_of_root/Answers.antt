@@ -1,6 +1,6 @@
 use Rattle.std.proofs.Common.{sym, subst}
-use Rattle.scrib_elaborate.specs.Elaboration.{start_of}
-use Rattle.scrib_elaborate.specs.Table.{declaration_of}
+use Rattle.scrib_modules.specs.Elaboration.{start_of}
+use Rattle.scrib_modules.specs.Table.{declaration_of}
 use Rattle.scrib_elaborate.specs.Typing.{made_of, Makes}
 use Rattle.scrib_elaborate.proofs.typing.type_of_root.Goals as goal
 

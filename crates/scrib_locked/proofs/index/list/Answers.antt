@@ -2,7 +2,7 @@ use Rattle.std.proofs.Common.{◌≡◌, Some, None, Option, Vec, Global, Ok, Er
 use Rattle.std.specs.Prelude.{IsSome, OnErr}
 use Rattle.std.specs.Option.{option_copied_mut}
 use Rattle.std.specs.Map.{lookup}
-use Rattle.scrib_elaborate.specs.Names.{dotted_eq}
+use Rattle.scrib_modules.specs.Names.{dotted_eq}
 use Rattle.scrib_locked.specs.Indexing.{ids_in}
 use Rattle.scrib_locked.proofs.Listed.{listed_kept, listed_more}
 use Rattle.scrib_locked.proofs.index.list.Goals as goal

@@ -2,7 +2,7 @@ use Rattle.std.proofs.Common.{◌≡◌, ◌+◌, ◌<◌, Some, length, get_or,
 use Rattle.std.proofs.lemmas.List.{length-set}
 use Rattle.std.proofs.lemmas.Option.{slice_get-get_or}
 use Rattle.scrib_elaborate.specs.Operators.{slot_of, AreChained}
-use Rattle.scrib_elaborate.proofs.Slots.{read_at}
+use Rattle.scrib_modules.proofs.Slots.{read_at}
 use Rattle.scrib_elaborate.proofs.Chained.{next_chained}
 use Rattle.scrib_elaborate.proofs.operators.Operators.file.Goals as goal
 

@@ -3,7 +3,7 @@ use Rattle.std.proofs.lemmas.Option.{slice_get-get_or}
 use Rattle.scrib_types.specs.declared.message.Message.{Message}
 use Rattle.scrib_types.specs.WellFormed.{same_operator}
 use Rattle.scrib_elaborate.specs.Operators.{slot_of}
-use Rattle.scrib_elaborate.proofs.Slots.{read_at}
+use Rattle.scrib_modules.proofs.Slots.{read_at}
 use Rattle.scrib_elaborate.proofs.Chained.{IsPassed, place_of, has_one, next_within, walk_begins, walk_goes, walk_shrinks, walk_ends}
 use Rattle.scrib_elaborate.proofs.operators.Operators.has.Goals as goal
 

@@ -1,5 +1,5 @@
 use Rattle.std.proofs.Common.{◌≡◌, drop}
-use Rattle.scrib_elaborate.specs.Elaboration.{level_of}
+use Rattle.scrib_modules.specs.Elaboration.{level_of}
 use Rattle.scrib_elaborate.specs.Standing.{levels_of}
 use Rattle.scrib_elaborate.proofs.standing.Standing.level_of.Given as goal
 

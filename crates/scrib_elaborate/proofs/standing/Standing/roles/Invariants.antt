@@ -1,5 +1,5 @@
 use Rattle.std.proofs.Common.{◌≡◌, map, take}
-use Rattle.scrib_elaborate.specs.Elaboration.{role_in}
+use Rattle.scrib_modules.specs.Elaboration.{role_in}
 use Rattle.scrib_elaborate.specs.Standing.{named, scope_of}
 use Rattle.scrib_elaborate.proofs.standing.Standing.roles.Given as goal
 

@@ -1,0 +1,14 @@
+pub mod Source
+pub mod SourceView
+pub mod Names
+pub mod Placed
+pub mod Statements
+pub mod Elaboration
+pub mod Directory
+pub mod Sizes
+pub mod Faults
+pub mod Growth
+pub mod Joining
+pub mod Shape
+pub mod Table
+pub mod Walking

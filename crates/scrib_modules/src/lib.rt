@@ -1,0 +1,17 @@
+//! Modules, the protocols that they declare, and the first pass over a protocol: rules of names, exits and sizes.
+#![tactic(auto)]
+
+pub mod declared;
+pub mod directory;
+pub mod fault;
+pub mod filed;
+pub mod growth;
+pub mod modules;
+pub mod names;
+pub mod own_names;
+pub mod shape;
+pub mod shapes;
+pub mod size;
+pub mod statements;
+pub mod stop;
+pub mod walk;
