@@ -4,7 +4,7 @@ ghost use Rattle.std.specs.Prelude.{◌≡◌, ◌↔◌, List, ◌∷◌, lengt
 ghost use Rattle.scrib_types.specs.GlobalView.{global_of, global_branches};
 ghost use Rattle.scrib_elaborate.specs.declared.built.Typed.{Typed};
 ghost use Rattle.scrib_elaborate.specs.declared.tasks.Task.{Task};
-ghost use Rattle.scrib_elaborate.specs.declared.tasks.Task.TheVariants.{Join};
+ghost use Rattle.scrib_elaborate.specs.declared.tasks.Task.TheVariants.{Front, Join};
 ghost use Rattle.scrib_elaborate.specs.declared.untyped.Untyped.TheVariants.{Broken};
 ghost use Rattle.scrib_modules.specs.Faults.{share_operator};
 ghost use Rattle.scrib_parser.specs.declared.tree.ModuleTree.{ModuleTree};
@@ -12,8 +12,9 @@ ghost use Rattle.scrib_modules.specs.Source.{Chooses};
 ghost use Rattle.scrib_modules.specs.SourceView.{blocks_of};
 ghost use Rattle.scrib_modules.specs.Names.{Declaration};
 ghost use Rattle.scrib_elaborate.specs.Operators.{AreFiled};
-ghost use Rattle.scrib_elaborate.specs.Standing.{scope_of};
-ghost use Rattle.scrib_elaborate.specs.Typing.{type_of, made_of, AddsOrigins, IsBefore, IsState, TypingFails, StopsAhead, IsChoosing, IsFirst, IsAdded, IsHeadFault};
+ghost use Rattle.scrib_elaborate.specs.declared.standing.Standing.{Standing};
+ghost use Rattle.scrib_elaborate.specs.Standing.{scope_of, IsSame};
+ghost use Rattle.scrib_elaborate.specs.Typing.{Made, type_of, made_of, AddsOrigins, IsBefore, IsState, TypingFails, StopsAhead, IsChoosing, IsFirst, IsAdded, IsHeadFault};
 
 use crate::built::{Origin, Typed};
 use crate::operators::Operators;
@@ -22,7 +23,7 @@ use crate::tasks::{Choosing, Task};
 use crate::untyped::Untyped;
 use scrib_modules::fault::FaultKind;
 use scrib_modules::stop::BrokenRule;
-use scrib_parser::tree::{Block, ModuleTree};
+use scrib_parser::tree::{Block, ModuleTree, Statement};
 use scrib_types::global::GlobalType;
 use scrib_types::name::Role;
 use scrib_types::plain::{Items, at};
@@ -60,7 +61,6 @@ pub fn choose<'a>(
         return Err(broken(standing.within.home, FaultKind::EmptyBranch, spot));
     };
     let (begun, follows) = share(alloc, typed, branches.len() - 1)?;
-    let inner = standing.copy(alloc)?;
     let choosing = Choosing {
         standing,
         chooser,
@@ -69,8 +69,7 @@ pub fn choose<'a>(
         follows,
         types: Vec::new(alloc),
     };
-    tasks.push(Task::Join(choosing))?;
-    tasks.push(Task::Front(inner, first.body.as_slice()))?;
+    enter(alloc, tasks, choosing, first.body.as_slice())?;
     Ok(begun)
 }
 
@@ -103,7 +102,6 @@ pub fn join<'a>(
     };
     let left = branches.len() - types.len() - 1;
     let (begun, follows) = share(alloc, follows, left)?;
-    let inner = standing.copy(alloc)?;
     let choosing = Choosing {
         standing,
         chooser,
@@ -112,9 +110,25 @@ pub fn join<'a>(
         follows,
         types,
     };
-    tasks.push(Task::Join(choosing))?;
-    tasks.push(Task::Front(inner, next.body.as_slice()))?;
+    enter(alloc, tasks, choosing, next.body.as_slice())?;
     Ok(begun)
+}
+
+// The statements of the choice's next block are next, and after them it is the choice's turn.
+fn enter<'a>(
+    alloc: Global,
+    tasks: &mut Vec<Task<'a>>,
+    choosing: Choosing<'a>,
+    body: &'a [Statement],
+) -> Result<(), AllocError>
+    ensures { (modules : List ModuleTree) (root : Declaration) (g : Made)
+        → ((inner : Standing) → IsSame choosing.entry.standing inner → IsState modules root (Front inner body.entry ∷ Join choosing.entry ∷ reverse tasks.old.items) g)
+        → IfOk result (λ _. IsState modules root (reverse tasks.new.items) g) }
+{
+    let inner = choosing.standing.copy(alloc)?;
+    tasks.push(Task::Join(choosing))?;
+    tasks.push(Task::Front(inner, body))?;
+    Ok(())
 }
 
 // The type of what follows a choice, for the block that is next, and once more if blocks are left after that one.

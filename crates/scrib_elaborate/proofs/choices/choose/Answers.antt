@@ -1,13 +1,11 @@
-use Rattle.std.proofs.Common.{◌≡◌, ◌+◌, ◌-◌, length, reverse, refl, sym, ap, subst, arith}
+use Rattle.std.proofs.Common.{◌≡◌, ◌+◌, ◌-◌, length, reverse, sym, ap, subst, arith}
 use Rattle.std.proofs.lemmas.Option.{slice_get_within}
-use Rattle.scrib_elaborate.specs.declared.tasks.Task.TheVariants.{Front, Join}
 use Rattle.scrib_elaborate.specs.declared.tasks.Choosing.{Choosing}
 use Rattle.scrib_modules.specs.Source.{Then, Chooses}
 use Rattle.scrib_modules.specs.SourceView.{blocks_of}
 use Rattle.scrib_modules.specs.Elaboration.{Under}
 use Rattle.scrib_elaborate.specs.Standing.{scope_of}
 use Rattle.scrib_elaborate.specs.Typing.{made_of, StopsAhead}
-use Rattle.scrib_elaborate.proofs.Steps.{pushed_twice}
 use Rattle.scrib_elaborate.proofs.Ahead.{stack_ahead}
 use Rattle.scrib_elaborate.proofs.Joined.{choosing_begins, no_block, next_block, no_item, first_item}
 use Rattle.scrib_elaborate.proofs.choices.choose.Goals as goal
@@ -36,4 +34,4 @@ returns c = λ modules root b.
     let g = made_of c.in_ok-begun.begun in
     let there = first_item c.args.branches.now c.new.result.items c.in-Some.first.now c.new.ensures.items (sym c.in-Some.ensures.value) in
     let count : length c.new.result.items + 1 + left ≡ length c.args.branches.now = omega (arith, ap length c.new.ensures.items, slice_get_within c.args.branches.now (length c.new.result.items) c.in-Some.first.now there) in
-    pushed_twice modules root old c.push.new.self.items c.push-2.new.self.items (Join choosing) (Front c.in_ok-inner.inner c.as_slice.result) g g c.in_ok-push.ensures.items c.in_ok-push-2.ensures.items refl (next_block modules root (reverse old) choosing c.in_ok-inner.inner c.as_slice.result c.in-Some.first.now c.args.typed left g there count c.in_ok-inner.ensures c.as_slice.ensures c.in_ok-begun.ensures.next c.in_ok-begun.ensures.others (choosing_begins modules root (reverse old) (scope_of standing) standing.depth c.args.chooser.now c.args.branches.now c.args.spot c.args.typed c.new.result.items c.new.ensures.items b))
+    c.in_ok-enter.ensures modules root g (λ inner same. next_block modules root (reverse old) choosing inner c.as_slice.result c.in-Some.first.now c.args.typed left g there count same c.as_slice.ensures c.in_ok-begun.ensures.next c.in_ok-begun.ensures.others (choosing_begins modules root (reverse old) (scope_of standing) standing.depth c.args.chooser.now c.args.branches.now c.args.spot c.args.typed c.new.result.items c.new.ensures.items b))

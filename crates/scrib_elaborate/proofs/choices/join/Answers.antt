@@ -1,17 +1,15 @@
-use Rattle.std.proofs.Common.{◌≡◌, ◌+◌, ◌-◌, length, Option, Some, reverse, refl, sym, ap, ◌∙◌, subst, arith}
+use Rattle.std.proofs.Common.{◌≡◌, ◌+◌, ◌-◌, length, Option, Some, reverse, sym, ap, ◌∙◌, subst, arith}
 use Rattle.std.specs.List.{slice_get}
 use Rattle.std.specs.Option.{option_copied}
 use Rattle.std.proofs.lemmas.Option.{slice_get_within}
 use Rattle.scrib_elaborate.specs.declared.built.Typed.{Typed}
 use Rattle.std.proofs.lemmas.Result.{MatchResult-weaker}
-use Rattle.scrib_elaborate.specs.declared.tasks.Task.TheVariants.{Front, Join}
 use Rattle.scrib_elaborate.specs.declared.tasks.Choosing.{Choosing}
 use Rattle.scrib_modules.specs.Source.{Then, Chooses}
 use Rattle.scrib_modules.specs.SourceView.{blocks_of}
 use Rattle.scrib_modules.specs.Elaboration.{Under}
 use Rattle.scrib_elaborate.specs.Standing.{scope_of}
 use Rattle.scrib_elaborate.specs.Typing.{made_of, IsChoosing}
-use Rattle.scrib_elaborate.proofs.Steps.{pushed_twice}
 use Rattle.scrib_elaborate.proofs.Ahead.{stack_ahead, stops_ahead}
 use Rattle.scrib_elaborate.proofs.Joined.{block_typed, next_block, none_left, one_left}
 use Rattle.scrib_elaborate.proofs.choices.join.Goals as goal
@@ -58,4 +56,4 @@ returns c = λ modules root s.
     let there : slice_get branches (length types) ≡ Some c.in-Some.next.now = ap (slice_get branches) (sym long) ∙ sym c.at-next.ensures ∙ ap option_copied n.0 in
     let left = length branches - c.len-2.result - 1 in
     let count : length types + 1 + left ≡ length branches = omega (arith, long, slice_get_within branches (length types) c.in-Some.next.now there) in
-    pushed_twice modules root old c.push-2.new.self.items c.push-3.new.self.items (Join next) (Front c.in_ok-inner.inner c.as_slice.result) g g c.in_ok-push-2.ensures.items c.in_ok-push-3.ensures.items refl (next_block modules root (reverse old) next c.in_ok-inner.inner c.as_slice.result c.in-Some.next.now c.in-Some.follows left g there count c.in_ok-inner.ensures c.as_slice.ensures c.in_ok-begun.ensures.next c.in_ok-begun.ensures.others y)
+    c.in_ok-enter.ensures modules root g (λ inner same. next_block modules root (reverse old) next inner c.as_slice.result c.in-Some.next.now c.in-Some.follows left g there count same c.as_slice.ensures c.in_ok-begun.ensures.next c.in_ok-begun.ensures.others y)

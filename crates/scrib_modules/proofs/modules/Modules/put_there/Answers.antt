@@ -1,7 +1,5 @@
-use Rattle.std.proofs.Common.{◌≡◌, List, Option, Some, None, MatchOption, false, length, refl, ap, sym, ◌∙◌, subst, arith}
+use Rattle.std.proofs.Common.{List, Some, None, length, refl, ap, sym, ◌∙◌, subst}
 use Rattle.scrib_parser.specs.declared.tree.ModuleTree.{ModuleTree}
-use Rattle.scrib_modules.specs.Names.{has_name, module_names}
-use Rattle.scrib_modules.specs.Table.{IsPlace}
 use Rattle.scrib_modules.specs.Placed.{IsPlaced}
 use Rattle.scrib_modules.proofs.Putting.{put_over, put_last}
 use Rattle.scrib_modules.proofs.modules.Modules.put_there.Goals as goal
