@@ -1,4 +1,4 @@
-//! Modules, the protocols that they declare, and the first pass over a protocol: rules of names, exits and sizes.
+//! Modules, the protocols that they declare, and the first two passes over one: names and statements, and sizes.
 #![tactic(auto)]
 
 pub mod declared;
