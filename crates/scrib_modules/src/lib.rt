@@ -4,14 +4,14 @@
 pub mod declared;
 pub mod directory;
 pub mod fault;
-pub mod filed;
+mod filed;
 pub mod growth;
 pub mod modules;
 pub mod names;
-pub mod own_names;
+mod own_names;
 pub mod shape;
 pub mod shapes;
 pub mod size;
-pub mod statements;
+mod statements;
 pub mod stop;
 pub mod walk;
