@@ -1,10 +1,12 @@
 //! Scripts that are too large to be written down, and the lines that they give.
 
-use crate::demonstration::DEMO;
 use scrib_cli::run_script::{Format, run_script};
 use std::alloc::Global;
 use std::process::Abort;
 use std::test::Fail;
+
+const DEMO: &str =
+    "module demo; global protocol Hello(role A, role B) { hello() from A to B; bye() from B to A; }";
 
 // What a script writes.
 fn output_of(rt: &impl Abort, alloc: Global, script: &[u8]) -> Result<Vec<u8>, Fail> {

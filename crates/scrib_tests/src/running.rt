@@ -1,9 +1,11 @@
+//! What is written for readers that give little or fail, and for writers that take little or fail.
+
 mod as_json;
 mod at_once;
-mod explaining;
-mod failing;
 mod limits;
 
+use scrib_cli::check::{Core, check_module};
+use scrib_cli::explain_script::explain_script;
 use scrib_cli::run_script::{Format, ScriptFault, run_script};
 use std::alloc::{AllocError, Global};
 use std::io;
@@ -11,10 +13,10 @@ use std::io::{ErrorKind, Read, Write};
 use std::process::Abort;
 use std::test::Fail;
 
-// Gives the script in pieces, and fails at one call.
+// Gives the text in pieces, and fails at one call.
 #[derive(Drop)]
 struct Pieces<'a> {
-    script: &'a [u8],
+    text: &'a [u8],
     size: usize,
     calls: u32,
     fails_at: u32,
@@ -26,10 +28,10 @@ impl Read for Pieces<'_> {
         if self.calls == self.fails_at {
             return Err(io::Error::from(ErrorKind::Other));
         }
-        let n = self.size.min(buf.len()).min(self.script.len());
-        let (now, later) = self.script.split_at(n);
+        let n = self.size.min(buf.len()).min(self.text.len());
+        let (now, later) = self.text.split_at(n);
         buf[..n].copy_from_slice(now);
-        self.script = later;
+        self.text = later;
         Ok(n)
     }
 }
@@ -63,16 +65,54 @@ impl Write for Page {
     }
 }
 
-// Runs the script by pieces of this size, with a read and a write or flush that fail, and none at 0.
+// What is done with a text.
+#[derive(Clone, Copy)]
+enum Command {
+    // It is a script.
+    Watch,
+    // It is a script, of whose conversation 1 the messages in flight are told.
+    Explain,
+    // It is a module.
+    Check,
+}
+
+// What a command came to: its answer, what it wrote, and how many reads, and how many writes and flushes, there were.
+#[derive(Drop)]
+struct Outcome {
+    answer: Result<(), ScriptFault>,
+    output: Vec<u8>,
+    reads: u32,
+    writes: u32,
+}
+
+fn obey(
+    alloc: Global,
+    command: Command,
+    reader: &mut Pieces,
+    writer: &mut Page,
+) -> Result<(), ScriptFault> {
+    match command {
+        Command::Watch => run_script(alloc, Format::Line, reader, writer)?,
+        Command::Explain => {
+            explain_script(alloc, reader, 1, writer)?;
+        }
+        Command::Check => {
+            check_module(alloc, &mut Core::new(alloc), reader, writer)?;
+        }
+    }
+    Ok(())
+}
+
+// Obeys the command over the text by pieces of this size, with a read and a write or flush that fail, and none at 0.
 fn outcome(
     alloc: Global,
-    script: &[u8],
+    command: Command,
+    text: &[u8],
     size: usize,
-    read: u32,
-    write: u32,
-) -> (Result<(), ScriptFault>, Vec<u8>) {
+    (read, write): (u32, u32),
+) -> Outcome {
     let mut reader = Pieces {
-        script,
+        text,
         size,
         calls: 0,
         fails_at: read,
@@ -83,21 +123,14 @@ fn outcome(
         calls: 0,
         fails_at: write,
     };
-    let result = run_script(alloc, Format::Line, &mut reader, &mut page);
-    let Page {
+    let answer = obey(alloc, command, &mut reader, &mut page);
+    let Page { output, calls, .. } = page;
+    Outcome {
+        answer,
         output,
-        size: _,
-        calls: _,
-        fails_at: _,
-    } = page;
-    (result, output)
-}
-
-// What the script gives where nothing fails.
-fn output_of(alloc: Global, script: &[u8]) -> Result<Vec<u8>, ScriptFault> {
-    let (result, output) = outcome(alloc, script, 8192, 0, 0);
-    result?;
-    Ok(output)
+        reads: reader.calls,
+        writes: calls,
+    }
 }
 
 const DEMO: &[u8] =
@@ -118,87 +151,104 @@ const CUT: &[u8] = b"put\nmodule demo; global protocol Hello(role A, role B) { h
 
 const CUT_OUTPUT: &[u8] = b"refused EndOfText\n";
 
-const SCRIPTS: [(&[u8], &[u8]); 3] = [
-    (DEMO, DEMO_OUTPUT),
-    (CALLED, CALLED_OUTPUT),
-    (CUT, CUT_OUTPUT),
+// The demonstration, up to the first message.
+const SENT: &[u8] =
+    b"put\nmodule demo; global protocol Hello(role A, role B) { hello() from A to B; bye() from B to A; }\n%%\nopen 1 demo.Hello\njoin 1 A\njoin 1 B\nsend 1 A B hello()\n";
+
+const MODULE: &[u8] =
+    b"module demo; global protocol Hello(role A, role B) { hello() from A to B; bye() from B to A; }";
+
+// Commands, the texts that they are given, and what they write where no call fails.
+const ROWS: [(Command, &[u8], &[u8]); 8] = [
+    (Command::Watch, DEMO, DEMO_OUTPUT),
+    (Command::Watch, CALLED, CALLED_OUTPUT),
+    (Command::Watch, CUT, CUT_OUTPUT),
+    (Command::Explain, SENT, b"A B hello()\n"),
+    (Command::Explain, DEMO, b""),
+    (Command::Explain, CUT, b"refused NoConversation\n"),
+    (Command::Check, MODULE, b"put demo: +demo.Hello\n"),
+    (Command::Check, b"module demo", b"refused EndOfText\n"),
 ];
 
-// More calls than any of these scripts takes.
-const MANY_CALLS: u32 = 2_000;
-
 #[test]
-fn runs_scripts_by_pieces(rt: HostRuntime) -> Result<(), Fail> {
-    for size in [1usize, 2, 7] {
-        for (script, want) in SCRIPTS {
-            let (result, output) = outcome(rt.alloc(), script, size, 0, 0);
-            result?;
-            assert_eq!(rt; output.as_slice(), want);
+fn obeys_by_pieces(rt: HostRuntime) -> Result<(), Fail> {
+    for size in [1usize, 2, 7, 8192] {
+        for (command, text, want) in ROWS {
+            let found = outcome(rt.alloc(), command, text, size, (0, 0));
+            found.answer?;
+            assert_eq!(rt; found.output.as_slice(), want);
+            assert!(rt;
+                want.is_empty() || found.writes >= 2,
+                "a line is written and flushed"
+            );
         }
     }
     Ok(())
 }
 
-// Fails read 1, then 2 and so on, or each write and flush, until no call fails. What was written until then is a
-// beginning of the output.
-fn fail_in_turn(
+// Fails each read in turn. It is told, and a beginning of the output was written until then; nothing, if the text is
+// read to its end before anything is written.
+fn fail_reads(
     rt: &impl Abort,
     alloc: Global,
-    (script, want): (&[u8], &[u8]),
+    (command, text, want): (Command, &[u8], &[u8]),
     size: usize,
-    in_reads: bool,
 ) {
-    for at in 1..MANY_CALLS {
-        let (read, write) = if in_reads { (at, 0) } else { (0, at) };
-        let (result, output) = outcome(alloc, script, size, read, write);
+    let reads = outcome(alloc, command, text, size, (0, 0)).reads;
+    for at in 1..reads.saturating_add(1) {
+        let Outcome { answer, output, .. } = outcome(alloc, command, text, size, (at, 0));
+        assert!(rt;
+            matches!(answer, Err(ScriptFault::Read)),
+            "read {at} of {size} bytes"
+        );
         assert!(rt;
             want.starts_with(output.as_slice()),
-            "pieces of {size}, failing at {at}"
+            "read {at} of {size} bytes"
         );
-        match result {
-            Ok(()) => {
-                assert_eq!(rt; output.as_slice(), want);
-                return;
-            }
-            Err(ScriptFault::Read) => assert!(rt; in_reads, "read fault at {at}"),
-            Err(ScriptFault::Write) => assert!(rt; !in_reads, "write fault at {at}"),
-            Err(_) => assert!(rt; false, "another fault at {at}"),
+        assert!(rt;
+            matches!(command, Command::Watch) || output.is_empty(),
+            "read {at} of {size} bytes"
+        );
+    }
+}
+
+// Fails each write and flush in turn. It is told, and a beginning of the output was written until then.
+fn fail_writes(
+    rt: &impl Abort,
+    alloc: Global,
+    (command, text, want): (Command, &[u8], &[u8]),
+    size: usize,
+) {
+    let writes = outcome(alloc, command, text, size, (0, 0)).writes;
+    for at in 1..writes.saturating_add(1) {
+        let Outcome { answer, output, .. } = outcome(alloc, command, text, size, (0, at));
+        assert!(rt;
+            matches!(answer, Err(ScriptFault::Write)),
+            "write {at} of {size} bytes"
+        );
+        assert!(rt;
+            want.starts_with(output.as_slice()),
+            "write {at} of {size} bytes"
+        );
+    }
+}
+
+#[test]
+fn each_failing_read_is_told(rt: HostRuntime) {
+    for size in [1usize, 7, 8192] {
+        for row in ROWS {
+            fail_reads(&rt, rt.alloc(), row, size);
         }
     }
-    assert!(rt; false, "a fault at each call");
 }
 
-// The same in pieces of each size.
-fn fail_in_pieces(rt: &impl Abort, alloc: Global, script: (&[u8], &[u8]), in_reads: bool) {
-    for size in [1usize, 2, 7] {
-        fail_in_turn(rt, alloc, script, size, in_reads);
+#[test]
+fn each_failing_write_is_told(rt: HostRuntime) {
+    for size in [1usize, 7, 8192] {
+        for row in ROWS {
+            fail_writes(&rt, rt.alloc(), row, size);
+        }
     }
-}
-
-#[test]
-fn stops_at_a_failing_read(rt: HostRuntime) -> Result<(), Fail> {
-    fail_in_pieces(&rt, rt.alloc(), (DEMO, DEMO_OUTPUT), true);
-    fail_in_pieces(&rt, rt.alloc(), (CUT, CUT_OUTPUT), true);
-    Ok(())
-}
-
-#[test]
-fn stops_at_a_failing_read_between_modules(rt: HostRuntime) -> Result<(), Fail> {
-    fail_in_pieces(&rt, rt.alloc(), (CALLED, CALLED_OUTPUT), true);
-    Ok(())
-}
-
-#[test]
-fn stops_at_a_failing_write(rt: HostRuntime) -> Result<(), Fail> {
-    fail_in_pieces(&rt, rt.alloc(), (DEMO, DEMO_OUTPUT), false);
-    fail_in_pieces(&rt, rt.alloc(), (CUT, CUT_OUTPUT), false);
-    Ok(())
-}
-
-#[test]
-fn stops_at_a_failing_write_between_modules(rt: HostRuntime) -> Result<(), Fail> {
-    fail_in_pieces(&rt, rt.alloc(), (CALLED, CALLED_OUTPUT), false);
-    Ok(())
 }
 
 // Asks, and then gives so many empty lines.
@@ -245,12 +295,19 @@ fn long_script(alloc: Global, length: usize) -> Result<Vec<u8>, AllocError> {
 
 #[test]
 fn refuses_a_long_line(rt: HostRuntime) -> Result<(), Fail> {
-    let longest = long_script(rt.alloc(), 131_072)?;
-    let output = output_of(rt.alloc(), longest.as_slice())?;
-    assert_eq!(rt; output.as_slice(), b"refused NoConversation\n".as_slice());
-    let longer = long_script(rt.alloc(), 131_073)?;
-    let output = output_of(rt.alloc(), longer.as_slice())?;
-    let want = b"refused BadLine 1\nrefused NoConversation\n";
-    assert_eq!(rt; output.as_slice(), want.as_slice());
+    let rows = [
+        (131_072, "refused NoConversation\n"),
+        (131_073, "refused BadLine 1\nrefused NoConversation\n"),
+    ];
+    for (length, want) in rows {
+        let script = long_script(rt.alloc(), length)?;
+        let found = outcome(rt.alloc(), Command::Watch, &script, 8192, (0, 0));
+        found.answer?;
+        assert_eq!(rt;
+            found.output.as_slice(),
+            want.as_bytes(),
+            "of {length} bytes"
+        );
+    }
     Ok(())
 }

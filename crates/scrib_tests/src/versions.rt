@@ -1,15 +1,27 @@
 //! Versions of a library, one put after another.
 
-use crate::making::dotted;
 use scrib_library::changes::{ChangeKind, Changes};
 use scrib_library::fault::EditFault;
 use scrib_library::library::Library;
+use scrib_types::name::{Dotted, Name};
 use std::alloc::Global;
 use std::test::Fail;
 
 const A: &str = "module f; global protocol P(role A, role B) { a() from A to B; }";
 
 const B: &str = "module f; global protocol P(role A, role B) { b() from A to B; }";
+
+// The dotted name of these parts.
+fn dotted(alloc: Global, parts: &[&str]) -> Result<Dotted, Fail> {
+    let mut names = Vec::new(alloc);
+    for part in parts {
+        names.push(Name::from_bytes(alloc, part.as_bytes())?.ok_or("no name")?)?;
+    }
+    if names.is_empty() {
+        return Err("no parts".into());
+    }
+    Ok(Dotted::from_vec(alloc, names)?)
+}
 
 fn put(library: &mut Library, text: &str) -> Result<Changes, Fail> {
     match library.put(text.as_bytes()) {
