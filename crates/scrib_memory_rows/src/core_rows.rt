@@ -50,23 +50,28 @@ fn same_line(alloc: Global, a: &Reply, b: &Reply) -> Result<bool, RowFault> {
     Ok(line(alloc, a)?.as_slice() == line(alloc, b)?.as_slice())
 }
 
-// Whether the conversations 1 and 2 of both stand the same, and are told the same.
-fn same_conversations(alloc: Global, a: &mut Core, b: &mut Core) -> Result<bool, RowFault> {
-    for id in 1..=2 {
-        let told_a = a.apply(Step::Ask { id });
-        let told_b = b.apply(Step::Ask { id });
-        if !same_view(a, b, id) || !same_line(alloc, &told_a, &told_b)? {
-            return Ok(false);
-        }
-    }
-    Ok(true)
+// What the core tells of the conversation.
+fn told(alloc: Global, core: &mut Core, id: u32) -> Result<Vec<u8>, RowFault> {
+    let reply = core.apply(Step::Ask { id });
+    Ok(line(alloc, &reply)?)
+}
+
+// Both have the conversation as it is told and viewed, or neither has it.
+fn check_conversation(alloc: Global, a: &mut Core, b: &mut Core, id: u32) -> Result<(), RowFault> {
+    let is_same = told(alloc, a, id)?.as_slice() == told(alloc, b, id)?.as_slice();
+    check(is_same && same_view(a, b, id))
+}
+
+/// The reply to the step.
+pub(crate) fn made(alloc: Global, core: &mut Core, step: &str) -> Result<Reply, RowFault> {
+    Ok(core.apply(step_in(alloc, step)?))
 }
 
 // The core that made these calls.
 fn core_after(alloc: Global, calls: &[Call]) -> Result<Core, RowFault> {
     let mut core = Core::new(alloc);
     for (step, _) in calls {
-        core.apply(step_of(alloc, step)?.1);
+        made(alloc, &mut core, step)?;
     }
     Ok(core)
 }
@@ -74,7 +79,8 @@ fn core_after(alloc: Global, calls: &[Call]) -> Result<Core, RowFault> {
 // The core is to stand as one that made these calls.
 fn check_core(alloc: Global, core: &mut Core, calls: &[Call]) -> Result<(), RowFault> {
     let mut other = core_after(alloc, calls)?;
-    check(same_conversations(alloc, core, &mut other)?)
+    check_conversation(alloc, core, &mut other, 1)?;
+    check_conversation(alloc, core, &mut other, 2)
 }
 
 // The reply to the step, which is made once more, since memory was refused to it after these calls.
@@ -85,7 +91,17 @@ fn second_reply(
     step: &str,
 ) -> Result<Reply, RowFault> {
     check_core(alloc, core, before)?;
-    Ok(core.apply(step_of(alloc, step)?.1))
+    made(alloc, core, step)
+}
+
+// The reply to the step, unless memory is refused to it.
+fn granted(core: &mut Core, step: Step) -> Option<Reply> {
+    let reply = core.apply(step);
+    if is_refused(&reply) {
+        None
+    } else {
+        Some(reply)
+    }
 }
 
 // The reply to the step, which comes after these calls. Where memory is refused, the core is to stand as one that made
@@ -97,11 +113,22 @@ fn reply_to(
     step: &str,
 ) -> Result<(Format, Reply), RowFault> {
     let (format, first) = step_of(alloc, step)?;
-    let reply = core.apply(first);
-    if is_refused(&reply) {
-        return Ok((format, second(second_reply(alloc, core, before, step))?));
-    }
+    let reply = match granted(core, first) {
+        Some(reply) => reply,
+        None => second(second_reply(alloc, core, before, step))?,
+    };
     Ok((format, reply))
+}
+
+// The line of the reply to the step, which comes after these calls.
+fn answer_to(
+    alloc: Global,
+    core: &mut Core,
+    before: &[Call],
+    step: &str,
+) -> Result<Vec<u8>, RowFault> {
+    let (format, reply) = reply_to(alloc, core, before, step)?;
+    text_of(alloc, format, &reply)
 }
 
 // Makes the call, which comes after those, and compares the line of its reply.
@@ -109,11 +136,9 @@ fn check_call(
     alloc: Global,
     core: &mut Core,
     before: &[Call],
-    call: &Call,
+    (step, answer): &Call,
 ) -> Result<(), RowFault> {
-    let (step, answer) = call;
-    let (format, reply) = reply_to(alloc, core, before, step)?;
-    let text = text_of(alloc, format, &reply)?;
+    let text = answer_to(alloc, core, before, step)?;
     check(is_answer(answer, text.as_slice()))
 }
 
@@ -153,21 +178,26 @@ fn has_refused(replies: &[Reply]) -> bool {
 
 // The step's reply; the step is made once more where memory is refused to it.
 fn reply_alone(alloc: Global, core: &mut Core, step: &str) -> Result<Reply, RowFault> {
-    let reply = core.apply(step_of(alloc, step)?.1);
-    if is_refused(&reply) {
-        return Ok(core.apply(second(step_of(alloc, step))?.1));
+    match granted(core, step_in(alloc, step)?) {
+        Some(reply) => Ok(reply),
+        None => second(made(alloc, core, step)),
     }
-    Ok(reply)
 }
 
-// Compares the replies with those that a core gives to the steps one by one, but for a reply that memory was refused.
+// Compares the reply with that which a core gives to the step, but for one that memory was refused.
+fn check_reply(alloc: Global, other: &mut Core, step: &str, reply: &Reply) -> Result<(), RowFault> {
+    if is_refused(reply) {
+        return Ok(());
+    }
+    let alone = reply_alone(alloc, other, step)?;
+    check(same_line(alloc, reply, &alone)?)
+}
+
+// Compares the replies with those that a core gives to the steps one by one.
 fn check_replies(alloc: Global, calls: &[Call], replies: &[Reply]) -> Result<(), RowFault> {
     let mut other = Core::new(alloc);
     for ((step, _), reply) in calls.iter().zip(replies) {
-        if !is_refused(reply) {
-            let alone = reply_alone(alloc, &mut other, step)?;
-            check(same_line(alloc, reply, &alone)?)?;
-        }
+        check_reply(alloc, &mut other, step, reply)?;
     }
     Ok(())
 }
@@ -196,10 +226,15 @@ pub(crate) fn run_at_once(alloc: Global, calls: &[Call]) -> Result<(), RowFault>
     }
 }
 
+fn step_in(alloc: Global, text: &str) -> Result<Step, RowFault> {
+    let (_, step) = step_of(alloc, text)?;
+    Ok(step)
+}
+
 fn steps_of(alloc: Global, calls: &[Call]) -> Result<Vec<Step>, RowFault> {
     let mut steps = Vec::new(alloc);
-    for (step, _) in calls {
-        steps.push(step_of(alloc, step)?.1)?;
+    for (text, _) in calls {
+        steps.push(step_in(alloc, text)?)?;
     }
     Ok(steps)
 }

@@ -2,9 +2,9 @@
 
 ghost use Rattle.std.specs.Prelude.{◌≡◌, IfOk};
 
-use crate::core_rows::is_refused;
+use crate::core_rows::{is_refused, made};
 use crate::fault::{RowFault, check};
-use crate::making::{event_of, step_of};
+use crate::making::event_of;
 use crate::rows::{DEMO, PUT_DEMO, PUT_TWO_OF_THREE};
 use crate::script_rows::page;
 use scrib_cli::fault::ScriptFault;
@@ -86,14 +86,20 @@ fn check_machine(alloc: Global) -> Result<(), RowFault> {
     check_written(answered, &written, MACHINE)
 }
 
+// Makes the step, which may be refused memory.
+fn make(alloc: Global, core: &mut Core, text: &str) -> Result<(), RowFault> {
+    let reply = made(alloc, core, text)?;
+    if is_refused(&reply) {
+        return Err(RowFault::Memory);
+    }
+    Ok(())
+}
+
 // A core with a conversation of the one protocol of the module.
 fn core_of(alloc: Global, module: &str, opening: &str) -> Result<Core, RowFault> {
     let mut core = Core::new(alloc);
-    for text in [module, opening] {
-        if is_refused(&core.apply(step_of(alloc, text)?.1)) {
-            return Err(RowFault::Memory);
-        }
-    }
+    make(alloc, &mut core, module)?;
+    make(alloc, &mut core, opening)?;
     Ok(core)
 }
 
@@ -169,10 +175,13 @@ pub(crate) fn run_queues(alloc: Global) -> Result<(), RowFault> {
     check_queues(alloc, &mut queues, &message)
 }
 
+fn check_copy(alloc: Global, global: &GlobalType) -> Result<(), RowFault> {
+    let copy = GlobalType::copy(alloc, global)?;
+    check(GlobalType::equal(&copy, global))
+}
+
 /// A global type and its copy.
 pub(crate) fn run_copies(alloc: Global) -> Result<(), RowFault> {
     let core = core_of(alloc, PUT_TWO_OF_THREE, "open 1 v.V")?;
-    let global = protocol_of(&core)?.global();
-    let copy = GlobalType::copy(alloc, global)?;
-    check(GlobalType::equal(&copy, global))
+    check_copy(alloc, protocol_of(&core)?.global())
 }

@@ -89,6 +89,43 @@ fn texts_of(alloc: Global, body: &str) -> Result<Vec<Option<Items<u8>>>, AllocEr
     Ok(texts)
 }
 
+// What a role does in a protocol of the modules that the body is.
+fn tell_projection<W: Write>(
+    alloc: Global,
+    profile: Profile,
+    (protocol, role): (&str, &str),
+    body: &str,
+    writer: &mut W,
+) -> Result<(), RowsFault> {
+    let texts = texts_of(alloc, body)?;
+    project_text(alloc, profile, protocol, role, &texts, writer)?;
+    Ok(())
+}
+
+// The machine of a role in a protocol of the modules that the body is.
+fn tell_machine<W: Write>(
+    alloc: Global,
+    profile: Profile,
+    (protocol, role): (&str, &str),
+    body: &str,
+    writer: &mut W,
+) -> Result<(), RowsFault> {
+    let texts = texts_of(alloc, body)?;
+    machine_text(alloc, profile, protocol, role, &texts, writer)?;
+    Ok(())
+}
+
+fn tell_explained<W: Write>(
+    alloc: Global,
+    id: &str,
+    mut reader: &[u8],
+    writer: &mut W,
+) -> Result<(), RowsFault> {
+    let id = id_of(id).ok_or(RowsFault::NoCommand)?;
+    explain_script(alloc, &mut reader, id, writer)?;
+    Ok(())
+}
+
 // Runs the command over what follows its line. A role does what it does under this profile.
 pub(crate) fn obey<W: Write>(
     alloc: Global,
@@ -100,23 +137,17 @@ pub(crate) fn obey<W: Write>(
     let mut words = command.split_whitespace();
     let mut reader = body.as_bytes();
     match (words.next(), words.next(), words.next()) {
-        (Some("watch"), None, None) => run_script(alloc, Format::Line, &mut reader, writer)?,
-        (Some("judge"), None, None) => tell_judgements(alloc, reader, writer)?,
-        (Some("explain"), Some(id), None) => {
-            let id = id_of(id).ok_or(RowsFault::NoCommand)?;
-            explain_script(alloc, &mut reader, id, writer)?;
-        }
+        (Some("watch"), None, None) => Ok(run_script(alloc, Format::Line, &mut reader, writer)?),
+        (Some("judge"), None, None) => tell_judgements(alloc, reader, writer),
+        (Some("explain"), Some(id), None) => tell_explained(alloc, id, reader, writer),
         (Some("project"), Some(protocol), Some(role)) => {
-            let texts = texts_of(alloc, body)?;
-            project_text(alloc, profile, protocol, role, &texts, writer)?;
+            tell_projection(alloc, profile, (protocol, role), body, writer)
         }
         (Some("machine"), Some(protocol), Some(role)) => {
-            let texts = texts_of(alloc, body)?;
-            machine_text(alloc, profile, protocol, role, &texts, writer)?;
+            tell_machine(alloc, profile, (protocol, role), body, writer)
         }
-        _ => return Err(RowsFault::NoCommand),
+        _ => Err(RowsFault::NoCommand),
     }
-    Ok(())
 }
 
 // The shape that the numbers of these words are.
@@ -175,23 +206,29 @@ where
     Ok(run_files(rt, rt.alloc(), &options, &files, setup, connections, writer))
 }
 
-// What a command on modules answers behind whose word stands `--reception`, over the files that the words name.
-fn answer_wider<R: Files + AllocGlobal, W: Write>(
+// What a command on modules answers, over the files that the words name, behind `--reception` where it stands.
+fn answer_on_modules<R: Files + AllocGlobal, W: Write>(
     rt: &R,
     words: &[&str],
     writer: &mut W,
 ) -> Option<Result<bool, ScriptFault>> {
+    let [command, words @ ..] = words else {
+        return None;
+    };
+    let (is_wider, words) = behind("--reception", words);
+    let profile = if is_wider {
+        Profile::Reception
+    } else {
+        Profile::Plain
+    };
     let alloc = rt.alloc();
     let files = SystemFiles(rt);
-    let profile = Profile::Reception;
-    match words {
-        ["check", "--reception", paths @ ..] => {
-            Some(check_files(alloc, profile, &files, paths, writer))
-        }
-        ["project", "--reception", protocol, role, paths @ ..] => {
+    match (*command, words) {
+        ("check", paths) => Some(check_files(alloc, profile, &files, paths, writer)),
+        ("project", [protocol, role, paths @ ..]) => {
             Some(project_files(alloc, profile, protocol, role, &files, paths, writer))
         }
-        ["machine", "--reception", protocol, role, paths @ ..] => {
+        ("machine", [protocol, role, paths @ ..]) => {
             Some(machine_files(alloc, profile, protocol, role, &files, paths, writer))
         }
         _ => None,
@@ -208,32 +245,24 @@ fn answer<R: Print + Files + Threads + Wait + AllocGlobal + Sync, W: Write>(
 where
     R::File: Send,
 {
-    if let Some(answer) = answer_wider(rt, words, writer) {
+    if let Some(answer) = answer_on_modules(rt, words, writer) {
         return Ok(answer);
     }
     let alloc = rt.alloc();
     let files = SystemFiles(rt);
     let reader = &mut input;
-    let answer = match words {
-        ["check", paths @ ..] => check_files(alloc, Profile::Plain, &files, paths, writer),
-        ["project", protocol, role, paths @ ..] => {
-            project_files(alloc, Profile::Plain, protocol, role, &files, paths, writer)
-        }
-        ["machine", protocol, role, paths @ ..] => {
-            machine_files(alloc, Profile::Plain, protocol, role, &files, paths, writer)
-        }
+    match words {
         ["watch", path @ ..] => {
             let path = path.first().copied();
-            watch(alloc, Format::Line, &files, path, reader, writer)
+            Ok(watch(alloc, Format::Line, &files, path, reader, writer))
         }
         ["explain", id, path @ ..] => {
             let id = id_of(id).ok_or(RowsFault::NoCommand)?;
-            explain(alloc, id, &files, path.first().copied(), reader, writer)
+            Ok(explain(alloc, id, &files, path.first().copied(), reader, writer))
         }
-        ["run", words @ ..] => return run_over_service(rt, words, writer),
-        _ => return Err(RowsFault::NoCommand),
-    };
-    Ok(answer)
+        ["run", words @ ..] => run_over_service(rt, words, writer),
+        _ => Err(RowsFault::NoCommand),
+    }
 }
 
 // Runs a command over files, and tells what the program would end with.

@@ -59,17 +59,37 @@ fn judged_whole(alloc: Global, core: &Core, id: u32) -> Result<Vec<u8>, AllocErr
     verdict(alloc, &Told::Judged(judged))
 }
 
+// Makes the step; what `fresh_verdict` is of its reply.
+fn verdict_after(
+    alloc: Global,
+    core: &mut Core,
+    step: Step,
+) -> Result<Option<(u32, Vec<u8>)>, AllocError> {
+    let reply = core.apply(step);
+    fresh_verdict(alloc, &reply)
+}
+
 // Makes the step. Where it comes to a verdict that isn't out of date, whether the text is that of the judgement of the
 // whole log.
 fn agrees(alloc: Global, core: &mut Core, step: Step) -> Result<Option<bool>, RowsFault> {
-    let reply = core.apply(step);
-    match fresh_verdict(alloc, &reply)? {
-        Some((id, told)) => {
-            let whole = judged_whole(alloc, core, id)?;
-            Ok(Some(told.as_slice() == whole.as_slice()))
+    let Some((id, told)) = verdict_after(alloc, core, step)? else {
+        return Ok(None);
+    };
+    let whole = judged_whole(alloc, core, id)?;
+    Ok(Some(told.as_slice() == whole.as_slice()))
+}
+
+// Makes the steps; of how many verdicts the text is that of the judgement of the whole log, and how many there are.
+fn count_agreed(alloc: Global, steps: Vec<Step>) -> Result<(u64, u64), RowsFault> {
+    let mut core = Core::new(alloc);
+    let (mut agreed, mut verdicts) = (0u64, 0u64);
+    for step in steps {
+        if let Some(is_same) = agrees(alloc, &mut core, step)? {
+            verdicts = verdicts.saturating_add(1);
+            agreed = agreed.saturating_add(u64::from(is_same));
         }
-        None => Ok(None),
     }
+    Ok((agreed, verdicts))
 }
 
 /// Makes the steps of the script, and tells how many verdicts came that weren't out of date, and of how many the text
@@ -79,14 +99,8 @@ pub(crate) fn tell_judgements<W: Write>(
     script: &[u8],
     writer: &mut W,
 ) -> Result<(), RowsFault> {
-    let mut core = Core::new(alloc);
-    let (mut verdicts, mut agreed) = (0u64, 0u64);
-    for step in steps_of(alloc, script)? {
-        if let Some(is_same) = agrees(alloc, &mut core, step)? {
-            verdicts = verdicts.saturating_add(1);
-            agreed = agreed.saturating_add(u64::from(is_same));
-        }
-    }
+    let steps = steps_of(alloc, script)?;
+    let (agreed, verdicts) = count_agreed(alloc, steps)?;
     let line = format!(in alloc; "{agreed} of {verdicts} verdicts are those on the whole logs\n")?;
     writer.write_all(line.as_bytes())?;
     Ok(())

@@ -1,10 +1,9 @@
 //! A service, used by one thread as a core is.
 
 use crate::fault::RowsFault;
-use crate::lines::{asked, edited, noted, profiled, push_settling, refused, turned};
+use crate::lines::{asked, edited, noted, profiled, push_settling, refused, replied, turned};
 use scrib_core::reply::{Edit, Reply};
 use scrib_core::step::Step;
-use scrib_report::line::line;
 use scrib_shards::gate::OpenGate;
 use scrib_shards::pass::Pass;
 use scrib_shards::service::Service;
@@ -56,7 +55,7 @@ impl Connected {
         match self.service.open(rt, id, name) {
             Ok(()) => {
                 let name = name.copy()?;
-                Ok(line(self.alloc, &Reply::Opened { id, name })?)
+                replied(self.alloc, Reply::Opened { id, name })
             }
             Err(refusal) => refused(self.alloc, refusal),
         }

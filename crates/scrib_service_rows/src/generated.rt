@@ -5,6 +5,7 @@ use crate::fault::RowsFault;
 use crate::lines::push_line;
 use crate::making::{CHOICE, LOOP, put, step_of};
 use scrib_core::monitor::Core;
+use scrib_core::reply::Reply;
 use scrib_core::step::Step;
 use scrib_report::line::line;
 use scrib_shards::service::Service;
@@ -145,12 +146,18 @@ fn by_service(
     Ok(lines)
 }
 
+fn push_replies(alloc: Global, replies: &[Reply], lines: &mut Vec<u8>) -> Result<(), RowsFault> {
+    for reply in replies {
+        push_line(lines, line(alloc, reply)?.as_slice())?;
+    }
+    Ok(())
+}
+
 // The lines of a core's replies.
 fn by_core(alloc: Global, steps: &[Step]) -> Result<Vec<u8>, RowsFault> {
+    let replies = Core::new(alloc).run(steps)?;
     let mut lines = Vec::new(alloc);
-    for reply in Core::new(alloc).run(steps)?.as_slice() {
-        push_line(&mut lines, line(alloc, reply)?.as_slice())?;
-    }
+    push_replies(alloc, replies.as_slice(), &mut lines)?;
     Ok(lines)
 }
 

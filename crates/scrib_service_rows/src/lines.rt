@@ -5,8 +5,8 @@ use scrib_core::reply::{Edit, Refusal, Reply};
 use scrib_library::changes::Changes;
 use scrib_library::fault::EditFault;
 use scrib_report::line::line;
+use scrib_report::service::{judged_line, mismatch_line};
 use scrib_report::table::table;
-use scrib_report::verdict::verdict;
 use scrib_shards::fault::SettleFault;
 use scrib_shards::pass::Pass;
 use scrib_shards::passing::PassRefusal;
@@ -25,17 +25,21 @@ pub(crate) fn push_line(out: &mut Vec<u8>, text: &[u8]) -> Result<(), RowsFault>
     Ok(())
 }
 
+/// The line of a reply.
+pub(crate) fn replied(alloc: Global, reply: Reply) -> Result<Vec<u8>, RowsFault> {
+    Ok(line(alloc, &reply)?)
+}
+
 /// The answer to an edit.
 pub(crate) fn edited(
     alloc: Global,
     edit: Edit,
     answer: Result<Changes, EditFault>,
 ) -> Result<Vec<u8>, RowsFault> {
-    let reply = match answer {
-        Ok(changes) => Reply::Edited { edit, changes },
-        Err(fault) => Reply::Refused(Refusal::Edit(fault)),
-    };
-    Ok(line(alloc, &reply)?)
+    match answer {
+        Ok(changes) => replied(alloc, Reply::Edited { edit, changes }),
+        Err(fault) => refused(alloc, Refusal::Edit(fault)),
+    }
 }
 
 /// The line of what a change of the profile answers.
@@ -44,11 +48,10 @@ pub(crate) fn profiled(
     profile: Profile,
     answer: Result<(), EditFault>,
 ) -> Result<Vec<u8>, RowsFault> {
-    let reply = match answer {
-        Ok(()) => Reply::Profiled { profile },
-        Err(fault) => Reply::Refused(Refusal::Edit(fault)),
-    };
-    Ok(line(alloc, &reply)?)
+    match answer {
+        Ok(()) => replied(alloc, Reply::Profiled { profile }),
+        Err(fault) => refused(alloc, Refusal::Edit(fault)),
+    }
 }
 
 /// The answer to a note.
@@ -58,7 +61,7 @@ pub(crate) fn noted(
     answer: Result<Noted, PassRefusal>,
 ) -> Result<Vec<u8>, RowsFault> {
     match answer {
-        Ok(Noted { place, told }) => Ok(line(alloc, &Reply::Noted { id, place, told })?),
+        Ok(Noted { place, told }) => replied(alloc, Reply::Noted { id, place, told }),
         Err(refusal) => refused_by_pass(alloc, refusal),
     }
 }
@@ -70,7 +73,7 @@ pub(crate) fn asked(
     answer: Result<Told, PassRefusal>,
 ) -> Result<Vec<u8>, RowsFault> {
     match answer {
-        Ok(told) => judged(alloc, id, &told),
+        Ok(told) => Ok(judged_line(alloc, id, &told)?),
         Err(refusal) => refused_by_pass(alloc, refusal),
     }
 }
@@ -82,14 +85,14 @@ pub(crate) fn turned(
     answer: Result<Told, Refusal>,
 ) -> Result<Vec<u8>, RowsFault> {
     match answer {
-        Ok(told) => judged(alloc, id, &told),
+        Ok(told) => Ok(judged_line(alloc, id, &told)?),
         Err(refusal) => refused(alloc, refusal),
     }
 }
 
 /// The line of a refused step.
 pub(crate) fn refused(alloc: Global, refusal: Refusal) -> Result<Vec<u8>, RowsFault> {
-    Ok(line(alloc, &Reply::Refused(refusal))?)
+    replied(alloc, Reply::Refused(refusal))
 }
 
 /// What settling answers: the table.
@@ -111,7 +114,7 @@ pub(crate) fn push_settling(
 ) -> Result<(), RowsFault> {
     match service.settle(passes) {
         Ok(settled) => push_settled(alloc, out, &settled),
-        Err((fault, _, _)) => push_fault(out, &fault),
+        Err((fault, _, _)) => push_fault(alloc, out, &fault),
     }
 }
 
@@ -127,7 +130,7 @@ pub(crate) fn push_settling_twice(
     match service.settle(passes) {
         Ok(settled) => push_settled(alloc, out, &settled),
         Err((fault, service, passes)) => {
-            push_fault(out, &fault)?;
+            push_fault(alloc, out, &fault)?;
             push_settling_with(alloc, service, passes, last, out)
         }
     }
@@ -146,28 +149,23 @@ fn push_settling_with(
 }
 
 /// The line of a refused settling.
-pub(crate) fn push_fault(out: &mut Vec<u8>, fault: &SettleFault) -> Result<(), RowsFault> {
+pub(crate) fn push_fault(
+    alloc: Global,
+    out: &mut Vec<u8>,
+    fault: &SettleFault,
+) -> Result<(), RowsFault> {
     match fault {
         SettleFault::PassesMissing { shard } => {
             push_bytes(out, b"refused PassesMissing ")?;
             push_number(out, *shard as u64)?;
+            push_line(out, b"")
         }
         SettleFault::Mismatch {
             conversation,
             place,
-        } => push_mismatch(out, *conversation, *place)?,
-        SettleFault::OutOfMemory => push_bytes(out, b"refused OutOfMemory")?,
+        } => push_line(out, mismatch_line(alloc, *conversation, *place)?.as_slice()),
+        SettleFault::OutOfMemory => push_line(out, b"refused OutOfMemory"),
     }
-    push_bytes(out, b"\n")?;
-    Ok(())
-}
-
-fn judged(alloc: Global, id: u32, told: &Told) -> Result<Vec<u8>, RowsFault> {
-    let mut text = Vec::new(alloc);
-    push_number(&mut text, u64::from(id))?;
-    push_bytes(&mut text, b" ")?;
-    push_bytes(&mut text, verdict(alloc, told)?.as_slice())?;
-    Ok(text)
 }
 
 fn refused_by_pass(alloc: Global, refusal: PassRefusal) -> Result<Vec<u8>, RowsFault> {
@@ -175,19 +173,7 @@ fn refused_by_pass(alloc: Global, refusal: PassRefusal) -> Result<Vec<u8>, RowsF
         PassRefusal::Mismatch {
             conversation,
             place,
-        } => {
-            let mut text = Vec::new(alloc);
-            push_mismatch(&mut text, conversation, place)?;
-            Ok(text)
-        }
+        } => Ok(mismatch_line(alloc, conversation, place)?),
         PassRefusal::Step(refusal) => refused(alloc, refusal),
     }
-}
-
-fn push_mismatch(out: &mut Vec<u8>, conversation: u32, place: usize) -> Result<(), RowsFault> {
-    push_bytes(out, b"refused Mismatch ")?;
-    push_number(out, u64::from(conversation))?;
-    push_bytes(out, b" ")?;
-    push_number(out, place as u64)?;
-    Ok(())
 }

@@ -2,11 +2,10 @@
 
 use crate::connected::Connected;
 use crate::fault::RowsFault;
-use crate::lines::push_line;
+use crate::lines::{push_line, replied};
 use crate::making::{put, step_of};
 use scrib_core::monitor::Core;
 use scrib_core::step::Step;
-use scrib_report::line::line;
 use scrib_shards::service::{Service, ServiceFault};
 use scrib_types::text::push_bytes;
 use std::alloc::Global;
@@ -48,7 +47,7 @@ fn push_step(
 ) -> Result<(), RowsFault> {
     let told = connected.make(rt, &step)?;
     push_line(out, told.as_slice())?;
-    let by_core = line(alloc, &core.apply(step))?;
+    let by_core = replied(alloc, core.apply(step))?;
     if told.as_slice() != by_core.as_slice() {
         push_bytes(out, b"but the core: ")?;
         push_line(out, by_core.as_slice())?;

@@ -64,6 +64,25 @@ pub(crate) fn push_one_worker<R: Threads + Wait + Sync>(
     push_counts(out, sweep(rt, alloc, &service, 1, &OpenGate)?)
 }
 
+// Sweeps by so many workers, and tells where that is refused.
+fn push_number_of_workers<R: Threads + Wait + Sync>(
+    rt: &R,
+    alloc: Global,
+    service: &Service,
+    workers: usize,
+    out: &mut Vec<u8>,
+) -> Result<(), RowsFault> {
+    match sweep(rt, alloc, service, workers, &OpenGate) {
+        Ok(_) => Ok(()),
+        Err(SweepFault::BadWorkers) => {
+            push_bytes(out, b"refused BadWorkers ")?;
+            push_number(out, workers as u64)?;
+            push_line(out, b"")
+        }
+        Err(fault) => Err(fault.into()),
+    }
+}
+
 /// What is refused of sweeps by so many workers, from none to the most.
 pub(crate) fn push_numbers_of_workers<R: Threads + Wait + Sync>(
     rt: &R,
@@ -73,15 +92,7 @@ pub(crate) fn push_numbers_of_workers<R: Threads + Wait + Sync>(
 ) -> Result<(), RowsFault> {
     let service = service(rt, alloc, 1, LOOP)?;
     for workers in 0..=most {
-        match sweep(rt, alloc, &service, workers, &OpenGate) {
-            Ok(_) => {}
-            Err(SweepFault::BadWorkers) => {
-                push_bytes(out, b"refused BadWorkers ")?;
-                push_number(out, workers as u64)?;
-                push_line(out, b"")?;
-            }
-            Err(fault) => return Err(fault.into()),
-        }
+        push_number_of_workers(rt, alloc, &service, workers, out)?;
     }
     Ok(())
 }

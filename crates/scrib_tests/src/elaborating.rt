@@ -1,6 +1,7 @@
 //! Elaboration of module texts that are too large to be written down: how many nodes a protocol has, or the fault.
 
 use scrib_elaborate::elaborate::elaborate;
+use scrib_elaborate::elaborated::Elaborated;
 use scrib_lexer::lex::lex;
 use scrib_modules::fault::{ElaborateFault, Fault};
 use scrib_modules::modules::Modules;
@@ -32,17 +33,16 @@ fn fault_line(alloc: Global, fault: &Fault) -> Result<Vec<u8>, Fail> {
     Ok(line)
 }
 
-// How many nodes the protocol of this name has, in the module `t` that the text is.
-fn told(alloc: Global, text: &str, protocol: &str) -> Result<Vec<u8>, Fail> {
-    let modules = modules(alloc, text)?;
+// The name of the module.
+fn module_name(alloc: Global) -> Result<Dotted, Fail> {
     let mut names = Vec::new(alloc);
     names.push(name(alloc, "t")?)?;
-    match elaborate(
-        alloc,
-        &modules,
-        &Dotted::from_vec(alloc, names)?,
-        &name(alloc, protocol)?,
-    ) {
+    Ok(Dotted::from_vec(alloc, names)?)
+}
+
+// How many nodes there are, or the fault.
+fn told_of(alloc: Global, answer: Result<Elaborated, ElaborateFault>) -> Result<Vec<u8>, Fail> {
+    match answer {
         Ok(elaborated) => {
             let count = format!(in alloc; "{}", elaborated.nodes())?;
             Ok(count.into_bytes())
@@ -50,6 +50,14 @@ fn told(alloc: Global, text: &str, protocol: &str) -> Result<Vec<u8>, Fail> {
         Err(ElaborateFault::Broken(fault)) => fault_line(alloc, &fault),
         Err(ElaborateFault::OutOfMemory) => Err(Fail::new("out of memory")),
     }
+}
+
+// How many nodes the protocol of this name has, in the module `t` that the text is.
+fn told(alloc: Global, text: &str, protocol: &str) -> Result<Vec<u8>, Fail> {
+    let modules = modules(alloc, text)?;
+    let module = module_name(alloc)?;
+    let protocol = name(alloc, protocol)?;
+    told_of(alloc, elaborate(alloc, &modules, &module, &protocol))
 }
 
 // The protocol `T` of the roles A, B and C in the module `t`, with this body on line 2.

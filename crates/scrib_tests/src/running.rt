@@ -104,7 +104,7 @@ fn obey(
 }
 
 // Obeys the command over the text by pieces of this size, with a read and a write or flush that fail, and none at 0.
-fn outcome(
+fn outcome_of(
     alloc: Global,
     command: Command,
     text: &[u8],
@@ -174,7 +174,7 @@ const ROWS: [(Command, &[u8], &[u8]); 8] = [
 fn obeys_by_pieces(rt: HostRuntime) -> Result<(), Fail> {
     for size in [1usize, 2, 7, 8192] {
         for (command, text, want) in ROWS {
-            let found = outcome(rt.alloc(), command, text, size, (0, 0));
+            let found = outcome_of(rt.alloc(), command, text, size, (0, 0));
             found.answer?;
             assert_eq!(rt; found.output.as_slice(), want);
             assert!(rt;
@@ -194,9 +194,9 @@ fn fail_reads(
     (command, text, want): (Command, &[u8], &[u8]),
     size: usize,
 ) {
-    let reads = outcome(alloc, command, text, size, (0, 0)).reads;
+    let reads = outcome_of(alloc, command, text, size, (0, 0)).reads;
     for at in 1..reads.saturating_add(1) {
-        let Outcome { answer, output, .. } = outcome(alloc, command, text, size, (at, 0));
+        let Outcome { answer, output, .. } = outcome_of(alloc, command, text, size, (at, 0));
         assert!(rt;
             matches!(answer, Err(ScriptFault::Read)),
             "read {at} of {size} bytes"
@@ -219,9 +219,9 @@ fn fail_writes(
     (command, text, want): (Command, &[u8], &[u8]),
     size: usize,
 ) {
-    let writes = outcome(alloc, command, text, size, (0, 0)).writes;
+    let writes = outcome_of(alloc, command, text, size, (0, 0)).writes;
     for at in 1..writes.saturating_add(1) {
-        let Outcome { answer, output, .. } = outcome(alloc, command, text, size, (0, at));
+        let Outcome { answer, output, .. } = outcome_of(alloc, command, text, size, (0, at));
         assert!(rt;
             matches!(answer, Err(ScriptFault::Write)),
             "write {at} of {size} bytes"
@@ -301,7 +301,7 @@ fn refuses_a_long_line(rt: HostRuntime) -> Result<(), Fail> {
     ];
     for (length, want) in rows {
         let script = long_script(rt.alloc(), length)?;
-        let found = outcome(rt.alloc(), Command::Watch, &script, 8192, (0, 0));
+        let found = outcome_of(rt.alloc(), Command::Watch, &script, 8192, (0, 0));
         found.answer?;
         assert_eq!(rt;
             found.output.as_slice(),

@@ -5,6 +5,7 @@ use scrib_library::fault::EditFault;
 use scrib_library::library::Library;
 use scrib_types::name::{Dotted, Name};
 use std::alloc::Global;
+use std::process::Abort;
 use std::test::Fail;
 
 const A: &str = "module f; global protocol P(role A, role B) { a() from A to B; }";
@@ -64,16 +65,19 @@ fn is_withdrawn(alloc: Global, library: &mut Library) -> Result<bool, Fail> {
     }
 }
 
+// No put is accepted that would use a version more. One without a change is, and so is a withdrawal.
+fn check_full(rt: &impl Abort, alloc: Global, library: &mut Library) -> Result<(), Fail> {
+    assert!(rt; matches!(library.put(A.as_bytes()), Err(EditFault::VersionsFull)));
+    assert_eq!(rt; number(alloc, library, &["f", "P"])?, 65_535);
+    assert_eq!(rt; count_changes(library, B)?, 0);
+    assert_eq!(rt; is_withdrawn(alloc, library)?, true);
+    Ok(())
+}
+
 #[test]
 fn versions_run_out(rt: HostRuntime) -> Result<(), Fail> {
-    let alloc = rt.alloc();
-    let mut library = Library::new(alloc);
+    let mut library = Library::new(rt.alloc());
     assert_eq!(rt; use_all_versions(&mut library)?, true);
     assert_eq!(rt; library.used(), 65_536);
-    assert!(rt; matches!(library.put(A.as_bytes()), Err(EditFault::VersionsFull)));
-    assert_eq!(rt; number(alloc, &library, &["f", "P"])?, 65_535);
-    assert_eq!(rt; count_changes(&mut library, B)?, 0);
-    // a withdrawal needs no version
-    assert_eq!(rt; is_withdrawn(alloc, &mut library)?, true);
-    Ok(())
+    check_full(&rt, rt.alloc(), &mut library)
 }

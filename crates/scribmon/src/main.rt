@@ -172,18 +172,26 @@ fn run_command<'a>(alloc: Global) -> Result<Command<'a>, AllocError> {
         .arg(connections_arg(alloc))
 }
 
+// With one command more, where it could be made.
+fn with_one<'a>(
+    line: Command<'a>,
+    command: Result<Command<'a>, AllocError>,
+) -> Result<Command<'a>, AllocError> {
+    line.subcommand(command?)
+}
+
 // With the commands that read modules.
 fn with_modules<'a>(alloc: Global, line: Command<'a>) -> Result<Command<'a>, AllocError> {
-    let line = line.subcommand(check_command(alloc)?)?;
-    let line = line.subcommand(project_command(alloc)?)?;
-    line.subcommand(machine_command(alloc)?)
+    let line = with_one(line, check_command(alloc))?;
+    let line = with_one(line, project_command(alloc))?;
+    with_one(line, machine_command(alloc))
 }
 
 // With the commands that read a script.
 fn with_scripts<'a>(alloc: Global, line: Command<'a>) -> Result<Command<'a>, AllocError> {
-    let line = line.subcommand(watch_command(alloc)?)?;
-    let line = line.subcommand(explain_command(alloc)?)?;
-    line.subcommand(run_command(alloc)?)
+    let line = with_one(line, watch_command(alloc))?;
+    let line = with_one(line, explain_command(alloc))?;
+    with_one(line, run_command(alloc))
 }
 
 fn command<'a>(alloc: Global) -> Result<Command<'a>, AllocError> {
