@@ -165,7 +165,13 @@ impl<'a> Connection<'a> {
         let Ok(pass) = self.pass_to(rt, id) else {
             return self.note_each(rt, id, events);
         };
-        for answer in service.note_all(rt, pass, events, room, &OpenGate) {
+        let answers = service.note_all(rt, pass, events, room, &OpenGate);
+        self.tell_answers(id, answers)
+    }
+
+    // Adds the lines of what the notes of the conversation answered.
+    fn tell_answers(&mut self, id: u32, answers: Vec<PassAnswer>) -> Result<(), ScriptFault> {
+        for answer in answers {
             self.tell_answer(&noted_answer(id, answer), Format::Line)?;
         }
         Ok(())
@@ -203,19 +209,23 @@ impl<'a> Connection<'a> {
     fn tell_now(&mut self, rt: &impl Wait, item: Item, number: u32) -> Result<(), ScriptFault> {
         match item {
             Item::Step(Format::Json, Step::Turn { .. } | Step::Ask { .. }) => self.tell_bad(number),
-            Item::Step(asked, step) => {
-                let answer = self.carry_out(rt, step);
-                if is_change(&answer) {
-                    self.send_notices(rt);
-                }
-                self.tell_answer(&answer, asked)
-            }
+            Item::Step(asked, step) => self.make(rt, asked, step),
             Item::BadLine(number) => self.tell_bad(number),
             Item::EndOfText => {
                 push_bytes(&mut self.lines, end_of_text(self.format))?;
                 Ok(())
             }
         }
+    }
+
+    // Makes the step, names each shard where it changed a protocol, and adds the line of what is answered, which is asked
+    // for in this format.
+    fn make(&mut self, rt: &impl Wait, asked: Format, step: Step) -> Result<(), ScriptFault> {
+        let answer = self.carry_out(rt, step);
+        if is_change(&answer) {
+            self.send_notices(rt);
+        }
+        self.tell_answer(&answer, asked)
     }
 
     /// Adds the line that its reader failed.
