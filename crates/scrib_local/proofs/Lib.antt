@@ -1,3 +1,4 @@
+pub mod Alike
 pub mod Fitting
 pub mod Parts
 pub mod Seen

@@ -3,6 +3,7 @@
 use Rattle.std.specs.Prelude.{Bool, false, not, Option, Some, None, is_some, option_and_then}
 use Rattle.scrib_types.specs.declared.message.Message.{Message}
 use Rattle.scrib_types.specs.declared.profile.Profile.{Profile}
+use Rattle.scrib_types.specs.declared.local.Local.{Local}
 use Rattle.scrib_types.specs.Trees.{LocalTree, LocalBranches, NoChoice, Choice}
 use Rattle.scrib_types.specs.LocalView.{local_of}
 use Rattle.scrib_types.specs.Projection.{merged, merged_with}
@@ -11,6 +12,11 @@ use Rattle.scrib_local.specs.declared.alternatives.Fit.TheVariants.{Known, New, 
 use Rattle.scrib_local.specs.declared.merge.Merge.{Merge}
 use Rattle.scrib_local.specs.declared.merge.Merge.TheVariants.{Empty, One, Differ, Undefined}
 use Rattle.scrib_local.specs.Differences.{differ}
+
+-- what one branch comes to alone
+abbrev pub merge_of : Option Local → Merge
+merge_of None = Undefined
+merge_of (Some l) = One l
 
 -- the one local type of these branches and the ones that follow
 abbrev pub merged_after : Profile → Merge → Option LocalBranches → Option LocalTree

@@ -3,7 +3,7 @@ use Rattle.std.specs.Prelude.{◌≡◌, ℕ, ◌-◌, ◌^◌, min, List, [], �
 use Rattle.scrib_types.specs.declared.message.Message.{Message}
 use Rattle.scrib_types.specs.declared.profile.Profile.{Profile}
 use Rattle.scrib_types.specs.declared.local.Local.{Local}
-use Rattle.scrib_types.specs.Trees.{GlobalTree, GlobalBranches, LocalBranches, NoChoice}
+use Rattle.scrib_types.specs.Trees.{GlobalTree, GlobalBranches, NoBranch, Branch, LocalBranches, NoChoice}
 use Rattle.scrib_types.specs.LocalView.{local_of, local_branches}
 use Rattle.scrib_types.specs.Projection.{open_depth, branches_open_depth, occurs, branches_occur, projection, branch_projections, merged}
 use Rattle.scrib_local.specs.Differences.{joins, branch_joins, differ, first_difference, first_among}
@@ -33,6 +33,11 @@ pub record IsBranchSurvey (profile : Profile) (r : List ℕ) (bs : GlobalBranche
 pub record IsSight (profile : Profile) (r : List ℕ) (g : GlobalTree) (s : Sight) : Type 0 where
   pub survey : IsSurvey profile r g s.survey
   pub local : option_map local_of s.local ≡ projection profile r g
+
+-- the role sees the type of each branch so
+abbrev pub AreSeen : Profile → List ℕ → Sight → GlobalBranches → Type 0
+AreSeen profile r s NoBranch = Unit {0}
+AreSeen profile r s (Branch m g bs) = IsSight profile r g s × AreSeen profile r s bs
 
 -- the branches' projections that these are
 abbrev pub offered : Option (List (Message × Local)) → Option LocalBranches

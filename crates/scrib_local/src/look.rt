@@ -1,12 +1,12 @@
 //! Projection, by one pass from the leaves up.
 
-ghost use Rattle.std.specs.Prelude.{◌≡◌, ◌≤◌, ℕ, List, IfOk, false, Some, None, option_map};
+ghost use Rattle.std.specs.Prelude.{◌≡◌, ◌≤◌, ◌<◌, ℕ, List, length, IfOk, IfSome, false, Some, None, option_map};
 ghost use Rattle.scrib_types.specs.declared.profile.Profile.{Profile};
 ghost use Rattle.scrib_types.specs.Trees.{GlobalTree, GlobalRec, Send, Recv};
 ghost use Rattle.scrib_types.specs.GlobalView.{global_of, global_branches};
 ghost use Rattle.scrib_types.specs.LocalView.{local_of};
-ghost use Rattle.scrib_types.specs.Nodes.{global_nodes};
-ghost use Rattle.scrib_local.specs.Surveys.{IsSight, IsOffer, AreOthers, offered, with_branch};
+ghost use Rattle.scrib_types.specs.Nodes.{global_nodes, branch_nodes};
+ghost use Rattle.scrib_local.specs.Surveys.{IsSight, AreSeen, IsOffer, AreOthers, offered, with_branch};
 
 use crate::merge::Merge;
 use crate::survey::Survey;
@@ -122,7 +122,8 @@ fn look_branches(
     Ok(Offer { survey, locals })
 }
 
-/// The branches as the role sees them, which has no part in their communication.
+/// The branches as the role sees them, which has no part in their communication. Where it sees them alike, as mostly
+/// where what follows a choice is the same, one is looked at for all.
 #[cycle(look)]
 fn merge_branches(
     alloc: Global,
@@ -132,6 +133,10 @@ fn merge_branches(
 ) -> Result<Others, AllocError>
     ensures { IfOk result (AreOthers profile role.now (global_branches branches.now)) }
 {
+    if let Some(global) = alike(branches, role) {
+        let sight = look(alloc, global, role, profile)?;
+        return Ok(repeated(sight, branches));
+    }
     let mut survey = Survey::leaf(0);
     let mut merge = Merge::Empty;
     for (_, global) in branches {
@@ -140,6 +145,37 @@ fn merge_branches(
         merge = merge.with(alloc, profile, sight.local)?;
     }
     Ok(Others { survey, merge })
+}
+
+/// The one type as which the role sees each of the branches, if it begins them alike behind what it has no part in.
+fn alike<'a>(branches: &'a [(SharedMessage, GlobalType)], role: &Role) -> Option<&'a GlobalType>
+    ensures seen { IfSome result (λ g. (profile : Profile) (s : Sight) → IsSight profile role.now (global_of g.now) s → AreSeen profile role.now s (global_branches branches.now)) }
+    ensures within { IfSome result (λ g. global_nodes (global_of g.now) ≤ branch_nodes (global_branches branches.now)) }
+    ensures some { IfSome result (λ _. 0 < length branches.now) }
+{
+    let Some(((_, first), more)) = branches.split_first() else {
+        return None;
+    };
+    let first = passed(first, role);
+    for (_, global) in more {
+        if !GlobalType::equal(first, passed(global, role)) {
+            return None;
+        }
+    }
+    Some(first)
+}
+
+/// The branches as a role sees them that sees each of them so.
+fn repeated(sight: Sight, branches: &[(SharedMessage, GlobalType)]) -> Others
+    requires { 0 < length branches.now }
+    ensures { (profile : Profile) (r : List ℕ) → AreSeen profile r sight (global_branches branches.now) → AreOthers profile r (global_branches branches.now) result }
+{
+    let mut survey = Survey::leaf(0);
+    for _ in branches {
+        survey = survey.with_branch(sight.survey);
+    }
+    let merge = Merge::of(sight.local);
+    Others { survey, merge }
 }
 
 /// One more branch, where all have projections.

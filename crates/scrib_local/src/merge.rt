@@ -36,7 +36,17 @@ impl Merge {
     ghost use Rattle.scrib_types.specs.Trees.{LocalBranches, NoChoice};
     ghost use Rattle.scrib_types.specs.LocalView.{local_of};
     ghost use Rattle.scrib_types.specs.Projection.{with_choice};
-    ghost use Rattle.scrib_local.specs.Merging.{merged_after, differ_after};
+    ghost use Rattle.scrib_local.specs.Merging.{merge_of, merged_after, differ_after};
+
+    /// What one branch alone comes to, which has this projection, or none.
+    pub fn of(branch: Option<Local>) -> Merge
+        ensures { result ≡ merge_of branch }
+    {
+        match branch {
+            Some(local) => Merge::One(local),
+            None => Merge::Undefined,
+        }
+    }
 
     /// What they come to with one branch more, which has this projection, or none.
     ///

@@ -69,6 +69,13 @@ look_branches-returns t c =
 
 pub merge_branches-look-requires : goal.merge_branches-look-requires
 merge_branches-look-requires t c =
+    let falls : 2 * global_nodes (global_of c.in-Some.global.now) < t = omega (arith, c.decreases, c.in-Some.ensures.within) in (falls, tt)
+
+pub merge_branches-returns-in-Some : goal.merge_branches-returns-in-Some
+merge_branches-returns-in-Some t c = c.repeated.ensures c.args.profile c.args.role.now (c.in-Some.ensures.seen c.args.profile c.in_ok-sight.sight c.in_ok-sight.ensures)
+
+pub merge_branches-look-requires-in-loop-global : goal.merge_branches-look-requires-in-loop-global
+merge_branches-look-requires-in-loop-global t c =
     let falls : 2 * global_nodes (global_of c.loop-global-item.result.1) < t = omega (arith, c.decreases, nodes_within c.args.branches.now c.loop-global.global-index c.loop-global-item.result c.loop-global-item.is c.loop-global-test.true) in (falls, tt)
 
 pub merge_branches-loop-global-preserved : goal.merge_branches-loop-global-preserved
@@ -77,9 +84,9 @@ merge_branches-loop-global-preserved t c =
     let s = c.with_branch-survey.ensures in
     let so = c.loop-global.invariant in
     record {
-      surveyed = step c.args.profile c.args.role.now _ _ _ c.in_ok-sight.sight _ more c.in_ok-sight.ensures _ _ c.with_branch-survey.result s.depth s.occurs s.joins s.first so.surveyed;
-      merging = merge_step c.args.profile c.args.role.now _ _ _ c.in_ok-sight.sight _ more c.in_ok-sight.ensures c.loop-global.merge _ _ c.in_ok-merge.ensures.merged so.merging;
-      differing = differ_step c.args.profile c.args.role.now _ _ _ c.in_ok-sight.sight _ more c.in_ok-sight.ensures c.loop-global.merge _ _ c.in_ok-merge.ensures.differ so.differing;
+      surveyed = step c.args.profile c.args.role.now _ _ _ c.in_ok-sight-2.sight _ more c.in_ok-sight-2.ensures _ _ c.with_branch-survey.result s.depth s.occurs s.joins s.first so.surveyed;
+      merging = merge_step c.args.profile c.args.role.now _ _ _ c.in_ok-sight-2.sight _ more c.in_ok-sight-2.ensures c.loop-global.merge _ _ c.in_ok-merge.ensures.merged so.merging;
+      differing = differ_step c.args.profile c.args.role.now _ _ _ c.in_ok-sight-2.sight _ more c.in_ok-sight-2.ensures c.loop-global.merge _ _ c.in_ok-merge.ensures.differ so.differing;
     }
 
 pub merge_branches-returns : goal.merge_branches-returns
