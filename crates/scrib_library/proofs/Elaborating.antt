@@ -24,6 +24,7 @@ use Rattle.scrib_project.specs.declared.fault.ProjectFault.{ProjectFault}
 use Rattle.scrib_project.specs.declared.fault.ProjectFault.TheVariants as project
 use Rattle.scrib_project.specs.Faults.{Agrees, IsPlaced, IsFaultPlaced}
 use Rattle.scrib_project.proofs.Protocols.{all_project}
+use Rattle.scrib_record.specs.declared.compilation.Compiled.{Compiled}
 use Rattle.scrib_library.specs.declared.declared.Entry.{Entry}
 use Rattle.scrib_library.specs.declared.meanings.NamedElaborated.{NamedElaborated}
 use Rattle.scrib_library.specs.declared.meanings.NamedMeaning.{NamedMeaning}
@@ -79,18 +80,18 @@ module _ (ms : List ModuleTree) (es : List Entry) where
 pub projects_made : (profile : Profile) (a : Agreement) (p : Protocol) → Agrees profile a (Ok p) → ProjectsUnder profile (Some (agreement_of p))
 projects_made profile a p k = subst (λ (x : Agreement). projects profile x.global x.roles ≡ true) (sym k.0) (all_project profile a.global a.roles k.1)
 
-pub projected_named : (profile : Profile) (x : NamedElaborated) (e : Elaborated) (p : ProjectedProtocol) (o : Option ProjectedProtocol) → x.elaborated ≡ Some e → Agrees profile (meaning_of e) (Ok p.protocol) → o ≡ Some p → IsProjected profile x (record { name = x.name; projected = o })
-projected_named profile x e p o from k is =
-    let shown : option_map (λ (q : ProjectedProtocol). agreement_of q.protocol) o ≡ Some (agreement_of p.protocol) = ap (option_map (λ (q : ProjectedProtocol). agreement_of q.protocol)) is in
+pub projected_named : (profile : Profile) (x : NamedElaborated) (e : Elaborated) (p : ProjectedProtocol) (c : Compiled) (o : Option Compiled) → x.elaborated ≡ Some e → Agrees profile (meaning_of e) (Ok p.protocol) → agreement_of c.protocol ≡ agreement_of p.protocol → o ≡ Some c → IsProjected profile x (record { name = x.name; compiled = o })
+projected_named profile x e p c o from k same is =
+    let shown : option_map (λ (d : Compiled). agreement_of d.protocol) o ≡ Some (agreement_of p.protocol) = ap (option_map (λ (d : Compiled). agreement_of d.protocol)) is ∙ ap Some same in
     record {
       named = refl;
       means = shown ∙ ap Some k.0 ∙ ap (option_map meaning_of) (sym from);
       projected = subst (ProjectsUnder profile) (sym shown) (projects_made profile (meaning_of e) p.protocol k);
     }
 
-pub nothing_named : (profile : Profile) (x : NamedElaborated) (o : Option ProjectedProtocol) → x.elaborated ≡ None → o ≡ None → IsProjected profile x (record { name = x.name; projected = o })
+pub nothing_named : (profile : Profile) (x : NamedElaborated) (o : Option Compiled) → x.elaborated ≡ None → o ≡ None → IsProjected profile x (record { name = x.name; compiled = o })
 nothing_named profile x o from is =
-    let shown : option_map (λ (q : ProjectedProtocol). agreement_of q.protocol) o ≡ None = ap (option_map (λ (q : ProjectedProtocol). agreement_of q.protocol)) is in
+    let shown : option_map (λ (d : Compiled). agreement_of d.protocol) o ≡ None = ap (option_map (λ (d : Compiled). agreement_of d.protocol)) is in
     record { named = refl; means = shown ∙ ap (option_map meaning_of) (sym from); projected = subst (ProjectsUnder profile) (sym shown) tt }
 
 pub unprojected_named : (profile : Profile) (x : NamedElaborated) (e : Elaborated) (f : ProjectFault) → x.elaborated ≡ Some e → Agrees profile (meaning_of e) (Err f)

@@ -4,7 +4,7 @@ use Rattle.std.specs.Prelude.{◌≡◌, ◌≢◌, ◌⊎◌, ◌↔◌, ℕ, �
 use Rattle.std.specs.Option.{option_map}
 use Rattle.scrib_types.specs.Agreement.{Agreement}
 use Rattle.scrib_types.specs.Meaning.{agreement_of}
-use Rattle.scrib_project.specs.declared.projected.ProjectedProtocol.{ProjectedProtocol}
+use Rattle.scrib_record.specs.declared.compilation.Compiled.{Compiled}
 use Rattle.scrib_record.specs.declared.version.Version.{Version}
 use Rattle.scrib_record.specs.Versions.{meaning_of, number_of}
 use Rattle.scrib_library.specs.declared.versions.NamedVersion.{NamedVersion}
@@ -42,12 +42,12 @@ abbrev pub meaning_before : Option Version → Option Agreement
 meaning_before o = option_map meaning_of o
 
 -- the edit gives the name a new version of the protocol, with this number
-pub record IsMadeAnew (kind : ChangeKind) (name : List (List ℕ)) (p : ProjectedProtocol) (k : ℕ) (e : VersionEdit) : Type 0 where
+pub record IsMadeAnew (kind : ChangeKind) (name : List (List ℕ)) (c : Compiled) (k : ℕ) (e : VersionEdit) : Type 0 where
   pub kind_is : e.kind ≡ kind
   pub named : e.name ≡ name
   pub version : Version
   pub made : e.version ≡ Some version
-  pub meaning : meaning_of version ≡ agreement_of p.protocol
+  pub meaning : meaning_of version ≡ agreement_of c.protocol
   pub number : number_of version ≡ k
   pub few : k < 65536
 

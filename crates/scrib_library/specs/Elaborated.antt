@@ -12,9 +12,9 @@ use Rattle.scrib_modules.specs.Elaboration.{Elaborates}
 use Rattle.scrib_modules.specs.Faults.{IsBroken}
 use Rattle.scrib_elaborate.specs.Meaning.{meaning_of}
 use Rattle.scrib_elaborate.specs.Sites.{AreSites}
-use Rattle.scrib_project.specs.declared.projected.ProjectedProtocol.{ProjectedProtocol}
 use Rattle.scrib_project.specs.declared.fault.Unmergeable.{Unmergeable}
 use Rattle.scrib_project.specs.Faults.{first_without, IsPlaced}
+use Rattle.scrib_record.specs.declared.compilation.Compiled.{Compiled}
 use Rattle.scrib_library.specs.declared.declared.Entry.{Entry}
 use Rattle.scrib_library.specs.declared.meanings.NamedElaborated.{NamedElaborated}
 use Rattle.scrib_library.specs.declared.meanings.NamedMeaning.{NamedMeaning}
@@ -34,7 +34,7 @@ abbrev pub found : NamedElaborated → Option Agreement
 found x = option_map meaning_of x.elaborated
 
 abbrev pub meant : NamedMeaning → Option Agreement
-meant y = option_map (λ (p : ProjectedProtocol). agreement_of p.protocol) y.projected
+meant y = option_map (λ (c : Compiled). agreement_of c.protocol) y.compiled
 
 -- it projects on each of its roles under the profile, if it is there
 abbrev pub ProjectsUnder : Profile → Option Agreement → Type 0

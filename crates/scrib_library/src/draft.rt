@@ -14,7 +14,7 @@ use crate::hints::Hints;
 use crate::library::MAX_VERSIONS;
 use crate::meanings::NamedMeaning;
 use crate::versions::{NamedVersion, VersionEdit, version_near};
-use scrib_project::projected::ProjectedProtocol;
+use scrib_record::compilation::Compiled;
 use scrib_record::version::Version;
 use scrib_types::name::Dotted;
 use scrib_types::plain::Items;
@@ -99,23 +99,23 @@ fn edit_of(
     ensures ok { IfOk result (IsEdit (option_copied before.entry) named used) }
     ensures fault { IfErr result (LacksVersion (option_copied before.entry) named used) }
 {
-    let NamedMeaning { name, projected } = named;
-    match (before, projected) {
+    let NamedMeaning { name, compiled } = named;
+    match (before, compiled) {
         (None, None) => Ok(None),
         (Some(_), None) => Ok(Some(VersionEdit {
             kind: ChangeKind::Withdrawn,
             name,
             version: None,
         })),
-        (None, Some(projected)) => {
-            let edit = anew(alloc, ChangeKind::Added, name, projected, used)?;
+        (None, Some(compiled)) => {
+            let edit = anew(alloc, ChangeKind::Added, name, compiled, used)?;
             Ok(Some(edit))
         }
-        (Some(before), Some(projected)) => {
-            if Protocol::same_meaning(before.protocol(), &projected.protocol) {
+        (Some(before), Some(compiled)) => {
+            if Protocol::same_meaning(before.protocol(), compiled.protocol()) {
                 return Ok(None);
             }
-            let edit = anew(alloc, ChangeKind::Replaced, name, projected, used)?;
+            let edit = anew(alloc, ChangeKind::Replaced, name, compiled, used)?;
             Ok(Some(edit))
         }
     }
@@ -126,21 +126,16 @@ fn anew(
     alloc: Global,
     kind: ChangeKind,
     name: Dotted,
-    projected: ProjectedProtocol,
+    compiled: Compiled,
     number: u32,
 ) -> Result<VersionEdit, EditFault>
-    ensures ok { IfOk result (IsMadeAnew kind name projected number) }
+    ensures ok { IfOk result (IsMadeAnew kind name compiled number) }
     ensures fault { IfErr result (LacksNumber number) }
 {
     if number >= MAX_VERSIONS {
         return Err(EditFault::VersionsFull);
     }
-    let ProjectedProtocol {
-        protocol,
-        locals,
-        ..
-    } = projected;
-    let version = Version::new(alloc, protocol, locals.as_slice(), number)?;
+    let version = Version::new(alloc, compiled, number)?;
     Ok(VersionEdit {
         kind,
         name,

@@ -2,6 +2,7 @@
 
 ghost use Rattle.std.specs.Prelude.{◌≡◌, IfOk, IfErr};
 ghost use Rattle.scrib_types.specs.declared.profile.Profile as held;
+ghost use Rattle.scrib_types.specs.Meaning.{agreement_of};
 ghost use Rattle.scrib_library.specs.Listed.{AreInOrder};
 ghost use Rattle.scrib_library.specs.Entries.{entry_names, AreStanding};
 ghost use Rattle.scrib_library.specs.Elaborated.{IsFoundFor, IsBrokenEntry, AreElaborated, AreMeanings, IsProjected, StopsNamed, AreProjected, IsRefusal, StopsProjection};
@@ -15,6 +16,7 @@ use scrib_modules::modules::Modules;
 use scrib_parser::tree::ModuleTree;
 use scrib_project::projected::ProjectedProtocol;
 use scrib_project::protocol::protocol_with_projections;
+use scrib_record::compilation::Compiled;
 use scrib_types::name::Dotted;
 use scrib_types::profile::Profile;
 use std::alloc::{AllocError, Global};
@@ -26,11 +28,11 @@ pub struct NamedElaborated {
     pub elaborated: Option<Elaborated>,
 }
 
-/// What a name means, if anything, with its projections.
+/// What a name means, if anything, with its projections, compiled.
 #[derive(Drop)]
 pub struct NamedMeaning {
     pub name: Dotted,
-    pub projected: Option<ProjectedProtocol>,
+    pub compiled: Option<Compiled>,
 }
 
 /// What the protocol of each entry means, in the same order; nothing where it isn't declared any more.
@@ -77,7 +79,7 @@ fn nothing_of(alloc: Global, entries: Vec<Entry>) -> Result<Vec<NamedMeaning>, A
         let Entry { name, .. } = entry;
         meanings.push(NamedMeaning {
             name,
-            projected: None,
+            compiled: None,
         })?;
     }
     Ok(meanings)
@@ -145,9 +147,25 @@ fn project_named(
     ensures fault { IfErr result (StopsNamed profile named) }
 {
     let NamedElaborated { name, elaborated } = named;
-    let projected = match elaborated {
-        Some(elaborated) => Some(protocol_with_projections(alloc, elaborated, profile)?),
+    let compiled = match elaborated {
+        Some(elaborated) => {
+            let projected = protocol_with_projections(alloc, elaborated, profile)?;
+            Some(compiled_of(alloc, projected)?)
+        }
         None => None,
     };
-    Ok(NamedMeaning { name, projected })
+    Ok(NamedMeaning { name, compiled })
+}
+
+/// The protocol, compiled. It is so as soon as it is projected, since its projections, which take much memory, are near
+/// the processor then, and aren't kept.
+fn compiled_of(alloc: Global, projected: ProjectedProtocol) -> Result<Compiled, AllocError>
+    ensures { IfOk result (λ c. agreement_of c.protocol ≡ agreement_of projected.protocol) }
+{
+    let ProjectedProtocol {
+        protocol,
+        locals,
+        ..
+    } = projected;
+    Compiled::new(alloc, protocol, locals.as_slice())
 }

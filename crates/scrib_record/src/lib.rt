@@ -4,6 +4,7 @@
 pub mod answer;
 mod choices;
 pub mod comparison;
+pub mod compilation;
 mod configuration;
 mod copies;
 pub mod fault;

@@ -4,13 +4,11 @@ ghost use Rattle.std.specs.Prelude.{◌≡◌};
 ghost use Rattle.scrib_types.specs.Meaning.{agreement_of};
 ghost use Rattle.scrib_record.specs.Flat.{flat_form};
 
-use crate::flat::flat_form;
-use crate::machines::machines_of;
+use crate::compilation::{Compilation, Compiled};
 use crate::role_hints::RoleHints;
 use crate::seat::place_of;
 use scrib_machine::machine::Machine;
 use scrib_types::bytes::same_bytes;
-use scrib_types::local::Local;
 use scrib_types::name::Role;
 use scrib_types::plain::Items;
 use scrib_types::protocol::Protocol;
@@ -53,34 +51,29 @@ impl Model for Version {
 }
 
 impl Version {
-    ghost use Rattle.std.specs.Prelude.{◌≡◌, ◌↔◌, ◌≤◌, IfOk, IsTrue, position};
+    ghost use Rattle.std.specs.Prelude.{◌≡◌, ◌↔◌, IfOk, IsTrue, position};
     ghost use Rattle.std.specs.Str.{bytes_eq};
     ghost use Rattle.scrib_types.specs.Meaning.{agreement_of};
     ghost use Rattle.scrib_types.specs.WellFormed.{is_protocol};
-    ghost use Rattle.scrib_machine.specs.Compilable.{most_nodes};
-    ghost use Rattle.scrib_machine.specs.Projected.{global_nodes};
     ghost use Rattle.scrib_record.specs.RoleMachines.{AreMachinesOf};
-    ghost use Rattle.scrib_local.specs.Projections.{are_projections};
     ghost use Rattle.scrib_record.specs.Versions.{meaning_of, number_of, HaveSameStamp};
 
-    /// The version of a protocol under the number. The protocol's projections on its roles are compiled.
+    /// The version of a compiled protocol under the number.
     ///
     /// # Errors
     /// `AllocError` where memory was refused.
-    pub fn new(
-        alloc: Global,
-        protocol: Protocol,
-        locals: &[Local],
-        number: u32,
-    ) -> Result<Version, AllocError>
-        requires projections { IsTrue (are_projections (agreement_of protocol).global (agreement_of protocol).roles locals.now) }
-        requires small { global_nodes (agreement_of protocol).global ≤ most_nodes }
-        ensures meaning { IfOk result (λ version. meaning_of version ≡ agreement_of protocol) }
+    pub fn new(alloc: Global, compiled: Compiled, number: u32) -> Result<Version, AllocError>
+        ensures meaning { IfOk result (λ version. meaning_of version ≡ agreement_of compiled.protocol) }
         ensures number { IfOk result (λ version. number_of version ≡ number) }
     {
-        let flat = flat_form(alloc, &protocol)?;
-        let machines = machines_of(alloc, &protocol, locals)?;
-        let hints = RoleHints::new(protocol.roles());
+        let Compiled { compilation } = compiled;
+        let Compilation {
+            protocol,
+            machines,
+            flat,
+            hints,
+            ..
+        } = compilation;
         let edition = Edition {
             protocol,
             machines,
