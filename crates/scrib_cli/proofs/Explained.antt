@@ -54,15 +54,24 @@ ExplainsPart r id was now = IfSome r (λ input. Appends was now [] ⊎ ((e : Exp
 abbrev pub ExplainsAll : Option (List ℕ) → ℕ → Explained → Option (List ℕ) → Option (List ℕ) → Type 0
 ExplainsAll r id e was now = IfSome r (λ input. (output : List ℕ) × IsExplanation input id e output × Appends was now output)
 
+-- nothing was written
+abbrev pub WritesNothing : Option (List ℕ) → Option (List ℕ) → Option (List ℕ) → Type 0
+WritesNothing r was now = IfSome r (λ input. Appends was now [])
+
 -- the run failed
-pub run_stopped : (r : Option (List ℕ)) (id : ℕ) (was now : Option (List ℕ)) → RanShort Silent r was now → ExplainsPart r id was now
-run_stopped None id was now h = search rules
-run_stopped (Some input) id was now h = inl (silent_appends was now h.0 h.1 h.2)
+pub run_stopped : (r : Option (List ℕ)) (was now : Option (List ℕ)) → RanShort Silent r was now → WritesNothing r was now
+run_stopped None was now h = search rules
+run_stopped (Some input) was now h = silent_appends was now h.0 h.1 h.2
 
 -- no text was made
-pub untold : (r : Option (List ℕ)) (id : ℕ) (w : State) (was now : Option (List ℕ)) → Ran Silent r w was now → ExplainsPart r id was now
-untold None id w was now h = search rules
-untold (Some input) id w was now h = let whole = h.1 in inl (silent_appends was now h.0 whole.is h.2)
+pub untold : (r : Option (List ℕ)) (w : State) (was now : Option (List ℕ)) → Ran Silent r w was now → WritesNothing r was now
+untold None w was now h = search rules
+untold (Some input) w was now h = let whole = h.1 in silent_appends was now h.0 whole.is h.2
+
+-- so no explanation was written
+pub unexplained : (r : Option (List ℕ)) (id : ℕ) (was now : Option (List ℕ)) → WritesNothing r was now → ExplainsPart r id was now
+unexplained None id was now h = search rules
+unexplained (Some input) id was now h = inl h
 
 -- the text was written in part
 pub told_part : (r : Option (List ℕ)) (id : ℕ) (w : State) (e : Explained) (text : List ℕ) (was mid now : Option (List ℕ)) → Ran Silent r w was mid

@@ -20,6 +20,13 @@ pub record Reaches (t : Telling) (run : Run) (r0 r w0 w : Option (List ℕ)) : T
   pub read : Consumes r0 r seen
   pub came : Came t run seen w0 w
 
+-- a new run tells as it is said to
+pub tells_so : (t : Telling) (run : Run) → IsNew t run → run.telling ≡ t
+tells_so t run new = (new.came None).telling
+
+pub new_itself : (t : Telling) (run : Run) → IsNew t run → IsNew run.telling run
+new_itself t run new = subst (λ (u : Telling). IsNew u run) (sym (tells_so t run new)) new
+
 pub reaches_none : (t : Telling) (run : Run) (r w : Option (List ℕ)) → IsNew t run → Reaches t run r r w w
 reaches_none t run r w new = record { seen = []; read = consumes_none r; came = new.came w }
 

@@ -2,8 +2,11 @@
 
 ghost use Rattle.std.specs.Prelude.{◌≡◌, ◌⊎◌, [], ℕ, List, IfOk, OnOk, OnErr, IfSome};
 ghost use Rattle.std.specs.Io.KnownBytes.{Appends};
+ghost use Rattle.scrib_core.specs.Answers.{State};
 ghost use Rattle.scrib_cli.specs.Scripts.{AppendsPart};
-ghost use Rattle.scrib_cli.specs.Explanations.{IsExplanation};
+ghost use Rattle.scrib_cli.specs.Explanations.{Explanation, IsExplanation};
+ghost use Rattle.scrib_cli.specs.Progress.{Ran};
+ghost use Rattle.scrib_cli.specs.declared.telling.Telling.TheVariants.{Silent};
 ghost use Rattle.scrib_script.specs.Limits.{of_scripts, IsWithin};
 ghost use Rattle.scrib_cli.specs.declared.explaining.Explained as declared;
 
@@ -42,9 +45,24 @@ pub fn explain_script<R: Read, W: Write>(
         × AppendsPart (W.contents writer.old) (W.contents writer.new) output))) }
     ensures within { OnOk result (IfSome (R.remaining reader.old) (λ input. IsWithin of_scripts input)) }
 {
-    let core = run_whole(alloc, Telling::Silent, reader, writer)?;
-    let (explained, text) = explanation(alloc, &core, id)?;
+    let (explained, text) = run_silently(alloc, reader, id, writer)?;
     write_out(writer, text.as_slice())?;
     flush_out(writer)?;
     Ok(explained)
+}
+
+/// Makes the steps of the script without writing their replies, and what is to be printed of the conversation.
+fn run_silently<R: Read, W: Write>(
+    alloc: Global,
+    reader: &mut R,
+    id: u32,
+    writer: &mut W,
+) -> Result<(Explained, Vec<u8>), ScriptFault>
+    ensures ok { IfOk result (λ r. (s : State) × Ran Silent (R.remaining reader.old) s (W.contents writer.old) (W.contents writer.new)
+        × Explanation s.world id r.0 r.1.items) }
+    ensures err { OnErr result (IfSome (R.remaining reader.old) (λ input. Appends (W.contents writer.old) (W.contents writer.new) [])) }
+{
+    let core = run_whole(alloc, Telling::Silent, reader, writer)?;
+    let printed = explanation(alloc, &core, id)?;
+    Ok(printed)
 }

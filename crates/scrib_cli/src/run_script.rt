@@ -4,7 +4,7 @@ ghost use Rattle.std.specs.Prelude.{◌≡◌, ◌<◌, ◌≢◌, ℕ, List, If
 ghost use Rattle.std.specs.Io.KnownBytes.{Appends};
 ghost use Rattle.scrib_core.specs.Held.{state_of};
 ghost use Rattle.scrib_cli.specs.Scripts.{IsOutput, AppendsPart};
-ghost use Rattle.scrib_cli.specs.Progress.{Ran, RanShort};
+ghost use Rattle.scrib_cli.specs.Progress.{IsNew, Ran, RanShort};
 ghost use Rattle.scrib_script.specs.Limits.{of_scripts, IsWithin};
 
 pub use crate::fault::ScriptFault;
@@ -61,24 +61,39 @@ pub(crate) fn run_whole<R: Read, W: Write>(
     ensures ok { IfOk result (λ core. Ran telling (R.remaining reader.old) (state_of core) (W.contents writer.old) (W.contents writer.new)) }
     ensures err { OnErr result (RanShort telling (R.remaining reader.old) (W.contents writer.old) (W.contents writer.new)) }
 {
-    let mut piece = vec![in alloc; 0u8; SCRIPT_PIECE_BYTES]?;
-    run_by_pieces(alloc, telling, reader, writer, piece.as_mut_slice())
+    let mut run = Run::new(alloc, telling);
+    run_through(alloc, &mut run, reader, writer)?;
+    Ok(run.into_core())
 }
 
-// Runs a script that is read by pieces into this buffer. Each is answered, and its replies flushed, before
+// Takes a whole script into a run that has read nothing yet.
+fn run_through<R: Read, W: Write>(
+    alloc: Global,
+    run: &mut Run,
+    reader: &mut R,
+    writer: &mut W,
+) -> Result<(), ScriptFault>
+    requires { IsNew run.old.telling run.old }
+    ensures ok { OnOk result (Ran run.old.telling (R.remaining reader.old) (state_of run.new.core) (W.contents writer.old) (W.contents writer.new)) }
+    ensures err { OnErr result (RanShort run.old.telling (R.remaining reader.old) (W.contents writer.old) (W.contents writer.new)) }
+{
+    let mut piece = vec![in alloc; 0u8; SCRIPT_PIECE_BYTES]?;
+    run_by_pieces(run, reader, writer, piece.as_mut_slice())
+}
+
+// The same by pieces that are read into this buffer. Each is answered, and its replies flushed, before
 // the next is read.
 fn run_by_pieces<R: Read, W: Write>(
-    alloc: Global,
-    telling: Telling,
+    run: &mut Run,
     reader: &mut R,
     writer: &mut W,
     piece: &mut [u8],
-) -> Result<Core, ScriptFault>
-    requires { 0 < length piece.old }
-    ensures ok { IfOk result (λ core. Ran telling (R.remaining reader.old) (state_of core) (W.contents writer.old) (W.contents writer.new)) }
-    ensures err { OnErr result (RanShort telling (R.remaining reader.old) (W.contents writer.old) (W.contents writer.new)) }
+) -> Result<(), ScriptFault>
+    requires new { IsNew run.old.telling run.old }
+    requires some { 0 < length piece.old }
+    ensures ok { OnOk result (Ran run.old.telling (R.remaining reader.old) (state_of run.new.core) (W.contents writer.old) (W.contents writer.new)) }
+    ensures err { OnErr result (RanShort run.old.telling (R.remaining reader.old) (W.contents writer.old) (W.contents writer.new)) }
 {
-    let mut run = Run::new(alloc, telling);
     for _ in 0..u64::MAX {
         let n = match reader.read(piece) {
             Ok(n) => n,
@@ -91,7 +106,7 @@ fn run_by_pieces<R: Read, W: Write>(
         };
         if n == 0 {
             run.finish(writer)?;
-            return Ok(run.into_core());
+            return Ok(());
         }
         run.take_piece(writer, &piece[..n])?;
         flush_out(writer)?;

@@ -2,6 +2,7 @@
 
 ghost use Rattle.std.specs.Prelude.{IfOk, OnErr};
 ghost use Rattle.scrib_core.specs.Answers.{State, initial_under};
+ghost use Rattle.scrib_core.specs.Held.{state_of};
 ghost use Rattle.scrib_cli.specs.Commands.{AreChecked, ArePartChecked};
 
 use crate::check::{Core, check_module};
@@ -31,10 +32,25 @@ pub fn check_files<F: Folder, W: Write>(
     ensures err { OnErr result (ArePartChecked (F.text folder.now) paths.now (initial_under profile) (W.contents writer.old) (W.contents writer.new)) }
 {
     let mut core = Core::with_profile(alloc, profile);
+    check_each(alloc, &mut core, folder, paths, writer)
+}
+
+/// The same over this monitor.
+fn check_each<F: Folder, W: Write>(
+    alloc: Global,
+    core: &mut Core,
+    folder: &F,
+    paths: &[&str],
+    writer: &mut W,
+) -> Result<bool, ScriptFault>
+    ensures ok { IfOk result (λ accepted. (after : State) ×
+        AreChecked (F.text folder.now) paths.now (state_of core.old) accepted after (W.contents writer.old) (W.contents writer.new)) }
+    ensures err { OnErr result (ArePartChecked (F.text folder.now) paths.now (state_of core.old) (W.contents writer.old) (W.contents writer.new)) }
+{
     let mut accepted = true;
     for path in paths {
         let mut file = folder.open(path)?;
-        if !check_module(alloc, &mut core, &mut file, writer)? {
+        if !check_module(alloc, core, &mut file, writer)? {
             accepted = false;
         }
     }

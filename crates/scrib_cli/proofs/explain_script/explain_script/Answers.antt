@@ -1,43 +1,37 @@
 use Rattle.std.proofs.Common.{ℕ, List, subst}
 use Rattle.std.specs.Io.KnownBytes.{Appends}
 use Rattle.std.proofs.lemmas.Result.{err_from_is_err_and}
-use Rattle.scrib_core.specs.Held.{state_of}
 use Rattle.scrib_cli.specs.Scripts.{AppendsPart}
 use Rattle.scrib_cli.specs.declared.telling.Telling.TheVariants.{Silent}
 use Rattle.scrib_cli.proofs.Reaching.{ran_within}
-use Rattle.scrib_cli.proofs.Explained.{run_stopped, untold, told_part, told_all, told_unflushed}
+use Rattle.scrib_cli.proofs.Explained.{unexplained, told_part, told_all, told_unflushed}
 use Rattle.scrib_cli.proofs.explain_script.explain_script.Goals as goal
-
-pub returns-in_err-core-clause-err : goal.returns-in_err-core-clause-err
-returns-in_err-core-clause-err g c =
-    let p = err_from_is_err_and c.from_residual.result c.from_residual.ensures.1 in
-    rw p.1 (run_stopped (g.R.Read.remaining c.args.reader.now) c.args.id (g.W.Write.contents c.args.writer.now) (g.W.Write.contents c.run_whole.new.writer) c.in_err-core.ensures.err)
 
 pub returns-in_err-explained-clause-err : goal.returns-in_err-explained-clause-err
 returns-in_err-explained-clause-err g c =
-    let p = err_from_is_err_and c.from_residual-in_err-explained.result c.from_residual-in_err-explained.ensures.1 in
-    rw p.1 (untold (g.R.Read.remaining c.args.reader.now) c.args.id (state_of c.in_ok-core.core) (g.W.Write.contents c.args.writer.now) (g.W.Write.contents c.run_whole.new.writer) c.in_ok-core.ensures.ok)
+    let p = err_from_is_err_and c.from_residual.result c.from_residual.ensures.1 in
+    rw p.1 (unexplained (g.R.Read.remaining c.args.reader.now) c.args.id (g.W.Write.contents c.args.writer.now) (g.W.Write.contents c.run_silently.new.writer) c.in_err-explained.ensures.err)
 
 pub returns-in_err-write_out-clause-err : goal.returns-in_err-write_out-clause-err
 returns-in_err-write_out-clause-err g c =
     let p = err_from_is_err_and c.from_residual-in_err-write_out.result c.from_residual-in_err-write_out.ensures.1 in
-    let part = subst (λ (t : List ℕ). AppendsPart (g.W.Write.contents c.run_whole.new.writer) (g.W.Write.contents c.write_out.new.writer) t) c.as_slice.ensures.value c.in_err-write_out.ensures.err in
-    rw p.1 (told_part (g.R.Read.remaining c.args.reader.now) c.args.id (state_of c.in_ok-core.core) c.in_ok-explained.explained c.in_ok-explained.text.items (g.W.Write.contents c.args.writer.now) (g.W.Write.contents c.run_whole.new.writer) (g.W.Write.contents c.write_out.new.writer)
-    c.in_ok-core.ensures.ok c.in_ok-explained.ensures part)
+    let part = subst (λ (t : List ℕ). AppendsPart (g.W.Write.contents c.run_silently.new.writer) (g.W.Write.contents c.write_out.new.writer) t) c.as_slice.ensures.value c.in_err-write_out.ensures.err in
+    rw p.1 (told_part (g.R.Read.remaining c.args.reader.now) c.args.id c.in_ok-explained.ensures.ok.0 c.in_ok-explained.explained c.in_ok-explained.text.items (g.W.Write.contents c.args.writer.now) (g.W.Write.contents c.run_silently.new.writer) (g.W.Write.contents c.write_out.new.writer)
+    c.in_ok-explained.ensures.ok.1 c.in_ok-explained.ensures.ok.2 part)
 
 pub returns-clause-ok : goal.returns-clause-ok
 returns-clause-ok g c =
-    let all = subst (λ (t : List ℕ). Appends (g.W.Write.contents c.run_whole.new.writer) (g.W.Write.contents c.write_out.new.writer) t) c.as_slice.ensures.value c.in_ok-write_out.ensures.ok in
-    told_all (g.R.Read.remaining c.args.reader.now) c.args.id (state_of c.in_ok-core.core) c.in_ok-explained.explained c.in_ok-explained.text.items (g.W.Write.contents c.args.writer.now) (g.W.Write.contents c.run_whole.new.writer) (g.W.Write.contents c.write_out.new.writer) (g.W.Write.contents c.flush_out.new.writer)
-    c.in_ok-core.ensures.ok c.in_ok-explained.ensures all c.flush_out.ensures.kept
+    let all = subst (λ (t : List ℕ). Appends (g.W.Write.contents c.run_silently.new.writer) (g.W.Write.contents c.write_out.new.writer) t) c.as_slice.ensures.value c.in_ok-write_out.ensures.ok in
+    told_all (g.R.Read.remaining c.args.reader.now) c.args.id c.in_ok-explained.ensures.ok.0 c.in_ok-explained.explained c.in_ok-explained.text.items (g.W.Write.contents c.args.writer.now) (g.W.Write.contents c.run_silently.new.writer) (g.W.Write.contents c.write_out.new.writer) (g.W.Write.contents c.flush_out.new.writer)
+    c.in_ok-explained.ensures.ok.1 c.in_ok-explained.ensures.ok.2 all c.flush_out.ensures.kept
 
 pub returns-in_err-flush_out-clause-err : goal.returns-in_err-flush_out-clause-err
 returns-in_err-flush_out-clause-err g c =
     let p = err_from_is_err_and c.from_residual-in_err-flush_out.result c.from_residual-in_err-flush_out.ensures.1 in
-    let all = subst (λ (t : List ℕ). Appends (g.W.Write.contents c.run_whole.new.writer) (g.W.Write.contents c.write_out.new.writer) t) c.as_slice.ensures.value c.in_ok-write_out.ensures.ok in
-    rw p.1 (told_unflushed (g.R.Read.remaining c.args.reader.now) c.args.id (state_of c.in_ok-core.core) c.in_ok-explained.explained c.in_ok-explained.text.items (g.W.Write.contents c.args.writer.now) (g.W.Write.contents c.run_whole.new.writer) (g.W.Write.contents c.write_out.new.writer) (g.W.Write.contents c.flush_out.new.writer)
-    c.in_ok-core.ensures.ok c.in_ok-explained.ensures all c.flush_out.ensures.kept)
+    let all = subst (λ (t : List ℕ). Appends (g.W.Write.contents c.run_silently.new.writer) (g.W.Write.contents c.write_out.new.writer) t) c.as_slice.ensures.value c.in_ok-write_out.ensures.ok in
+    rw p.1 (told_unflushed (g.R.Read.remaining c.args.reader.now) c.args.id c.in_ok-explained.ensures.ok.0 c.in_ok-explained.explained c.in_ok-explained.text.items (g.W.Write.contents c.args.writer.now) (g.W.Write.contents c.run_silently.new.writer) (g.W.Write.contents c.write_out.new.writer) (g.W.Write.contents c.flush_out.new.writer)
+    c.in_ok-explained.ensures.ok.1 c.in_ok-explained.ensures.ok.2 all c.flush_out.ensures.kept)
 
 pub returns-clause-within : goal.returns-clause-within
 returns-clause-within g c =
-    ran_within Silent (g.R.Read.remaining c.args.reader.now) (state_of c.in_ok-core.core) (g.W.Write.contents c.args.writer.now) (g.W.Write.contents c.run_whole.new.writer) c.in_ok-core.ensures.ok
+    ran_within Silent (g.R.Read.remaining c.args.reader.now) c.in_ok-explained.ensures.ok.0 (g.W.Write.contents c.args.writer.now) (g.W.Write.contents c.run_silently.new.writer) c.in_ok-explained.ensures.ok.1

@@ -1,4 +1,4 @@
-use Rattle.std.proofs.Common.{[], ◌∷◌, ◌∙◌, List, Option, Some, refl, sym, subst}
+use Rattle.std.proofs.Common.{◌∙◌, Option, Some, refl, sym, subst}
 use Rattle.std.proofs.lemmas.Result.{err_from_is_err_and}
 use Rattle.scrib_core.specs.Held.{state_of}
 use Rattle.scrib_script.specs.declared.item.Item.{Item}
