@@ -89,29 +89,21 @@ fn texts_of(alloc: Global, body: &str) -> Result<Vec<Option<Items<u8>>>, AllocEr
     Ok(texts)
 }
 
-// What a role does in a protocol of the modules that the body is.
-fn tell_projection<W: Write>(
+// What a role does in a protocol of the modules that the body is, as the word says: its projection, or its machine.
+fn tell_role<W: Write>(
     alloc: Global,
     profile: Profile,
+    word: &str,
     (protocol, role): (&str, &str),
     body: &str,
     writer: &mut W,
 ) -> Result<(), RowsFault> {
     let texts = texts_of(alloc, body)?;
-    project_text(alloc, profile, protocol, role, &texts, writer)?;
-    Ok(())
-}
-
-// The machine of a role in a protocol of the modules that the body is.
-fn tell_machine<W: Write>(
-    alloc: Global,
-    profile: Profile,
-    (protocol, role): (&str, &str),
-    body: &str,
-    writer: &mut W,
-) -> Result<(), RowsFault> {
-    let texts = texts_of(alloc, body)?;
-    machine_text(alloc, profile, protocol, role, &texts, writer)?;
+    match word {
+        "project" => project_text(alloc, profile, protocol, role, &texts, writer)?,
+        "machine" => machine_text(alloc, profile, protocol, role, &texts, writer)?,
+        _ => return Err(RowsFault::NoCommand),
+    };
     Ok(())
 }
 
@@ -140,11 +132,8 @@ pub(crate) fn obey<W: Write>(
         (Some("watch"), None, None) => Ok(run_script(alloc, Format::Line, &mut reader, writer)?),
         (Some("judge"), None, None) => tell_judgements(alloc, reader, writer),
         (Some("explain"), Some(id), None) => tell_explained(alloc, id, reader, writer),
-        (Some("project"), Some(protocol), Some(role)) => {
-            tell_projection(alloc, profile, (protocol, role), body, writer)
-        }
-        (Some("machine"), Some(protocol), Some(role)) => {
-            tell_machine(alloc, profile, (protocol, role), body, writer)
+        (Some(word), Some(protocol), Some(role)) => {
+            tell_role(alloc, profile, word, (protocol, role), body, writer)
         }
         _ => Err(RowsFault::NoCommand),
     }
