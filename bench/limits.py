@@ -104,12 +104,22 @@ def wide_events():
     return put(text) + "".join(opened)
 
 
-def cost(program, name, script, command="watch"):
-    """Prints what the script costs under `watch`, or as the setup of `run` with a connection that says nothing."""
+def write(path, make):
+    """Writes the script in a process of its own. The most memory that this one took would be told of all that it starts."""
+    writer = os.fork()
+    if writer == 0:
+        with open(path, "w") as file:
+            file.writelines(make())
+        os._exit(0)
+    if os.waitpid(writer, 0)[1] != 0:
+        sys.exit("a script was not written")
+
+
+def cost(program, name, make, command="watch"):
+    """Prints what a script costs under `watch`, or as the setup of `run` with a connection that says nothing."""
     with tempfile.TemporaryDirectory() as folder:
         path, said = os.path.join(folder, "script"), os.path.join(folder, "said")
-        with open(path, "w") as file:
-            file.writelines(script)
+        write(path, make)
         words = [program, command, path] + ([os.devnull] if command == "run" else [])
         with open(said, "wb") as file:
             ran = subprocess.Popen(words, stdout=file)
@@ -125,20 +135,20 @@ def main():
     program = parser.parse_args().program
     if not os.path.exists(program):
         sys.exit("there is no program yet: make run")
-    cost(program, "one long type", long_protocols(1, 2))
-    cost(program, "one wide type", wide_protocols(1, 2))
-    cost(program, "a wide type, 64", wide_protocols(1, 64))
-    cost(program, "wide types", wide_protocols(64, 16))
-    cost(program, "many loops", many_loops())
-    cost(program, "one wide choice", wide_choice())
-    cost(program, "choice, one hash", choice_of_one_hash())
-    cost(program, "learned choice", learned_choice())
-    cost(program, "long types", long_protocols(1024, 16))
-    cost(program, "large modules", large_modules())
-    cost(program, "long replies", long_replies())
-    cost(program, "long log", long_log())
-    cost(program, "wide events", wide_events())
-    cost(program, "over a service", wide_events(), "run")
+    cost(program, "one long type", lambda: long_protocols(1, 2))
+    cost(program, "one wide type", lambda: wide_protocols(1, 2))
+    cost(program, "a wide type, 64", lambda: wide_protocols(1, 64))
+    cost(program, "wide types", lambda: wide_protocols(64, 16))
+    cost(program, "many loops", many_loops)
+    cost(program, "one wide choice", wide_choice)
+    cost(program, "choice, one hash", choice_of_one_hash)
+    cost(program, "learned choice", learned_choice)
+    cost(program, "long types", lambda: long_protocols(1024, 16))
+    cost(program, "large modules", large_modules)
+    cost(program, "long replies", long_replies)
+    cost(program, "long log", long_log)
+    cost(program, "wide events", wide_events)
+    cost(program, "over a service", wide_events, "run")
 
 
 if __name__ == "__main__":
