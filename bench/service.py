@@ -3,7 +3,7 @@
 
     service.py [--whole] [--notes N] [--cores LIST]
 
-Run it from anywhere, after `rt run` in crates/scrib_service_rows. The program reads no clock: times are taken here.
+Run it from anywhere, after `rt run` in crates/scrib_rows. The program reads no clock: times are taken here.
 What a note takes is the difference of the seconds of two runs by that of their numbers of notes; the best of three
 counts. Prints microseconds of a core's note on one thread, and notes in a second of 2, 4 and 8 programs beside each
 other, each with a core of its own, which is the most that the machine gives; then, for 1, 2, 4 and 8 threads with 64
@@ -20,7 +20,7 @@ import sys
 import time
 
 HERE = os.path.dirname(os.path.abspath(__file__))
-PROGRAM = os.path.join(HERE, "..", "crates", "scrib_service_rows", "out", "scrib_service_rows")
+PROGRAM = os.path.join(HERE, "..", "crates", "scrib_rows", "out", "scrib_rows")
 RUNS = 3
 
 

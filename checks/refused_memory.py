@@ -1,7 +1,7 @@
 #!/usr/bin/env python3
 """Refuses each request for memory in turn, in worked examples.
 
-Usage: refused_memory.py PROGRAM [ROW..]. PROGRAM is that of the crate `scrib_memory_rows`. It makes the calls of a row;
+Usage: refused_memory.py PROGRAM [ROW..]. PROGRAM is that of the crate `scrib_rows`. It makes the calls of a row;
 where one is refused memory that works on a core it compares what stands then with what stood before and makes the call
 once more, one on a service or queues it makes once more, and where one is refused that makes a value it makes the row
 once more; it compares each answer with the row's. Here it runs again and again, and request 1, then 2, then 3 and so on
@@ -22,7 +22,7 @@ def run(program, row, shim, number):
     """Whether the request of this number was refused, and whether the program printed the row's name and ended well."""
     told, tell = os.pipe()
     words = dict(os.environ, LD_PRELOAD=shim, REFUSED_REQUEST=str(number), REFUSAL_TOLD=str(tell))
-    done = subprocess.run([program, row], env=words, pass_fds=[tell], capture_output=True)
+    done = subprocess.run([program, "memory", row], env=words, pass_fds=[tell], capture_output=True)
     os.close(tell)
     refused = os.read(told, 1) == b"x"
     os.close(told)

@@ -1,13 +1,12 @@
 //! What is written for readers that give little or fail, and for writers that take little or fail.
 
-mod as_json;
 mod at_once;
 mod limits;
 
 use scrib_cli::check::{Core, check_module};
 use scrib_cli::explain_script::explain_script;
 use scrib_cli::run_script::{Format, ScriptFault, run_script};
-use std::alloc::{AllocError, Global};
+use std::alloc::Global;
 use std::io;
 use std::io::{ErrorKind, Read, Write};
 use std::process::Abort;
@@ -282,32 +281,6 @@ fn refuses_one_line_too_many(rt: HostRuntime) -> Result<(), Fail> {
         assert_eq!(rt; matches!(result, Err(ScriptFault::Read)), is_refused);
         assert_eq!(rt; result.is_ok(), !is_refused);
         assert_eq!(rt; written.as_slice(), b"refused NoConversation\n".as_slice());
-    }
-    Ok(())
-}
-
-// A comment of this many bytes, and a line that asks.
-fn long_script(alloc: Global, length: usize) -> Result<Vec<u8>, AllocError> {
-    let mut script = vec![in alloc; b'#'; length]?;
-    script.extend_from_slice(b"\nask 1\n")?;
-    Ok(script)
-}
-
-#[test]
-fn refuses_a_long_line(rt: HostRuntime) -> Result<(), Fail> {
-    let rows = [
-        (131_072, "refused NoConversation\n"),
-        (131_073, "refused BadLine 1\nrefused NoConversation\n"),
-    ];
-    for (length, want) in rows {
-        let script = long_script(rt.alloc(), length)?;
-        let found = outcome_of(rt.alloc(), Command::Watch, &script, 8192, (0, 0));
-        found.answer?;
-        assert_eq!(rt;
-            found.output.as_slice(),
-            want.as_bytes(),
-            "of {length} bytes"
-        );
     }
     Ok(())
 }
