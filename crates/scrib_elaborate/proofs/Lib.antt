@@ -23,3 +23,4 @@ mod Finished
 mod Staying
 mod Alone
 mod Ahead
+mod Forgotten

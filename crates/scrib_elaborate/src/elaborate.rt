@@ -14,7 +14,7 @@ ghost use Rattle.scrib_modules.specs.Walking.{IsAbsentFault, IsCounted};
 
 use crate::built::{Origin, Typed};
 use crate::elaborated::{Elaborated, Join};
-use crate::known::{know, known_or_typed, unknown};
+use crate::known::{forget, know, known_or_typed, unknown};
 use crate::tasks::Program;
 use crate::untyped::Untyped;
 use scrib_modules::declared::{Declared, all_declared};
@@ -52,7 +52,8 @@ pub fn elaborate(
     elaborator.elaborate(module, protocol)
 }
 
-/// Elaboration of several protocols among the same modules, which looks once at what they call.
+/// Elaboration of several protocols among the same modules, which looks once at what they call, and once more at one that
+/// was itself asked for before.
 #[derive(Drop)]
 pub struct Elaborator<'a> {
     alloc: Global,
@@ -169,7 +170,9 @@ fn elaborate_among<'a>(
         known: &*known,
         root: at,
     };
-    finish(alloc, &program, root, count, module, protocol)
+    let answer = finish(alloc, &program, root, count, module, protocol);
+    forget(states, &*known, root, count);
+    answer
 }
 
 // What the protocol means, after the first two passes.

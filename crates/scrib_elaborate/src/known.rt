@@ -1,6 +1,9 @@
 //! The types of protocols alone, as if nothing followed them, each of which is made once.
 
-ghost use Rattle.std.specs.Prelude.{◌≡◌, Bool, slice_get, Some, IfOk, IfErr, IfSome};
+ghost use Rattle.std.specs.Prelude.{◌≡◌, List, Bool, slice_get, Some, IfOk, IfErr, IfSome};
+ghost use Rattle.scrib_parser.specs.declared.tree.ModuleTree.{ModuleTree as ParsedTree};
+ghost use Rattle.scrib_modules.specs.Names.{Declaration};
+ghost use Rattle.scrib_modules.specs.Walking.{IsIdle};
 ghost use Rattle.scrib_modules.specs.Statements.{KeepsRules};
 ghost use Rattle.scrib_modules.specs.Elaboration.{start_of};
 ghost use Rattle.scrib_modules.specs.Table.{shown, declaration_of};
@@ -94,6 +97,18 @@ fn alone<'a>(
         root: *root,
     };
     type_alone(alloc, &program)
+}
+
+/// Forgets the walk over the protocol that was asked for, which stands at this place and has so many nodes, where its
+/// type isn't known and is small enough to be. A protocol that calls it then walks it once more, and has its type made
+/// alone; of one that no other calls no second type is made.
+pub fn forget(states: &mut Vec<State>, known: &[Option<Typed>], place: usize, nodes: usize)
+    ensures { (modules : List ParsedTree) → (ds : List Declaration) → IsIdle modules ds states.old.items → IsIdle modules ds states.new.items }
+{
+    let is_known = matches!(known.get(place), Some(Some(_)));
+    if nodes <= MAX_KNOWN && !is_known && place < states.len() {
+        states[place] = State::Unwalked;
+    }
 }
 
 /// The type of the protocol that was asked for, which stands at this place of the table: a copy of the known one, or

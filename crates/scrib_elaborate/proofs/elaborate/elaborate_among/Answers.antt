@@ -46,8 +46,8 @@ returns-in_err-count-clause-only c =
     let fault = size_told c.args.trees.now c.args.trees.now c.args.module.now c.args.protocol.now c.args.declared.now c.args.declared.now c.args.declared.now c.args.declared.now c.walk.new.states.items c.deref.result.now c.in_ok-root.root c.in_err-count.field-0.0 refl refl refl refl c.deref.ensures.value c.requires.all c.in_ok-root.ensures c.in_ok-walk.ensures.ok (c.in_err-count.ensures.fault c.args.trees.now) in
     rw (p.1, p.2) (nothing_missed c.args.trees.now c.args.module.now c.args.protocol.now c.in_err-count.field-0.0 fault)
 
-pub finish-requires-clause-ready : goal.finish-requires-clause-ready
-finish-requires-clause-ready c =
+pub finish-answer-requires-clause-ready : goal.finish-answer-requires-clause-ready
+finish-answer-requires-clause-ready c =
     is_counted c.args.trees.now c.args.module.now c.args.protocol.now c.args.declared.now c.args.declared.now c.args.declared.now c.args.declared.now c.args.declared.now c.walk.new.states.items c.deref.result.now c.in_ok-root.root c.in_ok-count.count c.index-declared-root.result refl refl refl refl c.deref.ensures.value c.requires.all c.in_ok-root.ensures c.in_ok-walk.ensures.ok (c.in_ok-count.ensures.ok c.args.trees.now) c.index-declared-root.is
 
 pub know-requires : goal.know-requires
@@ -59,8 +59,8 @@ know-requires c = record {
   known = c.requires.known;
 }
 
-pub finish-requires-clause-table : goal.finish-requires-clause-table
-finish-requires-clause-table c = record {
+pub finish-answer-requires-clause-table : goal.finish-answer-requires-clause-table
+finish-answer-requires-clause-table c = record {
   all = c.requires.all;
   filed = c.requires.filed;
   kept = subst (λ ss. AreSummaries c.args.trees.now (shown c.args.declared.now) ss) (sym c.deref-4.ensures.value) c.walk.ensures.idle.kept;
@@ -69,4 +69,13 @@ finish-requires-clause-table c = record {
 
 pub returns-clause-only : goal.returns-clause-only
 returns-clause-only c =
-    only_meant c.args.trees.now c.args.module.now c.args.protocol.now c.finish.result c.finish.ensures.ok c.finish.ensures.fault
+    only_meant c.args.trees.now c.args.module.now c.args.protocol.now c.finish-answer.result c.finish-answer.ensures.ok c.finish-answer.ensures.fault
+
+pub returns-clause-tabled : goal.returns-clause-tabled
+returns-clause-tabled c = record {
+  all = c.requires.all;
+  filed = c.requires.filed;
+  settled = c.requires.settled;
+  idle = c.forget.ensures c.args.trees.now (shown c.args.declared.now) c.walk.ensures.idle;
+  known = c.know.ensures;
+}
