@@ -84,11 +84,11 @@ def edits_of_one(others):
     return "".join(script)
 
 
-def nested_calls():
-    """1,000 protocols in a chain of calls, each from 60 nested blocks."""
+def nested_calls(step):
+    """1,000 protocols in a chain of calls, each from 60 nested blocks: each calls the one so many numbers behind it."""
     lines = ["module t;"]
     for i in range(1000):
-        inner = "do P%d(A, B);" % (i + 1) if i < 999 else "a() from A to B;"
+        inner = "do P%d(A, B);" % (i + step) if 0 <= i + step < 1000 else "a() from A to B;"
         lines.append("global protocol P%d(role A, role B) { %s%s%s }" % (i, "choice at A { " * 60, inner, " }" * 60))
     return put("\n".join(lines))
 
@@ -116,7 +116,8 @@ SCRIPTS = [
     ("256 modules", many_modules),
     ("edits alone", lambda: edits_of_one(1)),
     ("edits among", lambda: edits_of_one(255)),
-    ("nested calls", nested_calls),
+    ("nested calls", lambda: nested_calls(1)),
+    ("called first", lambda: nested_calls(-1)),
     ("1 M events", lambda: events(16)),
     ("2 M events", lambda: events(32)),
 ]
