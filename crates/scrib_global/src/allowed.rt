@@ -132,9 +132,7 @@ fn push_sends(
     ensures { OnOk result (list.new.items ≡ list.old.items ++ spec.named_sends to.now (local_branches branches.now)) }
 {
     for (message, next) in branches {
-        let to = to.copy()?;
-        let message = message.copy()?;
-        list.push(Action::Sends { to, message })?;
+        list.push(sends(to, message)?)?;
         push_named(alloc, next, list)?;
     }
     Ok(())
@@ -150,10 +148,24 @@ fn push_receptions(
     ensures { OnOk result (list.new.items ≡ list.old.items ++ spec.named_receptions from.now (local_branches branches.now)) }
 {
     for (message, next) in branches {
-        let from = from.copy()?;
-        let message = message.copy()?;
-        list.push(Action::Receives { from, message })?;
+        list.push(receives(from, message)?)?;
         push_named(alloc, next, list)?;
     }
     Ok(())
+}
+
+fn sends(to: &Role, message: &SharedMessage) -> Result<Action, AllocError>
+    ensures { IfOk result (λ action. action ≡ act.Sends to.now message.now) }
+{
+    let to = to.copy()?;
+    let message = message.copy()?;
+    Ok(Action::Sends { to, message })
+}
+
+fn receives(from: &Role, message: &SharedMessage) -> Result<Action, AllocError>
+    ensures { IfOk result (λ action. action ≡ act.Receives from.now message.now) }
+{
+    let from = from.copy()?;
+    let message = message.copy()?;
+    Ok(Action::Receives { from, message })
 }

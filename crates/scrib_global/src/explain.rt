@@ -88,10 +88,16 @@ fn push_between(
     let landed = received(alloc, from, to, log)?.len();
     let messages = sent(alloc, from, to, log)?;
     for i in landed..messages.len() {
-        let from = from.copy()?;
-        let to = to.copy()?;
-        let message = messages[i].copy()?;
-        flights.push(Flight { from, to, message })?;
+        flights.push(flight_of(from, to, &messages[i])?)?;
     }
     Ok(())
+}
+
+fn flight_of(from: &Role, to: &Role, message: &SharedMessage) -> Result<Flight, AllocError>
+    ensures { IfOk result (λ f. f ≡ spec.flight from.now to.now message.now) }
+{
+    let from = from.copy()?;
+    let to = to.copy()?;
+    let message = message.copy()?;
+    Ok(Flight { from, to, message })
 }

@@ -4,6 +4,7 @@ ghost use Rattle.std.specs.Prelude.{◌≡◌, ◌+◌, ◌≤◌, IfOk, OnOk, A
 ghost use Rattle.std.specs.List.Sorted.{IsPermutation};
 ghost use Rattle.scrib_types.specs.Judgement.{ComesBefore};
 ghost use Rattle.scrib_types.specs.LocalView.{local_of, local_branches};
+ghost use Rattle.scrib_types.specs.Trees.{Send, Recv};
 ghost use Rattle.scrib_types.specs.declared.event.Action.TheVariants.{Sends, Receives};
 ghost use Rattle.scrib_machine.specs.Machines.{IsMachine, IsSystemOf, Follows};
 ghost use Rattle.scrib_machine.specs.Compilable.{IsCompilable, Closed, ClosedAll, Differ, Distinct, DistinctAll, nodes, nodes_all, most_nodes};
@@ -69,21 +70,55 @@ fn lay(
             let _ = outer.pop();
             Ok(root)
         }
-        Local::Send { to, branches } => {
-            let at = rows.len();
-            rows.push(Few::none(alloc))?;
-            let nexts = lay_all(alloc, branches.as_slice(), rows, outer)?;
-            rows[at] = sends(alloc, to, branches.as_slice(), nexts.as_slice())?;
-            Ok(at as State)
-        }
+        Local::Send { to, branches } => lay_sends(alloc, to, branches.as_slice(), rows, outer),
         Local::Recv { from, branches } => {
-            let at = rows.len();
-            rows.push(Few::none(alloc))?;
-            let nexts = lay_all(alloc, branches.as_slice(), rows, outer)?;
-            rows[at] = receptions(alloc, from, branches.as_slice(), nexts.as_slice())?;
-            Ok(at as State)
+            lay_receptions(alloc, from, branches.as_slice(), rows, outer)
         }
     }
+}
+
+/// Lays a choice of sends out.
+#[cycle(lay)]
+fn lay_sends(
+    alloc: Global,
+    to: &Role,
+    branches: &[(SharedMessage, Local)],
+    rows: &mut Vec<Few<Edge>>,
+    outer: &mut Vec<State>,
+) -> Result<State, AllocError>
+    requires room { length rows.old.items + nodes (Send to.now (local_branches branches.now)) ≤ most_nodes }
+    requires closed { Closed (Send to.now (local_branches branches.now)) (length outer.old.items) }
+    requires distinct { Distinct (Send to.now (local_branches branches.now)) }
+    ensures placed { IfOk result (layout.Placed rows.old.items rows.new.items (reverse outer.old.items) (Send to.now (local_branches branches.now))) }
+    ensures outer { OnOk result (outer.new.items ≡ outer.old.items) }
+{
+    let at = rows.len();
+    rows.push(Few::none(alloc))?;
+    let nexts = lay_all(alloc, branches, rows, outer)?;
+    rows[at] = sends(alloc, to, branches, nexts.as_slice())?;
+    Ok(at as State)
+}
+
+/// Lays a choice of receptions out.
+#[cycle(lay)]
+fn lay_receptions(
+    alloc: Global,
+    from: &Role,
+    branches: &[(SharedMessage, Local)],
+    rows: &mut Vec<Few<Edge>>,
+    outer: &mut Vec<State>,
+) -> Result<State, AllocError>
+    requires room { length rows.old.items + nodes (Recv from.now (local_branches branches.now)) ≤ most_nodes }
+    requires closed { Closed (Recv from.now (local_branches branches.now)) (length outer.old.items) }
+    requires distinct { Distinct (Recv from.now (local_branches branches.now)) }
+    ensures placed { IfOk result (layout.Placed rows.old.items rows.new.items (reverse outer.old.items) (Recv from.now (local_branches branches.now))) }
+    ensures outer { OnOk result (outer.new.items ≡ outer.old.items) }
+{
+    let at = rows.len();
+    rows.push(Few::none(alloc))?;
+    let nexts = lay_all(alloc, branches, rows, outer)?;
+    rows[at] = receptions(alloc, from, branches, nexts.as_slice())?;
+    Ok(at as State)
 }
 
 /// Lays the branches out, one after another, and returns the states in which they begin.

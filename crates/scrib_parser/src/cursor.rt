@@ -60,7 +60,7 @@ impl<'t, 'a> Cursor<'t, 'a> {
         match self.rest {
             [] => Err(ParseFault::EndOfText),
             [token, rest @ ..] => {
-                if kind != token.kind {
+                if !is_kind(kind, token.kind) {
                     return Err(ParseFault::Unexpected { at: token.spot });
                 }
                 self.rest = rest;
@@ -159,8 +159,14 @@ fn first_is(tokens: &[Token], kind: TokenKind) -> bool
 {
     match tokens {
         [] => false,
-        [token, ..] => kind == token.kind,
+        [token, ..] => is_kind(kind, token.kind),
     }
+}
+
+fn is_kind(a: TokenKind, b: TokenKind) -> bool
+    ensures { result ≡ same_kind a b }
+{
+    a == b
 }
 
 /// Whether a token of this kind begins a statement.

@@ -49,7 +49,6 @@ pub fn parse(alloc: Global, tokens: &[Token], recent: &mut Recent) -> Result<Mod
     whole(alloc, tokens, recent)
 }
 
-#[tactic(auto, unfolding(crate::specs::Reading::whole_of))]
 fn whole(alloc: Global, tokens: &[Token], recent: &mut Recent) -> Result<ModuleTree, ParseFault>
     ensures { GivesAll result (reading.whole_of 64 (lexemes_of tokens.now)) }
 {
@@ -61,16 +60,23 @@ fn whole(alloc: Global, tokens: &[Token], recent: &mut Recent) -> Result<ModuleT
         sorts: RecentSorts::new(alloc, count)?,
         messages,
     };
-    let parsed = module_tree(alloc, MAX_LEVELS, &mut tokens);
+    let tree = whole_tree(alloc, &mut tokens);
     let Cursor {
-        rest,
         names,
         messages,
         ..
     } = tokens;
     recent.give_back(names, messages);
-    let tree = parsed?;
-    match rest {
+    tree
+}
+
+// The module that all of the tokens are.
+#[tactic(auto, unfolding(crate::specs::Reading::whole_of))]
+fn whole_tree(alloc: Global, tokens: &mut Cursor) -> Result<ModuleTree, ParseFault>
+    ensures { GivesAll result (reading.whole_of 64 (left tokens.old)) }
+{
+    let tree = module_tree(alloc, MAX_LEVELS, tokens)?;
+    match tokens.rest {
         [] => Ok(tree),
         [token, ..] => match left_out_declaration(token) {
             Some(word) => Err(ParseFault::LeftOut {

@@ -4,14 +4,15 @@ ghost use Rattle.std.specs.Prelude.{◌≡◌, IfOk};
 ghost use Rattle.serde_json.specs.Data.{string};
 ghost use Rattle.serde_json.specs.View.{view, members_view};
 ghost use Rattle.scrib_types.specs.Texts.{dotted_text};
+ghost use Rattle.scrib_core.specs.declared.reply.Reply.TheVariants as replies;
 ghost use Rattle.scrib_report.specs.Lines.{refusal_text};
 ghost use Rattle.scrib_report.specs.Json as objects;
 
 use crate::edit::{edit_word, push_change};
 use crate::fault::push_refusal;
 use crate::verdict::told_word;
-use scrib_core::reply::{Refusal, Reply};
-use scrib_library::changes::Change;
+use scrib_core::reply::{Edit, Refusal, Reply};
+use scrib_library::changes::{Change, Changes};
 use scrib_settle::ended::Ended;
 use scrib_types::event::{Action, Told, Verdict};
 use scrib_types::name::{Dotted, Role};
@@ -156,20 +157,38 @@ fn mismatch_value(alloc: Global, conversation: u32, place: usize) -> Result<Valu
 }
 
 #[tactic(auto, unfolding(crate::specs::Json::json_of))]
+fn edited_value(alloc: Global, edit: Edit, changes: &Changes) -> Result<Value, AllocError>
+    ensures { IfOk result (λ value. view value ≡ objects.json_of (replies.Edited edit changes.now)) }
+{
+    let list = changes_value(alloc, changes.list.as_slice())?;
+    let module = dotted_value(alloc, &changes.module)?;
+    json!(in alloc; {"changes": list, "edit": edit_word(edit), "module": module})
+}
+
+#[tactic(auto, unfolding(crate::specs::Json::json_of))]
+fn opened_value(alloc: Global, id: u32, name: &Dotted) -> Result<Value, AllocError>
+    ensures { IfOk result (λ value. view value ≡ objects.json_of (replies.Opened id name.now)) }
+{
+    let name = dotted_value(alloc, name)?;
+    json!(in alloc; {"conversation": id, "opened": name})
+}
+
+#[tactic(auto, unfolding(crate::specs::Json::json_of))]
+fn refused_value(alloc: Global, refusal: &Refusal) -> Result<Value, AllocError>
+    ensures { IfOk result (λ value. view value ≡ objects.json_of (replies.Refused refusal.now)) }
+{
+    let text = refusal_value(alloc, refusal)?;
+    json!(in alloc; {"refused": text})
+}
+
+#[tactic(auto, unfolding(crate::specs::Json::json_of))]
 fn reply_value(alloc: Global, reply: &Reply) -> Result<Value, AllocError>
     ensures { IfOk result (λ value. view value ≡ objects.json_of reply.now) }
 {
     match reply {
-        Reply::Edited { edit, changes } => {
-            let list = changes_value(alloc, changes.list.as_slice())?;
-            let module = dotted_value(alloc, &changes.module)?;
-            json!(in alloc; {"changes": list, "edit": edit_word(*edit), "module": module})
-        }
+        Reply::Edited { edit, changes } => edited_value(alloc, *edit, changes),
         Reply::Profiled { profile } => json!(in alloc; {"profile": profile.word()}),
-        Reply::Opened { id, name } => {
-            let name = dotted_value(alloc, name)?;
-            json!(in alloc; {"conversation": *id, "opened": name})
-        }
+        Reply::Opened { id, name } => opened_value(alloc, *id, name),
         Reply::Noted { id, place, told } => noted_value(alloc, *id, *place, told),
         Reply::Judged {
             id,
@@ -177,10 +196,7 @@ fn reply_value(alloc: Global, reply: &Reply) -> Result<Value, AllocError>
             events,
             told,
         } => judged_value(alloc, *id, name, *events, told),
-        Reply::Refused(refusal) => {
-            let text = refusal_value(alloc, refusal)?;
-            json!(in alloc; {"refused": text})
-        }
+        Reply::Refused(refusal) => refused_value(alloc, refusal),
     }
 }
 

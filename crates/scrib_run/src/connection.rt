@@ -1,14 +1,14 @@
 //! A connection to a service.
 
-use crate::answer::{
-    Answer, edited, is_change, is_noted, profiled, push_answer, refused, refused_by_pass,
-};
 use crate::common::Common;
 use crossbeam_channel::Sender;
-use indexmap::IndexMap;
 use scrib_cli::fault::ScriptFault;
 use scrib_cli::printing::{bad_line, end_of_text, reply_format};
-use scrib_core::reply::{Edit, Refusal, Reply};
+use scrib_connection::answer::{
+    Answer, asked, edited, is_change, is_noted, judged, noted, profiled, push_answer, refused,
+};
+use scrib_connection::passes::Passes;
+use scrib_core::reply::{Edit, Reply};
 use scrib_core::step::Step;
 use scrib_rejudge::notices::Notice;
 use scrib_script::format::Format;
@@ -17,7 +17,6 @@ use scrib_shards::gate::OpenGate;
 use scrib_shards::pass::Pass;
 use scrib_shards::passing::PassAnswer;
 use scrib_shards::service::Service;
-use scrib_types::event::Told;
 use scrib_types::shared_event::SharedEvent;
 use scrib_types::text::push_bytes;
 use std::alloc::{AllocError, Global};
@@ -35,9 +34,7 @@ pub(crate) struct Connection<'a> {
     // Where the shards are named whose verdicts an edit may put out of date.
     outbox: Option<&'a Sender<Notice>>,
     format: Format,
-    passes: IndexMap<u32, Pass>,
-    // Where the pass stands that was used last. Nothing rests on it.
-    near: usize,
+    passes: Passes,
     lines: Vec<u8>,
     // Events that are still to be noted, all of the conversation of this id.
     pending: Vec<SharedEvent>,
@@ -54,9 +51,7 @@ pub(crate) struct Closed {
 }
 
 impl<'a> Connection<'a> {
-    ghost use Rattle.std.specs.Prelude.{◌≡◌, ◌<◌, ◌≤◌, [], IfOk, IfSome, OnErr, IsSome, None, Some, nat_eq, slice_get, vec_len, vec_capacity};
-    ghost use Rattle.std.specs.Map.{lookup};
-    ghost use Rattle.indexmap.specs.IndexMap.{index_map_len, keys};
+    ghost use Rattle.std.specs.Prelude.{◌≡◌, ◌≤◌, [], vec_len, vec_capacity};
 
     /// A connection that used no conversation. What it is answered is told in the format of the run.
     pub(crate) fn new<P>(
@@ -68,8 +63,7 @@ impl<'a> Connection<'a> {
             service: common.service,
             outbox,
             format: common.format,
-            passes: IndexMap::new(common.alloc),
-            near: 0,
+            passes: Passes::new(common.alloc),
             lines: Vec::new(common.alloc),
             pending: Vec::new(common.alloc),
             pending_id: 0,
@@ -89,7 +83,7 @@ impl<'a> Connection<'a> {
     /// # Errors
     /// `AllocError` where memory was refused.
     pub(crate) fn close(self) -> Result<Closed, AllocError> {
-        let passes = self.passes.into_values().collect(self.alloc)?;
+        let passes = self.passes.into_vec(self.alloc)?;
         Ok(Closed {
             passes,
             lines: self.lines,
@@ -162,7 +156,7 @@ impl<'a> Connection<'a> {
         requires room { vec_len events ≤ vec_capacity room }
     {
         let service = self.service;
-        let Ok(pass) = self.pass_to(rt, id) else {
+        let Ok(pass) = self.passes.pass_to(rt, service, id) else {
             return self.note_each(rt, id, events);
         };
         let answers = service.note_all(rt, pass, events, room, &OpenGate);
@@ -172,9 +166,15 @@ impl<'a> Connection<'a> {
     // Adds the lines of what the notes of the conversation answered.
     fn tell_answers(&mut self, id: u32, answers: Vec<PassAnswer>) -> Result<(), ScriptFault> {
         for answer in answers {
-            self.tell_answer(&noted_answer(id, answer), Format::Line)?;
+            self.tell_noted(id, answer)?;
         }
         Ok(())
+    }
+
+    // Adds the line of what a note of the conversation answered.
+    #[inline(always)]
+    fn tell_noted(&mut self, id: u32, answer: PassAnswer) -> Result<(), ScriptFault> {
+        self.tell_answer(&noted(id, answer), Format::Line)
     }
 
     // Notes the events of the conversation one by one.
@@ -269,99 +269,24 @@ impl<'a> Connection<'a> {
                 Err(refusal) => refused(refusal),
             },
             Step::Note { id, event } => self.note(rt, id, event),
-            Step::Turn { id } => told_or_refused(id, self.service.turn(rt, id, &OpenGate)),
+            Step::Turn { id } => judged(id, self.service.turn(rt, id, &OpenGate)),
             Step::Ask { id } => self.ask(rt, id),
         }
     }
 
     fn note(&mut self, rt: &impl Wait, id: u32, event: SharedEvent) -> Answer {
         let service = self.service;
-        match self.pass_to(rt, id) {
-            Ok(pass) => noted_answer(id, service.note(rt, pass, event, &OpenGate)),
+        match self.passes.pass_to(rt, service, id) {
+            Ok(pass) => noted(id, service.note(rt, pass, event, &OpenGate)),
             Err(refusal) => refused(refusal),
         }
     }
 
     fn ask(&mut self, rt: &impl Wait, id: u32) -> Answer {
         let service = self.service;
-        let pass = match self.pass_to(rt, id) {
-            Ok(pass) => pass,
-            Err(refusal) => return refused(refusal),
-        };
-        match service.ask(rt, pass) {
-            Ok(told) => Answer::Judged { id, told },
-            Err(refusal) => refused_by_pass(refusal),
+        match self.passes.pass_to(rt, service, id) {
+            Ok(pass) => asked(id, service.ask(rt, pass)),
+            Err(refusal) => refused(refusal),
         }
-    }
-
-    // Its pass to the conversation, to which it connects where it has none.
-    #[inline(always)]
-    fn pass_to(&mut self, rt: &impl Wait, id: u32) -> Result<&mut Pass, Refusal> {
-        let at = self.place_of_pass(rt, id)?;
-        match self.passes.get_index_mut(at) {
-            Some(pass) => Ok(pass),
-            None => Err(Refusal::NoConversation),
-        }
-    }
-
-    // The place among its passes of that to the conversation, to which it connects where it has none. It makes no
-    // second one.
-    #[inline(always)]
-    fn place_of_pass(&mut self, rt: &impl Wait, id: u32) -> Result<usize, Refusal>
-        ensures once { IsSome (lookup (nat_eq id) self.old.passes.entries) → self.new.passes ≡ self.old.passes }
-        ensures within { IfOk result (λ at. at < index_map_len self.new.passes) }
-        ensures found { IfOk result (λ at. slice_get (keys self.new.passes) at ≡ Some id) }
-        ensures fault { OnErr result (self.new.passes.entries ≡ self.old.passes.entries) }
-    {
-        let at = match self.place_near(id) {
-            Some(at) => at,
-            None => self.connect(rt, id)?,
-        };
-        self.near = at;
-        Ok(at)
-    }
-
-    // The place of the pass to the conversation, if it has one. It is looked for first where the last one stood.
-    #[inline(always)]
-    fn place_near(&self, id: u32) -> Option<usize>
-        ensures found { IfSome result (λ at. slice_get (keys self.now.passes) at ≡ Some id) }
-        ensures absent { result ≡ None → lookup (nat_eq id) self.now.passes.entries ≡ None }
-    {
-        match self.passes.get_index(self.near) {
-            Some((key, _)) if *key == id => Some(self.near),
-            _ => self.passes.get_index_of(&id),
-        }
-    }
-
-    // Connects to the conversation, to which it has no pass. Gives the place of the pass.
-    fn connect(&mut self, rt: &impl Wait, id: u32) -> Result<usize, Refusal>
-        ensures found { IfOk result (λ at. slice_get (keys self.new.passes) at ≡ Some id) }
-        ensures fault { OnErr result (self.new.passes.entries ≡ self.old.passes.entries) }
-    {
-        let pass = self.service.connect(rt, id)?;
-        match self.passes.insert_full(id, pass) {
-            Ok((at, _)) => Ok(at),
-            Err(_) => Err(Refusal::OutOfMemory),
-        }
-    }
-}
-
-// What is answered to a note in this conversation.
-#[inline(always)]
-fn noted_answer(id: u32, answer: PassAnswer) -> Answer {
-    match answer {
-        Ok(noted) => Answer::Reply(Reply::Noted {
-            id,
-            place: noted.place,
-            told: noted.told,
-        }),
-        Err(refusal) => refused_by_pass(refusal),
-    }
-}
-
-fn told_or_refused(id: u32, answer: Result<Told, Refusal>) -> Answer {
-    match answer {
-        Ok(told) => Answer::Judged { id, told },
-        Err(refusal) => refused(refusal),
     }
 }

@@ -1,7 +1,6 @@
 //! Scripts of many connections over one service.
 #![tactic(auto)]
 
-mod answer;
 mod common;
 mod connection;
 mod connections;

@@ -1,6 +1,7 @@
 //! Exchanges that were read before, by their texts.
 
 ghost use Rattle.std.specs.Prelude.{◌≡◌, IfOk, IfSome};
+ghost use Rattle.scrib_types.specs.declared.event.Event.TheVariants.{Sent};
 ghost use Rattle.scrib_script.specs.declared.act.Act.TheVariants.{Send, Receive};
 ghost use Rattle.scrib_script.specs.Heads.{SpellsEvent, SpellsExchange};
 
@@ -110,18 +111,24 @@ fn known_of(alloc: Global, text: &[u8], exchange: Exchange) -> Result<Known, All
     requires { SpellsExchange text.now exchange.from exchange.to exchange.message }
     ensures { IfOk result (λ known. known.text.items ≡ text.now) }
 {
+    let sent = sent_of(alloc, &exchange)?;
     let Exchange { from, to, message } = exchange;
-    let sent = Event::Sent {
-        from: from.copy()?,
-        to: to.copy()?,
-        message: message.copy()?,
-    };
-    let received = Event::Received { from, to, message };
+    let received = SharedEvent::new(alloc, Event::Received { from, to, message })?;
     Ok(Known {
         text: text.to_vec(alloc)?,
-        sent: SharedEvent::new(alloc, sent)?,
-        received: SharedEvent::new(alloc, received)?,
+        sent,
+        received,
     })
+}
+
+/// The event that the exchange's message is sent.
+fn sent_of(alloc: Global, exchange: &Exchange) -> Result<SharedEvent, AllocError>
+    ensures { IfOk result (λ e. e ≡ Sent exchange.now.from exchange.now.to exchange.now.message) }
+{
+    let from = exchange.from.copy()?;
+    let to = exchange.to.copy()?;
+    let message = exchange.message.copy()?;
+    SharedEvent::new(alloc, Event::Sent { from, to, message })
 }
 
 /// The slot of a text. Each eight bytes cost one product, which spreads what differs in few bits. The last eight are

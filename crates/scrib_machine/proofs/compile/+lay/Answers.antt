@@ -1,4 +1,4 @@
-use Rattle.std.proofs.Common.{◌≡◌, ◌∙◌, ◌<◌, ◌+◌, ◌*◌, ℕ, List, [], length, set, reverse, take, refl, sym, ap, subst, arith, rules}
+use Rattle.std.proofs.Common.{◌≡◌, ◌∙◌, ◌<◌, ◌≤◌, ◌+◌, ◌*◌, ℕ, List, [], length, set, reverse, take, refl, sym, ap, subst, arith, rules}
 use Rattle.std.specs.List.Sorted.{IsPermutation}
 use Rattle.scrib_types.specs.declared.event.Action.{Action}
 use Rattle.scrib_types.specs.declared.event.Action.TheVariants.{Sends, Receives}
@@ -16,7 +16,7 @@ use Rattle.scrib_machine.proofs.compile.+lay.Goals as goal
 pub lay-lay-requires : goal.lay-lay-requires
 lay-lay-requires t c =
     let form : local_of c.args.local.now ≡ LocalRec (local_of c.get.result.now) = ap local_of c.in-Rec.is ∙ rec_of c.in-Rec.body ∙ ap (λ (l : Local). LocalRec (local_of l)) (sym c.get.ensures) in
-    let falls : 2 * nodes (local_of c.get.result.now) < t = omega (arith, c.decreases, ap nodes form) in (
+    let falls : 3 * nodes (local_of c.get.result.now) < t = omega (arith, c.decreases, ap nodes form) in (
       falls,
       (
         rec_room (local_of c.args.local.now) (local_of c.get.result.now) (length c.args.rows.now.items) most_nodes form c.requires.room,
@@ -45,7 +45,7 @@ lay-returns-in_ok-root-in-Rec-clause-placed t c =
 pub lay_all-lay-requires : goal.lay_all-lay-requires
 lay_all-lay-requires t c = (
   (
-      let falls : 2 * nodes (local_of c.loop-local-item.result.1) < t = omega (arith, c.decreases, nodes_at c.args.branches.now c.loop-local.local-index c.loop-local-item.result c.loop-local-item.is c.loop-local-test.true) in falls
+      let falls : 3 * nodes (local_of c.loop-local-item.result.1) < t = omega (arith, c.decreases, nodes_at c.args.branches.now c.loop-local.local-index c.loop-local-item.result c.loop-local-item.is c.loop-local-test.true) in falls
       ),
   (
     room_at c.args.rows.now.items c.loop-local.rows.items (reverse c.loop-local.outer.items) c.args.branches.now c.loop-local.local-index c.loop-local-item.result c.loop-local.nexts.items most_nodes c.requires.room c.loop-local.invariant.0 c.loop-local-item.is c.loop-local-test.true,
@@ -64,76 +64,86 @@ lay_all-loop-local-preserved t c =
       c.in_ok-next.ensures.outer ∙ c.loop-local.invariant.1,
     )
 
-pub lay-lay_all-requires : goal.lay-lay_all-requires
-lay-lay_all-requires t c =
+pub lay-lay_sends-requires : goal.lay-lay_sends-requires
+lay-lay_sends-requires t c =
     let form : local_of c.args.local.now ≡ Send c.in-Send.to (local_branches c.as_slice.result.now) = ap local_of c.in-Send.is ∙ send_of c.in-Send.to c.in-Send.branches ∙ ap (λ (bs : List (Message × Local)). Send c.in-Send.to (local_branches bs)) (sym c.as_slice.ensures) in
-    let falls : 2 * nodes_all (local_branches c.as_slice.result.now) + 1 < t = omega (arith, c.decreases, ap nodes form) in (
+    let falls : 3 * nodes_all (local_branches c.as_slice.result.now) + 2 < t = omega (arith, c.decreases, ap nodes form) in (
       falls,
       (
-        choice_room (local_of c.args.local.now) (Send c.in-Send.to (local_branches c.as_slice.result.now)) (local_branches c.as_slice.result.now) c.args.rows.now.items c.push-in-Send.new.self.items c.none-in-Send.result most_nodes form refl c.in_ok-push-in-Send.ensures.items c.requires.room,
+        subst (λ x. length c.args.rows.now.items + nodes x ≤ most_nodes) form c.requires.room,
         (
           subst (λ x. Closed x (length c.args.outer.now.items)) form c.requires.closed,
-          (subst (λ x. Distinct x) form c.requires.distinct).1,
+          subst (λ x. Distinct x) form c.requires.distinct,
         ),
       ),
     )
 
-pub lay-sends-requires-clause-each : goal.lay-sends-requires-clause-each
-lay-sends-requires-clause-each t c =
-    ap length c.as_slice-in-Send-2.ensures
-    ∙ each_next c.lay_all.new.rows.items (reverse c.args.outer.now.items) c.as_slice.result.now (length c.push-in-Send.new.self.items) c.in_ok-nexts-in-Send.nexts.items c.in_ok-nexts-in-Send.ensures.placed.laid
-    ∙ ap (λ (bs : List (Message × Local)). length bs) (c.as_slice.ensures ∙ sym c.as_slice-in-Send.ensures)
+pub lay_sends-lay_all-requires : goal.lay_sends-lay_all-requires
+lay_sends-lay_all-requires t c =
+    let falls : 3 * nodes_all (local_branches c.args.branches.now) + 1 < t = omega (arith, c.decreases) in (
+      falls,
+      (
+        choice_room (Send c.args.to.now (local_branches c.args.branches.now)) (Send c.args.to.now (local_branches c.args.branches.now)) (local_branches c.args.branches.now) c.args.rows.now.items c.push.new.self.items c.none.result most_nodes refl refl c.in_ok-push.ensures.items c.requires.room,
+        (c.requires.closed, c.requires.distinct.1),
+      ),
+    )
 
-pub lay-returns-in_ok-rows-in-Send-clause-placed : goal.lay-returns-in_ok-rows-in-Send-clause-placed
-lay-returns-in_ok-rows-in-Send-clause-placed t c =
-    let bs : List (Message × Local) = c.in-Send.branches in
-    let ks : List ℕ = c.in_ok-nexts-in-Send.nexts.items in
-    let es : List Edge = c.in_ok-rows-in-Send.field-0 in
-    let a : Message → Action = Sends c.in-Send.to in
-    let laid : PlacedAll c.push-in-Send.new.self.items c.lay_all.new.rows.items (reverse c.args.outer.now.items) (local_branches bs) ks =
-    subst (λ (xs : List (Message × Local)). PlacedAll c.push-in-Send.new.self.items c.lay_all.new.rows.items (reverse c.args.outer.now.items) (local_branches xs) ks) c.as_slice.ensures c.in_ok-nexts-in-Send.ensures.placed in
-    let same : IsPermutation (edges_of a (local_branches bs) ks) es =
-    subst (λ (xs : List (Message × Local)). IsPermutation (edges_of a (local_branches xs) ks) es) c.as_slice-in-Send.ensures
-    (subst (λ (xs : List ℕ). IsPermutation (edges_of a (local_branches c.as_slice-in-Send.result.now) xs) es) c.as_slice-in-Send-2.ensures c.in_ok-rows-in-Send.ensures.same) in
-    let at : c.len-at-in-Send.result ≡ length c.args.rows.now.items = search rules in
-    placed_send c.args.rows.now.items c.push-in-Send.new.self.items c.lay_all.new.rows.items _ (reverse c.args.outer.now.items) (local_of c.args.local.now) c.in-Send.to (local_branches bs) ks es c.len-at-in-Send.result
-    (ap local_of c.in-Send.is ∙ send_of c.in-Send.to bs)
-    (pushed_as c.args.rows.now.items c.push-in-Send.new.self.items c.none-in-Send.result [] c.in_ok-push-in-Send.ensures.items c.none-in-Send.ensures)
-    laid (ap (λ n. set c.lay_all.new.rows.items n es) at) same c.in_ok-rows-in-Send.ensures.sorted at
+pub lay_sends-sends-requires-clause-each : goal.lay_sends-sends-requires-clause-each
+lay_sends-sends-requires-clause-each t c =
+    ap length c.as_slice.ensures
+    ∙ each_next c.lay_all.new.rows.items (reverse c.args.outer.now.items) c.args.branches.now (length c.push.new.self.items) c.in_ok-nexts.nexts.items c.in_ok-nexts.ensures.placed.laid
 
-pub lay-lay_all-requires-in-Recv : goal.lay-lay_all-requires-in-Recv
-lay-lay_all-requires-in-Recv t c =
+pub lay_sends-returns-clause-placed : goal.lay_sends-returns-clause-placed
+lay_sends-returns-clause-placed t c =
+    let bs : List (Message × Local) = c.args.branches.now in
+    let ks : List ℕ = c.in_ok-nexts.nexts.items in
+    let es : List Edge = c.in_ok-rows.field-0 in
+    let same : IsPermutation (edges_of (Sends c.args.to.now) (local_branches bs) ks) es =
+    subst (λ (xs : List ℕ). IsPermutation (edges_of (Sends c.args.to.now) (local_branches bs) xs) es) c.as_slice.ensures c.in_ok-rows.ensures.same in
+    let at : c.len-at.result ≡ length c.args.rows.now.items = search rules in
+    placed_send c.args.rows.now.items c.push.new.self.items c.lay_all.new.rows.items _ (reverse c.args.outer.now.items) (Send c.args.to.now (local_branches bs)) c.args.to.now (local_branches bs) ks es c.len-at.result
+    refl
+    (pushed_as c.args.rows.now.items c.push.new.self.items c.none.result [] c.in_ok-push.ensures.items c.none.ensures)
+    c.in_ok-nexts.ensures.placed (ap (λ n. set c.lay_all.new.rows.items n es) at) same c.in_ok-rows.ensures.sorted at
+
+pub lay-lay_receptions-requires : goal.lay-lay_receptions-requires
+lay-lay_receptions-requires t c =
     let form : local_of c.args.local.now ≡ Recv c.in-Recv.from (local_branches c.as_slice-in-Recv.result.now) = ap local_of c.in-Recv.is ∙ recv_of c.in-Recv.from c.in-Recv.branches ∙ ap (λ (bs : List (Message × Local)). Recv c.in-Recv.from (local_branches bs)) (sym c.as_slice-in-Recv.ensures) in
-    let falls : 2 * nodes_all (local_branches c.as_slice-in-Recv.result.now) + 1 < t = omega (arith, c.decreases, ap nodes form) in (
+    let falls : 3 * nodes_all (local_branches c.as_slice-in-Recv.result.now) + 2 < t = omega (arith, c.decreases, ap nodes form) in (
       falls,
       (
-        choice_room (local_of c.args.local.now) (Recv c.in-Recv.from (local_branches c.as_slice-in-Recv.result.now)) (local_branches c.as_slice-in-Recv.result.now) c.args.rows.now.items c.push-in-Recv.new.self.items c.none-in-Recv.result most_nodes form refl c.in_ok-push-in-Recv.ensures.items c.requires.room,
+        subst (λ x. length c.args.rows.now.items + nodes x ≤ most_nodes) form c.requires.room,
         (
           subst (λ x. Closed x (length c.args.outer.now.items)) form c.requires.closed,
-          (subst (λ x. Distinct x) form c.requires.distinct).1,
+          subst (λ x. Distinct x) form c.requires.distinct,
         ),
       ),
     )
 
-pub lay-receptions-requires-clause-each : goal.lay-receptions-requires-clause-each
-lay-receptions-requires-clause-each t c =
-    ap length c.as_slice-in-Recv-3.ensures
-    ∙ each_next c.lay_all-in-Recv.new.rows.items (reverse c.args.outer.now.items) c.as_slice-in-Recv.result.now (length c.push-in-Recv.new.self.items) c.in_ok-nexts-in-Recv.nexts.items c.in_ok-nexts-in-Recv.ensures.placed.laid
-    ∙ ap (λ (bs : List (Message × Local)). length bs) (c.as_slice-in-Recv.ensures ∙ sym c.as_slice-in-Recv-2.ensures)
+pub lay_receptions-lay_all-requires : goal.lay_receptions-lay_all-requires
+lay_receptions-lay_all-requires t c =
+    let falls : 3 * nodes_all (local_branches c.args.branches.now) + 1 < t = omega (arith, c.decreases) in (
+      falls,
+      (
+        choice_room (Recv c.args.from.now (local_branches c.args.branches.now)) (Recv c.args.from.now (local_branches c.args.branches.now)) (local_branches c.args.branches.now) c.args.rows.now.items c.push.new.self.items c.none.result most_nodes refl refl c.in_ok-push.ensures.items c.requires.room,
+        (c.requires.closed, c.requires.distinct.1),
+      ),
+    )
 
-pub lay-returns-in_ok-rows-in-Recv-clause-placed : goal.lay-returns-in_ok-rows-in-Recv-clause-placed
-lay-returns-in_ok-rows-in-Recv-clause-placed t c =
-    let bs : List (Message × Local) = c.in-Recv.branches in
-    let ks : List ℕ = c.in_ok-nexts-in-Recv.nexts.items in
-    let es : List Edge = c.in_ok-rows-in-Recv.field-0 in
-    let a : Message → Action = Receives c.in-Recv.from in
-    let laid : PlacedAll c.push-in-Recv.new.self.items c.lay_all-in-Recv.new.rows.items (reverse c.args.outer.now.items) (local_branches bs) ks =
-    subst (λ (xs : List (Message × Local)). PlacedAll c.push-in-Recv.new.self.items c.lay_all-in-Recv.new.rows.items (reverse c.args.outer.now.items) (local_branches xs) ks) c.as_slice-in-Recv.ensures c.in_ok-nexts-in-Recv.ensures.placed in
-    let same : IsPermutation (edges_of a (local_branches bs) ks) es =
-    subst (λ (xs : List (Message × Local)). IsPermutation (edges_of a (local_branches xs) ks) es) c.as_slice-in-Recv-2.ensures
-    (subst (λ (xs : List ℕ). IsPermutation (edges_of a (local_branches c.as_slice-in-Recv-2.result.now) xs) es) c.as_slice-in-Recv-3.ensures c.in_ok-rows-in-Recv.ensures.same) in
-    let at : c.len-at-in-Recv.result ≡ length c.args.rows.now.items = search rules in
-    placed_recv c.args.rows.now.items c.push-in-Recv.new.self.items c.lay_all-in-Recv.new.rows.items _ (reverse c.args.outer.now.items) (local_of c.args.local.now) c.in-Recv.from (local_branches bs) ks es c.len-at-in-Recv.result
-    (ap local_of c.in-Recv.is ∙ recv_of c.in-Recv.from bs)
-    (pushed_as c.args.rows.now.items c.push-in-Recv.new.self.items c.none-in-Recv.result [] c.in_ok-push-in-Recv.ensures.items c.none-in-Recv.ensures)
-    laid (ap (λ n. set c.lay_all-in-Recv.new.rows.items n es) at) same c.in_ok-rows-in-Recv.ensures.sorted at
+pub lay_receptions-receptions-requires-clause-each : goal.lay_receptions-receptions-requires-clause-each
+lay_receptions-receptions-requires-clause-each t c =
+    ap length c.as_slice.ensures
+    ∙ each_next c.lay_all.new.rows.items (reverse c.args.outer.now.items) c.args.branches.now (length c.push.new.self.items) c.in_ok-nexts.nexts.items c.in_ok-nexts.ensures.placed.laid
+
+pub lay_receptions-returns-clause-placed : goal.lay_receptions-returns-clause-placed
+lay_receptions-returns-clause-placed t c =
+    let bs : List (Message × Local) = c.args.branches.now in
+    let ks : List ℕ = c.in_ok-nexts.nexts.items in
+    let es : List Edge = c.in_ok-rows.field-0 in
+    let same : IsPermutation (edges_of (Receives c.args.from.now) (local_branches bs) ks) es =
+    subst (λ (xs : List ℕ). IsPermutation (edges_of (Receives c.args.from.now) (local_branches bs) xs) es) c.as_slice.ensures c.in_ok-rows.ensures.same in
+    let at : c.len-at.result ≡ length c.args.rows.now.items = search rules in
+    placed_recv c.args.rows.now.items c.push.new.self.items c.lay_all.new.rows.items _ (reverse c.args.outer.now.items) (Recv c.args.from.now (local_branches bs)) c.args.from.now (local_branches bs) ks es c.len-at.result
+    refl
+    (pushed_as c.args.rows.now.items c.push.new.self.items c.none.result [] c.in_ok-push.ensures.items c.none.ensures)
+    c.in_ok-nexts.ensures.placed (ap (λ n. set c.lay_all.new.rows.items n es) at) same c.in_ok-rows.ensures.sorted at

@@ -9,7 +9,13 @@ invariant-lay_all-loop-local l =
     PlacedAll l.initial.rows.items l.rows.items (reverse l.outer.items) (local_branches (take l.local-index l.branches)) l.nexts.items × (l.outer.items ≡ l.initial.outer.items)
 
 abbrev pub decreases-lay : goal.decreases-lay
-decreases-lay l = 2 * nodes (local_of l.local.now)
+decreases-lay l = 3 * nodes (local_of l.local.now)
 
 abbrev pub decreases-lay_all : goal.decreases-lay_all
-decreases-lay_all l = 2 * nodes_all (local_branches l.branches.now) + 1
+decreases-lay_all l = 3 * nodes_all (local_branches l.branches.now) + 1
+
+abbrev pub decreases-lay_sends : goal.decreases-lay_sends
+decreases-lay_sends l = 3 * nodes_all (local_branches l.branches.now) + 2
+
+abbrev pub decreases-lay_receptions : goal.decreases-lay_receptions
+decreases-lay_receptions l = 3 * nodes_all (local_branches l.branches.now) + 2

@@ -2,8 +2,8 @@
 
 ghost use Rattle.std.specs.Prelude.{◌≡◌, ◌++◌, OnOk};
 ghost use Rattle.scrib_core.specs.declared.reply.Reply.TheVariants.{Refused};
-ghost use Rattle.scrib_run.specs.declared.answer.Answer.TheVariants as answer;
-ghost use Rattle.scrib_run.specs.Answers.{answer_text, edit_answer, is_change, profile_answer, refusal_answer};
+ghost use Rattle.scrib_connection.specs.declared.answer.Answer.TheVariants as answer;
+ghost use Rattle.scrib_connection.specs.Answers.{answer_text, asked_answer, edit_answer, is_change, noted_answer, profile_answer, refusal_answer, turn_answer};
 
 use scrib_cli::printing::push_reply;
 use scrib_core::reply::{Edit, Refusal, Reply};
@@ -12,7 +12,7 @@ use scrib_library::fault::EditFault;
 use scrib_report::json::{mismatch_json, told_json};
 use scrib_report::service::{judged_line, mismatch_line};
 use scrib_script::format::Format;
-use scrib_shards::passing::PassRefusal;
+use scrib_shards::passing::{PassAnswer, PassRefusal};
 use scrib_types::event::Told;
 use scrib_types::profile::Profile;
 use scrib_types::text::push_bytes;
@@ -20,7 +20,7 @@ use std::alloc::AllocError;
 
 /// What a service answers to a step.
 #[derive(Drop)]
-pub(crate) enum Answer {
+pub enum Answer {
     /// What a monitor would answer too.
     Reply(Reply),
     /// What is told of a conversation after a turn or a question.
@@ -30,14 +30,14 @@ pub(crate) enum Answer {
 }
 
 /// What is answered where the step is refused.
-pub(crate) fn refused(refusal: Refusal) -> Answer
+pub fn refused(refusal: Refusal) -> Answer
     ensures { result ≡ answer.Reply (Refused refusal) }
 {
     Answer::Reply(Reply::Refused(refusal))
 }
 
 /// What is answered where a call by a pass is refused.
-pub(crate) fn refused_by_pass(refusal: PassRefusal) -> Answer
+pub fn refused_by_pass(refusal: PassRefusal) -> Answer
     ensures { result ≡ refusal_answer refusal }
 {
     match refusal {
@@ -53,7 +53,7 @@ pub(crate) fn refused_by_pass(refusal: PassRefusal) -> Answer
 }
 
 /// What is answered to an edit.
-pub(crate) fn edited(edit: Edit, answer: Result<Changes, EditFault>) -> Answer
+pub fn edited(edit: Edit, answer: Result<Changes, EditFault>) -> Answer
     ensures { result ≡ edit_answer edit answer }
 {
     match answer {
@@ -63,7 +63,7 @@ pub(crate) fn edited(edit: Edit, answer: Result<Changes, EditFault>) -> Answer
 }
 
 /// What is answered to a change of the profile.
-pub(crate) fn profiled(profile: Profile, answer: Result<(), EditFault>) -> Answer
+pub fn profiled(profile: Profile, answer: Result<(), EditFault>) -> Answer
     ensures { result ≡ profile_answer profile answer }
 {
     match answer {
@@ -72,13 +72,48 @@ pub(crate) fn profiled(profile: Profile, answer: Result<(), EditFault>) -> Answe
     }
 }
 
+/// What is answered to a note in the conversation.
+#[inline(always)]
+pub fn noted(id: u32, answer: PassAnswer) -> Answer
+    ensures { result ≡ noted_answer id answer }
+{
+    match answer {
+        Ok(noted) => Answer::Reply(Reply::Noted {
+            id,
+            place: noted.place,
+            told: noted.told,
+        }),
+        Err(refusal) => refused_by_pass(refusal),
+    }
+}
+
+/// What is answered to a turn in the conversation.
+pub fn judged(id: u32, answer: Result<Told, Refusal>) -> Answer
+    ensures { result ≡ turn_answer id answer }
+{
+    match answer {
+        Ok(told) => Answer::Judged { id, told },
+        Err(refusal) => refused(refusal),
+    }
+}
+
+/// What is answered to a question by a pass of the conversation.
+pub fn asked(id: u32, answer: Result<Told, PassRefusal>) -> Answer
+    ensures { result ≡ asked_answer id answer }
+{
+    match answer {
+        Ok(told) => Answer::Judged { id, told },
+        Err(refusal) => refused_by_pass(refusal),
+    }
+}
+
 /// Whether it is that an event was noted.
-pub(crate) fn is_noted(answer: &Answer) -> bool {
+pub fn is_noted(answer: &Answer) -> bool {
     matches!(answer, Answer::Reply(Reply::Noted { .. }))
 }
 
 /// Whether it is that some protocols changed.
-pub(crate) fn is_change(answer: &Answer) -> bool
+pub fn is_change(answer: &Answer) -> bool
     ensures { result ≡ is_change answer.now }
 {
     match answer {
@@ -91,11 +126,7 @@ pub(crate) fn is_change(answer: &Answer) -> bool
 ///
 /// # Errors
 /// `AllocError` where memory was refused.
-pub(crate) fn push_answer(
-    lines: &mut Vec<u8>,
-    answer: &Answer,
-    format: Format,
-) -> Result<(), AllocError>
+pub fn push_answer(lines: &mut Vec<u8>, answer: &Answer, format: Format) -> Result<(), AllocError>
     ensures { OnOk result (lines.new.items ≡ lines.old.items ++ answer_text format answer.now) }
 {
     let alloc = *lines.allocator();

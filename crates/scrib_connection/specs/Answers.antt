@@ -1,27 +1,44 @@
 -- What a service's answers are, and their text (this project's own).
--- Only contracts of private functions cite this file.
 use Rattle.std.specs.Prelude.{ℕ, Bool, true, false, List, [], ◌∷◌, ◌++◌, Result, Ok, Err}
+use Rattle.scrib_types.specs.declared.event.Told.{Told}
 use Rattle.scrib_types.specs.declared.profile.Profile.{Profile}
 use Rattle.scrib_library.specs.declared.changes.Change.{Change}
 use Rattle.scrib_library.specs.declared.changes.Changes.{Changes}
 use Rattle.scrib_library.specs.declared.fault.EditFault.{EditFault}
 use Rattle.scrib_core.specs.declared.reply.Edit.{Edit}
+use Rattle.scrib_core.specs.declared.reply.Refusal.{Refusal}
 use Rattle.scrib_core.specs.declared.reply.Refusal.TheVariants as refusal
 use Rattle.scrib_core.specs.declared.reply.Reply.TheVariants as reply
 use Rattle.scrib_locked.specs.declared.passing.PassRefusal.{PassRefusal}
 use Rattle.scrib_locked.specs.declared.passing.PassRefusal.TheVariants as pass
+use Rattle.scrib_locked.specs.declared.stepping.Noted.{Noted}
 use Rattle.scrib_report.specs.Json.{told_json, mismatch_json}
 use Rattle.scrib_report.specs.Services.{judged_text, mismatch_text}
 use Rattle.scrib_script.specs.declared.format.Format.{Format}
 use Rattle.scrib_script.specs.declared.format.Format.TheVariants as format
 use Rattle.scrib_cli.specs.Scripts.{reply_text}
-use Rattle.scrib_run.specs.declared.answer.Answer.{Answer}
-use Rattle.scrib_run.specs.declared.answer.Answer.TheVariants as answer
+use Rattle.scrib_connection.specs.declared.answer.Answer.{Answer}
+use Rattle.scrib_connection.specs.declared.answer.Answer.TheVariants as answer
 
 -- the answer where a call by a pass is refused
 abbrev pub refusal_answer : PassRefusal → Answer
 refusal_answer (pass.Mismatch c place) = answer.Mismatch c place
 refusal_answer (pass.Step f) = answer.Reply (reply.Refused f)
+
+-- the answer to a note in the conversation
+abbrev pub noted_answer : ℕ → Result Noted PassRefusal → Answer
+noted_answer id (Ok noted) = answer.Reply (reply.Noted id noted.place noted.told)
+noted_answer id (Err f) = refusal_answer f
+
+-- the answer to a turn in it
+abbrev pub turn_answer : ℕ → Result Told Refusal → Answer
+turn_answer id (Ok told) = answer.Judged id told
+turn_answer id (Err f) = answer.Reply (reply.Refused f)
+
+-- the answer to a question by a pass
+abbrev pub asked_answer : ℕ → Result Told PassRefusal → Answer
+asked_answer id (Ok told) = answer.Judged id told
+asked_answer id (Err f) = refusal_answer f
 
 -- the answer to an edit
 abbrev pub edit_answer : Edit → Result Changes EditFault → Answer
