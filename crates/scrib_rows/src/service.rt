@@ -1,6 +1,7 @@
 //! Worked examples of the service and of its sweeps, with threads and beside a core.
 
 mod connected;
+mod example;
 mod lines;
 mod longest;
 mod making;
@@ -12,6 +13,7 @@ mod sweeps;
 mod threads;
 
 use crate::fault::RowsFault;
+use crate::service::example::push_example;
 use crate::service::longest::push_longest_log;
 use crate::service::meeting::push_meeting;
 use crate::service::notes::{push_asked, push_many};
@@ -39,6 +41,7 @@ fn obey<R: Threads + Wait + Sync>(
         "full" => push_full_shard(rt, alloc, number, out),
         "strangers" => push_strangers(rt, alloc, number, out),
         "swept" => push_swept(rt, alloc, number, out),
+        "example" => push_example(rt, alloc, number, out),
         "threads" => push_threads(rt, alloc, number, out),
         "meeting" => push_meeting(rt, alloc, number, out),
         "one-worker" => push_one_worker(rt, alloc, number, out),

@@ -4,11 +4,9 @@ use crate::common::Common;
 use crossbeam_channel::Sender;
 use scrib_cli::fault::ScriptFault;
 use scrib_cli::printing::{bad_line, end_of_text, reply_format};
-use scrib_connection::answer::{
-    Answer, asked, edited, is_change, is_noted, judged, noted, profiled, push_answer, refused,
-};
+use scrib_connection::answer::{Answer, is_change, is_noted, noted, push_answer};
 use scrib_connection::passes::Passes;
-use scrib_core::reply::{Edit, Reply};
+use scrib_connection::steps::{make_step, note_event};
 use scrib_core::step::Step;
 use scrib_rejudge::notices::Notice;
 use scrib_script::format::Format;
@@ -191,7 +189,7 @@ impl<'a> Connection<'a> {
     }
 
     fn note_now(&mut self, rt: &impl Wait, id: u32, event: SharedEvent) -> Result<(), ScriptFault> {
-        let answer = self.note(rt, id, event);
+        let answer = note_event(rt, self.service, &mut self.passes, id, event);
         self.tell_answer(&answer, Format::Line)
     }
 
@@ -221,7 +219,7 @@ impl<'a> Connection<'a> {
     // Makes the step, names each shard where it changed a protocol, and adds the line of what is answered, which is asked
     // for in this format.
     fn make(&mut self, rt: &impl Wait, asked: Format, step: Step) -> Result<(), ScriptFault> {
-        let answer = self.carry_out(rt, step);
+        let answer = make_step(rt, self.service, &mut self.passes, step);
         if is_change(&answer) {
             self.send_notices(rt);
         }
@@ -255,38 +253,6 @@ impl<'a> Connection<'a> {
         };
         for shard in 0..self.service.shards() {
             let _ = outbox.send(rt, Notice { shard });
-        }
-    }
-
-    // Makes the step.
-    fn carry_out(&mut self, rt: &impl Wait, step: Step) -> Answer {
-        match step {
-            Step::Put { text } => edited(Edit::Put, self.service.put(rt, text.as_slice())),
-            Step::Withdraw { name } => edited(Edit::Withdraw, self.service.withdraw(rt, &name)),
-            Step::Profile { profile } => profiled(profile, self.service.profile(rt, profile)),
-            Step::Open { id, name } => match self.service.open(rt, id, &name) {
-                Ok(()) => Answer::Reply(Reply::Opened { id, name }),
-                Err(refusal) => refused(refusal),
-            },
-            Step::Note { id, event } => self.note(rt, id, event),
-            Step::Turn { id } => judged(id, self.service.turn(rt, id, &OpenGate)),
-            Step::Ask { id } => self.ask(rt, id),
-        }
-    }
-
-    fn note(&mut self, rt: &impl Wait, id: u32, event: SharedEvent) -> Answer {
-        let service = self.service;
-        match self.passes.pass_to(rt, service, id) {
-            Ok(pass) => noted(id, service.note(rt, pass, event, &OpenGate)),
-            Err(refusal) => refused(refusal),
-        }
-    }
-
-    fn ask(&mut self, rt: &impl Wait, id: u32) -> Answer {
-        let service = self.service;
-        match self.passes.pass_to(rt, service, id) {
-            Ok(pass) => asked(id, service.ask(rt, pass)),
-            Err(refusal) => refused(refusal),
         }
     }
 }

@@ -1,20 +1,14 @@
 //! Lines that tell what a service answers.
 
 use crate::fault::RowsFault;
-use scrib_core::reply::{Edit, Refusal, Reply};
-use scrib_library::changes::Changes;
-use scrib_library::fault::EditFault;
-use scrib_report::line::line;
-use scrib_report::service::{judged_line, mismatch_line};
+use scrib_connection::answer::{Answer, push_answer};
+use scrib_report::service::mismatch_line;
 use scrib_report::table::table;
+use scrib_script::format::Format;
 use scrib_shards::fault::SettleFault;
 use scrib_shards::pass::Pass;
-use scrib_shards::passing::PassRefusal;
 use scrib_shards::service::Service;
 use scrib_shards::settled::Settled;
-use scrib_shards::stepping::Noted;
-use scrib_types::event::Told;
-use scrib_types::profile::Profile;
 use scrib_types::text::{push_bytes, push_number};
 use std::alloc::Global;
 
@@ -25,74 +19,17 @@ pub(crate) fn push_line(out: &mut Vec<u8>, text: &[u8]) -> Result<(), RowsFault>
     Ok(())
 }
 
-/// The line of a reply.
-pub(crate) fn replied(alloc: Global, reply: Reply) -> Result<Vec<u8>, RowsFault> {
-    Ok(line(alloc, &reply)?)
+/// The line of what a service answers, with its LF.
+pub(crate) fn answered(alloc: Global, answer: &Answer) -> Result<Vec<u8>, RowsFault> {
+    let mut line = Vec::new(alloc);
+    push_answer(&mut line, answer, Format::Line)?;
+    Ok(line)
 }
 
-/// The answer to an edit.
-pub(crate) fn edited(
-    alloc: Global,
-    edit: Edit,
-    answer: Result<Changes, EditFault>,
-) -> Result<Vec<u8>, RowsFault> {
-    match answer {
-        Ok(changes) => replied(alloc, Reply::Edited { edit, changes }),
-        Err(fault) => refused(alloc, Refusal::Edit(fault)),
-    }
-}
-
-/// The line of what a change of the profile answers.
-pub(crate) fn profiled(
-    alloc: Global,
-    profile: Profile,
-    answer: Result<(), EditFault>,
-) -> Result<Vec<u8>, RowsFault> {
-    match answer {
-        Ok(()) => replied(alloc, Reply::Profiled { profile }),
-        Err(fault) => refused(alloc, Refusal::Edit(fault)),
-    }
-}
-
-/// The answer to a note.
-pub(crate) fn noted(
-    alloc: Global,
-    id: u32,
-    answer: Result<Noted, PassRefusal>,
-) -> Result<Vec<u8>, RowsFault> {
-    match answer {
-        Ok(Noted { place, told }) => replied(alloc, Reply::Noted { id, place, told }),
-        Err(refusal) => refused_by_pass(alloc, refusal),
-    }
-}
-
-/// The answer to a question by a pass.
-pub(crate) fn asked(
-    alloc: Global,
-    id: u32,
-    answer: Result<Told, PassRefusal>,
-) -> Result<Vec<u8>, RowsFault> {
-    match answer {
-        Ok(told) => Ok(judged_line(alloc, id, &told)?),
-        Err(refusal) => refused_by_pass(alloc, refusal),
-    }
-}
-
-/// The answer to a turn.
-pub(crate) fn turned(
-    alloc: Global,
-    id: u32,
-    answer: Result<Told, Refusal>,
-) -> Result<Vec<u8>, RowsFault> {
-    match answer {
-        Ok(told) => Ok(judged_line(alloc, id, &told)?),
-        Err(refusal) => refused(alloc, refusal),
-    }
-}
-
-/// The line of a refused step.
-pub(crate) fn refused(alloc: Global, refusal: Refusal) -> Result<Vec<u8>, RowsFault> {
-    replied(alloc, Reply::Refused(refusal))
+/// Adds the line of what a service answers.
+pub(crate) fn push_told(out: &mut Vec<u8>, answer: &Answer) -> Result<(), RowsFault> {
+    push_answer(out, answer, Format::Line)?;
+    Ok(())
 }
 
 /// What settling answers: the table.
@@ -165,15 +102,5 @@ pub(crate) fn push_fault(
             place,
         } => push_line(out, mismatch_line(alloc, *conversation, *place)?.as_slice()),
         SettleFault::OutOfMemory => push_line(out, b"refused OutOfMemory"),
-    }
-}
-
-fn refused_by_pass(alloc: Global, refusal: PassRefusal) -> Result<Vec<u8>, RowsFault> {
-    match refusal {
-        PassRefusal::Mismatch {
-            conversation,
-            place,
-        } => Ok(mismatch_line(alloc, conversation, place)?),
-        PassRefusal::Step(refusal) => refused(alloc, refusal),
     }
 }

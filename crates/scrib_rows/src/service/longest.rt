@@ -2,9 +2,10 @@
 
 use crate::fault::RowsFault;
 use crate::making::{CHOICE, LOOP, event_of};
-use crate::service::lines::{noted, push_line};
+use crate::service::lines::push_told;
 use crate::service::making::{note, open, service};
 use crate::service::sweeps::push_counts;
+use scrib_connection::answer::noted;
 use scrib_record::record::MAX_EVENTS;
 use scrib_rejudge::workers::sweep;
 use scrib_shards::gate::OpenGate;
@@ -33,14 +34,13 @@ fn fill(
 // Tells what a note of the event answers.
 fn push_noted(
     rt: &impl Wait,
-    alloc: Global,
     service: &Service,
     pass: &mut Pass,
     sent: &SharedEvent,
     out: &mut Vec<u8>,
 ) -> Result<(), RowsFault> {
     let answer = service.note(rt, pass, sent.copy()?, &OpenGate);
-    push_line(out, noted(alloc, 0, answer)?.as_slice())
+    push_told(out, &noted(0, answer))
 }
 
 // Fills the log of the conversation; tells what is told of its last event, and of one more.
@@ -53,8 +53,8 @@ fn push_filled(
     let sent = event_of(alloc, "send 0 A B a()")?;
     let mut pass = service.connect(rt, 0)?;
     fill(rt, alloc, service, &mut pass, &sent)?;
-    push_noted(rt, alloc, service, &mut pass, &sent, out)?;
-    push_noted(rt, alloc, service, &mut pass, &sent, out)
+    push_noted(rt, service, &mut pass, &sent, out)?;
+    push_noted(rt, service, &mut pass, &sent, out)
 }
 
 /// What is told of the last event that a log may have, and of one more; and what one worker makes of the log after an

@@ -3,8 +3,10 @@
 use crate::fault::RowsFault;
 use crate::making::{put, step_of};
 use crate::service::connected::Connected;
-use crate::service::lines::{push_line, replied};
+use crate::service::lines::{answered, push_line};
+use scrib_connection::answer::Answer;
 use scrib_core::monitor::Core;
+use scrib_core::reply::Reply;
 use scrib_core::step::Step;
 use scrib_shards::service::{Service, ServiceFault};
 use scrib_types::text::push_bytes;
@@ -36,26 +38,25 @@ fn steps_of(alloc: Global, script: &str) -> Result<Vec<Step>, RowsFault> {
     Ok(steps)
 }
 
-// Makes the step on both, and adds the line of the service's reply, with that of the core's where it differs.
+// Makes the step on the service and adds the line of its answer, with that of the core's reply where it differs.
 fn push_step(
     rt: &impl Wait,
     alloc: Global,
     connected: &mut Connected,
-    core: &mut Core,
-    step: Step,
+    (step, reply): (Step, Reply),
     out: &mut Vec<u8>,
 ) -> Result<(), RowsFault> {
-    let told = connected.make(rt, &step)?;
-    push_line(out, told.as_slice())?;
-    let by_core = replied(alloc, core.apply(step))?;
+    let told = connected.make(rt, step)?;
+    push_bytes(out, told.as_slice())?;
+    let by_core = answered(alloc, &Answer::Reply(reply))?;
     if told.as_slice() != by_core.as_slice() {
         push_bytes(out, b"but the core: ")?;
-        push_line(out, by_core.as_slice())?;
+        push_bytes(out, by_core.as_slice())?;
     }
     Ok(())
 }
 
-// Makes the steps of the script on the service and on a core.
+// Makes the steps of the script on a core and on the service.
 fn run_beside(
     rt: &impl Wait,
     alloc: Global,
@@ -64,10 +65,10 @@ fn run_beside(
     out: &mut Vec<u8>,
 ) -> Result<(), RowsFault> {
     let steps = steps_of(alloc, script)?;
+    let replies = Core::new(alloc).run(&steps)?;
     let mut connected = Connected::new(alloc, service);
-    let mut core = Core::new(alloc);
-    for step in steps {
-        push_step(rt, alloc, &mut connected, &mut core, step, out)?;
+    for made in steps.into_iter().zip(replies) {
+        push_step(rt, alloc, &mut connected, made, out)?;
     }
     connected.settle(out)
 }

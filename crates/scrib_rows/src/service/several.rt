@@ -2,8 +2,9 @@
 
 use crate::fault::RowsFault;
 use crate::making::{DEMO, event_of, name_of};
-use crate::service::lines::{asked, noted, push_line, push_settling_twice, refused};
+use crate::service::lines::{push_line, push_settling_twice, push_told};
 use crate::service::making::{both, note, open, service};
+use scrib_connection::answer::{asked, noted, refused};
 use scrib_core::reply::Refusal;
 use scrib_shards::gate::OpenGate;
 use scrib_shards::pass::Pass;
@@ -24,26 +25,19 @@ pub(crate) fn push_full_shard(
     let name = name_of(alloc, "demo.Hello")?;
     for (count, id) in (0..=65_536_u32).step_by(service.shards()).enumerate() {
         if let Err(refusal) = service.open(rt, id, &name) {
-            return push_refused(alloc, count as u64, id, refusal, out);
+            return push_refused(count as u64, id, refusal, out);
         }
     }
     push_line(out, b"no end")
 }
 
 // Tells how many are open, and what was refused.
-fn push_refused(
-    alloc: Global,
-    count: u64,
-    id: u32,
-    refusal: Refusal,
-    out: &mut Vec<u8>,
-) -> Result<(), RowsFault> {
-    let refusal = refused(alloc, refusal)?;
+fn push_refused(count: u64, id: u32, refusal: Refusal, out: &mut Vec<u8>) -> Result<(), RowsFault> {
     push_number(out, count)?;
     push_bytes(out, b" open\n")?;
     push_number(out, u64::from(id))?;
     push_bytes(out, b": ")?;
-    push_line(out, refusal.as_slice())
+    push_told(out, &refused(refusal))
 }
 
 // Notes and asks by a pass of another service.
@@ -56,8 +50,8 @@ fn push_answers(
 ) -> Result<(), RowsFault> {
     let event = event_of(alloc, "join 0 B")?;
     let answer = service.note(rt, pass, event, &OpenGate);
-    push_line(out, noted(alloc, 0, answer)?.as_slice())?;
-    push_line(out, asked(alloc, 0, service.ask(rt, pass))?.as_slice())
+    push_told(out, &noted(0, answer))?;
+    push_told(out, &asked(0, service.ask(rt, pass)))
 }
 
 // A pass to conversation 0, which has the receipt of the event of this line.
