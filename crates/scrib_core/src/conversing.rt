@@ -81,24 +81,24 @@ pub fn note(
     }
 }
 
-// The present version of the record's protocol, if it has one, behind a place where it may be looked for first the next
-// time. Where numbers serve, one that stands where it stood last and has the number that the record holds is it, and no
-// name is compared.
+// The present version of the conversation's protocol, if it has one, behind a place where it may be looked for first the
+// next time. Where numbers serve, one that stands where it stood last and has the number that the record holds is it,
+// and no name is compared.
 #[inline(always)]
 fn present_of<'a>(
     library: &'a Library,
-    record: &Record,
+    conversation: &Record,
     comparison: Comparison,
 ) -> (usize, Option<&'a Version>)
-    requires { ServesRecord comparison library.now record.now }
-    ensures { IsPresent library.now record.now.name (option_copied result.1) }
+    requires { ServesRecord comparison library.now conversation.now }
+    ensures { IsPresent library.now conversation.now.name (option_copied result.1) }
 {
-    if let (Comparison::Numbers, Some(number)) = (comparison, record.held_number()) {
-        if let Some(version) = library.numbered_at(record.near(), number) {
-            return (record.near(), Some(version));
+    if let (Comparison::Numbers, Some(number)) = (comparison, conversation.held_number()) {
+        if let Some(version) = library.numbered_at(conversation.near(), number) {
+            return (conversation.near(), Some(version));
         }
     }
-    library.present_near(record.near(), record.name())
+    library.present_near(conversation.near(), conversation.name())
 }
 
 /// Judges up to 256 further events of a conversation whose verdict is out of date. Answers `Judged`, or refuses with

@@ -101,7 +101,8 @@ fn alone<'a>(
 
 /// Forgets the walk over the protocol that was asked for, which stands at this place and has so many nodes, where its
 /// type isn't known and is small enough to be. A protocol that calls it then walks it once more, and has its type made
-/// alone; of one that no other calls no second type is made.
+/// alone; of one that no other calls no second type is made. It saves time and nothing rests on it: a type that isn't
+/// known is made anew for each protocol that leads to it.
 pub fn forget(states: &mut Vec<State>, known: &[Option<Typed>], place: usize, nodes: usize)
     ensures { (modules : List ParsedTree) → (ds : List Declaration) → IsIdle modules ds states.old.items → IsIdle modules ds states.new.items }
 {

@@ -147,7 +147,8 @@ fn merge_branches(
     Ok(Others { survey, merge })
 }
 
-/// The one type as which the role sees each of the branches, if it begins them alike behind what it has no part in.
+/// The one type as which the role sees each of the branches, if it begins them alike behind what it has no part in. It
+/// saves looks and nothing rests on it: where it answers `None`, each branch is seen by itself, with the same result.
 fn alike<'a>(branches: &'a [(SharedMessage, GlobalType)], role: &Role) -> Option<&'a GlobalType>
     ensures seen { IfSome result (λ g. (profile : Profile) (s : Sight) → IsSight profile role.now (global_of g.now) s → AreSeen profile role.now s (global_branches branches.now)) }
     ensures within { IfSome result (λ g. global_nodes (global_of g.now) ≤ branch_nodes (global_branches branches.now)) }

@@ -95,7 +95,7 @@ impl From<SweepFault> for RowsFault {
     fn from(fault: SweepFault) -> RowsFault {
         match fault {
             SweepFault::OutOfMemory => RowsFault::Memory,
-            _ => RowsFault::Wrong,
+            SweepFault::BadWorkers => RowsFault::Wrong,
         }
     }
 }

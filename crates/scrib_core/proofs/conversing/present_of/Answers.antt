@@ -6,5 +6,5 @@ use Rattle.scrib_core.proofs.conversing.present_of.Goals as goal
 
 pub returns-in-Some : goal.returns-in-Some
 returns-in-Some c =
-    let known = subst (λ (x : Comparison). ServesRecord x c.args.library.now c.args.record.now) c.in-Numbers-Some.is-0 c.requires in
-    held_present c.args.library.now c.args.record.now c.in-Some.version.now c.in-Numbers-Some.number known (sym c.held_number.ensures ∙ c.in-Numbers-Some.is-1) c.in-Some.ensures.numbered c.in-Some.ensures.stamp
+    let known = subst (λ (x : Comparison). ServesRecord x c.args.library.now c.args.conversation.now) c.in-Numbers-Some.is-0 c.requires in
+    held_present c.args.library.now c.args.conversation.now c.in-Some.version.now c.in-Numbers-Some.number known (sym c.held_number.ensures ∙ c.in-Numbers-Some.is-1) c.in-Some.ensures.numbered c.in-Some.ensures.stamp
