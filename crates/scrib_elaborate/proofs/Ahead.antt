@@ -12,8 +12,8 @@ use Rattle.scrib_parser.specs.declared.tree.Block.{Block}
 use Rattle.scrib_elaborate.specs.declared.tasks.Task.{Task}
 use Rattle.scrib_elaborate.specs.declared.tasks.Task.TheVariants.{Front, Join, Close, Trial}
 use Rattle.scrib_elaborate.specs.declared.standing.Standing.{Standing}
-use Rattle.scrib_elaborate.specs.declared.untyped.Untyped.{Untyped}
-use Rattle.scrib_elaborate.specs.declared.untyped.Untyped.TheVariants.{Broken, OutOfMemory}
+use Rattle.scrib_typed.specs.declared.untyped.Untyped.{Untyped}
+use Rattle.scrib_typed.specs.declared.untyped.Untyped.TheVariants.{Broken, OutOfMemory}
 use Rattle.scrib_modules.specs.Source.{Body, Done, Then, Step, Chooses, Repeats, Calls}
 use Rattle.scrib_modules.specs.SourceView.{step_of, body_of, blocks_of}
 use Rattle.scrib_modules.specs.Names.{Declaration, called}

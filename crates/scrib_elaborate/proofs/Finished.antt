@@ -12,7 +12,7 @@ use Rattle.scrib_modules.specs.declared.fault.FaultKind.TheVariants as kind
 use Rattle.scrib_modules.specs.declared.fault.ElaborateFault.{ElaborateFault}
 use Rattle.scrib_modules.specs.declared.stop.BrokenRule.{BrokenRule}
 use Rattle.scrib_modules.specs.declared.stop.State.{State}
-use Rattle.scrib_elaborate.specs.declared.untyped.Untyped.TheVariants as untyped
+use Rattle.scrib_typed.specs.declared.untyped.Untyped.TheVariants as untyped
 use Rattle.scrib_modules.specs.Names.{Declaration, roles_of, declarations, first_where, is_called}
 use Rattle.scrib_modules.specs.Elaboration.{Types, start_of, Elaborates}
 use Rattle.scrib_modules.specs.Faults.{FailsTyping, Fails, FailsAt}

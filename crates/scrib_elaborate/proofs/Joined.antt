@@ -19,10 +19,10 @@ use Rattle.scrib_elaborate.specs.declared.tasks.Task.{Task}
 use Rattle.scrib_elaborate.specs.declared.tasks.Task.TheVariants.{Front, Join}
 use Rattle.scrib_elaborate.specs.declared.tasks.Choosing.{Choosing}
 use Rattle.scrib_elaborate.specs.declared.standing.Standing.{Standing}
-use Rattle.scrib_elaborate.specs.declared.built.Origin.{Origin}
-use Rattle.scrib_elaborate.specs.declared.built.Typed.{Typed}
-use Rattle.scrib_elaborate.specs.declared.untyped.Untyped.{Untyped}
-use Rattle.scrib_elaborate.specs.declared.untyped.Untyped.TheVariants as untyped
+use Rattle.scrib_typed.specs.declared.built.Origin.{Origin}
+use Rattle.scrib_typed.specs.declared.built.Typed.{Typed}
+use Rattle.scrib_typed.specs.declared.untyped.Untyped.{Untyped}
+use Rattle.scrib_typed.specs.declared.untyped.Untyped.TheVariants as untyped
 use Rattle.scrib_modules.specs.Source.{Body, Then, Chooses, Blocks, NoBlock, OrBlock}
 use Rattle.scrib_modules.specs.SourceView.{body_of, blocks_of}
 use Rattle.scrib_modules.specs.Names.{Declaration}
@@ -30,7 +30,9 @@ use Rattle.scrib_modules.specs.Elaboration.{Scope, role_in, Frames, Under, and_b
 use Rattle.scrib_modules.specs.Faults.{Stands, StandsIn, in_this, in_other, in_choice, Reaches, blocks_before, Needs, needs_itself, needs_branch, IsBranch, IsOneOf, IsFirstBlock, share_operator, FailsTyping}
 use Rattle.scrib_elaborate.specs.Sites.{communications, branch_communications, has_several, IsSite}
 use Rattle.scrib_elaborate.specs.Standing.{scope_of, IsSame}
-use Rattle.scrib_elaborate.specs.Typing.{Made, type_of, made_of, IsMarked, Makes, AddsOrigins, FailsUp, AreTyped, Path, IsState, IsBefore, IsChoosing, IsFirst, IsAdded, HeadFails, IsHeadFault, TypingFails}
+use Rattle.scrib_typed.specs.Typed.{type_of}
+use Rattle.scrib_typed.specs.Rules.{AddsOrigins, IsFirst, IsAdded, HeadFails, IsHeadFault}
+use Rattle.scrib_elaborate.specs.Typing.{Made, made_of, IsMarked, Makes, FailsUp, AreTyped, Path, IsState, IsBefore, IsChoosing, TypingFails}
 use Rattle.scrib_elaborate.proofs.Needed.{fails_through}
 use Rattle.scrib_elaborate.proofs.Sited.{marks_through, made_from, marks_more, marks_some, marks_joined}
 use Rattle.scrib_elaborate.proofs.Steps.{opened}
@@ -392,10 +394,6 @@ joined_none ms root ts sc n at bs spot follows types receiver cs x a none =
     )
 
 -- another receiver than the first
-
-pub not_first : (receiver : Option (List ℕ)) (q : List ℕ) → (IsFirst receiver q → ⊥) → (r : List ℕ) × (receiver ≡ Some r) × (r ≢ q)
-not_first None q h = absurd (h tt)
-not_first (Some r) q h = (r, refl, h)
 
 -- the next block's type is added
 

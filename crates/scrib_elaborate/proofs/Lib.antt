@@ -16,7 +16,6 @@ pub mod Sited
 mod Begun
 pub mod Moved
 mod TypesKept
-mod Chained
 mod Steps
 mod Joined
 mod Finished

@@ -9,7 +9,8 @@ use Rattle.scrib_parser.specs.declared.tree.ModuleTree.{ModuleTree}
 use Rattle.scrib_modules.specs.Source.{Blocks}
 use Rattle.scrib_modules.specs.Elaboration.{Scope, role_in, level_of, inside, Frames, NoFrame, Under, sent, and_branches, Types, ends, closes, sends, chooses, repeats, passes, continues, calls, JoinsTo, joins_none, joins}
 use Rattle.scrib_modules.specs.Faults.{share_operator}
-use Rattle.scrib_elaborate.specs.Lifting.{lifted, branches_lifted, LevelsBelow, AreBelow}
+use Rattle.scrib_typed.specs.Lifting.{lifted, branches_lifted}
+use Rattle.scrib_elaborate.specs.Levels.{LevelsBelow, AreBelow}
 
 -- levels from c on are one more
 

@@ -11,7 +11,8 @@ use Rattle.scrib_modules.specs.Names.{Declaration, called}
 use Rattle.scrib_modules.specs.Statements.{protocol_keeps, BlockKeeps, end_keeps, then_keeps, StepKeeps, sends_keeps, chooses_keeps, repeats_keeps, continues_keeps, calls_keeps, BlocksKeep, none_keeps, or_keeps}
 use Rattle.scrib_modules.specs.Elaboration.{continues_in, Scope, inside, inside_call, Frames, Under, Types}
 use Rattle.scrib_modules.specs.Faults.{blocks_before, Needs, needs_itself, needs_close, needs_sends, needs_branch, needs_repeats, needs_passes, needs_calls, IsNeeded, IsBranch, IsOneOf, IsFirstBlock, FailsTyping}
-use Rattle.scrib_elaborate.specs.Lifting.{lifted, branches_lifted, AreBelow}
+use Rattle.scrib_typed.specs.Lifting.{lifted, branches_lifted}
+use Rattle.scrib_elaborate.specs.Levels.{AreBelow}
 use Rattle.scrib_elaborate.proofs.Lifted.{raised_scope, raised, inside_raised, lift_types, leads_lifted, share_lifted, raised_stay, below_more}
 
 pub needs_trans : {ms : List ModuleTree} {n m k : ℕ} {fs gs hs : Frames} → Needs ms n fs m gs → Needs ms m gs k hs → Needs ms n fs k hs

@@ -1,21 +1,22 @@
 -- Where the communications of a type come from, statement by statement.
-use Rattle.std.proofs.Common.{◌≡◌, ℕ, zero, suc, ◌+◌, ◌-◌, ◌<◌, true, false, List, [], ◌∷◌, ◌++◌, length, get_or, slice_set, take, map, Option, Some, None, is_some, refl, sym, ap, ◌∙◌, subst, arith}
+use Rattle.std.proofs.Common.{◌≡◌, ℕ, ◌+◌, ◌-◌, ◌<◌, List, [], ◌∷◌, ◌++◌, length, get_or, take, map, Option, Some, None, refl, sym, ap, ◌∙◌, subst, arith}
 use Rattle.std.specs.List.{AllZip}
 use Rattle.std.proofs.lemmas.List.{append-nil, append_assoc, map-append, take_more}
-use Rattle.std.proofs.lemmas.Bool.{false≢true}
 use Rattle.scrib_types.specs.declared.message.Message.{Message}
 use Rattle.scrib_types.specs.declared.spot.Spot.{Spot}
 use Rattle.scrib_types.specs.Trees.{GlobalTree, GlobalEnd, GlobalVar, GlobalRec, Comm, Flight, GlobalBranches, NoBranch, Branch}
 use Rattle.scrib_parser.specs.declared.tree.ModuleTree.{ModuleTree}
-use Rattle.scrib_elaborate.specs.declared.built.Origin.{Origin}
+use Rattle.scrib_typed.specs.declared.built.Origin.{Origin}
 use Rattle.scrib_elaborate.specs.declared.elaborated.Join.{Join}
 use Rattle.scrib_modules.specs.Source.{Then, Chooses}
 use Rattle.scrib_modules.specs.Names.{Declaration}
 use Rattle.scrib_modules.specs.Elaboration.{Frames, NoFrame, Under, and_branches, sent, Types, ends, start_of}
 use Rattle.scrib_modules.specs.Faults.{Needs}
-use Rattle.scrib_elaborate.specs.Lifting.{lifted, branches_lifted, AreBelow}
+use Rattle.scrib_typed.specs.Lifting.{lifted, branches_lifted}
+use Rattle.scrib_elaborate.specs.Levels.{AreBelow}
 use Rattle.scrib_elaborate.specs.Sites.{communications, branch_communications, has_several, is_several, several_of, IsSite, IsJoinOf}
-use Rattle.scrib_elaborate.specs.Typing.{Made, nothing_made, IsMarked, Makes, none_told, retold, joins_told}
+use Rattle.scrib_typed.specs.Typed.{none_told, retold}
+use Rattle.scrib_elaborate.specs.Typing.{Made, nothing_made, IsMarked, Makes, joins_told}
 use Rattle.scrib_elaborate.proofs.Lifted.{raised_scope, raised, raised_stay, lift_types, lift_below, has_branches_lifted}
 use Rattle.scrib_elaborate.proofs.Needed.{needs_trans, needs_deeper, needs_raised}
 
@@ -212,36 +213,6 @@ sites_told ms root [] (j ∷ js) h = absurd h
 sites_told ms root (c ∷ cs) [] h = absurd h
 sites_told ms root (c ∷ cs) (None ∷ js) h = rw h.0 (sites_told ms root cs js h.1)
 sites_told ms root (c ∷ cs) (Some o ∷ js) h = rw h.0.0 (h.0.1, sites_told ms root cs js h.1)
-
--- a last origin, by its place
-
-retold_last : (o : Origin) (x j : Option Origin) → x ≡ j → is_some x ≡ true → Some o ∷ [] ≡ retold o (j ∷ [])
-retold_last o x None e s = absurd (false≢true (sym (ap is_some e) ∙ s))
-retold_last o x (Some i) e s = refl
-
-kept_last : (o : Origin) (x j : Option Origin) → x ≡ j → is_some x ≡ false → j ∷ [] ≡ retold o (j ∷ [])
-kept_last o x None e s = refl
-kept_last o x (Some i) e s = absurd (false≢true (sym s ∙ ap is_some e))
-
-pub retold_some : (o : Origin) (js : List (Option Origin)) (k : ℕ) (x : Option Origin) → length js ≡ k + 1 → x ≡ get_or js k x → is_some x ≡ true → slice_set js k (Some o) ≡ retold o js
-retold_some o [] k x n e s = absurd (omega (arith, n))
-retold_some o (j ∷ []) zero x n e s = retold_last o x j e s
-retold_some o (j ∷ []) (suc k) x n e s = absurd (omega (arith, n))
-retold_some o (j ∷ i ∷ js) zero x n e s = absurd (omega (arith, n))
-retold_some o (j ∷ i ∷ js) (suc k) x n e s =
-    ap (λ y. j ∷ y) (retold_some o (i ∷ js) k x (omega (arith, n)) e s)
-
-pub retold_none : (o : Origin) (js : List (Option Origin)) (k : ℕ) (x : Option Origin) → length js ≡ k + 1 → x ≡ get_or js k x → is_some x ≡ false → js ≡ retold o js
-retold_none o [] k x n e s = absurd (omega (arith, n))
-retold_none o (j ∷ []) zero x n e s = kept_last o x j e s
-retold_none o (j ∷ []) (suc k) x n e s = absurd (omega (arith, n))
-retold_none o (j ∷ i ∷ js) zero x n e s = absurd (omega (arith, n))
-retold_none o (j ∷ i ∷ js) (suc k) x n e s =
-    ap (λ y. j ∷ y) (retold_none o (i ∷ js) k x (omega (arith, n)) e s)
-
-pub retold_empty : (o : Origin) (js : List (Option Origin)) → length js ≡ 0 → js ≡ retold o js
-retold_empty o [] n = refl
-retold_empty o (j ∷ js) n = absurd (omega (arith, n))
 
 -- the joins of the first origins
 

@@ -7,7 +7,7 @@ use Rattle.scrib_types.specs.declared.spot.Spot.{Spot}
 use Rattle.scrib_types.specs.Trees.{GlobalEnd, Comm}
 use Rattle.scrib_types.specs.WellFormed.{distinct_roles}
 use Rattle.scrib_parser.specs.declared.tree.ModuleTree.{ModuleTree}
-use Rattle.scrib_elaborate.specs.declared.built.Origin.{Origin}
+use Rattle.scrib_typed.specs.declared.built.Origin.{Origin}
 use Rattle.scrib_modules.specs.declared.declared.Declared.{Declared}
 use Rattle.scrib_modules.specs.declared.shape.Shape.{Shape}
 use Rattle.scrib_modules.specs.declared.shape.Shape.TheVariants.{Nothing, Joining, Other}
@@ -18,11 +18,12 @@ use Rattle.scrib_modules.specs.Names.{Declaration, roles_of, declarations, calle
 use Rattle.scrib_modules.specs.Statements.{KeepsRules}
 use Rattle.scrib_modules.specs.Elaboration.{Scope, given_for, role_in, inside_call, Frames, Under, Types, calls}
 use Rattle.scrib_modules.specs.Faults.{needs_itself, needs_calls}
-use Rattle.scrib_elaborate.specs.Renaming.{renamed}
+use Rattle.scrib_typed.specs.Renaming.{renamed}
 use Rattle.scrib_modules.specs.Shape.{HasShape, IsShapeOf, Passes}
 use Rattle.scrib_elaborate.specs.Sites.{communications, IsSite}
 use Rattle.scrib_modules.specs.Table.{declaration_of, shown}
-use Rattle.scrib_elaborate.specs.Typing.{Made, IsMarked, Makes, IsAlone, retold, PassesOn, IsBefore, IsState}
+use Rattle.scrib_typed.specs.Typed.{retold}
+use Rattle.scrib_elaborate.specs.Typing.{Made, IsMarked, Makes, IsAlone, PassesOn, IsBefore, IsState}
 use Rattle.scrib_elaborate.proofs.Begun.{nothing_needs, only_needs, begins_site}
 use Rattle.scrib_modules.proofs.Kept.{of_then, of_calls}
 use Rattle.scrib_elaborate.proofs.Moved.{made_moved}

@@ -10,6 +10,8 @@ use Rattle.scrib_parser.specs.declared.tree.ModuleTree.{ModuleTree}
 use Rattle.scrib_parser.specs.declared.tree.Statement.{Statement}
 use Rattle.scrib_modules.specs.declared.fault.FaultKind.{FaultKind}
 use Rattle.scrib_modules.specs.declared.fault.FaultKind.TheVariants as kind
+use Rattle.scrib_typed.specs.declared.untyped.Untyped.{Untyped}
+use Rattle.scrib_typed.specs.declared.untyped.Untyped.TheVariants as untyped
 use Rattle.scrib_elaborate.specs.declared.tasks.Task.{Task}
 use Rattle.scrib_elaborate.specs.declared.tasks.Task.TheVariants.{Front, Close}
 use Rattle.scrib_elaborate.specs.declared.standing.Standing.{Standing}
@@ -19,11 +21,14 @@ use Rattle.scrib_modules.specs.Names.{Declaration, called}
 use Rattle.scrib_modules.specs.Statements.{KeepsRules, BlockKeeps, StepKeeps}
 use Rattle.scrib_modules.specs.Elaboration.{continues_in, Scope, role_in, level_of, inside, inside_call, Frames, NoFrame, Under, sent, closes, sends, repeats, passes, continues, calls, start_of}
 use Rattle.scrib_modules.specs.Faults.{Stands, here, later, in_rec, Reaches, itself, needs_itself, needs_close, needs_sends, needs_repeats, needs_passes, needs_calls, FailsTyping}
-use Rattle.scrib_elaborate.specs.Lifting.{lifted, AreBelow}
+use Rattle.scrib_typed.specs.Lifting.{lifted}
+use Rattle.scrib_elaborate.specs.Levels.{AreBelow}
 use Rattle.scrib_modules.specs.Table.{IsPart}
 use Rattle.scrib_elaborate.specs.Standing.{scope_of, start_scope, IsStart, IsSame, IsInside}
 use Rattle.scrib_elaborate.specs.Sites.{communications}
-use Rattle.scrib_elaborate.specs.Typing.{Made, nothing_made, none_told, Makes, before, FailsUp, IsFront, Path, IsState, IsBefore}
+use Rattle.scrib_typed.specs.Typed.{none_told}
+use Rattle.scrib_typed.specs.Rules.{IsUnguarded}
+use Rattle.scrib_elaborate.specs.Typing.{Made, nothing_made, Makes, before, FailsUp, IsFront, Path, IsState, IsBefore, TypingFails}
 use Rattle.scrib_modules.proofs.Kept.{of_then, of_protocol, kept_at, kept_along, reaches_on}
 use Rattle.scrib_modules.proofs.Checks.{stands_here}
 use Rattle.scrib_elaborate.proofs.Lifted.{below_more, levels_more}
@@ -344,9 +349,9 @@ close_put ms root ts home spot g h guarded is kept s =
       path = c.path;
     }
 
-pub close_fails : (ms : List ModuleTree) (root : Declaration) (ts : List Task) (home : Bor ModuleTree) (spot : Spot) (g : Made) → leads_to_communication g.type ≡ false → IsState ms root (Close home spot ∷ ts) g
+unguarded_fails : (ms : List ModuleTree) (root : Declaration) (ts : List Task) (home : Bor ModuleTree) (spot : Spot) (g : Made) → leads_to_communication g.type ≡ false → IsState ms root (Close home spot ∷ ts) g
     → (place : Declaration) × Reaches ms root place × (home.now ≡ place.home) × FailsTyping kind.Unguarded ms 0 (start_of root) place spot
-close_fails ms root ts home spot g unguarded s =
+unguarded_fails ms root ts home spot g unguarded s =
     let c = closing ms root ts home spot g s in (
       c.scope.within,
       c.reached,
@@ -364,6 +369,16 @@ close_fails ms root ts home spot g unguarded s =
         unguarded = unguarded;
       }),
     )
+
+pub close_fails : (ms : List ModuleTree) (root : Declaration) (ts : List Task) (home : Bor ModuleTree) (spot : Spot) (g : Made) (e : Untyped) → IsUnguarded home.now spot g.type e → IsState ms root (Close home spot ∷ ts) g → TypingFails ms root e
+close_fails ms root ts home spot g (untyped.Broken h b) f s =
+    let u = unguarded_fails ms root ts home spot g f.3 s in (
+      u.0,
+      u.1,
+      f.0 ∙ u.2,
+      subst (λ k. FailsTyping k ms 0 (start_of root) u.0 b.spot) (sym f.2) (subst (λ x. FailsTyping kind.Unguarded ms 0 (start_of root) u.0 x) (sym f.1) u.3),
+    )
+close_fails ms root ts home spot g untyped.OutOfMemory f s = tt
 
 -- the stack at the beginning and at the end, and the task on its top
 

@@ -3,7 +3,7 @@ use Rattle.std.proofs.Common.{◌≡◌, ℕ, List, [], ◌∷◌, ◌++◌, set
 use Rattle.std.specs.List.{slice_get}
 use Rattle.std.specs.Option.{IfSome}
 use Rattle.scrib_parser.specs.declared.tree.ModuleTree.{ModuleTree}
-use Rattle.scrib_elaborate.specs.declared.built.Typed.{Typed}
+use Rattle.scrib_typed.specs.declared.built.Typed.{Typed}
 use Rattle.scrib_modules.specs.declared.declared.Declared.{Declared}
 use Rattle.scrib_modules.specs.declared.stop.State.{State}
 use Rattle.scrib_modules.specs.declared.stop.State.TheVariants.{Walked}

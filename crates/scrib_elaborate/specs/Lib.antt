@@ -1,9 +1,7 @@
-pub mod Lifting
-pub mod Renaming
-pub mod Operators
 pub mod Sound
 pub mod Meaning
 pub mod Sites
+pub mod Levels
 pub mod Standing
 pub mod Staying
 pub mod Typing

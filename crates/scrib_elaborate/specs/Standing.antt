@@ -1,16 +1,12 @@
 -- What is known of where statements stand (this project's own).
 -- Only contracts of private functions cite this file.
 use Rattle.std.specs.Prelude.{◌≡◌, ℕ, ◌+◌, List, [], map}
-use Rattle.std.specs.Borrow.{Bor}
 use Rattle.scrib_elaborate.specs.declared.standing.Level.{Level}
 use Rattle.scrib_elaborate.specs.declared.standing.Standing.{Standing}
+use Rattle.scrib_typed.specs.Renaming.{named}
 use Rattle.scrib_modules.specs.Names.{Declaration, roles_of}
 use Rattle.scrib_modules.specs.Elaboration.{Scope, inside, inside_call}
 use Rattle.scrib_modules.specs.Table.{declaration_of}
-
--- names without where they lie in memory
-abbrev pub named : List (Bor (List ℕ)) → List (List ℕ)
-named rs = map (λ (r : Bor (List ℕ)). r.now) rs
 
 -- the recursions' names and levels
 abbrev pub levels_of : List Level → List (List ℕ × ℕ)

@@ -1,15 +1,14 @@
 -- What the parts of the third pass stand for (this project's own).
 -- Only contracts of private functions cite this file.
-use Rattle.std.specs.Prelude.{◌≡◌, ◌≢◌, ◌⊎◌, ℕ, ◌+◌, ◌≤◌, Bool, true, false, List, [], ◌∷◌, ◌++◌, length, slice_get, Option, Some, None, option_map, MatchOption}
+use Rattle.std.specs.Prelude.{◌≡◌, ℕ, ◌+◌, ◌≤◌, Bool, true, false, List, [], ◌∷◌, length, slice_get, Option, Some, None, MatchOption}
 use Rattle.std.specs.List.{All, AllZip}
 use Rattle.scrib_types.specs.declared.spot.Spot.{Spot}
-use Rattle.scrib_types.specs.GlobalView.{global_of}
-use Rattle.scrib_types.specs.Trees.{GlobalTree, GlobalEnd, GlobalVar, GlobalRec, Comm, GlobalBranches}
+use Rattle.scrib_types.specs.Trees.{GlobalTree, GlobalEnd, GlobalVar}
 use Rattle.scrib_parser.specs.declared.tree.ModuleTree.{ModuleTree}
 use Rattle.scrib_parser.specs.declared.tree.Statement.{Statement}
 use Rattle.scrib_parser.specs.declared.tree.Block.{Block}
-use Rattle.scrib_elaborate.specs.declared.built.Typed.{Typed}
-use Rattle.scrib_elaborate.specs.declared.built.Origin.{Origin}
+use Rattle.scrib_typed.specs.declared.built.Typed.{Typed}
+use Rattle.scrib_typed.specs.declared.built.Origin.{Origin}
 use Rattle.scrib_modules.specs.declared.declared.Declared.{Declared}
 use Rattle.scrib_elaborate.specs.declared.elaborated.Join.{Join as TheJoin}
 use Rattle.scrib_modules.specs.declared.shape.Shape.{Shape}
@@ -19,24 +18,21 @@ use Rattle.scrib_elaborate.specs.declared.tasks.Program.{Program}
 use Rattle.scrib_elaborate.specs.declared.tasks.Task.{Task}
 use Rattle.scrib_elaborate.specs.declared.tasks.Task.TheVariants.{Front, Join, Close, Trial}
 use Rattle.scrib_modules.specs.declared.fault.FaultKind.{FaultKind}
-use Rattle.scrib_modules.specs.declared.fault.FaultKind.TheVariants as kind
-use Rattle.scrib_elaborate.specs.declared.untyped.Untyped.{Untyped}
-use Rattle.scrib_elaborate.specs.declared.untyped.Untyped.TheVariants.{Broken, OutOfMemory}
+use Rattle.scrib_typed.specs.declared.untyped.Untyped.{Untyped}
+use Rattle.scrib_typed.specs.declared.untyped.Untyped.TheVariants.{Broken, OutOfMemory}
+use Rattle.scrib_typed.specs.Typed.{type_of, retold}
 use Rattle.scrib_modules.specs.Source.{Body, Then, Step, Chooses, Repeats}
 use Rattle.scrib_modules.specs.SourceView.{step_of, body_of, blocks_of}
 use Rattle.scrib_modules.specs.Names.{Declaration, declarations}
-use Rattle.scrib_modules.specs.Elaboration.{continues_in, Scope, level_of, inside, Frames, Under, and_branches, Types, start_of}
-use Rattle.scrib_modules.specs.Faults.{Reaches, share_operator, FailsTyping}
+use Rattle.scrib_modules.specs.Elaboration.{continues_in, Scope, level_of, inside, Frames, Under, Types, start_of}
+use Rattle.scrib_modules.specs.Faults.{Reaches, FailsTyping}
 use Rattle.scrib_modules.specs.Directory.{IsDirectory}
 use Rattle.scrib_modules.specs.Statements.{KeepsRules}
 use Rattle.scrib_modules.specs.Table.{shown, IsPart, AreParts, IsSettledSo}
 use Rattle.scrib_modules.specs.Walking.{AreSummaries, IsIdle}
-use Rattle.scrib_elaborate.specs.Lifting.{AreBelow}
+use Rattle.scrib_elaborate.specs.Levels.{AreBelow}
 use Rattle.scrib_elaborate.specs.Sites.{communications, is_several, IsSite}
 use Rattle.scrib_elaborate.specs.Standing.{scope_of}
-
-abbrev pub type_of : Typed → GlobalTree
-type_of t = global_of t.global
 
 -- a type, and the origins of its communications, in post-order
 pub record Made : Type 0 where
@@ -234,56 +230,6 @@ pub record IsChoosing (modules : List ModuleTree) (root : Declaration) (tasks : 
   pub reached : Reaches modules root sc.within
   pub below : AreBelow n (Under sc rest outer)
   pub path : Path modules root tasks n (Under sc (Then (Chooses chooser (blocks_of blocks) spot) rest) outer)
-
--- no receiver is known yet, or it is this one
-abbrev pub IsFirst : Option (List ℕ) → List ℕ → Type 0
-IsFirst None q = Unit {0}
-IsFirst (Some r) q = r ≡ q
-
--- the block's type was joined to those of the blocks before it
-pub record IsAdded (chooser : List ℕ) (before after : Option (List ℕ)) (old new : GlobalBranches) (g : GlobalTree) : Type 0 where
-  pub receiver : List ℕ
-  pub branches : GlobalBranches
-  pub is : g ≡ Comm chooser receiver branches
-  pub first : IsFirst before receiver
-  pub told : after ≡ Some receiver
-  pub apart : share_operator old branches ≡ false
-  pub joined : new ≡ and_branches old branches
-
--- the origins of the block's communications, but for its first one, which is joined, were put after the others
-abbrev pub AddsOrigins : (old new of : List (Option Origin)) → Type 0
-AddsOrigins old new of =
-    (of ≡ []) ⊎ ((rest : List (Option Origin)) × (first : Option Origin) × (of ≡ rest ++ first ∷ []) × (new ≡ old ++ rest))
-
--- the block's type doesn't fit the chooser, or the blocks before it
-abbrev pub HeadFails : FaultKind → (chooser : List ℕ) → (receiver : Option (List ℕ)) → (earlier : GlobalBranches) → GlobalTree → Type 0
-HeadFails kind.EmptyBranch chooser receiver earlier g = g ≡ GlobalEnd
-HeadFails kind.ContinueHead chooser receiver earlier g = (n : ℕ) × (g ≡ GlobalVar n)
-HeadFails kind.RecHead chooser receiver earlier g = (h : GlobalTree) × (g ≡ GlobalRec h)
-HeadFails kind.NotChooser chooser receiver earlier g =
-    (p q : List ℕ) × (cs : GlobalBranches) × (g ≡ Comm p q cs) × (p ≢ chooser)
-HeadFails kind.TwoReceivers chooser receiver earlier g =
-    (q r : List ℕ) × (cs : GlobalBranches) × (g ≡ Comm chooser q cs) × (receiver ≡ Some r) × (r ≢ q)
-HeadFails kind.SameOperator chooser receiver earlier g =
-    (q : List ℕ) × (cs : GlobalBranches) × (g ≡ Comm chooser q cs) × IsFirst receiver q × (share_operator earlier cs ≡ true)
-HeadFails other chooser receiver earlier g = ⊥
-
--- the fault is told at this place, unless memory was refused
-abbrev pub IsHeadFault : ModuleTree → Spot → (chooser : List ℕ) → (receiver : Option (List ℕ)) → (earlier : GlobalBranches) → GlobalTree → Untyped → Type 0
-IsHeadFault home spot chooser receiver earlier g (Broken h b) =
-    (h.now ≡ home) × (b.spot ≡ spot) × HeadFails b.kind chooser receiver earlier g
-IsHeadFault home spot chooser receiver earlier g OutOfMemory = Unit {0}
-
--- none is told of one communication to each of these, in front of the others
-abbrev pub none_told : {X : Type 0} → List X → List (Option Origin) → List (Option Origin)
-none_told [] js = js
-none_told (q ∷ qs) js = none_told qs js ++ None ∷ []
-
--- the communication in front, if it has an origin, comes from this one
-abbrev pub retold : Origin → List (Option Origin) → List (Option Origin)
-retold o [] = []
-retold o (j ∷ []) = option_map (λ _. o) j ∷ []
-retold o (j ∷ k ∷ js) = j ∷ retold o (k ∷ js)
 
 -- where the choices stand of those that have an origin
 abbrev pub joins_told : List (Option Origin) → List TheJoin

@@ -1,44 +1,30 @@
 //! The types of choices.
 
-ghost use Rattle.std.specs.Prelude.{◌≡◌, ◌↔◌, List, ◌∷◌, length, Option, IsTrue, IfOk, IfErr, OnOk, MatchOption, MatchResult, reverse};
-ghost use Rattle.scrib_types.specs.GlobalView.{global_of, global_branches};
-ghost use Rattle.scrib_elaborate.specs.declared.built.Typed.{Typed};
+ghost use Rattle.std.specs.Prelude.{◌≡◌, List, ◌∷◌, length, Option, IfOk, MatchOption, MatchResult, reverse};
+ghost use Rattle.scrib_typed.specs.declared.built.Typed.{Typed};
 ghost use Rattle.scrib_elaborate.specs.declared.tasks.Task.{Task};
 ghost use Rattle.scrib_elaborate.specs.declared.tasks.Task.TheVariants.{Front, Join};
-ghost use Rattle.scrib_elaborate.specs.declared.untyped.Untyped.TheVariants.{Broken};
-ghost use Rattle.scrib_modules.specs.Faults.{share_operator};
 ghost use Rattle.scrib_parser.specs.declared.tree.ModuleTree.{ModuleTree};
 ghost use Rattle.scrib_modules.specs.Source.{Chooses};
 ghost use Rattle.scrib_modules.specs.SourceView.{blocks_of};
 ghost use Rattle.scrib_modules.specs.Names.{Declaration};
-ghost use Rattle.scrib_elaborate.specs.Operators.{AreFiled};
 ghost use Rattle.scrib_elaborate.specs.declared.standing.Standing.{Standing};
 ghost use Rattle.scrib_elaborate.specs.Standing.{scope_of, IsSame};
-ghost use Rattle.scrib_elaborate.specs.Typing.{Made, type_of, made_of, AddsOrigins, IsBefore, IsState, TypingFails, StopsAhead, IsChoosing, IsFirst, IsAdded, IsHeadFault};
+ghost use Rattle.scrib_elaborate.specs.Typing.{Made, made_of, IsBefore, IsState, TypingFails, StopsAhead, IsChoosing};
 
-use crate::built::{Origin, Typed};
-use crate::operators::Operators;
 use crate::standing::Standing;
 use crate::tasks::{Choosing, Task};
-use crate::untyped::Untyped;
 use scrib_modules::fault::FaultKind;
-use scrib_modules::stop::BrokenRule;
 use scrib_parser::tree::{Block, ModuleTree, Statement};
+use scrib_typed::built::{Origin, Typed};
+use scrib_typed::heads::{Heads, add};
+use scrib_typed::operators::Operators;
+use scrib_typed::untyped::{Untyped, broken};
 use scrib_types::global::GlobalType;
 use scrib_types::name::Role;
 use scrib_types::plain::{Items, at};
-use scrib_types::shared_message::SharedMessage;
 use scrib_types::spot::Spot;
 use std::alloc::{AllocError, Global};
-
-// What the first blocks of a choice begin with: a communication to this receiver with these branches.
-#[derive(Drop)]
-struct Heads<'a> {
-    receiver: Option<Role>,
-    branches: Items<(SharedMessage, GlobalType)>,
-    operators: Operators,
-    joins: Vec<Option<Origin<'a>>>,
-}
 
 /// Begins a choice, of which what follows has this type. The first block comes first.
 ///
@@ -191,78 +177,6 @@ fn joined<'a>(
     let from = chooser.copy()?;
     let global = GlobalType::Comm { from, to, branches };
     Ok(Typed { global, joins })
-}
-
-// Adds the next block, of this type.
-fn add<'a>(
-    home: &'a ModuleTree,
-    chooser: &Role,
-    spot: Spot,
-    so_far: &mut Heads<'a>,
-    typed: Typed<'a>,
-) -> Result<(), Untyped<'a>>
-    requires { AreFiled so_far.old.branches so_far.old.operators.latest.items so_far.old.operators.earlier.items }
-    ensures ok { OnOk result (IsAdded chooser.now so_far.old.receiver so_far.new.receiver (global_branches so_far.old.branches) (global_branches so_far.new.branches) (type_of typed.entry)) }
-    ensures filed { OnOk result (AreFiled so_far.new.branches so_far.new.operators.latest.items so_far.new.operators.earlier.items) }
-    ensures joins { OnOk result (AddsOrigins so_far.old.joins.items so_far.new.joins.items typed.entry.joins.items) }
-    ensures fault { IfErr result (IsHeadFault home.now spot chooser.now so_far.old.receiver (global_branches so_far.old.branches) (type_of typed.entry)) }
-{
-    let Typed { global, mut joins } = typed;
-    match global {
-        GlobalType::End => Err(broken(home, FaultKind::EmptyBranch, spot)),
-        GlobalType::Var(_) => Err(broken(home, FaultKind::ContinueHead, spot)),
-        GlobalType::Rec(_) => Err(broken(home, FaultKind::RecHead, spot)),
-        GlobalType::Comm { from, to, branches } => {
-            if !from.equal(chooser) {
-                return Err(broken(home, FaultKind::NotChooser, spot));
-            }
-            if !is_first(&so_far.receiver, &to) {
-                return Err(broken(home, FaultKind::TwoReceivers, spot));
-            }
-            if share_operator(so_far, branches.as_slice()) {
-                return Err(broken(home, FaultKind::SameOperator, spot));
-            }
-            so_far.branches.append(branches)?;
-            so_far.operators.file(so_far.branches.as_slice())?;
-            so_far.receiver = Some(to);
-            // The communication itself is told again for the whole choice.
-            joins.pop();
-            so_far.joins.append(&mut joins)?;
-            Ok(())
-        }
-    }
-}
-
-fn broken<'a>(home: &'a ModuleTree, kind: FaultKind, spot: Spot) -> Untyped<'a>
-    ensures { result ≡ Broken home.entry (record { kind = kind; spot = spot }) }
-{
-    Untyped::Broken(home, BrokenRule { kind, spot })
-}
-
-// Whether no receiver is known yet, or it is this one.
-fn is_first(receiver: &Option<Role>, to: &Role) -> bool
-    ensures { IsTrue result ↔ IsFirst receiver.now to.now }
-{
-    match receiver {
-        None => true,
-        Some(first) => first.equal(to),
-    }
-}
-
-// Whether these branches have an operator in common with those before them.
-fn share_operator(first: &Heads, other: &[(SharedMessage, GlobalType)]) -> bool
-    requires { AreFiled first.now.branches first.now.operators.latest.items first.now.operators.earlier.items }
-    ensures { result ≡ share_operator (global_branches first.now.branches) (global_branches other.now) }
-{
-    for (message, _) in other {
-        if first
-            .operators
-            .has(&message.get().op, first.branches.as_slice())
-        {
-            return true;
-        }
-    }
-    false
 }
 
 // How many branches the communications have that these types begin with, but for those of the widest one.

@@ -21,9 +21,9 @@ use crate::exits::has_exit;
 use crate::standing::Standing;
 use crate::tasks::{Program, Task};
 use crate::typing::{callee, run};
-use crate::untyped::{Refused, Untyped};
 use scrib_modules::size::continues_in;
 use scrib_parser::tree::{Block, Statement};
+use scrib_typed::untyped::{Refused, Untyped};
 use scrib_types::name::{Dotted, Name, Role};
 use std::alloc::Global;
 

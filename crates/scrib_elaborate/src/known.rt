@@ -9,14 +9,14 @@ ghost use Rattle.scrib_modules.specs.Elaboration.{start_of};
 ghost use Rattle.scrib_modules.specs.Table.{shown, declaration_of};
 ghost use Rattle.scrib_elaborate.specs.Typing.{made_of, Makes, AreKnown, AreUnknown, IsAloneAt, IsTable, IsTabled, TypingFails};
 
-use crate::built::Typed;
 use crate::tasks::Program;
 use crate::typing::{type_alone, type_of_root};
-use crate::untyped::{Refused, Untyped};
 use scrib_modules::declared::Declared;
 use scrib_modules::directory::Directory;
 use scrib_modules::stop::State;
 use scrib_parser::tree::ModuleTree;
+use scrib_typed::built::Typed;
+use scrib_typed::untyped::{Refused, Untyped};
 use std::alloc::{AllocError, Global};
 
 // The most nodes of a type that is kept. A larger one is made where it is needed, so that the types of many

@@ -1,17 +1,12 @@
 //! Elaboration: from protocols as they are declared to the global types that they mean.
 #![tactic(auto)]
 
-mod built;
 mod choices;
 mod earlier;
 pub mod elaborate;
 pub mod elaborated;
 mod exits;
 mod known;
-mod lift;
-mod operators;
-mod renamed;
 mod standing;
 mod tasks;
 mod typing;
-mod untyped;

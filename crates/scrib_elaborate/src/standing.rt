@@ -1,15 +1,16 @@
 //! Where statements stand while the type of a protocol is computed.
 
-ghost use Rattle.std.specs.Prelude.{◌≡◌, ℕ, List, ◌∷◌, map, IfOk};
+ghost use Rattle.std.specs.Prelude.{◌≡◌, ◌∷◌, map, IfOk};
 ghost use Rattle.scrib_modules.specs.Names.{role_names};
 ghost use Rattle.scrib_modules.specs.Elaboration.{role_in, level_of};
 ghost use Rattle.scrib_modules.specs.Table.{declaration_of};
-ghost use Rattle.scrib_elaborate.specs.Standing.{scope_of, levels_of, named, IsStart, IsSame, IsInside, IsInsideCall};
+ghost use Rattle.scrib_typed.specs.Renaming.{named};
+ghost use Rattle.scrib_elaborate.specs.Standing.{scope_of, levels_of, IsStart, IsSame, IsInside, IsInsideCall};
 
-use crate::renamed::given_for;
-use crate::untyped::{Refused, next};
 use scrib_modules::declared::Declared;
 use scrib_parser::tree::RoleDeclaration;
+use scrib_typed::renamed::given_for;
+use scrib_typed::untyped::{Refused, next};
 use scrib_types::name::{Name, Role};
 use std::alloc::{AllocError, Global};
 

@@ -1,12 +1,12 @@
 //! What is left to do for the type of a protocol.
 
-use crate::built::Typed;
 use crate::standing::Standing;
 use scrib_modules::declared::Declared;
 use scrib_modules::directory::Directory;
 use scrib_modules::shape::Shape;
 use scrib_modules::stop::State;
 use scrib_parser::tree::{Block, ModuleTree, Statement};
+use scrib_typed::built::Typed;
 use scrib_types::name::Role;
 use scrib_types::spot::Spot;
 

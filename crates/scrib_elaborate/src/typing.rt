@@ -4,34 +4,32 @@ ghost use Rattle.std.specs.Prelude.{◌≡◌, ℕ, Bool, List, ◌∷◌, map, 
 ghost use Rattle.scrib_types.specs.declared.spot.Spot.{Spot};
 ghost use Rattle.scrib_types.specs.GlobalView.{global_of};
 ghost use Rattle.scrib_types.specs.Trees.{GlobalEnd};
-ghost use Rattle.scrib_types.specs.WellFormed.{leads_to_communication};
 ghost use Rattle.scrib_parser.specs.declared.tree.ModuleTree.{ModuleTree};
 ghost use Rattle.scrib_elaborate.specs.declared.tasks.Task.TheVariants.{Front, Join, Close};
-ghost use Rattle.scrib_elaborate.specs.declared.untyped.Untyped.TheVariants.{OutOfMemory};
-ghost use Rattle.scrib_modules.specs.Source.{Sends, Chooses, Repeats, Continues, Calls};
+ghost use Rattle.scrib_typed.specs.declared.untyped.Untyped.TheVariants.{OutOfMemory};
+ghost use Rattle.scrib_modules.specs.Source.{Repeats, Calls};
 ghost use Rattle.scrib_modules.specs.SourceView.{step_of, body_of};
-ghost use Rattle.scrib_modules.specs.Names.{Declaration, declarations, called};
+ghost use Rattle.scrib_modules.specs.Names.{Declaration, called};
 ghost use Rattle.scrib_modules.specs.Statements.{KeepsRules};
 ghost use Rattle.scrib_modules.specs.Elaboration.{Frames, Types, role_in, sent, start_of};
-ghost use Rattle.scrib_elaborate.specs.Lifting.{lifted};
+ghost use Rattle.scrib_typed.specs.Lifting.{lifted};
 ghost use Rattle.scrib_modules.specs.Table.{shown, declaration_of};
 ghost use Rattle.scrib_modules.specs.Shape.{IsShapeOf};
 ghost use Rattle.scrib_elaborate.specs.Standing.{scope_of};
-ghost use Rattle.scrib_elaborate.specs.Typing.{type_of, made_of, nothing_made, none_told, Makes, PassesOn, IsBefore, IsState, IsTable, IsVariable, TypingFails, StopsAhead};
+ghost use Rattle.scrib_typed.specs.Typed.{type_of, none_told};
+ghost use Rattle.scrib_elaborate.specs.Typing.{made_of, nothing_made, Makes, PassesOn, IsBefore, IsState, IsTable, IsVariable, TypingFails, StopsAhead};
 
-use crate::built::{Origin, Typed};
 use crate::choices::{choose, join};
 use crate::earlier::first_fault;
 use crate::standing::Standing;
 use crate::tasks::{Callee, Program, Task};
-use crate::untyped::{Refused, Untyped};
 use scrib_modules::declared::{Declared, looked_in};
-use scrib_modules::fault::FaultKind;
 use scrib_modules::shape::Shape;
 use scrib_modules::shapes::shape_at;
 use scrib_modules::size::continues_in;
-use scrib_modules::stop::BrokenRule;
 use scrib_parser::tree::{ModuleTree, Statement};
+use scrib_typed::built::{Origin, Typed};
+use scrib_typed::untyped::{Refused, Untyped};
 use scrib_types::global::GlobalType;
 use scrib_types::name::{Dotted, Name, Role};
 use scrib_types::shared_message::SharedMessage;
@@ -176,25 +174,7 @@ fn close<'a>(
         → IsState modules root (Close home.entry spot ∷ tasks) (made_of typed.entry)
         → MatchResult result (λ t. IsState modules root tasks (made_of t)) (TypingFails modules root) }
 {
-    if !leads_to_communication(&typed.global) {
-        let kind = FaultKind::Unguarded;
-        return Err(Untyped::Broken(home, BrokenRule { kind, spot }));
-    }
-    let closed = typed.closed(alloc)?;
-    Ok(closed)
-}
-
-// Whether the type begins with a communication, after recursions.
-#[tactic(auto, using(scrib_types::specs::GlobalView::global_views))]
-fn leads_to_communication(global: &GlobalType) -> bool
-    ensures { result ≡ leads_to_communication (global_of global.now) }
-{
-    match global {
-        GlobalType::End => false,
-        GlobalType::Var(_) => false,
-        GlobalType::Rec(body) => leads_to_communication(body.get()),
-        GlobalType::Comm { .. } => true,
-    }
+    typed.closed(alloc, home, spot)
 }
 
 // Puts a statement in front of what has this type, or begins to.

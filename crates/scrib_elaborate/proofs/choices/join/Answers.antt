@@ -2,7 +2,7 @@ use Rattle.std.proofs.Common.{◌≡◌, ◌+◌, ◌-◌, length, Option, Some,
 use Rattle.std.specs.List.{slice_get}
 use Rattle.std.specs.Option.{option_copied}
 use Rattle.std.proofs.lemmas.Option.{slice_get_within}
-use Rattle.scrib_elaborate.specs.declared.built.Typed.{Typed}
+use Rattle.scrib_typed.specs.declared.built.Typed.{Typed}
 use Rattle.std.proofs.lemmas.Result.{MatchResult-weaker}
 use Rattle.scrib_elaborate.specs.declared.tasks.Choosing.{Choosing}
 use Rattle.scrib_modules.specs.Source.{Then, Chooses}

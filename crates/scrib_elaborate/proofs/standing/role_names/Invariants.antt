@@ -1,6 +1,6 @@
 use Rattle.std.proofs.Common.{◌≡◌, take}
 use Rattle.scrib_modules.specs.Names.{role_names}
-use Rattle.scrib_elaborate.specs.Standing.{named}
+use Rattle.scrib_typed.specs.Renaming.{named}
 use Rattle.scrib_elaborate.proofs.standing.role_names.Given as goal
 
 abbrev pub invariant-loop-role : goal.invariant-loop-role

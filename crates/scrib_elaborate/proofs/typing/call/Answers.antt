@@ -2,7 +2,7 @@ use Rattle.std.proofs.Common.{reverse, refl, ap, ◌∙◌}
 use Rattle.scrib_elaborate.specs.declared.tasks.Task.TheVariants.{Front}
 use Rattle.scrib_modules.specs.Names.{role_names}
 use Rattle.scrib_modules.specs.Elaboration.{Scope, given_for}
-use Rattle.scrib_elaborate.specs.Renaming.{renamed}
+use Rattle.scrib_typed.specs.Renaming.{renamed}
 use Rattle.scrib_modules.specs.Shape.{names_of}
 use Rattle.scrib_modules.specs.Table.{declaration_of}
 use Rattle.scrib_elaborate.specs.Standing.{scope_of}

@@ -2,7 +2,8 @@ use Rattle.std.proofs.Common.{[], ◌∷◌, ◌++◌, map, refl, sym, ap, ◌�
 use Rattle.scrib_modules.specs.SourceView.{step_of, message_of}
 use Rattle.scrib_modules.specs.Elaboration.{role_in, sent}
 use Rattle.scrib_elaborate.specs.Standing.{scope_of}
-use Rattle.scrib_elaborate.specs.Typing.{made_of, none_told, IsBefore}
+use Rattle.scrib_typed.specs.Typed.{none_told}
+use Rattle.scrib_elaborate.specs.Typing.{made_of, IsBefore}
 use Rattle.scrib_elaborate.specs.declared.tasks.Task.TheVariants.{Front}
 use Rattle.scrib_elaborate.proofs.Steps.{front_same, front_step, message_put}
 use Rattle.scrib_elaborate.proofs.typing.messages.Goals as goal

@@ -4,7 +4,8 @@ use Rattle.scrib_modules.specs.Source.{Chooses, Repeats, Calls}
 use Rattle.scrib_modules.specs.SourceView.{step_of, body_of, blocks_of, message_of, choice_of, rec_of, continue_of, do_of}
 use Rattle.scrib_modules.specs.Elaboration.{role_in, sent}
 use Rattle.scrib_elaborate.specs.Standing.{scope_of}
-use Rattle.scrib_elaborate.specs.Typing.{made_of, none_told, IsBefore, StopsAhead}
+use Rattle.scrib_typed.specs.Typed.{none_told}
+use Rattle.scrib_elaborate.specs.Typing.{made_of, IsBefore, StopsAhead}
 use Rattle.scrib_elaborate.proofs.Steps.{message_put, variable_put}
 use Rattle.scrib_elaborate.proofs.typing.put.Goals as goal
 

@@ -1,0 +1,4 @@
+mod Branches
+mod Chained
+mod Retold
+mod Receivers
