@@ -31,8 +31,9 @@ pub struct Heads<'a> {
 /// Adds the next block, which stands here and has this type.
 ///
 /// # Errors
-/// `Broken` with the rule on the first block of a choice, or on the next one beside those before it, that the type breaks;
-/// `OutOfMemory` where memory was refused.
+/// `Broken` at this place with `EmptyBranch`, `ContinueHead` or `RecHead` where the type doesn't begin with a
+/// communication, `NotChooser` where that isn't the chooser's, and `TwoReceivers` or `SameOperator` where it doesn't go
+/// with the blocks before it; `OutOfMemory` where memory was refused. Nothing is said then of what was added so far.
 pub fn add<'a>(
     home: &'a ModuleTree,
     chooser: &Role,
