@@ -5,11 +5,11 @@ use Rattle.scrib_types.specs.declared.event.Action.{Action}
 use Rattle.scrib_types.specs.declared.event.Action.TheVariants.{Sends, Receives}
 use Rattle.scrib_types.specs.declared.event.Event.TheVariants.{Sent, Received}
 use Rattle.scrib_types.specs.Trees.{GlobalTree, GlobalEnd, GlobalVar, GlobalRec, Comm, Flight, GlobalBranches, NoBranch, Branch, LocalTree, LocalEnd, LocalVar, LocalRec, Send, Recv, LocalBranches}
-use Rattle.scrib_types.specs.Traces.{Offers, Does}
+use Rattle.scrib_types.specs.Traces.{Offers, LocalTransition}
 use Rattle.scrib_types.specs.Traces as local
 use Rattle.scrib_global.specs.Transitions.{unfolding_of, IsBranch, first, later, Transition, sends, receives, unfolds, beneath, beside, EachTransition, none, each, BranchTransition, here, there}
 use Rattle.scrib_global.proofs.Names.{which}
-use Rattle.scrib_global.proofs.Puts.{Closed, ClosedAll, closed_unfolding, NonEmpty, Sound, SoundAll, sound_unfolding}
+use Rattle.scrib_global.proofs.Substitution.{Closed, ClosedAll, closed_unfolding, NonEmpty, Sound, SoundAll, sound_unfolding}
 use Rattle.scrib_global.proofs.Projects.{Projects, p_end, p_var, p_send, p_recv, p_other, p_idle, p_rec, ProjectMerged, merged_none, merged_one, project_unfolding}
 use Rattle.scrib_global.proofs.Widens.{Wider, same, wider_trans, second_wider, merged_wider, wider_as}
 use Rattle.scrib_global.proofs.Locals.{no_mix, same_from, alike_send}
@@ -107,30 +107,30 @@ mutual
       let z = recs_from_merged r t m y ih pm w s.1 c.1 in
       (Branch n a.0 z.0, each a.1 z.1)
 
-project_sends : {x k : LocalTree} {q : List ℕ} {m : Message} → Does x (Sends q m) k → (r : List ℕ) (g : GlobalTree) → Projects g r x → Sound g → Closed g 0 → (h : GlobalTree) × Transition g (Sent r q m) h
+project_sends : {x k : LocalTree} {q : List ℕ} {m : Message} → LocalTransition x (Sends q m) k → (r : List ℕ) (g : GlobalTree) → Projects g r x → Sound g → Closed g 0 → (h : GlobalTree) × Transition g (Sent r q m) h
 project_sends {q} {m} (local.sends {ls} {l} o) r g p s c = sends_from r q m ls l o p same
 project_sends {q} {m} (local.unfolds {body = y} d) r g p s c = recs_from r q m y (λ g' p' s' c'. project_sends d r g' p' s' c') p same s c
 
-by_first : (bs : GlobalBranches) (d : Message → Action) (r : List ℕ) (l : LocalTree) → NonEmpty bs → FollowsBy bs d r l → (m : Message) × (k : LocalTree) × Does l (d m) k
+by_first : (bs : GlobalBranches) (d : Message → Action) (r : List ℕ) (l : LocalTree) → NonEmpty bs → FollowsBy bs d r l → (m : Message) × (k : LocalTree) × LocalTransition l (d m) k
 by_first NoBranch d r l n f = absurd n
 by_first (Branch m g bs) d r l n f = (m, f.0.0, f.0.1)
 
-by_one : (bs : GlobalBranches) (j : ℕ) (d : Message → Action) (r : List ℕ) (l : LocalTree) → FollowsByAt bs j d r l → (m : Message) × (k : LocalTree) × Does l (d m) k
+by_one : (bs : GlobalBranches) (j : ℕ) (d : Message → Action) (r : List ℕ) (l : LocalTree) → FollowsByAt bs j d r l → (m : Message) × (k : LocalTree) × LocalTransition l (d m) k
 by_one NoBranch j d r l f = absurd f
 by_one (Branch m g bs) zero d r l f = (m, f.0, f.1)
 by_one (Branch m g bs) (suc j) d r l f = by_one bs j d r l f
 
-send_comm : (p t : List ℕ) (bs : GlobalBranches) (r q : List ℕ) (m : Message) (l k : LocalTree) → Follows (Comm p t bs) r l → Does l (Sends q m) k → (FollowsAll bs r l → (cs : GlobalBranches) × EachTransition bs (Sent r q m) cs) → Dec (r ≡ p) → Dec (r ≡ t) → (h : GlobalTree) × Transition (Comm p t bs) (Sent r q m) h
+send_comm : (p t : List ℕ) (bs : GlobalBranches) (r q : List ℕ) (m : Message) (l k : LocalTree) → Follows (Comm p t bs) r l → LocalTransition l (Sends q m) k → (FollowsAll bs r l → (cs : GlobalBranches) × EachTransition bs (Sent r q m) cs) → Dec (r ≡ p) → Dec (r ≡ t) → (h : GlobalTree) × Transition (Comm p t bs) (Sent r q m) h
 send_comm p t bs r q m l k f d ih (yes e) c = let y = (f.2 e).0 q m k d in send_step p t r q m bs e y.0 y.1
 send_comm p t bs r q m l k f d ih (no n) (yes e) = absurd (no_mix d (by_first bs (Receives p) r l f.1 (f.3 e)).2)
 send_comm p t bs r q m l k f d ih (no n) (no n2) = let y = ih (f.4 n n2) in (Comm p t y.0, beneath n n2 y.1)
 
-send_flight : (p t : List ℕ) (j : ℕ) (bs : GlobalBranches) (r q : List ℕ) (m : Message) (l k : LocalTree) → Follows (Flight p t j bs) r l → Does l (Sends q m) k → (FollowsAt bs j r l → (cs : GlobalBranches) × BranchTransition bs j (Sent r q m) cs) → Dec (r ≡ t) → (h : GlobalTree) × Transition (Flight p t j bs) (Sent r q m) h
+send_flight : (p t : List ℕ) (j : ℕ) (bs : GlobalBranches) (r q : List ℕ) (m : Message) (l k : LocalTree) → Follows (Flight p t j bs) r l → LocalTransition l (Sends q m) k → (FollowsAt bs j r l → (cs : GlobalBranches) × BranchTransition bs j (Sent r q m) cs) → Dec (r ≡ t) → (h : GlobalTree) × Transition (Flight p t j bs) (Sent r q m) h
 send_flight p t j bs r q m l k f d ih (yes e) = absurd (no_mix d (by_one bs j (Receives p) r l (f.0 e)).2)
 send_flight p t j bs r q m l k f d ih (no n) = let y = ih (f.1 n) in (Flight p t j y.0, beside n y.1)
 
 mutual
-  pub can_send : (g : GlobalTree) (r q : List ℕ) (m : Message) (l k : LocalTree) → Follows g r l → Does l (Sends q m) k → (h : GlobalTree) × Transition g (Sent r q m) h
+  pub can_send : (g : GlobalTree) (r q : List ℕ) (m : Message) (l k : LocalTree) → Follows g r l → LocalTransition l (Sends q m) k → (h : GlobalTree) × Transition g (Sent r q m) h
   can_send GlobalEnd r q m l k f d = absurd (f q m k d)
   can_send (GlobalVar i) r q m l k f d = absurd f
   can_send (GlobalRec g) r q m l k f d = project_sends (alike_send f.like d).1 r (GlobalRec g) f.projects f.sound f.closed
@@ -139,14 +139,14 @@ mutual
   can_send (Flight p t j bs) r q m l k f d =
       send_flight p t j bs r q m l k f d (λ fa. can_send_at bs j r q m l k fa d) (which r t)
 
-  can_send_all : (bs : GlobalBranches) (r q : List ℕ) (m : Message) (l k : LocalTree) → FollowsAll bs r l → Does l (Sends q m) k → (cs : GlobalBranches) × EachTransition bs (Sent r q m) cs
+  can_send_all : (bs : GlobalBranches) (r q : List ℕ) (m : Message) (l k : LocalTree) → FollowsAll bs r l → LocalTransition l (Sends q m) k → (cs : GlobalBranches) × EachTransition bs (Sent r q m) cs
   can_send_all NoBranch r q m l k f d = (NoBranch, none)
   can_send_all (Branch n g bs) r q m l k f d =
       let y = can_send g r q m l k f.0 d in
       let z = can_send_all bs r q m l k f.1 d in
       (Branch n y.0 z.0, each y.1 z.1)
 
-  can_send_at : (bs : GlobalBranches) (j : ℕ) (r q : List ℕ) (m : Message) (l k : LocalTree) → FollowsAt bs j r l → Does l (Sends q m) k → (cs : GlobalBranches) × BranchTransition bs j (Sent r q m) cs
+  can_send_at : (bs : GlobalBranches) (j : ℕ) (r q : List ℕ) (m : Message) (l k : LocalTree) → FollowsAt bs j r l → LocalTransition l (Sends q m) k → (cs : GlobalBranches) × BranchTransition bs j (Sent r q m) cs
   can_send_at NoBranch j r q m l k f d = absurd f
   can_send_at (Branch n g bs) zero r q m l k f d = let y = can_send g r q m l k f d in (Branch n y.0 bs, here y.1)
   can_send_at (Branch n g bs) (suc j) r q m l k f d = let z = can_send_at bs j r q m l k f d in (Branch n g z.0, there z.1)
@@ -167,14 +167,14 @@ recv_step p q j r a m bs g e i x =
     let s : Transition (Flight p q j bs) (Received p q m) g = receives x in
     subst (λ z. Transition (Flight p q j bs) (Received a z m) g) (sym e) (subst (λ z. Transition (Flight p q j bs) (Received z q m) g) (sym i) s)
 
-recv_comm : (p t : List ℕ) (bs : GlobalBranches) (r a : List ℕ) (n m : Message) (l k : LocalTree) (w : List Message) → Follows (Comm p t bs) r l → Does l (Receives a n) k → Carries (Comm p t bs) a r (m ∷ w) → (FollowsAll bs r l → CarriesAll bs a r (m ∷ w) → (cs : GlobalBranches) × EachTransition bs (Received a r m) cs) → Dec (r ≡ p) → Dec (r ≡ t) → (h : GlobalTree) × Transition (Comm p t bs) (Received a r m) h
+recv_comm : (p t : List ℕ) (bs : GlobalBranches) (r a : List ℕ) (n m : Message) (l k : LocalTree) (w : List Message) → Follows (Comm p t bs) r l → LocalTransition l (Receives a n) k → Carries (Comm p t bs) a r (m ∷ w) → (FollowsAll bs r l → CarriesAll bs a r (m ∷ w) → (cs : GlobalBranches) × EachTransition bs (Received a r m) cs) → Dec (r ≡ p) → Dec (r ≡ t) → (h : GlobalTree) × Transition (Comm p t bs) (Received a r m) h
 recv_comm p t bs r a n m l k w f d c ih (yes e) x = absurd (no_mix (by_first bs (Sends t) r l f.1 (f.2 e).1).2 d)
 recv_comm p t bs r a n m l k w f d c ih (no n1) (yes e) =
     let h : m ∷ w ≡ [] = c.2 (same_from d (by_first bs (Receives p) r l f.1 (f.3 e)).2) in
     absurd (cc)
 recv_comm p t bs r a n m l k w f d c ih (no n1) (no n2) = let y = ih (f.4 n1 n2) c.4 in (Comm p t y.0, beneath n1 n2 y.1)
 
-recv_flight : (p t : List ℕ) (j : ℕ) (bs : GlobalBranches) (r a : List ℕ) (n m : Message) (l k : LocalTree) (w : List Message) → Follows (Flight p t j bs) r l → Does l (Receives a n) k → Carries (Flight p t j bs) a r (m ∷ w) → (r ≢ t → FollowsAt bs j r l → CarriesAt bs j p t a r (m ∷ w) → (cs : GlobalBranches) × BranchTransition bs j (Received a r m) cs) → Dec (r ≡ t) → (h : GlobalTree) × Transition (Flight p t j bs) (Received a r m) h
+recv_flight : (p t : List ℕ) (j : ℕ) (bs : GlobalBranches) (r a : List ℕ) (n m : Message) (l k : LocalTree) (w : List Message) → Follows (Flight p t j bs) r l → LocalTransition l (Receives a n) k → Carries (Flight p t j bs) a r (m ∷ w) → (r ≢ t → FollowsAt bs j r l → CarriesAt bs j p t a r (m ∷ w) → (cs : GlobalBranches) × BranchTransition bs j (Received a r m) cs) → Dec (r ≡ t) → (h : GlobalTree) × Transition (Flight p t j bs) (Received a r m) h
 recv_flight p t j bs r a n m l k w f d c ih (yes e) =
     let i = same_from d (by_one bs j (Receives p) r l (f.0 e)).2 in
     let y = recv_at bs j p t r a m w l e i (f.0 e) c.1 in
@@ -182,7 +182,7 @@ recv_flight p t j bs r a n m l k w f d c ih (yes e) =
 recv_flight p t j bs r a n m l k w f d c ih (no n2) = let y = ih n2 (f.1 n2) c.1 in (Flight p t j y.0, beside n2 y.1)
 
 mutual
-  pub can_receive : (g : GlobalTree) (r a : List ℕ) (n m : Message) (l k : LocalTree) (w : List Message) → Follows g r l → Does l (Receives a n) k → Carries g a r (m ∷ w) → (h : GlobalTree) × Transition g (Received a r m) h
+  pub can_receive : (g : GlobalTree) (r a : List ℕ) (n m : Message) (l k : LocalTree) (w : List Message) → Follows g r l → LocalTransition l (Receives a n) k → Carries g a r (m ∷ w) → (h : GlobalTree) × Transition g (Received a r m) h
   can_receive GlobalEnd r a n m l k w f d c = absurd (cc)
   can_receive (GlobalVar i) r a n m l k w f d c = absurd f
   can_receive (GlobalRec g) r a n m l k w f d c = let h : m ∷ w ≡ [] = c.0 in absurd (cc)
@@ -191,14 +191,14 @@ mutual
   can_receive (Flight p t j bs) r a n m l k w f d c =
       recv_flight p t j bs r a n m l k w f d c (λ n2 fa ca. can_receive_at bs j p t r a n m l k w n2 fa d ca) (which r t)
 
-  can_receive_all : (bs : GlobalBranches) (r a : List ℕ) (n m : Message) (l k : LocalTree) (w : List Message) → FollowsAll bs r l → Does l (Receives a n) k → CarriesAll bs a r (m ∷ w) → (cs : GlobalBranches) × EachTransition bs (Received a r m) cs
+  can_receive_all : (bs : GlobalBranches) (r a : List ℕ) (n m : Message) (l k : LocalTree) (w : List Message) → FollowsAll bs r l → LocalTransition l (Receives a n) k → CarriesAll bs a r (m ∷ w) → (cs : GlobalBranches) × EachTransition bs (Received a r m) cs
   can_receive_all NoBranch r a n m l k w f d c = (NoBranch, none)
   can_receive_all (Branch o g bs) r a n m l k w f d c =
       let y = can_receive g r a n m l k w f.0 d c.0 in
       let z = can_receive_all bs r a n m l k w f.1 d c.1 in
       (Branch o y.0 z.0, each y.1 z.1)
 
-  can_receive_at : (bs : GlobalBranches) (j : ℕ) (p t r a : List ℕ) (n m : Message) (l k : LocalTree) (w : List Message) → r ≢ t → FollowsAt bs j r l → Does l (Receives a n) k → CarriesAt bs j p t a r (m ∷ w) → (cs : GlobalBranches) × BranchTransition bs j (Received a r m) cs
+  can_receive_at : (bs : GlobalBranches) (j : ℕ) (p t r a : List ℕ) (n m : Message) (l k : LocalTree) (w : List Message) → r ≢ t → FollowsAt bs j r l → LocalTransition l (Receives a n) k → CarriesAt bs j p t a r (m ∷ w) → (cs : GlobalBranches) × BranchTransition bs j (Received a r m) cs
   can_receive_at NoBranch j p t r a n m l k w ne f d c = absurd f
   can_receive_at (Branch o g bs) zero p t r a n m l k w ne f d c =
       let y = can_receive g r a n m l k w f d (c.1 (λ x z. ne z)) in (Branch o y.0 bs, here y.1)

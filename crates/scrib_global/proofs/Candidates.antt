@@ -15,7 +15,7 @@ use Rattle.scrib_types.specs.Agreement.{Agreement}
 use Rattle.scrib_types.specs.Permitted.{IsPermitted}
 use Rattle.scrib_types.specs.Judgement.{ComesBefore, AreAllowed}
 use Rattle.scrib_types.specs.Logs.{subject_of, action_of, is_action, event_of, own_actions}
-use Rattle.scrib_types.specs.Traces.{put, put_all, unfolding_of, Offers, Does, sends, receives, unfolds, IsTrace}
+use Rattle.scrib_types.specs.Traces.{substitute, substitute_all, unfolding_of, Offers, LocalTransition, sends, receives, unfolds, IsTrace}
 use Rattle.scrib_global.specs.Named.{named, named_sends, named_receptions, named_by}
 use Rattle.scrib_global.proofs.Events.{own_yes}
 use Rattle.scrib_global.proofs.Reading.{own_end}
@@ -47,33 +47,33 @@ contains_among a [] h = absurd h
 contains_among a (x ∷ xs) (inl e) = subst (λ z. Contains (x ∷ xs) z) (sym e) (contains_first x xs)
 contains_among a (x ∷ xs) (inr h) = Contains-append_right (x ∷ []) xs a (contains_among a xs h)
 
--- what stands in a type, into which another was put, stands in one of them
+-- what stands in a type, in which another was substituted, stands in one of them
 named_var : (b : Bool) (t : LocalTree) (k : ℕ) (a : Action) → Among a (named (if b then t else LocalVar k)) → Among a (named t)
 named_var true t k a h = h
 named_var false t k a h = absurd h
 
 mutual
-  named_put : (t l : LocalTree) (n : ℕ) (a : Action) → Among a (named (put t l n)) → Among a (named t) ⊎ Among a (named l)
-  named_put t LocalEnd n a h = absurd h
-  named_put t (LocalVar k) n a h = inl (named_var (k == n) t k a h)
-  named_put t (LocalRec body) n a h = named_put t body (n + 1) a h
-  named_put t (Send q ls) n a h = sends_put t q ls n a h
-  named_put t (Recv p ls) n a h = receptions_put t p ls n a h
+  named_substitute : (t l : LocalTree) (n : ℕ) (a : Action) → Among a (named (substitute t l n)) → Among a (named t) ⊎ Among a (named l)
+  named_substitute t LocalEnd n a h = absurd h
+  named_substitute t (LocalVar k) n a h = inl (named_var (k == n) t k a h)
+  named_substitute t (LocalRec body) n a h = named_substitute t body (n + 1) a h
+  named_substitute t (Send q ls) n a h = sends_substitute t q ls n a h
+  named_substitute t (Recv p ls) n a h = receptions_substitute t p ls n a h
 
-  sends_put : (t : LocalTree) (q : List ℕ) (ls : LocalBranches) (n : ℕ) (a : Action) → Among a (named_sends q (put_all t ls n)) → Among a (named t) ⊎ Among a (named_sends q ls)
-  sends_put t q NoChoice n a h = absurd h
-  sends_put t q (Choice m l ls) n a (inl e) = inr (inl e)
-  sends_put t q (Choice m l ls) n a (inr h) = elim (among_cases a (named (put t l n)) (named_sends q (put_all t ls n)) h) [
-    | inl x ↦ elim (named_put t l n a x) [ inl y ↦ inl y | inr y ↦ inr (inr (among_left a (named l) (named_sends q ls) y)) ]
-    | inr x ↦ elim (sends_put t q ls n a x) [ inl y ↦ inl y | inr y ↦ inr (inr (among_right a (named l) (named_sends q ls) y)) ]
+  sends_substitute : (t : LocalTree) (q : List ℕ) (ls : LocalBranches) (n : ℕ) (a : Action) → Among a (named_sends q (substitute_all t ls n)) → Among a (named t) ⊎ Among a (named_sends q ls)
+  sends_substitute t q NoChoice n a h = absurd h
+  sends_substitute t q (Choice m l ls) n a (inl e) = inr (inl e)
+  sends_substitute t q (Choice m l ls) n a (inr h) = elim (among_cases a (named (substitute t l n)) (named_sends q (substitute_all t ls n)) h) [
+    | inl x ↦ elim (named_substitute t l n a x) [ inl y ↦ inl y | inr y ↦ inr (inr (among_left a (named l) (named_sends q ls) y)) ]
+    | inr x ↦ elim (sends_substitute t q ls n a x) [ inl y ↦ inl y | inr y ↦ inr (inr (among_right a (named l) (named_sends q ls) y)) ]
   ]
 
-  receptions_put : (t : LocalTree) (p : List ℕ) (ls : LocalBranches) (n : ℕ) (a : Action) → Among a (named_receptions p (put_all t ls n)) → Among a (named t) ⊎ Among a (named_receptions p ls)
-  receptions_put t p NoChoice n a h = absurd h
-  receptions_put t p (Choice m l ls) n a (inl e) = inr (inl e)
-  receptions_put t p (Choice m l ls) n a (inr h) = elim (among_cases a (named (put t l n)) (named_receptions p (put_all t ls n)) h) [
-    | inl x ↦ elim (named_put t l n a x) [ inl y ↦ inl y | inr y ↦ inr (inr (among_left a (named l) (named_receptions p ls) y)) ]
-    | inr x ↦ elim (receptions_put t p ls n a x) [ inl y ↦ inl y | inr y ↦ inr (inr (among_right a (named l) (named_receptions p ls) y)) ]
+  receptions_substitute : (t : LocalTree) (p : List ℕ) (ls : LocalBranches) (n : ℕ) (a : Action) → Among a (named_receptions p (substitute_all t ls n)) → Among a (named t) ⊎ Among a (named_receptions p ls)
+  receptions_substitute t p NoChoice n a h = absurd h
+  receptions_substitute t p (Choice m l ls) n a (inl e) = inr (inl e)
+  receptions_substitute t p (Choice m l ls) n a (inr h) = elim (among_cases a (named (substitute t l n)) (named_receptions p (substitute_all t ls n)) h) [
+    | inl x ↦ elim (named_substitute t l n a x) [ inl y ↦ inl y | inr y ↦ inr (inr (among_left a (named l) (named_receptions p ls) y)) ]
+    | inr x ↦ elim (receptions_substitute t p ls n a x) [ inl y ↦ inl y | inr y ↦ inr (inr (among_right a (named l) (named_receptions p ls) y)) ]
   ]
 
 -- an action and what comes after it stand in the type
@@ -94,9 +94,9 @@ receptions_named p (Choice n l ls) m k (inr o) =
     (inr (among_right (Receives p m) (named l) (named_receptions p ls) y.0), λ a h. inr (among_right a (named l) (named_receptions p ls) (y.1 a h)))
 
 unfolding_named : (body : LocalTree) (a : Action) → Among a (named (unfolding_of body)) → Among a (named body)
-unfolding_named body a h = elim (named_put (LocalRec body) body 0 a h) [ inl x ↦ x | inr y ↦ y ]
+unfolding_named body a h = elim (named_substitute (LocalRec body) body 0 a h) [ inl x ↦ x | inr y ↦ y ]
 
-pub does_named : {l k : LocalTree} {a : Action} → Does l a k → Among a (named l) × ((b : Action) → Among b (named k) → Among b (named l))
+pub does_named : {l k : LocalTree} {a : Action} → LocalTransition l a k → Among a (named l) × ((b : Action) → Among b (named k) → Among b (named l))
 does_named (sends {q} {m} {ls} {l} o) = sends_named q ls m l o
 does_named (receives {p} {m} {ls} {l} o) = receptions_named p ls m l o
 does_named (unfolds {a} {body} d) =

@@ -7,7 +7,7 @@ use Rattle.scrib_types.specs.Trees.{GlobalTree, GlobalEnd, GlobalVar, GlobalRec,
 use Rattle.scrib_types.specs.Logs.{subject_of}
 use Rattle.scrib_global.specs.Transitions.{unfolding_of, IsBranch, first, later, Transition, sends, receives, unfolds, beneath, beside, EachTransition, none, each, BranchTransition, here, there}
 use Rattle.scrib_global.proofs.Names.{NotPair, pair_cases}
-use Rattle.scrib_global.proofs.Puts.{Closed, ClosedAll, closed_unfolding, NonEmpty, Sound, SoundAll, sound_unfolding}
+use Rattle.scrib_global.proofs.Substitution.{Closed, ClosedAll, closed_unfolding, NonEmpty, Sound, SoundAll, sound_unfolding}
 use Rattle.scrib_global.proofs.Moves.{some_moved}
 
 abbrev mutual

@@ -4,9 +4,9 @@ use Rattle.scrib_types.specs.declared.message.Message.{Message}
 use Rattle.scrib_types.specs.declared.event.Action.{Action}
 use Rattle.scrib_types.specs.declared.event.Action.TheVariants.{Sends, Receives}
 use Rattle.scrib_types.specs.Trees.{GlobalTree, GlobalEnd, GlobalVar, GlobalRec, Comm, Flight, GlobalBranches, NoBranch, Branch, LocalTree, LocalEnd, LocalRec, Send, Recv, LocalBranches}
-use Rattle.scrib_types.specs.Traces.{Offers, Does, sends, receives}
+use Rattle.scrib_types.specs.Traces.{Offers, LocalTransition, sends, receives}
 use Rattle.scrib_global.specs.Transitions.{unfolding_of}
-use Rattle.scrib_global.proofs.Puts.{Closed, ClosedAll, closed_unfolding, NonEmpty, Lack, Distinct, Sound, SoundAll, sound_unfolding}
+use Rattle.scrib_global.proofs.Substitution.{Closed, ClosedAll, closed_unfolding, NonEmpty, Lack, Distinct, Sound, SoundAll, sound_unfolding}
 use Rattle.scrib_global.proofs.Projects.{Projects, p_end, p_var, p_send, p_recv, p_other, p_idle, p_rec, ProjectEach, each_none, each_one, ProjectMerged, merged_none, merged_one, project_unfolding_idle, project_unfolding}
 use Rattle.scrib_global.proofs.Widens.{wider_trans, second_wider, merged_wider, wider_alike, alike_trans}
 use Rattle.scrib_global.proofs.Locals.{does_as, Alike, alike_unroll, alike_step, alike_send}
@@ -25,12 +25,12 @@ HasMessage (Branch n g bs) m = (m ≡ n) ⊎ HasMessage bs m
 
 -- each sending of the type is one of these
 abbrev pub SendsOnly : List ℕ → GlobalBranches → LocalTree → Type 0
-SendsOnly q bs l = (r : List ℕ) (m : Message) (k : LocalTree) → Does l (Sends r m) k → (r ≡ q) × HasMessage bs m
+SendsOnly q bs l = (r : List ℕ) (m : Message) (k : LocalTree) → LocalTransition l (Sends r m) k → (r ≡ q) × HasMessage bs m
 
 -- The same type follows every branch of a communication that its role takes no part in.
 abbrev mutual
   pub Follows : GlobalTree → List ℕ → LocalTree → Type 0
-  Follows GlobalEnd r l = (q : List ℕ) (m : Message) (k : LocalTree) → Does l (Sends q m) k → ⊥
+  Follows GlobalEnd r l = (q : List ℕ) (m : Message) (k : LocalTree) → LocalTransition l (Sends q m) k → ⊥
   Follows (GlobalVar k) r l = ⊥
   Follows (GlobalRec g) r l = FollowsRec g r l
   Follows (Comm p q bs) r l = (p ≢ q) × NonEmpty bs × (r ≡ p → SendsOnly q bs l × FollowsBy bs (Sends q) r l) × (r ≡ q → FollowsBy bs (Receives p) r l) × (r ≢ p → r ≢ q → FollowsAll bs r l)
@@ -38,7 +38,7 @@ abbrev mutual
 
   pub FollowsBy : GlobalBranches → (Message → Action) → List ℕ → LocalTree → Type 0
   FollowsBy NoBranch d r l = Unit {0}
-  FollowsBy (Branch m g bs) d r l = ((k : LocalTree) × Does l (d m) k × Follows g r k) × FollowsBy bs d r l
+  FollowsBy (Branch m g bs) d r l = ((k : LocalTree) × LocalTransition l (d m) k × Follows g r k) × FollowsBy bs d r l
 
   pub FollowsAll : GlobalBranches → List ℕ → LocalTree → Type 0
   FollowsAll NoBranch r l = Unit {0}
@@ -51,7 +51,7 @@ abbrev mutual
 
   pub FollowsByAt : GlobalBranches → ℕ → (Message → Action) → List ℕ → LocalTree → Type 0
   FollowsByAt NoBranch j d r l = ⊥
-  FollowsByAt (Branch m g bs) zero d r l = (k : LocalTree) × Does l (d m) k × Follows g r k
+  FollowsByAt (Branch m g bs) zero d r l = (k : LocalTree) × LocalTransition l (d m) k × Follows g r k
   FollowsByAt (Branch m g bs) (suc j) d r l = FollowsByAt bs j d r l
 
 -- what the projection offers, the branches have
@@ -97,7 +97,7 @@ mutual
   follows_project r (p_idle {g} c' a) s c l al = record { closed = c; sound = s; x = LocalEnd; projects = p_idle c' a; like = al }
   follows_project r (p_rec {l = y} h p) s c l al = record { closed = c; sound = s; x = LocalRec y; projects = p_rec h p; like = al }
 
-  follows_each : (r : List ℕ) {bs : GlobalBranches} {ls : LocalBranches} → ProjectEach bs r ls → Distinct bs → SoundAll bs → ClosedAll bs 0 → (l x : LocalTree) (d : Message → Action) → Alike l x → ((m : Message) (k : LocalTree) → Offers ls m k → Does x (d m) k) → FollowsBy bs d r l
+  follows_each : (r : List ℕ) {bs : GlobalBranches} {ls : LocalBranches} → ProjectEach bs r ls → Distinct bs → SoundAll bs → ClosedAll bs 0 → (l x : LocalTree) (d : Message → Action) → Alike l x → ((m : Message) (k : LocalTree) → Offers ls m k → LocalTransition x (d m) k) → FollowsBy bs d r l
   follows_each r each_none u s c l x d al f = tt
   follows_each r (each_one {m} {g} {l = k} p pe) u s c l x d al f =
       let y = alike_step al (f m k (inl (refl, refl))) in (

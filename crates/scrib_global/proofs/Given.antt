@@ -11,7 +11,7 @@ use Rattle.scrib_types.specs.WellFormed.{has_role, same_operator, has_operator, 
 use Rattle.scrib_types.specs.Agreement.{Agreement}
 use Rattle.scrib_types.specs.Merges.{merges_of}
 use Rattle.scrib_global.proofs.Names.{which, same_name, name_is, name_not, name_itself}
-use Rattle.scrib_global.proofs.Puts.{Closed, ClosedAll, Absent, AbsentAll, NonEmpty, Lack, Distinct, Sound, SoundAll}
+use Rattle.scrib_global.proofs.Substitution.{Closed, ClosedAll, Absent, AbsentAll, NonEmpty, Lack, Distinct, Sound, SoundAll}
 use Rattle.scrib_global.proofs.Projects.{Projects, p_end, p_var, p_send, p_recv, p_other, p_idle, p_rec, ProjectEach, each_none, each_one, ProjectMerged, merged_none, merged_one}
 
 not_from : (b : Bool) → not b ≡ true → b ≡ false

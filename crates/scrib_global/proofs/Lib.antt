@@ -1,5 +1,5 @@
 mod Names
-mod Puts
+mod Substitution
 mod Projects
 mod Locals
 mod Widens

@@ -4,7 +4,7 @@ use Rattle.scrib_types.specs.declared.message.Message.{Message}
 use Rattle.scrib_types.specs.declared.event.Action.{Action}
 use Rattle.scrib_types.specs.declared.event.Action.TheVariants.{Join, Sends, Receives}
 use Rattle.scrib_types.specs.Trees.{LocalTree, LocalEnd, LocalVar, LocalRec, Send, Recv, LocalBranches, NoChoice, Choice}
-use Rattle.scrib_types.specs.Traces.{Offers, Does, sends, receives, unfolds, unfolding_of, IsTrace}
+use Rattle.scrib_types.specs.Traces.{Offers, LocalTransition, sends, receives, unfolds, unfolding_of, IsTrace}
 
 pub offers_one : (ls : LocalBranches) (m : Message) (k l : LocalTree) → Offers ls m k → Offers ls m l → k ≡ l
 offers_one NoChoice m k l a b = absurd a
@@ -17,7 +17,7 @@ offers_one (Choice n x ls) m k l (inr a) (inr b) = offers_one ls m k l a.1 b.1
 abbrev pub DoesAs : LocalTree → Action → LocalTree → Type 0
 DoesAs LocalEnd a k = ⊥
 DoesAs (LocalVar n) a k = ⊥
-DoesAs (LocalRec x) a k = Does (unfolding_of x) a k
+DoesAs (LocalRec x) a k = LocalTransition (unfolding_of x) a k
 DoesAs (Send q ls) Join k = ⊥
 DoesAs (Send q ls) (Sends r m) k = (r ≡ q) × Offers ls m k
 DoesAs (Send q ls) (Receives r m) k = ⊥
@@ -25,21 +25,21 @@ DoesAs (Recv p ls) Join k = ⊥
 DoesAs (Recv p ls) (Sends r m) k = ⊥
 DoesAs (Recv p ls) (Receives r m) k = (r ≡ p) × Offers ls m k
 
-pub does_as : {l k : LocalTree} {a : Action} → Does l a k → DoesAs l a k
+pub does_as : {l k : LocalTree} {a : Action} → LocalTransition l a k → DoesAs l a k
 does_as (sends a) = (refl, a)
 does_as (receives a) = (refl, a)
 does_as (unfolds a) = a
 
-pub does_one : {l k k' : LocalTree} {a : Action} → Does l a k → Does l a k' → k ≡ k'
+pub does_one : {l k k' : LocalTree} {a : Action} → LocalTransition l a k → LocalTransition l a k' → k ≡ k'
 does_one (sends a) b = offers_one _ _ _ _ a (does_as b).1
 does_one (receives a) b = offers_one _ _ _ _ a (does_as b).1
 does_one (unfolds a) b = does_one a (does_as b)
 
-pub no_mix : {l k k' : LocalTree} {q p : List ℕ} {m n : Message} → Does l (Sends q m) k → Does l (Receives p n) k' → ⊥
+pub no_mix : {l k k' : LocalTree} {q p : List ℕ} {m n : Message} → LocalTransition l (Sends q m) k → LocalTransition l (Receives p n) k' → ⊥
 no_mix (sends a) b = does_as b
 no_mix (unfolds a) b = no_mix a (does_as b)
 
-pub same_from : {l k k' : LocalTree} {q p : List ℕ} {m n : Message} → Does l (Receives q m) k → Does l (Receives p n) k' → q ≡ p
+pub same_from : {l k k' : LocalTree} {q p : List ℕ} {m n : Message} → LocalTransition l (Receives q m) k → LocalTransition l (Receives p n) k' → q ≡ p
 same_from (receives a) b = sym (does_as b).0
 same_from (unfolds a) b = same_from a (does_as b)
 
@@ -65,7 +65,7 @@ alike_unroll {x} a = record {
   only = λ w q m t s. unroll x (w ++ Sends q m ∷ []) (a.only w q m (roll x w t) s);
 }
 
-pub alike_step : {l x y : LocalTree} {d : Action} → Alike l x → Does x d y → (k : LocalTree) × Does l d k × Alike k y
+pub alike_step : {l x y : LocalTree} {d : Action} → Alike l x → LocalTransition x d y → (k : LocalTree) × LocalTransition l d k × Alike k y
 alike_step {y} {d} a s =
     let t = a.traces (d ∷ []) (y, s, tt) in (
       t.0,
@@ -76,5 +76,5 @@ alike_step {y} {d} a s =
       },
     )
 
-pub alike_send : {l x k : LocalTree} {q : List ℕ} {m : Message} → Alike l x → Does l (Sends q m) k → (y : LocalTree) × Does x (Sends q m) y
+pub alike_send : {l x k : LocalTree} {q : List ℕ} {m : Message} → Alike l x → LocalTransition l (Sends q m) k → (y : LocalTree) × LocalTransition x (Sends q m) y
 alike_send {k} {q} {m} a s = let t = a.only [] q m tt (k, s, tt) in (t.0, t.1)

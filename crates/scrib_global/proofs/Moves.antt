@@ -5,10 +5,10 @@ use Rattle.scrib_types.specs.declared.event.Action.{Action}
 use Rattle.scrib_types.specs.declared.event.Action.TheVariants.{Sends, Receives}
 use Rattle.scrib_types.specs.declared.event.Event.{Event}
 use Rattle.scrib_types.specs.Trees.{GlobalTree, GlobalBranches, LocalTree}
-use Rattle.scrib_types.specs.Traces.{Does}
+use Rattle.scrib_types.specs.Traces.{LocalTransition}
 use Rattle.scrib_types.specs.Logs.{subject_of, action_of}
 use Rattle.scrib_global.specs.Transitions.{IsBranch, first, later, Transition, sends, receives, unfolds, beneath, beside, EachTransition, none, each, BranchTransition, here, there}
-use Rattle.scrib_global.proofs.Puts.{NonEmpty}
+use Rattle.scrib_global.proofs.Substitution.{NonEmpty}
 use Rattle.scrib_global.proofs.Locals.{does_one}
 use Rattle.scrib_global.proofs.Follows.{HasMessage, Follows, FollowsBy, FollowsAll, FollowsAt, FollowsByAt, follows_unfolding}
 
@@ -39,7 +39,7 @@ one_at : {bs : GlobalBranches} {j : ℕ} {m : Message} {g : GlobalTree} → IsBr
 one_at first r l f = f
 one_at (later a) r l f = one_at a r l f
 
-by_at_one : {bs : GlobalBranches} {j : ℕ} {m : Message} {g : GlobalTree} → IsBranch bs j m g → (d : Message → Action) (r : List ℕ) (l : LocalTree) → FollowsByAt bs j d r l → (k : LocalTree) × Does l (d m) k × Follows g r k
+by_at_one : {bs : GlobalBranches} {j : ℕ} {m : Message} {g : GlobalTree} → IsBranch bs j m g → (d : Message → Action) (r : List ℕ) (l : LocalTree) → FollowsByAt bs j d r l → (k : LocalTree) × LocalTransition l (d m) k × Follows g r k
 by_at_one first d r l f = f
 by_at_one (later a) d r l f = by_at_one a d r l f
 
@@ -76,7 +76,7 @@ mutual
 
 -- the subject's type does what the state does
 mutual
-  pub subject : {g h : GlobalTree} {e : Event} → Transition g e h → (l : LocalTree) → Follows g (subject_of e) l → (k : LocalTree) × Does l (action_of e) k × Follows h (subject_of e) k
+  pub subject : {g h : GlobalTree} {e : Event} → Transition g e h → (l : LocalTree) → Follows g (subject_of e) l → (k : LocalTree) × LocalTransition l (action_of e) k × Follows h (subject_of e) k
   subject (sends {p} {q} a) l f =
       let y = by_at_one a (Sends q) p l (by_at a (Sends q) p l (f.2 refl).1) in
       (y.0, y.1, (λ e. absurd (f.0 e), λ n. one_at a p y.0 y.2))
@@ -90,16 +90,16 @@ mutual
       let y = subject_at sa l (f.1 n) in
       (y.0, y.1, (λ e. absurd (n e), λ a. y.2))
 
-  subject_first : {bs cs : GlobalBranches} {e : Event} → EachTransition bs e cs → (l : LocalTree) → NonEmpty bs → FollowsAll bs (subject_of e) l → (k : LocalTree) × Does l (action_of e) k
+  subject_first : {bs cs : GlobalBranches} {e : Event} → EachTransition bs e cs → (l : LocalTree) → NonEmpty bs → FollowsAll bs (subject_of e) l → (k : LocalTree) × LocalTransition l (action_of e) k
   subject_first none l n f = absurd n
   subject_first (each s ss) l n f = let y = subject s l f.0 in (y.0, y.1)
 
-  subject_all : {bs cs : GlobalBranches} {e : Event} → EachTransition bs e cs → (l k : LocalTree) → Does l (action_of e) k → FollowsAll bs (subject_of e) l → FollowsAll cs (subject_of e) k
+  subject_all : {bs cs : GlobalBranches} {e : Event} → EachTransition bs e cs → (l k : LocalTree) → LocalTransition l (action_of e) k → FollowsAll bs (subject_of e) l → FollowsAll cs (subject_of e) k
   subject_all none l k dk f = tt
   subject_all (each {e} {h} s ss) l k dk f =
       let y = subject s l f.0 in
       (subst (λ z. Follows h (subject_of e) z) (does_one y.1 dk) y.2, subject_all ss l k dk f.1)
 
-  subject_at : {bs cs : GlobalBranches} {j : ℕ} {e : Event} → BranchTransition bs j e cs → (l : LocalTree) → FollowsAt bs j (subject_of e) l → (k : LocalTree) × Does l (action_of e) k × FollowsAt cs j (subject_of e) k
+  subject_at : {bs cs : GlobalBranches} {j : ℕ} {e : Event} → BranchTransition bs j e cs → (l : LocalTree) → FollowsAt bs j (subject_of e) l → (k : LocalTree) × LocalTransition l (action_of e) k × FollowsAt cs j (subject_of e) k
   subject_at (here s) l f = subject s l f
   subject_at (there s) l f = subject_at s l f

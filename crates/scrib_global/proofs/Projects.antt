@@ -3,9 +3,9 @@ use Rattle.std.proofs.Common.{◌≡◌, ◌≢◌, Bool, true, false, ℕ, ◌+
 use Rattle.scrib_types.specs.declared.message.Message.{Message}
 use Rattle.scrib_types.specs.Trees.{GlobalTree, GlobalEnd, GlobalVar, GlobalRec, Comm, Flight, GlobalBranches, NoBranch, Branch, LocalTree, LocalEnd, LocalVar, LocalRec, Send, Recv, LocalBranches, NoChoice, Choice}
 use Rattle.scrib_types.specs.Traces as local
-use Rattle.scrib_types.specs.Merges.{Merges, merges_same, merges_put}
-use Rattle.scrib_global.specs.Transitions.{put, put_all, unfolding_of}
-use Rattle.scrib_global.proofs.Puts.{Closed, ClosedAll, closed_more, closed_same, closed_unfolding, Absent, AbsentAll, absent_unfolding, same_put, Sound, SoundAll, sound_unfolding}
+use Rattle.scrib_types.specs.Merges.{Merges, merges_same, merges_substitute}
+use Rattle.scrib_global.specs.Transitions.{substitute, substitute_all, unfolding_of}
+use Rattle.scrib_global.proofs.Substitution.{Closed, ClosedAll, closed_more, closed_same, closed_unfolding, Absent, AbsentAll, absent_unfolding, same_substitute, Sound, SoundAll, sound_unfolding}
 
 mutual
   pub data Projects : GlobalTree → List ℕ → LocalTree → Type 0 where
@@ -48,26 +48,26 @@ project_var r t x i p false = p_var
 
 -- the projection of the result is the result of the projections
 mutual
-  pub project_put : (r : List ℕ) (t : GlobalTree) (x : LocalTree) → Projects t r x → (Absent r t → ⊥) → (n : ℕ) {g : GlobalTree} {l : LocalTree} → Projects g r l → Projects (put t g n) r (local.put x l n)
-  project_put r t x pt h n p_end = p_end
-  project_put r t x pt h n (p_var {k}) = project_var r t x k pt (k == n)
-  project_put r t x pt h n (p_send e pe) = p_send e (project_put_each r t x pt h n pe)
-  project_put r t x pt h n (p_recv e pe) = p_recv e (project_put_each r t x pt h n pe)
-  project_put r t x pt h n (p_other n1 n2 pj pm) = p_other n1 n2 (project_put r t x pt h n pj) (project_put_merged r t x pt h n pm)
-  project_put r t x pt h n (p_idle {g} c a) =
+  pub project_substitute : (r : List ℕ) (t : GlobalTree) (x : LocalTree) → Projects t r x → (Absent r t → ⊥) → (n : ℕ) {g : GlobalTree} {l : LocalTree} → Projects g r l → Projects (substitute t g n) r (local.substitute x l n)
+  project_substitute r t x pt h n p_end = p_end
+  project_substitute r t x pt h n (p_var {k}) = project_var r t x k pt (k == n)
+  project_substitute r t x pt h n (p_send e pe) = p_send e (project_substitute_each r t x pt h n pe)
+  project_substitute r t x pt h n (p_recv e pe) = p_recv e (project_substitute_each r t x pt h n pe)
+  project_substitute r t x pt h n (p_other n1 n2 pj pm) = p_other n1 n2 (project_substitute r t x pt h n pj) (project_substitute_merged r t x pt h n pm)
+  project_substitute r t x pt h n (p_idle {g} c a) =
       subst (λ y. Projects y r LocalEnd) (sym (closed_same t (GlobalRec g) n (closed_more (GlobalRec g) 0 n (omega arith) c))) (p_idle c a)
-  project_put r t x pt h n (p_rec {g} no' p) =
+  project_substitute r t x pt h n (p_rec {g} no' p) =
       p_rec
-      (λ c a. let e = same_put r t h g (n + 1) a in no' (subst (λ y. Closed (GlobalRec y) 0) e c) (subst (λ y. Absent r y) e a))
-      (project_put r t x pt h (n + 1) p)
+      (λ c a. let e = same_substitute r t h g (n + 1) a in no' (subst (λ y. Closed (GlobalRec y) 0) e c) (subst (λ y. Absent r y) e a))
+      (project_substitute r t x pt h (n + 1) p)
 
-  project_put_each : (r : List ℕ) (t : GlobalTree) (x : LocalTree) → Projects t r x → (Absent r t → ⊥) → (n : ℕ) {bs : GlobalBranches} {ls : LocalBranches} → ProjectEach bs r ls → ProjectEach (put_all t bs n) r (local.put_all x ls n)
-  project_put_each r t x pt h n each_none = each_none
-  project_put_each r t x pt h n (each_one p pe) = each_one (project_put r t x pt h n p) (project_put_each r t x pt h n pe)
+  project_substitute_each : (r : List ℕ) (t : GlobalTree) (x : LocalTree) → Projects t r x → (Absent r t → ⊥) → (n : ℕ) {bs : GlobalBranches} {ls : LocalBranches} → ProjectEach bs r ls → ProjectEach (substitute_all t bs n) r (local.substitute_all x ls n)
+  project_substitute_each r t x pt h n each_none = each_none
+  project_substitute_each r t x pt h n (each_one p pe) = each_one (project_substitute r t x pt h n p) (project_substitute_each r t x pt h n pe)
 
-  project_put_merged : (r : List ℕ) (t : GlobalTree) (x : LocalTree) → Projects t r x → (Absent r t → ⊥) → (n : ℕ) {bs : GlobalBranches} {j l : LocalTree} → ProjectMerged bs r j l → ProjectMerged (put_all t bs n) r (local.put x j n) (local.put x l n)
-  project_put_merged r t x pt h n merged_none = merged_none
-  project_put_merged r t x pt h n (merged_one p m pm) = merged_one (project_put r t x pt h n p) (merges_put x n m) (project_put_merged r t x pt h n pm)
+  project_substitute_merged : (r : List ℕ) (t : GlobalTree) (x : LocalTree) → Projects t r x → (Absent r t → ⊥) → (n : ℕ) {bs : GlobalBranches} {j l : LocalTree} → ProjectMerged bs r j l → ProjectMerged (substitute_all t bs n) r (local.substitute x j n) (local.substitute x l n)
+  project_substitute_merged r t x pt h n merged_none = merged_none
+  project_substitute_merged r t x pt h n (merged_one p m pm) = merged_one (project_substitute r t x pt h n p) (merges_substitute x n m) (project_substitute_merged r t x pt h n pm)
 
 -- what a recursion projects on, its unfolding projects on unfolded
 pub project_unfolding_idle : (r : List ℕ) (g : GlobalTree) → Sound g → Closed (GlobalRec g) 0 → Absent r g → Projects (unfolding_of g) r LocalEnd
@@ -75,4 +75,4 @@ project_unfolding_idle r g s c a =
     project_absent r (unfolding_of g) (sound_unfolding g s) (closed_unfolding g c) (absent_unfolding r g a)
 
 pub project_unfolding : (r : List ℕ) (g : GlobalTree) (l : LocalTree) → Closed (GlobalRec g) 0 → (Closed (GlobalRec g) 0 → Absent r g → ⊥) → Projects g r l → Projects (unfolding_of g) r (local.unfolding_of l)
-project_unfolding r g l c h p = project_put r (GlobalRec g) (LocalRec l) (p_rec h p) (h c) 0 p
+project_unfolding r g l c h p = project_substitute r (GlobalRec g) (LocalRec l) (p_rec h p) (h c) 0 p

@@ -11,7 +11,7 @@ use Rattle.scrib_types.specs.Projection.{projection}
 use Rattle.scrib_types.specs.WellFormed.{has_role, is_protocol}
 use Rattle.scrib_types.specs.Agreement.{Agreement}
 use Rattle.scrib_types.specs.Permitted.{IsPermitted}
-use Rattle.scrib_types.specs.Traces.{Does, IsTrace}
+use Rattle.scrib_types.specs.Traces.{LocalTransition, IsTrace}
 use Rattle.scrib_types.specs.Logs.{subject_of, action_of, is_action, actions, own_actions, has_joined, IsJoined, AllJoined}
 use Rattle.scrib_types.specs.Queues.{sent, received, flights}
 use Rattle.scrib_global.specs.Transitions.{IsBranch, first, later, Transition}
@@ -19,7 +19,7 @@ use Rattle.scrib_global.specs.Runs.{Run, stays, goes}
 use Rattle.scrib_global.specs.InFlight.{OnPath, ends, repeats, chooses, flies}
 use Rattle.scrib_global.specs.Simulation.{Leads, Awaits, Simulates}
 use Rattle.scrib_global.proofs.Names.{which, NotPair, pair_cases}
-use Rattle.scrib_global.proofs.Puts.{NonEmpty}
+use Rattle.scrib_global.proofs.Substitution.{NonEmpty}
 use Rattle.scrib_global.proofs.Projects.{project_absent}
 use Rattle.scrib_global.proofs.Locals.{does_one, alike_refl}
 use Rattle.scrib_global.proofs.Follows.{Follows, follows_project}
@@ -149,7 +149,7 @@ Ready g log = (r : List ℕ) → (l : LocalTree) × Follows g r l × IsTrace l (
 abbrev Laden : GlobalTree → List Event → Type 0
 Laden g log = (a b : List ℕ) → (w : List Message) × Carries g a b w × QueuedFrom w a b log
 
-first_step : (g : GlobalTree) (e : Event) (log : List Event) → is_action e ≡ true → Laden g (e ∷ log) → (l k : LocalTree) → Follows g (subject_of e) l → Does l (action_of e) k → (h : GlobalTree) × Transition g e h
+first_step : (g : GlobalTree) (e : Event) (log : List Event) → is_action e ≡ true → Laden g (e ∷ log) → (l k : LocalTree) → Follows g (subject_of e) l → LocalTransition l (action_of e) k → (h : GlobalTree) × Transition g e h
 first_step g (Join r) log i qs l k f dk = absurd (true≢false (sym i))
 first_step g (Sent s q m) log i qs l k f dk = can_send g s q m l k f dk
 first_step g (Received p s m) log i qs l k f dk =

@@ -9,28 +9,28 @@ use Rattle.scrib_types.specs.declared.event.Action.TheVariants.{Sends, Receives}
 use Rattle.scrib_types.specs.declared.local.Local.{Local}
 use Rattle.scrib_types.specs.LocalView.{local_of}
 use Rattle.scrib_types.specs.Trees.{LocalTree, LocalEnd, LocalVar, LocalRec, Send, Recv, LocalBranches}
-use Rattle.scrib_types.specs.Traces.{put, unfolding_of, Does, sends, receives, unfolds, IsTrace}
+use Rattle.scrib_types.specs.Traces.{substitute, unfolding_of, LocalTransition, sends, receives, unfolds, IsTrace}
 use Rattle.scrib_global.specs.Unfolded.{acts_first}
 use Rattle.scrib_global.specs.Steps.{Leaves, Continues}
 use Rattle.scrib_global.proofs.Locals.{does_as, does_one}
 
 -- a variable acts no sooner than what is put in its place
-put_var : (b : Bool) (t : LocalTree) (k : ℕ) → acts_first t ≡ false → acts_first (if b then t else LocalVar k) ≡ false
-put_var true t k h = h
-put_var false t k h = refl
+substitute_var : (b : Bool) (t : LocalTree) (k : ℕ) → acts_first t ≡ false → acts_first (if b then t else LocalVar k) ≡ false
+substitute_var true t k h = h
+substitute_var false t k h = refl
 
-put_acts : (t body : LocalTree) (n : ℕ) → acts_first t ≡ acts_first body → acts_first (put t body n) ≡ acts_first body
-put_acts t LocalEnd n h = refl
-put_acts t (LocalVar k) n h = put_var (k == n) t k h
-put_acts t (LocalRec b) n h = put_acts t b (n + 1) h
-put_acts t (Send q ls) n h = refl
-put_acts t (Recv p ls) n h = refl
+substitute_acts : (t body : LocalTree) (n : ℕ) → acts_first t ≡ acts_first body → acts_first (substitute t body n) ≡ acts_first body
+substitute_acts t LocalEnd n h = refl
+substitute_acts t (LocalVar k) n h = substitute_var (k == n) t k h
+substitute_acts t (LocalRec b) n h = substitute_acts t b (n + 1) h
+substitute_acts t (Send q ls) n h = refl
+substitute_acts t (Recv p ls) n h = refl
 
 -- only what acts first does anything
-does_first : {l k : LocalTree} {a : Action} → Does l a k → acts_first l ≡ true
+does_first : {l k : LocalTree} {a : Action} → LocalTransition l a k → acts_first l ≡ true
 does_first (sends o) = refl
 does_first (receives o) = refl
-does_first (unfolds {body} d) = sym (put_acts (LocalRec body) body 0 refl) ∙ does_first d
+does_first (unfolds {body} d) = sym (substitute_acts (LocalRec body) body 0 refl) ∙ does_first d
 
 -- how many recursions it begins with
 abbrev pub recursions : LocalTree → ℕ
@@ -40,39 +40,39 @@ recursions (LocalRec body) = recursions body + 1
 recursions (Send q ls) = 0
 recursions (Recv p ls) = 0
 
-put_recursions : (t body : LocalTree) (n : ℕ) → acts_first body ≡ true → recursions (put t body n) ≡ recursions body
-put_recursions t LocalEnd n h = absurd (true≢false (sym h))
-put_recursions t (LocalVar k) n h = absurd (true≢false (sym h))
-put_recursions t (LocalRec b) n h = ap (λ i. i + 1) (put_recursions t b (n + 1) h)
-put_recursions t (Send q ls) n h = refl
-put_recursions t (Recv p ls) n h = refl
+substitute_recursions : (t body : LocalTree) (n : ℕ) → acts_first body ≡ true → recursions (substitute t body n) ≡ recursions body
+substitute_recursions t LocalEnd n h = absurd (true≢false (sym h))
+substitute_recursions t (LocalVar k) n h = absurd (true≢false (sym h))
+substitute_recursions t (LocalRec b) n h = ap (λ i. i + 1) (substitute_recursions t b (n + 1) h)
+substitute_recursions t (Send q ls) n h = refl
+substitute_recursions t (Recv p ls) n h = refl
 
 -- unfolding a recursion leaves one leading recursion less
 pub rec_falls : (t u body : LocalTree) → t ≡ LocalRec body → acts_first body ≡ true → u ≡ unfolding_of body → recursions u < recursions t
 rec_falls t u body e h is =
-    let less : recursions (unfolding_of body) < recursions (LocalRec body) = omega (arith, put_recursions (LocalRec body) body 0 h) in
+    let less : recursions (unfolding_of body) < recursions (LocalRec body) = omega (arith, substitute_recursions (LocalRec body) body 0 h) in
     subst (λ x. recursions x < recursions t) (sym is) (subst (λ x. recursions (unfolding_of body) < recursions x) (sym e) less)
 
 -- a recursion that doesn't act first does nothing
 pub rec_idle : (t body : LocalTree) (a : Action) → t ≡ LocalRec body → acts_first body ≡ false → Leaves t a None
-rec_idle t body a e h = λ k d. true≢false (sym (does_first (subst (λ x. Does x a k) e d)) ∙ h)
+rec_idle t body a e h = λ k d. true≢false (sym (does_first (subst (λ x. LocalTransition x a k) e d)) ∙ h)
 
 -- any other does what its unfolding does
 pub rec_leaves : {E : Type 0} (t u body : LocalTree) (a : Action) (r : Result (Option Local) E) → t ≡ LocalRec body → u ≡ unfolding_of body → IfOk r (Leaves u a) → IfOk r (Leaves t a)
-rec_leaves t u body a (Ok None) e is s = λ k d. s k (subst (λ x. Does x a k) (sym is) (does_as (subst (λ x. Does x a k) e d)))
-rec_leaves t u body a (Ok (Some l)) e is s = subst (λ x. Does x a (local_of l)) (sym e) (unfolds (subst (λ x. Does x a (local_of l)) is s))
+rec_leaves t u body a (Ok None) e is s = λ k d. s k (subst (λ x. LocalTransition x a k) (sym is) (does_as (subst (λ x. LocalTransition x a k) e d)))
+rec_leaves t u body a (Ok (Some l)) e is s = subst (λ x. LocalTransition x a (local_of l)) (sym e) (unfolds (subst (λ x. LocalTransition x a (local_of l)) is s))
 rec_leaves t u body a (Err f) e is s = tt
 
 -- a send to q continues as the branch of its message
 pub send_leaves : {E : Type 0} (q r : List ℕ) (ls : LocalBranches) (m : Message) (a : Action) (o : Result (Option Local) E) → a ≡ Sends r m → r ≡ q → IfOk o (Continues ls m) → IfOk o (Leaves (Send q ls) a)
-send_leaves q r ls m a (Ok None) is same h = λ k d. h k (does_as (subst (λ x. Does (Send q ls) x k) is d)).1
-send_leaves q r ls m a (Ok (Some l)) is same h = subst (λ x. Does (Send q ls) x (local_of l)) (sym is) (subst (λ p. Does (Send q ls) (Sends p m) (local_of l)) (sym same) (sends h))
+send_leaves q r ls m a (Ok None) is same h = λ k d. h k (does_as (subst (λ x. LocalTransition (Send q ls) x k) is d)).1
+send_leaves q r ls m a (Ok (Some l)) is same h = subst (λ x. LocalTransition (Send q ls) x (local_of l)) (sym is) (subst (λ p. LocalTransition (Send q ls) (Sends p m) (local_of l)) (sym same) (sends h))
 send_leaves q r ls m a (Err f) is same h = tt
 
 -- a reception from p continues as the branch of its message
 pub recv_leaves : {E : Type 0} (p r : List ℕ) (ls : LocalBranches) (m : Message) (a : Action) (o : Result (Option Local) E) → a ≡ Receives r m → r ≡ p → IfOk o (Continues ls m) → IfOk o (Leaves (Recv p ls) a)
-recv_leaves p r ls m a (Ok None) is same h = λ k d. h k (does_as (subst (λ x. Does (Recv p ls) x k) is d)).1
-recv_leaves p r ls m a (Ok (Some l)) is same h = subst (λ x. Does (Recv p ls) x (local_of l)) (sym is) (subst (λ q. Does (Recv p ls) (Receives q m) (local_of l)) (sym same) (receives h))
+recv_leaves p r ls m a (Ok None) is same h = λ k d. h k (does_as (subst (λ x. LocalTransition (Recv p ls) x k) is d)).1
+recv_leaves p r ls m a (Ok (Some l)) is same h = subst (λ x. LocalTransition (Recv p ls) x (local_of l)) (sym is) (subst (λ q. LocalTransition (Recv p ls) (Receives q m) (local_of l)) (sym same) (receives h))
 recv_leaves p r ls m a (Err f) is same h = tt
 
 -- actions, one after another: the actions from i on are a trace of what is left where all are one of the whole
@@ -82,14 +82,14 @@ Remains left rest l all = IsTrace left rest ↔ IsTrace l all
 actions_from : (acts : List Action) (i : ℕ) (a : Action) → i < length acts → a ≡ get_or acts i a → drop i acts ≡ a ∷ drop (i + 1) acts
 actions_from acts i a n is = rw add-one (drop-cons acts i a n ∙ ap (λ z. z ∷ drop (suc i) acts) (sym is))
 
-pub remains_next : (acts : List Action) (i : ℕ) (a : Action) (left next l : LocalTree) → i < length acts → a ≡ get_or acts i a → Does left a next → Remains left (drop i acts) l acts → Remains next (drop (i + 1) acts) l acts
+pub remains_next : (acts : List Action) (i : ℕ) (a : Action) (left next l : LocalTree) → i < length acts → a ≡ get_or acts i a → LocalTransition left a next → Remains left (drop i acts) l acts → Remains next (drop (i + 1) acts) l acts
 remains_next acts i a left next l n is d inv =
     let from = actions_from acts i a n is in (
       λ t. inv.0 (subst (IsTrace left) (sym from) (next, d, t)),
       λ t. let s : IsTrace left (a ∷ drop (i + 1) acts) = subst (IsTrace left) from (inv.1 t) in subst (λ x. IsTrace x (drop (i + 1) acts)) (does_one s.1 d) s.2,
     )
 
-pub remains_not : (acts : List Action) (i : ℕ) (a : Action) (left l : LocalTree) → i < length acts → a ≡ get_or acts i a → ((k : LocalTree) → Does left a k → ⊥) → Remains left (drop i acts) l acts → IsTrue false ↔ IsTrace l acts
+pub remains_not : (acts : List Action) (i : ℕ) (a : Action) (left l : LocalTree) → i < length acts → a ≡ get_or acts i a → ((k : LocalTree) → LocalTransition left a k → ⊥) → Remains left (drop i acts) l acts → IsTrue false ↔ IsTrace l acts
 remains_not acts i a left l n is d inv = (
   λ t. absurd (true≢false (sym t)),
   λ t. let s : IsTrace left (a ∷ drop (i + 1) acts) = subst (IsTrace left) (actions_from acts i a n is) (inv.1 t) in absurd (d s.0 s.1),

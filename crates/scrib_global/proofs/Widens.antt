@@ -4,7 +4,7 @@ use Rattle.scrib_types.specs.declared.message.Message.{Message}
 use Rattle.scrib_types.specs.declared.event.Action.{Action}
 use Rattle.scrib_types.specs.declared.event.Action.TheVariants.{Join, Sends, Receives}
 use Rattle.scrib_types.specs.Trees.{LocalTree, LocalEnd, LocalVar, LocalRec, Send, Recv, LocalBranches, GlobalBranches}
-use Rattle.scrib_types.specs.Traces.{Offers, Does, receives, IsTrace}
+use Rattle.scrib_types.specs.Traces.{Offers, LocalTransition, receives, IsTrace}
 use Rattle.scrib_types.specs.Merges.{Merges, merges_same, merges_receptions, offers_first, offers_second}
 use Rattle.scrib_global.proofs.Locals.{does_as, offers_one, Alike, alike_refl}
 use Rattle.scrib_global.proofs.Projects.{ProjectMerged, merged_none, merged_one}
@@ -58,7 +58,7 @@ module _ (p : List ℕ) (ls xs : LocalBranches) (f : (m : Message) (k : LocalTre
   more_traces (Sends q m ∷ w) t = absurd (does_as t.1)
   more_traces (Receives q m ∷ w) t =
       let o = does_as t.1 in
-      (t.0, subst (λ x. Does (Recv p ls) (Receives x m) t.0) (sym o.0) (receives (f m t.0 o.1)), t.2)
+      (t.0, subst (λ x. LocalTransition (Recv p ls) (Receives x m) t.0) (sym o.0) (receives (f m t.0 o.1)), t.2)
 
   more_only : (w : List Action) (q : List ℕ) (m : Message) → IsTrace (Recv p xs) w → IsTrace (Recv p ls) (w ++ Sends q m ∷ []) → IsTrace (Recv p xs) (w ++ Sends q m ∷ [])
   more_only [] q m t s = absurd (does_as s.1)

@@ -10,7 +10,7 @@ use Rattle.scrib_types.specs.declared.profile.Profile.TheVariants.{Reception}
 use Rattle.scrib_types.specs.Projection.{projection}
 use Rattle.scrib_types.specs.Agreement.{Agreement}
 use Rattle.scrib_types.specs.Permitted.{IsPermitted}
-use Rattle.scrib_types.specs.Traces.{Does}
+use Rattle.scrib_types.specs.Traces.{LocalTransition}
 use Rattle.scrib_types.specs.Logs.{actions, own_actions, has_joined, AllJoined}
 use Rattle.scrib_types.specs.Queues.{sent, flights}
 use Rattle.scrib_global.specs.Runs.{Run}
@@ -29,7 +29,7 @@ CarriesFlights log state = (w : List Event) → OnPath state w → (p q : List �
 -- the local type k is left of l after these actions
 abbrev pub Leads : LocalTree → List Action → LocalTree → Type 0
 Leads l [] k = l ≡ k
-Leads l (a ∷ w) k = (j : LocalTree) × Does l a j × Leads j w k
+Leads l (a ∷ w) k = (j : LocalTree) × LocalTransition l a j × Leads j w k
 
 -- after the log the role q, which joined, awaits a reception from p
 pub record Awaits (a : Agreement) (log : List Event) (p q : List ℕ) : Type 0 where
@@ -40,7 +40,7 @@ pub record Awaits (a : Agreement) (log : List Event) (p q : List ℕ) : Type 0 w
   pub leads : Leads start (own_actions q log) now
   pub message : Message
   pub next : LocalTree
-  pub receives : Does now (Receives p message) next
+  pub receives : LocalTransition now (Receives p message) next
 
 -- where a role awaits a reception from another that has messages to it in flight, it may receive the oldest
 abbrev pub MayReceiveOldest : Agreement → List Event → Type 0

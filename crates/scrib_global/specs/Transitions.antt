@@ -10,20 +10,20 @@ use Rattle.scrib_types.specs.Logs.{subject_of}
 
 -- the global type t, in which no variable is free, in place of the variable of the n-th recursion outside
 abbrev mutual
-  pub put : GlobalTree → GlobalTree → ℕ → GlobalTree
-  put t GlobalEnd n = GlobalEnd
-  put t (GlobalVar k) n = if k == n then t else GlobalVar k
-  put t (GlobalRec body) n = GlobalRec (put t body (n + 1))
-  put t (Comm p q bs) n = Comm p q (put_all t bs n)
-  put t (Flight p q j bs) n = Flight p q j (put_all t bs n)
+  pub substitute : GlobalTree → GlobalTree → ℕ → GlobalTree
+  substitute t GlobalEnd n = GlobalEnd
+  substitute t (GlobalVar k) n = if k == n then t else GlobalVar k
+  substitute t (GlobalRec body) n = GlobalRec (substitute t body (n + 1))
+  substitute t (Comm p q bs) n = Comm p q (substitute_all t bs n)
+  substitute t (Flight p q j bs) n = Flight p q j (substitute_all t bs n)
 
-  pub put_all : GlobalTree → GlobalBranches → ℕ → GlobalBranches
-  put_all t NoBranch n = NoBranch
-  put_all t (Branch m g bs) n = Branch m (put t g n) (put_all t bs n)
+  pub substitute_all : GlobalTree → GlobalBranches → ℕ → GlobalBranches
+  substitute_all t NoBranch n = NoBranch
+  substitute_all t (Branch m g bs) n = Branch m (substitute t g n) (substitute_all t bs n)
 
 -- the unfolding of a recursion with this body
 abbrev pub unfolding_of : GlobalTree → GlobalTree
-unfolding_of body = put (GlobalRec body) body 0
+unfolding_of body = substitute (GlobalRec body) body 0
 
 -- the j-th branch, from 0, has the message and continues as this
 pub data IsBranch : GlobalBranches → ℕ → Message → GlobalTree → Type 0 where

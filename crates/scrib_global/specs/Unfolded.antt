@@ -1,9 +1,9 @@
--- A recursion put in place of its variable, where variables and depths are counted in machine numbers, and
+-- A recursion substituted for its variable, where variables and depths are counted in machine numbers, and
 -- where a type acts at once (this project's own).
 -- Only contracts of private functions cite this file.
 use Rattle.std.specs.Prelude.{◌≡◌, ℕ, ◌^◌, min, Bool, true, false}
 use Rattle.scrib_types.specs.Trees.{LocalTree, LocalEnd, LocalVar, LocalRec, Send, Recv, LocalBranches}
-use Rattle.scrib_types.specs.Traces.{put, put_all}
+use Rattle.scrib_types.specs.Traces.{substitute, substitute_all}
 
 -- after its leading recursions it sends or receives
 abbrev pub acts_first : LocalTree → Bool
@@ -18,9 +18,9 @@ abbrev pub StandsFor : ℕ → ℕ → Type 0
 StandsFor d n = min d (2 ^ 32) ≡ min n (2 ^ 32)
 
 -- r is l with the recursion of this body in place of the variable of the d-th recursion outside
-abbrev pub Puts : (body l : LocalTree) → ℕ → LocalTree → Type 0
-Puts body l d r = (n : ℕ) → StandsFor d n → r ≡ put (LocalRec body) l n
+abbrev pub Substitutes : (body l : LocalTree) → ℕ → LocalTree → Type 0
+Substitutes body l d r = (n : ℕ) → StandsFor d n → r ≡ substitute (LocalRec body) l n
 
 -- the same of each branch
-abbrev pub PutsAll : LocalTree → LocalBranches → ℕ → LocalBranches → Type 0
-PutsAll body ls d rs = (n : ℕ) → StandsFor d n → rs ≡ put_all (LocalRec body) ls n
+abbrev pub SubstitutesAll : LocalTree → LocalBranches → ℕ → LocalBranches → Type 0
+SubstitutesAll body ls d rs = (n : ℕ) → StandsFor d n → rs ≡ substitute_all (LocalRec body) ls n

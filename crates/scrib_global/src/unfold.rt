@@ -29,14 +29,14 @@ pub fn acts_first(local: &Local) -> bool
 pub fn unfold(alloc: Global, body: &Local) -> Result<Local, AllocError>
     ensures { IfOk result (λ l. local_of l ≡ unfolding_of (local_of body.now)) }
 {
-    put(alloc, body, 0, body)
+    substitute(alloc, body, 0, body)
 }
 
 /// The type with the recursion of this body in place of the variable of the `depth`-th recursion outside.
-#[cycle(put)]
+#[cycle(substitute)]
 #[tactic(auto, using(scrib_types::specs::LocalView::local_views))]
-fn put(alloc: Global, local: &Local, depth: u64, body: &Local) -> Result<Local, AllocError>
-    ensures { IfOk result (λ l. unfolded.Puts (local_of body.now) (local_of local.now) depth (local_of l)) }
+fn substitute(alloc: Global, local: &Local, depth: u64, body: &Local) -> Result<Local, AllocError>
+    ensures { IfOk result (λ l. unfolded.Substitutes (local_of body.now) (local_of local.now) depth (local_of l)) }
 {
     match local {
         Local::End => Ok(Local::End),
@@ -48,37 +48,37 @@ fn put(alloc: Global, local: &Local, depth: u64, body: &Local) -> Result<Local, 
             Ok(Local::Rec(Boxed::new(alloc, body)?))
         }
         Local::Rec(inner) => {
-            let inner = put(alloc, inner.get(), depth.saturating_add(1), body)?;
+            let inner = substitute(alloc, inner.get(), depth.saturating_add(1), body)?;
             Ok(Local::Rec(Boxed::new(alloc, inner)?))
         }
         Local::Send { to, branches } => {
             let to = to.copy()?;
-            let branches = put_all(alloc, branches.as_slice(), depth, body)?;
+            let branches = substitute_all(alloc, branches.as_slice(), depth, body)?;
             let branches = Items::from_vec(branches);
             Ok(Local::Send { to, branches })
         }
         Local::Recv { from, branches } => {
             let from = from.copy()?;
-            let branches = put_all(alloc, branches.as_slice(), depth, body)?;
+            let branches = substitute_all(alloc, branches.as_slice(), depth, body)?;
             let branches = Items::from_vec(branches);
             Ok(Local::Recv { from, branches })
         }
     }
 }
 
-#[cycle(put)]
-fn put_all(
+#[cycle(substitute)]
+fn substitute_all(
     alloc: Global,
     branches: &[(SharedMessage, Local)],
     depth: u64,
     body: &Local,
 ) -> Result<Vec<(SharedMessage, Local)>, AllocError>
     ensures { IfOk result
-        (λ v. unfolded.PutsAll (local_of body.now) (local_branches branches.now) depth (local_branches v.items)) }
+        (λ v. unfolded.SubstitutesAll (local_of body.now) (local_branches branches.now) depth (local_branches v.items)) }
 {
     let mut done = Vec::new(alloc);
     for (message, local) in branches {
-        let local = put(alloc, local, depth, body)?;
+        let local = substitute(alloc, local, depth, body)?;
         let message = message.copy()?;
         done.push((message, local))?;
     }

@@ -8,7 +8,7 @@ use Rattle.scrib_types.specs.declared.event.Action.TheVariants.{Sends, Receives}
 use Rattle.scrib_types.specs.declared.message.Message.{Message}
 use Rattle.scrib_types.specs.Judgement.{ComesBefore}
 use Rattle.scrib_types.specs.Trees.{LocalTree, LocalEnd, LocalVar, LocalRec, Send, Recv, LocalBranches, NoChoice, Choice}
-use Rattle.scrib_types.specs.Traces.{unfolding_of, Offers, Does, sends, receives, unfolds}
+use Rattle.scrib_types.specs.Traces.{unfolding_of, Offers, LocalTransition, sends, receives, unfolds}
 use Rattle.scrib_machine.specs.declared.machine.Edge.{Edge}
 use Rattle.scrib_machine.specs.Machines.{Steps, IsMachine, UnfoldsTo, as_is, unfolded, IsSystemOf}
 use Rattle.scrib_machine.specs.Compilable.{Closed, ClosedAll, LeadsToChoice, Guarded, GuardedAll, Lacks, Differ, Distinct, DistinctAll, IsCompilable}
@@ -240,18 +240,18 @@ row_steps m n f ls ks row a j s =
 record IsRight (m : List (List Edge)) (T : ℕ → LocalTree) (i : ℕ) : Type 0 where
   sorted : (es : List Edge) → slice_get m i ≡ Some es → AllPairs ComesBefore (actions_of es)
   closed : Closed (T i) 0
-  sound : (a : Action) (j : ℕ) → Steps m i a j → (k : LocalTree) × Does (T i) a k × Begins m T k j
-  complete : (a : Action) (k : LocalTree) → Does (T i) a k → (j : ℕ) × Steps m i a j × UnfoldsTo k (T j)
+  sound : (a : Action) (j : ℕ) → Steps m i a j → (k : LocalTree) × LocalTransition (T i) a k × Begins m T k j
+  complete : (a : Action) (k : LocalTree) → LocalTransition (T i) a k → (j : ℕ) × Steps m i a j × UnfoldsTo k (T j)
 
 -- what a tree of a known form does
 abbrev DoesAs : LocalTree → Action → LocalTree → Type 0
 DoesAs LocalEnd a k = ⊥
 DoesAs (LocalVar n) a k = ⊥
-DoesAs (LocalRec body) a k = Does (unfolding_of body) a k
+DoesAs (LocalRec body) a k = LocalTransition (unfolding_of body) a k
 DoesAs (Send q ls) a k = (m : Message) × (a ≡ Sends q m) × Offers ls m k
 DoesAs (Recv p ls) a k = (m : Message) × (a ≡ Receives p m) × Offers ls m k
 
-does_as : {l k : LocalTree} {a : Action} → Does l a k → DoesAs l a k
+does_as : {l k : LocalTree} {a : Action} → LocalTransition l a k → DoesAs l a k
 does_as (sends {m} o) = (m, refl, o)
 does_as (receives {m} o) = (m, refl, o)
 does_as (unfolds d) = d
@@ -263,7 +263,7 @@ end_right m T n at type =
       sorted = λ es here. subst (λ (xs : List Edge). AllPairs ComesBefore (actions_of xs)) (none es here) (λ i j d lt h. absurd (omega (arith, h)));
       closed = subst (λ x. Closed x 0) (sym type) tt;
       sound = λ a j s. absurd (let there = subst (λ (es : List Edge). Contains es (record { action = a; next = j })) (sym (none s.edges s.here)) s.there in omega (arith, there.1));
-      complete = λ a k d. absurd (does_as (subst (λ x. Does x a k) type d));
+      complete = λ a k d. absurd (does_as (subst (λ x. LocalTransition x a k) type d));
     }
 
 send_right : (m : List (List Edge)) (T : ℕ → LocalTree) (env : List ℕ) (ss : List LocalTree) (q : List ℕ) (ls : LocalBranches) (n : ℕ) (ks : List ℕ) → Bound m T env ss → ClosedAll ls (length ss) → GuardedAll ls → Differ ls → LaidAll m env ls (n + 1) ks → IsRow m n (Sends q) ls ks → Gives T n (types ss (Send q ls)) → IsRight m T n
@@ -275,9 +275,9 @@ send_right m T env ss q ls n ks b c d v w row g =
       sound = λ a j s.
           let at = row_steps m n (Sends q) ls ks row a j s in
           let o = edge_offer m T env ss (Sends q) ls (n + 1) ks b c d v w g.1 a j at.0 at.1 at.2 in
-          (o.after, subst (λ x. Does x a o.after) (sym g.0) (subst (λ x. Does choice x o.after) (sym o.is) (sends o.offers)), o.begins);
+          (o.after, subst (λ x. LocalTransition x a o.after) (sym g.0) (subst (λ x. LocalTransition choice x o.after) (sym o.is) (sends o.offers)), o.begins);
       complete = λ a k does.
-          let o = does_as (subst (λ x. Does x a k) g.0 does) in
+          let o = does_as (subst (λ x. LocalTransition x a k) g.0 does) in
           let e = offer_edge m T env ss (Sends q) ls (n + 1) ks b c d w g.1 o.0 k o.2 in
           (e.next, subst (λ x. Steps m n x e.next) (sym o.1) (steps_row m n (Sends q) ls ks row (Sends q o.0) e.next e.there), e.begins.type);
     }
@@ -291,9 +291,9 @@ recv_right m T env ss p ls n ks b c d v w row g =
       sound = λ a j s.
           let at = row_steps m n (Receives p) ls ks row a j s in
           let o = edge_offer m T env ss (Receives p) ls (n + 1) ks b c d v w g.1 a j at.0 at.1 at.2 in
-          (o.after, subst (λ x. Does x a o.after) (sym g.0) (subst (λ x. Does choice x o.after) (sym o.is) (receives o.offers)), o.begins);
+          (o.after, subst (λ x. LocalTransition x a o.after) (sym g.0) (subst (λ x. LocalTransition choice x o.after) (sym o.is) (receives o.offers)), o.begins);
       complete = λ a k does.
-          let o = does_as (subst (λ x. Does x a k) g.0 does) in
+          let o = does_as (subst (λ x. LocalTransition x a k) g.0 does) in
           let e = offer_edge m T env ss (Receives p) ls (n + 1) ks b c d w g.1 o.0 k o.2 in
           (e.next, subst (λ x. Steps m n x e.next) (sym o.1) (steps_row m n (Receives p) ls ks row (Receives p o.0) e.next e.there), e.begins.type);
     }

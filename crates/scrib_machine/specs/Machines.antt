@@ -4,7 +4,7 @@ use Rattle.std.specs.Prelude.{◌≡◌, ◌↔◌, ◌<◌, ℕ, List, [], ◌�
 use Rattle.scrib_types.specs.declared.event.Action.{Action}
 use Rattle.scrib_types.specs.Judgement.{ComesBefore}
 use Rattle.scrib_types.specs.Trees.{LocalTree, LocalRec}
-use Rattle.scrib_types.specs.Traces.{unfolding_of, Does, IsTrace}
+use Rattle.scrib_types.specs.Traces.{unfolding_of, LocalTransition, IsTrace}
 use Rattle.scrib_machine.specs.declared.machine.Edge.{Edge}
 use Rattle.scrib_machine.specs.Compilable.{Closed}
 
@@ -33,8 +33,8 @@ pub record IsSystemOf (l : LocalTree) (m : List (List Edge)) : Type 0 where
   pub type_of : ℕ → LocalTree
   pub closed : (i : ℕ) → i < length m → Closed (type_of i) 0
   pub first : UnfoldsTo l (type_of 0)
-  pub sound : (i j : ℕ) (a : Action) → Steps m i a j → (k : LocalTree) × Does (type_of i) a k × UnfoldsTo k (type_of j)
-  pub complete : (i : ℕ) (a : Action) (k : LocalTree) → i < length m → Does (type_of i) a k → (j : ℕ) × Steps m i a j × UnfoldsTo k (type_of j)
+  pub sound : (i j : ℕ) (a : Action) → Steps m i a j → (k : LocalTree) × LocalTransition (type_of i) a k × UnfoldsTo k (type_of j)
+  pub complete : (i : ℕ) (a : Action) (k : LocalTree) → i < length m → LocalTransition (type_of i) a k → (j : ℕ) × Steps m i a j × UnfoldsTo k (type_of j)
 
 -- from state i the actions, one after another, lead to state j
 abbrev pub Path : List (List Edge) → ℕ → List Action → ℕ → Type 0

@@ -6,15 +6,15 @@ use Rattle.std.proofs.lemmas.List.{get_or_default, get_or-map, length-map}
 use Rattle.scrib_types.specs.declared.event.Action.{Action}
 use Rattle.scrib_types.specs.Judgement.{ComesBefore}
 use Rattle.scrib_types.specs.Trees.{LocalTree, LocalRec}
-use Rattle.scrib_types.specs.Traces.{unfolding_of, Does, unfolds, IsTrace}
+use Rattle.scrib_types.specs.Traces.{unfolding_of, LocalTransition, unfolds, IsTrace}
 use Rattle.scrib_machine.specs.declared.machine.Edge.{Edge}
 use Rattle.scrib_machine.specs.Machines.{Steps, Path, UnfoldsTo, as_is, unfolded, IsSystemOf, Follows, IsMachine}
 
-unfolding_does : {body k : LocalTree} {a : Action} → Does (LocalRec body) a k → Does (unfolding_of body) a k
+unfolding_does : {body k : LocalTree} {a : Action} → LocalTransition (LocalRec body) a k → LocalTransition (unfolding_of body) a k
 unfolding_does (unfolds d) = d
 
 -- a local type makes the transitions of its unfoldings
-same_steps : {l k : LocalTree} → UnfoldsTo l k → (a : Action) (t : LocalTree) → Does l a t ↔ Does k a t
+same_steps : {l k : LocalTree} → UnfoldsTo l k → (a : Action) (t : LocalTree) → LocalTransition l a t ↔ LocalTransition k a t
 same_steps as_is a t = (λ d. d, λ d. d)
 same_steps (unfolded u) a t = let same = same_steps u a t in (λ d. same.0 (unfolding_does d), λ d. unfolds (same.1 d))
 

@@ -10,7 +10,7 @@ pub mod Partners
 pub mod Advancing
 pub mod Options
 pub mod Stamps
-pub mod Kept
+pub mod VerdictsKept
 pub mod Stepping
 pub mod Telling
 pub mod ReadOnce

@@ -8,7 +8,7 @@ use Rattle.scrib_types.specs.declared.event.Action.TheVariants.{Join, Sends, Rec
 use Rattle.scrib_types.specs.declared.event.Event.{Event}
 use Rattle.scrib_types.specs.Agreement.{Agreement}
 use Rattle.scrib_types.specs.Logs.{own_actions}
-use Rattle.scrib_types.specs.Traces.{put, put_all, Offers, Does, sends, receives, unfolds, IsTrace}
+use Rattle.scrib_types.specs.Traces.{substitute, substitute_all, Offers, LocalTransition, sends, receives, unfolds, IsTrace}
 use Rattle.scrib_types.specs.Merges.{Merges, merges_same, merges_receptions, kept_all}
 use Rattle.scrib_types.specs.Trees.{GlobalTree, GlobalBranches, Branch, Comm, LocalTree, LocalEnd, LocalVar, LocalRec, Send, Recv, LocalBranches, NoChoice, Choice}
 use Rattle.scrib_types.specs.WellFormed.{has_role, has_branches, distinct_operators, leads_to_communication, uses, well_formed, branches_well_formed}
@@ -76,30 +76,30 @@ mutual
       let w = and_parts (well_formed rs g) (branches_well_formed rs bs) f in among_merged rs r pm (merges_among rs m h (among rs r p w.0)) w.1
 
 mutual
-  among_put : (rs : List (List ℕ)) (l k : LocalTree) (n : ℕ) → Among rs l → Among rs k → Among rs (put l k n)
-  among_put rs l LocalEnd n h j = tt
-  among_put rs l (LocalVar k) n h j =
+  among_substitute : (rs : List (List ℕ)) (l k : LocalTree) (n : ℕ) → Among rs l → Among rs k → Among rs (substitute l k n)
+  among_substitute rs l LocalEnd n h j = tt
+  among_substitute rs l (LocalVar k) n h j =
       elim (cases_Bool (k == n)) [
         | inl b ↦ subst (λ x. Among rs (if x then l else LocalVar k)) (sym b) h
         | inr b ↦ subst (λ x. Among rs (if x then l else LocalVar k)) (sym b) tt
       ]
-  among_put rs l (LocalRec body) n h j = among_put rs l body (n + 1) h j
-  among_put rs l (Send q ls) n h j = (j.0, among_put_all rs l ls n h j.1)
-  among_put rs l (Recv p ls) n h j = (j.0, among_put_all rs l ls n h j.1)
+  among_substitute rs l (LocalRec body) n h j = among_substitute rs l body (n + 1) h j
+  among_substitute rs l (Send q ls) n h j = (j.0, among_substitute_all rs l ls n h j.1)
+  among_substitute rs l (Recv p ls) n h j = (j.0, among_substitute_all rs l ls n h j.1)
 
-  among_put_all : (rs : List (List ℕ)) (l : LocalTree) (ls : LocalBranches) (n : ℕ) → Among rs l → AmongAll rs ls → AmongAll rs (put_all l ls n)
-  among_put_all rs l NoChoice n h j = tt
-  among_put_all rs l (Choice m k ls) n h j = (among_put rs l k n h j.0, among_put_all rs l ls n h j.1)
+  among_substitute_all : (rs : List (List ℕ)) (l : LocalTree) (ls : LocalBranches) (n : ℕ) → Among rs l → AmongAll rs ls → AmongAll rs (substitute_all l ls n)
+  among_substitute_all rs l NoChoice n h j = tt
+  among_substitute_all rs l (Choice m k ls) n h j = (among_substitute rs l k n h j.0, among_substitute_all rs l ls n h j.1)
 
 among_offers : (rs : List (List ℕ)) (ls : LocalBranches) (m : Message) (l : LocalTree) → Offers ls m l → AmongAll rs ls → Among rs l
 among_offers rs NoChoice m l o j = absurd o
 among_offers rs (Choice n k ls) m l (inl o) j = subst (Among rs) (sym o.1) j.0
 among_offers rs (Choice n k ls) m l (inr o) j = among_offers rs ls m l o.1 j.1
 
-among_does : (rs : List (List ℕ)) {l k : LocalTree} {a : Action} → Does l a k → Among rs l → IsAmong rs a × Among rs k
+among_does : (rs : List (List ℕ)) {l k : LocalTree} {a : Action} → LocalTransition l a k → Among rs l → IsAmong rs a × Among rs k
 among_does rs (sends {q} {m} {ls} {l} o) j = (j.0, among_offers rs ls m l o j.1)
 among_does rs (receives {p} {m} {ls} {l} o) j = (j.0, among_offers rs ls m l o j.1)
-among_does rs (unfolds {body = body} d) j = among_does rs d (among_put rs (LocalRec body) body 0 j j)
+among_does rs (unfolds {body = body} d) j = among_does rs d (among_substitute rs (LocalRec body) body 0 j j)
 
 among_last : (rs : List (List ℕ)) (w : List Action) (l : LocalTree) (a : Action) → IsTrace l (w ++ a ∷ []) → Among rs l → IsAmong rs a
 among_last rs [] l a t j = (among_does rs t.1 j).0

@@ -20,7 +20,7 @@ use Rattle.scrib_record.specs.Judgings.{Keeps, IsKept, IsJudgedOn, IsFurther, Ru
 use Rattle.scrib_record.specs.Stale.{is_final}
 use Rattle.scrib_record.specs.Versions.{meaning_of}
 use Rattle.scrib_record.proofs.Following.{may_follow}
-use Rattle.scrib_record.proofs.Kept.{throughout_all, kept_all, kept_open, kept_whole, reached_all}
+use Rattle.scrib_record.proofs.VerdictsKept.{throughout_all, kept_all, kept_open, kept_whole, reached_all}
 
 pub on_err : {X E : Type 0} (r : Result X E) (P : Type 0) → P → OnErr r P
 on_err (Ok x) P p = tt

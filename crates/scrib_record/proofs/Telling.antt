@@ -15,7 +15,7 @@ use Rattle.scrib_record.specs.Judgings.{IsKept, IsJudgedOn, IsTurnedTo}
 use Rattle.scrib_record.specs.Stale.{Recorded, is_present, is_final, is_stale}
 use Rattle.scrib_record.specs.Told.{IsTold, IsNoted, IsTurned}
 use Rattle.scrib_record.specs.Versions.{meaning_of}
-use Rattle.scrib_record.proofs.Kept.{fresh_judges}
+use Rattle.scrib_record.proofs.VerdictsKept.{fresh_judges}
 use Rattle.scrib_record.proofs.Stamps.{of_one_stamp}
 
 -- what contracts see of a record

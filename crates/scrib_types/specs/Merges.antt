@@ -9,7 +9,7 @@ use Rattle.scrib_types.specs.declared.profile.Profile.TheVariants.{Reception}
 use Rattle.scrib_types.specs.Trees.{LocalTree, LocalEnd, LocalVar, LocalRec, Send, Recv, LocalBranches, NoChoice, Choice}
 use Rattle.scrib_types.specs.Same.{same_operator, same_message, same_message-equal, same_local, same_local-equal}
 use Rattle.scrib_types.specs.Projection.{with_alternative, alternatives, joined_from, joined_receptions, merged_two}
-use Rattle.scrib_types.specs.Traces.{put, put_all, Offers}
+use Rattle.scrib_types.specs.Traces.{substitute, substitute_all, Offers}
 
 -- alternatives, and one more
 pub data WithOne : Message → LocalTree → LocalBranches → LocalBranches → Type 0 where
@@ -127,16 +127,16 @@ offers_second (all_more {m} {l} {js} w a) n k (inl o) =
     offers_first a n k (subst (λ x. Offers js x k) (sym o.0) (subst (λ x. Offers js m x) (sym o.1) (offers_new w)))
 offers_second (all_more w a) n k (inr o) = offers_second a n k o.1
 
--- a local type put for a variable
-put_one : (t : LocalTree) (i : ℕ) {m : Message} {l : LocalTree} {ks js : LocalBranches} → WithOne m l ks js → WithOne m (put t l i) (put_all t ks i) (put_all t js i)
-put_one t i one_new = one_new
-put_one t i one_known = one_known
-put_one t i (one_later ne w) = one_later ne (put_one t i w)
+-- a local type substituted for a variable
+substitute_one : (t : LocalTree) (i : ℕ) {m : Message} {l : LocalTree} {ks js : LocalBranches} → WithOne m l ks js → WithOne m (substitute t l i) (substitute_all t ks i) (substitute_all t js i)
+substitute_one t i one_new = one_new
+substitute_one t i one_known = one_known
+substitute_one t i (one_later ne w) = one_later ne (substitute_one t i w)
 
-put_with : (t : LocalTree) (i : ℕ) {ks ls js : LocalBranches} → WithAll ks ls js → WithAll (put_all t ks i) (put_all t ls i) (put_all t js i)
-put_with t i all_none = all_none
-put_with t i (all_more w a) = all_more (put_one t i w) (put_with t i a)
+substitute_with : (t : LocalTree) (i : ℕ) {ks ls js : LocalBranches} → WithAll ks ls js → WithAll (substitute_all t ks i) (substitute_all t ls i) (substitute_all t js i)
+substitute_with t i all_none = all_none
+substitute_with t i (all_more w a) = all_more (substitute_one t i w) (substitute_with t i a)
 
-pub merges_put : (t : LocalTree) (i : ℕ) {a b c : LocalTree} → Merges a b c → Merges (put t a i) (put t b i) (put t c i)
-merges_put t i merges_same = merges_same
-merges_put t i (merges_receptions w) = merges_receptions (put_with t i w)
+pub merges_substitute : (t : LocalTree) (i : ℕ) {a b c : LocalTree} → Merges a b c → Merges (substitute t a i) (substitute t b i) (substitute t c i)
+merges_substitute t i merges_same = merges_same
+merges_substitute t i (merges_receptions w) = merges_receptions (substitute_with t i w)

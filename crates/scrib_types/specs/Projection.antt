@@ -1,7 +1,7 @@
 -- The projection of a global type on a role, by plain merge (Honda, Yoshida and Carbone, POPL 2008) or by a merge of
 -- receptions (as in Deniélou and Yoshida, ICALP 2013; that equal messages continue as the same, and the rows for
 -- recursions, are this project's own). It is partial.
-use Rattle.std.specs.Prelude.{ℕ, ◌+◌, ◌-◌, max, Bool, true, false, ◌&&◌, ◌||◌, not, ◌==◌, List, Option, Some, None, option_map, option_and_then, if◌then◌else◌}
+use Rattle.std.specs.Prelude.{ℕ, ◌+◌, ◌-◌, max, Bool, false, ◌&&◌, ◌||◌, not, ◌==◌, List, Option, Some, None, option_map, option_and_then, if◌then◌else◌}
 use Rattle.std.specs.Str.{bytes_eq}
 use Rattle.scrib_types.specs.declared.message.Message.{Message}
 use Rattle.scrib_types.specs.declared.profile.Profile.{Profile}

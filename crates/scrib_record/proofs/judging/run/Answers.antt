@@ -4,7 +4,7 @@ use Rattle.scrib_record.specs.Configurations.{IsNext}
 use Rattle.scrib_record.specs.Following.{MayFollow}
 use Rattle.scrib_record.specs.Judgings.{Runs}
 use Rattle.scrib_record.specs.Versions.{meaning_of}
-use Rattle.scrib_record.proofs.Kept.{runs_none, runs_more, runs_stop, at_is}
+use Rattle.scrib_record.proofs.VerdictsKept.{runs_none, runs_more, runs_stop, at_is}
 use Rattle.scrib_record.proofs.Standing.{stands_same}
 use Rattle.scrib_record.proofs.judging.run.Goals as goal
 

@@ -2,7 +2,7 @@ use Rattle.std.proofs.Common.{◌-◌, ◌==◌, refl, take, drop, subst, ap, le
 use Rattle.std.proofs.lemmas.Bool.Decides.{Decides-eqb}
 use Rattle.scrib_types.specs.declared.event.Told.TheVariants.{Judged}
 use Rattle.scrib_record.specs.Judgings.{RunsFrom}
-use Rattle.scrib_record.proofs.Kept.{kept_open}
+use Rattle.scrib_record.proofs.VerdictsKept.{kept_open}
 use Rattle.scrib_record.proofs.Stepping.{IsPart, on_err, further_all, further_refused, stopped_short}
 use Rattle.scrib_record.proofs.judging.Judging.go_on.Goals as goal
 

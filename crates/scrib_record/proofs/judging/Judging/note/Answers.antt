@@ -4,7 +4,7 @@ use Rattle.scrib_types.specs.declared.event.Verdict.{Verdict}
 use Rattle.scrib_record.specs.Configurations.{IsNext}
 use Rattle.scrib_record.specs.Judgings.{Keeps}
 use Rattle.scrib_record.specs.Versions.{meaning_of}
-use Rattle.scrib_record.proofs.Kept.{kept_whole, keeps_next}
+use Rattle.scrib_record.proofs.VerdictsKept.{kept_whole, keeps_next}
 use Rattle.scrib_record.proofs.Stepping.{on_err, judged_on, kept_again}
 use Rattle.scrib_record.proofs.judging.Judging.note.Goals as goal
 

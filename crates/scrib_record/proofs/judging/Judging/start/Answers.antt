@@ -1,4 +1,4 @@
-use Rattle.scrib_record.proofs.Kept.{kept_start}
+use Rattle.scrib_record.proofs.VerdictsKept.{kept_start}
 use Rattle.scrib_record.proofs.judging.Judging.start.Goals as goal
 
 pub returns-clause-kept : goal.returns-clause-kept

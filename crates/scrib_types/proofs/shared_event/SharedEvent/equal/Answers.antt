@@ -1,4 +1,3 @@
-use Rattle.std.proofs.Common.{◌≡◌}
 use Rattle.scrib_types.proofs.ReadOnce.{same_event}
 use Rattle.scrib_types.proofs.shared_event.SharedEvent.equal.Goals as goal
 

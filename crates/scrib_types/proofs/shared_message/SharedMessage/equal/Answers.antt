@@ -1,4 +1,3 @@
-use Rattle.std.proofs.Common.{◌≡◌}
 use Rattle.scrib_types.proofs.ReadOnce.{same_message}
 use Rattle.scrib_types.proofs.shared_message.SharedMessage.equal.Goals as goal
 

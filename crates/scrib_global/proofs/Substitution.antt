@@ -1,10 +1,10 @@
--- Global types: what is known of those of a protocol, and a closed one put for a variable.
+-- Global types: what is known of those of a protocol, and a closed one substituted for a variable.
 use Rattle.std.proofs.Common.{◌≡◌, ◌≢◌, Bool, true, false, ℕ, ◌+◌, ◌<◌, ◌≤◌, ◌==◌, List, if◌then◌else◌, refl, sym, ap, ap₂, ◌∙◌, arith}
 use Rattle.std.proofs.lemmas.Bool.{true≢false}
 use Rattle.std.proofs.lemmas.Bool.Decides.{Decides-eqb}
 use Rattle.scrib_types.specs.declared.message.Message.{Message}
 use Rattle.scrib_types.specs.Trees.{GlobalTree, GlobalEnd, GlobalVar, GlobalRec, Comm, Flight, GlobalBranches, NoBranch, Branch}
-use Rattle.scrib_global.specs.Transitions.{put, put_all, unfolding_of}
+use Rattle.scrib_global.specs.Transitions.{substitute, substitute_all, unfolding_of}
 
 -- n recursions round it bind all its variables
 abbrev mutual
@@ -81,101 +81,101 @@ closed_var t i n ct c true e = closed_more t 0 n (omega arith) ct
 closed_var t i n ct c false e = let ne = nat_not i n e in omega arith
 
 mutual
-  pub closed_put : (t : GlobalTree) → Closed t 0 → (g : GlobalTree) (n : ℕ) → Closed g (n + 1) → Closed (put t g n) n
-  closed_put t ct GlobalEnd n c = tt
-  closed_put t ct (GlobalVar i) n c = closed_var t i n ct c (i == n) refl
-  closed_put t ct (GlobalRec g) n c = closed_put t ct g (n + 1) c
-  closed_put t ct (Comm p q bs) n c = closed_put_all t ct bs n c
-  closed_put t ct (Flight p q j bs) n c = closed_put_all t ct bs n c
+  pub closed_substitute : (t : GlobalTree) → Closed t 0 → (g : GlobalTree) (n : ℕ) → Closed g (n + 1) → Closed (substitute t g n) n
+  closed_substitute t ct GlobalEnd n c = tt
+  closed_substitute t ct (GlobalVar i) n c = closed_var t i n ct c (i == n) refl
+  closed_substitute t ct (GlobalRec g) n c = closed_substitute t ct g (n + 1) c
+  closed_substitute t ct (Comm p q bs) n c = closed_substitute_all t ct bs n c
+  closed_substitute t ct (Flight p q j bs) n c = closed_substitute_all t ct bs n c
 
-  pub closed_put_all : (t : GlobalTree) → Closed t 0 → (bs : GlobalBranches) (n : ℕ) → ClosedAll bs (n + 1) → ClosedAll (put_all t bs n) n
-  closed_put_all t ct NoBranch n c = tt
-  closed_put_all t ct (Branch m g bs) n c = (closed_put t ct g n c.0, closed_put_all t ct bs n c.1)
+  pub closed_substitute_all : (t : GlobalTree) → Closed t 0 → (bs : GlobalBranches) (n : ℕ) → ClosedAll bs (n + 1) → ClosedAll (substitute_all t bs n) n
+  closed_substitute_all t ct NoBranch n c = tt
+  closed_substitute_all t ct (Branch m g bs) n c = (closed_substitute t ct g n c.0, closed_substitute_all t ct bs n c.1)
 
 absent_var : (r : List ℕ) (t : GlobalTree) (i : ℕ) → Absent r t → (b : Bool) → Absent r (if b then t else GlobalVar i)
 absent_var r t i a true = a
 absent_var r t i a false = tt
 
 mutual
-  pub absent_put : (r : List ℕ) (t : GlobalTree) → Absent r t → (g : GlobalTree) (n : ℕ) → Absent r g → Absent r (put t g n)
-  absent_put r t at GlobalEnd n a = tt
-  absent_put r t at (GlobalVar i) n a = absent_var r t i at (i == n)
-  absent_put r t at (GlobalRec g) n a = absent_put r t at g (n + 1) a
-  absent_put r t at (Comm p q bs) n a = (a.0, a.1, absent_put_all r t at bs n a.2)
-  absent_put r t at (Flight p q j bs) n a = (a.0, a.1, absent_put_all r t at bs n a.2)
+  pub absent_substitute : (r : List ℕ) (t : GlobalTree) → Absent r t → (g : GlobalTree) (n : ℕ) → Absent r g → Absent r (substitute t g n)
+  absent_substitute r t at GlobalEnd n a = tt
+  absent_substitute r t at (GlobalVar i) n a = absent_var r t i at (i == n)
+  absent_substitute r t at (GlobalRec g) n a = absent_substitute r t at g (n + 1) a
+  absent_substitute r t at (Comm p q bs) n a = (a.0, a.1, absent_substitute_all r t at bs n a.2)
+  absent_substitute r t at (Flight p q j bs) n a = (a.0, a.1, absent_substitute_all r t at bs n a.2)
 
-  pub absent_put_all : (r : List ℕ) (t : GlobalTree) → Absent r t → (bs : GlobalBranches) (n : ℕ) → AbsentAll r bs → AbsentAll r (put_all t bs n)
-  absent_put_all r t at NoBranch n a = tt
-  absent_put_all r t at (Branch m g bs) n a = (absent_put r t at g n a.0, absent_put_all r t at bs n a.1)
+  pub absent_substitute_all : (r : List ℕ) (t : GlobalTree) → Absent r t → (bs : GlobalBranches) (n : ℕ) → AbsentAll r bs → AbsentAll r (substitute_all t bs n)
+  absent_substitute_all r t at NoBranch n a = tt
+  absent_substitute_all r t at (Branch m g bs) n a = (absent_substitute r t at g n a.0, absent_substitute_all r t at bs n a.1)
 
--- a role of t that is not in the result: t was put nowhere
+-- a role of t that is not in the result: t was substituted nowhere
 same_var : (r : List ℕ) (t : GlobalTree) (i : ℕ) → (Absent r t → ⊥) → (b : Bool) → Absent r (if b then t else GlobalVar i) → (if b then t else GlobalVar i) ≡ GlobalVar i
 same_var r t i h true a = absurd (h a)
 same_var r t i h false a = refl
 
 mutual
-  pub same_put : (r : List ℕ) (t : GlobalTree) → (Absent r t → ⊥) → (g : GlobalTree) (n : ℕ) → Absent r (put t g n) → put t g n ≡ g
-  same_put r t h GlobalEnd n a = refl
-  same_put r t h (GlobalVar i) n a = same_var r t i h (i == n) a
-  same_put r t h (GlobalRec g) n a = ap GlobalRec (same_put r t h g (n + 1) a)
-  same_put r t h (Comm p q bs) n a = ap (Comm p q) (same_put_all r t h bs n a.2)
-  same_put r t h (Flight p q j bs) n a = ap (Flight p q j) (same_put_all r t h bs n a.2)
+  pub same_substitute : (r : List ℕ) (t : GlobalTree) → (Absent r t → ⊥) → (g : GlobalTree) (n : ℕ) → Absent r (substitute t g n) → substitute t g n ≡ g
+  same_substitute r t h GlobalEnd n a = refl
+  same_substitute r t h (GlobalVar i) n a = same_var r t i h (i == n) a
+  same_substitute r t h (GlobalRec g) n a = ap GlobalRec (same_substitute r t h g (n + 1) a)
+  same_substitute r t h (Comm p q bs) n a = ap (Comm p q) (same_substitute_all r t h bs n a.2)
+  same_substitute r t h (Flight p q j bs) n a = ap (Flight p q j) (same_substitute_all r t h bs n a.2)
 
-  pub same_put_all : (r : List ℕ) (t : GlobalTree) → (Absent r t → ⊥) → (bs : GlobalBranches) (n : ℕ) → AbsentAll r (put_all t bs n) → put_all t bs n ≡ bs
-  same_put_all r t h NoBranch n a = refl
-  same_put_all r t h (Branch m g bs) n a = ap₂ (Branch m) (same_put r t h g n a.0) (same_put_all r t h bs n a.1)
+  pub same_substitute_all : (r : List ℕ) (t : GlobalTree) → (Absent r t → ⊥) → (bs : GlobalBranches) (n : ℕ) → AbsentAll r (substitute_all t bs n) → substitute_all t bs n ≡ bs
+  same_substitute_all r t h NoBranch n a = refl
+  same_substitute_all r t h (Branch m g bs) n a = ap₂ (Branch m) (same_substitute r t h g n a.0) (same_substitute_all r t h bs n a.1)
 
--- nothing is put into what is closed
+-- nothing is substituted in what is closed
 closed_same_var : (t : GlobalTree) (i n : ℕ) → i < n → (b : Bool) → (i == n) ≡ b → (if b then t else GlobalVar i) ≡ GlobalVar i
 closed_same_var t i n c true e = let s = nat_same i n e in absurd (omega arith)
 closed_same_var t i n c false e = refl
 
 mutual
-  pub closed_same : (t g : GlobalTree) (n : ℕ) → Closed g n → put t g n ≡ g
+  pub closed_same : (t g : GlobalTree) (n : ℕ) → Closed g n → substitute t g n ≡ g
   closed_same t GlobalEnd n c = refl
   closed_same t (GlobalVar i) n c = closed_same_var t i n c (i == n) refl
   closed_same t (GlobalRec g) n c = ap GlobalRec (closed_same t g (n + 1) c)
   closed_same t (Comm p q bs) n c = ap (Comm p q) (closed_same_all t bs n c)
   closed_same t (Flight p q j bs) n c = ap (Flight p q j) (closed_same_all t bs n c)
 
-  pub closed_same_all : (t : GlobalTree) (bs : GlobalBranches) (n : ℕ) → ClosedAll bs n → put_all t bs n ≡ bs
+  pub closed_same_all : (t : GlobalTree) (bs : GlobalBranches) (n : ℕ) → ClosedAll bs n → substitute_all t bs n ≡ bs
   closed_same_all t NoBranch n c = refl
   closed_same_all t (Branch m g bs) n c = ap₂ (Branch m) (closed_same t g n c.0) (closed_same_all t bs n c.1)
 
-lack_put : (t : GlobalTree) (m : Message) (bs : GlobalBranches) (n : ℕ) → Lack m bs → Lack m (put_all t bs n)
-lack_put t m NoBranch n f = tt
-lack_put t m (Branch k g bs) n f = (f.0, lack_put t m bs n f.1)
+lack_substitute : (t : GlobalTree) (m : Message) (bs : GlobalBranches) (n : ℕ) → Lack m bs → Lack m (substitute_all t bs n)
+lack_substitute t m NoBranch n f = tt
+lack_substitute t m (Branch k g bs) n f = (f.0, lack_substitute t m bs n f.1)
 
-distinct_put : (t : GlobalTree) (bs : GlobalBranches) (n : ℕ) → Distinct bs → Distinct (put_all t bs n)
-distinct_put t NoBranch n f = tt
-distinct_put t (Branch m g bs) n f = (lack_put t m bs n f.0, distinct_put t bs n f.1)
+distinct_substitute : (t : GlobalTree) (bs : GlobalBranches) (n : ℕ) → Distinct bs → Distinct (substitute_all t bs n)
+distinct_substitute t NoBranch n f = tt
+distinct_substitute t (Branch m g bs) n f = (lack_substitute t m bs n f.0, distinct_substitute t bs n f.1)
 
-some_put : (t : GlobalTree) (bs : GlobalBranches) (n : ℕ) → NonEmpty bs → NonEmpty (put_all t bs n)
-some_put t NoBranch n f = f
-some_put t (Branch m g bs) n f = tt
+some_substitute : (t : GlobalTree) (bs : GlobalBranches) (n : ℕ) → NonEmpty bs → NonEmpty (substitute_all t bs n)
+some_substitute t NoBranch n f = f
+some_substitute t (Branch m g bs) n f = tt
 
 sound_var : (t : GlobalTree) (i : ℕ) → Sound t → (b : Bool) → Sound (if b then t else GlobalVar i)
 sound_var t i s true = s
 sound_var t i s false = tt
 
 mutual
-  pub sound_put : (t : GlobalTree) → Sound t → (g : GlobalTree) (n : ℕ) → Sound g → Sound (put t g n)
-  sound_put t st GlobalEnd n s = tt
-  sound_put t st (GlobalVar i) n s = sound_var t i st (i == n)
-  sound_put t st (GlobalRec g) n s = sound_put t st g (n + 1) s
-  sound_put t st (Comm p q bs) n s = (s.0, some_put t bs n s.1, distinct_put t bs n s.2, sound_put_all t st bs n s.3)
-  sound_put t st (Flight p q j bs) n s = s
+  pub sound_substitute : (t : GlobalTree) → Sound t → (g : GlobalTree) (n : ℕ) → Sound g → Sound (substitute t g n)
+  sound_substitute t st GlobalEnd n s = tt
+  sound_substitute t st (GlobalVar i) n s = sound_var t i st (i == n)
+  sound_substitute t st (GlobalRec g) n s = sound_substitute t st g (n + 1) s
+  sound_substitute t st (Comm p q bs) n s = (s.0, some_substitute t bs n s.1, distinct_substitute t bs n s.2, sound_substitute_all t st bs n s.3)
+  sound_substitute t st (Flight p q j bs) n s = s
 
-  pub sound_put_all : (t : GlobalTree) → Sound t → (bs : GlobalBranches) (n : ℕ) → SoundAll bs → SoundAll (put_all t bs n)
-  sound_put_all t st NoBranch n s = tt
-  sound_put_all t st (Branch m g bs) n s = (sound_put t st g n s.0, sound_put_all t st bs n s.1)
+  pub sound_substitute_all : (t : GlobalTree) → Sound t → (bs : GlobalBranches) (n : ℕ) → SoundAll bs → SoundAll (substitute_all t bs n)
+  sound_substitute_all t st NoBranch n s = tt
+  sound_substitute_all t st (Branch m g bs) n s = (sound_substitute t st g n s.0, sound_substitute_all t st bs n s.1)
 
 -- the unfolding of a closed recursion
 pub closed_unfolding : (g : GlobalTree) → Closed (GlobalRec g) 0 → Closed (unfolding_of g) 0
-closed_unfolding g c = closed_put (GlobalRec g) c g 0 c
+closed_unfolding g c = closed_substitute (GlobalRec g) c g 0 c
 
 pub sound_unfolding : (g : GlobalTree) → Sound g → Sound (unfolding_of g)
-sound_unfolding g s = sound_put (GlobalRec g) s g 0 s
+sound_unfolding g s = sound_substitute (GlobalRec g) s g 0 s
 
 pub absent_unfolding : (r : List ℕ) (g : GlobalTree) → Absent r g → Absent r (unfolding_of g)
-absent_unfolding r g a = absent_put r (GlobalRec g) a g 0 a
+absent_unfolding r g a = absent_substitute r (GlobalRec g) a g 0 a
