@@ -12,18 +12,18 @@ use Rattle.scrib_types.specs.Trees.{GlobalTree, GlobalRec, Comm, GlobalBranches,
 use Rattle.scrib_types.specs.Projection.{open_depth, branches_open_depth, is_closed}
 use Rattle.scrib_types.specs.WellFormed.{has_role, distinct_roles, leads_to_communication, uses, distinct_operators, has_branches, well_formed, branches_well_formed}
 use Rattle.scrib_parser.specs.declared.tree.ModuleTree.{ModuleTree}
-use Rattle.scrib_modules.specs.Source.{Body, Then, Step, Sends, Calls, Blocks}
+use Rattle.scrib_modules.specs.Source.{Body, Then, Statement, Sends, Calls, Blocks}
 use Rattle.scrib_modules.specs.SourceView.{body_of}
 use Rattle.scrib_modules.specs.Names.{Declaration, roles_of, find_protocol, called}
-use Rattle.scrib_modules.specs.Statements.{are_roles, IsCall, KeepsRules, BlockKeeps, StepKeeps, BlocksKeep}
+use Rattle.scrib_modules.specs.Statements.{are_roles, IsCall, KeepsRules, BlockKeeps, StatementKeeps, BlocksKeep}
 use Rattle.scrib_modules.specs.Elaboration.{Scope, role_in, level_of, inside, inside_call, Frames, NoFrame, Under, sent, and_branches, Types, ends, closes, sends, chooses, repeats, passes, continues, calls, JoinsTo, joins_none, joins, nodes, height, start_of, Elaborates}
 use Rattle.scrib_modules.specs.Sizes.{NodesOf, HeightOf}
 use Rattle.scrib_modules.specs.Walking.{IsWithin}
 use Rattle.scrib_elaborate.specs.Sound.{is_sound}
-use Rattle.scrib_modules.proofs.Kept.{of_then, of_or, of_sends, of_chooses, of_repeats, of_calls, of_protocol}
+use Rattle.scrib_modules.proofs.RulesKept.{of_then, of_or, of_sends, of_chooses, of_repeats, of_calls, of_protocol}
 use Rattle.scrib_elaborate.proofs.Functional.{types_same}
 use Rattle.scrib_elaborate.proofs.Counted.{counted, measured}
-use Rattle.scrib_elaborate.proofs.Used.{used, in_first}
+use Rattle.scrib_elaborate.proofs.RecursionsUsed.{used, in_first}
 use Rattle.scrib_modules.proofs.GivenRoles.{role_itself, role_among, GivesRoles, gives_itself, gives_called}
 
 -- no variable counts more recursions than there are
@@ -110,14 +110,14 @@ AreKept ms roles NoFrame = Unit {0}
 AreKept ms roles (Under sc b fs) = IsKeptFrame ms roles sc b × AreKept ms roles fs
 
 -- the statement at the head keeps them, and so does what follows it
-record IsKeptHead (ms : List ModuleTree) (roles : List (List ℕ)) (sc : Scope) (s : Step) (b : Body) (fs : Frames) : Type 0 where
+record IsKeptHead (ms : List ModuleTree) (roles : List (List ℕ)) (sc : Scope) (s : Statement) (b : Body) (fs : Frames) : Type 0 where
   recs : List (List ℕ)
   exits : Bool
-  keeps : StepKeeps ms sc.within recs s exits
+  keeps : StatementKeeps ms sc.within recs s exits
   gives : GivesRoles roles sc
   rest : AreKept ms roles (Under sc b fs)
 
-head_kept : {ms : List ModuleTree} {roles : List (List ℕ)} {sc : Scope} {s : Step} {b : Body} {fs : Frames} → AreKept ms roles (Under sc (Then s b) fs) → IsKeptHead ms roles sc s b fs
+head_kept : {ms : List ModuleTree} {roles : List (List ℕ)} {sc : Scope} {s : Statement} {b : Body} {fs : Frames} → AreKept ms roles (Under sc (Then s b) fs) → IsKeptHead ms roles sc s b fs
 head_kept h =
     let v = of_then h.0.keeps in
     record {
@@ -145,7 +145,7 @@ inside_gives g = record { among = g.among; same = g.same }
 rec_sound : (roles : List (List ℕ)) (g : GlobalTree) → leads_to_communication g ≡ true → uses 0 g ≡ true → well_formed roles g ≡ true → well_formed roles (GlobalRec g) ≡ true
 rec_sound roles g a b c = rw (a, b) c
 
-message_roles : {ms : List ModuleTree} {roles recs : List (List ℕ)} {sc : Scope} {m : Message} {p : List ℕ} {qs : List (List ℕ)} {s : Spot} {e : Bool} → StepKeeps ms sc.within recs (Sends m p qs s) e
+message_roles : {ms : List ModuleTree} {roles recs : List (List ℕ)} {sc : Scope} {m : Message} {p : List ℕ} {qs : List (List ℕ)} {s : Spot} {e : Bool} → StatementKeeps ms sc.within recs (Sends m p qs s) e
     → GivesRoles roles sc → (q : List ℕ) → has_role q qs ≡ true → AreTwo roles (role_in sc p) (role_in sc q)
 message_roles {sc = sc} {p = p} {qs = qs} k g q h =
     let v = of_sends k in
@@ -160,7 +160,7 @@ message_roles {sc = sc} {p = p} {qs = qs} k g q h =
     }
 
 called_kept : {ms : List ModuleTree} {roles recs : List (List ℕ)} {sc : Scope} {path rs : List (List ℕ)} {s : Spot} {e : Bool} {c : Declaration} → called ms sc.within.home path ≡ Some c
-    → StepKeeps ms sc.within recs (Calls path rs s) e → GivesRoles roles sc → IsKeptFrame ms roles (inside_call sc c rs) (body_of c.protocol.body)
+    → StatementKeeps ms sc.within recs (Calls path rs s) e → GivesRoles roles sc → IsKeptFrame ms roles (inside_call sc c rs) (body_of c.protocol.body)
 called_kept {ms = ms} {roles = roles} {sc = sc} {path = path} {rs = rs} {e = e} {c = c} there k g =
     let v = of_calls k in
     let same : v.to ≡ c = cc (there, v.call.there) in

@@ -7,33 +7,33 @@ use Rattle.std.proofs.lemmas.List.Sorted.{All-permutation, IsPermutation-reverse
 use Rattle.std.proofs.lemmas.Option.{slice_get-get_or}
 use Rattle.scrib_types.specs.declared.spot.Spot.{Spot}
 use Rattle.scrib_parser.specs.declared.tree.ModuleTree.{ModuleTree}
-use Rattle.scrib_parser.specs.declared.tree.Statement.{Statement}
+use Rattle.scrib_parser.specs.declared.tree.Statement.{Statement as ParsedStatement}
 use Rattle.scrib_parser.specs.declared.tree.Block.{Block}
 use Rattle.scrib_elaborate.specs.declared.tasks.Task.{Task}
 use Rattle.scrib_elaborate.specs.declared.tasks.Task.TheVariants.{Front, Join, Close, Trial}
-use Rattle.scrib_elaborate.specs.declared.standing.Standing.{Standing}
-use Rattle.scrib_typed.specs.declared.untyped.Untyped.{Untyped}
-use Rattle.scrib_typed.specs.declared.untyped.Untyped.TheVariants.{Broken, OutOfMemory}
-use Rattle.scrib_modules.specs.Source.{Body, Done, Then, Step, Chooses, Repeats, Calls}
-use Rattle.scrib_modules.specs.SourceView.{step_of, body_of, blocks_of}
+use Rattle.scrib_elaborate.specs.declared.scope.Scope.{Scope as CodeScope}
+use Rattle.scrib_typed.specs.declared.build_error.BuildError.{BuildError}
+use Rattle.scrib_typed.specs.declared.build_error.BuildError.TheVariants.{Broken, OutOfMemory}
+use Rattle.scrib_modules.specs.Source.{Body, Done, Then, Statement, Chooses, Repeats, Calls}
+use Rattle.scrib_modules.specs.SourceView.{statement_of, body_of, blocks_of}
 use Rattle.scrib_modules.specs.Names.{Declaration, called}
-use Rattle.scrib_modules.specs.Statements.{KeepsRules, StepKeeps}
+use Rattle.scrib_modules.specs.Statements.{KeepsRules, StatementKeeps}
 use Rattle.scrib_modules.specs.Elaboration.{continues_in, Scope, inside, inside_call, Frames, NoFrame, Under, ends}
 use Rattle.scrib_modules.specs.Faults.{later, in_choice, in_rec, StandsIn, needs_itself, needs_branch, needs_repeats, needs_passes, needs_calls}
 use Rattle.scrib_elaborate.specs.Staying.{Stays}
-use Rattle.scrib_elaborate.specs.Standing.{scope_of, IsSame, IsInside, IsInsideCall}
+use Rattle.scrib_elaborate.specs.Scope.{scope_of, IsSame, IsInside, IsInsideCall}
 use Rattle.scrib_elaborate.specs.Typing.{Made, nothing_made, before, IsFront, Path, IsState, TypingFails, IsAhead, IsTaskAhead, AreAhead, StopsAhead}
-use Rattle.scrib_modules.proofs.Kept.{of_then, reaches_on}
+use Rattle.scrib_modules.proofs.RulesKept.{of_then, reaches_on}
 use Rattle.scrib_modules.proofs.Checks.{stands_here}
 use Rattle.scrib_elaborate.proofs.Lifted.{below_more, levels_more}
-use Rattle.scrib_elaborate.proofs.Needed.{fails_through, fails_rest}
+use Rattle.scrib_elaborate.proofs.NeededParts.{fails_through, fails_rest}
 use Rattle.scrib_elaborate.proofs.Steps.{before_done, block_kept, pushed_twice, opened}
 use Rattle.scrib_elaborate.proofs.Joined.{block_at, in_before}
 use Rattle.scrib_elaborate.proofs.Alone.{never_here, fails_onto}
 
 -- the tasks of a run
 
-front_ahead : (ms : List ModuleTree) (root : Declaration) (sc : Scope) (depth : ℕ) (ss : List Statement) (n : ℕ) (fs hs : Frames) → IsFront ms root sc depth ss n fs hs → (rest : Body) × IsAhead ms root sc depth (before ss rest)
+front_ahead : (ms : List ModuleTree) (root : Declaration) (sc : Scope) (depth : ℕ) (ss : List ParsedStatement) (n : ℕ) (fs hs : Frames) → IsFront ms root sc depth ss n fs hs → (rest : Body) × IsAhead ms root sc depth (before ss rest)
 front_ahead ms root sc depth ss n fs hs f =
     (f.rest, subst (λ d. IsAhead ms root sc d (before ss f.rest)) f.deep (record { outer = f.outer; up = f.up; recs = f.recs; part = f.part; reached = f.reached; below = f.below }))
 
@@ -66,20 +66,20 @@ more_ahead ms root old new t e h k =
 pub less_ahead : (ms : List ModuleTree) (root : Declaration) (old new : List Task) (t : Task) → old ≡ new ++ t ∷ [] → AreAhead ms root old → AreAhead ms root new × IsTaskAhead ms root t
 less_ahead ms root old new t e h = All-pop (IsTaskAhead ms root) old new (Some t) e h
 
-pub stops_ahead : (ms : List ModuleTree) (root : Declaration) (ts : List Task) (e : Untyped) → TypingFails ms root e → AreAhead ms root ts → StopsAhead ms root ts e
+pub stops_ahead : (ms : List ModuleTree) (root : Declaration) (ts : List Task) (e : BuildError) → TypingFails ms root e → AreAhead ms root ts → StopsAhead ms root ts e
 stops_ahead ms root ts (Broken home b) fails ahead = (fails, ahead)
 stops_ahead ms root ts OutOfMemory fails ahead = tt
 
-pub broken_ahead : (ms : List ModuleTree) (root : Declaration) (ts : List Task) (e : Untyped) → (e ≡ OutOfMemory → ⊥) → StopsAhead ms root ts e → TypingFails ms root e × AreAhead ms root ts
+pub broken_ahead : (ms : List ModuleTree) (root : Declaration) (ts : List Task) (e : BuildError) → (e ≡ OutOfMemory → ⊥) → StopsAhead ms root ts e → TypingFails ms root e × AreAhead ms root ts
 broken_ahead ms root ts (Broken home b) not h = h
 broken_ahead ms root ts OutOfMemory not h = absurd (not refl)
 
 -- the statements after the first one, where there are some
-pub ahead_rest : (ms : List ModuleTree) (root : Declaration) (e : Bool) (sc : Scope) (n : ℕ) (s t : Step) (b : Body) → KeepsRules ms root e → IsAhead ms root sc n (Then s (Then t b)) → IsAhead ms root sc n (Then t b)
+pub ahead_rest : (ms : List ModuleTree) (root : Declaration) (e : Bool) (sc : Scope) (n : ℕ) (s t : Statement) (b : Body) → KeepsRules ms root e → IsAhead ms root sc n (Then s (Then t b)) → IsAhead ms root sc n (Then t b)
 ahead_rest ms root e sc n s t b kept a =
     let k = block_kept a.recs (Then s (Then t b)) a.reached e kept a.part in
     let v = of_then k.2 in
-    let leads = subst (λ x. StepKeeps ms sc.within a.recs s x) (of_then v.rest).before v.step in
+    let leads = subst (λ x. StatementKeeps ms sc.within a.recs s x) (of_then v.rest).before v.step in
     record {
       outer = a.outer;
       up = λ f d spot h. a.up f d spot (fails_rest f ms a.recs n sc s (Then t b) a.outer d spot leads a.below h);
@@ -91,7 +91,7 @@ ahead_rest ms root e sc n s t b kept a =
 
 -- a block that stands in the first statement
 
-abbrev whole : (ms : List ModuleTree) (root : Declaration) (st : Standing) (ss : Bor (List Statement)) (sc : Scope) (n : ℕ) (b : Body) → scope_of st ≡ sc → st.depth ≡ n → body_of ss.now ≡ b → IsAhead ms root sc n b → IsTaskAhead ms root (Front st ss)
+abbrev whole : (ms : List ModuleTree) (root : Declaration) (st : CodeScope) (ss : Bor (List ParsedStatement)) (sc : Scope) (n : ℕ) (b : Body) → scope_of st ≡ sc → st.depth ≡ n → body_of ss.now ≡ b → IsAhead ms root sc n b → IsTaskAhead ms root (Front st ss)
 whole ms root st ss sc n b scope depth body a =
     let list : b ≡ before ss.now Done = sym body ∙ sym (before_done ss.now) in
     (Done, subst (λ d. IsAhead ms root (scope_of st) d (before ss.now Done)) (sym depth) (subst (λ c. IsAhead ms root c n (before ss.now Done)) (sym scope) (subst (λ x. IsAhead ms root sc n x) list a)))
@@ -145,50 +145,50 @@ ahead_calls ms root sc n path roles spot rest c there a = record {
 
 -- the tasks of such blocks
 
-pub choice_ahead : (ms : List ModuleTree) (root : Declaration) (st inner : Standing) (ss : Bor (List Statement)) (p : List ℕ) (bs : List Block) (spot : Spot) (rest : Body) (k : ℕ) (b : Block) → k < length bs → b ≡ get_or bs k b → IsSame st inner → ss.now ≡ b.body
+pub choice_ahead : (ms : List ModuleTree) (root : Declaration) (st inner : CodeScope) (ss : Bor (List ParsedStatement)) (p : List ℕ) (bs : List Block) (spot : Spot) (rest : Body) (k : ℕ) (b : Block) → k < length bs → b ≡ get_or bs k b → IsSame st inner → ss.now ≡ b.body
     → IsAhead ms root (scope_of st) st.depth (Then (Chooses p (blocks_of bs) spot) rest) → IsTaskAhead ms root (Front inner ss)
 choice_ahead ms root st inner ss p bs spot rest k b within here same body a =
     whole ms root inner ss (scope_of st) st.depth (body_of b.body) same.scope same.depth (ap body_of body) (ahead_in_choice ms root (scope_of st) st.depth p bs spot rest k b within here a)
 
-pub choice_block : (ms : List ModuleTree) (root : Declaration) (st inner : Standing) (ss : List Statement) (p : List ℕ) (bs : List Block) (spot : Spot) (rest : Body) (k : ℕ) (b : Block) → k < length bs → b ≡ get_or bs k b → IsSame st inner → ss ≡ b.body
+pub choice_block : (ms : List ModuleTree) (root : Declaration) (st inner : CodeScope) (ss : List ParsedStatement) (p : List ℕ) (bs : List Block) (spot : Spot) (rest : Body) (k : ℕ) (b : Block) → k < length bs → b ≡ get_or bs k b → IsSame st inner → ss ≡ b.body
     → IsAhead ms root (scope_of st) st.depth (Then (Chooses p (blocks_of bs) spot) rest) → IsAhead ms root (scope_of inner) inner.depth (body_of ss)
 choice_block ms root st inner ss p bs spot rest k b within here same body a =
     let block = subst (λ x. IsAhead ms root (scope_of st) st.depth (body_of x)) (sym body) (ahead_in_choice ms root (scope_of st) st.depth p bs spot rest k b within here a) in
     subst (λ n. IsAhead ms root (scope_of inner) n (body_of ss)) (sym same.depth) (subst (λ c. IsAhead ms root c st.depth (body_of ss)) (sym same.scope) block)
 
-pub passes_ahead : (ms : List ModuleTree) (root : Declaration) (st : Standing) (ss : Bor (List Statement)) (x : List ℕ) (spot : Spot) (rest : Body) → continues_in x (body_of ss.now) ≡ false → IsAhead ms root (scope_of st) st.depth (Then (Repeats x (body_of ss.now) spot) rest) → IsTaskAhead ms root (Front st ss)
+pub passes_ahead : (ms : List ModuleTree) (root : Declaration) (st : CodeScope) (ss : Bor (List ParsedStatement)) (x : List ℕ) (spot : Spot) (rest : Body) → continues_in x (body_of ss.now) ≡ false → IsAhead ms root (scope_of st) st.depth (Then (Repeats x (body_of ss.now) spot) rest) → IsTaskAhead ms root (Front st ss)
 passes_ahead ms root st ss x spot rest none a =
     whole ms root st ss (scope_of st) st.depth (body_of ss.now) refl refl refl (ahead_passes ms root (scope_of st) st.depth x (body_of ss.now) spot rest none a)
 
-pub repeats_ahead : (ms : List ModuleTree) (root : Declaration) (st inner : Standing) (ss : Bor (List Statement)) (x : List ℕ) (spot : Spot) (rest : Body) → continues_in x (body_of ss.now) ≡ true → IsInside st x inner
+pub repeats_ahead : (ms : List ModuleTree) (root : Declaration) (st inner : CodeScope) (ss : Bor (List ParsedStatement)) (x : List ℕ) (spot : Spot) (rest : Body) → continues_in x (body_of ss.now) ≡ true → IsInside st x inner
     → IsAhead ms root (scope_of st) st.depth (Then (Repeats x (body_of ss.now) spot) rest) → IsTaskAhead ms root (Front inner ss)
 repeats_ahead ms root st inner ss x spot rest loops same a =
     whole ms root inner ss (inside (scope_of st) x st.depth) (st.depth + 1) (body_of ss.now) same.scope same.depth refl (ahead_repeats ms root (scope_of st) st.depth x (body_of ss.now) spot rest loops a)
 
-pub call_ahead : (ms : List ModuleTree) (root : Declaration) (st inner : Standing) (ss : Bor (List Statement)) (path roles : List (List ℕ)) (spot : Spot) (rest : Body) (c : Declaration) → called ms st.within.home.now path ≡ Some c → IsInsideCall st c roles inner → ss.now ≡ c.protocol.body
+pub call_ahead : (ms : List ModuleTree) (root : Declaration) (st inner : CodeScope) (ss : Bor (List ParsedStatement)) (path roles : List (List ℕ)) (spot : Spot) (rest : Body) (c : Declaration) → called ms st.within.home.now path ≡ Some c → IsInsideCall st c roles inner → ss.now ≡ c.protocol.body
     → IsAhead ms root (scope_of st) st.depth (Then (Calls path roles spot) rest) → IsTaskAhead ms root (Front inner ss)
 call_ahead ms root st inner ss path roles spot rest c there same body a =
     whole ms root inner ss (inside_call (scope_of st) c roles) st.depth (body_of c.protocol.body) same.scope same.depth (ap body_of body) (ahead_calls ms root (scope_of st) st.depth path roles spot rest c there a)
 
 -- the statements of a task after its first one
-pub rest_ahead : (ms : List ModuleTree) (root : Declaration) (e : Bool) (st again : Standing) (ss rest : Bor (List Statement)) (s : Statement) → KeepsRules ms root e → ss.now ≡ s ∷ rest.now → 0 < length rest.now → IsSame st again → IsTaskAhead ms root (Front st ss) → IsTaskAhead ms root (Front again rest)
+pub rest_ahead : (ms : List ModuleTree) (root : Declaration) (e : Bool) (st again : CodeScope) (ss rest : Bor (List ParsedStatement)) (s : ParsedStatement) → KeepsRules ms root e → ss.now ≡ s ∷ rest.now → 0 < length rest.now → IsSame st again → IsTaskAhead ms root (Front st ss) → IsTaskAhead ms root (Front again rest)
 rest_ahead ms root e st again ss rest s kept is some same a =
     let sc = scope_of st in
     let n = st.depth in
     let more = subst (λ x. IsAhead ms root sc n (before x a.0)) is a.1 in
     (a.0, subst (λ d. IsAhead ms root (scope_of again) d (before rest.now a.0)) (sym same.depth) (subst (λ c. IsAhead ms root c n (before rest.now a.0)) (sym same.scope) (at rest.now some more)))
   where
-    at : (ts : List Statement) → 0 < length ts → IsAhead ms root (scope_of st) st.depth (Then (step_of s) (before ts a.0)) → IsAhead ms root (scope_of st) st.depth (before ts a.0)
+    at : (ts : List ParsedStatement) → 0 < length ts → IsAhead ms root (scope_of st) st.depth (Then (statement_of s) (before ts a.0)) → IsAhead ms root (scope_of st) st.depth (before ts a.0)
     at [] none x = absurd (omega arith)
-    at (t ∷ ts) none x = ahead_rest ms root e (scope_of st) st.depth (step_of s) (step_of t) (before ts a.0) kept x
+    at (t ∷ ts) none x = ahead_rest ms root e (scope_of st) st.depth (statement_of s) (statement_of t) (before ts a.0) kept x
 
-pub first_ahead : (ms : List ModuleTree) (root : Declaration) (st : Standing) (ss rest : Bor (List Statement)) (s : Statement) → ss.now ≡ s ∷ rest.now → IsTaskAhead ms root (Front st ss) → (b : Body) × IsAhead ms root (scope_of st) st.depth (Then (step_of s) b)
+pub first_ahead : (ms : List ModuleTree) (root : Declaration) (st : CodeScope) (ss rest : Bor (List ParsedStatement)) (s : ParsedStatement) → ss.now ≡ s ∷ rest.now → IsTaskAhead ms root (Front st ss) → (b : Body) × IsAhead ms root (scope_of st) st.depth (Then (statement_of s) b)
 first_ahead ms root st ss rest s is a =
     (before rest.now a.0, subst (λ x. IsAhead ms root (scope_of st) st.depth (before x a.0)) is a.1)
 
 -- a block without exit is tried alone
 
-trial_begins : (ms : List ModuleTree) (root : Declaration) (st : Standing) (ss : Bor (List Statement)) → IsAhead ms root (scope_of st) st.depth (body_of ss.now) → Stays ms st.within.home.now (body_of ss.now)
+trial_begins : (ms : List ModuleTree) (root : Declaration) (st : CodeScope) (ss : Bor (List ParsedStatement)) → IsAhead ms root (scope_of st) st.depth (body_of ss.now) → Stays ms st.within.home.now (body_of ss.now)
     → IsState ms root (Front st ss ∷ Trial ∷ []) nothing_made
 trial_begins ms root st ss a stays =
     let sc = scope_of st in
@@ -204,11 +204,11 @@ trial_begins ms root st ss a stays =
       below = (a.below.0, tt);
     }) refl
 
-pub trial_state : (ms : List ModuleTree) (root : Declaration) (old mid new : List Task) (st : Standing) (ss : Bor (List Statement)) → old ≡ [] → mid ≡ old ++ Trial ∷ [] → new ≡ mid ++ Front st ss ∷ [] → IsAhead ms root (scope_of st) st.depth (body_of ss.now) → Stays ms st.within.home.now (body_of ss.now)
+pub trial_state : (ms : List ModuleTree) (root : Declaration) (old mid new : List Task) (st : CodeScope) (ss : Bor (List ParsedStatement)) → old ≡ [] → mid ≡ old ++ Trial ∷ [] → new ≡ mid ++ Front st ss ∷ [] → IsAhead ms root (scope_of st) st.depth (body_of ss.now) → Stays ms st.within.home.now (body_of ss.now)
     → IsState ms root (reverse new) nothing_made
 trial_state ms root old mid new st ss none first second a stays =
     pushed_twice ms root old mid new Trial (Front st ss) nothing_made nothing_made first second refl (subst (λ x. IsState ms root (Front st ss ∷ Trial ∷ reverse x) nothing_made) (sym none) (trial_begins ms root st ss a stays))
 
-pub turned_stops : (ms : List ModuleTree) (root : Declaration) (old new : List Task) (e : Untyped) → IsPermutation old new → StopsAhead ms root old e → StopsAhead ms root new e
+pub turned_stops : (ms : List ModuleTree) (root : Declaration) (old new : List Task) (e : BuildError) → IsPermutation old new → StopsAhead ms root old e → StopsAhead ms root new e
 turned_stops ms root old new (Broken home b) p h = (h.0, turned_ahead ms root old new p h.1)
 turned_stops ms root old new OutOfMemory p h = tt

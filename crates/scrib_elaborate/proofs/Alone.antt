@@ -6,7 +6,7 @@ use Rattle.scrib_types.specs.Trees.{GlobalTree, GlobalBranches}
 use Rattle.scrib_parser.specs.declared.tree.ModuleTree.{ModuleTree}
 use Rattle.scrib_modules.specs.declared.fault.FaultKind.{FaultKind}
 use Rattle.scrib_modules.specs.declared.fault.FaultKind.TheVariants as kind
-use Rattle.scrib_modules.specs.Source.{Body, Done, Then, Step, Sends, Chooses, Repeats, Calls, Blocks, NoBlock, OrBlock}
+use Rattle.scrib_modules.specs.Source.{Body, Done, Then, Statement, Sends, Chooses, Repeats, Calls, Blocks, NoBlock, OrBlock}
 use Rattle.scrib_modules.specs.SourceView.{body_of}
 use Rattle.scrib_modules.specs.Names.{Declaration, called}
 use Rattle.scrib_modules.specs.Elaboration.{Scope, inside, inside_call, Frames, NoFrame, Under, Types, ends, closes, sends, chooses, repeats, passes, continues, calls, JoinsTo, joins_none, joins}
@@ -119,7 +119,7 @@ needs_onto (needs_calls e u) more = needs_calls e (needs_onto u more)
 
 -- a fault of their type is one of the type of those with more frames behind them
 
-needed_onto : {ms : List ModuleTree} {k : ℕ} {from : Frames} {d : Declaration} {s : Step} {n : ℕ} {sc : Scope} {fs : Frames} (more : Frames) → IsNeeded ms k from d s n sc fs → IsNeeded ms k (onto from more) d s n sc (onto fs more)
+needed_onto : {ms : List ModuleTree} {k : ℕ} {from : Frames} {d : Declaration} {s : Statement} {n : ℕ} {sc : Scope} {fs : Frames} (more : Frames) → IsNeeded ms k from d s n sc fs → IsNeeded ms k (onto from more) d s n sc (onto fs more)
 needed_onto more h = record {
   after = h.after;
   outer = onto h.outer more;

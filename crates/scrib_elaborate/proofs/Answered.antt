@@ -2,10 +2,10 @@
 use Rattle.std.proofs.Common.{◌≡◌, ℕ, ◌<◌, true, false, List, length, None, Err, refl, sym, ap, ◌∙◌, subst, ⊎_elim, inl, inr}
 use Rattle.scrib_types.specs.Agreement.{Agreement}
 use Rattle.scrib_parser.specs.declared.tree.ModuleTree.{ModuleTree}
-use Rattle.scrib_modules.specs.declared.declared.Declared.{Declared}
+use Rattle.scrib_modules.specs.declared.declared.Declaration.{Declaration as CodeDeclaration}
 use Rattle.std.proofs.lemmas.Option.{slice_get_within}
-use Rattle.scrib_modules.specs.declared.stop.State.{State}
-use Rattle.scrib_modules.specs.declared.stop.State.TheVariants.{Walked}
+use Rattle.scrib_modules.specs.declared.checking.State.{State}
+use Rattle.scrib_modules.specs.declared.checking.State.TheVariants.{Walked}
 use Rattle.scrib_modules.specs.declared.fault.ElaborateFault.{ElaborateFault}
 use Rattle.scrib_modules.specs.declared.fault.ElaborateFault.TheVariants as elaborate
 use Rattle.scrib_modules.specs.declared.fault.FaultKind.{FaultKind}
@@ -47,7 +47,7 @@ walk_fails ms home name ds at all found (elaborate.Broken f) h =
     })
 walk_fails ms home name ds at all found elaborate.OutOfMemory h = tt
 
-pub root_within : (ds : List Declared) (home : List (List ℕ)) (name : List ℕ) (k : ℕ) → IsFound (shown ds) (is_called home name) k → k < length ds
+pub root_within : (ds : List CodeDeclaration) (home : List (List ℕ)) (name : List ℕ) (k : ℕ) → IsFound (shown ds) (is_called home name) k → k < length ds
 root_within ds home name k found = entry_within ds k found.found found.there
 
 -- where a fault may be told, nothing is missed
@@ -56,7 +56,7 @@ pub nothing_missed : (ms : List ModuleTree) (home : List (List ℕ)) (name : Lis
 nothing_missed ms home name (elaborate.Broken f) h a e = refuted ms home name f a h e
 nothing_missed ms home name elaborate.OutOfMemory h a e = tt
 
-pub walk_told : (ms ts : List ModuleTree) (home : List (List ℕ)) (name : List ℕ) (all ds es : List Declared) (at : ℕ) (f : ElaborateFault) → ts ≡ ms → ds ≡ all → es ≡ all → shown all ≡ declarations ts
+pub walk_told : (ms ts : List ModuleTree) (home : List (List ℕ)) (name : List ℕ) (all ds es : List CodeDeclaration) (at : ℕ) (f : ElaborateFault) → ts ≡ ms → ds ≡ all → es ≡ all → shown all ≡ declarations ts
     → IsFound (shown ds) (is_called home name) at → WalkFails ts (shown es) at f → FailsAt ms home name f
 walk_told ms ts home name all ds es at f same d e whole found h =
     let found_all = subst (λ x. IsFound (shown x) (is_called home name) at) d found in
@@ -65,7 +65,7 @@ walk_told ms ts home name all ds es at f same d e whole found h =
 
 -- a fault of the size
 
-pub root_stated : (ts : List ModuleTree) (home : List (List ℕ)) (name : List ℕ) (all ds es : List Declared) (states seen : List State) (at : ℕ) → ds ≡ all → es ≡ all → seen ≡ states → IsFound (shown ds) (is_called home name) at
+pub root_stated : (ts : List ModuleTree) (home : List (List ℕ)) (name : List ℕ) (all ds es : List CodeDeclaration) (states seen : List State) (at : ℕ) → ds ≡ all → es ≡ all → seen ≡ states → IsFound (shown ds) (is_called home name) at
     → WasWalked ts (shown es) states at → at < length seen
 root_stated ts home name all ds es states seen at d e same found w =
     let here = subst (λ x. IsFound (shown x) (is_called home name) at) d found in
@@ -73,7 +73,7 @@ root_stated ts home name all ds es states seen at d e same found w =
     let kept = walked here.found here.there in
     subst (λ x. at < length x) (sym same) (slice_get_within states at (Walked kept.0) kept.1)
 
-pub size_told : (ms ts : List ModuleTree) (home : List (List ℕ)) (name : List ℕ) (all ds es fs : List Declared) (states seen : List State) (at : ℕ) (f : ElaborateFault) → ts ≡ ms → ds ≡ all → es ≡ all → fs ≡ all → seen ≡ states → shown all ≡ declarations ts
+pub size_told : (ms ts : List ModuleTree) (home : List (List ℕ)) (name : List ℕ) (all ds es fs : List CodeDeclaration) (states seen : List State) (at : ℕ) (f : ElaborateFault) → ts ≡ ms → ds ≡ all → es ≡ all → fs ≡ all → seen ≡ states → shown all ≡ declarations ts
     → IsFound (shown ds) (is_called home name) at → WasWalked ts (shown es) states at → (WasWalked ts (shown fs) seen at → WalkFails ts (shown fs) at f) → FailsAt ms home name f
 size_told ms ts home name all ds es fs states seen at f same d e g s whole found w h =
     let walked = subst (λ x. WasWalked ts (shown x) states at) (e ∙ sym g) w in

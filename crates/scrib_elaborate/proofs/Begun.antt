@@ -4,14 +4,14 @@ use Rattle.scrib_types.specs.declared.spot.Spot.{Spot}
 use Rattle.scrib_types.specs.Trees.{Comm, GlobalBranches}
 use Rattle.scrib_types.specs.WellFormed.{distinct_operators, has_branches}
 use Rattle.scrib_parser.specs.declared.tree.ModuleTree.{ModuleTree}
-use Rattle.scrib_modules.specs.Source.{Body, Done, Then, Step, NoBlock}
+use Rattle.scrib_modules.specs.Source.{Body, Done, Then, Statement, NoBlock}
 use Rattle.scrib_modules.specs.SourceView.{body_of}
 use Rattle.scrib_modules.specs.Names.{Declaration, roles_of}
 use Rattle.scrib_modules.specs.Elaboration.{Scope, given_for, role_in, Frames, Under, Types}
 use Rattle.scrib_modules.specs.Faults.{Needs, needs_itself, needs_close, needs_branch, needs_passes, needs_calls}
 use Rattle.scrib_modules.specs.Joining.{AddsNothing, nothing_ends, nothing_repeats, nothing_calls, OnlyJoins, only_ends, only_chooses, only_repeats, only_passes, only_calls, BeginsAt, begins_here, begins_in_rec, begins_in_call, begins_later}
 use Rattle.scrib_elaborate.specs.Sites.{IsSite}
-use Rattle.scrib_elaborate.proofs.Needed.{needs_trans}
+use Rattle.scrib_elaborate.proofs.NeededParts.{needs_trans}
 use Rattle.scrib_elaborate.proofs.Passing.{nothing_unused, only_unused, given_through, only_types}
 use Rattle.scrib_modules.proofs.Shaped.{JoinsCalled, nothing_view, only_view}
 use Rattle.scrib_elaborate.proofs.Sited.{site_through}
@@ -42,7 +42,7 @@ only_needs {d = d} (only_calls {roles = roles} {b = b} e long has given k l) gs 
     let sc : Scope = record { within = d; given = gs; recs = rs } in
     needs_calls e (needs_trans (only_needs k (map (role_in sc) roles) [] n (Under sc b fs)) (only_needs l gs rs n fs))
 
-step_needs : {ms : List ModuleTree} {d : Declaration} {s : Step} → AddsNothing ms d (Then s Done) → (gs : List (List ℕ)) (rs : List (List ℕ × ℕ)) (n : ℕ) (b : Body) (fs : Frames)
+step_needs : {ms : List ModuleTree} {d : Declaration} {s : Statement} → AddsNothing ms d (Then s Done) → (gs : List (List ℕ)) (rs : List (List ℕ × ℕ)) (n : ℕ) (b : Body) (fs : Frames)
     → Needs ms n (Under (record { within = d; given = gs; recs = rs }) (Then s b) fs) n (Under (record { within = d; given = gs; recs = rs }) b fs)
 step_needs {d = d} (nothing_repeats {x = x} k l) gs rs n b fs =
     let sc : Scope = record { within = d; given = gs; recs = rs } in

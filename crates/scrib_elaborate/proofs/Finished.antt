@@ -5,14 +5,14 @@ use Rattle.scrib_types.specs.declared.spot.Spot.{Spot}
 use Rattle.scrib_types.specs.Agreement.{Agreement}
 use Rattle.scrib_types.specs.Trees.{GlobalTree}
 use Rattle.scrib_parser.specs.declared.tree.ModuleTree.{ModuleTree}
-use Rattle.scrib_modules.specs.declared.declared.Declared.{Declared}
+use Rattle.scrib_modules.specs.declared.declared.Declaration.{Declaration as CodeDeclaration}
 use Rattle.scrib_elaborate.specs.declared.elaborated.Elaborated.{Elaborated}
 use Rattle.scrib_modules.specs.declared.fault.FaultKind.{FaultKind}
 use Rattle.scrib_modules.specs.declared.fault.FaultKind.TheVariants as kind
 use Rattle.scrib_modules.specs.declared.fault.ElaborateFault.{ElaborateFault}
-use Rattle.scrib_modules.specs.declared.stop.BrokenRule.{BrokenRule}
-use Rattle.scrib_modules.specs.declared.stop.State.{State}
-use Rattle.scrib_typed.specs.declared.untyped.Untyped.TheVariants as untyped
+use Rattle.scrib_modules.specs.declared.checking.BrokenRule.{BrokenRule}
+use Rattle.scrib_modules.specs.declared.checking.State.{State}
+use Rattle.scrib_typed.specs.declared.build_error.BuildError.TheVariants as untyped
 use Rattle.scrib_modules.specs.Names.{Declaration, roles_of, declarations, first_where, is_called}
 use Rattle.scrib_modules.specs.Elaboration.{Types, start_of, Elaborates}
 use Rattle.scrib_modules.specs.Faults.{FailsTyping, Fails, FailsAt}
@@ -49,7 +49,7 @@ typing_told ms ds root count home name h b f k w told =
 
 -- what the first two passes give
 
-pub is_counted : (ts : List ModuleTree) (home : List (List ℕ)) (name : List ℕ) (all ds es fs hs : List Declared) (states seen : List State) (at count : ℕ) (x : Declared)
+pub is_counted : (ts : List ModuleTree) (home : List (List ℕ)) (name : List ℕ) (all ds es fs hs : List CodeDeclaration) (states seen : List State) (at count : ℕ) (x : CodeDeclaration)
     → ds ≡ all → es ≡ all → fs ≡ all → hs ≡ all → seen ≡ states → shown all ≡ declarations ts → IsFound (shown ds) (is_called home name) at → WasWalked ts (shown es) states at → (WasWalked ts (shown fs) seen at → IsSmall ts (shown fs) at count)
     → x ≡ get_or all at x → IsCounted ts (shown hs) (declaration_of x) count home name
 is_counted ts home name all ds es fs hs states seen at count x d e f h s whole found w small is =

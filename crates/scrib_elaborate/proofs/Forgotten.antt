@@ -2,8 +2,8 @@
 use Rattle.std.proofs.Common.{ℕ, List, set, ⊎_elim, ◌∙◌}
 use Rattle.std.proofs.lemmas.List.{length-set}
 use Rattle.scrib_parser.specs.declared.tree.ModuleTree.{ModuleTree}
-use Rattle.scrib_modules.specs.declared.stop.State.{State}
-use Rattle.scrib_modules.specs.declared.stop.State.TheVariants.{Unwalked, Walking, Walked}
+use Rattle.scrib_modules.specs.declared.checking.State.{State}
+use Rattle.scrib_modules.specs.declared.checking.State.TheVariants.{Unwalked, Walking, Walked}
 use Rattle.scrib_modules.specs.Names.{Declaration}
 use Rattle.scrib_modules.specs.Walking.{IsIdle}
 use Rattle.scrib_modules.proofs.Walks.{get_set}

@@ -18,22 +18,22 @@ use Rattle.scrib_modules.specs.declared.fault.FaultKind.TheVariants as kind
 use Rattle.scrib_elaborate.specs.declared.tasks.Task.{Task}
 use Rattle.scrib_elaborate.specs.declared.tasks.Task.TheVariants.{Front, Join}
 use Rattle.scrib_elaborate.specs.declared.tasks.Choosing.{Choosing}
-use Rattle.scrib_elaborate.specs.declared.standing.Standing.{Standing}
+use Rattle.scrib_elaborate.specs.declared.scope.Scope.{Scope as CodeScope}
 use Rattle.scrib_typed.specs.declared.built.Origin.{Origin}
 use Rattle.scrib_typed.specs.declared.built.Typed.{Typed}
-use Rattle.scrib_typed.specs.declared.untyped.Untyped.{Untyped}
-use Rattle.scrib_typed.specs.declared.untyped.Untyped.TheVariants as untyped
+use Rattle.scrib_typed.specs.declared.build_error.BuildError.{BuildError}
+use Rattle.scrib_typed.specs.declared.build_error.BuildError.TheVariants as untyped
 use Rattle.scrib_modules.specs.Source.{Body, Then, Chooses, Blocks, NoBlock, OrBlock}
 use Rattle.scrib_modules.specs.SourceView.{body_of, blocks_of}
 use Rattle.scrib_modules.specs.Names.{Declaration}
 use Rattle.scrib_modules.specs.Elaboration.{Scope, role_in, Frames, Under, and_branches, sent, Types, ends, closes, sends, chooses, repeats, passes, continues, calls, JoinsTo, joins_none, joins, start_of}
 use Rattle.scrib_modules.specs.Faults.{Stands, StandsIn, in_this, in_other, in_choice, Reaches, blocks_before, Needs, needs_itself, needs_branch, IsBranch, IsOneOf, IsFirstBlock, share_operator, FailsTyping}
 use Rattle.scrib_elaborate.specs.Sites.{communications, branch_communications, has_several, IsSite}
-use Rattle.scrib_elaborate.specs.Standing.{scope_of, IsSame}
+use Rattle.scrib_elaborate.specs.Scope.{scope_of, IsSame}
 use Rattle.scrib_typed.specs.Typed.{type_of}
 use Rattle.scrib_typed.specs.Rules.{AddsOrigins, IsFirst, IsAdded, HeadFails, IsHeadFault}
 use Rattle.scrib_elaborate.specs.Typing.{Made, made_of, IsMarked, Makes, FailsUp, AreTyped, Path, IsState, IsBefore, IsChoosing, TypingFails}
-use Rattle.scrib_elaborate.proofs.Needed.{fails_through}
+use Rattle.scrib_elaborate.proofs.NeededParts.{fails_through}
 use Rattle.scrib_elaborate.proofs.Sited.{marks_through, made_from, marks_more, marks_some, marks_joined}
 use Rattle.scrib_elaborate.proofs.Steps.{opened}
 
@@ -74,12 +74,12 @@ kept_on None P Q R g f h r = f h
 kept_on (Some t) P Q R g f h r = subst R (sym h) r
 
 -- the next block is entered
-pub next_block : (ms : List ModuleTree) (root : Declaration) (ts : List Task) (c : Choosing) (inner : Standing) (ss : Bor (List Statement)) (b : Block) (t : Typed) (left : ℕ) (g : Made)
-    → slice_get c.branches.now (length c.types.items) ≡ Some b → length c.types.items + 1 + left ≡ length c.branches.now → IsSame c.standing inner → ss.now ≡ b.body → g ≡ made_of t → MatchOption c.follows (left ≡ 0) (λ u. made_of u ≡ made_of t)
-    → IsChoosing ms root ts (scope_of c.standing) c.standing.depth c.chooser.now c.branches.now c.spot (Some t) c.types.items → IsState ms root (Front inner ss ∷ Join c ∷ ts) g
+pub next_block : (ms : List ModuleTree) (root : Declaration) (ts : List Task) (c : Choosing) (inner : CodeScope) (ss : Bor (List Statement)) (b : Block) (t : Typed) (left : ℕ) (g : Made)
+    → slice_get c.branches.now (length c.types.items) ≡ Some b → length c.types.items + 1 + left ≡ length c.branches.now → IsSame c.scope inner → ss.now ≡ b.body → g ≡ made_of t → MatchOption c.follows (left ≡ 0) (λ u. made_of u ≡ made_of t)
+    → IsChoosing ms root ts (scope_of c.scope) c.scope.depth c.chooser.now c.branches.now c.spot (Some t) c.types.items → IsState ms root (Front inner ss ∷ Join c ∷ ts) g
 next_block ms root ts c inner ss b t left g at count same body is kept x =
-    let sc = scope_of c.standing in
-    let n = c.standing.depth in
+    let sc = scope_of c.scope in
+    let n = c.scope.depth in
     let bs = c.branches.now in
     let k = length c.types.items in
     let after = Under sc x.rest x.outer in
@@ -118,7 +118,7 @@ next_block ms root ts c inner ss b t left g at count same body is kept x =
     )
 
 -- a choice without a block
-pub no_block : (ms : List ModuleTree) (root : Declaration) (ts : List Task) (st : Standing) (p : List ℕ) (bs : List Block) (spot : Spot) (g : Made)
+pub no_block : (ms : List ModuleTree) (root : Declaration) (ts : List Task) (st : CodeScope) (p : List ℕ) (bs : List Block) (spot : Spot) (g : Made)
     → bs ≡ [] → IsBefore ms root ts (scope_of st) st.depth (Chooses p (blocks_of bs) spot) g → (place : Declaration) × Reaches ms root place × (st.within.home.now ≡ place.home) × FailsTyping kind.EmptyBranch ms 0 (start_of root) place spot
 no_block ms root ts st p bs spot g none b =
     let sc = scope_of st in
@@ -323,7 +323,7 @@ head_fails kind.SameOperator ms n sc at bs i b spot rest outer receiver cs g the
 head_fails other ms n sc at bs i b spot rest outer receiver cs g there a t h = absurd h
 
 pub head_fault : (ms : List ModuleTree) (root : Declaration) (ts : List Task) (sc : Scope) (n : ℕ) (at : List ℕ) (bs : List Block) (i : ℕ) (b : Block) (spot : Spot) (follows : Option Typed) (types : List Typed) (receiver : Option (List ℕ)) (cs : GlobalBranches) (g : GlobalTree) (x : IsChoosing ms root ts sc n at bs spot follows types)
-    → slice_get bs i ≡ Some b → AreJoined ms n sc (Under sc x.rest x.outer) (role_in sc at) (blocks_of (take i bs)) receiver cs → Types ms n (Under sc (body_of b.body) (Under sc x.rest x.outer)) g → (e : Untyped) → IsHeadFault sc.within.home b.spot (role_in sc at) receiver cs g e
+    → slice_get bs i ≡ Some b → AreJoined ms n sc (Under sc x.rest x.outer) (role_in sc at) (blocks_of (take i bs)) receiver cs → Types ms n (Under sc (body_of b.body) (Under sc x.rest x.outer)) g → (e : BuildError) → IsHeadFault sc.within.home b.spot (role_in sc at) receiver cs g e
     → TypingFails ms root e
 head_fault ms root ts sc n at bs i b spot follows types receiver cs g x there a t (untyped.Broken h f) k =
     let whole = Under sc (Then (Chooses at (blocks_of bs) spot) x.rest) x.outer in
@@ -413,19 +413,19 @@ next_joined ms root ts sc n at bs i j b spot follows types t chooser old new cs 
     subst (λ y. AreJoined ms n sc (Under sc x.rest x.outer) (role_in sc at) y new ds) (sym more) u
 
 pub next_marked : (ms : List ModuleTree) (root : Declaration) (ts : List Task) (sc : Scope) (n : ℕ) (at : List ℕ) (bs : List Block) (i : ℕ) (b : Block) (spot : Spot) (follows : Option Typed) (types : List Typed) (t : Typed) (chooser : List ℕ) (old new : Option (List ℕ)) (cs ds : GlobalBranches) (js ks : List (Option Origin)) (x : IsChoosing ms root ts sc n at bs spot follows types)
-    → slice_get bs i ≡ Some b → slice_get types i ≡ Some t → IsAdded chooser old new cs ds (type_of t) → AddsOrigins js ks t.joins.items
+    → slice_get bs i ≡ Some b → slice_get types i ≡ Some t → IsAdded chooser old new cs ds (type_of t) → AddsOrigins js ks t.origins.items
     → AllZip (IsMarked ms n (Under sc (Then (Chooses at (blocks_of bs) spot) x.rest) x.outer)) (branch_communications n cs) js → AllZip (IsMarked ms n (Under sc (Then (Chooses at (blocks_of bs) spot) x.rest) x.outer)) (branch_communications n ds) ks
 next_marked ms root ts sc n at bs i b spot follows types t chooser old new cs ds js ks x found there d more marks =
     let after = Under sc x.rest x.outer in
     let whole = Under sc (Then (Chooses at (blocks_of bs) spot) x.rest) x.outer in
     let R = IsMarked ms n whole in
     let needs : Needs ms n whole n (Under sc (body_of b.body) after) = needs_branch (blocks_of (take i bs)) (body_of b.body) b.spot (blocks_of (drop (suc i) bs)) (block_at bs i b found) needs_itself in
-    let here = marks_through needs (communications n (type_of t)) t.joins.items (x.typed i b t found there).marked in
-    let marked = subst (λ g. AllZip R (communications n g) t.joins.items) d.is here in
+    let here = marks_through needs (communications n (type_of t)) t.origins.items (x.typed i b t found there).marked in
+    let marked = subst (λ g. AllZip R (communications n g) t.origins.items) d.is here in
     ⊎_elim (λ e. absurd (marks_some ms n whole n chooser d.receiver d.branches (subst (λ y. AllZip R (communications n (Comm chooser d.receiver d.branches)) y) e marked))) (λ m. subst (λ y. AllZip R (branch_communications n ds) y) (sym m.3) (subst (λ y. AllZip R (branch_communications n y) (js ++ m.0)) (sym d.joined) (marks_more ms n whole n chooser d.receiver cs d.branches js m.0 m.1 marks (subst (λ y. AllZip R (communications n (Comm chooser d.receiver d.branches)) y) m.2 marked)))) more
 
 pub next_fails : (ms : List ModuleTree) (root : Declaration) (ts : List Task) (sc : Scope) (n : ℕ) (at : List ℕ) (bs : List Block) (i : ℕ) (b : Block) (spot : Spot) (follows : Option Typed) (types : List Typed) (t : Typed) (chooser : List ℕ) (old : Option (List ℕ)) (cs : GlobalBranches) (x : IsChoosing ms root ts sc n at bs spot follows types)
-    → slice_get bs i ≡ Some b → slice_get types i ≡ Some t → chooser ≡ role_in sc at → AreJoined ms n sc (Under sc x.rest x.outer) (role_in sc at) (blocks_of (take i bs)) old cs → (e : Untyped) → IsHeadFault sc.within.home b.spot chooser old cs (type_of t) e
+    → slice_get bs i ≡ Some b → slice_get types i ≡ Some t → chooser ≡ role_in sc at → AreJoined ms n sc (Under sc x.rest x.outer) (role_in sc at) (blocks_of (take i bs)) old cs → (e : BuildError) → IsHeadFault sc.within.home b.spot chooser old cs (type_of t) e
     → TypingFails ms root e
 next_fails ms root ts sc n at bs i b spot follows types t chooser old cs x found there given a e f =
     let typed = (x.typed i b t found there).typed in
@@ -468,9 +468,9 @@ one_left (Some c) None b t e = absurd (cc e)
 one_left (Some c) (Some u) b t e = (ap (option_map (λ x. x.0)) e, ap (option_map (λ x. x.1)) e)
 
 pub block_typed : (ms : List ModuleTree) (root : Declaration) (ts : List Task) (c : Choosing) (types : List Typed) (t : Typed) → types ≡ c.types.items ++ t ∷ [] → IsState ms root (Join c ∷ ts) (made_of t)
-    → IsChoosing ms root ts (scope_of c.standing) c.standing.depth c.chooser.now c.branches.now c.spot c.follows types
+    → IsChoosing ms root ts (scope_of c.scope) c.scope.depth c.chooser.now c.branches.now c.spot c.follows types
 block_typed ms root ts c types t more s =
-    let sc = scope_of c.standing in
+    let sc = scope_of c.scope in
     let hs = s.path.0 in
     let f = s.path.1 in
     let after = Under sc f.rest f.outer in

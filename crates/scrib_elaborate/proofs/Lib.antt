@@ -2,8 +2,8 @@ mod Inversion
 mod Branches
 pub mod Functional
 pub mod Lifted
-pub mod Needed
-mod Used
+pub mod NeededParts
+mod RecursionsUsed
 pub mod Accepted
 mod Typed
 pub mod Passing

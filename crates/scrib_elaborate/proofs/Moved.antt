@@ -22,7 +22,7 @@ use Rattle.scrib_typed.specs.Renaming.{renamed, branches_renamed}
 use Rattle.scrib_elaborate.specs.Sites.{communications, branch_communications, has_several, is_several, IsSite}
 use Rattle.scrib_elaborate.specs.Typing.{Made, IsMarked, Makes}
 use Rattle.scrib_modules.proofs.GivenRoles.{role_itself, true_or_false}
-use Rattle.scrib_modules.proofs.Kept.{of_then, of_chooses, of_repeats, of_or, of_sends, of_calls, of_protocol}
+use Rattle.scrib_modules.proofs.RulesKept.{of_then, of_chooses, of_repeats, of_or, of_sends, of_calls, of_protocol}
 use Rattle.scrib_elaborate.proofs.Lifted.{lift_below, below_more}
 use Rattle.scrib_elaborate.proofs.Sited.{made_from, zip_map}
 

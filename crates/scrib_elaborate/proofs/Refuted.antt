@@ -16,10 +16,10 @@ use Rattle.scrib_modules.specs.Names.{Declaration, has_name, distinct_names, rol
 use Rattle.scrib_modules.specs.Statements.{are_roles, KeepsRules}
 use Rattle.scrib_modules.specs.Elaboration.{and_branches, Scope, role_in, inside, Frames, Under, Types, nodes, height, start_of, Elaborates}
 use Rattle.scrib_modules.specs.Sizes.{IsTooLarge}
-use Rattle.scrib_modules.specs.Faults.{HasStep, IsAgain, HasNoRole, message, choice, call, IsUnreachable, IsLoose, blocks_before, IsNeeded, IsUnguarded, IsBranch, IsWithoutBranch, IsOfAnother, IsToAnother, IsSameOperator, share_operator, Fails, IsInside, IsBroken}
+use Rattle.scrib_modules.specs.Faults.{HasStatement, IsAgain, HasNoRole, message, choice, call, IsUnreachable, IsLoose, blocks_before, IsNeeded, IsUnguarded, IsBranch, IsWithoutBranch, IsOfAnother, IsToAnother, IsSameOperator, share_operator, Fails, IsInside, IsBroken}
 use Rattle.scrib_elaborate.proofs.Inversion.{type_of_chooses, type_of_repeats, join_of_none, join_of_or, IsJoin}
 use Rattle.scrib_elaborate.proofs.Functional.{types_same}
-use Rattle.scrib_modules.proofs.Kept.{kept_at, of_then, of_protocol, of_sends, of_chooses, of_continues, step_at, callee, no_cycle, kept_along, step_exits_same}
+use Rattle.scrib_modules.proofs.RulesKept.{kept_at, of_then, of_protocol, of_sends, of_chooses, of_continues, step_at, callee, no_cycle, kept_along, step_exits_same}
 use Rattle.scrib_elaborate.proofs.Typed.{split_join, branch_of_join, IsBranchOf, typed_at, not_shared}
 use Rattle.scrib_elaborate.proofs.Counted.{counted, measured}
 use Rattle.scrib_modules.proofs.Distinct.{distinct_roles-again, distinct_names-again, found_nowhere}
@@ -38,7 +38,7 @@ names_again f spot_of xs spot h d =
 
 -- the first pass
 
-first_pass : (ms : List ModuleTree) (d : Declaration) (e : _) → KeepsRules ms d e → {path roles : List (List ℕ)} {spot : Spot} → HasStep d (Calls path roles spot)
+first_pass : (ms : List ModuleTree) (d : Declaration) (e : _) → KeepsRules ms d e → {path roles : List (List ℕ)} {spot : Spot} → HasStatement d (Calls path roles spot)
     → (c : Declaration) × (are_roles roles (roles_of d) ≡ true) × (distinct_roles roles ≡ true) × (called ms d.home path ≡ Some c) × (length roles ≡ length c.protocol.roles)
 first_pass ms d e k h = let t = callee k h in (t.to, t.call.declared, t.call.different, t.call.there, t.call.count)
 

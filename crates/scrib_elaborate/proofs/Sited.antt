@@ -7,18 +7,18 @@ use Rattle.scrib_types.specs.declared.spot.Spot.{Spot}
 use Rattle.scrib_types.specs.Trees.{GlobalTree, GlobalEnd, GlobalVar, GlobalRec, Comm, Flight, GlobalBranches, NoBranch, Branch}
 use Rattle.scrib_parser.specs.declared.tree.ModuleTree.{ModuleTree}
 use Rattle.scrib_typed.specs.declared.built.Origin.{Origin}
-use Rattle.scrib_elaborate.specs.declared.elaborated.Join.{Join}
+use Rattle.scrib_elaborate.specs.declared.elaborated.ChoiceSite.{ChoiceSite}
 use Rattle.scrib_modules.specs.Source.{Then, Chooses}
 use Rattle.scrib_modules.specs.Names.{Declaration}
 use Rattle.scrib_modules.specs.Elaboration.{Frames, NoFrame, Under, and_branches, sent, Types, ends, start_of}
 use Rattle.scrib_modules.specs.Faults.{Needs}
 use Rattle.scrib_typed.specs.Lifting.{lifted, branches_lifted}
 use Rattle.scrib_elaborate.specs.Levels.{AreBelow}
-use Rattle.scrib_elaborate.specs.Sites.{communications, branch_communications, has_several, is_several, several_of, IsSite, IsJoinOf}
+use Rattle.scrib_elaborate.specs.Sites.{communications, branch_communications, has_several, is_several, several_of, IsSite, IsSiteOf}
 use Rattle.scrib_typed.specs.Typed.{none_told, retold}
-use Rattle.scrib_elaborate.specs.Typing.{Made, nothing_made, IsMarked, Makes, joins_told}
+use Rattle.scrib_elaborate.specs.Typing.{Made, nothing_made, IsMarked, Makes, told_sites}
 use Rattle.scrib_elaborate.proofs.Lifted.{raised_scope, raised, raised_stay, lift_types, lift_below, has_branches_lifted}
-use Rattle.scrib_elaborate.proofs.Needed.{needs_trans, needs_deeper, needs_raised}
+use Rattle.scrib_elaborate.proofs.NeededParts.{needs_trans, needs_deeper, needs_raised}
 
 -- lists, one by one
 
@@ -207,7 +207,7 @@ marks_retold ms k fs n p q cs js o here h =
 
 -- the whole protocol
 
-pub sites_told : (ms : List ModuleTree) (root : Declaration) (cs : List (ℕ × GlobalTree)) (js : List (Option Origin)) → AllZip (IsMarked ms 0 (start_of root)) cs js → AllZip (IsJoinOf ms root) (several_of cs) (joins_told js)
+pub sites_told : (ms : List ModuleTree) (root : Declaration) (cs : List (ℕ × GlobalTree)) (js : List (Option Origin)) → AllZip (IsMarked ms 0 (start_of root)) cs js → AllZip (IsSiteOf ms root) (several_of cs) (told_sites js)
 sites_told ms root [] [] h = h
 sites_told ms root [] (j ∷ js) h = absurd h
 sites_told ms root (c ∷ cs) [] h = absurd h
@@ -216,19 +216,19 @@ sites_told ms root (c ∷ cs) (Some o ∷ js) h = rw h.0.0 (h.0.1, sites_told ms
 
 -- the joins of the first origins
 
-told_and : (js ks : List (Option Origin)) → joins_told (js ++ ks) ≡ joins_told js ++ joins_told ks
+told_and : (js ks : List (Option Origin)) → told_sites (js ++ ks) ≡ told_sites js ++ told_sites ks
 told_and [] ks = refl
 told_and (None ∷ js) ks = told_and js ks
 told_and (Some o ∷ js) ks = ap (λ ts. record { «module» = o.home.now.name; spot = o.spot } ∷ ts) (told_and js ks)
 
-told_more : (js : List (Option Origin)) (i : ℕ) (x : Option Origin) → i < length js → x ≡ get_or js i x → joins_told (take (i + 1) js) ≡ joins_told (take i js) ++ joins_told (x ∷ [])
+told_more : (js : List (Option Origin)) (i : ℕ) (x : Option Origin) → i < length js → x ≡ get_or js i x → told_sites (take (i + 1) js) ≡ told_sites (take i js) ++ told_sites (x ∷ [])
 told_more js i x n e =
-    ap joins_told (take_more js i x n ∙ ap (λ y. take i js ++ y ∷ []) (sym e)) ∙ told_and (take i js) (x ∷ [])
+    ap told_sites (take_more js i x n ∙ ap (λ y. take i js ++ y ∷ []) (sym e)) ∙ told_and (take i js) (x ∷ [])
 
-pub told_some : (js : List (Option Origin)) (i : ℕ) (x : Option Origin) (o : Origin) (name : List (List ℕ)) (old new : List Join) → i < length js → x ≡ get_or js i x → x ≡ Some o → name ≡ o.home.now.name → old ≡ joins_told (take i js) → new ≡ old ++ record { «module» = name; spot = o.spot } ∷ [] → new ≡ joins_told (take (i + 1) js)
+pub told_some : (js : List (Option Origin)) (i : ℕ) (x : Option Origin) (o : Origin) (name : List (List ℕ)) (old new : List ChoiceSite) → i < length js → x ≡ get_or js i x → x ≡ Some o → name ≡ o.home.now.name → old ≡ told_sites (take i js) → new ≡ old ++ record { «module» = name; spot = o.spot } ∷ [] → new ≡ told_sites (take (i + 1) js)
 told_some js i x o name old new n e is named so_far push =
-    push ∙ (λ k. so_far k ++ record { «module» = named k; spot = o.spot } ∷ []) ∙ sym (told_more js i x n e ∙ ap (λ y. joins_told (take i js) ++ joins_told (y ∷ [])) is)
+    push ∙ (λ k. so_far k ++ record { «module» = named k; spot = o.spot } ∷ []) ∙ sym (told_more js i x n e ∙ ap (λ y. told_sites (take i js) ++ told_sites (y ∷ [])) is)
 
-pub told_none : (js : List (Option Origin)) (i : ℕ) (x : Option Origin) (old : List Join) → i < length js → x ≡ get_or js i x → x ≡ None → old ≡ joins_told (take i js) → old ≡ joins_told (take (i + 1) js)
+pub told_none : (js : List (Option Origin)) (i : ℕ) (x : Option Origin) (old : List ChoiceSite) → i < length js → x ≡ get_or js i x → x ≡ None → old ≡ told_sites (take i js) → old ≡ told_sites (take (i + 1) js)
 told_none js i x old n e is so_far =
-    so_far ∙ sym (told_more js i x n e ∙ ap (λ y. joins_told (take i js) ++ joins_told (y ∷ [])) is ∙ append-nil (joins_told (take i js)))
+    so_far ∙ sym (told_more js i x n e ∙ ap (λ y. told_sites (take i js) ++ told_sites (y ∷ [])) is ∙ append-nil (told_sites (take i js)))

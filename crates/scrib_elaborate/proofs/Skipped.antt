@@ -8,7 +8,7 @@ use Rattle.scrib_types.specs.Trees.{GlobalEnd, Comm}
 use Rattle.scrib_types.specs.WellFormed.{distinct_roles}
 use Rattle.scrib_parser.specs.declared.tree.ModuleTree.{ModuleTree}
 use Rattle.scrib_typed.specs.declared.built.Origin.{Origin}
-use Rattle.scrib_modules.specs.declared.declared.Declared.{Declared}
+use Rattle.scrib_modules.specs.declared.declared.Declaration.{Declaration as CodeDeclaration}
 use Rattle.scrib_modules.specs.declared.shape.Shape.{Shape}
 use Rattle.scrib_modules.specs.declared.shape.Shape.TheVariants.{Nothing, Joining, Other}
 use Rattle.scrib_elaborate.specs.declared.tasks.Task.{Task}
@@ -25,7 +25,7 @@ use Rattle.scrib_modules.specs.Table.{declaration_of, shown}
 use Rattle.scrib_typed.specs.Typed.{retold}
 use Rattle.scrib_elaborate.specs.Typing.{Made, IsMarked, Makes, IsAlone, PassesOn, IsBefore, IsState}
 use Rattle.scrib_elaborate.proofs.Begun.{nothing_needs, only_needs, begins_site}
-use Rattle.scrib_modules.proofs.Kept.{of_then, of_calls}
+use Rattle.scrib_modules.proofs.RulesKept.{of_then, of_calls}
 use Rattle.scrib_elaborate.proofs.Moved.{made_moved}
 use Rattle.scrib_elaborate.proofs.Passing.{call_of_nothing, call_of_only, typed_branches}
 use Rattle.scrib_modules.proofs.Shaped.{placed_at, given_at}
@@ -33,14 +33,14 @@ use Rattle.scrib_elaborate.proofs.Sited.{site_through, marks_through, marks_reto
 use Rattle.scrib_elaborate.proofs.Steps.{block_kept}
 
 -- the table's entry at a place
-shown_at : (table : List Declared) (k : ℕ) (d : Declaration) → slice_get (shown table) k ≡ Some d → (e : Declared) × (slice_get table k ≡ Some e) × (declaration_of e ≡ d)
+shown_at : (table : List CodeDeclaration) (k : ℕ) (d : Declaration) → slice_get (shown table) k ≡ Some d → (e : CodeDeclaration) × (slice_get table k ≡ Some e) × (declaration_of e ≡ d)
 shown_at table k d h = of (slice_get table k) refl (sym (slice_get-map declaration_of table k) ∙ h)
   where
-    of : (o : Option Declared) → slice_get table k ≡ o → option_map declaration_of o ≡ Some d → (e : Declared) × (slice_get table k ≡ Some e) × (declaration_of e ≡ d)
+    of : (o : Option CodeDeclaration) → slice_get table k ≡ o → option_map declaration_of o ≡ Some d → (e : CodeDeclaration) × (slice_get table k ≡ Some e) × (declaration_of e ≡ d)
     of None e f = absurd (cc f)
     of (Some x) e f = let same : declaration_of x ≡ d = cc f in (x, e, same)
 
-pub call_skipped : (ms : List ModuleTree) (root : Declaration) (ts : List Task) (sc : Scope) (n : ℕ) (path roles given : List (List ℕ)) (spot : Spot) (c : Declaration) (f : Shape) (table : List Declared) (g h : Made)
+pub call_skipped : (ms : List ModuleTree) (root : Declaration) (ts : List Task) (sc : Scope) (n : ℕ) (path roles given : List (List ℕ)) (spot : Spot) (c : Declaration) (f : Shape) (table : List CodeDeclaration) (g h : Made)
     → called ms sc.within.home path ≡ Some c → IsShapeOf ms c f → given ≡ map (role_in sc) roles → Passes f given g.type → shown table ≡ declarations ms → PassesOn table f g h → IsBefore ms root ts sc n (Calls path roles spot) g → IsState ms root ts h
 call_skipped ms root ts sc n path roles given spot c f table g h there shaped named passed all told b = record {
   depth = n;

@@ -4,13 +4,13 @@ use Rattle.std.proofs.lemmas.Bool.{false≢true, or_parts}
 use Rattle.scrib_types.specs.declared.message.Message.{Message}
 use Rattle.scrib_types.specs.declared.spot.Spot.{Spot}
 use Rattle.scrib_parser.specs.declared.tree.ModuleTree.{ModuleTree}
-use Rattle.scrib_parser.specs.declared.tree.Statement.{Statement}
+use Rattle.scrib_parser.specs.declared.tree.Statement.{Statement as ParsedStatement}
 use Rattle.scrib_parser.specs.declared.tree.Block.{Block}
-use Rattle.scrib_modules.specs.Source.{Body, Done, Then, Step, Sends, Chooses, Repeats, Calls, Blocks, OrBlock}
-use Rattle.scrib_modules.specs.SourceView.{step_of, body_of, blocks_of}
+use Rattle.scrib_modules.specs.Source.{Body, Done, Then, Statement, Sends, Chooses, Repeats, Calls, Blocks, OrBlock}
+use Rattle.scrib_modules.specs.SourceView.{statement_of, body_of, blocks_of}
 use Rattle.scrib_modules.specs.Names.{Declaration, called}
-use Rattle.scrib_modules.specs.Statements.{KeepsRules, protocol_keeps, BlockKeeps, end_keeps, then_keeps, StepKeeps, sends_keeps, chooses_keeps, repeats_keeps, continues_keeps, calls_keeps, BlocksKeep, none_keeps, or_keeps}
-use Rattle.scrib_elaborate.specs.Staying.{Stays, stays_here, stays_later, StepStays, chooses_stays, repeats_stays, continues_stays, calls_stays, AllStay, none_stays, all_stay}
+use Rattle.scrib_modules.specs.Statements.{KeepsRules, protocol_keeps, BlockKeeps, end_keeps, then_keeps, StatementKeeps, sends_keeps, chooses_keeps, repeats_keeps, continues_keeps, calls_keeps, BlocksKeep, none_keeps, or_keeps}
+use Rattle.scrib_elaborate.specs.Staying.{Stays, stays_here, stays_later, StatementStays, chooses_stays, repeats_stays, continues_stays, calls_stays, AllStay, none_stays, all_stay}
 use Rattle.scrib_modules.proofs.Checks.{body_more, blocks_more}
 
 -- what keeps the rules and has no exit
@@ -28,7 +28,7 @@ mutual
   block_stays (then_keeps {e = e} s r) h none =
       ⊎_elim (λ t. stays_later (block_stays r t none)) (λ f. stays_here (step_stays s f)) (true_or_false e)
 
-  step_stays : {ms : List ModuleTree} {d : Declaration} {recs : List (List ℕ)} {s : Step} {e : Bool} → StepKeeps ms d recs s e → e ≡ false → StepStays ms d.home s
+  step_stays : {ms : List ModuleTree} {d : Declaration} {recs : List (List ℕ)} {s : Statement} {e : Bool} → StatementKeeps ms d recs s e → e ≡ false → StatementStays ms d.home s
   step_stays (sends_keeps r o) none = absurd (false≢true (sym none))
   step_stays (chooses_keeps p bs) none = chooses_stays (blocks_stay bs none)
   step_stays (repeats_keeps b) none = repeats_stays (block_stays b refl none)
@@ -43,23 +43,23 @@ mutual
 
 -- the parts of what has no exit
 
-pub of_then : {ms : List ModuleTree} {home : ModuleTree} {s : Step} {b : Body} → Stays ms home (Then s b) → StepStays ms home s ⊎ Stays ms home b
+pub of_then : {ms : List ModuleTree} {home : ModuleTree} {s : Statement} {b : Body} → Stays ms home (Then s b) → StatementStays ms home s ⊎ Stays ms home b
 of_then (stays_here s) = inl s
 of_then (stays_later b) = inr b
 
 pub of_done : {ms : List ModuleTree} {home : ModuleTree} → Stays ms home Done → ⊥
 of_done h = elim h [ ]
 
-pub of_sends : {ms : List ModuleTree} {home : ModuleTree} {m : Message} {p : List ℕ} {qs : List (List ℕ)} {s : Spot} → StepStays ms home (Sends m p qs s) → ⊥
+pub of_sends : {ms : List ModuleTree} {home : ModuleTree} {m : Message} {p : List ℕ} {qs : List (List ℕ)} {s : Spot} → StatementStays ms home (Sends m p qs s) → ⊥
 of_sends h = elim h [ ]
 
-pub of_chooses : {ms : List ModuleTree} {home : ModuleTree} {p : List ℕ} {bs : Blocks} {s : Spot} → StepStays ms home (Chooses p bs s) → AllStay ms home bs
+pub of_chooses : {ms : List ModuleTree} {home : ModuleTree} {p : List ℕ} {bs : Blocks} {s : Spot} → StatementStays ms home (Chooses p bs s) → AllStay ms home bs
 of_chooses (chooses_stays bs) = bs
 
-pub of_repeats : {ms : List ModuleTree} {home : ModuleTree} {x : List ℕ} {c : Body} {s : Spot} → StepStays ms home (Repeats x c s) → Stays ms home c
+pub of_repeats : {ms : List ModuleTree} {home : ModuleTree} {x : List ℕ} {c : Body} {s : Spot} → StatementStays ms home (Repeats x c s) → Stays ms home c
 of_repeats (repeats_stays c) = c
 
-pub of_calls : {ms : List ModuleTree} {home : ModuleTree} {path roles : List (List ℕ)} {s : Spot} (c : Declaration) → called ms home path ≡ Some c → StepStays ms home (Calls path roles s) → Stays ms c.home (body_of c.protocol.body)
+pub of_calls : {ms : List ModuleTree} {home : ModuleTree} {path roles : List (List ℕ)} {s : Spot} (c : Declaration) → called ms home path ≡ Some c → StatementStays ms home (Calls path roles s) → Stays ms c.home (body_of c.protocol.body)
 of_calls {ms = ms} c e (calls_stays {c = d} f b) =
     let same : d ≡ c = cc (e, f) in
     subst (λ x. Stays ms x.home (body_of x.protocol.body)) same b
@@ -69,10 +69,10 @@ of_or (all_stay b bs) = (b, bs)
 
 -- the statements of a block, and the blocks of a choice, one by one
 
-pub stays_at : (ms : List ModuleTree) (home : ModuleTree) (ss : List Statement) (i : ℕ) (s : Statement) → i < length ss → s ≡ get_or ss i s → StepStays ms home (step_of s) → Stays ms home (body_of (drop i ss))
+pub stays_at : (ms : List ModuleTree) (home : ModuleTree) (ss : List ParsedStatement) (i : ℕ) (s : ParsedStatement) → i < length ss → s ≡ get_or ss i s → StatementStays ms home (statement_of s) → Stays ms home (body_of (drop i ss))
 stays_at ms home ss i s h e k = subst (Stays ms home) (sym (body_more ss i s h e)) (stays_here k)
 
-pub stays_more : (ms : List ModuleTree) (home : ModuleTree) (ss : List Statement) (i : ℕ) (s : Statement) → i < length ss → s ≡ get_or ss i s → Stays ms home (body_of (drop (i + 1) ss)) → Stays ms home (body_of (drop i ss))
+pub stays_more : (ms : List ModuleTree) (home : ModuleTree) (ss : List ParsedStatement) (i : ℕ) (s : ParsedStatement) → i < length ss → s ≡ get_or ss i s → Stays ms home (body_of (drop (i + 1) ss)) → Stays ms home (body_of (drop i ss))
 stays_more ms home ss i s h e k = subst (Stays ms home) (sym (body_more ss i s h e)) (stays_later k)
 
 pub all_more : (ms : List ModuleTree) (home : ModuleTree) (bs : List Block) (i : ℕ) (b : Block) → i < length bs → b ≡ get_or bs i b → Stays ms home (body_of b.body) → AllStay ms home (blocks_of (drop (i + 1) bs)) → AllStay ms home (blocks_of (drop i bs))

@@ -7,59 +7,59 @@ use Rattle.scrib_types.specs.declared.spot.Spot.{Spot}
 use Rattle.scrib_types.specs.Trees.{GlobalVar, GlobalRec}
 use Rattle.scrib_types.specs.WellFormed.{leads_to_communication}
 use Rattle.scrib_parser.specs.declared.tree.ModuleTree.{ModuleTree}
-use Rattle.scrib_parser.specs.declared.tree.Statement.{Statement}
+use Rattle.scrib_parser.specs.declared.tree.Statement.{Statement as ParsedStatement}
 use Rattle.scrib_modules.specs.declared.fault.FaultKind.{FaultKind}
 use Rattle.scrib_modules.specs.declared.fault.FaultKind.TheVariants as kind
-use Rattle.scrib_typed.specs.declared.untyped.Untyped.{Untyped}
-use Rattle.scrib_typed.specs.declared.untyped.Untyped.TheVariants as untyped
+use Rattle.scrib_typed.specs.declared.build_error.BuildError.{BuildError}
+use Rattle.scrib_typed.specs.declared.build_error.BuildError.TheVariants as untyped
 use Rattle.scrib_elaborate.specs.declared.tasks.Task.{Task}
 use Rattle.scrib_elaborate.specs.declared.tasks.Task.TheVariants.{Front, Close}
-use Rattle.scrib_elaborate.specs.declared.standing.Standing.{Standing}
-use Rattle.scrib_modules.specs.Source.{Body, Done, Then, Step, Sends, Repeats, Continues, Calls}
-use Rattle.scrib_modules.specs.SourceView.{step_of, body_of}
+use Rattle.scrib_elaborate.specs.declared.scope.Scope.{Scope as CodeScope}
+use Rattle.scrib_modules.specs.Source.{Body, Done, Then, Statement, Sends, Repeats, Continues, Calls}
+use Rattle.scrib_modules.specs.SourceView.{statement_of, body_of}
 use Rattle.scrib_modules.specs.Names.{Declaration, called}
-use Rattle.scrib_modules.specs.Statements.{KeepsRules, BlockKeeps, StepKeeps}
+use Rattle.scrib_modules.specs.Statements.{KeepsRules, BlockKeeps, StatementKeeps}
 use Rattle.scrib_modules.specs.Elaboration.{continues_in, Scope, role_in, level_of, inside, inside_call, Frames, NoFrame, Under, sent, closes, sends, repeats, passes, continues, calls, start_of}
 use Rattle.scrib_modules.specs.Faults.{Stands, here, later, in_rec, Reaches, itself, needs_itself, needs_close, needs_sends, needs_repeats, needs_passes, needs_calls, FailsTyping}
 use Rattle.scrib_typed.specs.Lifting.{lifted}
 use Rattle.scrib_elaborate.specs.Levels.{AreBelow}
 use Rattle.scrib_modules.specs.Table.{IsPart}
-use Rattle.scrib_elaborate.specs.Standing.{scope_of, start_scope, IsStart, IsSame, IsInside}
+use Rattle.scrib_elaborate.specs.Scope.{scope_of, start_scope, IsStart, IsSame, IsInside}
 use Rattle.scrib_elaborate.specs.Sites.{communications}
 use Rattle.scrib_typed.specs.Typed.{none_told}
 use Rattle.scrib_typed.specs.Rules.{IsUnguarded}
 use Rattle.scrib_elaborate.specs.Typing.{Made, nothing_made, Makes, before, FailsUp, IsFront, Path, IsState, IsBefore, TypingFails}
-use Rattle.scrib_modules.proofs.Kept.{of_then, of_protocol, kept_at, kept_along, reaches_on}
+use Rattle.scrib_modules.proofs.RulesKept.{of_then, of_protocol, kept_at, kept_along, reaches_on}
 use Rattle.scrib_modules.proofs.Checks.{stands_here}
 use Rattle.scrib_elaborate.proofs.Lifted.{below_more, levels_more}
-use Rattle.scrib_elaborate.proofs.Needed.{fails_through, fails_rest}
+use Rattle.scrib_elaborate.proofs.NeededParts.{fails_through, fails_rest}
 use Rattle.scrib_elaborate.proofs.Sited.{marks_through, made_through, made_from, made_deeper, nothing_follows, marks_sent}
 
 -- statements in front of others
 
-pub before_done : (ss : List Statement) → before ss Done ≡ body_of ss
+pub before_done : (ss : List ParsedStatement) → before ss Done ≡ body_of ss
 before_done [] = refl
-before_done (s ∷ ss) = ap (Then (step_of s)) (before_done ss)
+before_done (s ∷ ss) = ap (Then (statement_of s)) (before_done ss)
 
-pub before_push : (ss : List Statement) (s : Statement) (b : Body) → before (ss ++ s ∷ []) b ≡ before ss (Then (step_of s) b)
+pub before_push : (ss : List ParsedStatement) (s : ParsedStatement) (b : Body) → before (ss ++ s ∷ []) b ≡ before ss (Then (statement_of s) b)
 before_push [] s b = refl
-before_push (t ∷ ss) s b = ap (Then (step_of t)) (before_push ss s b)
+before_push (t ∷ ss) s b = ap (Then (statement_of t)) (before_push ss s b)
 
-later_all : {recs inner : List (List ℕ)} {b r : Body} (ss : List Statement) → Stands recs b inner r → Stands recs (before ss b) inner r
+later_all : {recs inner : List (List ℕ)} {b r : Body} (ss : List ParsedStatement) → Stands recs b inner r → Stands recs (before ss b) inner r
 later_all [] st = st
 later_all (s ∷ ss) st = later (later_all ss st)
 
-starts : {ms : List ModuleTree} {d : Declaration} {recs : List (List ℕ)} {e f : Bool} (s : Step) (b : Body) (ss : List Statement) → BlockKeeps ms d recs e (before ss (Then s b)) f → e ≡ true
+starts : {ms : List ModuleTree} {d : Declaration} {recs : List (List ℕ)} {e f : Bool} (s : Statement) (b : Body) (ss : List ParsedStatement) → BlockKeeps ms d recs e (before ss (Then s b)) f → e ≡ true
 starts s b [] k = (of_then k).before
 starts s b (t ∷ ss) k = (of_then k).before
 
-fails_in_front : (k : FaultKind) (d : Declaration) (spot : Spot) (ms : List ModuleTree) (recs : List (List ℕ)) (n : ℕ) (sc : Scope) (ss : List Statement) (s : Step) (b : Body) (outer : Frames) (e f : Bool)
+fails_in_front : (k : FaultKind) (d : Declaration) (spot : Spot) (ms : List ModuleTree) (recs : List (List ℕ)) (n : ℕ) (sc : Scope) (ss : List ParsedStatement) (s : Statement) (b : Body) (outer : Frames) (e f : Bool)
     → BlockKeeps ms sc.within recs e (before ss (Then s b)) f → AreBelow n (Under sc b outer) → FailsTyping k ms n (Under sc (Then s b) outer) d spot → FailsTyping k ms n (Under sc (before ss (Then s b)) outer) d spot
 fails_in_front k d spot ms recs n sc [] s b outer e f keeps low h = h
 fails_in_front k d spot ms recs n sc (t ∷ ss) s b outer e f keeps low h =
     let v = of_then keeps in
-    let leads = subst (λ x. StepKeeps ms sc.within recs (step_of t) x) (starts s b ss v.rest) v.step in
-    fails_rest k ms recs n sc (step_of t) (before ss (Then s b)) outer d spot leads low (fails_in_front k d spot ms recs n sc ss s b outer v.leads f v.rest low h)
+    let leads = subst (λ x. StatementKeeps ms sc.within recs (statement_of t) x) (starts s b ss v.rest) v.step in
+    fails_rest k ms recs n sc (statement_of t) (before ss (Then s b)) outer d spot leads low (fails_in_front k d spot ms recs n sc ss s b outer v.leads f v.rest low h)
 
 pub block_kept : {ms : List ModuleTree} {root d : Declaration} (recs : List (List ℕ)) (b : Body) → Reaches ms root d → (e : Bool) → KeepsRules ms root e → IsPart d recs b → (a f : Bool) × BlockKeeps ms d recs a b f
 block_kept {ms = ms} {d = d} recs b reached e kept part =
@@ -81,7 +81,7 @@ pushed_twice ms root old mid new t u g h e f same st =
 
 -- the state at statements in front
 
-pub record IsAt (ms : List ModuleTree) (root : Declaration) (ts : List Task) (sc : Scope) (n : ℕ) (ss : List Statement) (g : Made) : Type 0 where
+pub record IsAt (ms : List ModuleTree) (root : Declaration) (ts : List Task) (sc : Scope) (n : ℕ) (ss : List ParsedStatement) (g : Made) : Type 0 where
   pub rest : Body
   pub outer : Frames
   pub next : Frames
@@ -94,7 +94,7 @@ pub record IsAt (ms : List ModuleTree) (root : Declaration) (ts : List Task) (sc
   pub below : AreBelow n (Under sc rest outer)
   pub path : Path ms root ts n next
 
-pub front_at : (ms : List ModuleTree) (root : Declaration) (ts : List Task) (st : Standing) (ss : Bor (List Statement)) (g : Made) → IsState ms root (Front st ss ∷ ts) g → IsAt ms root ts (scope_of st) st.depth ss.now g
+pub front_at : (ms : List ModuleTree) (root : Declaration) (ts : List Task) (st : CodeScope) (ss : Bor (List ParsedStatement)) (g : Made) → IsState ms root (Front st ss ∷ ts) g → IsAt ms root ts (scope_of st) st.depth ss.now g
 front_at ms root ts st ss g s =
     let hs = s.path.0 in
     let f = s.path.1 in
@@ -114,7 +114,7 @@ front_at ms root ts st ss g s =
     })
 
 -- the statements count, and not where they lie in memory
-pub front_same : (ms : List ModuleTree) (root : Declaration) (ts : List Task) (st : Standing) (ss others : Bor (List Statement)) (g : Made) → ss.now ≡ others.now → IsState ms root (Front st ss ∷ ts) g → IsState ms root (Front st others ∷ ts) g
+pub front_same : (ms : List ModuleTree) (root : Declaration) (ts : List Task) (st : CodeScope) (ss others : Bor (List ParsedStatement)) (g : Made) → ss.now ≡ others.now → IsState ms root (Front st ss ∷ ts) g → IsState ms root (Front st others ∷ ts) g
 front_same ms root ts st ss others g e s = record {
   depth = s.depth;
   frames = s.frames;
@@ -123,26 +123,26 @@ front_same ms root ts st ss others g e s = record {
 }
 
 -- no statement is left
-pub front_done : (ms : List ModuleTree) (root : Declaration) (ts : List Task) (st : Standing) (ss : Bor (List Statement)) (g : Made) → ss.now ≡ [] → IsState ms root (Front st ss ∷ ts) g → IsState ms root ts g
+pub front_done : (ms : List ModuleTree) (root : Declaration) (ts : List Task) (st : CodeScope) (ss : Bor (List ParsedStatement)) (g : Made) → ss.now ≡ [] → IsState ms root (Front st ss ∷ ts) g → IsState ms root ts g
 front_done ms root ts st ss g none s =
     let a = subst (λ x. IsAt ms root ts (scope_of st) st.depth x g) none (front_at ms root ts st ss g s) in
     record { depth = st.depth; frames = a.next; made = a.leads g a.made; path = a.path }
 
 -- the last statement is next
-pub front_step : (ms : List ModuleTree) (root : Declaration) (ts : List Task) (st again : Standing) (ss front : Bor (List Statement)) (s : Statement) (g : Made) (e : Bool) → KeepsRules ms root e → ss.now ≡ front.now ++ s ∷ [] → IsSame st again
-    → IsState ms root (Front st ss ∷ ts) g → IsBefore ms root (Front again front ∷ ts) (scope_of st) st.depth (step_of s) g
+pub front_step : (ms : List ModuleTree) (root : Declaration) (ts : List Task) (st again : CodeScope) (ss front : Bor (List ParsedStatement)) (s : ParsedStatement) (g : Made) (e : Bool) → KeepsRules ms root e → ss.now ≡ front.now ++ s ∷ [] → IsSame st again
+    → IsState ms root (Front st ss ∷ ts) g → IsBefore ms root (Front again front ∷ ts) (scope_of st) st.depth (statement_of s) g
 front_step ms root ts st again ss front s g e kept is same x =
     let sc = scope_of st in
     let n = st.depth in
     let a = front_at ms root ts st ss g x in
-    let list : before ss.now a.rest ≡ before front.now (Then (step_of s) a.rest) =
+    let list : before ss.now a.rest ≡ before front.now (Then (statement_of s) a.rest) =
     ap (λ y. before y a.rest) is ∙ before_push front.now s a.rest in
     let up = subst (λ b. FailsUp ms root n (Under sc b a.outer)) list a.up in
     let part = subst (λ b. IsPart sc.within a.recs b) list a.part in
     let leads = subst (λ b. (h : Made) → Makes ms n (Under sc b a.outer) h → Makes ms n a.next h) list a.leads in
-    let k = block_kept a.recs (before front.now (Then (step_of s) a.rest)) a.reached e kept part in
-    let this : IsFront ms root sc n front.now n (Under sc (Then (step_of s) a.rest) a.outer) a.next = record {
-      rest = Then (step_of s) a.rest;
+    let k = block_kept a.recs (before front.now (Then (statement_of s) a.rest)) a.reached e kept part in
+    let this : IsFront ms root sc n front.now n (Under sc (Then (statement_of s) a.rest) a.outer) a.next = record {
+      rest = Then (statement_of s) a.rest;
       outer = a.outer;
       deep = refl;
       is = refl;
@@ -158,9 +158,9 @@ front_step ms root ts st again ss front s g e kept is same x =
       outer = a.outer;
       made = a.made;
       path =
-          (a.next, subst (λ d. IsFront ms root (scope_of again) d front.now n (Under sc (Then (step_of s) a.rest) a.outer) a.next) (sym same.depth) (subst (λ c. IsFront ms root c n front.now n (Under sc (Then (step_of s) a.rest) a.outer) a.next) (sym same.scope) this), a.path);
+          (a.next, subst (λ d. IsFront ms root (scope_of again) d front.now n (Under sc (Then (statement_of s) a.rest) a.outer) a.next) (sym same.depth) (subst (λ c. IsFront ms root c n front.now n (Under sc (Then (statement_of s) a.rest) a.outer) a.next) (sym same.scope) this), a.path);
       up =
-          λ f d spot h. up f d spot (fails_in_front f d spot ms a.recs n sc front.now (step_of s) a.rest a.outer k.0 k.1 k.2 a.below h);
+          λ f d spot h. up f d spot (fails_in_front f d spot ms a.recs n sc front.now (statement_of s) a.rest a.outer k.0 k.1 k.2 a.below h);
       recs = a.recs;
       part = λ inner r q. part inner r (later_all front.now q);
       reached = a.reached;
@@ -178,7 +178,7 @@ pub record IsOpened (ms : List ModuleTree) (root : Declaration) (sc : Scope) (n 
   pub reached : Reaches ms root sc.within
   pub below : AreBelow n (Under sc Done outer)
 
-pub opened : (ms : List ModuleTree) (root : Declaration) (ts : List Task) (st : Standing) (ss : Bor (List Statement)) (sc : Scope) (n : ℕ) (b : Body) (outer next : Frames) (g : Made)
+pub opened : (ms : List ModuleTree) (root : Declaration) (ts : List Task) (st : CodeScope) (ss : Bor (List ParsedStatement)) (sc : Scope) (n : ℕ) (b : Body) (outer next : Frames) (g : Made)
     → scope_of st ≡ sc → st.depth ≡ n → body_of ss.now ≡ b → IsOpened ms root sc n b outer next g → Path ms root ts n next → IsState ms root (Front st ss ∷ ts) g
 opened ms root ts st ss sc n b outer next g scope depth body o path =
     let list : b ≡ before ss.now Done = sym body ∙ sym (before_done ss.now) in
@@ -232,7 +232,7 @@ variable_put ms root ts sc n k i x spot g h level deep is alone b = record {
 
 -- a protocol is called
 
-pub call_put : (ms : List ModuleTree) (root : Declaration) (ts : List Task) (st : Standing) (ss : Bor (List Statement)) (sc : Scope) (n : ℕ) (path roles : List (List ℕ)) (spot : Spot) (c : Declaration) (g : Made)
+pub call_put : (ms : List ModuleTree) (root : Declaration) (ts : List Task) (st : CodeScope) (ss : Bor (List ParsedStatement)) (sc : Scope) (n : ℕ) (path roles : List (List ℕ)) (spot : Spot) (c : Declaration) (g : Made)
     → called ms sc.within.home path ≡ Some c → scope_of st ≡ inside_call sc c roles → st.depth ≡ n → ss.now ≡ c.protocol.body → IsBefore ms root ts sc n (Calls path roles spot) g → IsState ms root (Front st ss ∷ ts) g
 call_put ms root ts st ss sc n path roles spot c g there scope depth body b =
     opened ms root ts st ss (inside_call sc c roles) n (body_of c.protocol.body) (Under sc b.rest b.outer) (Under sc (Then (Calls path roles spot) b.rest) b.outer) g scope depth (ap body_of body) (record {
@@ -247,7 +247,7 @@ call_put ms root ts st ss sc n path roles spot c g there scope depth body b =
 
 -- a recursion that isn't continued
 
-pub passes_put : (ms : List ModuleTree) (root : Declaration) (ts : List Task) (st : Standing) (ss : Bor (List Statement)) (x : List ℕ) (spot : Spot) (g : Made)
+pub passes_put : (ms : List ModuleTree) (root : Declaration) (ts : List Task) (st : CodeScope) (ss : Bor (List ParsedStatement)) (x : List ℕ) (spot : Spot) (g : Made)
     → continues_in x (body_of ss.now) ≡ false → IsBefore ms root ts (scope_of st) st.depth (Repeats x (body_of ss.now) spot) g → IsState ms root (Front st ss ∷ ts) g
 passes_put ms root ts st ss x spot g none b =
     let sc = scope_of st in
@@ -265,7 +265,7 @@ passes_put ms root ts st ss x spot g none b =
 
 -- one that is
 
-pub repeats_put : (ms : List ModuleTree) (root : Declaration) (ts : List Task) (st inner : Standing) (ss : Bor (List Statement)) (home : Bor ModuleTree) (x : List ℕ) (spot : Spot) (g h : Made) → home.now ≡ (scope_of st).within.home
+pub repeats_put : (ms : List ModuleTree) (root : Declaration) (ts : List Task) (st inner : CodeScope) (ss : Bor (List ParsedStatement)) (home : Bor ModuleTree) (x : List ℕ) (spot : Spot) (g h : Made) → home.now ≡ (scope_of st).within.home
     → continues_in x (body_of ss.now) ≡ true → IsInside st x inner → h.type ≡ lifted 0 g.type → h.origins ≡ g.origins → IsBefore ms root ts (scope_of st) st.depth (Repeats x (body_of ss.now) spot) g → IsState ms root (Front inner ss ∷ Close home spot ∷ ts) h
 repeats_put ms root ts st inner ss home x spot g h at loops same is kept b =
     let sc = scope_of st in
@@ -370,7 +370,7 @@ unguarded_fails ms root ts home spot g unguarded s =
       }),
     )
 
-pub close_fails : (ms : List ModuleTree) (root : Declaration) (ts : List Task) (home : Bor ModuleTree) (spot : Spot) (g : Made) (e : Untyped) → IsUnguarded home.now spot g.type e → IsState ms root (Close home spot ∷ ts) g → TypingFails ms root e
+pub close_fails : (ms : List ModuleTree) (root : Declaration) (ts : List Task) (home : Bor ModuleTree) (spot : Spot) (g : Made) (e : BuildError) → IsUnguarded home.now spot g.type e → IsState ms root (Close home spot ∷ ts) g → TypingFails ms root e
 close_fails ms root ts home spot g (untyped.Broken h b) f s =
     let u = unguarded_fails ms root ts home spot g f.3 s in (
       u.0,
@@ -382,7 +382,7 @@ close_fails ms root ts home spot g untyped.OutOfMemory f s = tt
 
 -- the stack at the beginning and at the end, and the task on its top
 
-pub begins : (ms : List ModuleTree) (root : Declaration) (old new : List Task) (st : Standing) (ss : Bor (List Statement)) (g : Made) → old ≡ [] → new ≡ old ++ Front st ss ∷ [] → IsStart root st → ss.now ≡ root.protocol.body → g ≡ nothing_made → IsState ms root (reverse new) g
+pub begins : (ms : List ModuleTree) (root : Declaration) (old new : List Task) (st : CodeScope) (ss : Bor (List ParsedStatement)) (g : Made) → old ≡ [] → new ≡ old ++ Front st ss ∷ [] → IsStart root st → ss.now ≡ root.protocol.body → g ≡ nothing_made → IsState ms root (reverse new) g
 begins ms root old new st ss g none push start body is =
     let state : IsState ms root (Front st ss ∷ []) g = opened ms root [] st ss (start_scope root) 0 (body_of root.protocol.body) NoFrame (start_of root) g start.scope start.depth (ap body_of body) (record {
       made = subst (λ x. Makes ms 0 NoFrame x) (sym is) (nothing_follows ms);
@@ -404,6 +404,6 @@ ended ms root ts g none s =
     let e = subst (λ x. IsState ms root (reverse x) g) none s in
     subst (λ fs. Makes ms 0 fs g) e.path.1 (subst (λ n. Makes ms n e.frames g) e.path.0 e.made)
 
-pub pushed_before : (ms : List ModuleTree) (root : Declaration) (old new : List Task) (t : Task) (sc : Scope) (n : ℕ) (s : Step) (g : Made) → new ≡ old ++ t ∷ [] → IsBefore ms root (t ∷ reverse old) sc n s g → IsBefore ms root (reverse new) sc n s g
+pub pushed_before : (ms : List ModuleTree) (root : Declaration) (old new : List Task) (t : Task) (sc : Scope) (n : ℕ) (s : Statement) (g : Made) → new ≡ old ++ t ∷ [] → IsBefore ms root (t ∷ reverse old) sc n s g → IsBefore ms root (reverse new) sc n s g
 pushed_before ms root old new t sc n s g e b =
     subst (λ ts. IsBefore ms root ts sc n s g) (sym (ap reverse e ∙ reverse-append old (t ∷ []))) b

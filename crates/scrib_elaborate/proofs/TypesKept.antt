@@ -4,10 +4,10 @@ use Rattle.std.specs.List.{slice_get}
 use Rattle.std.specs.Option.{IfSome}
 use Rattle.scrib_parser.specs.declared.tree.ModuleTree.{ModuleTree}
 use Rattle.scrib_typed.specs.declared.built.Typed.{Typed}
-use Rattle.scrib_modules.specs.declared.declared.Declared.{Declared}
-use Rattle.scrib_modules.specs.declared.stop.State.{State}
-use Rattle.scrib_modules.specs.declared.stop.State.TheVariants.{Walked}
-use Rattle.scrib_modules.specs.declared.stop.Summary.{Summary}
+use Rattle.scrib_modules.specs.declared.declared.Declaration.{Declaration as CodeDeclaration}
+use Rattle.scrib_modules.specs.declared.checking.State.{State}
+use Rattle.scrib_modules.specs.declared.checking.State.TheVariants.{Walked}
+use Rattle.scrib_modules.specs.declared.checking.Summary.{Summary}
 use Rattle.scrib_modules.specs.Elaboration.{start_of}
 use Rattle.scrib_modules.specs.Names.{Declaration}
 use Rattle.scrib_modules.specs.Statements.{KeepsRules}
@@ -34,18 +34,18 @@ pub known_more : (ms : List ModuleTree) (ds : List Declaration) (old : List (Opt
 known_more ms ds old place t here a k d u p q =
     ⊎_elim (λ x. let same : t ≡ u = cc (x.1) in subst (λ v. IsAlone ms d (made_of v)) same (here d (ap (slice_get ds) (sym x.0) ∙ p))) (λ x. a k d u p x.1) (get_set old place (Some t) k (Some u) q)
 
-pub kept_there : (ms : List ModuleTree) (declared : List Declared) (states : List State) (place : ℕ) (root : Declared) (s : Summary) → AreSummaries ms (shown declared) states → slice_get declared place ≡ Some root → slice_get states place ≡ Some (Walked s)
+pub kept_there : (ms : List ModuleTree) (declared : List CodeDeclaration) (states : List State) (place : ℕ) (root : CodeDeclaration) (s : Summary) → AreSummaries ms (shown declared) states → slice_get declared place ≡ Some root → slice_get states place ≡ Some (Walked s)
     → KeepsRules ms (declaration_of root) s.exits
 kept_there ms declared states place root s a e w = (a.each place (declaration_of root) s (there_shown declared place root e) w).kept
 
-pub alone_there : (ms : List ModuleTree) (declared : List Declared) (states : List State) (place : ℕ) (root : Declared) (s : Summary) (m : Made) → AreSummaries ms (shown declared) states → slice_get declared place ≡ Some root → slice_get states place ≡ Some (Walked s)
+pub alone_there : (ms : List ModuleTree) (declared : List CodeDeclaration) (states : List State) (place : ℕ) (root : CodeDeclaration) (s : Summary) (m : Made) → AreSummaries ms (shown declared) states → slice_get declared place ≡ Some root → slice_get states place ≡ Some (Walked s)
     → Makes ms 0 (start_of (declaration_of root)) m → IsAloneAt ms (shown declared) place m
 alone_there ms declared states place root s m a e w made d p =
     let there = there_shown declared place root e in
     let same : declaration_of root ≡ d = cc (there, p) in
     subst (λ x. IsAlone ms x m) same (record { exits = s.exits; kept = kept_there ms declared states place root s a e w; made = made })
 
-pub some_alone : (ms : List ModuleTree) (declared : List Declared) (place : ℕ) (root : Declared) (o : Option Typed) → ((m : Made) → Makes ms 0 (start_of (declaration_of root)) m → IsAloneAt ms (shown declared) place m)
+pub some_alone : (ms : List ModuleTree) (declared : List CodeDeclaration) (place : ℕ) (root : CodeDeclaration) (o : Option Typed) → ((m : Made) → Makes ms 0 (start_of (declaration_of root)) m → IsAloneAt ms (shown declared) place m)
     → IfSome o (λ t. Makes ms 0 (start_of (declaration_of root)) (made_of t)) → IfSome o (λ t. IsAloneAt ms (shown declared) place (made_of t))
 some_alone ms declared place root None f h = tt
 some_alone ms declared place root (Some t) f h = f (made_of t) h

@@ -2,7 +2,7 @@ pub mod Sound
 pub mod Meaning
 pub mod Sites
 pub mod Levels
-pub mod Standing
+pub mod Scope
 pub mod Staying
 pub mod Typing
 pub mod Locality

@@ -11,9 +11,9 @@ use Rattle.scrib_types.specs.Trees.{GlobalTree, GlobalBranches}
 use Rattle.scrib_parser.specs.declared.tree.ModuleTree.{ModuleTree}
 use Rattle.scrib_parser.specs.declared.tree.Import.{Import}
 use Rattle.scrib_parser.specs.declared.tree.ProtocolDeclaration.{ProtocolDeclaration}
-use Rattle.scrib_modules.specs.Source.{Body, Step, Blocks}
+use Rattle.scrib_modules.specs.Source.{Body, Statement, Blocks}
 use Rattle.scrib_modules.specs.Names.{Declaration, dotted_eq, has_name, first_where, known_by, module_names, with_module, declared_in, declarations, is_called, find_protocol, all_but_last, last_name, imported, looked_in, called}
-use Rattle.scrib_modules.specs.Statements.{KeepsRules, protocol_keeps, BlockKeeps, end_keeps, then_keeps, StepKeeps, sends_keeps, chooses_keeps, repeats_keeps, continues_keeps, calls_keeps, BlocksKeep, none_keeps, or_keeps}
+use Rattle.scrib_modules.specs.Statements.{KeepsRules, protocol_keeps, BlockKeeps, end_keeps, then_keeps, StatementKeeps, sends_keeps, chooses_keeps, repeats_keeps, continues_keeps, calls_keeps, BlocksKeep, none_keeps, or_keeps}
 use Rattle.scrib_modules.specs.Elaboration.{Scope, Frames, NoFrame, Under, Types, ends, closes, sends, chooses, repeats, passes, continues, calls, JoinsTo, joins_none, joins, Elaborates}
 
 -- what a module of such a name imports has such a name
@@ -157,7 +157,7 @@ module _ (S : List (List ℕ) → Type 0) (before after : List ModuleTree) (agre
     block_alike end_keeps k = end_keeps
     block_alike (then_keeps s b) k = then_keeps (step_alike s k) (block_alike b k)
 
-    step_alike : {d : Declaration} {recs : List (List ℕ)} {s : Step} {e : Bool} → StepKeeps before d recs s e → IsOf d → StepKeeps after d recs s e
+    step_alike : {d : Declaration} {recs : List (List ℕ)} {s : Statement} {e : Bool} → StatementKeeps before d recs s e → IsOf d → StatementKeeps after d recs s e
     step_alike (sends_keeps r o) k = sends_keeps r o
     step_alike (chooses_keeps p bs) k = chooses_keeps p (blocks_alike bs k)
     step_alike (repeats_keeps b) k = repeats_keeps (block_alike b k)

@@ -3,7 +3,7 @@ use Rattle.std.specs.Prelude.{◌≡◌, List, Result, Ok, Err}
 use Rattle.scrib_types.specs.Agreement.{Agreement}
 use Rattle.scrib_types.specs.GlobalView.{global_of}
 use Rattle.scrib_elaborate.specs.declared.elaborated.Elaborated.{Elaborated}
-use Rattle.scrib_elaborate.specs.declared.elaborated.Join.{Join}
+use Rattle.scrib_elaborate.specs.declared.elaborated.ChoiceSite.{ChoiceSite}
 use Rattle.scrib_modules.specs.declared.fault.ElaborateFault.{ElaborateFault}
 use Rattle.scrib_modules.specs.declared.fault.ElaborateFault.TheVariants.{Broken, OutOfMemory}
 
@@ -11,8 +11,8 @@ abbrev pub meaning_of : Elaborated → Agreement
 meaning_of e = record { roles = e.roles; global = global_of e.global }
 
 -- the choices that its communications with several branches come from
-abbrev pub joins_of : Elaborated → List Join
-joins_of e = e.joins
+abbrev pub sites_of : Elaborated → List ChoiceSite
+sites_of e = e.sites
 
 -- what was returned means this, unless memory was refused
 abbrev pub Means : Result Elaborated ElaborateFault → Agreement → Type 0

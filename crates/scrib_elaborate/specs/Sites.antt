@@ -6,12 +6,12 @@ use Rattle.scrib_types.specs.Trees.{GlobalTree, GlobalEnd, GlobalVar, GlobalRec,
 use Rattle.scrib_types.specs.WellFormed.{has_branches}
 use Rattle.scrib_parser.specs.declared.tree.ModuleTree.{ModuleTree}
 use Rattle.scrib_elaborate.specs.declared.elaborated.Elaborated.{Elaborated}
-use Rattle.scrib_elaborate.specs.declared.elaborated.Join.{Join}
+use Rattle.scrib_elaborate.specs.declared.elaborated.ChoiceSite.{ChoiceSite}
 use Rattle.scrib_modules.specs.Source.{Body, Then, Chooses, Blocks}
 use Rattle.scrib_modules.specs.Names.{Declaration, find_protocol}
 use Rattle.scrib_modules.specs.Elaboration.{Scope, Frames, Under, Types, start_of}
 use Rattle.scrib_modules.specs.Faults.{Needs}
-use Rattle.scrib_elaborate.specs.Meaning.{meaning_of, joins_of}
+use Rattle.scrib_elaborate.specs.Meaning.{meaning_of, sites_of}
 
 -- The communications of a type in post-order, each with the number of recursions round it, where n stand round the
 -- type: those in a communication's branches, the first branch first, and then the communication itself.
@@ -60,13 +60,13 @@ pub record IsSite (modules : List ModuleTree) (k : ℕ) (from : Frames) (home : 
   pub needs : Needs modules k from n (Under scope (Then (Chooses chooser blocks spot) after) outer)
   pub typed : Types modules n (Under scope (Then (Chooses chooser blocks spot) after) outer) type
 
--- the join is the place of a choice whose type this communication is, in the protocol
-abbrev pub IsJoinOf : List ModuleTree → Declaration → (ℕ × GlobalTree) → Join → Type 0
-IsJoinOf modules root c j = IsSite modules 0 (start_of root) j.module j.spot c.0 c.1
+-- the site is the place of a choice whose type this communication is, in the protocol
+abbrev pub IsSiteOf : List ModuleTree → Declaration → (ℕ × GlobalTree) → ChoiceSite → Type 0
+IsSiteOf modules root c j = IsSite modules 0 (start_of root) j.module j.spot c.0 c.1
 
--- the joins of what is elaborated, of the protocol of this name in the module of this name, are those of its type's
+-- the sites of what is elaborated, of the protocol of this name in the module of this name, are those of its type's
 -- communications with several branches, one by one
 pub record AreSites (modules : List ModuleTree) (home : List (List ℕ)) (name : List ℕ) (e : Elaborated) : Type 0 where
   pub root : Declaration
   pub there : find_protocol modules home name ≡ Some root
-  pub each : AllZip (IsJoinOf modules root) (several (meaning_of e).global) (joins_of e)
+  pub each : AllZip (IsSiteOf modules root) (several (meaning_of e).global) (sites_of e)

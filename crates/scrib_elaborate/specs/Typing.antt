@@ -5,24 +5,24 @@ use Rattle.std.specs.List.{All, AllZip}
 use Rattle.scrib_types.specs.declared.spot.Spot.{Spot}
 use Rattle.scrib_types.specs.Trees.{GlobalTree, GlobalEnd, GlobalVar}
 use Rattle.scrib_parser.specs.declared.tree.ModuleTree.{ModuleTree}
-use Rattle.scrib_parser.specs.declared.tree.Statement.{Statement}
+use Rattle.scrib_parser.specs.declared.tree.Statement.{Statement as ParsedStatement}
 use Rattle.scrib_parser.specs.declared.tree.Block.{Block}
 use Rattle.scrib_typed.specs.declared.built.Typed.{Typed}
 use Rattle.scrib_typed.specs.declared.built.Origin.{Origin}
-use Rattle.scrib_modules.specs.declared.declared.Declared.{Declared}
-use Rattle.scrib_elaborate.specs.declared.elaborated.Join.{Join as TheJoin}
+use Rattle.scrib_modules.specs.declared.declared.Declaration.{Declaration as CodeDeclaration}
+use Rattle.scrib_elaborate.specs.declared.elaborated.ChoiceSite.{ChoiceSite}
 use Rattle.scrib_modules.specs.declared.shape.Shape.{Shape}
 use Rattle.scrib_modules.specs.declared.shape.Shape.TheVariants.{Joining}
-use Rattle.scrib_modules.specs.declared.stop.State.{State}
+use Rattle.scrib_modules.specs.declared.checking.State.{State}
 use Rattle.scrib_elaborate.specs.declared.tasks.Program.{Program}
 use Rattle.scrib_elaborate.specs.declared.tasks.Task.{Task}
 use Rattle.scrib_elaborate.specs.declared.tasks.Task.TheVariants.{Front, Join, Close, Trial}
 use Rattle.scrib_modules.specs.declared.fault.FaultKind.{FaultKind}
-use Rattle.scrib_typed.specs.declared.untyped.Untyped.{Untyped}
-use Rattle.scrib_typed.specs.declared.untyped.Untyped.TheVariants.{Broken, OutOfMemory}
+use Rattle.scrib_typed.specs.declared.build_error.BuildError.{BuildError}
+use Rattle.scrib_typed.specs.declared.build_error.BuildError.TheVariants.{Broken, OutOfMemory}
 use Rattle.scrib_typed.specs.Typed.{type_of, retold}
-use Rattle.scrib_modules.specs.Source.{Body, Then, Step, Chooses, Repeats}
-use Rattle.scrib_modules.specs.SourceView.{step_of, body_of, blocks_of}
+use Rattle.scrib_modules.specs.Source.{Body, Then, Statement, Chooses, Repeats}
+use Rattle.scrib_modules.specs.SourceView.{statement_of, body_of, blocks_of}
 use Rattle.scrib_modules.specs.Names.{Declaration, declarations}
 use Rattle.scrib_modules.specs.Elaboration.{continues_in, Scope, level_of, inside, Frames, Under, Types, start_of}
 use Rattle.scrib_modules.specs.Faults.{Reaches, FailsTyping}
@@ -32,7 +32,7 @@ use Rattle.scrib_modules.specs.Table.{shown, IsPart, AreParts, IsSettledSo}
 use Rattle.scrib_modules.specs.Walking.{AreSummaries, IsIdle}
 use Rattle.scrib_elaborate.specs.Levels.{AreBelow}
 use Rattle.scrib_elaborate.specs.Sites.{communications, is_several, IsSite}
-use Rattle.scrib_elaborate.specs.Standing.{scope_of}
+use Rattle.scrib_elaborate.specs.Scope.{scope_of}
 
 -- a type, and the origins of its communications, in post-order
 pub record Made : Type 0 where
@@ -40,7 +40,7 @@ pub record Made : Type 0 where
   pub origins : List (Option Origin)
 
 abbrev pub made_of : Typed → Made
-made_of t = record { type = type_of t; origins = t.joins.items }
+made_of t = record { type = type_of t; origins = t.origins.items }
 
 -- the type of no statement
 abbrev pub nothing_made : Made
@@ -86,7 +86,7 @@ pub record IsTable (p : Program) : Type 0 where
 
 -- these are all declared protocols of the modules, their directory, what walks found of them, and the types that are
 -- known
-pub record IsTabled (modules : List ModuleTree) (declared : List Declared) (slots : List (Option ℕ)) (states : List State) (types : List (Option Typed)) : Type 0 where
+pub record IsTabled (modules : List ModuleTree) (declared : List CodeDeclaration) (slots : List (Option ℕ)) (states : List State) (types : List (Option Typed)) : Type 0 where
   pub all : shown declared ≡ declarations modules
   pub filed : IsDirectory (shown declared) slots
   pub settled : All IsSettledSo declared
@@ -94,9 +94,9 @@ pub record IsTabled (modules : List ModuleTree) (declared : List Declared) (slot
   pub known : AreKnown modules (shown declared) types
 
 -- these statements stand in front of the rest of their block
-abbrev pub before : List Statement → Body → Body
+abbrev pub before : List ParsedStatement → Body → Body
 before [] b = b
-before (s ∷ ss) b = Then (step_of s) (before ss b)
+before (s ∷ ss) b = Then (statement_of s) (before ss b)
 
 -- a fault of the type of these frames is one of the type of the protocol that was asked for
 abbrev pub FailsUp : List ModuleTree → Declaration → ℕ → Frames → Type 0
@@ -104,7 +104,7 @@ FailsUp modules root n fs =
     (k : FaultKind) (d : Declaration) (spot : Spot) → FailsTyping k modules n fs d spot → FailsTyping k modules 0 (start_of root) d spot
 
 -- where the statements are in front of these frames, their type is that of the others
-pub record IsFront (modules : List ModuleTree) (root : Declaration) (sc : Scope) (depth : ℕ) (statements : List Statement) (n : ℕ) (fs hs : Frames) : Type 0 where
+pub record IsFront (modules : List ModuleTree) (root : Declaration) (sc : Scope) (depth : ℕ) (statements : List ParsedStatement) (n : ℕ) (fs hs : Frames) : Type 0 where
   pub rest : Body
   pub outer : Frames
   pub deep : n ≡ depth
@@ -156,10 +156,10 @@ pub record IsClose (modules : List ModuleTree) (root : Declaration) (home : Modu
 -- the tasks, the next one first, lead from these frames to those of the protocol that was asked for
 abbrev pub Path : List ModuleTree → Declaration → List Task → ℕ → Frames → Type 0
 Path modules root [] n fs = (n ≡ 0) × (fs ≡ start_of root)
-Path modules root (Front standing statements ∷ tasks) n fs =
-    (hs : Frames) × IsFront modules root (scope_of standing) standing.depth statements.now n fs hs × Path modules root tasks n hs
+Path modules root (Front scope statements ∷ tasks) n fs =
+    (hs : Frames) × IsFront modules root (scope_of scope) scope.depth statements.now n fs hs × Path modules root tasks n hs
 Path modules root (Join c ∷ tasks) n fs =
-    (hs : Frames) × IsJoin modules root (scope_of c.standing) c.standing.depth c.chooser.now c.branches.now c.spot c.follows c.types.items n fs hs × Path modules root tasks n hs
+    (hs : Frames) × IsJoin modules root (scope_of c.scope) c.scope.depth c.chooser.now c.branches.now c.spot c.follows c.types.items n fs hs × Path modules root tasks n hs
 Path modules root (Close home spot ∷ tasks) n fs =
     (m : ℕ) × (hs : Frames) × IsClose modules root home.now spot n fs m hs × Path modules root tasks m hs
 -- a trial leads to none: its task is the last
@@ -173,7 +173,7 @@ pub record IsState (modules : List ModuleTree) (root : Declaration) (tasks : Lis
   pub path : Path modules root tasks depth frames
 
 -- it is that of what follows this statement, and the tasks lead on from the statement
-pub record IsBefore (modules : List ModuleTree) (root : Declaration) (tasks : List Task) (sc : Scope) (n : ℕ) (s : Step) (m : Made) : Type 0 where
+pub record IsBefore (modules : List ModuleTree) (root : Declaration) (tasks : List Task) (sc : Scope) (n : ℕ) (s : Statement) (m : Made) : Type 0 where
   pub rest : Body
   pub outer : Frames
   pub made : Makes modules n (Under sc rest outer) m
@@ -185,7 +185,7 @@ pub record IsBefore (modules : List ModuleTree) (root : Declaration) (tasks : Li
   pub below : AreBelow n (Under sc rest outer)
 
 -- a rule on types fails in a protocol that is reached from the one that was asked for, unless memory was refused
-abbrev pub TypingFails : List ModuleTree → Declaration → Untyped → Type 0
+abbrev pub TypingFails : List ModuleTree → Declaration → BuildError → Type 0
 TypingFails modules root (Broken home b) =
     (place : Declaration) × Reaches modules root place × (home.now ≡ place.home) × FailsTyping b.kind modules 0 (start_of root) place b.spot
 TypingFails modules root OutOfMemory = Unit {0}
@@ -202,8 +202,8 @@ pub record IsAhead (modules : List ModuleTree) (root : Declaration) (sc : Scope)
 
 -- so do the statements of this task, with more of their block after them
 abbrev pub IsTaskAhead : List ModuleTree → Declaration → Task → Type 0
-IsTaskAhead modules root (Front standing statements) =
-    (rest : Body) × IsAhead modules root (scope_of standing) standing.depth (before statements.now rest)
+IsTaskAhead modules root (Front scope statements) =
+    (rest : Body) × IsAhead modules root (scope_of scope) scope.depth (before statements.now rest)
 IsTaskAhead modules root (Join c) = Unit {0}
 IsTaskAhead modules root (Close home spot) = Unit {0}
 IsTaskAhead modules root Trial = Unit {0}
@@ -212,7 +212,7 @@ abbrev pub AreAhead : List ModuleTree → Declaration → List Task → Type 0
 AreAhead modules root tasks = All (IsTaskAhead modules root) tasks
 
 -- a rule on types fails, and the statements of these tasks stand in front of the fault, unless memory was refused
-abbrev pub StopsAhead : List ModuleTree → Declaration → List Task → Untyped → Type 0
+abbrev pub StopsAhead : List ModuleTree → Declaration → List Task → BuildError → Type 0
 StopsAhead modules root tasks (Broken home b) =
     TypingFails modules root (Broken home b) × AreAhead modules root tasks
 StopsAhead modules root tasks OutOfMemory = Unit {0}
@@ -232,16 +232,16 @@ pub record IsChoosing (modules : List ModuleTree) (root : Declaration) (tasks : 
   pub path : Path modules root tasks n (Under sc (Then (Chooses chooser (blocks_of blocks) spot) rest) outer)
 
 -- where the choices stand of those that have an origin
-abbrev pub joins_told : List (Option Origin) → List TheJoin
-joins_told [] = []
-joins_told (None ∷ js) = joins_told js
-joins_told (Some o ∷ js) = record { «module» = o.home.now.name; spot = o.spot } ∷ joins_told js
+abbrev pub told_sites : List (Option Origin) → List ChoiceSite
+told_sites [] = []
+told_sites (None ∷ js) = told_sites js
+told_sites (Some o ∷ js) = record { «module» = o.home.now.name; spot = o.spot } ∷ told_sites js
 
 -- What follows a call of a protocol of this shape has the same type. Its communication in front comes from the first
 -- choice of the called protocol, if that joins.
-abbrev pub PassesOn : List Declared → Shape → (before after : Made) → Type 0
+abbrev pub PassesOn : List CodeDeclaration → Shape → (before after : Made) → Type 0
 PassesOn table (Joining k at spot) before after =
-    (d : Declared) → slice_get table at ≡ Some d → after ≡ record { type = before.type; origins = retold (record { home = d.home; spot = spot }) before.origins }
+    (d : CodeDeclaration) → slice_get table at ≡ Some d → after ≡ record { type = before.type; origins = retold (record { home = d.home; spot = spot }) before.origins }
 PassesOn table _ before after = after ≡ before
 
 -- the type is the variable of the recursion of this name

@@ -8,18 +8,18 @@ ghost use Rattle.scrib_parser.specs.declared.tree.ModuleTree.{ModuleTree};
 ghost use Rattle.scrib_modules.specs.Source.{Chooses};
 ghost use Rattle.scrib_modules.specs.SourceView.{blocks_of};
 ghost use Rattle.scrib_modules.specs.Names.{Declaration};
-ghost use Rattle.scrib_elaborate.specs.declared.standing.Standing.{Standing};
-ghost use Rattle.scrib_elaborate.specs.Standing.{scope_of, IsSame};
+ghost use Rattle.scrib_elaborate.specs.declared.scope.Scope.{Scope};
+ghost use Rattle.scrib_elaborate.specs.Scope.{scope_of, IsSame};
 ghost use Rattle.scrib_elaborate.specs.Typing.{Made, made_of, IsBefore, IsState, TypingFails, StopsAhead, IsChoosing};
 
-use crate::standing::Standing;
+use crate::scope::Scope;
 use crate::tasks::{Choosing, Task};
 use scrib_modules::fault::FaultKind;
 use scrib_parser::tree::{Block, ModuleTree, Statement};
+use scrib_typed::build_error::{BuildError, broken};
 use scrib_typed::built::{Origin, Typed};
 use scrib_typed::heads::{Heads, add};
 use scrib_typed::operators::Operators;
-use scrib_typed::untyped::{Untyped, broken};
 use scrib_types::global::GlobalType;
 use scrib_types::name::Role;
 use scrib_types::plain::{Items, at};
@@ -33,22 +33,22 @@ use std::alloc::{AllocError, Global};
 pub fn choose<'a>(
     alloc: Global,
     tasks: &mut Vec<Task<'a>>,
-    standing: Standing<'a>,
+    scope: Scope<'a>,
     chooser: &'a Role,
     branches: &'a [Block],
     spot: Spot,
     typed: Typed<'a>,
-) -> Result<Typed<'a>, Untyped<'a>>
+) -> Result<Typed<'a>, BuildError<'a>>
     ensures { (modules : List ModuleTree) (root : Declaration)
-        → IsBefore modules root (reverse tasks.old.items) (scope_of standing.entry) standing.entry.depth (Chooses chooser.now (blocks_of branches.now) spot) (made_of typed.entry)
+        → IsBefore modules root (reverse tasks.old.items) (scope_of scope.entry) scope.entry.depth (Chooses chooser.now (blocks_of branches.now) spot) (made_of typed.entry)
         → MatchResult result (λ t. IsState modules root (reverse tasks.new.items) (made_of t)) (StopsAhead modules root tasks.new.items) }
 {
     let Some(first) = branches.first() else {
-        return Err(broken(standing.within.home, FaultKind::EmptyBranch, spot));
+        return Err(broken(scope.within.home, FaultKind::EmptyBranch, spot));
     };
     let (begun, follows) = share(alloc, typed, branches.len() - 1)?;
     let choosing = Choosing {
-        standing,
+        scope,
         chooser,
         branches,
         spot,
@@ -68,13 +68,13 @@ pub fn join<'a>(
     tasks: &mut Vec<Task<'a>>,
     choosing: Choosing<'a>,
     typed: Typed<'a>,
-) -> Result<Typed<'a>, Untyped<'a>>
+) -> Result<Typed<'a>, BuildError<'a>>
     ensures { (modules : List ModuleTree) (root : Declaration)
         → IsState modules root (Join choosing.entry ∷ reverse tasks.old.items) (made_of typed.entry)
         → MatchResult result (λ t. IsState modules root (reverse tasks.new.items) (made_of t)) (StopsAhead modules root tasks.new.items) }
 {
     let Choosing {
-        standing,
+        scope,
         chooser,
         branches,
         spot,
@@ -84,12 +84,12 @@ pub fn join<'a>(
     types.push(typed)?;
     let next = at(branches, types.len());
     let Some((next, follows)) = next.zip(follows) else {
-        return joined(alloc, &standing, chooser, branches, spot, types);
+        return joined(alloc, &scope, chooser, branches, spot, types);
     };
     let left = branches.len() - types.len() - 1;
     let (begun, follows) = share(alloc, follows, left)?;
     let choosing = Choosing {
-        standing,
+        scope,
         chooser,
         branches,
         spot,
@@ -108,10 +108,10 @@ fn enter<'a>(
     body: &'a [Statement],
 ) -> Result<(), AllocError>
     ensures { (modules : List ModuleTree) (root : Declaration) (g : Made)
-        → ((inner : Standing) → IsSame choosing.entry.standing inner → IsState modules root (Front inner body.entry ∷ Join choosing.entry ∷ reverse tasks.old.items) g)
+        → ((inner : Scope) → IsSame choosing.entry.scope inner → IsState modules root (Front inner body.entry ∷ Join choosing.entry ∷ reverse tasks.old.items) g)
         → IfOk result (λ _. IsState modules root (reverse tasks.new.items) g) }
 {
-    let inner = choosing.standing.copy(alloc)?;
+    let inner = choosing.scope.copy(alloc)?;
     tasks.push(Task::Join(choosing))?;
     tasks.push(Task::Front(inner, body))?;
     Ok(())
@@ -136,25 +136,25 @@ fn share<'a>(
 // The choice whose blocks have these types.
 fn joined<'a>(
     alloc: Global,
-    standing: &Standing<'a>,
+    scope: &Scope<'a>,
     given: &'a Role,
     blocks: &'a [Block],
     spot: Spot,
     types: Vec<Typed<'a>>,
-) -> Result<Typed<'a>, Untyped<'a>>
+) -> Result<Typed<'a>, BuildError<'a>>
     ensures { (modules : List ModuleTree) (root : Declaration) (tasks : List Task) (follows : Option Typed)
-        → IsChoosing modules root tasks (scope_of standing.now) standing.now.depth given.now blocks.now spot follows types.entry.items
+        → IsChoosing modules root tasks (scope_of scope.now) scope.now.depth given.now blocks.now spot follows types.entry.items
         → length types.entry.items ≡ length blocks.now
         → MatchResult result (λ t. IsState modules root tasks (made_of t)) (TypingFails modules root) }
 {
-    let home = standing.within.home;
-    let chooser = standing.role(given);
+    let home = scope.within.home;
+    let chooser = scope.role(given);
     let operators = Operators::new(alloc, count_others(types.as_slice()))?;
     let mut so_far = Heads {
         receiver: None,
         branches: Items::new(alloc),
         operators,
-        joins: Vec::new(alloc),
+        origins: Vec::new(alloc),
     };
     for (block, typed) in blocks.iter().zip(types) {
         add(home, chooser, block.spot, &mut so_far, typed)?;
@@ -162,21 +162,21 @@ fn joined<'a>(
     let Heads {
         receiver,
         branches,
-        mut joins,
+        mut origins,
         ..
     } = so_far;
     let Some(to) = receiver else {
         return Err(broken(home, FaultKind::EmptyBranch, spot));
     };
     let several = branches.len() > 1;
-    joins.push(if several {
+    origins.push(if several {
         Some(Origin { home, spot })
     } else {
         None
     })?;
     let from = chooser.copy()?;
     let global = GlobalType::Comm { from, to, branches };
-    Ok(Typed { global, joins })
+    Ok(Typed { global, origins })
 }
 
 // How many branches the communications have that these types begin with, but for those of the widest one.

@@ -9,21 +9,21 @@ ghost use Rattle.std.specs.Prelude.{◌≡◌, ℕ, Bool, List, IfOk, IfErr, Mat
 ghost use Rattle.scrib_types.specs.declared.spot.Spot.{Spot};
 ghost use Rattle.scrib_parser.specs.declared.tree.ModuleTree.{ModuleTree};
 ghost use Rattle.scrib_modules.specs.Source.{Body, Then, Chooses, Repeats, Calls};
-ghost use Rattle.scrib_modules.specs.SourceView.{step_of, body_of, blocks_of};
+ghost use Rattle.scrib_modules.specs.SourceView.{statement_of, body_of, blocks_of};
 ghost use Rattle.scrib_modules.specs.Names.{Declaration};
 ghost use Rattle.scrib_modules.specs.Statements.{KeepsRules};
 ghost use Rattle.scrib_modules.specs.Table.{declaration_of};
 ghost use Rattle.scrib_elaborate.specs.Staying.{Stays};
-ghost use Rattle.scrib_elaborate.specs.Standing.{scope_of};
+ghost use Rattle.scrib_elaborate.specs.Scope.{scope_of};
 ghost use Rattle.scrib_elaborate.specs.Typing.{IsTable, TypingFails, IsAhead, IsTaskAhead, AreAhead, StopsAhead};
 
 use crate::exits::has_exit;
-use crate::standing::Standing;
+use crate::scope::Scope;
 use crate::tasks::{Program, Task};
 use crate::typing::{callee, run};
 use scrib_modules::size::continues_in;
 use scrib_parser::tree::{Block, Statement};
-use scrib_typed::untyped::{Refused, Untyped};
+use scrib_typed::build_error::{BuildError, Refused};
 use scrib_types::name::{Dotted, Name, Role};
 use std::alloc::Global;
 
@@ -35,8 +35,8 @@ pub fn first_fault<'a>(
     alloc: Global,
     program: &Program<'a, '_>,
     left: Vec<Task<'a>>,
-    found: Untyped<'a>,
-) -> Untyped<'a>
+    found: BuildError<'a>,
+) -> BuildError<'a>
     requires table { IsTable program.now }
     requires kept { (e : Bool) × KeepsRules program.now.modules.now (declaration_of program.now.root) e }
     requires found { StopsAhead program.now.modules.now (declaration_of program.now.root) left.items found }
@@ -48,7 +48,7 @@ pub fn first_fault<'a>(
     let mut told = found;
     // Memory ends long before this many tasks.
     for _ in 0..u64::MAX {
-        if let Untyped::OutOfMemory = told {
+        if let BuildError::OutOfMemory = told {
             return told;
         }
         let Some(task) = ahead.pop() else {
@@ -58,7 +58,7 @@ pub fn first_fault<'a>(
             told = earlier;
         }
     }
-    Untyped::OutOfMemory
+    BuildError::OutOfMemory
 }
 
 // Walks through the first statement of a task: what stands in it comes next, and then the statements after it.
@@ -68,24 +68,24 @@ fn look<'a>(
     ahead: &mut Vec<Task<'a>>,
     entered: &mut Vec<usize>,
     task: Task<'a>,
-) -> Result<(), Untyped<'a>>
+) -> Result<(), BuildError<'a>>
     requires { IsTable program.now }
     ensures { (root : Declaration) (e : Bool) → KeepsRules program.now.modules.now root e
         → IsTaskAhead program.now.modules.now root task.entry
         → AreAhead program.now.modules.now root ahead.old.items
         → MatchResult result (λ _. AreAhead program.now.modules.now root ahead.new.items) (StopsAhead program.now.modules.now root ahead.new.items) }
 {
-    let Task::Front(standing, statements) = task else {
+    let Task::Front(scope, statements) = task else {
         return Ok(());
     };
     let Some((first, rest)) = statements.split_first() else {
         return Ok(());
     };
     if !rest.is_empty() {
-        let again = standing.copy(alloc)?;
+        let again = scope.copy(alloc)?;
         ahead.push(Task::Front(again, rest))?;
     }
-    look_into(alloc, program, ahead, entered, standing, first)
+    look_into(alloc, program, ahead, entered, scope, first)
 }
 
 // Walks into a statement.
@@ -94,22 +94,22 @@ fn look_into<'a>(
     program: &Program<'a, '_>,
     ahead: &mut Vec<Task<'a>>,
     entered: &mut Vec<usize>,
-    standing: Standing<'a>,
+    scope: Scope<'a>,
     statement: &'a Statement,
-) -> Result<(), Untyped<'a>>
+) -> Result<(), BuildError<'a>>
     requires { IsTable program.now }
     ensures { (root : Declaration) (e : Bool) (rest : Body) → KeepsRules program.now.modules.now root e
-        → IsAhead program.now.modules.now root (scope_of standing.entry) standing.entry.depth (Then (step_of statement.now) rest)
+        → IsAhead program.now.modules.now root (scope_of scope.entry) scope.entry.depth (Then (statement_of statement.now) rest)
         → AreAhead program.now.modules.now root ahead.old.items
         → MatchResult result (λ _. AreAhead program.now.modules.now root ahead.new.items) (StopsAhead program.now.modules.now root ahead.new.items) }
 {
     match statement {
         Statement::Message { .. } => Ok(()),
         Statement::Choice { branches, .. } => {
-            look_into_choice(alloc, program, ahead, &standing, branches.as_slice())
+            look_into_choice(alloc, program, ahead, &scope, branches.as_slice())
         }
         Statement::Rec { name, body, .. } => {
-            enter(alloc, ahead, standing, name, body.as_slice())?;
+            enter(alloc, ahead, scope, name, body.as_slice())?;
             Ok(())
         }
         // No statement with an exit before it leads here.
@@ -124,7 +124,7 @@ fn look_into<'a>(
                 program,
                 ahead,
                 entered,
-                &standing,
+                &scope,
                 protocol,
                 roles.as_slice(),
             )?;
@@ -138,19 +138,19 @@ fn look_into_choice<'a>(
     alloc: Global,
     program: &Program<'a, '_>,
     ahead: &mut Vec<Task<'a>>,
-    standing: &Standing<'a>,
+    scope: &Scope<'a>,
     branches: &'a [Block],
-) -> Result<(), Untyped<'a>>
+) -> Result<(), BuildError<'a>>
     requires { IsTable program.now }
     ensures { (root : Declaration) (e : Bool) (chooser : List ℕ) (spot : Spot) (rest : Body) → KeepsRules program.now.modules.now root e
-        → IsAhead program.now.modules.now root (scope_of standing.now) standing.now.depth (Then (Chooses chooser (blocks_of branches.now) spot) rest)
+        → IsAhead program.now.modules.now root (scope_of scope.now) scope.now.depth (Then (Chooses chooser (blocks_of branches.now) spot) rest)
         → AreAhead program.now.modules.now root ahead.old.items
         → MatchResult result (λ _. AreAhead program.now.modules.now root ahead.new.items) (StopsAhead program.now.modules.now root ahead.new.items) }
 {
     for branch in branches {
         let body = branch.body.as_slice();
-        let inside = standing.copy(alloc)?;
-        if has_exit(program, standing.within.home, body) {
+        let inside = scope.copy(alloc)?;
+        if has_exit(program, scope.within.home, body) {
             ahead.push(Task::Front(inside, body))?;
             return Ok(());
         }
@@ -164,19 +164,19 @@ fn try_alone<'a>(
     alloc: Global,
     program: &Program<'a, '_>,
     ahead: &mut Vec<Task<'a>>,
-    standing: Standing<'a>,
+    scope: Scope<'a>,
     body: &'a [Statement],
-) -> Result<(), Untyped<'a>>
+) -> Result<(), BuildError<'a>>
     requires { IsTable program.now }
     ensures same { IfOk result (λ _. ahead.new.items ≡ ahead.old.items) }
     ensures fault { (root : Declaration) (e : Bool) → KeepsRules program.now.modules.now root e
-        → IsAhead program.now.modules.now root (scope_of standing.entry) standing.entry.depth (body_of body.now)
-        → Stays program.now.modules.now standing.entry.within.home.now (body_of body.now)
+        → IsAhead program.now.modules.now root (scope_of scope.entry) scope.entry.depth (body_of body.now)
+        → Stays program.now.modules.now scope.entry.within.home.now (body_of body.now)
         → IfErr result (StopsAhead program.now.modules.now root ahead.new.items) }
 {
     let mut tasks = Vec::new(alloc);
     tasks.push(Task::Trial)?;
-    tasks.push(Task::Front(standing, body))?;
+    tasks.push(Task::Front(scope, body))?;
     match run(alloc, program, &mut tasks) {
         Ok(_) => Ok(()),
         Err(fault) => {
@@ -191,21 +191,21 @@ fn try_alone<'a>(
 fn enter<'a>(
     alloc: Global,
     ahead: &mut Vec<Task<'a>>,
-    standing: Standing<'a>,
+    scope: Scope<'a>,
     name: &'a Name,
     body: &'a [Statement],
 ) -> Result<(), Refused>
     ensures { (modules : List ModuleTree) (root : Declaration) (spot : Spot) (rest : Body)
-        → IsAhead modules root (scope_of standing.entry) standing.entry.depth (Then (Repeats name.now (body_of body.now) spot) rest)
+        → IsAhead modules root (scope_of scope.entry) scope.entry.depth (Then (Repeats name.now (body_of body.now) spot) rest)
         → AreAhead modules root ahead.old.items
         → IfOk result (λ _. AreAhead modules root ahead.new.items) }
 {
     if continues_in(name, body) {
-        let inside = standing.inside(alloc, name)?;
+        let inside = scope.inside(alloc, name)?;
         ahead.push(Task::Front(inside, body))?;
         return Ok(());
     }
-    ahead.push(Task::Front(standing, body))?;
+    ahead.push(Task::Front(scope, body))?;
     Ok(())
 }
 
@@ -215,24 +215,24 @@ fn look_into_call<'a>(
     program: &Program<'a, '_>,
     ahead: &mut Vec<Task<'a>>,
     entered: &mut Vec<usize>,
-    standing: &Standing<'a>,
+    scope: &Scope<'a>,
     path: &'a Dotted,
     roles: &'a [Role],
 ) -> Result<(), Refused>
     requires { IsTable program.now }
     ensures { (root : Declaration) (spot : Spot) (rest : Body)
-        → IsAhead program.now.modules.now root (scope_of standing.now) standing.now.depth (Then (Calls path.now roles.now spot) rest)
+        → IsAhead program.now.modules.now root (scope_of scope.now) scope.now.depth (Then (Calls path.now roles.now spot) rest)
         → AreAhead program.now.modules.now root ahead.old.items
         → IfOk result (λ _. AreAhead program.now.modules.now root ahead.new.items) }
 {
-    let Some(callee) = callee(program, standing.within.home, path) else {
+    let Some(callee) = callee(program, scope.within.home, path) else {
         return Ok(());
     };
     if entered.contains(&callee.place) {
         return Ok(());
     }
     entered.push(callee.place)?;
-    let inside = standing.inside_call(alloc, callee.declared, roles)?;
+    let inside = scope.inside_call(alloc, callee.declared, roles)?;
     ahead.push(Task::Front(inside, callee.declared.protocol.body.as_slice()))?;
     Ok(())
 }

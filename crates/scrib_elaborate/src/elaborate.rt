@@ -9,22 +9,22 @@ ghost use Rattle.scrib_modules.specs.Faults.{FailsAt};
 ghost use Rattle.scrib_elaborate.specs.Meaning.{meaning_of, Means};
 ghost use Rattle.scrib_elaborate.specs.Sites.{AreSites};
 ghost use Rattle.scrib_modules.specs.Table.{shown, declaration_of, IsFound};
-ghost use Rattle.scrib_elaborate.specs.Typing.{IsTable, IsTabled, joins_told};
+ghost use Rattle.scrib_elaborate.specs.Typing.{IsTable, IsTabled, told_sites};
 ghost use Rattle.scrib_modules.specs.Walking.{IsAbsentFault, IsCounted};
 
-use crate::elaborated::{Elaborated, Join};
+use crate::elaborated::{ChoiceSite, Elaborated};
 use crate::known::{forget, know, known_or_typed, unknown};
 use crate::tasks::Program;
-use scrib_modules::declared::{Declared, all_declared};
+use scrib_modules::checking::State;
+use scrib_modules::declared::{Declaration, all_declared};
 use scrib_modules::directory::Directory;
 use scrib_modules::fault::{ElaborateFault, Fault, FaultKind};
 use scrib_modules::modules::Modules;
 use scrib_modules::names::has_module;
-use scrib_modules::stop::State;
 use scrib_modules::walk::{check_size, fault_in, unwalked, walk};
 use scrib_parser::tree::{ModuleTree, RoleDeclaration};
+use scrib_typed::build_error::BuildError;
 use scrib_typed::built::{Origin, Typed};
-use scrib_typed::untyped::Untyped;
 use scrib_types::name::{Dotted, Name, Role};
 use scrib_types::plain::Items;
 use scrib_types::spot::Spot;
@@ -58,7 +58,7 @@ pub fn elaborate(
 pub struct Elaborator<'a> {
     alloc: Global,
     modules: &'a Modules,
-    declared: Vec<Declared<'a>>,
+    declared: Vec<Declaration<'a>>,
     directory: &'a Directory,
     states: Vec<State>,
     known: Vec<Option<Typed<'a>>>,
@@ -133,7 +133,7 @@ impl<'a> Elaborator<'a> {
 fn elaborate_among<'a>(
     alloc: Global,
     trees: &'a [ModuleTree],
-    declared: &[Declared<'a>],
+    declared: &[Declaration<'a>],
     directory: &Directory,
     states: &mut Vec<State>,
     known: &mut Vec<Option<Typed<'a>>>,
@@ -193,13 +193,13 @@ fn finish(
 {
     match known_or_typed(alloc, program, root) {
         Ok(typed) => {
-            let Typed { global, joins } = typed;
+            let Typed { global, origins } = typed;
             let roles = copy_roles(alloc, program.root.protocol.roles.as_slice())?;
-            let joins = told(alloc, &joins)?;
-            Ok(Elaborated::new(roles, global, count, joins))
+            let sites = told(alloc, &origins)?;
+            Ok(Elaborated::new(roles, global, count, sites))
         }
-        Err(Untyped::Broken(home, rule)) => Err(fault_in(alloc, home, rule)),
-        Err(Untyped::OutOfMemory) => Err(ElaborateFault::OutOfMemory),
+        Err(BuildError::Broken(home, rule)) => Err(fault_in(alloc, home, rule)),
+        Err(BuildError::OutOfMemory) => Err(ElaborateFault::OutOfMemory),
     }
 }
 
@@ -214,15 +214,15 @@ fn copy_roles(alloc: Global, roles: &[RoleDeclaration]) -> Result<Items<Role>, A
 }
 
 // The choices that communications with several branches come from.
-fn told(alloc: Global, joins: &[Option<Origin>]) -> Result<Items<Join>, AllocError>
-    ensures { IfOk result (λ ts. ts ≡ joins_told joins.now) }
+fn told(alloc: Global, origins: &[Option<Origin>]) -> Result<Items<ChoiceSite>, AllocError>
+    ensures { IfOk result (λ ts. ts ≡ told_sites origins.now) }
 {
     let mut told = Vec::new(alloc);
-    for join in joins {
-        if let Some(origin) = join {
+    for found in origins {
+        if let Some(origin) = found {
             let module = origin.home.name.copy()?;
             let spot = origin.spot;
-            told.push(Join { module, spot })?;
+            told.push(ChoiceSite { module, spot })?;
         }
     }
     Ok(Items::from_vec(told))
@@ -232,7 +232,7 @@ fn told(alloc: Global, joins: &[Option<Origin>]) -> Result<Items<Join>, AllocErr
 fn find_root(
     alloc: Global,
     modules: &[ModuleTree],
-    declared: &[Declared],
+    declared: &[Declaration],
     directory: &Directory,
     module: &Dotted,
     protocol: &Name,

@@ -13,7 +13,7 @@ use scrib_types::spot::Spot;
 /// Where the choice stands that a communication with several branches comes from: its module, and the place of
 /// its word `choice`, of the outermost one where several were joined.
 #[derive(Drop)]
-pub struct Join {
+pub struct ChoiceSite {
     pub module: Dotted,
     pub spot: Spot,
 }
@@ -25,7 +25,7 @@ pub struct Elaborated {
     roles: Items<Role>,
     global: GlobalType,
     count: usize,
-    joins: Items<Join>,
+    sites: Items<ChoiceSite>,
     pub ghost counted: { count ≡ nodes (global_of global) },
     pub ghost small: { count ≤ 65536 },
     pub ghost short: { height (global_of global) ≤ 4096 },
@@ -37,28 +37,28 @@ impl Elaborated {
     ghost use Rattle.scrib_types.specs.GlobalView.{global_of};
     ghost use Rattle.scrib_modules.specs.Elaboration.{nodes, height};
     ghost use Rattle.scrib_elaborate.specs.Sound.{is_sound};
-    ghost use Rattle.scrib_elaborate.specs.Meaning.{meaning_of, joins_of};
+    ghost use Rattle.scrib_elaborate.specs.Meaning.{meaning_of, sites_of};
 
     /// The protocol of these roles and this type, which has so many nodes, at most 65,536, and at most 4,096 of them
-    /// on a path. The joins are those of the type's communications with several branches, in post-order.
+    /// on a path. The sites are those of the type's communications with several branches, in post-order.
     pub fn new(
         roles: Items<Role>,
         global: GlobalType,
         count: usize,
-        joins: Items<Join>,
+        sites: Items<ChoiceSite>,
     ) -> Elaborated
         requires counted { count ≡ nodes (global_of global) }
         requires small { count ≤ 65536 }
         requires short { height (global_of global) ≤ 4096 }
         requires sound { IsTrue (is_sound roles (global_of global)) }
         ensures meaning { meaning_of result ≡ record { roles = roles; global = global_of global } }
-        ensures joins { joins_of result ≡ joins }
+        ensures sites { sites_of result ≡ sites }
     {
         Elaborated {
             roles,
             global,
             count,
-            joins,
+            sites,
         }
     }
 
@@ -87,10 +87,10 @@ impl Elaborated {
 
     /// Where the communications with several branches come from, in post-order: those in a communication's
     /// branches, the first branch first, and then its own.
-    pub fn joins(&self) -> &[Join]
-        ensures { result.now ≡ joins_of self.now }
+    pub fn sites(&self) -> &[ChoiceSite]
+        ensures { result.now ≡ sites_of self.now }
     {
-        self.joins.as_slice()
+        self.sites.as_slice()
     }
 
     /// The roles and the global type.

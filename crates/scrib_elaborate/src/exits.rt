@@ -2,16 +2,16 @@
 
 ghost use Rattle.std.specs.Prelude.{◌≡◌, ◌<◌, List, length, slice_get, Some, false};
 ghost use Rattle.scrib_parser.specs.declared.tree.ModuleTree.{ModuleTree};
-ghost use Rattle.scrib_modules.specs.SourceView.{step_of, body_of, blocks_of};
+ghost use Rattle.scrib_modules.specs.SourceView.{statement_of, body_of, blocks_of};
 ghost use Rattle.scrib_modules.specs.Names.{Declaration};
 ghost use Rattle.scrib_modules.specs.Statements.{KeepsRules};
-ghost use Rattle.scrib_elaborate.specs.Staying.{Stays, StepStays, AllStay};
+ghost use Rattle.scrib_elaborate.specs.Staying.{Stays, StatementStays, AllStay};
 ghost use Rattle.scrib_elaborate.specs.Typing.{IsTable};
 ghost use Rattle.scrib_modules.specs.Walking.{AreSummaries};
 
 use crate::tasks::Program;
 use crate::typing::callee;
-use scrib_modules::stop::State;
+use scrib_modules::checking::State;
 use scrib_parser::tree::{Block, ModuleTree, Statement};
 
 /// Whether a way through the block, in this module, leads to its end.
@@ -31,7 +31,7 @@ pub fn has_exit<'a>(program: &Program<'a, '_>, home: &'a ModuleTree, body: &'a [
 #[cycle(exits)]
 fn leads_on<'a>(program: &Program<'a, '_>, home: &'a ModuleTree, statement: &'a Statement) -> bool
     requires { IsTable program.now }
-    ensures { result ≡ false → StepStays program.now.modules.now home.now (step_of statement.now) }
+    ensures { result ≡ false → StatementStays program.now.modules.now home.now (statement_of statement.now) }
 {
     match statement {
         Statement::Message { .. } => true,

@@ -2,7 +2,7 @@
 
 ghost use Rattle.std.specs.Prelude.{◌≡◌, List, Bool, slice_get, Some, IfOk, IfErr, IfSome};
 ghost use Rattle.scrib_parser.specs.declared.tree.ModuleTree.{ModuleTree as ParsedTree};
-ghost use Rattle.scrib_modules.specs.Names.{Declaration};
+ghost use Rattle.scrib_modules.specs.Names.{Declaration as PureDeclaration};
 ghost use Rattle.scrib_modules.specs.Walking.{IsIdle};
 ghost use Rattle.scrib_modules.specs.Statements.{KeepsRules};
 ghost use Rattle.scrib_modules.specs.Elaboration.{start_of};
@@ -11,12 +11,12 @@ ghost use Rattle.scrib_elaborate.specs.Typing.{made_of, Makes, AreKnown, AreUnkn
 
 use crate::tasks::Program;
 use crate::typing::{type_alone, type_of_root};
-use scrib_modules::declared::Declared;
+use scrib_modules::checking::State;
+use scrib_modules::declared::Declaration;
 use scrib_modules::directory::Directory;
-use scrib_modules::stop::State;
 use scrib_parser::tree::ModuleTree;
+use scrib_typed::build_error::{BuildError, Refused};
 use scrib_typed::built::Typed;
-use scrib_typed::untyped::{Refused, Untyped};
 use std::alloc::{AllocError, Global};
 
 // The most nodes of a type that is kept. A larger one is made where it is needed, so that the types of many
@@ -45,7 +45,7 @@ pub fn unknown<'a>(alloc: Global, count: usize) -> Result<Vec<Option<Typed<'a>>>
 pub fn know<'a>(
     alloc: Global,
     modules: &'a [ModuleTree],
-    declared: &[Declared<'a>],
+    declared: &[Declaration<'a>],
     directory: &Directory,
     states: &[State],
     places: &[usize],
@@ -70,7 +70,7 @@ pub fn know<'a>(
 fn alone<'a>(
     alloc: Global,
     modules: &'a [ModuleTree],
-    declared: &[Declared<'a>],
+    declared: &[Declaration<'a>],
     directory: &Directory,
     states: &[State],
     known: &[Option<Typed<'a>>],
@@ -104,7 +104,7 @@ fn alone<'a>(
 /// alone; of one that no other calls no second type is made. It saves time and nothing rests on it: a type that isn't
 /// known is made anew for each protocol that leads to it.
 pub fn forget(states: &mut Vec<State>, known: &[Option<Typed>], place: usize, nodes: usize)
-    ensures { (modules : List ParsedTree) → (ds : List Declaration) → IsIdle modules ds states.old.items → IsIdle modules ds states.new.items }
+    ensures { (modules : List ParsedTree) → (ds : List PureDeclaration) → IsIdle modules ds states.old.items → IsIdle modules ds states.new.items }
 {
     let is_known = matches!(known.get(place), Some(Some(_)));
     if nodes <= MAX_KNOWN && !is_known && place < states.len() {
@@ -121,7 +121,7 @@ pub fn known_or_typed<'a>(
     alloc: Global,
     program: &Program<'a, '_>,
     place: usize,
-) -> Result<Typed<'a>, Untyped<'a>>
+) -> Result<Typed<'a>, BuildError<'a>>
     requires table { IsTable program.now }
     requires there { slice_get (shown program.now.declared.now) place ≡ Some (declaration_of program.now.root) }
     requires kept { (e : Bool) × KeepsRules program.now.modules.now (declaration_of program.now.root) e }

@@ -7,6 +7,6 @@ pub mod elaborate;
 pub mod elaborated;
 mod exits;
 mod known;
-mod standing;
+mod scope;
 mod tasks;
 mod typing;

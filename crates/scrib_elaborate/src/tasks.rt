@@ -1,10 +1,10 @@
 //! What is left to do for the type of a protocol.
 
-use crate::standing::Standing;
-use scrib_modules::declared::Declared;
+use crate::scope::Scope;
+use scrib_modules::checking::State;
+use scrib_modules::declared::Declaration;
 use scrib_modules::directory::Directory;
 use scrib_modules::shape::Shape;
-use scrib_modules::stop::State;
 use scrib_parser::tree::{Block, ModuleTree, Statement};
 use scrib_typed::built::Typed;
 use scrib_types::name::Role;
@@ -15,18 +15,18 @@ use scrib_types::spot::Spot;
 #[derive(Clone, Copy, Drop)]
 pub struct Program<'a, 'k> {
     pub modules: &'a [ModuleTree],
-    pub declared: &'k [Declared<'a>],
+    pub declared: &'k [Declaration<'a>],
     pub directory: &'k Directory,
     pub states: &'k [State],
     pub known: &'k [Option<Typed<'a>>],
-    pub root: Declared<'a>,
+    pub root: Declaration<'a>,
 }
 
 /// A called protocol, its place in the table, and its shape.
 #[derive(Clone, Copy, Drop)]
 pub struct Callee<'a> {
     pub place: usize,
-    pub declared: Declared<'a>,
+    pub declared: Declaration<'a>,
     pub shape: Shape,
 }
 
@@ -34,7 +34,7 @@ pub struct Callee<'a> {
 /// one are left, the type of what follows the choice is kept for them.
 #[derive(Drop)]
 pub struct Choosing<'a> {
-    pub standing: Standing<'a>,
+    pub scope: Scope<'a>,
     pub chooser: &'a Role,
     pub branches: &'a [Block],
     pub spot: Spot,
@@ -46,7 +46,7 @@ pub struct Choosing<'a> {
 #[derive(Drop)]
 pub enum Task<'a> {
     /// These statements stand in front of what has the type. The last of them is next.
-    Front(Standing<'a>, &'a [Statement]),
+    Front(Scope<'a>, &'a [Statement]),
     /// It is the type of the choice's next block.
     Join(Choosing<'a>),
     /// It is the type of the body of the recursion here.

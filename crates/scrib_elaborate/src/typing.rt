@@ -6,30 +6,30 @@ ghost use Rattle.scrib_types.specs.GlobalView.{global_of};
 ghost use Rattle.scrib_types.specs.Trees.{GlobalEnd};
 ghost use Rattle.scrib_parser.specs.declared.tree.ModuleTree.{ModuleTree};
 ghost use Rattle.scrib_elaborate.specs.declared.tasks.Task.TheVariants.{Front, Join, Close};
-ghost use Rattle.scrib_typed.specs.declared.untyped.Untyped.TheVariants.{OutOfMemory};
+ghost use Rattle.scrib_typed.specs.declared.build_error.BuildError.TheVariants.{OutOfMemory};
 ghost use Rattle.scrib_modules.specs.Source.{Repeats, Calls};
-ghost use Rattle.scrib_modules.specs.SourceView.{step_of, body_of};
-ghost use Rattle.scrib_modules.specs.Names.{Declaration, called};
+ghost use Rattle.scrib_modules.specs.SourceView.{statement_of, body_of};
+ghost use Rattle.scrib_modules.specs.Names.{Declaration as PureDeclaration, called};
 ghost use Rattle.scrib_modules.specs.Statements.{KeepsRules};
 ghost use Rattle.scrib_modules.specs.Elaboration.{Frames, Types, role_in, sent, start_of};
 ghost use Rattle.scrib_typed.specs.Lifting.{lifted};
 ghost use Rattle.scrib_modules.specs.Table.{shown, declaration_of};
 ghost use Rattle.scrib_modules.specs.Shape.{IsShapeOf};
-ghost use Rattle.scrib_elaborate.specs.Standing.{scope_of};
+ghost use Rattle.scrib_elaborate.specs.Scope.{scope_of};
 ghost use Rattle.scrib_typed.specs.Typed.{type_of, none_told};
 ghost use Rattle.scrib_elaborate.specs.Typing.{made_of, nothing_made, Makes, PassesOn, IsBefore, IsState, IsTable, IsVariable, TypingFails, StopsAhead};
 
 use crate::choices::{choose, join};
 use crate::earlier::first_fault;
-use crate::standing::Standing;
+use crate::scope::Scope;
 use crate::tasks::{Callee, Program, Task};
-use scrib_modules::declared::{Declared, looked_in};
+use scrib_modules::block_shapes::shape_at;
+use scrib_modules::declared::{Declaration, looked_in};
 use scrib_modules::shape::Shape;
-use scrib_modules::shapes::shape_at;
 use scrib_modules::size::continues_in;
 use scrib_parser::tree::{ModuleTree, Statement};
+use scrib_typed::build_error::{BuildError, Refused};
 use scrib_typed::built::{Origin, Typed};
-use scrib_typed::untyped::{Refused, Untyped};
 use scrib_types::global::GlobalType;
 use scrib_types::name::{Dotted, Name, Role};
 use scrib_types::shared_message::SharedMessage;
@@ -39,19 +39,19 @@ use std::alloc::{AllocError, Global};
 // One message to each of the receivers in turn, in front of what has this type.
 fn send<'a>(
     alloc: Global,
-    standing: &Standing<'a>,
+    scope: &Scope<'a>,
     message: &SharedMessage,
     from: &'a Role,
     to: &'a [Role],
     typed: Typed<'a>,
 ) -> Result<Typed<'a>, AllocError>
-    ensures global { IfOk result (λ t. type_of t ≡ sent message.now (role_in (scope_of standing.now) from.now) (map (role_in (scope_of standing.now)) to.now) (type_of typed.entry)) }
-    ensures joins { IfOk result (λ t. t.joins.items ≡ none_told (map (role_in (scope_of standing.now)) to.now) typed.entry.joins.items) }
+    ensures global { IfOk result (λ t. type_of t ≡ sent message.now (role_in (scope_of scope.now) from.now) (map (role_in (scope_of scope.now)) to.now) (type_of typed.entry)) }
+    ensures origins { IfOk result (λ t. t.origins.items ≡ none_told (map (role_in (scope_of scope.now)) to.now) typed.entry.origins.items) }
 {
-    let sender = standing.role(from);
+    let sender = scope.role(from);
     let mut typed = typed;
     for i in (0..to.len()).rev() {
-        let receiver = standing.role(&to[i]);
+        let receiver = scope.role(&to[i]);
         typed = typed.sent(alloc, message, sender, receiver)?;
     }
     Ok(typed)
@@ -61,24 +61,24 @@ fn send<'a>(
 fn repeat<'a>(
     alloc: Global,
     tasks: &mut Vec<Task<'a>>,
-    standing: Standing<'a>,
+    scope: Scope<'a>,
     name: &'a Name,
     body: &'a [Statement],
     spot: Spot,
     typed: Typed<'a>,
 ) -> Result<Typed<'a>, Refused>
-    ensures { (modules : List ModuleTree) (root : Declaration)
-        → IsBefore modules root (reverse tasks.old.items) (scope_of standing.entry) standing.entry.depth (Repeats name.now (body_of body.now) spot) (made_of typed.entry)
+    ensures { (modules : List ModuleTree) (root : PureDeclaration)
+        → IsBefore modules root (reverse tasks.old.items) (scope_of scope.entry) scope.entry.depth (Repeats name.now (body_of body.now) spot) (made_of typed.entry)
         → IfOk result (λ t. IsState modules root (reverse tasks.new.items) (made_of t)) }
 {
     if continues_in(name, body) {
-        let inside = standing.inside(alloc, name)?;
-        let follows = deeper(alloc, standing.depth, typed)?;
-        tasks.push(Task::Close(standing.within.home, spot))?;
+        let inside = scope.inside(alloc, name)?;
+        let follows = deeper(alloc, scope.depth, typed)?;
+        tasks.push(Task::Close(scope.within.home, spot))?;
         tasks.push(Task::Front(inside, body))?;
         return Ok(follows);
     }
-    tasks.push(Task::Front(standing, body))?;
+    tasks.push(Task::Front(scope, body))?;
     Ok(typed)
 }
 
@@ -87,7 +87,7 @@ fn repeat<'a>(
 fn deeper<'a>(alloc: Global, depth: u32, typed: Typed<'a>) -> Result<Typed<'a>, Refused>
     ensures global { (modules : List ModuleTree) (frames : Frames) → Types modules depth frames (type_of typed.entry)
         → IfOk result (λ t. type_of t ≡ lifted 0 (type_of typed.entry)) }
-    ensures joins { IfOk result (λ t. t.joins.items ≡ typed.entry.joins.items) }
+    ensures origins { IfOk result (λ t. t.origins.items ≡ typed.entry.origins.items) }
 {
     if depth == 0 {
         return Ok(typed);
@@ -101,18 +101,18 @@ fn call<'a>(
     alloc: Global,
     program: &Program<'a, '_>,
     tasks: &mut Vec<Task<'a>>,
-    standing: &Standing<'a>,
+    scope: &Scope<'a>,
     callee: Callee<'a>,
     roles: &'a [Role],
     typed: Typed<'a>,
 ) -> Result<Typed<'a>, Refused>
     requires { IsTable program.now }
-    ensures { (root : Declaration) (e : Bool) (path : List (List ℕ)) (spot : Spot)
+    ensures { (root : PureDeclaration) (e : Bool) (path : List (List ℕ)) (spot : Spot)
         → KeepsRules program.now.modules.now root e
-        → called program.now.modules.now standing.now.within.home.now path ≡ Some (declaration_of callee.entry.declared)
+        → called program.now.modules.now scope.now.within.home.now path ≡ Some (declaration_of callee.entry.declared)
         → slice_get (shown program.now.declared.now) callee.entry.place ≡ Some (declaration_of callee.entry.declared)
         → IsShapeOf program.now.modules.now (declaration_of callee.entry.declared) callee.entry.shape
-        → IsBefore program.now.modules.now root (reverse tasks.old.items) (scope_of standing.now) standing.now.depth (Calls path roles.now spot) (made_of typed.entry)
+        → IsBefore program.now.modules.now root (reverse tasks.old.items) (scope_of scope.now) scope.now.depth (Calls path roles.now spot) (made_of typed.entry)
         → IfOk result (λ t. IsState program.now.modules.now root (reverse tasks.new.items) (made_of t)) }
 {
     let Callee {
@@ -120,7 +120,7 @@ fn call<'a>(
         shape,
         place,
     } = callee;
-    let inside = standing.inside_call(alloc, declared, roles)?;
+    let inside = scope.inside_call(alloc, declared, roles)?;
     if shape.passes(&inside.given, &typed.global) {
         return Ok(passed(program.declared, shape, typed));
     }
@@ -150,7 +150,7 @@ fn known_alone<'a, 'k>(
 
 // What follows a call that adds nothing to its type. Where the called protocol joins, its first choice is the
 // outermost one that the communication in front comes from.
-fn passed<'a>(table: &[Declared<'a>], shape: Shape, typed: Typed<'a>) -> Typed<'a>
+fn passed<'a>(table: &[Declaration<'a>], shape: Shape, typed: Typed<'a>) -> Typed<'a>
     ensures { PassesOn table.now shape (made_of typed.entry) (made_of result) }
 {
     if let Shape::Joining { at, spot, .. } = shape {
@@ -169,8 +169,8 @@ fn close<'a>(
     home: &'a ModuleTree,
     spot: Spot,
     typed: Typed<'a>,
-) -> Result<Typed<'a>, Untyped<'a>>
-    ensures { (modules : List ModuleTree) (root : Declaration) (tasks : List Task)
+) -> Result<Typed<'a>, BuildError<'a>>
+    ensures { (modules : List ModuleTree) (root : PureDeclaration) (tasks : List Task)
         → IsState modules root (Close home.entry spot ∷ tasks) (made_of typed.entry)
         → MatchResult result (λ t. IsState modules root tasks (made_of t)) (TypingFails modules root) }
 {
@@ -178,17 +178,17 @@ fn close<'a>(
 }
 
 // Puts a statement in front of what has this type, or begins to.
-fn put<'a>(
+fn prepend<'a>(
     alloc: Global,
     program: &Program<'a, '_>,
     tasks: &mut Vec<Task<'a>>,
-    standing: Standing<'a>,
+    scope: Scope<'a>,
     statement: &'a Statement,
     typed: Typed<'a>,
-) -> Result<Typed<'a>, Untyped<'a>>
+) -> Result<Typed<'a>, BuildError<'a>>
     requires { IsTable program.now }
-    ensures { (root : Declaration) (e : Bool) → KeepsRules program.now.modules.now root e
-        → IsBefore program.now.modules.now root (reverse tasks.old.items) (scope_of standing.entry) standing.entry.depth (step_of statement.now) (made_of typed.entry)
+    ensures { (root : PureDeclaration) (e : Bool) → KeepsRules program.now.modules.now root e
+        → IsBefore program.now.modules.now root (reverse tasks.old.items) (scope_of scope.entry) scope.entry.depth (statement_of statement.now) (made_of typed.entry)
         → MatchResult result (λ t. IsState program.now.modules.now root (reverse tasks.new.items) (made_of t)) (StopsAhead program.now.modules.now root tasks.new.items) }
 {
     match statement {
@@ -198,37 +198,37 @@ fn put<'a>(
             to,
             ..
         } => {
-            let sent = send(alloc, &standing, message, from, to.as_slice(), typed)?;
+            let sent = send(alloc, &scope, message, from, to.as_slice(), typed)?;
             Ok(sent)
         }
         Statement::Choice { at, branches, spot } => choose(
             alloc,
             tasks,
-            standing,
+            scope,
             at,
             branches.as_slice(),
             *spot,
             typed,
         ),
         Statement::Rec { name, body, spot } => {
-            let begun = repeat(alloc, tasks, standing, name, body.as_slice(), *spot, typed)?;
+            let begun = repeat(alloc, tasks, scope, name, body.as_slice(), *spot, typed)?;
             Ok(begun)
         }
-        Statement::Continue { name, .. } => again(alloc, &standing, name),
+        Statement::Continue { name, .. } => again(alloc, &scope, name),
         Statement::Do {
             protocol,
             roles,
             ..
         } => {
             // The first pass found it.
-            let Some(callee) = callee(program, standing.within.home, protocol) else {
-                return Err(Untyped::OutOfMemory);
+            let Some(callee) = callee(program, scope.within.home, protocol) else {
+                return Err(BuildError::OutOfMemory);
             };
             let entered = call(
                 alloc,
                 program,
                 tasks,
-                &standing,
+                &scope,
                 callee,
                 roles.as_slice(),
                 typed,
@@ -239,17 +239,17 @@ fn put<'a>(
 }
 
 // The variable of the recursion of this name.
-fn again<'a>(alloc: Global, standing: &Standing<'a>, name: &Name) -> Result<Typed<'a>, Untyped<'a>>
-    ensures { MatchResult result (λ t. IsVariable (scope_of standing.now) standing.now.depth name.now (made_of t)) (λ e. e ≡ OutOfMemory) }
+fn again<'a>(alloc: Global, scope: &Scope<'a>, name: &Name) -> Result<Typed<'a>, BuildError<'a>>
+    ensures { MatchResult result (λ t. IsVariable (scope_of scope.now) scope.now.depth name.now (made_of t)) (λ e. e ≡ OutOfMemory) }
 {
     // The first pass found it, and it stands round the statement.
-    let Some(level) = standing.level_of(name) else {
-        return Err(Untyped::OutOfMemory);
+    let Some(level) = scope.level_of(name) else {
+        return Err(BuildError::OutOfMemory);
     };
-    if level >= standing.depth {
-        return Err(Untyped::OutOfMemory);
+    if level >= scope.depth {
+        return Err(BuildError::OutOfMemory);
     }
-    Ok(Typed::variable(alloc, standing.depth - 1 - level))
+    Ok(Typed::variable(alloc, scope.depth - 1 - level))
 }
 
 /// The protocol that a call of this path names.
@@ -283,34 +283,34 @@ fn front<'a>(
     alloc: Global,
     program: &Program<'a, '_>,
     tasks: &mut Vec<Task<'a>>,
-    standing: Standing<'a>,
+    scope: Scope<'a>,
     statements: &'a [Statement],
     typed: Typed<'a>,
-) -> Result<Typed<'a>, Untyped<'a>>
+) -> Result<Typed<'a>, BuildError<'a>>
     requires { IsTable program.now }
-    ensures { (root : Declaration) (e : Bool) → KeepsRules program.now.modules.now root e
-        → IsState program.now.modules.now root (Front standing.entry statements.entry ∷ reverse tasks.old.items) (made_of typed.entry)
+    ensures { (root : PureDeclaration) (e : Bool) → KeepsRules program.now.modules.now root e
+        → IsState program.now.modules.now root (Front scope.entry statements.entry ∷ reverse tasks.old.items) (made_of typed.entry)
         → MatchResult result (λ t. IsState program.now.modules.now root (reverse tasks.new.items) (made_of t)) (StopsAhead program.now.modules.now root tasks.new.items) }
 {
-    let (typed, statements) = messages(alloc, &standing, statements, typed)?;
+    let (typed, statements) = messages(alloc, &scope, statements, typed)?;
     let Some((last, rest)) = statements.split_last() else {
         return Ok(typed);
     };
-    let again = standing.copy(alloc)?;
+    let again = scope.copy(alloc)?;
     tasks.push(Task::Front(again, rest))?;
-    put(alloc, program, tasks, standing, last, typed)
+    prepend(alloc, program, tasks, scope, last, typed)
 }
 
 // The messages at the end of these statements, in front of what has this type, and what is left in front of them.
 fn messages<'a>(
     alloc: Global,
-    standing: &Standing<'a>,
+    scope: &Scope<'a>,
     statements: &'a [Statement],
     typed: Typed<'a>,
 ) -> Result<(Typed<'a>, &'a [Statement]), AllocError>
-    ensures { (modules : List ModuleTree) (root : Declaration) (e : Bool) (tasks : List Task) → KeepsRules modules root e
-        → IsState modules root (Front standing.now statements.entry ∷ tasks) (made_of typed.entry)
-        → IfOk result (λ r. IsState modules root (Front standing.now r.1 ∷ tasks) (made_of r.0)) }
+    ensures { (modules : List ModuleTree) (root : PureDeclaration) (e : Bool) (tasks : List Task) → KeepsRules modules root e
+        → IsState modules root (Front scope.now statements.entry ∷ tasks) (made_of typed.entry)
+        → IfOk result (λ r. IsState modules root (Front scope.now r.1 ∷ tasks) (made_of r.0)) }
 {
     let mut typed = typed;
     let mut left = statements;
@@ -324,7 +324,7 @@ fn messages<'a>(
         else {
             return Ok((typed, left));
         };
-        typed = send(alloc, standing, message, from, to.as_slice(), typed)?;
+        typed = send(alloc, scope, message, from, to.as_slice(), typed)?;
         left = rest;
     }
     Ok((typed, left))
@@ -337,20 +337,18 @@ fn step<'a>(
     tasks: &mut Vec<Task<'a>>,
     task: Task<'a>,
     typed: Typed<'a>,
-) -> Result<Typed<'a>, Untyped<'a>>
+) -> Result<Typed<'a>, BuildError<'a>>
     requires { IsTable program.now }
-    ensures { (root : Declaration) (e : Bool) → KeepsRules program.now.modules.now root e
+    ensures { (root : PureDeclaration) (e : Bool) → KeepsRules program.now.modules.now root e
         → IsState program.now.modules.now root (task.entry ∷ reverse tasks.old.items) (made_of typed.entry)
         → MatchResult result (λ t. IsState program.now.modules.now root (reverse tasks.new.items) (made_of t)) (StopsAhead program.now.modules.now root tasks.new.items) }
 {
     match task {
-        Task::Front(standing, statements) => {
-            front(alloc, program, tasks, standing, statements, typed)
-        }
+        Task::Front(scope, statements) => { front(alloc, program, tasks, scope, statements, typed) }
         Task::Join(choosing) => join(alloc, tasks, choosing, typed),
         Task::Close(home, spot) => close(alloc, home, spot, typed),
         // A run ends before it.
-        Task::Trial => Err(Untyped::OutOfMemory),
+        Task::Trial => Err(BuildError::OutOfMemory),
     }
 }
 
@@ -364,9 +362,9 @@ pub fn run<'a>(
     alloc: Global,
     program: &Program<'a, '_>,
     tasks: &mut Vec<Task<'a>>,
-) -> Result<Option<Typed<'a>>, Untyped<'a>>
+) -> Result<Option<Typed<'a>>, BuildError<'a>>
     requires { IsTable program.now }
-    ensures { (root : Declaration) (e : Bool) → KeepsRules program.now.modules.now root e
+    ensures { (root : PureDeclaration) (e : Bool) → KeepsRules program.now.modules.now root e
         → IsState program.now.modules.now root (reverse tasks.old.items) nothing_made
         → MatchResult result (λ o. IfSome o (λ t. Makes program.now.modules.now 0 (start_of root) (made_of t))) (StopsAhead program.now.modules.now root tasks.new.items) }
 {
@@ -381,7 +379,7 @@ pub fn run<'a>(
         }
         typed = step(alloc, program, tasks, task, typed)?;
     }
-    Err(Untyped::OutOfMemory)
+    Err(BuildError::OutOfMemory)
 }
 
 /// The type of the protocol that was asked for, after the first pass. Types are built from the end: what follows
@@ -391,7 +389,10 @@ pub fn run<'a>(
 /// # Errors
 /// `Broken` with the rule on types that is broken, its module and its place, of several the one that a reader who
 /// goes forward meets first; `OutOfMemory` where memory was refused.
-pub fn type_of_root<'a>(alloc: Global, program: &Program<'a, '_>) -> Result<Typed<'a>, Untyped<'a>>
+pub fn type_of_root<'a>(
+    alloc: Global,
+    program: &Program<'a, '_>,
+) -> Result<Typed<'a>, BuildError<'a>>
     requires table { IsTable program.now }
     requires kept { (e : Bool) × KeepsRules program.now.modules.now (declaration_of program.now.root) e }
     ensures ok { IfOk result (λ t. Makes program.now.modules.now 0 (start_of (declaration_of program.now.root)) (made_of t)) }
@@ -401,7 +402,7 @@ pub fn type_of_root<'a>(alloc: Global, program: &Program<'a, '_>) -> Result<Type
     match run(alloc, program, &mut tasks) {
         Ok(Some(typed)) => Ok(typed),
         // No block is tried yet.
-        Ok(None) => Err(Untyped::OutOfMemory),
+        Ok(None) => Err(BuildError::OutOfMemory),
         Err(found) => Err(first_fault(alloc, program, tasks, found)),
     }
 }
@@ -421,18 +422,18 @@ pub fn type_alone<'a>(
     let mut tasks = first_task(alloc, program.root)?;
     match run(alloc, program, &mut tasks) {
         Ok(typed) => Ok(typed),
-        Err(Untyped::Broken(..)) => Ok(None),
-        Err(Untyped::OutOfMemory) => Err(Refused),
+        Err(BuildError::Broken(..)) => Ok(None),
+        Err(BuildError::OutOfMemory) => Err(Refused),
     }
 }
 
 // All statements of the protocol that was asked for.
-fn first_task<'a>(alloc: Global, root: Declared<'a>) -> Result<Vec<Task<'a>>, AllocError>
+fn first_task<'a>(alloc: Global, root: Declaration<'a>) -> Result<Vec<Task<'a>>, AllocError>
     ensures { IfOk result (λ tasks. (modules : List ModuleTree) → IsState modules (declaration_of root.entry) (reverse tasks.items) nothing_made) }
 {
-    let standing = Standing::start(alloc, root)?;
+    let scope = Scope::start(alloc, root)?;
     let statements = root.protocol.body.as_slice();
     let mut tasks = Vec::new(alloc);
-    tasks.push(Task::Front(standing, statements))?;
+    tasks.push(Task::Front(scope, statements))?;
     Ok(tasks)
 }

@@ -3,7 +3,7 @@ use Rattle.std.proofs.Common.{◌≡◌, ℕ, zero, suc, ◌+◌, ◌*◌, ◌<�
 use Rattle.std.proofs.Math.Nat.{mul-suc, mul-add, add-mul, mul_assoc, mul_comm}
 use Rattle.std.proofs.lemmas.Bool.{cases_lt}
 use Rattle.scrib_modules.specs.declared.growth.Growth.{Growth}
-use Rattle.scrib_modules.specs.Growth.{Agree, grown, IsPut, IsJoined}
+use Rattle.scrib_modules.specs.Growth.{Agree, grown, IsComposed, IsJoined}
 
 at_least : (m j : ℕ) → m ≤ m * suc j
 at_least m j = let grows = mul-suc m j in omega arith
@@ -52,8 +52,8 @@ distributed a b c d k =
 grown_is : (g : Growth) (x y : ℕ) → g.base ≡ min 65536 x → g.times ≡ min 65536 y → (k : ℕ) → Agree 65536 (x + y * k) (grown g k)
 grown_is g x y p q k = capped_times 65536 x y k ∙ sym (λ i. min 65536 (p i + q i * k))
 
-pub put_agrees : (outer inner all : Growth) → all.base ≡ min 65536 (outer.base + outer.times * inner.base) → all.times ≡ min 65536 (outer.times * inner.times) → IsPut 65536 (grown outer) (grown inner) (grown all)
-put_agrees outer inner all p q k m n e f =
+pub compose_agrees : (outer inner all : Growth) → all.base ≡ min 65536 (outer.base + outer.times * inner.base) → all.times ≡ min 65536 (outer.times * inner.times) → IsComposed 65536 (grown outer) (grown inner) (grown all)
+compose_agrees outer inner all p q k m n e f =
     f ∙ capped_put 65536 outer.base outer.times m (grown inner k) e ∙ ap (min 65536) (distributed outer.base outer.times inner.base inner.times k) ∙ grown_is all (outer.base + outer.times * inner.base) (outer.times * inner.times) p q k
 
 pub sum_agrees : (one other all : Growth) → all.base ≡ min 65536 (one.base + other.base) → all.times ≡ min 65536 (one.times + other.times) → IsJoined 65536 ◌+◌ (grown one) (grown other) (grown all)

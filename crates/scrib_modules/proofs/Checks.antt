@@ -9,17 +9,17 @@ use Rattle.scrib_types.specs.declared.spot.Spot.{Spot}
 use Rattle.scrib_types.specs.WellFormed.{has_role}
 use Rattle.scrib_parser.specs.declared.tree.ModuleTree.{ModuleTree}
 use Rattle.scrib_parser.specs.declared.tree.ProtocolDeclaration.{ProtocolDeclaration}
-use Rattle.scrib_parser.specs.declared.tree.Statement.{Statement}
+use Rattle.scrib_parser.specs.declared.tree.Statement.{Statement as ParsedStatement}
 use Rattle.scrib_parser.specs.declared.tree.Block.{Block}
-use Rattle.scrib_modules.specs.declared.declared.Declared.{Declared}
+use Rattle.scrib_modules.specs.declared.declared.Declaration.{Declaration as CodeDeclaration}
 use Rattle.scrib_modules.specs.declared.fault.FaultKind.TheVariants as kind
-use Rattle.scrib_modules.specs.declared.stop.State.{State}
-use Rattle.scrib_modules.specs.declared.stop.Place.{Place}
-use Rattle.scrib_modules.specs.Source.{Body, Done, Then, Step, Chooses, Repeats, Continues, Blocks, NoBlock, OrBlock}
-use Rattle.scrib_modules.specs.SourceView.{step_of, body_of, blocks_of}
+use Rattle.scrib_modules.specs.declared.checking.State.{State}
+use Rattle.scrib_modules.specs.declared.checking.Place.{Place}
+use Rattle.scrib_modules.specs.Source.{Body, Done, Then, Statement, Chooses, Repeats, Continues, Blocks, NoBlock, OrBlock}
+use Rattle.scrib_modules.specs.SourceView.{statement_of, body_of, blocks_of}
 use Rattle.scrib_modules.specs.Names.{Declaration, dotted_eq, has_name, module_names, roles_of, declared_in, declarations, is_called, first_where, last_name, find_protocol, called_home, called}
-use Rattle.scrib_modules.specs.Statements.{are_roles, BlockKeeps, end_keeps, then_keeps, StepKeeps, BlocksKeep, none_keeps, or_keeps, chooses_keeps, repeats_keeps, continues_keeps}
-use Rattle.scrib_modules.specs.Faults.{here, later, in_choice, in_rec, in_this, in_other, StandsAt, IsLoose, HasStep, Fails, spot_of}
+use Rattle.scrib_modules.specs.Statements.{are_roles, BlockKeeps, end_keeps, then_keeps, StatementKeeps, BlocksKeep, none_keeps, or_keeps, chooses_keeps, repeats_keeps, continues_keeps}
+use Rattle.scrib_modules.specs.Faults.{here, later, in_choice, in_rec, in_this, in_other, StandsAt, IsLoose, HasStatement, Fails, spot_of}
 use Rattle.scrib_modules.specs.Table.{declaration_of, shown, IsKnown, IsPart, AreParts, IsEntry}
 
 -- the protocol that a call names
@@ -51,13 +51,13 @@ found_home ms h name ds d all e = home_found ms h name d (ap (first_where (is_ca
 
 -- an entry of the table
 
-pub entry_within : (ds : List Declared) (k : ℕ) (c : Declaration) → slice_get (shown ds) k ≡ Some c → k < length ds
+pub entry_within : (ds : List CodeDeclaration) (k : ℕ) (c : Declaration) → slice_get (shown ds) k ≡ Some c → k < length ds
 entry_within ds k c e =
     let within = slice_get_within (shown ds) k c e in
     let long : length (shown ds) ≡ length ds = length-map ds declaration_of in
     omega arith
 
-pub entry_is : (ds : List Declared) (k : ℕ) (c : Declaration) (d : Declared) → slice_get (shown ds) k ≡ Some c → c ≡ declaration_of (get_or ds k d)
+pub entry_is : (ds : List CodeDeclaration) (k : ℕ) (c : Declaration) (d : CodeDeclaration) → slice_get (shown ds) k ≡ Some c → c ≡ declaration_of (get_or ds k d)
 entry_is ds k c d e =
     let within = entry_within ds k c e in
     let there : slice_get (shown ds) k ≡ Some (declaration_of (get_or ds k d)) =
@@ -85,7 +85,7 @@ all_roles p qs roles e f = rw (e, f) refl
 
 -- the rest of a block, statement by statement
 
-pub body_more : (ss : List Statement) (i : ℕ) (s : Statement) → i < length ss → s ≡ get_or ss i s → body_of (drop i ss) ≡ Then (step_of s) (body_of (drop (i + 1) ss))
+pub body_more : (ss : List ParsedStatement) (i : ℕ) (s : ParsedStatement) → i < length ss → s ≡ get_or ss i s → body_of (drop i ss) ≡ Then (statement_of s) (body_of (drop (i + 1) ss))
 body_more ss i s h e = ap body_of (drop_more ss i s h ∙ ap (λ x. x ∷ drop (i + 1) ss) (sym e))
 
 pub blocks_more : (bs : List Block) (i : ℕ) (b : Block) → i < length bs → b ≡ get_or bs i b → blocks_of (drop i bs) ≡ OrBlock (body_of b.body) b.spot (blocks_of (drop (i + 1) bs))
@@ -93,9 +93,9 @@ blocks_more bs i b h e = ap blocks_of (drop_more bs i b h ∙ ap (λ x. x ∷ dr
 
 -- what stood before the rest has no exit
 pub record HasNoExit (ms : List ModuleTree) (d : Declaration) (recs : List (List ℕ)) (b : Body) : Type 0 where
-  pub before : Step
+  pub before : Statement
   pub stands : IsPart d recs (Then before b)
-  pub kept : StepKeeps ms d recs before false
+  pub kept : StatementKeeps ms d recs before false
 
 -- how far the check of a block has come: what is left, where it stands, and the statement before it
 pub record IsLeft (ms : List ModuleTree) (d : Declaration) (recs : List (List ℕ)) (whole : Body) (e : Bool) (b : Body) : Type 0 where
@@ -106,20 +106,20 @@ pub record IsLeft (ms : List ModuleTree) (d : Declaration) (recs : List (List �
 pub begin_left : (ms : List ModuleTree) (d : Declaration) (recs : List (List ℕ)) (b : Body) → IsPart d recs b → IsLeft ms d recs b true b
 begin_left ms d recs b p = record { completes = λ f k. k; part = p; none = λ e. absurd (false≢true (sym e)) }
 
-pub step_left : (ms : List ModuleTree) (d : Declaration) (recs : List (List ℕ)) (whole : Body) (e f : Bool) (b c : Body) (s : Step)
-    → b ≡ Then s c → e ≡ true → IsLeft ms d recs whole e b → StepKeeps ms d recs s f → IsLeft ms d recs whole f c
+pub step_left : (ms : List ModuleTree) (d : Declaration) (recs : List (List ℕ)) (whole : Body) (e f : Bool) (b c : Body) (s : Statement)
+    → b ≡ Then s c → e ≡ true → IsLeft ms d recs whole e b → StatementKeeps ms d recs s f → IsLeft ms d recs whole f c
 step_left ms d recs whole e f b c s is exits l k =
     let part = subst (λ x. IsPart d recs x) is l.part in
     record {
       completes = λ g r. l.completes g (subst (λ x. BlockKeeps ms d recs x b g) (sym exits) (subst (λ x. BlockKeeps ms d recs true x g) (sym is) (then_keeps k r)));
       part = λ inner r st. part inner r (later st);
-      none = λ n. record { before = s; stands = part; kept = subst (λ x. StepKeeps ms d recs s x) n k };
+      none = λ n. record { before = s; stands = part; kept = subst (λ x. StatementKeeps ms d recs s x) n k };
     }
 
 pub end_left : (ms : List ModuleTree) (d : Declaration) (recs : List (List ℕ)) (whole : Body) (e : Bool) (b : Body) → b ≡ Done → IsLeft ms d recs whole e b → BlockKeeps ms d recs true whole e
 end_left ms d recs whole e b is l = l.completes e (subst (λ x. BlockKeeps ms d recs e x e) (sym is) end_keeps)
 
-pub stops_unreachable : (ms : List ModuleTree) (d : Declaration) (recs : List (List ℕ)) (whole : Body) (e : Bool) (b c : Body) (s : Step) (spot : Spot)
+pub stops_unreachable : (ms : List ModuleTree) (d : Declaration) (recs : List (List ℕ)) (whole : Body) (e : Bool) (b c : Body) (s : Statement) (spot : Spot)
     → b ≡ Then s c → e ≡ false → spot ≡ spot_of s → IsLeft ms d recs whole e b → (root : Declaration) → Fails kind.Unreachable ms root d spot
 stops_unreachable ms d recs whole e b c s spot is none at l root =
     let n = l.none none in
@@ -134,7 +134,7 @@ stops_unreachable ms d recs whole e b c s spot is none at l root =
     }
 
 -- the statement of a part stands in the protocol
-pub stands_here : (d : Declaration) (recs : List (List ℕ)) (s : Step) (b : Body) → IsPart d recs (Then s b) → HasStep d s
+pub stands_here : (d : Declaration) (recs : List (List ℕ)) (s : Statement) (b : Body) → IsPart d recs (Then s b) → HasStatement d s
 stands_here d recs s b p = record { inner = recs; after = b; stands = p recs (Then s b) here }
 
 -- how far the check of branches has come
@@ -180,10 +180,10 @@ or_this e l h = rw h refl
 
 -- the parts of a statement
 
-pub stands_as : (d : Declaration) (recs : List (List ℕ)) (s t : Step) (b : Body) → IsPart d recs (Then s b) → s ≡ t → HasStep d t
-stands_as d recs s t b p e = subst (λ x. HasStep d x) e (stands_here d recs s b p)
+pub stands_as : (d : Declaration) (recs : List (List ℕ)) (s t : Statement) (b : Body) → IsPart d recs (Then s b) → s ≡ t → HasStatement d t
+stands_as d recs s t b p e = subst (λ x. HasStatement d x) e (stands_here d recs s b p)
 
-pub loose_as : (d : Declaration) (recs : List (List ℕ)) (s : Step) (x : List ℕ) (spot : Spot) (b : Body) → IsPart d recs (Then s b) → s ≡ Continues x spot → has_role x recs ≡ false → IsLoose d spot
+pub loose_as : (d : Declaration) (recs : List (List ℕ)) (s : Statement) (x : List ℕ) (spot : Spot) (b : Body) → IsPart d recs (Then s b) → s ≡ Continues x spot → has_role x recs ≡ false → IsLoose d spot
 loose_as d recs s x spot b p e out = record {
   name = x;
   inner = recs;
@@ -192,28 +192,28 @@ loose_as d recs s x spot b p e out = record {
   loose = out;
 }
 
-pub choice_parts : (d : Declaration) (recs : List (List ℕ)) (s : Step) (p : List ℕ) (bs : Blocks) (spot : Spot) (b : Body) → IsPart d recs (Then s b) → s ≡ Chooses p bs spot → AreParts d recs bs
+pub choice_parts : (d : Declaration) (recs : List (List ℕ)) (s : Statement) (p : List ℕ) (bs : Blocks) (spot : Spot) (b : Body) → IsPart d recs (Then s b) → s ≡ Chooses p bs spot → AreParts d recs bs
 choice_parts d recs s p bs spot b part e =
     let parts = subst (λ t. IsPart d recs (Then t b)) e part in λ inner r st. parts inner r (in_choice st)
 
-pub rec_part : (d : Declaration) (recs inner : List (List ℕ)) (s : Step) (x : List ℕ) (c whole : Body) (spot : Spot) (b : Body)
+pub rec_part : (d : Declaration) (recs inner : List (List ℕ)) (s : Statement) (x : List ℕ) (c whole : Body) (spot : Spot) (b : Body)
     → IsPart d recs (Then s b) → s ≡ Repeats x c spot → inner ≡ x ∷ recs → whole ≡ c → IsPart d inner whole
 rec_part d recs inner s x c whole spot b part e i w =
     let parts = subst (λ t. IsPart d recs (Then t b)) e part in
     subst (λ n. IsPart d n whole) (sym i) (subst (λ y. IsPart d (x ∷ recs) y) (sym w) (λ n r st. parts n r (in_rec st)))
 
-pub keeps_as : (ms : List ModuleTree) (d : Declaration) (recs : List (List ℕ)) (s t : Step) (e : Bool) → s ≡ t → StepKeeps ms d recs t e → StepKeeps ms d recs s e
-keeps_as ms d recs s t e same k = subst (λ x. StepKeeps ms d recs x e) (sym same) k
+pub keeps_as : (ms : List ModuleTree) (d : Declaration) (recs : List (List ℕ)) (s t : Statement) (e : Bool) → s ≡ t → StatementKeeps ms d recs t e → StatementKeeps ms d recs s e
+keeps_as ms d recs s t e same k = subst (λ x. StatementKeeps ms d recs x e) (sym same) k
 
-pub rec_keeps : (ms : List ModuleTree) (d : Declaration) (recs inner : List (List ℕ)) (s : Step) (x : List ℕ) (c whole : Body) (spot : Spot) (e : Bool)
-    → s ≡ Repeats x c spot → inner ≡ x ∷ recs → whole ≡ c → BlockKeeps ms d inner true whole e → StepKeeps ms d recs s e
+pub rec_keeps : (ms : List ModuleTree) (d : Declaration) (recs inner : List (List ℕ)) (s : Statement) (x : List ℕ) (c whole : Body) (spot : Spot) (e : Bool)
+    → s ≡ Repeats x c spot → inner ≡ x ∷ recs → whole ≡ c → BlockKeeps ms d inner true whole e → StatementKeeps ms d recs s e
 rec_keeps ms d recs inner s x c whole spot e same i w k =
     keeps_as ms d recs s (Repeats x c spot) e same (repeats_keeps (subst (λ n. BlockKeeps ms d n true c e) i (subst (λ y. BlockKeeps ms d inner true y e) w k)))
 
-pub choice_keeps : (ms : List ModuleTree) (d : Declaration) (recs : List (List ℕ)) (s : Step) (p : List ℕ) (bs whole : Blocks) (spot : Spot) (e : Bool)
-    → s ≡ Chooses p bs spot → whole ≡ bs → has_role p (roles_of d) ≡ true → BlocksKeep ms d recs whole e → StepKeeps ms d recs s e
+pub choice_keeps : (ms : List ModuleTree) (d : Declaration) (recs : List (List ℕ)) (s : Statement) (p : List ℕ) (bs whole : Blocks) (spot : Spot) (e : Bool)
+    → s ≡ Chooses p bs spot → whole ≡ bs → has_role p (roles_of d) ≡ true → BlocksKeep ms d recs whole e → StatementKeeps ms d recs s e
 choice_keeps ms d recs s p bs whole spot e same w h k =
     keeps_as ms d recs s (Chooses p bs spot) e same (chooses_keeps h (subst (λ y. BlocksKeep ms d recs y e) w k))
 
-pub continue_keeps : (ms : List ModuleTree) (d : Declaration) (recs : List (List ℕ)) (s : Step) (x : List ℕ) (spot : Spot) → s ≡ Continues x spot → has_role x recs ≡ true → StepKeeps ms d recs s false
+pub continue_keeps : (ms : List ModuleTree) (d : Declaration) (recs : List (List ℕ)) (s : Statement) (x : List ℕ) (spot : Spot) → s ≡ Continues x spot → has_role x recs ≡ true → StatementKeeps ms d recs s false
 continue_keeps ms d recs s x spot same h = keeps_as ms d recs s (Continues x spot) false same (continues_keeps h)

@@ -4,12 +4,12 @@ use Rattle.scrib_types.specs.declared.message.Message.{Message}
 use Rattle.scrib_types.specs.declared.spot.Spot.{Spot}
 use Rattle.scrib_parser.specs.declared.tree.ModuleTree.{ModuleTree}
 use Rattle.scrib_modules.specs.declared.growth.Extent.{Extent}
-use Rattle.scrib_modules.specs.Source.{Body, Done, Then, Step, Sends, Chooses, Repeats, Continues, Calls, Blocks, NoBlock, OrBlock}
+use Rattle.scrib_modules.specs.Source.{Body, Done, Then, Statement, Sends, Chooses, Repeats, Continues, Calls, Blocks, NoBlock, OrBlock}
 use Rattle.scrib_modules.specs.SourceView.{body_of}
 use Rattle.scrib_modules.specs.Names.{Declaration, called}
 use Rattle.scrib_modules.specs.Elaboration.{continues_in}
 use Rattle.scrib_modules.specs.Sizes.{Size, size_done, size_sends, size_chooses, size_repeats, size_continues, size_calls, SizeOfBlocks, size_none, size_or}
-use Rattle.scrib_modules.specs.Growth.{Agree, grown, risen, BlockGoes, StepGoes, BlocksGo, BlockGrows, StepGrows, BlocksGrow, IsPut, IsJoined, ArePut, AreJoined, IsRow, IsEnd}
+use Rattle.scrib_modules.specs.Growth.{Agree, grown, risen, BlockGoes, StatementGoes, BlocksGo, BlockGrows, StatementGrows, BlocksGrow, IsComposed, IsJoined, AreComposed, AreJoined, IsRow, IsEnd}
 
 -- how sizes are put together: 0 changes nothing, and it is the same in any grouping
 pub record Gathers (both : ℕ → ℕ → ℕ) : Type 0 where
@@ -34,7 +34,7 @@ begin_going cap both ms d whole f row = record { completes = λ j m s. (m, s, su
     plain : (m : ℕ) → 0 + m ≡ m
     plain m = omega arith
 
-step_going : (cap : ℕ) (both : ℕ → ℕ → ℕ) (ms : List ModuleTree) (d : Declaration) (whole : Body) (f g h : ℕ → ℕ) (b c : Body) (s : Step) → b ≡ Then s c → IsPut cap f g h → StepGoes cap both ms d s g → IsGoing cap both ms d whole f b → IsGoing cap both ms d whole h c
+step_going : (cap : ℕ) (both : ℕ → ℕ → ℕ) (ms : List ModuleTree) (d : Declaration) (whole : Body) (f g h : ℕ → ℕ) (b c : Body) (s : Statement) → b ≡ Then s c → IsComposed cap f g h → StatementGoes cap both ms d s g → IsGoing cap both ms d whole f b → IsGoing cap both ms d whole h c
 step_going cap both ms d whole f g h b c s is put step l = record {
   completes =
       λ j m z. let t = step m in let w = l.completes j t.0 (subst (λ x. Size both ms d x j (t.0 + 1)) (sym is) (t.2 c j z)) in (w.0, w.1, put m t.0 w.0 t.1 w.2);
@@ -71,33 +71,33 @@ end_blocks_going cap both ms d whole f bs gathers is l = λ k.
 
 -- the forms of statement
 
-message_goes : (cap : ℕ) (both : ℕ → ℕ → ℕ) (ms : List ModuleTree) (d : Declaration) (t : Step) (m : Message) (p : List ℕ) (qs : List (List ℕ)) (s : Spot) (f : ℕ → ℕ) → t ≡ Sends m p qs s → ((k : ℕ) → Agree cap (length qs + k) (f k)) → StepGoes cap both ms d t f
+message_goes : (cap : ℕ) (both : ℕ → ℕ → ℕ) (ms : List ModuleTree) (d : Declaration) (t : Statement) (m : Message) (p : List ℕ) (qs : List (List ℕ)) (s : Spot) (f : ℕ → ℕ) → t ≡ Sends m p qs s → ((k : ℕ) → Agree cap (length qs + k) (f k)) → StatementGoes cap both ms d t f
 message_goes cap both ms d t m p qs s f is row = λ k.
     (length qs + k, row k, λ b j z. let r : (length qs + k) + 1 ≡ length qs + (k + 1) = omega arith in subst (λ x. Size both ms d (Then x b) j ((length qs + k) + 1)) (sym is) (size_sends z r))
 
-continue_goes : (cap : ℕ) (both : ℕ → ℕ → ℕ) (ms : List ModuleTree) (d : Declaration) (t : Step) (x : List ℕ) (s : Spot) (f : ℕ → ℕ) → t ≡ Continues x s → ((k : ℕ) → Agree cap 0 (f k)) → StepGoes cap both ms d t f
+continue_goes : (cap : ℕ) (both : ℕ → ℕ → ℕ) (ms : List ModuleTree) (d : Declaration) (t : Statement) (x : List ℕ) (s : Spot) (f : ℕ → ℕ) → t ≡ Continues x s → ((k : ℕ) → Agree cap 0 (f k)) → StatementGoes cap both ms d t f
 continue_goes cap both ms d t x s f is end = λ k. (0, end k, λ b j z. subst (λ y. Size both ms d (Then y b) j (0 + 1)) (sym is) size_continues)
 
-choice_goes : (cap : ℕ) (both : ℕ → ℕ → ℕ) (ms : List ModuleTree) (d : Declaration) (t : Step) (p : List ℕ) (bs whole : Blocks) (s : Spot) (f : ℕ → ℕ) → t ≡ Chooses p bs s → whole ≡ bs → BlocksGo cap both ms d whole f → StepGoes cap both ms d t f
+choice_goes : (cap : ℕ) (both : ℕ → ℕ → ℕ) (ms : List ModuleTree) (d : Declaration) (t : Statement) (p : List ℕ) (bs whole : Blocks) (s : Spot) (f : ℕ → ℕ) → t ≡ Chooses p bs s → whole ≡ bs → BlocksGo cap both ms d whole f → StatementGoes cap both ms d t f
 choice_goes cap both ms d t p bs whole s f is w h = λ k.
     let v = subst (λ x. BlocksGo cap both ms d x f) w h k in
     (v.0, v.2, λ b j z. let r : v.0 + 1 ≡ 1 + v.0 = omega arith in subst (λ x. Size both ms d (Then x b) j (v.0 + 1)) (sym is) (size_chooses z v.1 r))
 
-loop_goes : (cap : ℕ) (both : ℕ → ℕ → ℕ) (ms : List ModuleTree) (d : Declaration) (t : Step) (x : List ℕ) (c whole : Body) (s : Spot) (f g h : ℕ → ℕ) → t ≡ Repeats x c s → whole ≡ c → continues_in x c ≡ true → ((k : ℕ) → Agree cap (1 + k) (f k)) → IsPut cap f g h
-    → BlockGoes cap both ms d whole g → StepGoes cap both ms d t h
+loop_goes : (cap : ℕ) (both : ℕ → ℕ → ℕ) (ms : List ModuleTree) (d : Declaration) (t : Statement) (x : List ℕ) (c whole : Body) (s : Spot) (f g h : ℕ → ℕ) → t ≡ Repeats x c s → whole ≡ c → continues_in x c ≡ true → ((k : ℕ) → Agree cap (1 + k) (f k)) → IsComposed cap f g h
+    → BlockGoes cap both ms d whole g → StatementGoes cap both ms d t h
 loop_goes cap both ms d t x c whole s f g h is w used row put block = λ k.
     let v = subst (λ y. BlockGoes cap both ms d y g) w block k in
     let r : (1 + v.0) + 1 ≡ (if continues_in x c then 1 + (v.0 + 1) else v.0 + 1) = rw used (omega arith) in
     (1 + v.0, put k v.0 (1 + v.0) v.2 (row v.0), λ b j z. subst (λ y. Size both ms d (Then y b) j ((1 + v.0) + 1)) (sym is) (size_repeats z v.1 r))
 
-pass_goes : (cap : ℕ) (both : ℕ → ℕ → ℕ) (ms : List ModuleTree) (d : Declaration) (t : Step) (x : List ℕ) (c whole : Body) (s : Spot) (f : ℕ → ℕ) → t ≡ Repeats x c s → whole ≡ c → continues_in x c ≡ false → BlockGoes cap both ms d whole f → StepGoes cap both ms d t f
+pass_goes : (cap : ℕ) (both : ℕ → ℕ → ℕ) (ms : List ModuleTree) (d : Declaration) (t : Statement) (x : List ℕ) (c whole : Body) (s : Spot) (f : ℕ → ℕ) → t ≡ Repeats x c s → whole ≡ c → continues_in x c ≡ false → BlockGoes cap both ms d whole f → StatementGoes cap both ms d t f
 pass_goes cap both ms d t x c whole s f is w unused block = λ k.
     let v = subst (λ y. BlockGoes cap both ms d y f) w block k in
     let r : v.0 + 1 ≡ (if continues_in x c then 1 + (v.0 + 1) else v.0 + 1) = rw unused refl in
     (v.0, v.2, λ b j z. subst (λ y. Size both ms d (Then y b) j (v.0 + 1)) (sym is) (size_repeats z v.1 r))
 
-call_goes : (cap : ℕ) (both : ℕ → ℕ → ℕ) (ms : List ModuleTree) (d : Declaration) (t : Step) (path roles : List (List ℕ)) (s : Spot) (c : Declaration) (f : ℕ → ℕ) → t ≡ Calls path roles s → called ms d.home path ≡ Some c → BlockGoes cap both ms c (body_of c.protocol.body) f
-    → StepGoes cap both ms d t f
+call_goes : (cap : ℕ) (both : ℕ → ℕ → ℕ) (ms : List ModuleTree) (d : Declaration) (t : Statement) (path roles : List (List ℕ)) (s : Spot) (c : Declaration) (f : ℕ → ℕ) → t ≡ Calls path roles s → called ms d.home path ≡ Some c → BlockGoes cap both ms c (body_of c.protocol.body) f
+    → StatementGoes cap both ms d t f
 call_goes cap both ms d t path roles s c f is there block = λ k.
     let v = block k in
     (v.0, v.2, λ b j z. subst (λ x. Size both ms d (Then x b) j (v.0 + 1)) (sym is) (size_calls z there v.1))
@@ -114,7 +114,7 @@ begin_growing ms d whole e row = record {
   height = begin_going 4096 max ms d whole (risen e.height) row.height;
 }
 
-pub step_growing : (ms : List ModuleTree) (d : Declaration) (whole : Body) (e f g : Extent) (b c : Body) (s : Step) → b ≡ Then s c → ArePut e f g → StepGrows ms d s f → IsGrowing ms d whole e b → IsGrowing ms d whole g c
+pub step_growing : (ms : List ModuleTree) (d : Declaration) (whole : Body) (e f g : Extent) (b c : Body) (s : Statement) → b ≡ Then s c → AreComposed e f g → StatementGrows ms d s f → IsGrowing ms d whole e b → IsGrowing ms d whole g c
 step_growing ms d whole e f g b c s is put step l = record {
   nodes = step_going 65536 ◌+◌ ms d whole (grown e.nodes) (grown f.nodes) (grown g.nodes) b c s is put.nodes step.nodes l.nodes;
   height = step_going 4096 max ms d whole (risen e.height) (risen f.height) (risen g.height) b c s is put.height step.height l.height;
@@ -149,37 +149,37 @@ end_blocks ms d whole e bs is l = record {
   height = end_blocks_going 4096 max ms d whole (risen e.height) bs heights_gather is l.height;
 }
 
-pub message_grows : (ms : List ModuleTree) (d : Declaration) (t : Step) (m : Message) (p : List ℕ) (qs : List (List ℕ)) (s : Spot) (e : Extent) → t ≡ Sends m p qs s → IsRow (length qs) e → StepGrows ms d t e
+pub message_grows : (ms : List ModuleTree) (d : Declaration) (t : Statement) (m : Message) (p : List ℕ) (qs : List (List ℕ)) (s : Spot) (e : Extent) → t ≡ Sends m p qs s → IsRow (length qs) e → StatementGrows ms d t e
 message_grows ms d t m p qs s e is row = record {
   nodes = message_goes 65536 ◌+◌ ms d t m p qs s (grown e.nodes) is row.nodes;
   height = message_goes 4096 max ms d t m p qs s (risen e.height) is row.height;
 }
 
-pub continue_grows : (ms : List ModuleTree) (d : Declaration) (t : Step) (x : List ℕ) (s : Spot) (e : Extent) → t ≡ Continues x s → IsEnd e → StepGrows ms d t e
+pub continue_grows : (ms : List ModuleTree) (d : Declaration) (t : Statement) (x : List ℕ) (s : Spot) (e : Extent) → t ≡ Continues x s → IsEnd e → StatementGrows ms d t e
 continue_grows ms d t x s e is end = record {
   nodes = continue_goes 65536 ◌+◌ ms d t x s (grown e.nodes) is end.nodes;
   height = continue_goes 4096 max ms d t x s (risen e.height) is end.height;
 }
 
-pub choice_grows : (ms : List ModuleTree) (d : Declaration) (t : Step) (p : List ℕ) (bs whole : Blocks) (s : Spot) (e : Extent) → t ≡ Chooses p bs s → whole ≡ bs → BlocksGrow ms d whole e → StepGrows ms d t e
+pub choice_grows : (ms : List ModuleTree) (d : Declaration) (t : Statement) (p : List ℕ) (bs whole : Blocks) (s : Spot) (e : Extent) → t ≡ Chooses p bs s → whole ≡ bs → BlocksGrow ms d whole e → StatementGrows ms d t e
 choice_grows ms d t p bs whole s e is w h = record {
   nodes = choice_goes 65536 ◌+◌ ms d t p bs whole s (grown e.nodes) is w h.nodes;
   height = choice_goes 4096 max ms d t p bs whole s (risen e.height) is w h.height;
 }
 
-pub loop_grows : (ms : List ModuleTree) (d : Declaration) (t : Step) (x : List ℕ) (c whole : Body) (s : Spot) (e f g : Extent) → t ≡ Repeats x c s → whole ≡ c → continues_in x c ≡ true → IsRow 1 e → ArePut e f g → BlockGrows ms d whole f → StepGrows ms d t g
+pub loop_grows : (ms : List ModuleTree) (d : Declaration) (t : Statement) (x : List ℕ) (c whole : Body) (s : Spot) (e f g : Extent) → t ≡ Repeats x c s → whole ≡ c → continues_in x c ≡ true → IsRow 1 e → AreComposed e f g → BlockGrows ms d whole f → StatementGrows ms d t g
 loop_grows ms d t x c whole s e f g is w used row put block = record {
   nodes = loop_goes 65536 ◌+◌ ms d t x c whole s (grown e.nodes) (grown f.nodes) (grown g.nodes) is w used row.nodes put.nodes block.nodes;
   height = loop_goes 4096 max ms d t x c whole s (risen e.height) (risen f.height) (risen g.height) is w used row.height put.height block.height;
 }
 
-pub pass_grows : (ms : List ModuleTree) (d : Declaration) (t : Step) (x : List ℕ) (c whole : Body) (s : Spot) (e : Extent) → t ≡ Repeats x c s → whole ≡ c → continues_in x c ≡ false → BlockGrows ms d whole e → StepGrows ms d t e
+pub pass_grows : (ms : List ModuleTree) (d : Declaration) (t : Statement) (x : List ℕ) (c whole : Body) (s : Spot) (e : Extent) → t ≡ Repeats x c s → whole ≡ c → continues_in x c ≡ false → BlockGrows ms d whole e → StatementGrows ms d t e
 pass_grows ms d t x c whole s e is w unused block = record {
   nodes = pass_goes 65536 ◌+◌ ms d t x c whole s (grown e.nodes) is w unused block.nodes;
   height = pass_goes 4096 max ms d t x c whole s (risen e.height) is w unused block.height;
 }
 
-pub call_grows : (ms : List ModuleTree) (d : Declaration) (t : Step) (path roles : List (List ℕ)) (s : Spot) (c : Declaration) (e : Extent) → t ≡ Calls path roles s → called ms d.home path ≡ Some c → BlockGrows ms c (body_of c.protocol.body) e → StepGrows ms d t e
+pub call_grows : (ms : List ModuleTree) (d : Declaration) (t : Statement) (path roles : List (List ℕ)) (s : Spot) (c : Declaration) (e : Extent) → t ≡ Calls path roles s → called ms d.home path ≡ Some c → BlockGrows ms c (body_of c.protocol.body) e → StatementGrows ms d t e
 call_grows ms d t path roles s c e is there block = record {
   nodes = call_goes 65536 ◌+◌ ms d t path roles s c (grown e.nodes) is there block.nodes;
   height = call_goes 4096 max ms d t path roles s c (risen e.height) is there block.height;

@@ -1,6 +1,6 @@
 pub mod Shown
 pub mod GivenRoles
-pub mod Kept
+pub mod RulesKept
 pub mod Shaped
 mod Settled
 pub mod Distinct

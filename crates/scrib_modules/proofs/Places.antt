@@ -7,9 +7,9 @@ use Rattle.std.proofs.Math.Seq.{set-append_seam}
 use Rattle.scrib_types.specs.declared.spot.Spot.{Spot}
 use Rattle.scrib_types.specs.WellFormed.{has_role, distinct_roles}
 use Rattle.scrib_parser.specs.declared.tree.ModuleTree.{ModuleTree}
-use Rattle.scrib_modules.specs.declared.declared.Declared.{Declared}
+use Rattle.scrib_modules.specs.declared.declared.Declaration.{Declaration as CodeDeclaration}
 use Rattle.scrib_modules.specs.Names.{Declaration, dotted_eq, has_name, distinct_names, module_names, with_module, first_where, declared_in, declarations, all_but_last, last_name, looked_in, called_home}
-use Rattle.scrib_modules.specs.declared.stop.BrokenRule.{BrokenRule}
+use Rattle.scrib_modules.specs.declared.checking.BrokenRule.{BrokenRule}
 use Rattle.scrib_modules.specs.Faults.{IsAgain, Fails}
 use Rattle.scrib_modules.proofs.Distinct.{distinct_roles-push, distinct_names-push}
 use Rattle.scrib_modules.specs.Table.{declaration_of, shown, IsFound, IsPlace, FailsRoles, FailsNames}
@@ -56,7 +56,7 @@ pub declarations-more : (ms : List ModuleTree) (i : ℕ) (m : ModuleTree) → i 
 declarations-more ms i m h e =
     ap declarations (take_more ms i m h ∙ ap (λ x. take i ms ++ x ∷ []) (sym e)) ∙ declarations-push (take i ms) m
 
-pub IsFound-at : (test : Declaration → Bool) (ds : List Declared) (i : ℕ) (d : Declared) → i < length ds → d ≡ get_or ds i d → first_where test (shown (drop i ds)) ≡ first_where test (shown ds)
+pub IsFound-at : (test : Declaration → Bool) (ds : List CodeDeclaration) (i : ℕ) (d : CodeDeclaration) → i < length ds → d ≡ get_or ds i d → first_where test (shown (drop i ds)) ≡ first_where test (shown ds)
     → test (declaration_of d) ≡ true → IsFound (shown ds) test i
 IsFound-at test ds i d h e same passes =
     let first : first_where test (shown (drop i ds)) ≡ Some (declaration_of d) =

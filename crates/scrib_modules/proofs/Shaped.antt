@@ -12,22 +12,22 @@ use Rattle.scrib_types.specs.WellFormed.{has_role, distinct_roles}
 use Rattle.scrib_parser.specs.declared.tree.ModuleTree.{ModuleTree}
 use Rattle.scrib_parser.specs.declared.tree.Block.{Block}
 use Rattle.scrib_parser.specs.declared.tree.RoleDeclaration.{RoleDeclaration}
-use Rattle.scrib_modules.specs.declared.stop.Place.{Place}
-use Rattle.scrib_modules.specs.declared.stop.Summary.{Summary}
+use Rattle.scrib_modules.specs.declared.checking.Place.{Place}
+use Rattle.scrib_modules.specs.declared.checking.Summary.{Summary}
 use Rattle.scrib_modules.specs.declared.shape.Shape.{Shape}
 use Rattle.scrib_modules.specs.declared.shape.Shape.TheVariants.{Nothing, Joining, Other}
-use Rattle.scrib_modules.specs.Source.{Body, Done, Then, Step, Sends, Chooses, Repeats, Continues, Calls, Blocks, NoBlock, OrBlock}
+use Rattle.scrib_modules.specs.Source.{Body, Done, Then, Statement, Sends, Chooses, Repeats, Continues, Calls, Blocks, NoBlock, OrBlock}
 use Rattle.scrib_modules.specs.SourceView.{body_of, blocks_of}
 use Rattle.scrib_modules.specs.Names.{Declaration, roles_of, declarations, called}
 use Rattle.scrib_modules.specs.Elaboration.{given_for}
 use Rattle.scrib_modules.specs.Joining.{AddsNothing, nothing_ends, nothing_repeats, nothing_calls, OnlyJoins, only_ends, only_chooses, only_repeats, only_passes, only_calls, BeginsAt, begins_here, begins_in_rec, begins_in_call, begins_later}
 use Rattle.scrib_modules.specs.Table.{protocol_at, IsKnown, IsOwnPlace, IsSummary, IsCallKept}
-use Rattle.scrib_modules.proofs.Kept.{of_calls, of_protocol}
+use Rattle.scrib_modules.proofs.RulesKept.{of_calls, of_protocol}
 use Rattle.scrib_modules.specs.Shape.{IsChoiceAt, JoinsBy, AddsMore, HasShape, IsShapeOf, both, place_of, joining_at, IsGiven}
 
 -- by the first statement
 
-abbrev pub NothingFirst : List ModuleTree → Declaration → Step → Type 0
+abbrev pub NothingFirst : List ModuleTree → Declaration → Statement → Type 0
 NothingFirst ms d (Sends m p qs s) = ⊥
 NothingFirst ms d (Chooses p bs s) = ⊥
 NothingFirst ms d (Repeats x c s) = AddsNothing ms d c
@@ -40,7 +40,7 @@ abbrev pub JoinsCalled : List ModuleTree → Declaration → (roles : List (List
 JoinsCalled ms c roles p =
     (q : List ℕ) × (has_role q (roles_of c) ≡ true) × (given_for (roles_of c) roles q ≡ p) × OnlyJoins ms c q (body_of c.protocol.body) × (length roles ≡ length (roles_of c))
 
-abbrev pub OnlyFirst : List ModuleTree → Declaration → (p : List ℕ) → Step → Type 0
+abbrev pub OnlyFirst : List ModuleTree → Declaration → (p : List ℕ) → Statement → Type 0
 OnlyFirst ms d p (Sends m q qs s) = ⊥
 OnlyFirst ms d p (Chooses q bs s) =
     (p ≡ q) × (c : Body) × (t : Spot) × (bs ≡ OrBlock c t NoBlock) × OnlyJoins ms d p c
@@ -49,11 +49,11 @@ OnlyFirst ms d p (Continues x s) = ⊥
 OnlyFirst ms d p (Calls path roles s) =
     (c : Declaration) × (called ms d.home path ≡ Some c) × (AddsNothing ms c (body_of c.protocol.body) ⊎ JoinsCalled ms c roles p)
 
-pub nothing_view : {ms : List ModuleTree} {d : Declaration} {s : Step} {b : Body} → AddsNothing ms d (Then s b) → NothingFirst ms d s × AddsNothing ms d b
+pub nothing_view : {ms : List ModuleTree} {d : Declaration} {s : Statement} {b : Body} → AddsNothing ms d (Then s b) → NothingFirst ms d s × AddsNothing ms d b
 nothing_view (nothing_repeats k l) = (k, l)
 nothing_view (nothing_calls {c = c} e k l) = ((c, e, k), l)
 
-pub only_view : {ms : List ModuleTree} {d : Declaration} {p : List ℕ} {s : Step} {b : Body} → OnlyJoins ms d p (Then s b) → OnlyFirst ms d p s × OnlyJoins ms d p b
+pub only_view : {ms : List ModuleTree} {d : Declaration} {p : List ℕ} {s : Statement} {b : Body} → OnlyJoins ms d p (Then s b) → OnlyFirst ms d p s × OnlyJoins ms d p b
 only_view (only_chooses {c = c} {t = t} k l) = ((refl, c, t, refl, k), l)
 only_view (only_repeats k l) = (k, l)
 only_view (only_passes {c = c} e k l) = ((c, e, inl k), l)
@@ -61,21 +61,21 @@ only_view (only_calls {q = q} {c = c} e n h g k l) = ((c, e, inr (q, h, g, k, n)
 
 -- the first statement alone, and before others
 
-nothing_first : {ms : List ModuleTree} {d : Declaration} {s : Step} {b : Body} → AddsNothing ms d (Then s b) → AddsNothing ms d (Then s Done)
+nothing_first : {ms : List ModuleTree} {d : Declaration} {s : Statement} {b : Body} → AddsNothing ms d (Then s b) → AddsNothing ms d (Then s Done)
 nothing_first (nothing_repeats k l) = nothing_repeats k nothing_ends
 nothing_first (nothing_calls e k l) = nothing_calls e k nothing_ends
 
-only_first : {ms : List ModuleTree} {d : Declaration} {p : List ℕ} {s : Step} {b : Body} → OnlyJoins ms d p (Then s b) → OnlyJoins ms d p (Then s Done)
+only_first : {ms : List ModuleTree} {d : Declaration} {p : List ℕ} {s : Statement} {b : Body} → OnlyJoins ms d p (Then s b) → OnlyJoins ms d p (Then s Done)
 only_first (only_chooses k l) = only_chooses k only_ends
 only_first (only_repeats k l) = only_repeats k only_ends
 only_first (only_passes e k l) = only_passes e k only_ends
 only_first (only_calls e n h g k l) = only_calls e n h g k only_ends
 
-pub nothing_before : {ms : List ModuleTree} {d : Declaration} {s : Step} {b : Body} → AddsNothing ms d (Then s Done) → AddsNothing ms d b → AddsNothing ms d (Then s b)
+pub nothing_before : {ms : List ModuleTree} {d : Declaration} {s : Statement} {b : Body} → AddsNothing ms d (Then s Done) → AddsNothing ms d b → AddsNothing ms d (Then s b)
 nothing_before (nothing_repeats k l) m = nothing_repeats k m
 nothing_before (nothing_calls e k l) m = nothing_calls e k m
 
-only_before : {ms : List ModuleTree} {d : Declaration} {p : List ℕ} {s : Step} {b : Body} → OnlyJoins ms d p (Then s Done) → OnlyJoins ms d p b → OnlyJoins ms d p (Then s b)
+only_before : {ms : List ModuleTree} {d : Declaration} {p : List ℕ} {s : Statement} {b : Body} → OnlyJoins ms d p (Then s Done) → OnlyJoins ms d p b → OnlyJoins ms d p (Then s b)
 only_before (only_chooses k l) m = only_chooses k m
 only_before (only_repeats k l) m = only_repeats k m
 only_before (only_passes e k l) m = only_passes e k m
@@ -84,7 +84,7 @@ only_before (only_calls e n h g k l) m = only_calls e n h g k m
 begins_nowhere : {ms : List ModuleTree} {d home : Declaration} {t : Spot} → BeginsAt ms d Done home t → ⊥
 begins_nowhere v = elim v [ ]
 
-begins_before : {ms : List ModuleTree} {d home : Declaration} {s : Step} {b : Body} {t : Spot} → BeginsAt ms d (Then s Done) home t → BeginsAt ms d (Then s b) home t
+begins_before : {ms : List ModuleTree} {d home : Declaration} {s : Statement} {b : Body} {t : Spot} → BeginsAt ms d (Then s Done) home t → BeginsAt ms d (Then s b) home t
 begins_before begins_here = begins_here
 begins_before (begins_in_rec h) = begins_in_rec h
 begins_before (begins_in_call e h) = begins_in_call e h
@@ -214,7 +214,7 @@ end_shaping ms d whole (Joining k at spot) rest is l = record {
 }
 end_shaping ms d whole Other rest is l = l
 
-same_joins : (ms : List ModuleTree) (d : Declaration) (whole b : Body) (s : Step) (k j at to : ℕ) (spot other : Spot) (e : Bool)
+same_joins : (ms : List ModuleTree) (d : Declaration) (whole b : Body) (s : Statement) (k j at to : ℕ) (spot other : Spot) (e : Bool)
     → (e ≡ true → k ≡ j) → (e ≡ false → k ≡ j → ⊥) → IsShaping ms d whole (Joining k at spot) (Then s b) → JoinsBy ms d (Then s Done) j to other → IsShaping ms d whole (if e then Joining k at spot else Other) b
 same_joins ms d whole b s k j at to spot other true same apart l t =
     let here = placed_at l.role (roles_of d) k l.there in
@@ -235,7 +235,7 @@ same_joins ms d whole b s k j at to spot other false same apart l t = record {
       λ q r m. let one = l.alone q m in let two = joins_one t q (only_first (subst (λ x. OnlyJoins ms d x (Then s b)) one (l.down (subst (λ x. OnlyJoins ms d x whole) (sym one) m)))) in let place : k ≡ j = cc (l.there, t.there, one, two) in apart refl place;
 }
 
-more_shaping : (ms : List ModuleTree) (d : Declaration) (whole : Body) (f t : Shape) (s : Step) (b : Body) → HasShape ms d (Then s Done) t → IsShaping ms d whole f (Then s b) → IsShaping ms d whole (both f t) b
+more_shaping : (ms : List ModuleTree) (d : Declaration) (whole : Body) (f t : Shape) (s : Statement) (b : Body) → HasShape ms d (Then s Done) t → IsShaping ms d whole f (Then s b) → IsShaping ms d whole (both f t) b
 more_shaping ms d whole Nothing Nothing s b h l = record {
   nothing_up = λ k. l.nothing_up (nothing_before h k);
   nothing_down = λ k. (nothing_view (l.nothing_down k)).1;
@@ -278,21 +278,21 @@ more_shaping ms d whole (Joining k at spot) Other s b h l = record {
 }
 more_shaping ms d whole Other t s b h l = l
 
-pub step_shaping : (ms : List ModuleTree) (d : Declaration) (whole : Body) (f t r : Shape) (b c : Body) (s : Step)
+pub step_shaping : (ms : List ModuleTree) (d : Declaration) (whole : Body) (f t r : Shape) (b c : Body) (s : Statement)
     → b ≡ Then s c → r ≡ both f t → HasShape ms d (Then s Done) t → IsShaping ms d whole f b → IsShaping ms d whole r c
 step_shaping ms d whole f t r b c s is e h l =
     subst (λ x. IsShaping ms d whole x c) (sym e) (more_shaping ms d whole f t s c h (subst (λ x. IsShaping ms d whole f x) is l))
 
 -- the forms of statement
 
-pub message_shapes : (ms : List ModuleTree) (d : Declaration) (t : Step) (m : Message) (p : List ℕ) (qs : List (List ℕ)) (s : Spot) → t ≡ Sends m p qs s → HasShape ms d (Then t Done) Other
+pub message_shapes : (ms : List ModuleTree) (d : Declaration) (t : Statement) (m : Message) (p : List ℕ) (qs : List (List ℕ)) (s : Spot) → t ≡ Sends m p qs s → HasShape ms d (Then t Done) Other
 message_shapes ms d t m p qs s is =
     subst (λ y. HasShape ms d (Then y Done) Other) (sym is) (record {
       something = λ k. (nothing_view k).0;
       more = λ q r k. (only_view k).0;
     })
 
-pub continue_shapes : (ms : List ModuleTree) (d : Declaration) (t : Step) (x : List ℕ) (s : Spot) → t ≡ Continues x s → HasShape ms d (Then t Done) Other
+pub continue_shapes : (ms : List ModuleTree) (d : Declaration) (t : Statement) (x : List ℕ) (s : Spot) → t ≡ Continues x s → HasShape ms d (Then t Done) Other
 continue_shapes ms d t x s is =
     subst (λ y. HasShape ms d (Then y Done) Other) (sym is) (record {
       something = λ k. (nothing_view k).0;
@@ -310,12 +310,12 @@ loop_shapes ms d x c s (Joining k at spot) h = record {
 }
 loop_shapes ms d x c s Other h = record { something = λ m. h.something (nothing_view m).0; more = λ p r m. h.more p r (only_view m).0 }
 
-pub rec_shapes : (ms : List ModuleTree) (d : Declaration) (t : Step) (x : List ℕ) (c whole : Body) (s : Spot) (f : Shape) → t ≡ Repeats x c s → whole ≡ c → HasShape ms d whole f → HasShape ms d (Then t Done) f
+pub rec_shapes : (ms : List ModuleTree) (d : Declaration) (t : Statement) (x : List ℕ) (c whole : Body) (s : Spot) (f : Shape) → t ≡ Repeats x c s → whole ≡ c → HasShape ms d whole f → HasShape ms d (Then t Done) f
 rec_shapes ms d t x c whole s f is w h =
     subst (λ y. HasShape ms d (Then y Done) f) (sym is) (loop_shapes ms d x c s f (subst (λ y. HasShape ms d y f) w h))
 
 -- a choice of none or of several blocks
-pub several_shapes : (ms : List ModuleTree) (d : Declaration) (t : Step) (p : List ℕ) (bs : List Block) (s : Spot) → t ≡ Chooses p (blocks_of bs) s → length bs ≢ 1 → HasShape ms d (Then t Done) Other
+pub several_shapes : (ms : List ModuleTree) (d : Declaration) (t : Statement) (p : List ℕ) (bs : List Block) (s : Spot) → t ≡ Chooses p (blocks_of bs) s → length bs ≢ 1 → HasShape ms d (Then t Done) Other
 several_shapes ms d t p bs s is many =
     subst (λ y. HasShape ms d (Then y Done) Other) (sym is) (record {
       something = λ k. (nothing_view k).0;
@@ -368,7 +368,7 @@ one_choice ms d p c u s spot at (Some k) Other there first h = record {
       λ q r m. let v = (only_view m).0 in let block : c ≡ v.1 = cc (v.3) in h.more q r (subst (λ x. OnlyJoins ms d q x) (sym block) v.4);
 }
 
-pub choice_shapes : (ms : List ModuleTree) (d : Declaration) (t : Step) (p : List ℕ) (bs : Blocks) (c : Body) (u s : Spot) (at : ℕ) (j f r : Shape)
+pub choice_shapes : (ms : List ModuleTree) (d : Declaration) (t : Statement) (p : List ℕ) (bs : Blocks) (c : Body) (u s : Spot) (at : ℕ) (j f r : Shape)
     → t ≡ Chooses p bs s → bs ≡ OrBlock c u NoBlock → j ≡ joining_at (place_of p (roles_of d)) at s → slice_get (declarations ms) at ≡ Some d → HasShape ms d c f → r ≡ both j f → HasShape ms d (Then t Done) r
 choice_shapes ms d t p bs c u s at j f r is one by own h e =
     let same : t ≡ Chooses p (OrBlock c u NoBlock) s = is ∙ ap (λ x. Chooses p x s) one in
@@ -406,7 +406,7 @@ joining_called ms d path roles s c k at spot role (Some j) there apart long h he
       first = record { home = h.first.home; there = h.first.there; first = begins_in_call there h.first.first };
     }
 
-pub call_shapes : (ms : List ModuleTree) (d : Declaration) (t : Step) (path roles : List (List ℕ)) (s : Spot) (c : Declaration) (f r : Shape)
+pub call_shapes : (ms : List ModuleTree) (d : Declaration) (t : Statement) (path roles : List (List ℕ)) (s : Spot) (c : Declaration) (f r : Shape)
     → t ≡ Calls path roles s → called ms d.home path ≡ Some c → distinct_roles (roles_of c) ≡ true → length roles ≡ length (roles_of c) → HasShape ms c (body_of c.protocol.body) f → IsGiven (roles_of d) roles f r
     → HasShape ms d (Then t Done) r
 call_shapes ms d t path roles s c f r is there apart long h given =

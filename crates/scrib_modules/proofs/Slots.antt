@@ -6,7 +6,7 @@ use Rattle.std.proofs.lemmas.Bool.{and_parts, and_from, leb-true, leb-false}
 use Rattle.std.proofs.lemmas.List.{length-set, length-append, length-map}
 use Rattle.std.proofs.lemmas.Option.{slice_get_read}
 use Rattle.std.proofs.lemmas.Slice.Eq.{bytes_eq-Decides}
-use Rattle.scrib_modules.specs.declared.declared.Declared.{Declared}
+use Rattle.scrib_modules.specs.declared.declared.Declaration.{Declaration as CodeDeclaration}
 use Rattle.scrib_modules.specs.Directory.{slot_of, slot_for, IsFirstOf, IsDirectory, IsFilled, IsFiled, IsTaken}
 use Rattle.scrib_parser.specs.declared.tree.ModuleTree.{ModuleTree}
 use Rattle.scrib_parser.specs.declared.tree.ProtocolDeclaration.{ProtocolDeclaration}
@@ -143,7 +143,7 @@ none_kept ds slots n e l = absurd (omega (arith, l, ap length e))
 pub read_at : {X : Type 0} (xs : List X) (i : ℕ) (x : X) → i < length xs → x ≡ get_or xs i x → slice_get xs i ≡ Some x
 read_at xs i x l e = slice_get_read xs (length xs) i x refl l e
 
-pub next_declared : (ds : List Declared) (size n : ℕ) (c : Declared) (slots new : List (Option ℕ)) → n < length ds → c ≡ get_or ds n c → IsTaken slots n (slot_for (length slots) (declaration_of c)) new → IsFilled (shown ds) size n slots → IsFilled (shown ds) size (n + 1) new
+pub next_declared : (ds : List CodeDeclaration) (size n : ℕ) (c : CodeDeclaration) (slots new : List (Option ℕ)) → n < length ds → c ≡ get_or ds n c → IsTaken slots n (slot_for (length slots) (declaration_of c)) new → IsFilled (shown ds) size n slots → IsFilled (shown ds) size (n + 1) new
 next_declared ds size n c slots new l e t f = next_filed (shown ds) size n (declaration_of c) slots new (there_shown ds n c (read_at ds n c l e)) t f
 
 -- the protocols of one module more

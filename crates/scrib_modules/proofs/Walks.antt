@@ -5,19 +5,19 @@ use Rattle.std.proofs.lemmas.List.{length-append, length-set, length-map}
 use Rattle.std.proofs.lemmas.List.Sums.{sum_by-set}
 use Rattle.std.proofs.lemmas.Option.{slice_get_within, slice_get-get_or, slice_get-map, get_or_from_slice_get}
 use Rattle.scrib_parser.specs.declared.tree.ModuleTree.{ModuleTree}
-use Rattle.scrib_modules.specs.declared.stop.State.{State}
-use Rattle.scrib_modules.specs.declared.stop.State.TheVariants.{Unwalked, Walking, Walked}
+use Rattle.scrib_modules.specs.declared.checking.State.{State}
+use Rattle.scrib_modules.specs.declared.checking.State.TheVariants.{Unwalked, Walking, Walked}
 use Rattle.scrib_modules.specs.Source.{Calls}
 use Rattle.scrib_modules.specs.Names.{Declaration, HasOwnNames, declarations, called}
 use Rattle.scrib_modules.specs.Statements.{protocol_keeps, BlockKeeps}
-use Rattle.scrib_modules.specs.Faults.{HasStep, Reaches, itself, Fails}
-use Rattle.scrib_modules.specs.declared.declared.Declared.{Declared}
+use Rattle.scrib_modules.specs.Faults.{HasStatement, Reaches, itself, Fails}
+use Rattle.scrib_modules.specs.declared.declared.Declaration.{Declaration as CodeDeclaration}
 use Rattle.scrib_modules.specs.declared.fault.ElaborateFault.{ElaborateFault}
 use Rattle.scrib_modules.specs.declared.fault.ElaborateFault.TheVariants as elaborate
-use Rattle.scrib_modules.specs.declared.stop.BrokenRule.{BrokenRule}
-use Rattle.scrib_modules.specs.declared.stop.Stop.{Stop}
-use Rattle.scrib_modules.specs.declared.stop.Stop.TheVariants.{Broken, Call}
-use Rattle.scrib_modules.specs.declared.stop.Summary.{Summary}
+use Rattle.scrib_modules.specs.declared.checking.BrokenRule.{BrokenRule}
+use Rattle.scrib_modules.specs.declared.checking.CheckError.{CheckError}
+use Rattle.scrib_modules.specs.declared.checking.CheckError.TheVariants.{Broken, Call}
+use Rattle.scrib_modules.specs.declared.checking.Summary.{Summary}
 use Rattle.scrib_modules.specs.Table.{declaration_of, shown, IsSummary}
 use Rattle.scrib_modules.specs.Walking.{AreUnwalked, IsEntered, EnterFails, IsFaultIn, IsReady, IsNextCall, IsBlockKept, TopKeeps, TopStops, WasWalked, AreSummaries, IsIdle, IsSmall, WalkFails}
 use Rattle.scrib_parser.specs.declared.tree.Statement.{Statement}
@@ -27,7 +27,7 @@ use Rattle.scrib_modules.specs.Sizes.{NodesOf, IsTooLarge}
 use Rattle.scrib_modules.specs.Growth.{risen, BlockGrows}
 use Rattle.scrib_modules.specs.Shape.{HasShape}
 use Rattle.scrib_modules.proofs.Checks.{entry_is}
-use Rattle.scrib_modules.proofs.Kept.{reaches_on}
+use Rattle.scrib_modules.proofs.RulesKept.{reaches_on}
 
 -- the places of a list
 
@@ -88,7 +88,7 @@ leads_to_last ms ds at root states init top t here w k d there walking =
 -- it enters a protocol that the last one calls
 
 pub enters : (ms : List ModuleTree) (ds : List Declaration) (at : ℕ) (root : Declaration) (states : List State) (init : List ℕ) (top to : ℕ) (t c : Declaration)
-    → {path roles : List (List ℕ)} {s : _} → HasStep t (Calls path roles s) → called ms t.home path ≡ Some c → slice_get ds top ≡ Some t → slice_get ds to ≡ Some c → HasOwnNames c
+    → {path roles : List (List ℕ)} {s : _} → HasStatement t (Calls path roles s) → called ms t.home path ≡ Some c → slice_get ds top ≡ Some t → slice_get ds to ≡ Some c → HasOwnNames c
     → IsWalk ms ds at root states (init ++ top ∷ []) → IsWalk ms ds at root (set states to Walking) ((init ++ top ∷ []) ++ to ∷ [])
 enters ms ds at root states init top to t c h call here there names w = record {
   states_all = length-set states to Walking ∙ w.states_all;
@@ -197,20 +197,20 @@ one_more n ss ts a e =
 
 -- the walk, in the words of the table
 
-pub record IsWalkFrom (ms : List ModuleTree) (declared : List Declared) (at : ℕ) (states : List State) (stack : List ℕ) : Type 0 where
+pub record IsWalkFrom (ms : List ModuleTree) (declared : List CodeDeclaration) (at : ℕ) (states : List State) (stack : List ℕ) : Type 0 where
   pub root : Declaration
   pub there : slice_get (shown declared) at ≡ Some root
   pub walk : IsWalk ms (shown declared) at root states stack
 
-pub entry_there : (declared : List Declared) (k : ℕ) (d : Declared) → k < length declared → slice_get (shown declared) k ≡ Some (declaration_of (get_or declared k d))
+pub entry_there : (declared : List CodeDeclaration) (k : ℕ) (d : CodeDeclaration) → k < length declared → slice_get (shown declared) k ≡ Some (declaration_of (get_or declared k d))
 entry_there declared k d h =
     slice_get-map declaration_of declared k ∙ ap (option_map declaration_of) (slice_get-get_or declared k d h)
 
-pub states_long : (ms : List ModuleTree) (declared : List Declared) (at : ℕ) (states : List State) (stack : List ℕ) → IsWalkFrom ms declared at states stack → length states ≡ length declared
+pub states_long : (ms : List ModuleTree) (declared : List CodeDeclaration) (at : ℕ) (states : List State) (stack : List ℕ) → IsWalkFrom ms declared at states stack → length states ≡ length declared
 states_long ms declared at states stack w = w.walk.states_all ∙ length-map declared declaration_of
 
 -- what the last one's check knows
-pub ready : (ms : List ModuleTree) (declared : List Declared) (at : ℕ) (states : List State) (stack init : List ℕ) (top : ℕ) → shown declared ≡ declarations ms → stack ≡ init ++ top ∷ [] → IsWalkFrom ms declared at states stack
+pub ready : (ms : List ModuleTree) (declared : List CodeDeclaration) (at : ℕ) (states : List State) (stack init : List ℕ) (top : ℕ) → shown declared ≡ declarations ms → stack ≡ init ++ top ∷ [] → IsWalkFrom ms declared at states stack
     → IsReady ms declared states top
 ready ms declared at states stack init top all is w =
     let walk = subst (λ s. IsWalk ms (shown declared) at w.root states s) is w.walk in
@@ -221,14 +221,14 @@ ready ms declared at states stack init top all is w =
       walking = λ k d t p q h. leads_to_last ms (shown declared) at w.root states init top t h walk k d p q;
     }
 
-pub top_within : (ms : List ModuleTree) (declared : List Declared) (at : ℕ) (states : List State) (stack init : List ℕ) (top : ℕ) → stack ≡ init ++ top ∷ [] → IsWalkFrom ms declared at states stack → top < length declared
+pub top_within : (ms : List ModuleTree) (declared : List CodeDeclaration) (at : ℕ) (states : List State) (stack init : List ℕ) (top : ℕ) → stack ≡ init ++ top ∷ [] → IsWalkFrom ms declared at states stack → top < length declared
 top_within ms declared at states stack init top is w =
     let walk = subst (λ s. IsWalk ms (shown declared) at w.root states s) is w.walk in
     let within = walk.inside (length init) top (get_last init top) in
     let long : length (shown declared) ≡ length declared = length-map declared declaration_of in
     omega arith
 
-pub begins_from : (ms : List ModuleTree) (declared : List Declared) (at : ℕ) (x : Declared) (old states : List State) (none stack : List ℕ) → at < length declared → x ≡ get_or declared at x → IsIdle ms (shown declared) old → none ≡ []
+pub begins_from : (ms : List ModuleTree) (declared : List CodeDeclaration) (at : ℕ) (x : CodeDeclaration) (old states : List State) (none stack : List ℕ) → at < length declared → x ≡ get_or declared at x → IsIdle ms (shown declared) old → none ≡ []
     → IsEntered x.home.now x.protocol.now at old states none stack → IsWalkFrom ms declared at states stack
 begins_from ms declared at x old states none stack h is idle empty e =
     let there : slice_get (shown declared) at ≡ Some (declaration_of x) =
@@ -242,14 +242,14 @@ begins_from ms declared at x old states none stack h is idle empty e =
     }
 
 -- the last one's entry
-pub top_entry : (ms : List ModuleTree) (declared : List Declared) (at : ℕ) (states : List State) (stack init : List ℕ) (top : ℕ) → stack ≡ init ++ top ∷ [] → IsWalkFrom ms declared at states stack → (t : Declaration) × (slice_get (shown declared) top ≡ Some t)
+pub top_entry : (ms : List ModuleTree) (declared : List CodeDeclaration) (at : ℕ) (states : List State) (stack init : List ℕ) (top : ℕ) → stack ≡ init ++ top ∷ [] → IsWalkFrom ms declared at states stack → (t : Declaration) × (slice_get (shown declared) top ≡ Some t)
 top_entry ms declared at states stack init top is w = found declared top (top_within ms declared at states stack init top is w)
   where
-    found : (xs : List Declared) (k : ℕ) → k < length xs → (t : Declaration) × (slice_get (shown xs) k ≡ Some t)
+    found : (xs : List CodeDeclaration) (k : ℕ) → k < length xs → (t : Declaration) × (slice_get (shown xs) k ≡ Some t)
     found [] k h = absurd (omega arith)
     found (x ∷ xs) k h = (declaration_of (get_or (x ∷ xs) k x), entry_there (x ∷ xs) k x h)
 
-pub leaves_from : (ms : List ModuleTree) (declared : List Declared) (at : ℕ) (states : List State) (stack init : List ℕ) (top : ℕ) (e : Summary) → stack ≡ init ++ top ∷ [] → IsWalkFrom ms declared at states stack
+pub leaves_from : (ms : List ModuleTree) (declared : List CodeDeclaration) (at : ℕ) (states : List State) (stack init : List ℕ) (top : ℕ) (e : Summary) → stack ≡ init ++ top ∷ [] → IsWalkFrom ms declared at states stack
     → TopKeeps ms (shown declared) top e → IsWalkFrom ms declared at (set states top (Walked e)) init
 leaves_from ms declared at states stack init top e is w k =
     let walk = subst (λ s. IsWalk ms (shown declared) at w.root states s) is w.walk in
@@ -262,14 +262,14 @@ leaves_from ms declared at states stack init top e is w k =
     }
 
 -- the call at which a check stopped
-pub record IsNext (ms : List ModuleTree) (declared : List Declared) (states : List State) (top to : ℕ) : Type 0 where
+pub record IsNext (ms : List ModuleTree) (declared : List CodeDeclaration) (states : List State) (top to : ℕ) : Type 0 where
   pub from : Declaration
   pub here : slice_get (shown declared) top ≡ Some from
   pub call : IsNextCall ms (shown declared) states from to
   pub within : to < length declared
   pub stated : to < length states
 
-pub next_of : (ms : List ModuleTree) (declared : List Declared) (at : ℕ) (states seen : List State) (stack init : List ℕ) (top to : ℕ) (s : Stop) → stack ≡ init ++ top ∷ [] → IsWalkFrom ms declared at states stack
+pub next_of : (ms : List ModuleTree) (declared : List CodeDeclaration) (at : ℕ) (states seen : List State) (stack init : List ℕ) (top to : ℕ) (s : CheckError) → stack ≡ init ++ top ∷ [] → IsWalkFrom ms declared at states stack
     → seen ≡ states → s ≡ Call to → TopStops ms (shown declared) seen top s → IsNext ms declared states top to
 next_of ms declared at states seen stack init top to s is w same stop h =
     let (t, here) = top_entry ms declared at states stack init top is w in
@@ -286,13 +286,13 @@ next_of ms declared at states seen stack init top to s is w same stop h =
     }
 
 -- the entry of the called protocol
-called_entry : (ms : List ModuleTree) (declared : List Declared) (states : List State) (top to : ℕ) (x : Declared) (n : IsNext ms declared states top to) → x ≡ get_or declared to x → n.call.to ≡ declaration_of x
+called_entry : (ms : List ModuleTree) (declared : List CodeDeclaration) (states : List State) (top to : ℕ) (x : CodeDeclaration) (n : IsNext ms declared states top to) → x ≡ get_or declared to x → n.call.to ≡ declaration_of x
 called_entry ms declared states top to x n is =
     let there = entry_there declared to x n.within in
     let same : n.call.to ≡ declaration_of (get_or declared to x) = cc (n.call.at, there) in
     same ∙ ap declaration_of (sym is)
 
-pub enters_from : (ms : List ModuleTree) (declared : List Declared) (at : ℕ) (states after : List State) (stack init pushed last : List ℕ) (top to : ℕ) (x : Declared) → stack ≡ init ++ top ∷ [] → pushed ≡ init ++ top ∷ [] → x ≡ get_or declared to x
+pub enters_from : (ms : List ModuleTree) (declared : List CodeDeclaration) (at : ℕ) (states after : List State) (stack init pushed last : List ℕ) (top to : ℕ) (x : CodeDeclaration) → stack ≡ init ++ top ∷ [] → pushed ≡ init ++ top ∷ [] → x ≡ get_or declared to x
     → IsWalkFrom ms declared at states stack → IsNext ms declared states top to → IsEntered x.home.now x.protocol.now to states after pushed last → IsWalkFrom ms declared at after last
 enters_from ms declared at states after stack init pushed last top to x is again entry w n e =
     let walk = subst (λ s. IsWalk ms (shown declared) at w.root states s) is w.walk in
@@ -308,7 +308,7 @@ enters_from ms declared at states after stack init pushed last top to x is again
 
 -- the work grows less
 
-pub less_entering : (ms : List ModuleTree) (declared : List Declared) (states after : List State) (stack init pushed last : List ℕ) (top to : ℕ) (home : _) (protocol : _) → stack ≡ init ++ top ∷ [] → pushed ≡ init ++ top ∷ []
+pub less_entering : (ms : List ModuleTree) (declared : List CodeDeclaration) (states after : List State) (stack init pushed last : List ℕ) (top to : ℕ) (home : _) (protocol : _) → stack ≡ init ++ top ∷ [] → pushed ≡ init ++ top ∷ []
     → IsNext ms declared states top to → IsEntered home protocol to states after pushed last → work after last < work states stack
 less_entering ms declared states after stack init pushed last top to home protocol is again n e =
     let sums = sum_by-set weight states to Walking Unwalked n.stated in
@@ -327,7 +327,7 @@ less_leaving states stack init top e is h =
 
 -- the faults of a walk
 
-pub first_fails : (ms : List ModuleTree) (declared : List Declared) (at : ℕ) (x : Declared) → at < length declared → x ≡ get_or declared at x → (f : ElaborateFault) → EnterFails x.home.now x.protocol.now f → WalkFails ms (shown declared) at f
+pub first_fails : (ms : List ModuleTree) (declared : List CodeDeclaration) (at : ℕ) (x : CodeDeclaration) → at < length declared → x ≡ get_or declared at x → (f : ElaborateFault) → EnterFails x.home.now x.protocol.now f → WalkFails ms (shown declared) at f
 first_fails ms declared at x h is (elaborate.Broken f) e = λ d p.
     let there : slice_get (shown declared) at ≡ Some (declaration_of x) =
     entry_there declared at x h ∙ ap (λ y. Some (declaration_of y)) (sym is) in
@@ -335,7 +335,7 @@ first_fails ms declared at x h is (elaborate.Broken f) e = λ d p.
     (declaration_of x, subst (λ r. Reaches ms r (declaration_of x)) same itself, e.0, e.1 ms d)
 first_fails ms declared at x h is elaborate.OutOfMemory e = tt
 
-pub next_fails : (ms : List ModuleTree) (declared : List Declared) (at : ℕ) (states : List State) (stack init : List ℕ) (top to : ℕ) (x : Declared) → stack ≡ init ++ top ∷ [] → x ≡ get_or declared to x
+pub next_fails : (ms : List ModuleTree) (declared : List CodeDeclaration) (at : ℕ) (states : List State) (stack init : List ℕ) (top to : ℕ) (x : CodeDeclaration) → stack ≡ init ++ top ∷ [] → x ≡ get_or declared to x
     → IsWalkFrom ms declared at states stack → IsNext ms declared states top to → (f : ElaborateFault) → EnterFails x.home.now x.protocol.now f → WalkFails ms (shown declared) at f
 next_fails ms declared at states stack init top to x is entry w n (elaborate.Broken f) e = λ d p.
     let walk = subst (λ s. IsWalk ms (shown declared) at w.root states s) is w.walk in
@@ -345,7 +345,7 @@ next_fails ms declared at states stack init top to x is entry w n (elaborate.Bro
     (declaration_of x, subst (λ r. Reaches ms r (declaration_of x)) same (subst (Reaches ms w.root) target reach), e.0, e.1 ms d)
 next_fails ms declared at states stack init top to x is entry w n elaborate.OutOfMemory e = tt
 
-pub broken_fails : (ms : List ModuleTree) (declared : List Declared) (at : ℕ) (states seen : List State) (stack init : List ℕ) (top : ℕ) (x : Declared) (b : BrokenRule) (s : Stop) → stack ≡ init ++ top ∷ [] → x ≡ get_or declared top x
+pub broken_fails : (ms : List ModuleTree) (declared : List CodeDeclaration) (at : ℕ) (states seen : List State) (stack init : List ℕ) (top : ℕ) (x : CodeDeclaration) (b : BrokenRule) (s : CheckError) → stack ≡ init ++ top ∷ [] → x ≡ get_or declared top x
     → IsWalkFrom ms declared at states stack → s ≡ Broken b → TopStops ms (shown declared) seen top s → (f : ElaborateFault) → IsFaultIn x.home.now b f → WalkFails ms (shown declared) at f
 broken_fails ms declared at states seen stack init top x b s is entry w stop h f told =
     let walk = subst (λ s. IsWalk ms (shown declared) at w.root states s) is w.walk in
@@ -356,16 +356,16 @@ broken_fails ms declared at states seen stack init top x b s is entry w stop h f
     let reach = walk.reached (length init) top (declaration_of x) (get_last init top) here in
     ⊎_elim (λ e. subst (WalkFails ms (shown declared) at) (sym e) (λ d p. let same : w.root ≡ d = cc (w.there, p) in (declaration_of x, subst (λ r. Reaches ms r (declaration_of x)) same reach, refl, stops d (declaration_of x) here))) (λ e. subst (WalkFails ms (shown declared) at) (sym e) tt) told
 
-pub ended_from : (ms : List ModuleTree) (declared : List Declared) (at : ℕ) (states : List State) (stack : List ℕ) → stack ≡ [] → IsWalkFrom ms declared at states stack → WasWalked ms (shown declared) states at
+pub ended_from : (ms : List ModuleTree) (declared : List CodeDeclaration) (at : ℕ) (states : List State) (stack : List ℕ) → stack ≡ [] → IsWalkFrom ms declared at states stack → WasWalked ms (shown declared) states at
 ended_from ms declared at states stack none w = λ d p.
     let walk = subst (λ s. IsWalk ms (shown declared) at w.root states s) none w.walk in
     let same : w.root ≡ d = cc (w.there, p) in
     subst (λ r. (s : Summary) × (slice_get states at ≡ Some (Walked s)) × IsSummary ms r s) same (ended ms (shown declared) at w.root states w.there walk)
 
-pub summaries_from : (ms : List ModuleTree) (declared : List Declared) (at : ℕ) (states : List State) (stack : List ℕ) → IsWalkFrom ms declared at states stack → AreSummaries ms (shown declared) states
+pub summaries_from : (ms : List ModuleTree) (declared : List CodeDeclaration) (at : ℕ) (states : List State) (stack : List ℕ) → IsWalkFrom ms declared at states stack → AreSummaries ms (shown declared) states
 summaries_from ms declared at states stack w = record { all = w.walk.states_all; each = w.walk.walked }
 
-pub idle_from : (ms : List ModuleTree) (declared : List Declared) (at : ℕ) (states : List State) (stack : List ℕ) → stack ≡ [] → IsWalkFrom ms declared at states stack → IsIdle ms (shown declared) states
+pub idle_from : (ms : List ModuleTree) (declared : List CodeDeclaration) (at : ℕ) (states : List State) (stack : List ℕ) → stack ≡ [] → IsWalkFrom ms declared at states stack → IsIdle ms (shown declared) states
 idle_from ms declared at states stack none w = record {
   kept = summaries_from ms declared at states stack w;
   ended =
@@ -373,7 +373,7 @@ idle_from ms declared at states stack none w = record {
 }
 
 -- where no protocol was walked
-pub idle_before : (ms : List ModuleTree) (declared : List Declared) (states : List State) → AreUnwalked (length declared) states → IsIdle ms (shown declared) states
+pub idle_before : (ms : List ModuleTree) (declared : List CodeDeclaration) (states : List State) → AreUnwalked (length declared) states → IsIdle ms (shown declared) states
 idle_before ms declared states u = record {
   kept =
       record { all = u.long ∙ sym (length-map declared declaration_of); each = λ k d s p q. let e = u.fresh k (Walked s) q in absurd (cc e) };
@@ -385,7 +385,7 @@ no_items [] e = refl
 no_items (x ∷ xs) e = absurd (omega arith)
 
 -- what the check of the last one found
-pub block_kept : (ms : List ModuleTree) (declared : List Declared) (k : ℕ) (x : Declared) (d : Declaration) (a b c : List Statement) (s : Summary) → slice_get (shown declared) k ≡ Some d → x ≡ get_or declared k x
+pub block_kept : (ms : List ModuleTree) (declared : List CodeDeclaration) (k : ℕ) (x : CodeDeclaration) (d : Declaration) (a b c : List Statement) (s : Summary) → slice_get (shown declared) k ≡ Some d → x ≡ get_or declared k x
     → a ≡ x.protocol.now.body → b ≡ x.protocol.now.body → c ≡ x.protocol.now.body → BlockKeeps ms (declaration_of x) [] true (body_of a) s.exits → BlockGrows ms (declaration_of x) (body_of b) s.size
     → HasShape ms (declaration_of x) (body_of c) s.shape → IsBlockKept ms d s
 block_kept ms declared k x d a b c s here is p q r keeps grows shaped =
@@ -414,7 +414,7 @@ small_at ms ds states at s walked below w = λ d here.
       short = omega (arith, alike, below.1);
     }
 
-pub large_fails : (ms : List ModuleTree) (declared : List Declared) (states : List State) (at : ℕ) (x : Declared) (s : Summary) → at < length declared → x ≡ get_or declared at x → slice_get states at ≡ Some (Walked s) → (65536 ≤ s.size.nodes.base) ⊎ (4096 ≤ risen s.size.height 0)
+pub large_fails : (ms : List ModuleTree) (declared : List CodeDeclaration) (states : List State) (at : ℕ) (x : CodeDeclaration) (s : Summary) → at < length declared → x ≡ get_or declared at x → slice_get states at ≡ Some (Walked s) → (65536 ≤ s.size.nodes.base) ⊎ (4096 ≤ risen s.size.height 0)
     → WasWalked ms (shown declared) states at → (f : ElaborateFault) → IsFaultIn x.home.now (record { kind = kind.TooLarge; spot = x.protocol.now.spot }) f → WalkFails ms (shown declared) at f
 large_fails ms declared states at x s h is walked above w f told =
     ⊎_elim (λ e. subst (WalkFails ms (shown declared) at) (sym e) (λ d p. told_at d p)) (λ e. subst (WalkFails ms (shown declared) at) (sym e) tt) told
@@ -436,9 +436,9 @@ large_fails ms declared states at x s h is walked above w f told =
         let same : declaration_of x ≡ d = cc (there, p) in
         (declaration_of x, subst (λ r. Reaches ms r (declaration_of x)) same itself, refl, (same, too_large, refl))
 
-pub not_walked : (ms : List ModuleTree) (declared : List Declared) (states : List State) (at : ℕ) → at < length declared → ((s : Summary) → slice_get states at ≢ Some (Walked s)) → WasWalked ms (shown declared) states at → ⊥
+pub not_walked : (ms : List ModuleTree) (declared : List CodeDeclaration) (states : List State) (at : ℕ) → at < length declared → ((s : Summary) → slice_get states at ≢ Some (Walked s)) → WasWalked ms (shown declared) states at → ⊥
 not_walked ms declared states at h other w = found declared h w
   where
-    found : (xs : List Declared) → at < length xs → WasWalked ms (shown xs) states at → ⊥
+    found : (xs : List CodeDeclaration) → at < length xs → WasWalked ms (shown xs) states at → ⊥
     found [] k w = absurd (omega arith)
     found (x ∷ xs) k w = let (s, e, kept) = w (declaration_of (get_or (x ∷ xs) at x)) (entry_there (x ∷ xs) at x k) in other s e

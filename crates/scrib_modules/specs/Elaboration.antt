@@ -8,7 +8,7 @@ pub use Rattle.scrib_types.specs.Nodes.{global_nodes, branch_nodes, global_heigh
 use Rattle.scrib_types.specs.Trees.{GlobalTree, GlobalEnd, GlobalVar, GlobalRec, Comm, GlobalBranches, NoBranch, Branch}
 use Rattle.scrib_types.specs.WellFormed.{leads_to_communication, distinct_operators, has_branches}
 use Rattle.scrib_parser.specs.declared.tree.ModuleTree.{ModuleTree}
-use Rattle.scrib_modules.specs.Source.{Body, Done, Then, Step, Sends, Chooses, Repeats, Continues, Calls, Blocks, NoBlock, OrBlock}
+use Rattle.scrib_modules.specs.Source.{Body, Done, Then, Statement, Sends, Chooses, Repeats, Continues, Calls, Blocks, NoBlock, OrBlock}
 use Rattle.scrib_modules.specs.SourceView.{body_of}
 use Rattle.scrib_modules.specs.Names.{Declaration, roles_of, find_protocol, called}
 use Rattle.scrib_modules.specs.Statements.{KeepsRules}
@@ -19,7 +19,7 @@ abbrev mutual
   continues_in x Done = false
   continues_in x (Then s b) = continues_at x s || continues_in x b
 
-  pub continues_at : List ℕ → Step → Bool
+  pub continues_at : List ℕ → Statement → Bool
   continues_at x (Sends m p qs s) = false
   continues_at x (Chooses p bs s) = continues_some x bs
   continues_at x (Repeats y b s) = if bytes_eq x y then false else continues_in x b

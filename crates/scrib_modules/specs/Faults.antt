@@ -13,10 +13,10 @@ use Rattle.scrib_modules.specs.declared.fault.FaultKind.TheVariants as kind
 use Rattle.scrib_modules.specs.declared.fault.Fault.{Fault}
 use Rattle.scrib_modules.specs.declared.fault.ElaborateFault.{ElaborateFault}
 use Rattle.scrib_modules.specs.declared.fault.ElaborateFault.TheVariants.{Broken, OutOfMemory}
-use Rattle.scrib_modules.specs.Source.{Body, Done, Then, Step, Sends, Chooses, Repeats, Continues, Calls, Blocks, NoBlock, OrBlock}
+use Rattle.scrib_modules.specs.Source.{Body, Done, Then, Statement, Sends, Chooses, Repeats, Continues, Calls, Blocks, NoBlock, OrBlock}
 use Rattle.scrib_modules.specs.SourceView.{body_of}
 use Rattle.scrib_modules.specs.Names.{Declaration, has_name, known_by, module_names, roles_of, find_protocol, called_home, called}
-use Rattle.scrib_modules.specs.Statements.{are_roles, StepKeeps}
+use Rattle.scrib_modules.specs.Statements.{are_roles, StatementKeeps}
 use Rattle.scrib_modules.specs.Elaboration.{continues_in, Scope, role_in, inside, inside_call, Frames, Under, Types, start_of}
 use Rattle.scrib_modules.specs.Sizes.{IsTooLarge}
 
@@ -24,7 +24,7 @@ mutual
   -- The second is the rest of a block in the first, under these recursions.
   pub data Stands : (recs : List (List ℕ)) → Body → (inner : List (List ℕ)) → Body → Type 0 where
     here : {recs : List (List ℕ)} {b : Body} → Stands recs b recs b
-    later : {recs inner : List (List ℕ)} {s : Step} {b r : Body} → Stands recs b inner r → Stands recs (Then s b) inner r
+    later : {recs inner : List (List ℕ)} {s : Statement} {b r : Body} → Stands recs b inner r → Stands recs (Then s b) inner r
     in_choice : {recs inner : List (List ℕ)} {p : List ℕ} {bs : Blocks} {s : Spot} {b r : Body} → StandsIn recs bs inner r → Stands recs (Then (Chooses p bs s) b) inner r
     in_rec : {recs inner : List (List ℕ)} {x : List ℕ} {c : Body} {s : Spot} {b r : Body} → Stands (x ∷ recs) c inner r → Stands recs (Then (Repeats x c s) b) inner r
 
@@ -37,7 +37,7 @@ abbrev pub StandsAt : Declaration → (inner : List (List ℕ)) → Body → Typ
 StandsAt d inner r = Stands [] (body_of d.protocol.body) inner r
 
 -- the statement stands there
-pub record HasStep (d : Declaration) (s : Step) : Type 0 where
+pub record HasStatement (d : Declaration) (s : Statement) : Type 0 where
   pub inner : List (List ℕ)
   pub after : Body
   pub stands : StandsAt d inner (Then s after)
@@ -45,7 +45,7 @@ pub record HasStep (d : Declaration) (s : Step) : Type 0 where
 -- the second is the first, or is called by it, or by one that it calls, and so on
 pub data Reaches (modules : List ModuleTree) : Declaration → Declaration → Type 0 where
   itself : {d : Declaration} → Reaches modules d d
-  by_call : {d c e : Declaration} {path roles : List (List ℕ)} {s : Spot} → HasStep d (Calls path roles s) → called modules d.home path ≡ Some c → Reaches modules c e
+  by_call : {d c e : Declaration} {path roles : List (List ℕ)} {s : Spot} → HasStatement d (Calls path roles s) → called modules d.home path ≡ Some c → Reaches modules c e
       → Reaches modules d e
 
 -- one of the list has a name that one before it has
@@ -63,12 +63,12 @@ IsTwiceDeclared d spot =
 
 -- the statement here has a name for a role that is none
 pub data HasNoRole (d : Declaration) (spot : Spot) : Type 0 where
-  message : {m : Message} {p : List ℕ} {qs : List (List ℕ)} → HasStep d (Sends m p qs spot) → are_roles (p ∷ qs) (roles_of d) ≡ false → HasNoRole d spot
-  choice : {p : List ℕ} {bs : Blocks} → HasStep d (Chooses p bs spot) → has_role p (roles_of d) ≡ false → HasNoRole d spot
-  call : {path roles : List (List ℕ)} → HasStep d (Calls path roles spot) → are_roles roles (roles_of d) ≡ false → HasNoRole d spot
+  message : {m : Message} {p : List ℕ} {qs : List (List ℕ)} → HasStatement d (Sends m p qs spot) → are_roles (p ∷ qs) (roles_of d) ≡ false → HasNoRole d spot
+  choice : {p : List ℕ} {bs : Blocks} → HasStatement d (Chooses p bs spot) → has_role p (roles_of d) ≡ false → HasNoRole d spot
+  call : {path roles : List (List ℕ)} → HasStatement d (Calls path roles spot) → are_roles roles (roles_of d) ≡ false → HasNoRole d spot
 
 -- where a statement begins
-abbrev pub spot_of : Step → Spot
+abbrev pub spot_of : Statement → Spot
 spot_of (Sends m p qs s) = s
 spot_of (Chooses p bs s) = s
 spot_of (Repeats x b s) = s
@@ -78,18 +78,18 @@ spot_of (Calls path qs s) = s
 -- the statement before the one here, which keeps the rules, has no exit
 pub record IsUnreachable (modules : List ModuleTree) (d : Declaration) (spot : Spot) : Type 0 where
   pub inner : List (List ℕ)
-  pub before : Step
-  pub step : Step
+  pub before : Statement
+  pub step : Statement
   pub after : Body
   pub stands : StandsAt d inner (Then before (Then step after))
   pub there : spot_of step ≡ spot
-  pub none : StepKeeps modules d inner before false
+  pub none : StatementKeeps modules d inner before false
 
 -- the call here is of a protocol that leads back to it
 pub record IsCycle (modules : List ModuleTree) (d : Declaration) (spot : Spot) : Type 0 where
   pub path : List (List ℕ)
   pub roles : List (List ℕ)
-  pub stands : HasStep d (Calls path roles spot)
+  pub stands : HasStatement d (Calls path roles spot)
   pub to : Declaration
   pub there : called modules d.home path ≡ Some to
   pub back : Reaches modules to d
@@ -104,7 +104,7 @@ pub record IsLoose (d : Declaration) (spot : Spot) : Type 0 where
 
 -- the call here has this path and these roles
 abbrev pub CallsAt : Declaration → Spot → (path roles : List (List ℕ)) → Type 0
-CallsAt d spot path roles = HasStep d (Calls path roles spot)
+CallsAt d spot path roles = HasStatement d (Calls path roles spot)
 
 -- the first blocks, then this block, then the others
 abbrev pub blocks_before : Blocks → Body → Spot → Blocks → Blocks
@@ -128,7 +128,7 @@ pub data Needs (modules : List ModuleTree) : ℕ → Frames → ℕ → Frames �
       → Needs modules n (Under sc (Then (Calls path roles s) b) fs) k hs
 
 -- the type of the frames `from`, under k recursions, is made of the type of these, at whose head this statement of d stands
-pub record IsNeeded (modules : List ModuleTree) (k : ℕ) (from : Frames) (d : Declaration) (s : Step) (n : ℕ) (sc : Scope) (fs : Frames) : Type 0 where
+pub record IsNeeded (modules : List ModuleTree) (k : ℕ) (from : Frames) (d : Declaration) (s : Statement) (n : ℕ) (sc : Scope) (fs : Frames) : Type 0 where
   pub after : Body
   pub outer : Frames
   pub same : fs ≡ Under sc after outer
@@ -249,7 +249,7 @@ Fails kind.RepeatedRole modules root d spot =
 Fails kind.WrongCount modules root d spot =
     (path roles : List (List ℕ)) × (c : Declaration) × CallsAt d spot path roles × (called modules d.home path ≡ Some c) × (length roles ≢ length c.protocol.roles)
 Fails kind.SelfMessage modules root d spot =
-    (m : Message) × (p : List ℕ) × (qs : List (List ℕ)) × HasStep d (Sends m p qs spot) × (has_role p qs ≡ true)
+    (m : Message) × (p : List ℕ) × (qs : List (List ℕ)) × HasStatement d (Sends m p qs spot) × (has_role p qs ≡ true)
 Fails kind.DoCycle modules root d spot = IsCycle modules d spot
 Fails kind.NoRec modules root d spot = IsLoose d spot
 Fails kind.Unguarded modules root d spot = FailsTyping kind.Unguarded modules 0 (start_of root) d spot

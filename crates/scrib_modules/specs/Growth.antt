@@ -7,7 +7,7 @@ use Rattle.scrib_parser.specs.declared.tree.ModuleTree.{ModuleTree}
 use Rattle.scrib_modules.specs.declared.growth.Growth.{Growth}
 use Rattle.scrib_modules.specs.declared.growth.Rise.{Rise}
 use Rattle.scrib_modules.specs.declared.growth.Extent.{Extent}
-use Rattle.scrib_modules.specs.Source.{Body, Then, Step, Blocks}
+use Rattle.scrib_modules.specs.Source.{Body, Then, Statement, Blocks}
 use Rattle.scrib_modules.specs.Names.{Declaration}
 use Rattle.scrib_modules.specs.Sizes.{Size, SizeOfBlocks}
 
@@ -31,8 +31,8 @@ risen r k = max r.deepest (passed r.through k)
 abbrev pub BlockGoes : (cap : ℕ) → (ℕ → ℕ → ℕ) → List ModuleTree → Declaration → Body → (ℕ → ℕ) → Type 0
 BlockGoes cap both modules d b f = (k : ℕ) → (n : ℕ) × Size both modules d b (k + 1) (n + 1) × Agree cap n (f k)
 
-abbrev pub StepGoes : (cap : ℕ) → (ℕ → ℕ → ℕ) → List ModuleTree → Declaration → Step → (ℕ → ℕ) → Type 0
-StepGoes cap both modules d s f =
+abbrev pub StatementGoes : (cap : ℕ) → (ℕ → ℕ → ℕ) → List ModuleTree → Declaration → Statement → (ℕ → ℕ) → Type 0
+StatementGoes cap both modules d s f =
     (k : ℕ) → (n : ℕ) × Agree cap n (f k) × ((b : Body) (j : ℕ) → Size both modules d b j (k + 1) → Size both modules d (Then s b) j (n + 1))
 
 abbrev pub BlocksGo : (cap : ℕ) → (ℕ → ℕ → ℕ) → List ModuleTree → Declaration → Blocks → (ℕ → ℕ) → Type 0
@@ -44,25 +44,25 @@ pub record BlockGrows (modules : List ModuleTree) (d : Declaration) (b : Body) (
   pub nodes : BlockGoes 65536 ◌+◌ modules d b (grown e.nodes)
   pub height : BlockGoes 4096 max modules d b (risen e.height)
 
-pub record StepGrows (modules : List ModuleTree) (d : Declaration) (s : Step) (e : Extent) : Type 0 where
-  pub nodes : StepGoes 65536 ◌+◌ modules d s (grown e.nodes)
-  pub height : StepGoes 4096 max modules d s (risen e.height)
+pub record StatementGrows (modules : List ModuleTree) (d : Declaration) (s : Statement) (e : Extent) : Type 0 where
+  pub nodes : StatementGoes 65536 ◌+◌ modules d s (grown e.nodes)
+  pub height : StatementGoes 4096 max modules d s (risen e.height)
 
 pub record BlocksGrow (modules : List ModuleTree) (d : Declaration) (bs : Blocks) (e : Extent) : Type 0 where
   pub nodes : BlocksGo 65536 ◌+◌ modules d bs (grown e.nodes)
   pub height : BlocksGo 4096 max modules d bs (risen e.height)
 
--- one put for what follows another, and two put together
+-- one with the one of what follows it, and two beside each other
 
-abbrev pub IsPut : (cap : ℕ) → (outer inner all : ℕ → ℕ) → Type 0
-IsPut cap f g h = (k m n : ℕ) → Agree cap m (g k) → Agree cap n (f m) → Agree cap n (h k)
+abbrev pub IsComposed : (cap : ℕ) → (outer inner all : ℕ → ℕ) → Type 0
+IsComposed cap f g h = (k m n : ℕ) → Agree cap m (g k) → Agree cap n (f m) → Agree cap n (h k)
 
 abbrev pub IsJoined : (cap : ℕ) → (ℕ → ℕ → ℕ) → (one other all : ℕ → ℕ) → Type 0
 IsJoined cap both f g h = (k m n : ℕ) → Agree cap m (f k) → Agree cap n (g k) → Agree cap (both m n) (h k)
 
-pub record ArePut (outer inner all : Extent) : Type 0 where
-  pub nodes : IsPut 65536 (grown outer.nodes) (grown inner.nodes) (grown all.nodes)
-  pub height : IsPut 4096 (risen outer.height) (risen inner.height) (risen all.height)
+pub record AreComposed (outer inner all : Extent) : Type 0 where
+  pub nodes : IsComposed 65536 (grown outer.nodes) (grown inner.nodes) (grown all.nodes)
+  pub height : IsComposed 4096 (risen outer.height) (risen inner.height) (risen all.height)
 
 pub record AreJoined (one other all : Extent) : Type 0 where
   pub nodes : IsJoined 65536 ◌+◌ (grown one.nodes) (grown other.nodes) (grown all.nodes)

@@ -4,7 +4,7 @@ use Rattle.std.specs.Prelude.{◌≡◌, ℕ, true, List, length, Some}
 use Rattle.scrib_types.specs.declared.spot.Spot.{Spot}
 use Rattle.scrib_types.specs.WellFormed.{has_role}
 use Rattle.scrib_parser.specs.declared.tree.ModuleTree.{ModuleTree}
-use Rattle.scrib_modules.specs.Source.{Body, Done, Then, Step, Chooses, Repeats, Calls, Blocks, NoBlock, OrBlock}
+use Rattle.scrib_modules.specs.Source.{Body, Done, Then, Statement, Chooses, Repeats, Calls, Blocks, NoBlock, OrBlock}
 use Rattle.scrib_modules.specs.SourceView.{body_of}
 use Rattle.scrib_modules.specs.Names.{Declaration, roles_of, called}
 use Rattle.scrib_modules.specs.Elaboration.{given_for}
@@ -36,4 +36,4 @@ pub data BeginsAt (modules : List ModuleTree) : Declaration → Body → (home :
   begins_in_call : {d home : Declaration} {path roles : List (List ℕ)} {t s : Spot} {b : Body} {c : Declaration}
       → called modules d.home path ≡ Some c → BeginsAt modules c (body_of c.protocol.body) home s → BeginsAt modules d (Then (Calls path roles t) b) home s
   -- after a statement that adds nothing
-  begins_later : {d home : Declaration} {step : Step} {s : Spot} {b : Body} → AddsNothing modules d (Then step Done) → BeginsAt modules d b home s → BeginsAt modules d (Then step b) home s
+  begins_later : {d home : Declaration} {step : Statement} {s : Spot} {b : Body} → AddsNothing modules d (Then step Done) → BeginsAt modules d b home s → BeginsAt modules d (Then step b) home s

@@ -7,15 +7,15 @@ mutual
   -- the statements of a block
   pub data Body : Type 0 where
     Done : Body
-    Then : Step → Body → Body
+    Then : Statement → Body → Body
 
   -- a statement, and the place of its first byte
-  pub data Step : Type 0 where
-    Sends : Message → (sender : List ℕ) → (receivers : List (List ℕ)) → Spot → Step
-    Chooses : (chooser : List ℕ) → Blocks → Spot → Step
-    Repeats : (name : List ℕ) → Body → Spot → Step
-    Continues : (name : List ℕ) → Spot → Step
-    Calls : (path : List (List ℕ)) → (roles : List (List ℕ)) → Spot → Step
+  pub data Statement : Type 0 where
+    Sends : Message → (sender : List ℕ) → (receivers : List (List ℕ)) → Spot → Statement
+    Chooses : (chooser : List ℕ) → Blocks → Spot → Statement
+    Repeats : (name : List ℕ) → Body → Spot → Statement
+    Continues : (name : List ℕ) → Spot → Statement
+    Calls : (path : List (List ℕ)) → (roles : List (List ℕ)) → Spot → Statement
 
   -- the blocks of a choice, and the places of their opening braces
   pub data Blocks : Type 0 where

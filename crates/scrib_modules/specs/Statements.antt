@@ -5,7 +5,7 @@ use Rattle.scrib_types.specs.declared.message.Message.{Message}
 use Rattle.scrib_types.specs.declared.spot.Spot.{Spot}
 use Rattle.scrib_types.specs.WellFormed.{has_role, distinct_roles}
 use Rattle.scrib_parser.specs.declared.tree.ModuleTree.{ModuleTree}
-use Rattle.scrib_modules.specs.Source.{Body, Done, Then, Step, Sends, Chooses, Repeats, Continues, Calls, Blocks, NoBlock, OrBlock}
+use Rattle.scrib_modules.specs.Source.{Body, Done, Then, Statement, Sends, Chooses, Repeats, Continues, Calls, Blocks, NoBlock, OrBlock}
 use Rattle.scrib_modules.specs.SourceView.{body_of}
 use Rattle.scrib_modules.specs.Names.{Declaration, HasOwnNames, roles_of, called}
 
@@ -30,21 +30,21 @@ mutual
   -- what stands before it has an exit, the last whether the block has one: no statement follows one without.
   pub data BlockKeeps (modules : List ModuleTree) : Declaration → (recs : List (List ℕ)) → (before : Bool) → Body → (exits : Bool) → Type 0 where
     end_keeps : {d : Declaration} {recs : List (List ℕ)} {e : Bool} → BlockKeeps modules d recs e Done e
-    then_keeps : {d : Declaration} {recs : List (List ℕ)} {s : Step} {b : Body} {e f : Bool} → StepKeeps modules d recs s e → BlockKeeps modules d recs e b f
+    then_keeps : {d : Declaration} {recs : List (List ℕ)} {s : Statement} {b : Body} {e f : Bool} → StatementKeeps modules d recs s e → BlockKeeps modules d recs e b f
         → BlockKeeps modules d recs true (Then s b) f
 
-  pub data StepKeeps (modules : List ModuleTree) : Declaration → (recs : List (List ℕ)) → Step → (exits : Bool) → Type 0 where
+  pub data StatementKeeps (modules : List ModuleTree) : Declaration → (recs : List (List ℕ)) → Statement → (exits : Bool) → Type 0 where
     -- from a role to others
     sends_keeps : {d : Declaration} {recs : List (List ℕ)} {m : Message} {p : List ℕ} {qs : List (List ℕ)} {s : Spot}
-        → are_roles (p ∷ qs) (roles_of d) ≡ true → has_role p qs ≡ false → StepKeeps modules d recs (Sends m p qs s) true
+        → are_roles (p ∷ qs) (roles_of d) ≡ true → has_role p qs ≡ false → StatementKeeps modules d recs (Sends m p qs s) true
     chooses_keeps : {d : Declaration} {recs : List (List ℕ)} {p : List ℕ} {bs : Blocks} {s : Spot} {e : Bool}
-        → has_role p (roles_of d) ≡ true → BlocksKeep modules d recs bs e → StepKeeps modules d recs (Chooses p bs s) e
+        → has_role p (roles_of d) ≡ true → BlocksKeep modules d recs bs e → StatementKeeps modules d recs (Chooses p bs s) e
     repeats_keeps : {d : Declaration} {recs : List (List ℕ)} {x : List ℕ} {b : Body} {s : Spot} {e : Bool}
-        → BlockKeeps modules d (x ∷ recs) true b e → StepKeeps modules d recs (Repeats x b s) e
+        → BlockKeeps modules d (x ∷ recs) true b e → StatementKeeps modules d recs (Repeats x b s) e
     -- to a recursion round it
-    continues_keeps : {d : Declaration} {recs : List (List ℕ)} {x : List ℕ} {s : Spot} → has_role x recs ≡ true → StepKeeps modules d recs (Continues x s) false
+    continues_keeps : {d : Declaration} {recs : List (List ℕ)} {x : List ℕ} {s : Spot} → has_role x recs ≡ true → StatementKeeps modules d recs (Continues x s) false
     calls_keeps : {d : Declaration} {recs path roles : List (List ℕ)} {s : Spot} {c : Declaration} {e : Bool}
-        → IsCall modules d path roles c → KeepsRules modules c e → StepKeeps modules d recs (Calls path roles s) e
+        → IsCall modules d path roles c → KeepsRules modules c e → StatementKeeps modules d recs (Calls path roles s) e
 
   -- a choice has an exit where one of its branches has
   pub data BlocksKeep (modules : List ModuleTree) : Declaration → (recs : List (List ℕ)) → Blocks → (exits : Bool) → Type 0 where

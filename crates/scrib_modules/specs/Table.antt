@@ -1,7 +1,7 @@
 -- What the tables of a walk stand for.
 -- Only contracts of this crate, and of private functions of `scrib_elaborate`, cite this file.
 use Rattle.std.specs.Prelude.{◌≡◌, ◌⊎◌, ℕ, ◌<◌, Bool, true, false, List, ◌∷◌, ◌++◌, length, map, slice_get, Some}
-use Rattle.scrib_modules.specs.declared.declared.Declared.{Declared}
+use Rattle.scrib_modules.specs.declared.declared.Declaration.{Declaration as CodeDeclaration}
 use Rattle.scrib_types.specs.declared.spot.Spot.{Spot}
 use Rattle.scrib_types.specs.WellFormed.{has_role}
 use Rattle.scrib_parser.specs.declared.tree.ModuleTree.{ModuleTree}
@@ -9,31 +9,31 @@ use Rattle.scrib_parser.specs.declared.tree.Import.{Import}
 use Rattle.scrib_parser.specs.declared.tree.ProtocolDeclaration.{ProtocolDeclaration}
 use Rattle.scrib_parser.specs.declared.tree.RoleDeclaration.{RoleDeclaration}
 use Rattle.scrib_modules.specs.declared.fault.FaultKind.TheVariants as kind
-use Rattle.scrib_modules.specs.declared.stop.BrokenRule.{BrokenRule}
-use Rattle.scrib_modules.specs.declared.stop.Round.{Round}
-use Rattle.scrib_modules.specs.declared.stop.State.TheVariants.{Unwalked, Walking, Walked}
-use Rattle.scrib_modules.specs.declared.stop.Stop.{Stop}
-use Rattle.scrib_modules.specs.declared.stop.Stop.TheVariants.{Broken, Call, OutOfMemory}
-use Rattle.scrib_modules.specs.declared.stop.Place.{Place}
-use Rattle.scrib_modules.specs.declared.stop.Summary.{Summary}
+use Rattle.scrib_modules.specs.declared.checking.BrokenRule.{BrokenRule}
+use Rattle.scrib_modules.specs.declared.checking.Round.{Round}
+use Rattle.scrib_modules.specs.declared.checking.State.TheVariants.{Unwalked, Walking, Walked}
+use Rattle.scrib_modules.specs.declared.checking.CheckError.{CheckError}
+use Rattle.scrib_modules.specs.declared.checking.CheckError.TheVariants.{Broken, Call, OutOfMemory}
+use Rattle.scrib_modules.specs.declared.checking.Place.{Place}
+use Rattle.scrib_modules.specs.declared.checking.Summary.{Summary}
 use Rattle.scrib_modules.specs.Directory.{IsDirectory}
 use Rattle.scrib_modules.specs.SourceView.{body_of}
 use Rattle.scrib_modules.specs.Growth.{BlockGrows}
 use Rattle.scrib_modules.specs.Shape.{HasShape}
-use Rattle.scrib_modules.specs.Source.{Body, Then, Step, Blocks, Calls}
+use Rattle.scrib_modules.specs.Source.{Body, Then, Statement, Blocks, Calls}
 use Rattle.scrib_modules.specs.Names.{Declaration, dotted_eq, has_name, is_settled, known_by, module_names, first_where, declarations, called}
-use Rattle.scrib_modules.specs.Statements.{KeepsRules, StepKeeps}
-use Rattle.scrib_modules.specs.Faults.{Stands, StandsIn, StandsAt, HasStep, Reaches, IsAgain, Fails}
+use Rattle.scrib_modules.specs.Statements.{KeepsRules, StatementKeeps}
+use Rattle.scrib_modules.specs.Faults.{Stands, StandsIn, StandsAt, HasStatement, Reaches, IsAgain, Fails}
 
 -- a declared protocol without where it lies in memory
-abbrev pub declaration_of : Declared → Declaration
+abbrev pub declaration_of : CodeDeclaration → Declaration
 declaration_of d = record { home = d.home.now; protocol = d.protocol.now }
 
 -- it is noted of a declared protocol whether its module's names are settled
-abbrev pub IsSettledSo : Declared → Type 0
+abbrev pub IsSettledSo : CodeDeclaration → Type 0
 IsSettledSo d = d.settled ≡ is_settled d.home.now
 
-abbrev pub shown : List Declared → List Declaration
+abbrev pub shown : List CodeDeclaration → List Declaration
 shown ds = map declaration_of ds
 
 -- the first that passes the test stands there
@@ -98,15 +98,15 @@ AreParts d recs bs = (inner : List (List ℕ)) (r : Body) → StandsIn recs bs i
 abbrev pub IsPartSomewhere : Declaration → Body → Type 0
 IsPartSomewhere d b = (recs : List (List ℕ)) × IsPart d recs b
 
-abbrev pub IsStepSomewhere : Declaration → Step → Type 0
-IsStepSomewhere d s = (recs : List (List ℕ)) × (rest : Body) × IsPart d recs (Then s rest)
+abbrev pub IsStatementSomewhere : Declaration → Statement → Type 0
+IsStatementSomewhere d s = (recs : List (List ℕ)) × (rest : Body) × IsPart d recs (Then s rest)
 
 abbrev pub AreSomewhere : Declaration → Blocks → Type 0
 AreSomewhere d bs = (recs : List (List ℕ)) × AreParts d recs bs
 
 -- the call here keeps the rules, and this is kept of the protocol that it calls
 pub record IsCallKept (p : Place) (path roles : List (List ℕ)) (spot : Spot) (s : Summary) : Type 0 where
-  pub keeps : (recs : List (List ℕ)) → StepKeeps p.modules.now (protocol_at p) recs (Calls path roles spot) s.exits
+  pub keeps : (recs : List (List ℕ)) → StatementKeeps p.modules.now (protocol_at p) recs (Calls path roles spot) s.exits
   pub to : Declaration
   pub there : called p.modules.now p.at.home.now path ≡ Some to
   pub grows : BlockGrows p.modules.now to (body_of to.protocol.body) s.size
@@ -125,14 +125,14 @@ pub record IsUnwalkedCall (p : Place) (k : ℕ) : Type 0 where
   pub path : List (List ℕ)
   pub roles : List (List ℕ)
   pub spot : Spot
-  pub stands : HasStep (protocol_at p) (Calls path roles spot)
+  pub stands : HasStatement (protocol_at p) (Calls path roles spot)
   pub to : Declaration
   pub there : called p.modules.now p.at.home.now path ≡ Some to
   pub at : slice_get (shown p.declared.now) k ≡ Some to
   pub unwalked : slice_get p.states.now k ≡ Some Unwalked
 
 -- why the check of a protocol's statements stops
-abbrev pub StopsAt : Place → Stop → Type 0
+abbrev pub StopsAt : Place → CheckError → Type 0
 StopsAt p (Broken b) = (root : Declaration) → Fails b.kind p.modules.now root (protocol_at p) b.spot
 StopsAt p (Call k) = IsUnwalkedCall p k
 StopsAt p OutOfMemory = Unit {0}

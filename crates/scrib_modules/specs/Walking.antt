@@ -4,21 +4,21 @@ use Rattle.std.specs.Prelude.{◌≡◌, ◌≢◌, ◌⊎◌, ℕ, ◌≤◌, B
 use Rattle.scrib_types.specs.declared.spot.Spot.{Spot}
 use Rattle.scrib_parser.specs.declared.tree.ModuleTree.{ModuleTree}
 use Rattle.scrib_parser.specs.declared.tree.ProtocolDeclaration.{ProtocolDeclaration}
-use Rattle.scrib_modules.specs.declared.declared.Declared.{Declared}
+use Rattle.scrib_modules.specs.declared.declared.Declaration.{Declaration as CodeDeclaration}
 use Rattle.scrib_modules.specs.declared.fault.ElaborateFault.{ElaborateFault}
 use Rattle.scrib_modules.specs.declared.fault.ElaborateFault.TheVariants as elaborate
-use Rattle.scrib_modules.specs.declared.stop.BrokenRule.{BrokenRule}
-use Rattle.scrib_modules.specs.declared.stop.State.{State}
-use Rattle.scrib_modules.specs.declared.stop.State.TheVariants.{Unwalked, Walking, Walked}
-use Rattle.scrib_modules.specs.declared.stop.Stop.{Stop}
-use Rattle.scrib_modules.specs.declared.stop.Stop.TheVariants.{Broken, Call, OutOfMemory}
+use Rattle.scrib_modules.specs.declared.checking.BrokenRule.{BrokenRule}
+use Rattle.scrib_modules.specs.declared.checking.State.{State}
+use Rattle.scrib_modules.specs.declared.checking.State.TheVariants.{Unwalked, Walking, Walked}
+use Rattle.scrib_modules.specs.declared.checking.CheckError.{CheckError}
+use Rattle.scrib_modules.specs.declared.checking.CheckError.TheVariants.{Broken, Call, OutOfMemory}
 use Rattle.scrib_modules.specs.Source.{Calls}
 use Rattle.scrib_modules.specs.SourceView.{body_of}
 use Rattle.scrib_modules.specs.Names.{Declaration, HasOwnNames, declarations, find_protocol, called}
 use Rattle.scrib_modules.specs.Statements.{KeepsRules, BlockKeeps}
 use Rattle.scrib_modules.specs.declared.fault.FaultKind.{FaultKind}
-use Rattle.scrib_modules.specs.Faults.{HasStep, Reaches, Fails, no_spot}
-use Rattle.scrib_modules.specs.declared.stop.Summary.{Summary}
+use Rattle.scrib_modules.specs.Faults.{HasStatement, Reaches, Fails, no_spot}
+use Rattle.scrib_modules.specs.declared.checking.Summary.{Summary}
 use Rattle.scrib_modules.specs.Sizes.{NodesOf, HeightOf}
 use Rattle.scrib_modules.specs.Growth.{BlockGrows}
 use Rattle.scrib_modules.specs.Shape.{HasShape}
@@ -46,7 +46,7 @@ IsFaultIn home b f =
     (f ≡ elaborate.Broken (record { kind = b.kind; «module» = home.name; spot = b.spot })) ⊎ (f ≡ elaborate.OutOfMemory)
 
 -- the protocol at this place can be checked: what is known of the others
-pub record IsReady (modules : List ModuleTree) (declared : List Declared) (states : List State) (top : ℕ) : Type 0 where
+pub record IsReady (modules : List ModuleTree) (declared : List CodeDeclaration) (states : List State) (top : ℕ) : Type 0 where
   pub all : shown declared ≡ declarations modules
   pub long : length states ≡ length declared
   pub walked : (k : ℕ) (d : Declaration) (s : Summary) → slice_get (shown declared) k ≡ Some d → slice_get states k ≡ Some (Walked s) → IsSummary modules d s
@@ -67,13 +67,13 @@ pub record IsNextCall (modules : List ModuleTree) (ds : List Declaration) (state
   pub path : List (List ℕ)
   pub roles : List (List ℕ)
   pub spot : Spot
-  pub stands : HasStep d (Calls path roles spot)
+  pub stands : HasStatement d (Calls path roles spot)
   pub to : Declaration
   pub there : called modules d.home path ≡ Some to
   pub at : slice_get ds k ≡ Some to
   pub unwalked : slice_get states k ≡ Some Unwalked
 
-abbrev pub TopStops : List ModuleTree → List Declaration → List State → ℕ → Stop → Type 0
+abbrev pub TopStops : List ModuleTree → List Declaration → List State → ℕ → CheckError → Type 0
 TopStops modules ds states top (Broken b) =
     (root d : Declaration) → slice_get ds top ≡ Some d → Fails b.kind modules root d b.spot
 TopStops modules ds states top (Call k) =

@@ -14,7 +14,7 @@ use std::alloc::{AllocError, Global};
 
 /// A declared protocol, its module, and whether that module's names are settled.
 #[derive(Clone, Copy, Drop)]
-pub struct Declared<'a> {
+pub struct Declaration<'a> {
     pub home: &'a ModuleTree,
     pub protocol: &'a ProtocolDeclaration,
     pub settled: bool,
@@ -27,7 +27,7 @@ pub struct Declared<'a> {
 pub fn all_declared<'a>(
     alloc: Global,
     modules: &'a Modules,
-) -> Result<Vec<Declared<'a>>, AllocError>
+) -> Result<Vec<Declaration<'a>>, AllocError>
     ensures all { IfOk result (λ ds. shown ds.items ≡ declarations modules.now) }
     ensures settled { IfOk result (λ ds. All IsSettledSo ds.items) }
 {
@@ -41,7 +41,7 @@ pub fn all_declared<'a>(
 }
 
 fn declare<'a>(
-    all: &mut Vec<Declared<'a>>,
+    all: &mut Vec<Declaration<'a>>,
     home: &'a ModuleTree,
     settled: bool,
 ) -> Result<(), AllocError>
@@ -51,7 +51,7 @@ fn declare<'a>(
     ensures settled { OnOk result (All IsSettledSo all.new.items) }
 {
     for protocol in home.protocols.as_slice() {
-        all.push(Declared {
+        all.push(Declaration {
             home,
             protocol,
             settled,
@@ -61,7 +61,7 @@ fn declare<'a>(
 }
 
 /// Where the protocol of this name in the module of this name stands among the declared ones.
-pub fn find(declared: &[Declared], home: &Dotted, name: &Name) -> Option<usize>
+pub fn find(declared: &[Declaration], home: &Dotted, name: &Name) -> Option<usize>
     ensures { MatchOption result
         (first_where (is_called home.now name.now) (shown declared.now) ≡ None)
         (IsFound (shown declared.now) (is_called home.now name.now)) }

@@ -5,7 +5,7 @@ ghost use Rattle.std.specs.Prelude.{◌≡◌, ◌<◌, ◌^◌, length, IsTrue}
 ghost use Rattle.scrib_modules.specs.Directory as spec;
 ghost use Rattle.scrib_modules.specs.Table.{shown, IsNamed};
 
-use crate::declared::{Declared, find};
+use crate::declared::{Declaration, find};
 use crate::directory::{Directory, empty, slot_of};
 use crate::names::same_name;
 use scrib_parser::tree::ModuleTree;
@@ -21,14 +21,14 @@ const SLOTS_EACH: usize = 32;
 impl Directory {
     ghost use Rattle.std.specs.Prelude.{◌≡◌, ◌++◌, List, None, IfOk, MatchOption};
     ghost use Rattle.scrib_modules.specs.Directory as spec;
-    ghost use Rattle.scrib_modules.specs.Names.{Declaration, declared_in, is_called, first_where};
+    ghost use Rattle.scrib_modules.specs.Names.{Declaration as PureDeclaration, declared_in, is_called, first_where};
     ghost use Rattle.scrib_modules.specs.Table.{shown, IsFound};
 
     /// The directory of these protocols.
     ///
     /// # Errors
     /// `AllocError` where memory was refused.
-    pub fn new(alloc: Global, declared: &[Declared]) -> Result<Directory, AllocError>
+    pub fn new(alloc: Global, declared: &[Declaration]) -> Result<Directory, AllocError>
         ensures { IfOk result (λ d. spec.IsFiled (shown declared.now) d.slots.items d.filed) }
     {
         let size = declared.len().min(MAX_FILED) * SLOTS_EACH + 1;
@@ -42,7 +42,7 @@ impl Directory {
 
     /// Files the protocols of one module more, after the others. There are no slots then if they would be crowded.
     pub fn add(&mut self, home: &ModuleTree)
-        ensures { (ds : List Declaration) → spec.IsFiled ds self.old.slots.items self.old.filed
+        ensures { (ds : List PureDeclaration) → spec.IsFiled ds self.old.slots.items self.old.filed
             → spec.IsFiled (ds ++ declared_in home.now home.now.protocols) self.new.slots.items self.new.filed }
     {
         let protocols = home.protocols.as_slice();
@@ -59,7 +59,7 @@ impl Directory {
 
     /// Where the protocol of this name in the module of this name stands among the declared ones, of which this is
     /// the directory.
-    pub fn find(&self, declared: &[Declared], home: &Dotted, name: &Name) -> Option<usize>
+    pub fn find(&self, declared: &[Declaration], home: &Dotted, name: &Name) -> Option<usize>
         requires { spec.IsDirectory (shown declared.now) self.now.slots.items }
         ensures { MatchOption result
             (first_where (is_called home.now name.now) (shown declared.now) ≡ None)
@@ -93,7 +93,7 @@ fn take_slot(slots: &mut Vec<Option<usize>>, place: usize, home: &Dotted, name: 
 }
 
 // Whether the declared protocol at this place has this name, in the module of this name.
-fn is_named(declared: &[Declared], place: usize, home: &Dotted, name: &Name) -> bool
+fn is_named(declared: &[Declaration], place: usize, home: &Dotted, name: &Name) -> bool
     ensures { IsTrue result → IsNamed (shown declared.now) place home.now name.now }
 {
     match declared.get(place) {

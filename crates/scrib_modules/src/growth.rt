@@ -21,7 +21,7 @@ pub struct Growth {
 
 impl Growth {
     ghost use Rattle.std.specs.Prelude.{◌≡◌, ◌+◌, min};
-    ghost use Rattle.scrib_modules.specs.Growth.{grown, IsPut, IsJoined};
+    ghost use Rattle.scrib_modules.specs.Growth.{grown, IsComposed, IsJoined};
 
     /// This growth, with each number at most 65,536.
     pub fn new(base: usize, times: usize) -> Growth
@@ -35,8 +35,8 @@ impl Growth {
     }
 
     /// The growth of what has this one, where what follows it has `inner`.
-    pub fn put(self, inner: Growth) -> Growth
-        ensures { IsPut 65536 (grown self) (grown inner) (grown result) }
+    pub fn compose(self, inner: Growth) -> Growth
+        ensures { IsComposed 65536 (grown self) (grown inner) (grown result) }
     {
         Growth::new(
             self.base + self.times * inner.base,
@@ -65,7 +65,7 @@ pub struct Rise {
 impl Rise {
     ghost use Rattle.std.specs.Prelude.{◌≡◌, ℕ, min, max};
     ghost use Rattle.std.specs.Option.{option_map};
-    ghost use Rattle.scrib_modules.specs.Growth.{passed, risen, IsPut, IsJoined};
+    ghost use Rattle.scrib_modules.specs.Growth.{passed, risen, IsComposed, IsJoined};
 
     /// This rise, with each number at most 4,096.
     pub fn new(deepest: usize, through: Option<usize>) -> Rise
@@ -79,8 +79,8 @@ impl Rise {
     }
 
     /// The rise of what has this one, where what follows it has `inner`.
-    pub fn put(self, inner: Rise) -> Rise
-        ensures { IsPut 4096 (risen self) (risen inner) (risen result) }
+    pub fn compose(self, inner: Rise) -> Rise
+        ensures { IsComposed 4096 (risen self) (risen inner) (risen result) }
     {
         let Some(through) = self.through else {
             return self;
@@ -133,7 +133,7 @@ pub struct Extent {
 
 impl Extent {
     ghost use Rattle.std.specs.Prelude.{◌⊎◌, ◌<◌, ◌≤◌, MatchBool};
-    ghost use Rattle.scrib_modules.specs.Growth.{risen, IsRow, IsEnd, ArePut, AreJoined};
+    ghost use Rattle.scrib_modules.specs.Growth.{risen, IsRow, IsEnd, AreComposed, AreJoined};
 
     /// So many nodes one under another, and then what follows.
     pub fn row(count: usize) -> Extent
@@ -156,12 +156,12 @@ impl Extent {
     }
 
     /// The extent of what has this one, where what follows it has `inner`.
-    pub fn put(self, inner: Extent) -> Extent
-        ensures { ArePut self inner result }
+    pub fn compose(self, inner: Extent) -> Extent
+        ensures { AreComposed self inner result }
     {
         Extent {
-            nodes: self.nodes.put(inner.nodes),
-            height: self.height.put(inner.height),
+            nodes: self.nodes.compose(inner.nodes),
+            height: self.height.compose(inner.height),
         }
     }
 

@@ -1,6 +1,8 @@
 //! Modules, the protocols that they declare, and the first two passes over one: names and statements, and sizes.
 #![tactic(auto)]
 
+pub mod block_shapes;
+pub mod checking;
 pub mod declared;
 pub mod directory;
 pub mod fault;
@@ -10,8 +12,6 @@ pub mod modules;
 pub mod names;
 mod own_names;
 pub mod shape;
-pub mod shapes;
 pub mod size;
 mod statements;
-pub mod stop;
 pub mod walk;

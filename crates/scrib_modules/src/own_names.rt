@@ -6,9 +6,9 @@ ghost use Rattle.scrib_types.specs.WellFormed.{has_role, distinct_roles};
 ghost use Rattle.scrib_modules.specs.Names.{HasOwnNames, has_name, distinct_names, is_settled, known_by, import_names, protocol_names, role_names};
 ghost use Rattle.scrib_modules.specs.Table.{IsImportAgain, IsProtocolAgain, FailsRoles, FailsNames};
 
+use crate::checking::BrokenRule;
 use crate::fault::FaultKind;
 use crate::names::{has_role, same_names};
-use crate::stop::BrokenRule;
 use scrib_parser::tree::{Import, ModuleTree, ProtocolDeclaration};
 use scrib_types::name::Name;
 use scrib_types::spot::Spot;

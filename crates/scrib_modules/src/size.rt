@@ -2,14 +2,14 @@
 
 ghost use Rattle.std.specs.Prelude.{◌≡◌, ◌||◌, MatchResult};
 ghost use Rattle.scrib_modules.specs.Source.{Body};
-ghost use Rattle.scrib_modules.specs.SourceView.{step_of, body_of, blocks_of};
+ghost use Rattle.scrib_modules.specs.SourceView.{statement_of, body_of, blocks_of};
 ghost use Rattle.scrib_modules.specs.Elaboration.{continues_in, continues_at, continues_some};
-ghost use Rattle.scrib_modules.specs.Table.{protocol_at, IsKnown, IsPartSomewhere, IsStepSomewhere, AreSomewhere, StopsAt};
-ghost use Rattle.scrib_modules.specs.Growth.{StepGrows, BlockGrows, BlocksGrow};
+ghost use Rattle.scrib_modules.specs.Table.{protocol_at, IsKnown, IsPartSomewhere, IsStatementSomewhere, AreSomewhere, StopsAt};
+ghost use Rattle.scrib_modules.specs.Growth.{StatementGrows, BlockGrows, BlocksGrow};
 
+use crate::checking::{CheckError, Place};
 use crate::growth::Extent;
 use crate::statements::check_call;
-use crate::stop::{Place, Stop};
 use scrib_parser::tree::{Block, Statement};
 use scrib_types::name::Name;
 
@@ -18,7 +18,7 @@ use scrib_types::name::Name;
 /// # Errors
 /// Those of the check of a call in it.
 #[cycle(sizes)]
-pub fn size_block(place: &Place, body: &[Statement]) -> Result<Extent, Stop>
+pub fn size_block(place: &Place, body: &[Statement]) -> Result<Extent, CheckError>
     requires known { IsKnown place.now }
     requires part { IsPartSomewhere (protocol_at place.now) (body_of body.now) }
     ensures { MatchResult result
@@ -28,17 +28,17 @@ pub fn size_block(place: &Place, body: &[Statement]) -> Result<Extent, Stop>
     let mut size = Extent::row(0);
     for statement in body {
         let step = size_statement(place, statement)?;
-        size = size.put(step);
+        size = size.compose(step);
     }
     Ok(size)
 }
 
 #[cycle(sizes)]
-fn size_statement(place: &Place, statement: &Statement) -> Result<Extent, Stop>
+fn size_statement(place: &Place, statement: &Statement) -> Result<Extent, CheckError>
     requires known { IsKnown place.now }
-    requires part { IsStepSomewhere (protocol_at place.now) (step_of statement.now) }
+    requires part { IsStatementSomewhere (protocol_at place.now) (statement_of statement.now) }
     ensures { MatchResult result
-        (StepGrows place.now.modules.now (protocol_at place.now) (step_of statement.now))
+        (StatementGrows place.now.modules.now (protocol_at place.now) (statement_of statement.now))
         (StopsAt place.now) }
 {
     match statement {
@@ -50,7 +50,7 @@ fn size_statement(place: &Place, statement: &Statement) -> Result<Extent, Stop>
         Statement::Rec { name, body, .. } => {
             let size = size_block(place, body.as_slice())?;
             if continues_in(name, body.as_slice()) {
-                Ok(Extent::row(1).put(size))
+                Ok(Extent::row(1).compose(size))
             } else {
                 Ok(size)
             }
@@ -68,7 +68,7 @@ fn size_statement(place: &Place, statement: &Statement) -> Result<Extent, Stop>
 }
 
 #[cycle(sizes)]
-fn size_branches(place: &Place, branches: &[Block]) -> Result<Extent, Stop>
+fn size_branches(place: &Place, branches: &[Block]) -> Result<Extent, CheckError>
     requires known { IsKnown place.now }
     requires part { AreSomewhere (protocol_at place.now) (blocks_of branches.now) }
     ensures { MatchResult result
@@ -100,7 +100,7 @@ pub fn continues_in(name: &Name, body: &[Statement]) -> bool
 #[cycle(continues)]
 #[tactic(auto, using(crate::specs::SourceView::statement_views))]
 fn continues_at(name: &Name, statement: &Statement) -> bool
-    ensures { result ≡ continues_at name.now (step_of statement.now) }
+    ensures { result ≡ continues_at name.now (statement_of statement.now) }
 {
     match statement {
         Statement::Message { .. } => false,

@@ -3,20 +3,18 @@
 ghost use Rattle.std.specs.Prelude.{◌≡◌, ℕ, List, ◌∷◌, slice_get, Some, true, false, IfOk, MatchResult};
 ghost use Rattle.scrib_types.specs.declared.message.Message.{Message};
 ghost use Rattle.scrib_types.specs.WellFormed.{has_role};
-ghost use Rattle.scrib_modules.specs.declared.stop.Stop.TheVariants.{Broken};
+ghost use Rattle.scrib_modules.specs.declared.checking.CheckError.TheVariants.{Broken};
 ghost use Rattle.scrib_modules.specs.Source.{Body, Then, Sends, Chooses, Continues, Calls};
-ghost use Rattle.scrib_types.specs.WellFormed.{has_role};
-ghost use Rattle.scrib_modules.specs.declared.stop.Stop.TheVariants.{Broken};
-ghost use Rattle.scrib_modules.specs.SourceView.{step_of, body_of, blocks_of};
+ghost use Rattle.scrib_modules.specs.SourceView.{statement_of, body_of, blocks_of};
 ghost use Rattle.scrib_modules.specs.Names.{Declaration, called};
-ghost use Rattle.scrib_modules.specs.Statements.{BlockKeeps, StepKeeps, BlocksKeep};
-ghost use Rattle.scrib_modules.specs.Faults.{HasStep, spot_of};
+ghost use Rattle.scrib_modules.specs.Statements.{BlockKeeps, StatementKeeps, BlocksKeep};
+ghost use Rattle.scrib_modules.specs.Faults.{HasStatement, spot_of};
 ghost use Rattle.scrib_modules.specs.Table.{shown, round_names, protocol_at, IsKnown, IsPart, AreParts, IsEntry, IsCallKept, StopsAt};
 
+use crate::checking::{BrokenRule, CheckError, Place, Round, State, Summary};
 use crate::declared::looked_in;
 use crate::fault::FaultKind;
 use crate::names::{are_different, are_roles, has_module, has_role, is_among};
-use crate::stop::{BrokenRule, Place, Round, State, Stop, Summary};
 use scrib_parser::tree::{Block, Statement};
 use scrib_types::name::{Dotted, Name, Role};
 use scrib_types::spot::Spot;
@@ -33,7 +31,7 @@ pub fn check_block<'a>(
     place: &Place,
     recs: &[Round<'a>],
     body: &'a [Statement],
-) -> Result<bool, Stop>
+) -> Result<bool, CheckError>
     requires known { IsKnown place.now }
     requires part { IsPart (protocol_at place.now) (round_names recs.now) (body_of body.now) }
     ensures { MatchResult result
@@ -56,11 +54,11 @@ fn check_statement<'a>(
     place: &Place,
     recs: &[Round<'a>],
     statement: &'a Statement,
-) -> Result<bool, Stop>
+) -> Result<bool, CheckError>
     requires known { IsKnown place.now }
-    requires part { (rest : Body) × IsPart (protocol_at place.now) (round_names recs.now) (Then (step_of statement.now) rest) }
+    requires part { (rest : Body) × IsPart (protocol_at place.now) (round_names recs.now) (Then (statement_of statement.now) rest) }
     ensures { MatchResult result
-        (StepKeeps place.now.modules.now (protocol_at place.now) (round_names recs.now) (step_of statement.now))
+        (StatementKeeps place.now.modules.now (protocol_at place.now) (round_names recs.now) (statement_of statement.now))
         (StopsAt place.now) }
 {
     match statement {
@@ -103,7 +101,7 @@ fn check_branches<'a>(
     place: &Place,
     recs: &[Round<'a>],
     branches: &'a [Block],
-) -> Result<bool, Stop>
+) -> Result<bool, CheckError>
     requires known { IsKnown place.now }
     requires part { AreParts (protocol_at place.now) (round_names recs.now) (blocks_of branches.now) }
     ensures { MatchResult result
@@ -119,10 +117,10 @@ fn check_branches<'a>(
 }
 
 // The rules of a message from this role to these.
-fn check_message(place: &Place, from: &Role, to: &[Role], spot: Spot) -> Result<(), Stop>
-    requires { (m : Message) × HasStep (protocol_at place.now) (Sends m from.now to.now spot) }
+fn check_message(place: &Place, from: &Role, to: &[Role], spot: Spot) -> Result<(), CheckError>
+    requires { (m : Message) × HasStatement (protocol_at place.now) (Sends m from.now to.now spot) }
     ensures { MatchResult result
-        (λ _. (recs : List (List ℕ)) (m : Message) → StepKeeps place.now.modules.now (protocol_at place.now) recs (Sends m from.now to.now spot) true)
+        (λ _. (recs : List (List ℕ)) (m : Message) → StatementKeeps place.now.modules.now (protocol_at place.now) recs (Sends m from.now to.now spot) true)
         (StopsAt place.now) }
 {
     let roles = place.at.protocol.roles.as_slice();
@@ -142,9 +140,14 @@ fn check_message(place: &Place, from: &Role, to: &[Role], spot: Spot) -> Result<
 ///
 /// # Errors
 /// `Broken` with the first rule that is broken, and `Call` where that protocol wasn't walked yet.
-pub fn check_call(place: &Place, path: &Dotted, roles: &[Role], spot: Spot) -> Result<Summary, Stop>
+pub fn check_call(
+    place: &Place,
+    path: &Dotted,
+    roles: &[Role],
+    spot: Spot,
+) -> Result<Summary, CheckError>
     requires known { IsKnown place.now }
-    requires stands { HasStep (protocol_at place.now) (Calls path.now roles.now spot) }
+    requires stands { HasStatement (protocol_at place.now) (Calls path.now roles.now spot) }
     ensures { MatchResult result
         (IsCallKept place.now path.now roles.now spot)
         (StopsAt place.now) }
@@ -163,14 +166,14 @@ pub fn check_call(place: &Place, path: &Dotted, roles: &[Role], spot: Spot) -> R
     match place.states[to] {
         State::Walked(summary) => Ok(summary),
         State::Walking => Err(broken(FaultKind::DoCycle, spot)),
-        State::Unwalked => Err(Stop::Call(to)),
+        State::Unwalked => Err(CheckError::Call(to)),
     }
 }
 
 // Where the protocol that a call names stands in the table.
-fn called(place: &Place, path: &Dotted, roles: &[Role], spot: Spot) -> Result<usize, Stop>
+fn called(place: &Place, path: &Dotted, roles: &[Role], spot: Spot) -> Result<usize, CheckError>
     requires known { IsKnown place.now }
-    requires stands { HasStep (protocol_at place.now) (Calls path.now roles.now spot) }
+    requires stands { HasStatement (protocol_at place.now) (Calls path.now roles.now spot) }
     ensures { MatchResult result
         (IsEntry place.now path.now)
         (StopsAt place.now) }
@@ -187,16 +190,16 @@ fn called(place: &Place, path: &Dotted, roles: &[Role], spot: Spot) -> Result<us
     }
 }
 
-fn broken(kind: FaultKind, spot: Spot) -> Stop
+fn broken(kind: FaultKind, spot: Spot) -> CheckError
     ensures { result ≡ Broken (record { kind = kind; spot = spot }) }
 {
-    Stop::Broken(BrokenRule { kind, spot })
+    CheckError::Broken(BrokenRule { kind, spot })
 }
 
 // The place of the statement's first byte.
 #[tactic(auto, using(crate::proofs::Spots::spots_of))]
 fn spot_of(statement: &Statement) -> Spot
-    ensures { result ≡ spot_of (step_of statement.now) }
+    ensures { result ≡ spot_of (statement_of statement.now) }
 {
     match statement {
         Statement::Message { spot, .. } => *spot,

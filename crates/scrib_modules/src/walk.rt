@@ -8,14 +8,14 @@ ghost use Rattle.scrib_modules.specs.Table.{shown, IsSettledSo};
 ghost use Rattle.scrib_modules.specs.Walking.{AreUnwalked, IsEntered, EnterFails, IsFaultIn, IsReady, TopKeeps, TopStops, WasWalked, IsIdle, IsSmall, WalkFails};
 ghost use Rattle.scrib_parser.specs.declared.tree.ModuleTree.{ModuleTree};
 
-use crate::declared::Declared;
+use crate::block_shapes::shape_block;
+use crate::checking::{BrokenRule, CheckError, Place, State, Summary};
+use crate::declared::Declaration;
 use crate::directory::Directory;
 use crate::fault::{ElaborateFault, Fault, FaultKind};
 use crate::own_names::check_own_names;
-use crate::shapes::shape_block;
 use crate::size::size_block;
 use crate::statements::check_block;
-use crate::stop::{BrokenRule, Place, State, Stop, Summary};
 use scrib_parser::tree::ModuleTree;
 use std::alloc::{AllocError, Global};
 
@@ -29,7 +29,7 @@ use std::alloc::{AllocError, Global};
 pub fn walk<'a>(
     alloc: Global,
     modules: &'a [ModuleTree],
-    declared: &'a [Declared<'a>],
+    declared: &'a [Declaration<'a>],
     directory: &'a Directory,
     root: usize,
     states: &mut Vec<State>,
@@ -59,7 +59,7 @@ pub fn walk<'a>(
 fn walk_from<'a>(
     alloc: Global,
     modules: &'a [ModuleTree],
-    declared: &'a [Declared<'a>],
+    declared: &'a [Declaration<'a>],
     directory: &'a Directory,
     root: usize,
     states: &mut Vec<State>,
@@ -84,16 +84,16 @@ fn walk_from<'a>(
                 walked.push(top)?;
                 states[top] = State::Walked(summary);
             }
-            Err(Stop::Call(to)) => {
+            Err(CheckError::Call(to)) => {
                 let next = declared[to];
                 stack.push(top)?;
                 enter(alloc, next, to, states, &mut stack)?;
             }
-            Err(Stop::Broken(rule)) => {
+            Err(CheckError::Broken(rule)) => {
                 let at = declared[top];
                 return Err(fault_in(alloc, at.home, rule));
             }
-            Err(Stop::OutOfMemory) => return Err(ElaborateFault::OutOfMemory),
+            Err(CheckError::OutOfMemory) => return Err(ElaborateFault::OutOfMemory),
         }
     }
     Ok(())
@@ -115,7 +115,7 @@ fn forget(states: &mut [State])
 /// `Broken` with `TooLarge` and the place of the protocol; `OutOfMemory` where memory was refused.
 pub fn check_size(
     alloc: Global,
-    declared: &[Declared],
+    declared: &[Declaration],
     states: &[State],
     root: usize,
 ) -> Result<usize, ElaborateFault>
@@ -146,11 +146,11 @@ pub fn check_size(
 fn check<'a>(
     alloc: Global,
     modules: &'a [ModuleTree],
-    declared: &'a [Declared<'a>],
+    declared: &'a [Declaration<'a>],
     directory: &'a Directory,
     states: &'a [State],
     top: usize,
-) -> Result<Summary, Stop>
+) -> Result<Summary, CheckError>
     requires ready { IsReady modules.now declared.now states.now top }
     requires filed { IsDirectory (shown declared.now) directory.now.slots.items }
     requires there { top < length declared.now }
@@ -175,7 +175,7 @@ fn check<'a>(
 // Enters a protocol, whose names are checked first.
 fn enter(
     alloc: Global,
-    declared: Declared,
+    declared: Declaration,
     to: usize,
     states: &mut Vec<State>,
     stack: &mut Vec<usize>,
@@ -186,7 +186,7 @@ fn enter(
     ensures ok { OnOk result (IsEntered declared.entry.home.now declared.entry.protocol.now to states.old.items states.new.items stack.old.items stack.new.items) }
     ensures fault { IfErr result (EnterFails declared.entry.home.now declared.entry.protocol.now) }
 {
-    let Declared {
+    let Declaration {
         home,
         protocol,
         settled,

@@ -9,7 +9,7 @@ use Rattle.scrib_types.specs.Trees.{GlobalTree, Comm, GlobalBranches}
 use Rattle.scrib_types.specs.LocalView.{local_of}
 use Rattle.scrib_types.specs.Projection.{projection, branch_projections}
 use Rattle.scrib_parser.specs.declared.tree.ModuleTree.{ModuleTree}
-use Rattle.scrib_elaborate.specs.declared.elaborated.Join.{Join}
+use Rattle.scrib_elaborate.specs.declared.elaborated.ChoiceSite.{ChoiceSite}
 use Rattle.scrib_modules.specs.Names.{Declaration, find_protocol}
 use Rattle.scrib_modules.specs.Elaboration.{start_of}
 use Rattle.scrib_elaborate.specs.Sites.{several, IsSite}
@@ -26,10 +26,10 @@ pub record IsUnmergeable (profile : Profile) (g : GlobalTree) (r : List ℕ) (u 
   pub first : ℕ
   pub differs : first_difference profile r g ≡ Some first
 
--- the place is the join's that has the number of the first difference, if there is such a join
-abbrev pub IsAtJoin : Profile → List Join → GlobalTree → Unmergeable → Type 0
-IsAtJoin profile joins g u =
-    (k : ℕ) (j : Join) → first_difference profile u.role g ≡ Some k → slice_get joins k ≡ Some j → (u.module ≡ j.module) × (u.spot ≡ j.spot)
+-- the place is the site's that has the number of the first difference, if there is such a site
+abbrev pub IsAtSite : Profile → List ChoiceSite → GlobalTree → Unmergeable → Type 0
+IsAtSite profile sites g u =
+    (k : ℕ) (j : ChoiceSite) → first_difference profile u.role g ≡ Some k → slice_get sites k ≡ Some j → (u.module ≡ j.module) × (u.spot ≡ j.spot)
 
 -- the projection, or that there is none, unless memory was refused
 abbrev pub Projects : Profile → GlobalTree → List ℕ → Result Local ProjectFault → Type 0
@@ -38,9 +38,9 @@ Projects profile g r (Err (fault.Unmergeable u)) = IsUnmergeable profile g r u
 Projects profile g r (Err fault.OutOfMemory) = Unit {0}
 
 -- so it is of the place
-abbrev pub IsOfJoin : Profile → List Join → GlobalTree → ProjectFault → Type 0
-IsOfJoin profile joins g (fault.Unmergeable u) = IsAtJoin profile joins g u
-IsOfJoin profile joins g fault.OutOfMemory = Unit {0}
+abbrev pub IsOfSite : Profile → List ChoiceSite → GlobalTree → ProjectFault → Type 0
+IsOfSite profile sites g (fault.Unmergeable u) = IsAtSite profile sites g u
+IsOfSite profile sites g fault.OutOfMemory = Unit {0}
 
 -- At the place stands a choice that the type of the protocol of this name, in the module of this name, is made of.
 -- Its own type is the communication of the first difference: one of two other roles, whose branches all have a
@@ -81,7 +81,7 @@ abbrev pub AgreesWithProjections : Profile → Agreement → Result ProjectedPro
 AgreesWithProjections profile a (Ok p) = Agrees profile a (Ok p.protocol)
 AgreesWithProjections profile a (Err f) = Agrees profile a (Err f)
 
--- the fault is the role's, at the join's place, if there is a join
-pub record IsFaultOf (r : List ℕ) (join : Option Join) (u : Unmergeable) : Type 0 where
+-- the fault is the role's, at the site's place, if there is a site
+pub record IsFaultOf (r : List ℕ) (site : Option ChoiceSite) (u : Unmergeable) : Type 0 where
   pub role : u.role ≡ r
-  pub place : (j : Join) → join ≡ Some j → (u.module ≡ j.module) × (u.spot ≡ j.spot)
+  pub place : (j : ChoiceSite) → site ≡ Some j → (u.module ≡ j.module) × (u.spot ≡ j.spot)

@@ -6,10 +6,10 @@ ghost use Rattle.scrib_parser.specs.declared.tree.ModuleTree.{ModuleTree};
 ghost use Rattle.scrib_elaborate.specs.Meaning.{meaning_of};
 ghost use Rattle.scrib_elaborate.specs.Sites.{AreSites};
 ghost use Rattle.scrib_local.specs.Surveys.{capped};
-ghost use Rattle.scrib_project.specs.Faults.{Projects, IsOfJoin, IsFaultPlaced, IsFaultOf};
+ghost use Rattle.scrib_project.specs.Faults.{Projects, IsOfSite, IsFaultPlaced, IsFaultOf};
 
 use crate::fault::{ProjectFault, Unmergeable};
-use scrib_elaborate::elaborated::{Elaborated, Join};
+use scrib_elaborate::elaborated::{ChoiceSite, Elaborated};
 use scrib_local::look::look;
 use scrib_types::local::Local;
 use scrib_types::name::{Dotted, Role};
@@ -33,53 +33,57 @@ pub fn project(
         → AreSites modules home name elaborated.now
         → IfErr result (IsFaultPlaced profile modules home name (meaning_of elaborated.now).global) }
 {
-    project_among(alloc, elaborated, elaborated.joins(), role, profile)
+    project_among(alloc, elaborated, elaborated.sites(), role, profile)
 }
 
-/// What the role does in the protocol, whose communications with several branches come from these joins.
+/// What the role does in the protocol, whose communications with several branches come from these sites.
 fn project_among(
     alloc: Global,
     elaborated: &Elaborated,
-    joins: &[Join],
+    sites: &[ChoiceSite],
     role: &Role,
     profile: Profile,
 ) -> Result<Local, ProjectFault>
     ensures value { Projects profile (meaning_of elaborated.now).global role.now result }
-    ensures place { IfErr result (IsOfJoin profile joins.now (meaning_of elaborated.now).global) }
+    ensures place { IfErr result (IsOfSite profile sites.now (meaning_of elaborated.now).global) }
 {
     let sight = look(alloc, elaborated.global(), role, profile)?;
     match sight.local {
         Some(local) => Ok(local),
         None => {
-            let join = join_at(joins, sight.survey.first);
-            let fault = unmergeable(alloc, role, join)?;
+            let site = site_at(sites, sight.survey.first);
+            let fault = unmergeable(alloc, role, site)?;
             Err(ProjectFault::Unmergeable(fault))
         }
     }
 }
 
-/// The join with this number, which is capped where no join has it.
-fn join_at(joins: &[Join], number: Option<usize>) -> Option<&Join>
-    ensures { (n : Option ℕ) → number ≡ option_map capped n → option_copied result ≡ option_and_then (slice_get joins.now) n }
+/// The site with this number, which is capped where no site has it.
+fn site_at(sites: &[ChoiceSite], number: Option<usize>) -> Option<&ChoiceSite>
+    ensures { (n : Option ℕ) → number ≡ option_map capped n → option_copied result ≡ option_and_then (slice_get sites.now) n }
 {
     let number = number?;
-    let count = joins.len();
+    let count = sites.len();
     if number >= count {
         return None;
     }
-    Some(&joins[number])
+    Some(&sites[number])
 }
 
-/// The fault that the join's choice differs for the role. Without a join it is at 0:0 in a module that has the
+/// The fault that the choice at the site differs for the role. Without a site it is at 0:0 in a module that has the
 /// role's name.
-fn unmergeable(alloc: Global, role: &Role, join: Option<&Join>) -> Result<Unmergeable, AllocError>
-    ensures { IfOk result (λ u. IsFaultOf role.now (option_copied join.entry) u) }
+fn unmergeable(
+    alloc: Global,
+    role: &Role,
+    site: Option<&ChoiceSite>,
+) -> Result<Unmergeable, AllocError>
+    ensures { IfOk result (λ u. IsFaultOf role.now (option_copied site.entry) u) }
 {
-    match join {
-        Some(join) => Ok(Unmergeable {
+    match site {
+        Some(site) => Ok(Unmergeable {
             role: role.copy()?,
-            module: join.module.copy()?,
-            spot: join.spot,
+            module: site.module.copy()?,
+            spot: site.spot,
         }),
         None => {
             let mut names = Vec::new(alloc);

@@ -10,18 +10,18 @@ use Rattle.scrib_modules.specs.Elaboration.{and_branches}
 use Rattle.scrib_modules.specs.Faults.{share_operator}
 use Rattle.scrib_typed.specs.declared.built.Typed.{Typed}
 use Rattle.scrib_typed.specs.declared.built.Origin.{Origin}
-use Rattle.scrib_typed.specs.declared.untyped.Untyped.{Untyped}
-use Rattle.scrib_typed.specs.declared.untyped.Untyped.TheVariants.{Broken, OutOfMemory}
+use Rattle.scrib_typed.specs.declared.build_error.BuildError.{BuildError}
+use Rattle.scrib_typed.specs.declared.build_error.BuildError.TheVariants.{Broken, OutOfMemory}
 use Rattle.scrib_typed.specs.Typed.{type_of}
 
 -- the body begins with a communication, after recursions, and this is the type of its recursion
 pub record IsClosed (body t : Typed) : Type 0 where
   pub guarded : leads_to_communication (type_of body) ≡ true
   pub global : type_of t ≡ GlobalRec (type_of body)
-  pub joins : t.joins.items ≡ body.joins.items
+  pub origins : t.origins.items ≡ body.origins.items
 
 -- the body doesn't, which is told at this place, unless memory was refused
-abbrev pub IsUnguarded : ModuleTree → Spot → (body : GlobalTree) → Untyped → Type 0
+abbrev pub IsUnguarded : ModuleTree → Spot → (body : GlobalTree) → BuildError → Type 0
 IsUnguarded home spot g (Broken h b) =
     (h.now ≡ home) × (b.spot ≡ spot) × (b.kind ≡ kind.Unguarded) × (leads_to_communication g ≡ false)
 IsUnguarded home spot g OutOfMemory = Unit {0}
@@ -60,7 +60,7 @@ HeadFails kind.SameOperator chooser receiver earlier g =
 HeadFails other chooser receiver earlier g = ⊥
 
 -- the fault is told at this place, unless memory was refused
-abbrev pub IsHeadFault : ModuleTree → Spot → (chooser : List ℕ) → (receiver : Option (List ℕ)) → (earlier : GlobalBranches) → GlobalTree → Untyped → Type 0
+abbrev pub IsHeadFault : ModuleTree → Spot → (chooser : List ℕ) → (receiver : Option (List ℕ)) → (earlier : GlobalBranches) → GlobalTree → BuildError → Type 0
 IsHeadFault home spot chooser receiver earlier g (Broken h b) =
     (h.now ≡ home) × (b.spot ≡ spot) × HeadFails b.kind chooser receiver earlier g
 IsHeadFault home spot chooser receiver earlier g OutOfMemory = Unit {0}

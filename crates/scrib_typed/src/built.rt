@@ -11,9 +11,9 @@ ghost use Rattle.scrib_typed.specs.Renaming.{renamed, named};
 ghost use Rattle.scrib_typed.specs.Typed.{type_of, none_told, retold};
 ghost use Rattle.scrib_typed.specs.Rules.{IsClosed, IsUnguarded};
 
+use crate::build_error::{BuildError, Refused, broken};
 use crate::lift::lifted;
 use crate::renamed::renamed;
-use crate::untyped::{Refused, Untyped, broken};
 use scrib_modules::fault::FaultKind;
 use scrib_parser::tree::{ModuleTree, RoleDeclaration};
 use scrib_types::global::GlobalType;
@@ -35,7 +35,7 @@ pub struct Origin<'a> {
 #[derive(Drop)]
 pub struct Typed<'a> {
     pub global: GlobalType,
-    pub joins: Vec<Option<Origin<'a>>>,
+    pub origins: Vec<Option<Origin<'a>>>,
 }
 
 impl<'a> Typed<'a> {
@@ -43,11 +43,11 @@ impl<'a> Typed<'a> {
     #[tactic(auto, using(scrib_types::specs::GlobalView::global_views))]
     pub fn end(alloc: Global) -> Typed<'a>
         ensures global { type_of result ≡ GlobalEnd }
-        ensures joins { result.joins.items ≡ [] }
+        ensures origins { result.origins.items ≡ [] }
     {
         Typed {
             global: GlobalType::End,
-            joins: Vec::new(alloc),
+            origins: Vec::new(alloc),
         }
     }
 
@@ -55,11 +55,11 @@ impl<'a> Typed<'a> {
     #[tactic(auto, using(scrib_types::specs::GlobalView::global_views))]
     pub fn variable(alloc: Global, index: u32) -> Typed<'a>
         ensures global { type_of result ≡ GlobalVar index }
-        ensures joins { result.joins.items ≡ [] }
+        ensures origins { result.origins.items ≡ [] }
     {
         Typed {
             global: GlobalType::Var(index),
-            joins: Vec::new(alloc),
+            origins: Vec::new(alloc),
         }
     }
 
@@ -69,11 +69,11 @@ impl<'a> Typed<'a> {
     /// `AllocError` where memory was refused.
     pub fn copy(&self, alloc: Global) -> Result<Typed<'a>, AllocError>
         ensures global { IfOk result (λ t. type_of t ≡ type_of self.now) }
-        ensures joins { IfOk result (λ t. t.joins.items ≡ self.now.joins.items) }
+        ensures origins { IfOk result (λ t. t.origins.items ≡ self.now.origins.items) }
     {
         let global = GlobalType::copy(alloc, &self.global)?;
-        let joins = Vec::from_slice(alloc, &self.joins)?;
-        Ok(Typed { global, joins })
+        let origins = Vec::from_slice(alloc, &self.origins)?;
+        Ok(Typed { global, origins })
     }
 
     /// The type under one recursion more.
@@ -82,11 +82,11 @@ impl<'a> Typed<'a> {
     /// `Refused` where memory was refused.
     pub fn lifted(&self, alloc: Global) -> Result<Typed<'a>, Refused>
         ensures global { IfOk result (λ t. type_of t ≡ lifted 0 (type_of self.now)) }
-        ensures joins { IfOk result (λ t. t.joins.items ≡ self.now.joins.items) }
+        ensures origins { IfOk result (λ t. t.origins.items ≡ self.now.origins.items) }
     {
         let global = lifted(alloc, &self.global, 0)?;
-        let joins = Vec::from_slice(alloc, &self.joins)?;
-        Ok(Typed { global, joins })
+        let origins = Vec::from_slice(alloc, &self.origins)?;
+        Ok(Typed { global, origins })
     }
 
     /// The type with the role that is given for each declared one in its place.
@@ -100,11 +100,11 @@ impl<'a> Typed<'a> {
         given: &[&Role],
     ) -> Result<Typed<'a>, AllocError>
         ensures global { IfOk result (λ t. type_of t ≡ renamed (given_for (role_names declared.now) (named given.now)) (type_of self.now)) }
-        ensures joins { IfOk result (λ t. t.joins.items ≡ self.now.joins.items) }
+        ensures origins { IfOk result (λ t. t.origins.items ≡ self.now.origins.items) }
     {
         let global = renamed(alloc, declared, given, &self.global)?;
-        let joins = Vec::from_slice(alloc, &self.joins)?;
-        Ok(Typed { global, joins })
+        let origins = Vec::from_slice(alloc, &self.origins)?;
+        Ok(Typed { global, origins })
     }
 
     /// The recursion here, whose body has this type.
@@ -118,30 +118,33 @@ impl<'a> Typed<'a> {
         alloc: Global,
         home: &'a ModuleTree,
         spot: Spot,
-    ) -> Result<Typed<'a>, Untyped<'a>>
+    ) -> Result<Typed<'a>, BuildError<'a>>
         ensures { MatchResult result (IsClosed self.entry) (IsUnguarded home.now spot (type_of self.entry)) }
     {
         if !leads_to_communication(&self.global) {
             return Err(broken(home, FaultKind::Unguarded, spot));
         }
-        let Typed { global, joins } = self;
+        let Typed { global, origins } = self;
         let global = GlobalType::Rec(Boxed::new(alloc, global)?);
-        Ok(Typed { global, joins })
+        Ok(Typed { global, origins })
     }
 
     /// The same type, of which the communication in front, if it has several branches, comes from this choice.
     pub fn joined_at(self, origin: Origin<'a>) -> Typed<'a>
         ensures global { type_of result ≡ type_of self.entry }
-        ensures joins { result.joins.items ≡ retold origin.entry self.entry.joins.items }
+        ensures origins { result.origins.items ≡ retold origin.entry self.entry.origins.items }
     {
-        let Typed { global, mut joins } = self;
-        if !joins.is_empty() {
-            let front = joins.len() - 1;
-            if joins[front].is_some() {
-                joins[front] = Some(origin);
+        let Typed {
+            global,
+            mut origins,
+        } = self;
+        if !origins.is_empty() {
+            let front = origins.len() - 1;
+            if origins[front].is_some() {
+                origins[front] = Some(origin);
             }
         }
-        Typed { global, joins }
+        Typed { global, origins }
     }
 
     /// One message, and then what has this type.
@@ -156,12 +159,15 @@ impl<'a> Typed<'a> {
         to: &Role,
     ) -> Result<Typed<'a>, AllocError>
         ensures global { IfOk result (λ t. type_of t ≡ sent message.now from.now (to.now ∷ []) (type_of self.entry)) }
-        ensures joins { IfOk result (λ t. t.joins.items ≡ none_told (to.now ∷ []) self.entry.joins.items) }
+        ensures origins { IfOk result (λ t. t.origins.items ≡ none_told (to.now ∷ []) self.entry.origins.items) }
     {
-        let Typed { global, mut joins } = self;
+        let Typed {
+            global,
+            mut origins,
+        } = self;
         let global = communication(alloc, message, from, to, global)?;
-        joins.push(None)?;
-        Ok(Typed { global, joins })
+        origins.push(None)?;
+        Ok(Typed { global, origins })
     }
 }
 

@@ -7,9 +7,9 @@ ghost use Rattle.scrib_typed.specs.Operators.{AreFiled};
 ghost use Rattle.scrib_typed.specs.Typed.{type_of};
 ghost use Rattle.scrib_typed.specs.Rules.{AddsOrigins, IsFirst, IsAdded, IsHeadFault};
 
+use crate::build_error::{BuildError, broken};
 use crate::built::{Origin, Typed};
 use crate::operators::Operators;
-use crate::untyped::{Untyped, broken};
 use scrib_modules::fault::FaultKind;
 use scrib_parser::tree::ModuleTree;
 use scrib_types::global::GlobalType;
@@ -25,7 +25,7 @@ pub struct Heads<'a> {
     pub receiver: Option<Role>,
     pub branches: Items<(SharedMessage, GlobalType)>,
     pub operators: Operators,
-    pub joins: Vec<Option<Origin<'a>>>,
+    pub origins: Vec<Option<Origin<'a>>>,
 }
 
 /// Adds the next block, which stands here and has this type.
@@ -40,14 +40,17 @@ pub fn add<'a>(
     spot: Spot,
     so_far: &mut Heads<'a>,
     typed: Typed<'a>,
-) -> Result<(), Untyped<'a>>
+) -> Result<(), BuildError<'a>>
     requires { AreFiled so_far.old.branches so_far.old.operators.latest.items so_far.old.operators.earlier.items }
     ensures ok { OnOk result (IsAdded chooser.now so_far.old.receiver so_far.new.receiver (global_branches so_far.old.branches) (global_branches so_far.new.branches) (type_of typed.entry)) }
     ensures filed { OnOk result (AreFiled so_far.new.branches so_far.new.operators.latest.items so_far.new.operators.earlier.items) }
-    ensures joins { OnOk result (AddsOrigins so_far.old.joins.items so_far.new.joins.items typed.entry.joins.items) }
+    ensures origins { OnOk result (AddsOrigins so_far.old.origins.items so_far.new.origins.items typed.entry.origins.items) }
     ensures fault { IfErr result (IsHeadFault home.now spot chooser.now so_far.old.receiver (global_branches so_far.old.branches) (type_of typed.entry)) }
 {
-    let Typed { global, mut joins } = typed;
+    let Typed {
+        global,
+        mut origins,
+    } = typed;
     match global {
         GlobalType::End => Err(broken(home, FaultKind::EmptyBranch, spot)),
         GlobalType::Var(_) => Err(broken(home, FaultKind::ContinueHead, spot)),
@@ -66,8 +69,8 @@ pub fn add<'a>(
             so_far.operators.file(so_far.branches.as_slice())?;
             so_far.receiver = Some(to);
             // The communication itself is told again for the whole choice.
-            joins.pop();
-            so_far.joins.append(&mut joins)?;
+            origins.pop();
+            so_far.origins.append(&mut origins)?;
             Ok(())
         }
     }

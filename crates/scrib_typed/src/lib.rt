@@ -2,9 +2,9 @@
 //! blocks of a choice do.
 #![tactic(auto)]
 
+pub mod build_error;
 pub mod built;
 pub mod heads;
 mod lift;
 pub mod operators;
 pub mod renamed;
-pub mod untyped;

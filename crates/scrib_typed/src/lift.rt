@@ -4,7 +4,7 @@ ghost use Rattle.std.specs.Prelude.{◌≡◌, IfOk};
 ghost use Rattle.scrib_types.specs.GlobalView.{global_of, global_branches};
 ghost use Rattle.scrib_typed.specs.Lifting.{lifted, branches_lifted};
 
-use crate::untyped::{Refused, next};
+use crate::build_error::{Refused, next};
 use scrib_types::global::GlobalType;
 use scrib_types::plain::{Boxed, Items};
 use scrib_types::shared_message::SharedMessage;

@@ -8,7 +8,7 @@ use Rattle.scrib_elaborate.specs.declared.tasks.Choosing.{Choosing}
 use Rattle.scrib_modules.specs.Source.{Then, Chooses}
 use Rattle.scrib_modules.specs.SourceView.{blocks_of}
 use Rattle.scrib_modules.specs.Elaboration.{Under}
-use Rattle.scrib_elaborate.specs.Standing.{scope_of}
+use Rattle.scrib_elaborate.specs.Scope.{scope_of}
 use Rattle.scrib_elaborate.specs.Typing.{made_of, IsChoosing}
 use Rattle.scrib_elaborate.proofs.Ahead.{stack_ahead, stops_ahead}
 use Rattle.scrib_elaborate.proofs.Joined.{block_typed, next_block, none_left, one_left}
@@ -29,8 +29,8 @@ returns-in_default c = λ modules root s.
     let x = block_typed modules root (reverse old) choosing types c.args.typed c.in_ok-push.ensures.items s in
     let long : c.len.result ≡ length types = omega (arith, c.push.new.self.ok.0) in
     let y = c.joined.ensures modules root (reverse old) choosing.follows x (none_left choosing.branches.now types c.at-next.result choosing.follows _ c.len.result (sym c.zip.ensures ∙ c.in_default.is) c.at-next.ensures long x.few x.after) in
-    let sc = scope_of choosing.standing in
-    let ahead = stack_ahead modules root old choosing.standing.depth (Under sc (Then (Chooses choosing.chooser.now (blocks_of choosing.branches.now) choosing.spot) x.rest) x.outer) x.path in
+    let sc = scope_of choosing.scope in
+    let ahead = stack_ahead modules root old choosing.scope.depth (Under sc (Then (Chooses choosing.chooser.now (blocks_of choosing.branches.now) choosing.spot) x.rest) x.outer) x.path in
     MatchResult-weaker c.joined.result y (λ t v. v) (λ e f. stops_ahead modules root old e f ahead)
 
 pub returns : goal.returns
@@ -41,7 +41,7 @@ returns c = λ modules root s.
     let branches = choosing.branches.now in
     let types = c.push.new.self.items in
     let next : Choosing = record {
-      standing = choosing.standing;
+      scope = choosing.scope;
       chooser = choosing.chooser;
       branches = choosing.branches;
       spot = choosing.spot;
@@ -50,7 +50,7 @@ returns c = λ modules root s.
     } in
     let x = block_typed modules root (reverse old) choosing types c.args.typed c.in_ok-push.ensures.items s in
     let n = one_left c.at-next.result choosing.follows c.in-Some.next c.in-Some.follows (sym c.zip.ensures ∙ c.in-Some.is) in
-    let P : Option Typed → Type 0 = λ f. IsChoosing modules root (reverse old) (scope_of choosing.standing) choosing.standing.depth choosing.chooser.now branches choosing.spot f types in
+    let P : Option Typed → Type 0 = λ f. IsChoosing modules root (reverse old) (scope_of choosing.scope) choosing.scope.depth choosing.chooser.now branches choosing.spot f types in
     let y = subst P n.1 x in
     let long : c.len.result ≡ length types = omega (arith, c.push.new.self.ok.0) in
     let there : slice_get branches (length types) ≡ Some c.in-Some.next.now = ap (slice_get branches) (sym long) ∙ sym c.at-next.ensures ∙ ap option_copied n.0 in

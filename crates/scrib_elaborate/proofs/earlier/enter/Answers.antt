@@ -6,8 +6,8 @@ use Rattle.scrib_elaborate.proofs.earlier.enter.Goals as goal
 pub returns-then-continues_in : goal.returns-then-continues_in
 returns-then-continues_in c = λ modules root spot rest a old.
     let inside = c.in_ok-inside.inside in
-    more_ahead modules root c.args.ahead.now.items c.push.new.self.items (Front inside c.args.body) c.in_ok-push.ensures.items old (repeats_ahead modules root c.args.standing inside c.args.body c.args.name.now spot rest (sym c.continues_in.ensures ∙ c.if-continues_in.true) c.in_ok-inside.ensures a)
+    more_ahead modules root c.args.ahead.now.items c.push.new.self.items (Front inside c.args.body) c.in_ok-push.ensures.items old (repeats_ahead modules root c.args.scope inside c.args.body c.args.name.now spot rest (sym c.continues_in.ensures ∙ c.if-continues_in.true) c.in_ok-inside.ensures a)
 
 pub returns : goal.returns
 returns c = λ modules root spot rest a old.
-    more_ahead modules root c.args.ahead.now.items c.push-2.new.self.items (Front c.args.standing c.args.body) c.in_ok-push-2.ensures.items old (passes_ahead modules root c.args.standing c.args.body c.args.name.now spot rest (sym c.continues_in.ensures ∙ c.if-continues_in.false) a)
+    more_ahead modules root c.args.ahead.now.items c.push-2.new.self.items (Front c.args.scope c.args.body) c.in_ok-push-2.ensures.items old (passes_ahead modules root c.args.scope c.args.body c.args.name.now spot rest (sym c.continues_in.ensures ∙ c.if-continues_in.false) a)

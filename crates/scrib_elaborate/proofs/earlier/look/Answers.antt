@@ -11,11 +11,11 @@ returns c = λ root e kept a old.
     let ms = c.args.program.now.modules.now in
     let m = c.in-Front in
     let here = subst (IsTaskAhead ms root) m.is a in
-    let first = first_ahead ms root m.standing m.statements c.in-Some.rest c.in-Some.first.now c.in-Some.ensures.cases.0 here in
+    let first = first_ahead ms root m.scope m.statements c.in-Some.rest c.in-Some.first.now c.in-Some.ensures.cases.0 here in
     let more : AreAhead ms root c.if-not-is_empty.ahead.items =
     elim c.if-not-is_empty.branch [
       | then-not-is_empty+in_ok-again+in_ok-push w ↦ let some : 0 < length c.in-Some.rest.now = grind (arith, nat_tests, c.is_empty.ensures, w.if-not-is_empty.true) in
-          rw w.ahead-is (more_ahead ms root c.args.ahead.now.items w.push.new.self.items (Front w.in_ok-again.again c.in-Some.rest) w.in_ok-push.ensures.items old (rest_ahead ms root e m.standing w.in_ok-again.again m.statements c.in-Some.rest c.in-Some.first.now kept c.in-Some.ensures.cases.0 some w.in_ok-again.ensures here))
+          rw w.ahead-is (more_ahead ms root c.args.ahead.now.items w.push.new.self.items (Front w.in_ok-again.again c.in-Some.rest) w.in_ok-push.ensures.items old (rest_ahead ms root e m.scope w.in_ok-again.again m.statements c.in-Some.rest c.in-Some.first.now kept c.in-Some.ensures.cases.0 some w.in_ok-again.ensures here))
       | else-not-is_empty w ↦ rw w.ahead-is old
     ] in
     c.look_into.ensures root e first.0 kept first.1 more

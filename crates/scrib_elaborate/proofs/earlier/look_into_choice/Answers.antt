@@ -12,13 +12,13 @@ pub returns-then-has_exit : goal.returns-then-has_exit
 returns-then-has_exit c = λ root e chooser spot rest kept a old.
     let ms = c.args.program.now.modules.now in
     let here = subst (AreAhead ms root) (sym c.loop-branch.invariant) old in
-    more_ahead ms root c.loop-branch.ahead.items c.push.new.self.items (Front c.in_ok-inside.inside c.as_slice-body.result) c.in_ok-push.ensures.items here (choice_ahead ms root c.args.standing.now c.in_ok-inside.inside c.as_slice-body.result chooser c.args.branches.now spot rest c.loop-branch.branch-index c.branch-item.result c.loop-branch-test.true c.branch-item.is c.in_ok-inside.ensures c.as_slice-body.ensures a)
+    more_ahead ms root c.loop-branch.ahead.items c.push.new.self.items (Front c.in_ok-inside.inside c.as_slice-body.result) c.in_ok-push.ensures.items here (choice_ahead ms root c.args.scope.now c.in_ok-inside.inside c.as_slice-body.result chooser c.args.branches.now spot rest c.loop-branch.branch-index c.branch-item.result c.loop-branch-test.true c.branch-item.is c.in_ok-inside.ensures c.as_slice-body.ensures a)
 
 pub returns-in_err-try_alone : goal.returns-in_err-try_alone
 returns-in_err-try_alone c = λ root e chooser spot rest kept a old.
     let ms = c.args.program.now.modules.now in
     let p = err_from_is_err_and c.from_residual-in_err-try_alone.result c.from_residual-in_err-try_alone.ensures.1 in
-    let block = choice_block ms root c.args.standing.now c.in_ok-inside.inside c.as_slice-body.result.now chooser c.args.branches.now spot rest c.loop-branch.branch-index c.branch-item.result c.loop-branch-test.true c.branch-item.is c.in_ok-inside.ensures c.as_slice-body.ensures a in
+    let block = choice_block ms root c.args.scope.now c.in_ok-inside.inside c.as_slice-body.result.now chooser c.args.branches.now spot rest c.loop-branch.branch-index c.branch-item.result c.loop-branch-test.true c.branch-item.is c.in_ok-inside.ensures c.as_slice-body.ensures a in
     let home = ap (λ (s : Scope). s.within.home) c.in_ok-inside.ensures.scope in
     let stays = subst (λ h. Stays ms h (body_of c.as_slice-body.result.now)) (sym home) (c.if-has_exit.ensures refl) in
     rw (p.1, p.2) (c.in_err-try_alone.ensures.fault root e kept block stays)

@@ -4,9 +4,9 @@ use Rattle.scrib_types.specs.Agreement.{Agreement}
 use Rattle.scrib_types.specs.GlobalView.{global_of}
 use Rattle.scrib_modules.specs.Names.{role_names}
 use Rattle.scrib_modules.specs.Elaboration.{Elaborates}
-use Rattle.scrib_elaborate.specs.Meaning.{joins_of}
-use Rattle.scrib_elaborate.specs.Sites.{communications, several, IsJoinOf}
-use Rattle.scrib_elaborate.specs.Typing.{joins_told}
+use Rattle.scrib_elaborate.specs.Meaning.{sites_of}
+use Rattle.scrib_elaborate.specs.Sites.{communications, several, IsSiteOf}
+use Rattle.scrib_elaborate.specs.Typing.{told_sites}
 use Rattle.scrib_modules.specs.Table.{shown, declaration_of}
 use Rattle.scrib_elaborate.proofs.Accepted.{accepted_sound, size_is_nodes, size_is_height}
 use Rattle.scrib_elaborate.proofs.Finished.{elaborated}
@@ -34,21 +34,21 @@ new-requires-clause-sound c =
     let g = global_of c.in-Ok.typed.global in
     accepted_sound program.modules.now c.args.module.now c.args.protocol.now (record { roles = c.in_ok-roles-in-Ok.roles; global = g }) (elaborated program.modules.now (shown program.declared.now) (declaration_of program.root) c.args.count c.args.module.now c.args.protocol.now c.in_ok-roles-in-Ok.roles g c.requires.ready (c.in_ok-roles-in-Ok.ensures ∙ ap role_names c.as_slice.ensures) c.in-Ok.ensures.ok.typed)
 
-pub returns-in_ok-joins-in-Ok-clause-ok : goal.returns-in_ok-joins-in-Ok-clause-ok
-returns-in_ok-joins-in-Ok-clause-ok c =
+pub returns-in_ok-sites-in-Ok-clause-ok : goal.returns-in_ok-sites-in-Ok-clause-ok
+returns-in_ok-sites-in-Ok-clause-ok c =
     let program = c.args.program.now in
     let g = global_of c.in-Ok.typed.global in
     subst (λ a. Elaborates program.modules.now c.args.module.now c.args.protocol.now a) (sym c.new.ensures.meaning) (elaborated program.modules.now (shown program.declared.now) (declaration_of program.root) c.args.count c.args.module.now c.args.protocol.now c.in_ok-roles-in-Ok.roles g c.requires.ready (c.in_ok-roles-in-Ok.ensures ∙ ap role_names c.as_slice.ensures) c.in-Ok.ensures.ok.typed)
 
-pub returns-in_ok-joins-in-Ok-clause-sites : goal.returns-in_ok-joins-in-Ok-clause-sites
-returns-in_ok-joins-in-Ok-clause-sites c =
+pub returns-in_ok-sites-in-Ok-clause-sites : goal.returns-in_ok-sites-in-Ok-clause-sites
+returns-in_ok-sites-in-Ok-clause-sites c =
     let ms = c.args.program.now.modules.now in
     let root = declaration_of c.args.program.now.root in
     let g = global_of c.in-Ok.typed.global in
-    let sites = sites_told ms root (communications 0 g) c.in-Ok.typed.joins.items c.in-Ok.ensures.ok.marked in
-    let told = c.new.ensures.joins ∙ c.in_ok-joins-in-Ok.ensures ∙ ap joins_told c.deref.ensures.value in
+    let sites = sites_told ms root (communications 0 g) c.in-Ok.typed.origins.items c.in-Ok.ensures.ok.marked in
+    let told = c.new.ensures.sites ∙ c.in_ok-sites-in-Ok.ensures ∙ ap told_sites c.deref.ensures.value in
     record {
       root = root;
       there = c.requires.ready.there;
-      each = subst (λ (a : Agreement). AllZip (IsJoinOf ms root) (several a.global) (joins_of c.new.result)) (sym c.new.ensures.meaning) (subst (λ js. AllZip (IsJoinOf ms root) (several g) js) (sym told) sites);
+      each = subst (λ (a : Agreement). AllZip (IsSiteOf ms root) (several a.global) (sites_of c.new.result)) (sym c.new.ensures.meaning) (subst (λ js. AllZip (IsSiteOf ms root) (several g) js) (sym told) sites);
     }

@@ -1,8 +1,8 @@
 use Rattle.std.proofs.Common.{refl, sym, ap, ◌∙◌, subst}
 use Rattle.std.proofs.lemmas.List.{drop_all}
-use Rattle.scrib_modules.specs.SourceView.{step_of, body_of, blocks_of, choice_of, rec_of, continue_of, do_of}
+use Rattle.scrib_modules.specs.SourceView.{statement_of, body_of, blocks_of, choice_of, rec_of, continue_of, do_of}
 use Rattle.scrib_modules.specs.Table.{shown, declaration_of}
-use Rattle.scrib_elaborate.specs.Staying.{Stays, StepStays, chooses_stays, repeats_stays, continues_stays, calls_stays, AllStay, none_stays}
+use Rattle.scrib_elaborate.specs.Staying.{Stays, StatementStays, chooses_stays, repeats_stays, continues_stays, calls_stays, AllStay, none_stays}
 use Rattle.scrib_elaborate.proofs.Staying.{protocol_stays, stays_at, stays_more, all_more}
 use Rattle.scrib_elaborate.proofs.exits.+exits.Goals as goal
 
@@ -23,32 +23,32 @@ pub leads_on-returns-in-Choice : goal.leads_on-returns-in-Choice
 leads_on-returns-in-Choice t c = λ none.
     let ms = c.args.program.now.modules.now in
     let m = c.in-Choice in
-    let same = ap step_of m.is ∙ choice_of m.at m.branches m.spot in
+    let same = ap statement_of m.is ∙ choice_of m.at m.branches m.spot in
     let all = subst (λ bs. AllStay ms c.args.home.now (blocks_of bs)) c.as_slice.ensures (c.some_exit.ensures none) in
-    subst (StepStays ms c.args.home.now) (sym same) (chooses_stays all)
+    subst (StatementStays ms c.args.home.now) (sym same) (chooses_stays all)
 
 pub leads_on-returns-in-Rec : goal.leads_on-returns-in-Rec
 leads_on-returns-in-Rec t c = λ none.
     let ms = c.args.program.now.modules.now in
     let m = c.in-Rec in
-    let same = ap step_of m.is ∙ rec_of m.name m.body m.spot in
+    let same = ap statement_of m.is ∙ rec_of m.name m.body m.spot in
     let body = subst (λ ss. Stays ms c.args.home.now (body_of ss)) c.as_slice-in-Rec.ensures (c.has_exit.ensures none) in
-    subst (StepStays ms c.args.home.now) (sym same) (repeats_stays body)
+    subst (StatementStays ms c.args.home.now) (sym same) (repeats_stays body)
 
 pub leads_on-returns-in-Continue : goal.leads_on-returns-in-Continue
 leads_on-returns-in-Continue t c = λ none.
     let m = c.in-Continue in
-    let same = ap step_of m.is ∙ continue_of m.name m.spot in
-    subst (StepStays c.args.program.now.modules.now c.args.home.now) (sym same) continues_stays
+    let same = ap statement_of m.is ∙ continue_of m.name m.spot in
+    subst (StatementStays c.args.program.now.modules.now c.args.home.now) (sym same) continues_stays
 
 pub leads_on-returns-in-Some : goal.leads_on-returns-in-Some
 leads_on-returns-in-Some t c = λ none.
     let program = c.args.program.now in
     let m = c.in-Do in
     let callee = c.in-Some.callee in
-    let same = ap step_of m.is ∙ do_of m.protocol m.roles m.spot in
+    let same = ap statement_of m.is ∙ do_of m.protocol m.roles m.spot in
     let kept = c.exits_at.ensures program.modules.now (shown program.declared.now) (declaration_of callee.declared) c.requires.kept c.in-Some.ensures.place none in
-    subst (StepStays program.modules.now c.args.home.now) (sym same) (calls_stays c.in-Some.ensures.called (protocol_stays kept refl))
+    subst (StatementStays program.modules.now c.args.home.now) (sym same) (calls_stays c.in-Some.ensures.called (protocol_stays kept refl))
 
 -- the branches of a choice
 

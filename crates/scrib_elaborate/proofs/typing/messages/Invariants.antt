@@ -11,8 +11,8 @@ use Rattle.scrib_elaborate.proofs.typing.messages.Given as goal
 
 abbrev pub invariant-loop-last : goal.invariant-loop-last
 invariant-loop-last l = (modules : List ModuleTree) (root : Declaration) (e : Bool) (tasks : List Task) (all left : Bor (List Statement)) → KeepsRules modules root e → all.now ≡ l.initial.left → left.now ≡ l.left
-    → IsState modules root (Front l.standing all ∷ tasks) (made_of l.initial.typed)
-    → IsState modules root (Front l.standing left ∷ tasks) (made_of l.typed)
+    → IsState modules root (Front l.scope all ∷ tasks) (made_of l.initial.typed)
+    → IsState modules root (Front l.scope left ∷ tasks) (made_of l.typed)
 
 abbrev pub decreases-loop-last : goal.decreases-loop-last
 decreases-loop-last l = length l.left

@@ -7,7 +7,7 @@ use Rattle.scrib_elaborate.proofs.typing.run.Goals as goal
 
 pub loop-init : goal.loop-init
 loop-init c = λ root e kept s.
-    subst (λ g. IsState c.args.program.now.modules.now root (reverse c.args.tasks.now.items) g) (sym (made_is (made_of c.end-typed.result) nothing_made c.end-typed.ensures.global c.end-typed.ensures.joins)) s
+    subst (λ g. IsState c.args.program.now.modules.now root (reverse c.args.tasks.now.items) g) (sym (made_is (made_of c.end-typed.result) nothing_made c.end-typed.ensures.global c.end-typed.ensures.origins)) s
 
 pub loop-preserved : goal.loop-preserved
 loop-preserved c = λ root e kept s.

@@ -3,7 +3,7 @@ use Rattle.scrib_parser.specs.declared.tree.Statement.TheViews.{size-Statement, 
 use Rattle.std.proofs.Common.{rules, sym, ap, ◌∙◌, subst}
 use Rattle.std.proofs.lemmas.List.{drop_all}
 use Rattle.scrib_modules.specs.Source.{Calls}
-use Rattle.scrib_modules.specs.SourceView.{step_of, body_of, blocks_of, message_of, choice_of, rec_of, continue_of, do_of}
+use Rattle.scrib_modules.specs.SourceView.{statement_of, body_of, blocks_of, message_of, choice_of, rec_of, continue_of, do_of}
 use Rattle.scrib_modules.specs.Elaboration.{continues_in}
 use Rattle.scrib_modules.specs.Growth.{BlockGrows, IsRow}
 use Rattle.scrib_modules.specs.Table.{protocol_at, IsPartSomewhere}
@@ -31,7 +31,7 @@ pub size_block-loop-statement-preserved : goal.size_block-loop-statement-preserv
 size_block-loop-statement-preserved g c =
     let more = body_more c.args.body.now c.loop-statement.statement-index c.statement-item.result c.loop-statement-test.true c.statement-item.is in
     record {
-      growing = step_growing _ _ _ _ c.in_ok-step.step _ _ _ _ more c.put-size.ensures c.in_ok-step.ensures c.loop-statement.invariant.growing;
+      growing = step_growing _ _ _ _ c.in_ok-step.step _ _ _ _ more c.compose-size.ensures c.in_ok-step.ensures c.loop-statement.invariant.growing;
       part = rest_somewhere (protocol_at c.args.place.now) _ _ _ more c.loop-statement.invariant.part;
     }
 
@@ -74,48 +74,48 @@ size_branches-returns g c =
 
 pub size_statement-size_branches-requires : goal.size_statement-size_branches-requires
 size_statement-size_branches-requires g c =
-    let same = ap step_of c.in-Choice.is ∙ choice_of c.in-Choice.at c.in-Choice.branches c.in-Choice.spot in
+    let same = ap statement_of c.in-Choice.is ∙ choice_of c.in-Choice.at c.in-Choice.branches c.in-Choice.spot in
     (search (rules, sized-Choice, sized-Rec), (c.requires.known, choice_somewhere (protocol_at c.args.place.now) _ _ _ _ _ same (ap blocks_of c.as_slice.ensures) c.requires.part))
 
 pub size_statement-size_block-requires : goal.size_statement-size_block-requires
 size_statement-size_block-requires g c =
-    let same = ap step_of c.in-Rec.is ∙ rec_of c.in-Rec.name c.in-Rec.body c.in-Rec.spot in
+    let same = ap statement_of c.in-Rec.is ∙ rec_of c.in-Rec.name c.in-Rec.body c.in-Rec.spot in
     (search (rules, sized-Choice, sized-Rec), (c.requires.known, rec_somewhere (protocol_at c.args.place.now) _ _ _ _ _ same (ap body_of c.as_slice-in-Rec.ensures) c.requires.part))
 
 pub size_statement-check_call-requires-clause-stands : goal.size_statement-check_call-requires-clause-stands
 size_statement-check_call-requires-clause-stands g c =
-    let same = ap step_of c.in-Do.is ∙ do_of c.in-Do.protocol c.in-Do.roles c.in-Do.spot ∙ ap (λ qs. Calls c.in-Do.protocol qs c.in-Do.spot) (sym c.as_slice-in-Do.ensures) in
+    let same = ap statement_of c.in-Do.is ∙ do_of c.in-Do.protocol c.in-Do.roles c.in-Do.spot ∙ ap (λ qs. Calls c.in-Do.protocol qs c.in-Do.spot) (sym c.as_slice-in-Do.ensures) in
     step_stands (protocol_at c.args.place.now) _ _ same c.requires.part
 
 pub size_statement-returns-in-Message : goal.size_statement-returns-in-Message
 size_statement-returns-in-Message g c =
-    let same = ap step_of c.in-Message.is ∙ message_of c.in-Message.message c.in-Message.from c.in-Message.to c.in-Message.spot in
+    let same = ap statement_of c.in-Message.is ∙ message_of c.in-Message.message c.in-Message.from c.in-Message.to c.in-Message.spot in
     message_grows _ (protocol_at c.args.place.now) _ _ _ _ _ c.row.result same (subst (λ n. IsRow n c.row.result) c.len.ensures c.row.ensures)
 
 pub size_statement-returns-in_ok-size-in-Choice : goal.size_statement-returns-in_ok-size-in-Choice
 size_statement-returns-in_ok-size-in-Choice g c =
-    let same = ap step_of c.in-Choice.is ∙ choice_of c.in-Choice.at c.in-Choice.branches c.in-Choice.spot in
+    let same = ap statement_of c.in-Choice.is ∙ choice_of c.in-Choice.at c.in-Choice.branches c.in-Choice.spot in
     choice_grows _ (protocol_at c.args.place.now) _ _ _ _ _ c.in_ok-size-in-Choice.size same (ap blocks_of c.as_slice.ensures) c.in_ok-size-in-Choice.ensures
 
 pub size_statement-returns-then-continues_in : goal.size_statement-returns-then-continues_in
 size_statement-returns-then-continues_in g c =
-    let same = ap step_of c.in-Rec.is ∙ rec_of c.in-Rec.name c.in-Rec.body c.in-Rec.spot in
+    let same = ap statement_of c.in-Rec.is ∙ rec_of c.in-Rec.name c.in-Rec.body c.in-Rec.spot in
     let used = sym (c.continues_in.ensures ∙ ap (λ b. continues_in c.in-Rec.name (body_of b)) c.as_slice-in-Rec-2.ensures) ∙ c.if-continues_in.true in
-    loop_grows _ (protocol_at c.args.place.now) _ _ _ _ _ c.row-then-continues_in.result c.in_ok-size-in-Rec.size c.put.result same (ap body_of c.as_slice-in-Rec.ensures) used c.row-then-continues_in.ensures c.put.ensures c.in_ok-size-in-Rec.ensures
+    loop_grows _ (protocol_at c.args.place.now) _ _ _ _ _ c.row-then-continues_in.result c.in_ok-size-in-Rec.size c.compose.result same (ap body_of c.as_slice-in-Rec.ensures) used c.row-then-continues_in.ensures c.compose.ensures c.in_ok-size-in-Rec.ensures
 
 pub size_statement-returns-else-continues_in : goal.size_statement-returns-else-continues_in
 size_statement-returns-else-continues_in g c =
-    let same = ap step_of c.in-Rec.is ∙ rec_of c.in-Rec.name c.in-Rec.body c.in-Rec.spot in
+    let same = ap statement_of c.in-Rec.is ∙ rec_of c.in-Rec.name c.in-Rec.body c.in-Rec.spot in
     let unused = sym (c.continues_in.ensures ∙ ap (λ b. continues_in c.in-Rec.name (body_of b)) c.as_slice-in-Rec-2.ensures) ∙ c.if-continues_in.false in
     pass_grows _ (protocol_at c.args.place.now) _ _ _ _ _ c.in_ok-size-in-Rec.size same (ap body_of c.as_slice-in-Rec.ensures) unused c.in_ok-size-in-Rec.ensures
 
 pub size_statement-returns-in-Continue : goal.size_statement-returns-in-Continue
 size_statement-returns-in-Continue g c =
-    let same = ap step_of c.in-Continue.is ∙ continue_of c.in-Continue.name c.in-Continue.spot in
+    let same = ap statement_of c.in-Continue.is ∙ continue_of c.in-Continue.name c.in-Continue.spot in
     continue_grows _ (protocol_at c.args.place.now) _ _ _ c.end.result same c.end.ensures
 
 pub size_statement-returns-in_ok-called-in-Do : goal.size_statement-returns-in_ok-called-in-Do
 size_statement-returns-in_ok-called-in-Do g c =
-    let same = ap step_of c.in-Do.is ∙ do_of c.in-Do.protocol c.in-Do.roles c.in-Do.spot ∙ ap (λ qs. Calls c.in-Do.protocol qs c.in-Do.spot) (sym c.as_slice-in-Do.ensures) in
+    let same = ap statement_of c.in-Do.is ∙ do_of c.in-Do.protocol c.in-Do.roles c.in-Do.spot ∙ ap (λ qs. Calls c.in-Do.protocol qs c.in-Do.spot) (sym c.as_slice-in-Do.ensures) in
     let kept = c.in_ok-called-in-Do.ensures in
     call_grows _ (protocol_at c.args.place.now) _ _ _ _ kept.to c.in_ok-called-in-Do.called.size same kept.there kept.grows

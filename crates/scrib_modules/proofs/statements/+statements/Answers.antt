@@ -4,7 +4,7 @@ use Rattle.std.proofs.Common.{rules, drop, ◌+◌, true, refl, sym, ap, ◌∙�
 use Rattle.std.proofs.lemmas.List.{drop_all}
 use Rattle.scrib_types.specs.WellFormed.{has_role}
 use Rattle.scrib_modules.specs.Source.{Sends, Calls}
-use Rattle.scrib_modules.specs.SourceView.{step_of, body_of, blocks_of, message_of, choice_of, rec_of, continue_of, do_of}
+use Rattle.scrib_modules.specs.SourceView.{statement_of, body_of, blocks_of, message_of, choice_of, rec_of, continue_of, do_of}
 use Rattle.scrib_modules.specs.Names.{role_names}
 use Rattle.scrib_modules.specs.Statements.{BlockKeeps}
 use Rattle.scrib_modules.specs.Faults.{choice}
@@ -69,57 +69,57 @@ check_branches-returns g c =
 
 pub check_statement-check_message-requires : goal.check_statement-check_message-requires
 check_statement-check_message-requires g c =
-    let same = ap step_of c.in-Message.is ∙ message_of c.in-Message.message c.in-Message.from c.in-Message.to c.in-Message.spot ∙ ap (λ qs. Sends c.in-Message.message c.in-Message.from qs c.in-Message.spot) (sym c.as_slice.ensures) in
+    let same = ap statement_of c.in-Message.is ∙ message_of c.in-Message.message c.in-Message.from c.in-Message.to c.in-Message.spot ∙ ap (λ qs. Sends c.in-Message.message c.in-Message.from qs c.in-Message.spot) (sym c.as_slice.ensures) in
     (c.in-Message.message, stands_as _ _ _ _ _ c.requires.part.1 same)
 
 pub check_statement-returns-in_ok-check_message-in-Message : goal.check_statement-returns-in_ok-check_message-in-Message
 check_statement-returns-in_ok-check_message-in-Message g c =
-    let same = ap step_of c.in-Message.is ∙ message_of c.in-Message.message c.in-Message.from c.in-Message.to c.in-Message.spot ∙ ap (λ qs. Sends c.in-Message.message c.in-Message.from qs c.in-Message.spot) (sym c.as_slice.ensures) in
+    let same = ap statement_of c.in-Message.is ∙ message_of c.in-Message.message c.in-Message.from c.in-Message.to c.in-Message.spot ∙ ap (λ qs. Sends c.in-Message.message c.in-Message.from qs c.in-Message.spot) (sym c.as_slice.ensures) in
     keeps_as _ _ _ _ _ _ same (c.in_ok-check_message-in-Message.ensures (round_names c.args.recs.now) c.in-Message.message)
 
 pub check_statement-returns-then-not-has_role : goal.check_statement-returns-then-not-has_role
 check_statement-returns-then-not-has_role g c =
-    let same = ap step_of c.in-Choice.is ∙ choice_of c.in-Choice.at c.in-Choice.branches c.in-Choice.spot in
+    let same = ap statement_of c.in-Choice.is ∙ choice_of c.in-Choice.at c.in-Choice.branches c.in-Choice.spot in
     let none = sym (c.has_role.ensures ∙ ap (λ rs. has_role c.in-Choice.at (role_names rs)) c.as_slice-in-Choice.ensures) ∙ c.if-not-has_role.true in
     rw c.broken.ensures (λ root. choice (stands_as _ _ _ _ _ c.requires.part.1 same) none)
 
 pub check_statement-check_branches-requires : goal.check_statement-check_branches-requires
 check_statement-check_branches-requires g c =
-    let same = ap step_of c.in-Choice.is ∙ choice_of c.in-Choice.at c.in-Choice.branches c.in-Choice.spot in
+    let same = ap statement_of c.in-Choice.is ∙ choice_of c.in-Choice.at c.in-Choice.branches c.in-Choice.spot in
     (search (rules, sized-Choice, sized-Rec), (c.requires.known, subst (λ x. AreParts (protocol_at c.args.place.now) (round_names c.args.recs.now) (blocks_of x)) (sym c.as_slice-in-Choice-2.ensures) (choice_parts (protocol_at c.args.place.now) (round_names c.args.recs.now) _ _ _ _ _ c.requires.part.1 same)))
 
 pub check_statement-returns-in_ok-exits-in-Choice : goal.check_statement-returns-in_ok-exits-in-Choice
 check_statement-returns-in_ok-exits-in-Choice g c =
-    let same = ap step_of c.in-Choice.is ∙ choice_of c.in-Choice.at c.in-Choice.branches c.in-Choice.spot in
+    let same = ap statement_of c.in-Choice.is ∙ choice_of c.in-Choice.at c.in-Choice.branches c.in-Choice.spot in
     let some = sym (c.has_role.ensures ∙ ap (λ rs. has_role c.in-Choice.at (role_names rs)) c.as_slice-in-Choice.ensures) ∙ c.if-not-has_role.false in
     choice_keeps _ _ _ _ _ _ _ _ _ same (ap blocks_of c.as_slice-in-Choice-2.ensures) some c.in_ok-exits-in-Choice.ensures
 
 pub check_statement-check_block-requires : goal.check_statement-check_block-requires
 check_statement-check_block-requires g c =
-    let same = ap step_of c.in-Rec.is ∙ rec_of c.in-Rec.name c.in-Rec.body c.in-Rec.spot in
+    let same = ap statement_of c.in-Rec.is ∙ rec_of c.in-Rec.name c.in-Rec.body c.in-Rec.spot in
     (search (rules, sized-Choice, sized-Rec), (c.requires.known, rec_part (protocol_at c.args.place.now) (round_names c.args.recs.now) _ _ _ _ _ _ _ c.requires.part.1 same (ap round_names c.deref.ensures.value ∙ c.in_ok-inner-in-Rec.ensures) (ap body_of c.as_slice-in-Rec.ensures)))
 
 pub check_statement-returns-in_ok-exits-in-Rec : goal.check_statement-returns-in_ok-exits-in-Rec
 check_statement-returns-in_ok-exits-in-Rec g c =
-    let same = ap step_of c.in-Rec.is ∙ rec_of c.in-Rec.name c.in-Rec.body c.in-Rec.spot in
+    let same = ap statement_of c.in-Rec.is ∙ rec_of c.in-Rec.name c.in-Rec.body c.in-Rec.spot in
     rec_keeps _ _ _ _ _ _ _ _ _ _ same (ap round_names c.deref.ensures.value ∙ c.in_ok-inner-in-Rec.ensures) (ap body_of c.as_slice-in-Rec.ensures) c.in_ok-exits-in-Rec.ensures
 
 pub check_statement-returns-then-not-is_round : goal.check_statement-returns-then-not-is_round
 check_statement-returns-then-not-is_round g c =
-    let same = ap step_of c.in-Continue.is ∙ continue_of c.in-Continue.name c.in-Continue.spot in
+    let same = ap statement_of c.in-Continue.is ∙ continue_of c.in-Continue.name c.in-Continue.spot in
     rw c.broken-then-not-is_round.ensures (λ root. loose_as _ _ _ _ _ _ c.requires.part.1 same (sym c.is_round.ensures ∙ c.if-not-is_round.true))
 
 pub check_statement-returns-else-not-is_round : goal.check_statement-returns-else-not-is_round
 check_statement-returns-else-not-is_round g c =
-    let same = ap step_of c.in-Continue.is ∙ continue_of c.in-Continue.name c.in-Continue.spot in
+    let same = ap statement_of c.in-Continue.is ∙ continue_of c.in-Continue.name c.in-Continue.spot in
     continue_keeps _ _ _ _ _ _ same (sym c.is_round.ensures ∙ c.if-not-is_round.false)
 
 pub check_statement-check_call-requires-clause-stands : goal.check_statement-check_call-requires-clause-stands
 check_statement-check_call-requires-clause-stands g c =
-    let same = ap step_of c.in-Do.is ∙ do_of c.in-Do.protocol c.in-Do.roles c.in-Do.spot ∙ ap (λ qs. Calls c.in-Do.protocol qs c.in-Do.spot) (sym c.as_slice-in-Do.ensures) in
+    let same = ap statement_of c.in-Do.is ∙ do_of c.in-Do.protocol c.in-Do.roles c.in-Do.spot ∙ ap (λ qs. Calls c.in-Do.protocol qs c.in-Do.spot) (sym c.as_slice-in-Do.ensures) in
     stands_as _ _ _ _ _ c.requires.part.1 same
 
 pub check_statement-returns-in_ok-called-in-Do : goal.check_statement-returns-in_ok-called-in-Do
 check_statement-returns-in_ok-called-in-Do g c =
-    let same = ap step_of c.in-Do.is ∙ do_of c.in-Do.protocol c.in-Do.roles c.in-Do.spot ∙ ap (λ qs. Calls c.in-Do.protocol qs c.in-Do.spot) (sym c.as_slice-in-Do.ensures) in
+    let same = ap statement_of c.in-Do.is ∙ do_of c.in-Do.protocol c.in-Do.roles c.in-Do.spot ∙ ap (λ qs. Calls c.in-Do.protocol qs c.in-Do.spot) (sym c.as_slice-in-Do.ensures) in
     keeps_as _ _ _ _ _ _ same (c.in_ok-called-in-Do.ensures.keeps (round_names c.args.recs.now))

@@ -1,6 +1,6 @@
 use Rattle.std.proofs.Common.{sym, ⊎_elim, arith}
 use Rattle.std.proofs.lemmas.Option.{slice_get_within}
-use Rattle.scrib_modules.specs.declared.stop.State.TheVariants.{Unwalked}
+use Rattle.scrib_modules.specs.declared.checking.State.TheVariants.{Unwalked}
 use Rattle.scrib_modules.proofs.Walks.{get_set}
 use Rattle.scrib_modules.proofs.walk.forget.Goals as goal
 

@@ -1,7 +1,7 @@
 use Rattle.std.proofs.Common.{◌≡◌, ℕ, ◌<◌, Some}
 use Rattle.std.specs.List.{slice_get}
-use Rattle.scrib_modules.specs.declared.stop.State.{State}
-use Rattle.scrib_modules.specs.declared.stop.State.TheVariants.{Unwalked}
+use Rattle.scrib_modules.specs.declared.checking.State.{State}
+use Rattle.scrib_modules.specs.declared.checking.State.TheVariants.{Unwalked}
 use Rattle.scrib_modules.proofs.walk.forget.Given as goal
 
 abbrev pub invariant-loop-state : goal.invariant-loop-state

@@ -1,0 +1,37 @@
+-- What is known of where statements stand (this project's own).
+-- Only contracts of private functions cite this file.
+use Rattle.std.specs.Prelude.{◌≡◌, ℕ, ◌+◌, List, [], map}
+use Rattle.scrib_elaborate.specs.declared.scope.Level.{Level}
+use Rattle.scrib_elaborate.specs.declared.scope.Scope.{Scope as CodeScope}
+use Rattle.scrib_typed.specs.Renaming.{named}
+use Rattle.scrib_modules.specs.Names.{Declaration, roles_of}
+use Rattle.scrib_modules.specs.Elaboration.{Scope, inside, inside_call}
+use Rattle.scrib_modules.specs.Table.{declaration_of}
+
+-- the recursions' names and levels
+abbrev pub levels_of : List Level → List (List ℕ × ℕ)
+levels_of ls = map (λ (l : Level). (l.name.now, l.level)) ls
+
+-- the scope without where it lies in memory
+abbrev pub scope_of : CodeScope → Scope
+scope_of s = record { within = declaration_of s.within; given = named s.given.items; recs = levels_of s.recs.items }
+
+-- the scope with which a protocol begins
+abbrev pub start_scope : Declaration → Scope
+start_scope d = record { within = d; given = roles_of d; recs = [] }
+
+pub record IsStart (root : Declaration) (s : CodeScope) : Type 0 where
+  pub scope : scope_of s ≡ start_scope root
+  pub depth : s.depth ≡ 0
+
+pub record IsSame (old : CodeScope) (s : CodeScope) : Type 0 where
+  pub scope : scope_of s ≡ scope_of old
+  pub depth : s.depth ≡ old.depth
+
+pub record IsInside (old : CodeScope) (name : List ℕ) (s : CodeScope) : Type 0 where
+  pub scope : scope_of s ≡ inside (scope_of old) name old.depth
+  pub depth : s.depth ≡ old.depth + 1
+
+pub record IsInsideCall (old : CodeScope) (callee : Declaration) (roles : List (List ℕ)) (s : CodeScope) : Type 0 where
+  pub scope : scope_of s ≡ inside_call (scope_of old) callee roles
+  pub depth : s.depth ≡ old.depth

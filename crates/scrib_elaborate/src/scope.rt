@@ -1,0 +1,167 @@
+//! Where statements stand while the type of a protocol is computed.
+
+ghost use Rattle.std.specs.Prelude.{◌≡◌, ◌∷◌, map, IfOk};
+ghost use Rattle.scrib_modules.specs.Names.{role_names};
+ghost use Rattle.scrib_modules.specs.Elaboration.{role_in, level_of};
+ghost use Rattle.scrib_modules.specs.Table.{declaration_of};
+ghost use Rattle.scrib_typed.specs.Renaming.{named};
+ghost use Rattle.scrib_elaborate.specs.Scope.{scope_of, levels_of, IsStart, IsSame, IsInside, IsInsideCall};
+
+use scrib_modules::declared::Declaration;
+use scrib_parser::tree::RoleDeclaration;
+use scrib_typed::build_error::{Refused, next};
+use scrib_typed::renamed::given_for;
+use scrib_types::name::{Name, Role};
+use std::alloc::{AllocError, Global};
+
+/// A recursion round statements, and how many recursions stand round it in the type.
+#[derive(Clone, Copy, Drop)]
+pub struct Level<'a> {
+    pub name: &'a Name,
+    pub level: u32,
+}
+
+/// Where statements stand: their protocol, the roles that are given for its roles by position, the recursions
+/// round them in it, the innermost first, and how many recursions stand round them in the type.
+#[derive(Drop)]
+pub struct Scope<'a> {
+    pub within: Declaration<'a>,
+    pub given: Vec<&'a Role>,
+    pub recs: Vec<Level<'a>>,
+    pub depth: u32,
+}
+
+impl<'a> Scope<'a> {
+    /// Where the statements of the protocol that was asked for stand.
+    ///
+    /// # Errors
+    /// `AllocError` where memory was refused.
+    pub fn start(alloc: Global, root: Declaration<'a>) -> Result<Scope<'a>, AllocError>
+        ensures { IfOk result (IsStart (declaration_of root.entry)) }
+    {
+        let given = role_names(alloc, root.protocol.roles.as_slice())?;
+        Ok(Scope {
+            within: root,
+            given,
+            recs: Vec::new(alloc),
+            depth: 0,
+        })
+    }
+
+    /// The same once more.
+    ///
+    /// # Errors
+    /// `AllocError` where memory was refused.
+    pub fn copy(&self, alloc: Global) -> Result<Scope<'a>, AllocError>
+        ensures { IfOk result (IsSame self.now) }
+    {
+        let given = Vec::from_slice(alloc, &self.given)?;
+        let recs = Vec::from_slice(alloc, &self.recs)?;
+        Ok(Scope {
+            within: self.within,
+            given,
+            recs,
+            depth: self.depth,
+        })
+    }
+
+    /// Where the statements of a recursion of this name stand.
+    ///
+    /// # Errors
+    /// `Refused` where memory was refused.
+    pub fn inside(&self, alloc: Global, name: &'a Name) -> Result<Scope<'a>, Refused>
+        ensures { IfOk result (IsInside self.now name.now) }
+    {
+        let given = Vec::from_slice(alloc, &self.given)?;
+        let recs = one_more(alloc, &self.recs, name, self.depth)?;
+        let depth = next(self.depth)?;
+        Ok(Scope {
+            within: self.within,
+            given,
+            recs,
+            depth,
+        })
+    }
+
+    /// Where the statements of a protocol stand that is called with these roles.
+    ///
+    /// # Errors
+    /// `AllocError` where memory was refused.
+    pub fn inside_call(
+        &self,
+        alloc: Global,
+        callee: Declaration<'a>,
+        roles: &'a [Role],
+    ) -> Result<Scope<'a>, AllocError>
+        ensures { IfOk result (IsInsideCall self.now (declaration_of callee.entry) roles.now) }
+    {
+        let given = self.roles(alloc, roles)?;
+        Ok(Scope {
+            within: callee,
+            given,
+            recs: Vec::new(alloc),
+            depth: self.depth,
+        })
+    }
+
+    /// The roles given for these.
+    ///
+    /// # Errors
+    /// `AllocError` where memory was refused.
+    pub fn roles(&self, alloc: Global, roles: &'a [Role]) -> Result<Vec<&'a Role>, AllocError>
+        ensures { IfOk result (λ given. named given.items ≡ map (role_in (scope_of self.now)) roles.now) }
+    {
+        let mut given = Vec::with_capacity(alloc, roles.len())?;
+        for role in roles {
+            given.push(self.role(role))?;
+        }
+        Ok(given)
+    }
+
+    /// The role given for this one.
+    pub fn role(&self, role: &'a Role) -> &'a Role
+        ensures { result.now ≡ role_in (scope_of self.now) role.now }
+    {
+        given_for(self.within.protocol.roles.as_slice(), &self.given, role)
+    }
+
+    /// How many recursions stand round the one of this name.
+    pub fn level_of(&self, name: &Name) -> Option<u32>
+        ensures { result ≡ level_of name.now (scope_of self.now).recs }
+    {
+        for rec in &self.recs {
+            if name.equal(rec.name) {
+                return Some(rec.level);
+            }
+        }
+        None
+    }
+}
+
+// The names of roles, in order.
+fn role_names<'a>(alloc: Global, roles: &'a [RoleDeclaration]) -> Result<Vec<&'a Role>, AllocError>
+    ensures { IfOk result (λ names. named names.items ≡ role_names roles.now) }
+{
+    let mut names = Vec::with_capacity(alloc, roles.len())?;
+    for role in roles {
+        names.push(&role.name)?;
+    }
+    Ok(names)
+}
+
+// The recursions with one inside them.
+fn one_more<'a>(
+    alloc: Global,
+    recs: &[Level<'a>],
+    name: &'a Name,
+    level: u32,
+) -> Result<Vec<Level<'a>>, AllocError>
+    ensures { IfOk result (λ more. levels_of more.items ≡ (name.now, level) ∷ levels_of recs.now) }
+{
+    let mut more = Vec::new(alloc);
+    more.push(Level { name, level })?;
+    for rec in recs {
+        more.push(*rec)?;
+    }
+    Ok(more)
+}
