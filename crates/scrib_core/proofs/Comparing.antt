@@ -1,7 +1,6 @@
 -- The comparison of versions serves for each record.
 use Rattle.std.proofs.Common.{◌≡◌, ℕ, List, Option, Some, None, refl, sym, subst, ◌∙◌}
 use Rattle.std.specs.Option.{option_map}
-use Rattle.scrib_types.specs.Agreement.{Agreement}
 use Rattle.scrib_record.specs.declared.comparison.Comparison.{Comparison}
 use Rattle.scrib_record.specs.declared.comparison.Comparison.TheVariants.{Whole, Numbers}
 use Rattle.scrib_record.specs.declared.version.Version.{Version}

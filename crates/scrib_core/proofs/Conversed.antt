@@ -1,9 +1,9 @@
 -- From what is done to the records of conversations to the answers of steps.
-use Rattle.std.proofs.Common.{◌≡◌, ◌≢◌, ◌⊎◌, inl, inr, ℕ, ◌+◌, ◌<◌, ◌≤◌, Bool, true, false, cond, List, [], ◌∷◌, ◌++◌, map, length, Option, Some, None, option_map, nat_eq, refl, sym, ap, subst, ◌∙◌, arith}
+use Rattle.std.proofs.Common.{◌≡◌, ◌≢◌, inl, ℕ, ◌+◌, ◌<◌, ◌≤◌, Bool, true, false, cond, List, [], ◌∷◌, ◌++◌, map, length, Option, Some, None, option_map, nat_eq, refl, sym, ap, subst, ◌∙◌}
 use Rattle.std.specs.Prelude.{IsSome}
 use Rattle.std.specs.Map.{lookup, set_value}
 use Rattle.std.specs.Cmp.{nat_eq_equiv}
-use Rattle.std.proofs.lemmas.Bool.{true≢false, false≢true}
+use Rattle.std.proofs.lemmas.Bool.{true≢false}
 use Rattle.std.proofs.lemmas.Bool.Decides.{Decides-eqb}
 use Rattle.std.proofs.lemmas.List.{length-map, map-append}
 use Rattle.std.proofs.lemmas.Map.{lookup-set_value}
@@ -12,26 +12,25 @@ use Rattle.std.proofs.lemmas.Map.Steps.{set_value_same}
 use Rattle.scrib_types.specs.declared.event.Event.{Event}
 use Rattle.scrib_types.specs.declared.event.Told.{Told}
 use Rattle.scrib_types.specs.declared.event.Told.TheVariants as tell
-use Rattle.scrib_types.specs.Agreement.{Agreement}
 use Rattle.scrib_record.specs.declared.version.Version.{Version}
-use Rattle.scrib_record.specs.Stale.{Recorded, is_stale, is_present, IsLawful}
+use Rattle.scrib_record.specs.Stale.{Recorded, is_present, IsLawful}
 use Rattle.scrib_record.specs.Told as record_told
 use Rattle.scrib_record.specs.Turns.{new_record, new_fresh}
 use Rattle.scrib_record.specs.Versions.{meaning_of, number_of, AreOfOneStamp}
 use Rattle.scrib_library.specs.Holdings.{Holdings, HasNumber, AreNumbered}
-use Rattle.scrib_library.specs.Modules.{Means, IsMeaning, MeansOnce}
+use Rattle.scrib_library.specs.Modules.{Means, MeansOnce}
 use Rattle.scrib_core.specs.declared.step.Step.{Step}
-use Rattle.scrib_core.specs.declared.step.Step.TheVariants.{Put, Withdraw, Open, Note, Turn, Ask}
+use Rattle.scrib_core.specs.declared.step.Step.TheVariants.{Open, Note, Turn, Ask}
 use Rattle.scrib_core.specs.declared.reply.Refusal.{Refusal}
 use Rattle.scrib_core.specs.declared.reply.Refusal.TheVariants as refusal
 use Rattle.scrib_core.specs.declared.reply.Reply.{Reply}
 use Rattle.scrib_core.specs.declared.reply.Reply.TheVariants as reply
-use Rattle.scrib_core.specs.World.{World, Conversation, conversation, noted, opened, Follows, Refuses}
+use Rattle.scrib_core.specs.World.{Conversation, conversation, noted, opened, Follows, Refuses}
 use Rattle.scrib_core.specs.Marks.{Mark, Fresh, Stale, IsStale, IsLeft, Remarks}
-use Rattle.scrib_core.specs.Answers.{State, IsTold, IsJudged, IsAnswered, IsDue}
+use Rattle.scrib_core.specs.Answers.{IsTold, IsAnswered, IsDue}
 use Rattle.scrib_core.specs.Held.{Records, record_at, conversation_of, world_of, mark_of, mark_at, marks_of, state, IsKnown, AreKnown}
 use Rattle.scrib_core.specs.Conversing.{IsPresent, IsOpened, OpenFails, IsNotedAt, NoteFails, IsTurnedAt, IsAskedAt, TellFails, AnswersOpen, AnswersNote, AnswersTurn, AnswersAsk}
-use Rattle.scrib_core.proofs.Marking.{number_present, fresh_mark, stale_mark, note_mark, turn_mark}
+use Rattle.scrib_core.proofs.Marking.{fresh_mark, stale_mark, note_mark, turn_mark}
 
 same_some : {X : Type 0} (x y : X) → Some x ≡ Some y → x ≡ y
 same_some x y e = cc

@@ -1,11 +1,10 @@
 -- What an edit does to the marks, which it reads off the records that it leaves.
-use Rattle.std.proofs.Common.{◌≡◌, ◌≢◌, ◌==◌, ◌⊎◌, inl, inr, ℕ, ◌+◌, ◌/◌, ◌<◌, ◌≤◌, Bool, true, false, if◌then◌else◌, List, length, Option, Some, None, option_map, refl, sym, ap, subst, ◌∙◌, arith}
+use Rattle.std.proofs.Common.{◌≡◌, ◌≢◌, ◌==◌, ◌⊎◌, inl, inr, ℕ, ◌/◌, ◌<◌, ◌≤◌, Bool, true, false, if◌then◌else◌, List, length, Option, Some, None, option_map, refl, sym, ap, subst, ◌∙◌, arith}
 use Rattle.std.specs.Prelude.{Ok, Err, Result, IfOk, IfErr, OnOk, OnErr}
 use Rattle.std.proofs.lemmas.Bool.{true≢false}
 use Rattle.std.proofs.lemmas.Bool.Decides.{Decides-eqb}
 use Rattle.scrib_types.specs.Agreement.{Agreement}
 use Rattle.scrib_types.specs.declared.profile.Profile.{Profile}
-use Rattle.scrib_types.specs.declared.event.Verdict.{Verdict}
 use Rattle.scrib_record.specs.declared.version.Version.{Version}
 use Rattle.scrib_record.specs.Stale.{is_final, Recorded}
 use Rattle.scrib_record.specs.Versions.{meaning_of, number_of}
@@ -21,7 +20,7 @@ use Rattle.scrib_core.specs.Telling.{refusal_of, reply_of, profile_reply_of}
 use Rattle.scrib_core.specs.Marks.{Mark, Fresh, Stale, IsLeft, IsReset, Remarks}
 use Rattle.scrib_core.specs.Held.{number_at, mark, held_number, mark_of, mark_at, marks_of, conversation_of, world_of, Records, record_at, IsKnown, AreKnown}
 use Rattle.scrib_library.specs.declared.changes.Changes.{Changes as EditChanges}
-use Rattle.scrib_library.specs.Edits.{Reads, IsPut, IsChanges, AreVersionsUsed, IsWithdrawal, AreWithdrawn, PutFails, WithdrawFails}
+use Rattle.scrib_library.specs.Edits.{IsPut, IsChanges, AreVersionsUsed, IsWithdrawal, AreWithdrawn, PutFails, WithdrawFails}
 use Rattle.scrib_library.specs.declared.fault.EditFault.{EditFault}
 use Rattle.scrib_library.specs.declared.fault.EditFault.TheVariants as fault
 use Rattle.scrib_parser.specs.declared.tree.ModuleTree.{ModuleTree}

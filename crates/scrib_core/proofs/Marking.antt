@@ -1,5 +1,5 @@
 -- Marks: how they are read off the numbers of versions, and what turns and edits do to them.
-use Rattle.std.proofs.Common.{◌≡◌, ◌≢◌, ◌==◌, ◌&&◌, ◌⊎◌, inl, inr, ℕ, zero, suc, ◌+◌, ◌*◌, ◌/◌, ◌<◌, ◌≤◌, Bool, true, false, not, cond, if◌then◌else◌, List, [], ◌∷◌, length, Option, Some, None, option_map, Contains, take, refl, sym, ap, subst, ◌∙◌, arith}
+use Rattle.std.proofs.Common.{◌≡◌, ◌≢◌, ◌==◌, ◌&&◌, ◌⊎◌, inl, inr, ℕ, zero, suc, ◌+◌, ◌/◌, ◌<◌, Bool, true, false, not, cond, if◌then◌else◌, List, [], ◌∷◌, length, Option, Some, None, option_map, Contains, take, refl, sym, ap, subst, ◌∙◌, arith}
 use Rattle.std.specs.Str.{bytes_eq}
 use Rattle.std.specs.List.{slice_index_or}
 use Rattle.std.proofs.lemmas.Bool.{cases_Bool, true≢false, false≢true}
@@ -7,7 +7,6 @@ use Rattle.std.proofs.lemmas.Bool.Decides.{Decides-eqb, nat_tests}
 use Rattle.std.proofs.lemmas.Slice.Eq.{bytes_eq-Decides, slice_eq-Decides}
 use Rattle.std.proofs.lemmas.List.Elements.{Contains-append_right}
 use Rattle.std.proofs.Math.Nat.{add-mul-div_left, mul-div-le}
-use Rattle.scrib_types.specs.Agreement.{Agreement}
 use Rattle.scrib_types.specs.declared.event.Verdict.{Verdict}
 use Rattle.scrib_types.specs.declared.event.Verdict.TheVariants.{Permitted, Offence, Withdrawn}
 use Rattle.scrib_types.specs.declared.event.Event.{Event}
@@ -19,11 +18,10 @@ use Rattle.scrib_record.specs.Flat.{flat_form}
 use Rattle.scrib_record.specs.Stale.{same_stamp, is_present, is_final, Recorded, is_stale, IsLawful}
 use Rattle.scrib_record.specs.Told.{judged_under}
 use Rattle.scrib_record.specs.Told as record_told
-use Rattle.scrib_record.specs.Versions.{meaning_of, number_of, HaveSameStamp}
+use Rattle.scrib_record.specs.Versions.{meaning_of, number_of}
 use Rattle.scrib_record.specs.Turns.{stamp_itself, present_alike}
 use Rattle.scrib_library.specs.Holdings.{Stamp, Holdings, HasNumber, IsNumber, AreNumbered}
 use Rattle.scrib_library.specs.Modules.{Means, IsMeaning, MeansOnce}
-use Rattle.scrib_parser.specs.declared.tree.ModuleTree.{ModuleTree}
 use Rattle.scrib_core.specs.Marks.{Mark, Fresh, Stale, IsStale}
 use Rattle.scrib_core.specs.Marks as marks
 use Rattle.scrib_core.specs.Held.{number_at, mark, held_number, mark_of, IsKnown}

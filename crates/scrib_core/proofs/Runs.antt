@@ -1,5 +1,5 @@
 -- Permitted verdicts are runs.
-use Rattle.std.proofs.Common.{◌≡◌, ◌↔◌, ℕ, ◌+◌, true, List, [], ◌∷◌, ◌++◌, Option, Some, None, refl, sym, ap, subst, ◌∙◌}
+use Rattle.std.proofs.Common.{◌≡◌, ◌↔◌, ℕ, ◌+◌, true, List, [], ◌∷◌, ◌++◌, Some, None, refl, sym, subst, ◌∙◌}
 use Rattle.std.proofs.lemmas.List.{append_assoc}
 use Rattle.scrib_types.specs.declared.event.Action.{Action}
 use Rattle.scrib_types.specs.declared.event.Event.{Event}
@@ -9,12 +9,11 @@ use Rattle.scrib_types.specs.Agreement.{Agreement}
 use Rattle.scrib_types.specs.Judgement.{Judges, IsOffence}
 use Rattle.scrib_types.specs.Permitted.{IsPermitted}
 use Rattle.scrib_types.specs.WellFormed.{is_protocol}
-use Rattle.scrib_parser.specs.declared.tree.ModuleTree.{ModuleTree}
 use Rattle.scrib_global.specs.Simulation.{IsJoinedRun}
 use Rattle.scrib_global.proofs.Runs.{simulates}
 use Rattle.scrib_global.proofs.Judged.{permitted_front}
-use Rattle.scrib_library.specs.Modules.{IsMeaning, MeansProtocols}
-use Rattle.scrib_core.specs.World.{World, Conversation, conversation}
+use Rattle.scrib_library.specs.Modules.{MeansProtocols}
+use Rattle.scrib_core.specs.World.{World, Conversation}
 use Rattle.scrib_core.specs.Runs.{IsPermittedRun, PermitsRuns}
 
 -- a log that offends isn't permitted

@@ -1,5 +1,5 @@
 -- The replies to a list of steps (this project's own).
-use Rattle.std.specs.Prelude.{◌≡◌, ℕ, List, [], ◌∷◌, ◌++◌, length, Option, Some}
+use Rattle.std.specs.Prelude.{◌≡◌, ℕ, List, [], ◌∷◌, length, Option, Some}
 use Rattle.scrib_types.specs.declared.profile.Profile.{Profile}
 use Rattle.scrib_types.specs.declared.profile.Profile.TheVariants.{Plain}
 use Rattle.scrib_types.specs.declared.event.Told.{Told}

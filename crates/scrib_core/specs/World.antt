@@ -9,7 +9,6 @@ use Rattle.scrib_types.specs.declared.profile.Profile.TheVariants.{Plain, Recept
 use Rattle.scrib_lexer.specs.Tokens.{max_text_bytes}
 use Rattle.scrib_parser.specs.declared.tree.ModuleTree.{ModuleTree}
 use Rattle.scrib_modules.specs.Names.{has_name, module_names}
-use Rattle.scrib_library.specs.declared.fault.EditFault.{EditFault}
 use Rattle.scrib_library.specs.declared.fault.EditFault.TheVariants as edit
 use Rattle.scrib_library.specs.Modules.{Means, AllProject}
 use Rattle.scrib_library.specs.declared.changes.Change.{Change}

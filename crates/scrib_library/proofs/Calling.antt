@@ -11,12 +11,12 @@ use Rattle.scrib_types.specs.Trees.{GlobalTree, GlobalBranches}
 use Rattle.scrib_parser.specs.declared.tree.ModuleTree.{ModuleTree}
 use Rattle.scrib_parser.specs.declared.tree.Import.{Import}
 use Rattle.scrib_parser.specs.declared.tree.ProtocolDeclaration.{ProtocolDeclaration}
-use Rattle.scrib_parser.specs.declared.tree.Statement.{Statement}
+use Rattle.scrib_parser.specs.declared.tree.Statement.{Statement as ParsedStatement}
 use Rattle.scrib_parser.specs.declared.tree.Block.{Block}
-use Rattle.scrib_modules.specs.Source.{Body, Done, Then, Step, Sends, Chooses, Repeats, Continues, Calls, Blocks, NoBlock, OrBlock}
-use Rattle.scrib_modules.specs.SourceView.{body_of, blocks_of, step_of}
+use Rattle.scrib_modules.specs.Source.{Body, Done, Then, Statement, Sends, Chooses, Repeats, Continues, Calls, Blocks, NoBlock, OrBlock}
+use Rattle.scrib_modules.specs.SourceView.{body_of, blocks_of, statement_of}
 use Rattle.scrib_modules.specs.Names.{Declaration, dotted_eq, has_name, first_where, known_by, module_names, with_module, declared_in, declarations, is_called, find_protocol, all_but_last, last_name, imported, looked_in, called}
-use Rattle.scrib_modules.specs.Statements.{KeepsRules, protocol_keeps, BlockKeeps, end_keeps, then_keeps, StepKeeps, sends_keeps, chooses_keeps, repeats_keeps, continues_keeps, calls_keeps, BlocksKeep, none_keeps, or_keeps}
+use Rattle.scrib_modules.specs.Statements.{KeepsRules, protocol_keeps, BlockKeeps, end_keeps, then_keeps, StatementKeeps, sends_keeps, chooses_keeps, repeats_keeps, continues_keeps, calls_keeps, BlocksKeep, none_keeps, or_keeps}
 use Rattle.scrib_modules.specs.Elaboration.{Frames, NoFrame, Under, Types, ends, closes, sends, chooses, repeats, passes, continues, calls, JoinsTo, joins_none, joins, Elaborates}
 use Rattle.scrib_modules.proofs.Distinct.{dotted_eq-Decides, found_nowhere}
 use Rattle.scrib_library.specs.Calls.{EachCall, EachCallAt, EachCallOf}
@@ -26,17 +26,17 @@ use Rattle.scrib_library.proofs.Places.{first-there}
 -- ---- calls in statements, one after another
 
 module _ (P : List (List ℕ) → Type 0) where
-  each_push : (ss : List Statement) (s : Statement) → EachCall P (body_of ss) → EachCallAt P (step_of s) → EachCall P (body_of (ss ++ s ∷ []))
+  each_push : (ss : List ParsedStatement) (s : ParsedStatement) → EachCall P (body_of ss) → EachCallAt P (statement_of s) → EachCall P (body_of (ss ++ s ∷ []))
   each_push [] s h k = (k, tt)
   each_push (t ∷ ss) s h k = (h.0, each_push ss s h.1 k)
 
-  pub each_more : (ss : List Statement) (i : ℕ) (s : Statement) → i < length ss → s ≡ get_or ss i s → EachCall P (body_of (take i ss)) → EachCallAt P (step_of s) → EachCall P (body_of (take (i + 1) ss))
+  pub each_more : (ss : List ParsedStatement) (i : ℕ) (s : ParsedStatement) → i < length ss → s ≡ get_or ss i s → EachCall P (body_of (take i ss)) → EachCallAt P (statement_of s) → EachCall P (body_of (take (i + 1) ss))
   each_more ss i s lt at h k =
-      let Q : List Statement → Type 0 = λ l. EachCall P (body_of l) in
+      let Q : List ParsedStatement → Type 0 = λ l. EachCall P (body_of l) in
       subst Q (sym (take_more ss i s lt ∙ ap (λ z. take i ss ++ z ∷ []) (sym at))) (each_push (take i ss) s h k)
 
-  pub each_all : (ss : List Statement) (i : ℕ) → length ss ≤ i → EachCall P (body_of (take i ss)) → EachCall P (body_of ss)
-  each_all ss i le h = let Q : List Statement → Type 0 = λ l. EachCall P (body_of l) in subst Q (take_all i ss le) h
+  pub each_all : (ss : List ParsedStatement) (i : ℕ) → length ss ≤ i → EachCall P (body_of (take i ss)) → EachCall P (body_of ss)
+  each_all ss i le h = let Q : List ParsedStatement → Type 0 = λ l. EachCall P (body_of l) in subst Q (take_all i ss le) h
 
   each_of_push : (bs : List Block) (b : Block) → EachCallOf P (blocks_of bs) → EachCall P (body_of b.body) → EachCallOf P (blocks_of (bs ++ b ∷ []))
   each_of_push [] b h k = (k, tt)
@@ -56,7 +56,7 @@ module _ (P : List (List ℕ) → Type 0) where
     each_any h Done = tt
     each_any h (Then s b) = (each_at_any h s, each_any h b)
 
-    each_at_any : ((path : List (List ℕ)) → P path) → (s : Step) → EachCallAt P s
+    each_at_any : ((path : List (List ℕ)) → P path) → (s : Statement) → EachCallAt P s
     each_at_any h (Sends m p qs s) = tt
     each_at_any h (Chooses p bs s) = each_of_any h bs
     each_at_any h (Repeats x b s) = each_any h b
@@ -73,7 +73,7 @@ module _ (P Q : List (List ℕ) → Type 0) (more : (path : List (List ℕ)) →
     each_weaker Done h = tt
     each_weaker (Then s b) h = (each_at_weaker s h.0, each_weaker b h.1)
 
-    each_at_weaker : (s : Step) → EachCallAt P s → EachCallAt Q s
+    each_at_weaker : (s : Statement) → EachCallAt P s → EachCallAt Q s
     each_at_weaker (Sends m p qs s) h = tt
     each_at_weaker (Chooses p bs s) h = each_of_weaker bs h
     each_at_weaker (Repeats x b s) h = each_weaker b h
@@ -94,7 +94,7 @@ module _ {X : Type 0} (IsOne : X → Type 0) (P : X → List (List ℕ) → Type
     each_for_all Done h = tt
     each_for_all (Then s b) h = (each_at_for_all s (λ x q. (h x q).0), each_for_all b (λ x q. (h x q).1))
 
-    each_at_for_all : (s : Step) → ((x : X) → IsOne x → EachCallAt (P x) s) → EachCallAt ForAll s
+    each_at_for_all : (s : Statement) → ((x : X) → IsOne x → EachCallAt (P x) s) → EachCallAt ForAll s
     each_at_for_all (Sends m p qs s) h = tt
     each_at_for_all (Chooses p bs s) h = each_of_for_all bs h
     each_at_for_all (Repeats x b s) h = each_for_all b h
@@ -230,7 +230,7 @@ module _ (S : Declaration → Type 0) (P : Declaration → List (List ℕ) → T
     block_alike end_keeps k q = end_keeps
     block_alike (then_keeps s b) k q = then_keeps (step_alike s k q.0) (block_alike b k q.1)
 
-    step_alike : {d : Declaration} {recs : List (List ℕ)} {s : Step} {e : Bool} → StepKeeps before d recs s e → S d → EachCallAt (P d) s → StepKeeps after d recs s e
+    step_alike : {d : Declaration} {recs : List (List ℕ)} {s : Statement} {e : Bool} → StatementKeeps before d recs s e → S d → EachCallAt (P d) s → StatementKeeps after d recs s e
     step_alike (sends_keeps r o) k q = sends_keeps r o
     step_alike (chooses_keeps p bs) k q = chooses_keeps p (blocks_alike bs k q)
     step_alike (repeats_keeps b) k q = repeats_keeps (block_alike b k q)

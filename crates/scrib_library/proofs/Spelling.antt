@@ -8,7 +8,7 @@ use Rattle.scrib_lexer.specs.Lexeme.{Lexeme}
 use Rattle.scrib_parser.specs.declared.tree.ModuleTree.{ModuleTree}
 use Rattle.scrib_parser.specs.declared.tree.ProtocolDeclaration.{ProtocolDeclaration}
 use Rattle.scrib_parser.specs.Grammar as grammar
-use Rattle.scrib_parser.specs.Grammar.{Language, many, joined, token, dotted, kept, declaration, max_levels, ◌·◌}
+use Rattle.scrib_parser.specs.Grammar.{Language, many, token, dotted, kept, declaration, max_levels, ◌·◌}
 use Rattle.scrib_library.specs.Edits.{Reads}
 use Rattle.scrib_library.specs.Stored.{AreNames, IsSpelled}
 use Rattle.scrib_library.proofs.Lists.{Contains-nil, Contains-head, Contains-tail, Contains-cases}

@@ -2,7 +2,7 @@
 -- Only contracts of private functions cite this file.
 use Rattle.std.specs.Prelude.{◌≡◌, ◌≢◌, ◌⊎◌, ℕ, List, Some, Contains}
 use Rattle.scrib_parser.specs.declared.tree.ModuleTree.{ModuleTree}
-use Rattle.scrib_modules.specs.Source.{Body, Done, Then, Step, Sends, Chooses, Repeats, Continues, Calls, Blocks, NoBlock, OrBlock}
+use Rattle.scrib_modules.specs.Source.{Body, Done, Then, Statement, Sends, Chooses, Repeats, Continues, Calls, Blocks, NoBlock, OrBlock}
 use Rattle.scrib_modules.specs.SourceView.{body_of}
 use Rattle.scrib_modules.specs.Names.{looked_in, all_but_last, last_name}
 use Rattle.scrib_library.specs.declared.declared.Entry.{Entry}
@@ -15,7 +15,7 @@ abbrev mutual
   EachCall P Done = Unit {0}
   EachCall P (Then s b) = EachCallAt P s × EachCall P b
 
-  pub EachCallAt : (List (List ℕ) → Type 0) → Step → Type 0
+  pub EachCallAt : (List (List ℕ) → Type 0) → Statement → Type 0
   EachCallAt P (Sends m p qs s) = Unit {0}
   EachCallAt P (Chooses p bs s) = EachCallOf P bs
   EachCallAt P (Repeats x b s) = EachCall P b

@@ -54,7 +54,7 @@ pub record IsMeaningOf (modules : List ModuleTree) (es : List Entry) (name : Lis
 
 -- what one entry's protocol means, or why it means nothing
 
--- the joins of what was elaborated of the entry's protocol, if anything, are those of its type
+-- the sites of what was elaborated of the entry's protocol, if anything, are those of its type
 abbrev pub HasSites : List ModuleTree → Entry → Option Elaborated → Type 0
 HasSites modules e None = Unit {0}
 HasSites modules e (Some p) = AreSites modules e.home.now.name e.protocol.now.name p
@@ -94,7 +94,7 @@ pub record IsProjected (profile : Profile) (x : NamedElaborated) (y : NamedMeani
   pub projected : ProjectsUnder profile (meant y)
 
 -- What it means has no projection on the role under the profile, and the role is the first such role of it. The
--- place is that of a choice whose branches don't merge for the role, where the joins are those of its type.
+-- place is that of a choice whose branches don't merge for the role, where the sites are those of its type.
 pub record IsUnprojected (profile : Profile) (x : NamedElaborated) (u : Unmergeable) : Type 0 where
   pub elaborated : Elaborated
   pub is : x.elaborated ≡ Some elaborated

@@ -1,9 +1,9 @@
-use Rattle.std.proofs.Common.{◌≡◌, ℕ, List, Some, sym, ap, subst, ◌∙◌}
+use Rattle.std.proofs.Common.{◌≡◌, Some, sym, ap, subst, ◌∙◌}
 use Rattle.std.specs.Option.{option_copied, option_copied_mut}
 use Rattle.scrib_record.specs.Told.{NoteFails}
 use Rattle.scrib_core.specs.Held.{record_at}
 use Rattle.scrib_core.proofs.Comparing.{serves_for, serves_record}
-use Rattle.scrib_core.proofs.Kept.{kept}
+use Rattle.scrib_core.proofs.RecordsLent.{kept}
 use Rattle.scrib_core.proofs.conversing.note.Goals as goal
 
 pub present_of-near-requires : goal.present_of-near-requires

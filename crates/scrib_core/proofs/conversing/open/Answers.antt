@@ -1,9 +1,9 @@
-use Rattle.std.proofs.Common.{◌≡◌, ℕ, List, ◌<◌, ◌++◌, ◌∷◌, [], length, None, nat_eq, refl, ap, ◌∙◌, arith, rules}
+use Rattle.std.proofs.Common.{◌≡◌, ℕ, List, ◌++◌, ◌∷◌, [], None, nat_eq, refl, ap, ◌∙◌, arith}
 use Rattle.indexmap.proofs.CallerLemmas.{insert_entry-new}
 use Rattle.scrib_record.specs.Stale.{Recorded}
 use Rattle.scrib_record.specs.Turns.{new_record}
 use Rattle.scrib_core.specs.Held.{record_at}
-use Rattle.scrib_core.proofs.Kept.{none_there}
+use Rattle.scrib_core.proofs.RecordsLent.{none_there}
 use Rattle.scrib_core.proofs.conversing.open.Goals as goal
 
 pub returns-in-Ok : goal.returns-in-Ok

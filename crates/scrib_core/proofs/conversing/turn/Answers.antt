@@ -1,10 +1,9 @@
 use Rattle.std.proofs.Common.{◌≡◌, ℕ, List, Some, sym, ap, subst, refl, ◌∙◌}
-use Rattle.std.specs.Prelude.{IsSome}
 use Rattle.std.specs.Option.{option_copied, option_copied_mut}
 use Rattle.scrib_core.specs.Held.{record_at}
 use Rattle.scrib_core.specs.Conversing.{IsPresent}
 use Rattle.scrib_core.proofs.Comparing.{serves_for}
-use Rattle.scrib_core.proofs.Kept.{kept, some_there}
+use Rattle.scrib_core.proofs.RecordsLent.{kept, some_there}
 use Rattle.scrib_core.proofs.Told.{present_copied}
 use Rattle.scrib_core.proofs.conversing.turn.Goals as goal
 
