@@ -87,19 +87,26 @@ fn run_row_again<R: Threads + Wait + Sync>(
     }
 }
 
-/// Runs the row of this name, or each row where it is `all`, and writes the name of each that was run.
+/// Runs the row of this name, or each row where it is `all`, and writes the name of each that was run. A name that no row
+/// has is refused.
 pub(crate) fn run_refused<R: Threads + Wait + Sync, W: Write>(
     rt: &R,
     alloc: Global,
     wanted: &str,
     writer: &mut W,
 ) -> Result<(), RowsFault> {
+    let mut is_known = false;
     for name in NAMES {
         if wanted == "all" || *name == wanted {
+            is_known = true;
             run_row_again(rt, alloc, name)?;
             writer.write_all(name.as_bytes())?;
             writer.write_all(b"\n")?;
         }
     }
-    Ok(())
+    if is_known {
+        Ok(())
+    } else {
+        Err(RowsFault::BadRow)
+    }
 }

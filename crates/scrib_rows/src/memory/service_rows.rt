@@ -12,6 +12,7 @@ use scrib_shards::gate::OpenGate;
 use scrib_shards::pass::Pass;
 use scrib_shards::passing::PassRefusal;
 use scrib_shards::service::Service;
+use scrib_shards::settled::Settled;
 use scrib_shards::stepping::Noted;
 use scrib_types::name::Dotted;
 use scrib_types::shared_event::SharedEvent;
@@ -114,30 +115,28 @@ fn note_all(
     Ok(())
 }
 
-// Settles the service with too few passes, which is refused and gives both back; once more where memory is refused.
-fn refuse_settling(service: Service, passes: Vec<Pass>) -> Result<(Service, Vec<Pass>), RowsFault> {
-    let (fault, service, passes) = match service.settle(passes) {
-        Err((SettleFault::OutOfMemory, service, passes)) => match service.settle(passes) {
-            Err(refused) => refused,
-            Ok(_) => return Err(RowsFault::Wrong),
-        },
-        Err(refused) => refused,
-        Ok(_) => return Err(RowsFault::Wrong),
-    };
-    check(matches!(fault, SettleFault::PassesMissing { shard: 1 }))?;
-    Ok((service, passes))
+// Settles the service, and once more where memory is refused.
+fn settled(
+    service: Service,
+    passes: Vec<Pass>,
+) -> Result<Settled, (SettleFault, Service, Vec<Pass>)> {
+    match service.settle(passes) {
+        Err((SettleFault::OutOfMemory, service, passes)) => service.settle(passes),
+        answer => answer,
+    }
 }
 
-// Settles the service, once more where memory is refused, and compares the table.
+// Settles the service with too few passes, which is refused and gives both back.
+fn refuse_settling(service: Service, passes: Vec<Pass>) -> Result<(Service, Vec<Pass>), RowsFault> {
+    match settled(service, passes) {
+        Err((SettleFault::PassesMissing { shard: 1 }, service, passes)) => Ok((service, passes)),
+        _ => Err(RowsFault::Wrong),
+    }
+}
+
+// Settles the service, and compares the table.
 fn settle(alloc: Global, service: Service, passes: Vec<Pass>) -> Result<(), RowsFault> {
-    let settled = match service.settle(passes) {
-        Ok(settled) => settled,
-        Err((SettleFault::OutOfMemory, service, passes)) => match service.settle(passes) {
-            Ok(settled) => settled,
-            Err(_) => return Err(RowsFault::Wrong),
-        },
-        Err(_) => return Err(RowsFault::Wrong),
-    };
+    let settled = settled(service, passes).ok().ok_or(RowsFault::Wrong)?;
     let text = table(alloc, settled.list.as_slice())?;
     check(text.as_slice() == TABLE.as_bytes())
 }

@@ -301,20 +301,28 @@ fn table_behind(alloc: Global, before: &str, after: &str) -> Result<String, Rows
     Ok(format!(in alloc; "{rows}{{\"conversations\":{CONVERSATIONS},\"events\":{events}}}\n")?)
 }
 
-// Runs the scripts of this seed over a service, and tells where what the connections were answered or the table isn't as
-// it must be.
+// Runs the scripts of this seed over a service, and answers whether what the connections were answered is as it must be,
+// and whether the table is.
+fn judge_run<R: Threads + Wait + Sync>(
+    rt: &R,
+    alloc: Global,
+    seed: u32,
+) -> Result<(bool, bool), RowsFault> {
+    let scripts = scripts_of(alloc, seed)?;
+    let output = run_beside(rt, alloc, &scripts)?;
+    let judged = are_all_judged(alloc, &scripts, &output)?;
+    let table = table_of(alloc, &scripts)?;
+    Ok((judged, output.as_str().ends_with(table.as_str())))
+}
+
+// Runs the scripts of this seed, and tells where what comes of it isn't as it must be.
 fn tell_run<R: Threads + Wait + Sync, W: Write>(
     rt: &R,
     alloc: Global,
     seed: u32,
     writer: &mut W,
 ) -> Result<(), RowsFault> {
-    let scripts = scripts_of(alloc, seed)?;
-    let output = run_beside(rt, alloc, &scripts)?;
-    let judged = are_all_judged(alloc, &scripts, &output)?;
-    let settled = output
-        .as_str()
-        .ends_with(table_of(alloc, &scripts)?.as_str());
+    let (judged, settled) = judge_run(rt, alloc, seed)?;
     if judged && settled {
         return Ok(());
     }
