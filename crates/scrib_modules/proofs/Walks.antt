@@ -16,9 +16,10 @@ use Rattle.scrib_modules.specs.declared.fault.ElaborateFault.{ElaborateFault}
 use Rattle.scrib_modules.specs.declared.fault.ElaborateFault.TheVariants as elaborate
 use Rattle.scrib_modules.specs.declared.checking.BrokenRule.{BrokenRule}
 use Rattle.scrib_modules.specs.declared.checking.CheckError.{CheckError}
-use Rattle.scrib_modules.specs.declared.checking.CheckError.TheVariants.{Broken, Call}
+use Rattle.scrib_modules.specs.declared.checking.CheckError.TheVariants.{Broken, Call, OutOfMemory}
+use Rattle.scrib_modules.specs.declared.checking.Place.{Place}
 use Rattle.scrib_modules.specs.declared.checking.Summary.{Summary}
-use Rattle.scrib_modules.specs.Table.{declaration_of, shown, IsSummary}
+use Rattle.scrib_modules.specs.Table.{declaration_of, shown, IsSummary, protocol_at, StopsAt}
 use Rattle.scrib_modules.specs.Walking.{AreUnwalked, IsEntered, EnterFails, IsFaultIn, IsReady, IsNextCall, IsBlockKept, TopKeeps, TopStops, WasWalked, AreSummaries, IsIdle, IsSmall, WalkFails}
 use Rattle.scrib_parser.specs.declared.tree.Statement.{Statement}
 use Rattle.scrib_modules.specs.SourceView.{body_of}
@@ -383,6 +384,28 @@ idle_before ms declared states u = record {
 pub no_items : (xs : List ℕ) → length xs ≡ 0 → xs ≡ []
 no_items [] e = refl
 no_items (x ∷ xs) e = absurd (omega arith)
+
+-- the last one is the protocol whose statements are checked
+pub same_top : (p : Place) (k : ℕ) (d : Declaration) → p.at ≡ get_or p.declared.now k p.at → slice_get (shown p.declared.now) k ≡ Some d → protocol_at p ≡ d
+same_top p k d is here = sym (entry_is p.declared.now k d p.at here ∙ ap declaration_of (sym is))
+
+-- what stopped the check of the last one
+pub top_stops : (p : Place) (k : ℕ) (e : CheckError) → p.at ≡ get_or p.declared.now k p.at → StopsAt p e → TopStops p.modules.now (shown p.declared.now) p.states.now k e
+top_stops p k (Broken b) is stops = λ root d here.
+    subst (λ y. Fails b.kind p.modules.now root y b.spot) (same_top p k d is here) (stops root)
+top_stops p k (Call to) is stops = λ d here.
+    let same = same_top p k d is here in
+    record {
+      path = stops.path;
+      roles = stops.roles;
+      spot = stops.spot;
+      stands = subst (λ y. HasStatement y (Calls stops.path stops.roles stops.spot)) same stops.stands;
+      to = stops.to;
+      there = subst (λ (y : Declaration). called p.modules.now y.home stops.path ≡ Some stops.to) same stops.there;
+      at = stops.at;
+      unwalked = stops.unwalked;
+    }
+top_stops p k OutOfMemory is stops = tt
 
 -- what the check of the last one found
 pub block_kept : (ms : List ModuleTree) (declared : List CodeDeclaration) (k : ℕ) (x : CodeDeclaration) (d : Declaration) (a b c : List Statement) (s : Summary) → slice_get (shown declared) k ≡ Some d → x ≡ get_or declared k x
