@@ -19,7 +19,7 @@ use Rattle.scrib_modules.specs.declared.checking.CheckError.{CheckError}
 use Rattle.scrib_modules.specs.declared.checking.CheckError.TheVariants.{Broken, Call, OutOfMemory}
 use Rattle.scrib_modules.specs.declared.checking.Place.{Place}
 use Rattle.scrib_modules.specs.declared.checking.Summary.{Summary}
-use Rattle.scrib_modules.specs.Table.{declaration_of, shown, IsSummary, protocol_at, StopsAt}
+use Rattle.scrib_modules.specs.Table.{declaration_of, shown, IsSummary, StopsAt}
 use Rattle.scrib_modules.specs.Walking.{AreUnwalked, IsEntered, EnterFails, IsFaultIn, IsReady, IsNextCall, IsBlockKept, TopKeeps, TopStops, WasWalked, AreSummaries, IsIdle, IsSmall, WalkFails}
 use Rattle.scrib_parser.specs.declared.tree.Statement.{Statement}
 use Rattle.scrib_modules.specs.SourceView.{body_of}
@@ -386,15 +386,15 @@ no_items [] e = refl
 no_items (x ∷ xs) e = absurd (omega arith)
 
 -- the last one is the protocol whose statements are checked
-pub same_top : (p : Place) (k : ℕ) (d : Declaration) → p.at ≡ get_or p.declared.now k p.at → slice_get (shown p.declared.now) k ≡ Some d → protocol_at p ≡ d
-same_top p k d is here = sym (entry_is p.declared.now k d p.at here ∙ ap declaration_of (sym is))
+same_top : (declared : List CodeDeclaration) (k : ℕ) (x : CodeDeclaration) (d : Declaration) → x ≡ get_or declared k x → slice_get (shown declared) k ≡ Some d → declaration_of x ≡ d
+same_top declared k x d is here = sym (entry_is declared k d x here ∙ ap declaration_of (sym is))
 
 -- what stopped the check of the last one
 pub top_stops : (p : Place) (k : ℕ) (e : CheckError) → p.at ≡ get_or p.declared.now k p.at → StopsAt p e → TopStops p.modules.now (shown p.declared.now) p.states.now k e
 top_stops p k (Broken b) is stops = λ root d here.
-    subst (λ y. Fails b.kind p.modules.now root y b.spot) (same_top p k d is here) (stops root)
+    subst (λ y. Fails b.kind p.modules.now root y b.spot) (same_top p.declared.now k p.at d is here) (stops root)
 top_stops p k (Call to) is stops = λ d here.
-    let same = same_top p k d is here in
+    let same = same_top p.declared.now k p.at d is here in
     record {
       path = stops.path;
       roles = stops.roles;
@@ -412,7 +412,7 @@ pub block_kept : (ms : List ModuleTree) (declared : List CodeDeclaration) (k : �
     → a ≡ x.protocol.now.body → b ≡ x.protocol.now.body → c ≡ x.protocol.now.body → BlockKeeps ms (declaration_of x) [] true (body_of a) s.exits → BlockGrows ms (declaration_of x) (body_of b) s.size
     → HasShape ms (declaration_of x) (body_of c) s.shape → IsBlockKept ms d s
 block_kept ms declared k x d a b c s here is p q r keeps grows shaped =
-    let same : declaration_of x ≡ d = sym (entry_is declared k d x here ∙ ap declaration_of (sym is)) in
+    let same = same_top declared k x d is here in
     subst (λ y. IsBlockKept ms y s) same (record {
       keeps = subst (λ y. BlockKeeps ms (declaration_of x) [] true (body_of y) s.exits) p keeps;
       grows = subst (λ y. BlockGrows ms (declaration_of x) (body_of y) s.size) q grows;
