@@ -1,4 +1,5 @@
 use Rattle.std.proofs.Common.{◌≡◌, [], length, reverse, sym, subst, arith}
+use Rattle.std.proofs.lemmas.Grind.{common_steps}
 use Rattle.std.proofs.lemmas.List.{nil_from_length}
 use Rattle.scrib_elaborate.specs.Typing.{made_of, nothing_made, IsState}
 use Rattle.scrib_elaborate.proofs.Sited.{made_is}
@@ -18,3 +19,6 @@ returns-in_default c = λ root e kept s.
     let long : length c.loop.tasks.items ≡ 0 = omega (arith, c.in_default.ensures.cases, c.loop.tasks.ok.0) in
     let none : c.loop.tasks.items ≡ [] = nil_from_length c.loop.tasks.items long in
     ended c.args.program.now.modules.now root c.loop.tasks.items (made_of c.loop.typed) none (c.loop.invariant root e kept s)
+
+pub returns-in_err-typed : goal.returns-in_err-typed
+returns-in_err-typed c = grind (arith, common_steps)

@@ -1,4 +1,5 @@
-use Rattle.std.proofs.Common.{◌++◌, ◌∷◌, [], take, sym, ap, ◌∙◌, subst}
+use Rattle.std.proofs.Common.{◌++◌, ◌∷◌, [], take, sym, ap, ◌∙◌, subst, arith}
+use Rattle.std.proofs.lemmas.Grind.{common_steps}
 use Rattle.std.proofs.lemmas.List.{map-append, take_more}
 use Rattle.scrib_library.specs.declared.outlines.Outline.{Outline}
 use Rattle.scrib_library.specs.declared.sieve.Sieved.{Sieved}
@@ -20,3 +21,6 @@ invariant_of-push c =
     let same = outlined_at c.args.modules.now c.args.outlines.now c.requires c.loop-at.at t _ c.loop-at-test.true c.index-modules-at.is in
     let P : Outline → Type 0 = λ o. IsSieve t.imports o.sieve in
     record { sieved = subst P (sym same) (is_sieve t.imports) }
+
+pub returns : goal.returns
+returns c = grind (arith, common_steps)

@@ -1,4 +1,5 @@
-use Rattle.std.proofs.Common.{◌+◌, List, refl, sym, ap, ◌∙◌, subst, take}
+use Rattle.std.proofs.Common.{◌+◌, List, refl, sym, ap, ◌∙◌, subst, take, arith}
+use Rattle.std.proofs.lemmas.Grind.{common_steps}
 use Rattle.scrib_library.specs.declared.declared.Entry.{Entry}
 use Rattle.scrib_library.specs.Listed.{IsAt, IsGap}
 use Rattle.scrib_library.specs.Entries.{entry_names, AreEntered}
@@ -25,3 +26,6 @@ loop-declaration-preserved c =
           let made = entered_found m c.args.stands before ps i p c.loop-declaration-test.true c.declaration-item.is es c.loop-declaration.invariant c.in_ok-name.name w.in_default.field-0 c.in_ok-name.ensures (subst Q c.deref.ensures.value w.in_default.ensures.found) in
           subst P (sym (ap (λ v. v.items) w.entries-is)) made)
     ]
+
+pub returns : goal.returns
+returns c = grind (arith, common_steps)

@@ -1,5 +1,6 @@
-use Rattle.std.proofs.Common.{◌<◌, List, take, ◌+◌, sym, ap, ◌∙◌, subst}
+use Rattle.std.proofs.Common.{◌<◌, List, take, ◌+◌, sym, ap, ◌∙◌, subst, arith}
 use Rattle.std.proofs.lemmas.Bool.{false≢true}
+use Rattle.std.proofs.lemmas.Grind.{common_steps}
 use Rattle.scrib_library.specs.declared.declared.Entry.{Entry}
 use Rattle.scrib_library.specs.Affected.{names_now}
 use Rattle.scrib_library.specs.Entries.{AreEntries}
@@ -32,3 +33,6 @@ is_among-requires-clause-within c =
     let t = c.index-modules-at.result in
     let P : Outline → Type 0 = λ o. o.bit < 64 in
     subst P (sym (outlined_at c.args.modules.now c.args.outlines.now c.requires c.loop-at.at t _ c.loop-at-test.true c.index-modules-at.is)) (bit_small t.name)
+
+pub returns : goal.returns
+returns c = grind (arith, common_steps)

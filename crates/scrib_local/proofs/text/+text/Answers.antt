@@ -1,4 +1,5 @@
-use Rattle.std.proofs.Common.{◌∙◌, ◌++◌, ◌∷◌, ◌+◌, ◌-◌, ap, sym, codes}
+use Rattle.std.proofs.Common.{◌∙◌, ◌++◌, ◌∷◌, ◌+◌, ◌-◌, ap, sym, codes, arith}
+use Rattle.std.proofs.lemmas.Grind.{common_steps}
 use Rattle.std.specs.Fmt.{decimal}
 use Rattle.scrib_types.specs.Texts.{joined_by}
 use Rattle.scrib_types.specs.LocalView.{local_of, local_branches, var_of, rec_of, send_of, recv_of}
@@ -29,3 +30,12 @@ push_local-returns-in_ok-push_number-in-Var t c =
     after_two _ _ _ _ _ c.in_ok-push_bytes-in-Var.ensures c.in_ok-push_number-in-Var.ensures
     ∙ ap (λ n. c.args.out.now.items ++ 88 ∷ decimal n) (c.saturating_sub-in-Var.ensures ∙ (λ j. c.saturating_sub.ensures j - c.from.ensures j))
     ∙ ap (λ l. c.args.out.now.items ++ local_text c.args.depth l) (sym (ap local_of c.in-Var.is ∙ var_of _))
+
+pub push_braced-returns : goal.push_braced-returns
+push_braced-returns t c = grind (arith, common_steps)
+
+pub push_branches-loop-i-preserved : goal.push_branches-loop-i-preserved
+push_branches-loop-i-preserved t c = grind (arith, common_steps)
+
+pub push_branches-returns : goal.push_branches-returns
+push_branches-returns t c = grind (arith, common_steps)

@@ -1,4 +1,5 @@
-use Rattle.std.proofs.Common.{◌≡◌, false, Ok, Err, Result, sym, subst, ◌∙◌, true≢false}
+use Rattle.std.proofs.Common.{◌≡◌, false, Ok, Err, Result, sym, subst, ◌∙◌, true≢false, arith}
+use Rattle.std.proofs.lemmas.Grind.{common_steps}
 use Rattle.std.specs.Prelude.{OnOk, is_err}
 use Rattle.scrib_core.specs.declared.reply.Reply.{Reply}
 use Rattle.scrib_core.specs.Conversing.{AnswersOpen}
@@ -15,3 +16,9 @@ invariant_of-shard-else-is_err c =
     c.shard.inside.index.entries c.list.new.index.entries c.shard.inside.book c.means_protocols.ensures
     (subst (λ (a : Reply). AnswersOpen c.shard.inside.most c.args.library.now c.shard.inside.records.entries c.args.id c.args.name.now a c.open-reply.new.records.entries) c.in-Opened.is c.open-reply.ensures)
     (when_ok c.list.result c.list.ensures.ok (sym c.is_err.ensures.value ∙ c.if-is_err.false)) c.shard.invariant
+
+pub invariant_of-shard-then-is_err : goal.invariant_of-shard-then-is_err
+invariant_of-shard-then-is_err c = grind (arith, common_steps)
+
+pub returns-then-is_err-clause-answered : goal.returns-then-is_err-clause-answered
+returns-then-is_err-clause-answered c = grind (arith, common_steps)

@@ -1,4 +1,5 @@
 use Rattle.std.proofs.Common.{◌<◌, length, sym, subst, rules, arith}
+use Rattle.std.proofs.lemmas.Grind.{common_steps}
 use Rattle.std.proofs.lemmas.Result.{err_from_is_err_and}
 use Rattle.scrib_modules.specs.Table.{IsSettledSo}
 use Rattle.scrib_modules.specs.Walking.{IsReady}
@@ -95,3 +96,24 @@ returns-clause-ok c =
 pub returns-clause-idle : goal.returns-clause-idle
 returns-clause-idle c =
     idle_from c.args.modules.now c.args.declared.now c.args.root c.loop-top.states.items c.loop-top.stack.items (no_items c.loop-top.stack.items (let none = c.in_default.ensures.cases.0 in omega (arith, none, c.loop-top.stack.ok.0))) c.loop-top.invariant
+
+pub returns-in_err-enter-clause-long : goal.returns-in_err-enter-clause-long
+returns-in_err-enter-clause-long c = grind (arith, common_steps)
+
+pub returns-in_err-push-in-Ok-clause-long : goal.returns-in_err-push-in-Ok-clause-long
+returns-in_err-push-in-Ok-clause-long c = grind (arith, common_steps)
+
+pub returns-in_err-push-in-Err-Call-clause-long : goal.returns-in_err-push-in-Err-Call-clause-long
+returns-in_err-push-in-Err-Call-clause-long c = grind (arith, common_steps)
+
+pub returns-in_err-enter-in-Err-Call-clause-long : goal.returns-in_err-enter-in-Err-Call-clause-long
+returns-in_err-enter-in-Err-Call-clause-long c = grind (arith, common_steps)
+
+pub returns-in-Err-Broken-clause-long : goal.returns-in-Err-Broken-clause-long
+returns-in-Err-Broken-clause-long c = grind (arith, common_steps)
+
+pub returns-in-Err-OutOfMemory-clause-long : goal.returns-in-Err-OutOfMemory-clause-long
+returns-in-Err-OutOfMemory-clause-long c = grind (arith, common_steps)
+
+pub returns-clause-long : goal.returns-clause-long
+returns-clause-long c = grind (arith, common_steps)

@@ -1,4 +1,5 @@
-use Rattle.std.proofs.Common.{IsTrue, sym, ap, ◌∙◌, subst}
+use Rattle.std.proofs.Common.{IsTrue, sym, ap, ◌∙◌, subst, arith}
+use Rattle.std.proofs.lemmas.Grind.{common_steps}
 use Rattle.std.proofs.lemmas.List.{drop_all}
 use Rattle.std.proofs.lemmas.Result.{err_from_is_err_and}
 use Rattle.scrib_types.specs.Agreement.{Agreement}
@@ -29,3 +30,12 @@ pub returns-in_err-local-clause-place : goal.returns-in_err-local-clause-place
 returns-in_err-local-clause-place c = λ modules home name sites.
     let p = err_from_is_err_and c.from_residual-in_err-local.result c.from_residual-in_err-local.ensures.1 in
     rw (p.1, p.2) (c.in_err-local.ensures.place modules home name sites)
+
+pub returns-in_err-local-clause-value : goal.returns-in_err-local-clause-value
+returns-in_err-local-clause-value c = grind (arith, common_steps)
+
+pub invariant_of-result : goal.invariant_of-result
+invariant_of-result c = grind (arith, common_steps)
+
+pub returns-clause-value : goal.returns-clause-value
+returns-clause-value c = grind (arith, common_steps)

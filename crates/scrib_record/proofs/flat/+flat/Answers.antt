@@ -1,4 +1,5 @@
-use Rattle.std.proofs.Common.{◌∙◌, ◌++◌, ◌∷◌, ap, sym}
+use Rattle.std.proofs.Common.{◌∙◌, ◌++◌, ◌∷◌, ap, sym, arith}
+use Rattle.std.proofs.lemmas.Grind.{common_steps}
 use Rattle.scrib_types.specs.GlobalView.{global_of, global_branches, var_of, rec_of, comm_of}
 use Rattle.scrib_types.specs.Flat.{number_bytes, name_bytes}
 use Rattle.scrib_record.specs.Flat.{global_bytes, branches_bytes}
@@ -22,3 +23,9 @@ push_global-returns-in_ok-push_branches-in-Comm t c =
     tagged_three _ _ _ _ _ _ _ _ 3 c.in_ok-push-in-Comm.ensures.items c.in_ok-push_name-in-Comm.ensures c.in_ok-push_name-in-Comm-2.ensures c.in_ok-push_branches-in-Comm.ensures
     ∙ (λ i. c.args.out.now.items ++ ((3 ∷ name_bytes c.in-Comm.from) ++ (name_bytes c.in-Comm.to ++ branches_bytes (global_branches (c.as_slice.ensures i)))))
     ∙ ap (λ g. c.args.out.now.items ++ global_bytes g) (sym (ap global_of c.in-Comm.is ∙ comm_of _ _ _))
+
+pub push_branches-loop-message-preserved : goal.push_branches-loop-message-preserved
+push_branches-loop-message-preserved t c = grind (arith, common_steps)
+
+pub push_branches-returns : goal.push_branches-returns
+push_branches-returns t c = grind (arith, common_steps)

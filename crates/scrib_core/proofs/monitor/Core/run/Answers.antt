@@ -1,4 +1,5 @@
 use Rattle.std.proofs.Common.{◌≡◌, ◌<◌, ◌+◌, ◌++◌, ◌∷◌, [], length, take, sym, ap, ◌∙◌, arith}
+use Rattle.std.proofs.lemmas.Grind.{common_steps}
 use Rattle.std.proofs.lemmas.List.{take_more}
 use Rattle.scrib_core.specs.declared.step.Step.{Step}
 use Rattle.scrib_core.specs.Held.{world_of, state_of}
@@ -26,3 +27,6 @@ returns-in_err-replies-clause-runs c = rw (sym c.self.view_is) (permits_runs (wo
 
 pub returns-clause-runs : goal.returns-clause-runs
 returns-clause-runs c = rw (sym c.self-2.view_is) (permits_runs (world_of c.self-2.inside.library c.self-2.inside.records.entries) c.means_protocols-2.ensures)
+
+pub returns-clause-answered : goal.returns-clause-answered
+returns-clause-answered c = grind (arith, common_steps)

@@ -1,6 +1,7 @@
-use Rattle.std.proofs.Common.{◌≡◌, ◌∙◌, ◌∷◌, ◌++◌, [], ℕ, true, not, List, length, take, get_or, ap, sym, subst}
+use Rattle.std.proofs.Common.{◌≡◌, ◌∙◌, ◌∷◌, ◌++◌, [], ℕ, true, not, List, length, take, get_or, ap, sym, subst, arith}
 use Rattle.std.proofs.Math.Seq.{take-append_seam, get_or-append_seam}
 use Rattle.std.proofs.lemmas.Bool.{and_parts}
+use Rattle.std.proofs.lemmas.Grind.{common_steps}
 use Rattle.std.specs.Option.{option_copied}
 use Rattle.scrib_types.specs.declared.event.Event.{Event}
 use Rattle.scrib_types.specs.declared.event.Told.TheVariants.{Stale}
@@ -16,6 +17,18 @@ front log grown e n same long = rw (same, long) (take-append_seam log (e ∷ [])
 
 back : (log grown : List Event) (e d : Event) (n : ℕ) → grown ≡ log ++ e ∷ [] → n ≡ length log → get_or grown n d ≡ e
 back log grown e d n same long = rw (same, long) (get_or-append_seam log e [] d)
+
+pub invariant_of-self : goal.invariant_of-self
+invariant_of-self c = grind (arith, common_steps)
+
+pub invariant_of-self-then-is_stale : goal.invariant_of-self-then-is_stale
+invariant_of-self-then-is_stale c = grind (arith, common_steps)
+
+pub invariant_of-self-in-Ok : goal.invariant_of-self-in-Ok
+invariant_of-self-in-Ok c = grind (arith, common_steps)
+
+pub invariant_of-self-in-Err : goal.invariant_of-self-in-Err
+invariant_of-self-in-Err c = grind (arith, common_steps)
 
 pub returns-then-is_stale-clause-ok : goal.returns-then-is_stale-clause-ok
 returns-then-is_stale-clause-ok c =
