@@ -10,7 +10,7 @@ use Rattle.scrib_parser.specs.declared.tree.ModuleTree.{ModuleTree}
 use Rattle.scrib_parser.specs.declared.tree.Statement.{Statement as ParsedStatement}
 use Rattle.scrib_parser.specs.declared.tree.Block.{Block}
 use Rattle.scrib_elaborate.specs.declared.tasks.Task.{Task}
-use Rattle.scrib_elaborate.specs.declared.tasks.Task.TheVariants.{Front, Join, Close, Trial}
+use Rattle.scrib_elaborate.specs.declared.tasks.Task.TheVariants.{Front, Join, Close}
 use Rattle.scrib_elaborate.specs.declared.scope.Scope.{Scope as CodeScope}
 use Rattle.scrib_typed.specs.declared.build_error.BuildError.{BuildError}
 use Rattle.scrib_typed.specs.declared.build_error.BuildError.TheVariants.{Broken, OutOfMemory}
@@ -22,12 +22,13 @@ use Rattle.scrib_modules.specs.Elaboration.{continues_in, Scope, inside, inside_
 use Rattle.scrib_modules.specs.Faults.{later, in_choice, in_rec, StandsIn, needs_itself, needs_branch, needs_repeats, needs_passes, needs_calls}
 use Rattle.scrib_elaborate.specs.Staying.{Stays}
 use Rattle.scrib_elaborate.specs.Scope.{scope_of, IsSame, IsInside, IsInsideCall}
-use Rattle.scrib_elaborate.specs.Typing.{Made, nothing_made, before, IsFront, Path, IsState, TypingFails, IsAhead, IsTaskAhead, AreAhead, StopsAhead}
+use Rattle.scrib_elaborate.specs.Typing.{Made, nothing_made, Target, before, IsFront, Path, IsState, TypingFails, IsAhead, IsTaskAhead, AreAhead, StopsAhead}
 use Rattle.scrib_modules.proofs.RulesKept.{of_then, reaches_on}
 use Rattle.scrib_modules.proofs.Checks.{stands_here}
+use Rattle.scrib_elaborate.proofs.Rounds.{levels_none, levels_rest, levels_chosen, levels_block, levels_passes, levels_repeats}
 use Rattle.scrib_elaborate.proofs.Lifted.{below_more, levels_more}
 use Rattle.scrib_elaborate.proofs.NeededParts.{fails_through, fails_rest}
-use Rattle.scrib_elaborate.proofs.Steps.{before_done, block_kept, pushed_twice, opened}
+use Rattle.scrib_elaborate.proofs.Steps.{before_done, block_kept, pushed, opened}
 use Rattle.scrib_elaborate.proofs.Joined.{block_at, in_before}
 use Rattle.scrib_elaborate.proofs.Alone.{never_here, fails_onto}
 
@@ -35,26 +36,24 @@ use Rattle.scrib_elaborate.proofs.Alone.{never_here, fails_onto}
 
 front_ahead : (ms : List ModuleTree) (root : Declaration) (sc : Scope) (depth : ℕ) (ss : List ParsedStatement) (n : ℕ) (fs hs : Frames) → IsFront ms root sc depth ss n fs hs → (rest : Body) × IsAhead ms root sc depth (before ss rest)
 front_ahead ms root sc depth ss n fs hs f =
-    (f.rest, subst (λ d. IsAhead ms root sc d (before ss f.rest)) f.deep (record { outer = f.outer; up = f.up; recs = f.recs; part = f.part; reached = f.reached; below = f.below }))
+    (f.rest, subst (λ d. IsAhead ms root sc d (before ss f.rest)) f.deep (record { outer = f.outer; up = f.up; recs = f.recs; part = f.part; levels = f.levels; reached = f.reached; below = f.below }))
 
-path_ahead : (ms : List ModuleTree) (root : Declaration) (ts : List Task) (n : ℕ) (fs : Frames) → Path ms root ts n fs → AreAhead ms root ts
-path_ahead ms root [] n fs p = All-nil (IsTaskAhead ms root)
-path_ahead ms root (Front st ss ∷ ts) n fs p =
-    All-cons (IsTaskAhead ms root) (Front st ss) ts (front_ahead ms root (scope_of st) st.depth ss.now n fs p.0 p.1) (path_ahead ms root ts n p.0 p.2)
-path_ahead ms root (Join c ∷ ts) n fs p =
-    All-cons (IsTaskAhead ms root) (Join c) ts tt (path_ahead ms root ts n p.0 p.2)
-path_ahead ms root (Close home spot ∷ ts) n fs p =
-    All-cons (IsTaskAhead ms root) (Close home spot) ts tt (path_ahead ms root ts p.0 p.1 p.3)
-path_ahead ms root (Trial ∷ ts) n fs p =
-    All-cons (IsTaskAhead ms root) Trial ts tt (subst (λ x. AreAhead ms root x) (sym p) (All-nil (IsTaskAhead ms root)))
+path_ahead : (ms : List ModuleTree) (target : Target) (ts : List Task) (n : ℕ) (fs : Frames) → Path ms target ts n fs → AreAhead ms target.root ts
+path_ahead ms target [] n fs p = All-nil (IsTaskAhead ms target.root)
+path_ahead ms target (Front st ss ∷ ts) n fs p =
+    All-cons (IsTaskAhead ms target.root) (Front st ss) ts (front_ahead ms target.root (scope_of st) st.depth ss.now n fs p.0 p.1) (path_ahead ms target ts n p.0 p.2)
+path_ahead ms target (Join c ∷ ts) n fs p =
+    All-cons (IsTaskAhead ms target.root) (Join c) ts tt (path_ahead ms target ts n p.0 p.2)
+path_ahead ms target (Close home spot ∷ ts) n fs p =
+    All-cons (IsTaskAhead ms target.root) (Close home spot) ts tt (path_ahead ms target ts p.0 p.1 p.3)
 
 -- those of a stack, whose last one is next
-pub stack_ahead : (ms : List ModuleTree) (root : Declaration) (ts : List Task) (n : ℕ) (fs : Frames) → Path ms root (reverse ts) n fs → AreAhead ms root ts
-stack_ahead ms root ts n fs p =
-    All-permutation (IsTaskAhead ms root) (reverse ts) ts (IsPermutation-sym ts (reverse ts) (IsPermutation-reverse ts)) (path_ahead ms root (reverse ts) n fs p)
+pub stack_ahead : (ms : List ModuleTree) (target : Target) (ts : List Task) (n : ℕ) (fs : Frames) → Path ms target (reverse ts) n fs → AreAhead ms target.root ts
+stack_ahead ms target ts n fs p =
+    All-permutation (IsTaskAhead ms target.root) (reverse ts) ts (IsPermutation-sym ts (reverse ts) (IsPermutation-reverse ts)) (path_ahead ms target (reverse ts) n fs p)
 
-pub closing_ahead : (ms : List ModuleTree) (root : Declaration) (ts : List Task) (home : Bor ModuleTree) (spot : Spot) (g : Made) → IsState ms root (Close home spot ∷ reverse ts) g → AreAhead ms root ts
-closing_ahead ms root ts home spot g s = stack_ahead ms root ts s.path.0 s.path.1 s.path.3
+pub closing_ahead : (ms : List ModuleTree) (target : Target) (ts : List Task) (home : Bor ModuleTree) (spot : Spot) (g : Made) → IsState ms target (Close home spot ∷ reverse ts) g → AreAhead ms target.root ts
+closing_ahead ms target ts home spot g s = stack_ahead ms target ts s.path.0 s.path.1 s.path.3
 
 turned_ahead : (ms : List ModuleTree) (root : Declaration) (old new : List Task) → IsPermutation old new → AreAhead ms root old → AreAhead ms root new
 turned_ahead ms root old new p h = All-permutation (IsTaskAhead ms root) old new p h
@@ -85,6 +84,7 @@ ahead_rest ms root e sc n s t b kept a =
       up = λ f d spot h. a.up f d spot (fails_rest f ms a.recs n sc s (Then t b) a.outer d spot leads a.below h);
       recs = a.recs;
       part = λ inner r q. a.part inner r (later q);
+      levels = levels_rest sc a.recs s (Then t b) a.levels;
       reached = a.reached;
       below = a.below;
     }
@@ -107,6 +107,7 @@ ahead_in_choice ms root sc n p bs spot rest k b within here a =
       up = λ f d s h. a.up f d s (fails_through f d s (needs_branch first (body_of b.body) b.spot last split needs_itself) h);
       recs = a.recs;
       part = λ i r q. a.part i r (in_choice (subst (λ y. StandsIn a.recs y i r) (sym split) (in_before b.spot last first q)));
+      levels = levels_block sc a.recs first (body_of b.body) b.spot last (blocks_of bs) split (levels_chosen sc a.recs p (blocks_of bs) spot rest a.levels);
       reached = a.reached;
       below = (a.below.0, a.below);
     }
@@ -117,6 +118,7 @@ ahead_passes ms root sc n x c spot rest none a = record {
   up = λ f d s h. a.up f d s (fails_through f d s (needs_passes none needs_itself) h);
   recs = x ∷ a.recs;
   part = λ i r q. a.part i r (in_rec q);
+  levels = levels_passes sc a.recs x c spot rest none a.levels;
   reached = a.reached;
   below = (a.below.0, a.below);
 }
@@ -127,6 +129,7 @@ ahead_repeats ms root sc n x c spot rest loops a = record {
   up = λ f d s h. a.up f d s (fails_through f d s (needs_repeats loops needs_itself) h);
   recs = x ∷ a.recs;
   part = λ i r q. a.part i r (in_rec q);
+  levels = levels_repeats sc a.recs x n c spot rest a.levels;
   reached = a.reached;
   below =
       ((omega arith, levels_more n (n + 1) sc.recs (omega arith) a.below.0), below_more n (n + 1) (Under sc rest a.outer) (omega arith) a.below);
@@ -139,6 +142,7 @@ ahead_calls ms root sc n path roles spot rest c there a = record {
   up = λ f d s h. a.up f d s (fails_through f d s (needs_calls there needs_itself) h);
   recs = [];
   part = λ inner r q. q;
+  levels = levels_none (inside_call sc c roles) (body_of c.protocol.body);
   reached = reaches_on a.reached (stands_here sc.within a.recs (Calls path roles spot) rest a.part) there;
   below = (tt, a.below);
 }
@@ -188,26 +192,32 @@ first_ahead ms root st ss rest s is a =
 
 -- a block without exit is tried alone
 
+-- the type of the block alone, in a protocol that is reached from this one
+abbrev pub block_target : (root : Declaration) → CodeScope → List ParsedStatement → Target
+block_target root st ss = record { root = root; depth = st.depth; frames = Under (scope_of st) (body_of ss) NoFrame }
+
 trial_begins : (ms : List ModuleTree) (root : Declaration) (st : CodeScope) (ss : Bor (List ParsedStatement)) → IsAhead ms root (scope_of st) st.depth (body_of ss.now) → Stays ms st.within.home.now (body_of ss.now)
-    → IsState ms root (Front st ss ∷ Trial ∷ []) nothing_made
+    → IsState ms (block_target root st ss.now) (Front st ss ∷ []) nothing_made
 trial_begins ms root st ss a stays =
     let sc = scope_of st in
     let n = st.depth in
     let b = body_of ss.now in
-    opened ms root (Trial ∷ []) st ss sc n b NoFrame (Under sc b NoFrame) nothing_made refl refl refl (record {
+    opened ms (block_target root st ss.now) [] st ss sc n b NoFrame (Under sc b NoFrame) nothing_made refl refl refl (record {
       made = record { typed = ends; marked = tt };
       leads = λ h t. t;
       up = λ f d spot h. a.up f d spot (fails_onto f n a.outer d spot (never_here stays) h);
       recs = a.recs;
       part = a.part;
+      levels = a.levels;
       reached = a.reached;
       below = (a.below.0, tt);
-    }) refl
+    }) (refl, refl)
 
-pub trial_state : (ms : List ModuleTree) (root : Declaration) (old mid new : List Task) (st : CodeScope) (ss : Bor (List ParsedStatement)) → old ≡ [] → mid ≡ old ++ Trial ∷ [] → new ≡ mid ++ Front st ss ∷ [] → IsAhead ms root (scope_of st) st.depth (body_of ss.now) → Stays ms st.within.home.now (body_of ss.now)
-    → IsState ms root (reverse new) nothing_made
-trial_state ms root old mid new st ss none first second a stays =
-    pushed_twice ms root old mid new Trial (Front st ss) nothing_made nothing_made first second refl (subst (λ x. IsState ms root (Front st ss ∷ Trial ∷ reverse x) nothing_made) (sym none) (trial_begins ms root st ss a stays))
+pub trial_state : (ms : List ModuleTree) (root : Declaration) (old new : List Task) (st : CodeScope) (ss : Bor (List ParsedStatement)) → old ≡ [] → new ≡ old ++ Front st ss ∷ [] → IsAhead ms root (scope_of st) st.depth (body_of ss.now) → Stays ms st.within.home.now (body_of ss.now)
+    → IsState ms (block_target root st ss.now) (reverse new) nothing_made
+trial_state ms root old new st ss none push a stays =
+    let target = block_target root st ss.now in
+    pushed ms target old new (Front st ss) nothing_made nothing_made push refl (subst (λ x. IsState ms target (Front st ss ∷ reverse x) nothing_made) (sym none) (trial_begins ms root st ss a stays))
 
 pub turned_stops : (ms : List ModuleTree) (root : Declaration) (old new : List Task) (e : BuildError) → IsPermutation old new → StopsAhead ms root old e → StopsAhead ms root new e
 turned_stops ms root old new (Broken home b) p h = (h.0, turned_ahead ms root old new p h.1)

@@ -32,7 +32,8 @@ use Rattle.scrib_elaborate.specs.Sites.{communications, branch_communications, h
 use Rattle.scrib_elaborate.specs.Scope.{scope_of, IsSame}
 use Rattle.scrib_typed.specs.Typed.{type_of}
 use Rattle.scrib_typed.specs.Rules.{AddsOrigins, IsFirst, IsAdded, HeadFails, IsHeadFault}
-use Rattle.scrib_elaborate.specs.Typing.{Made, made_of, IsMarked, Makes, FailsUp, AreTyped, Path, IsState, IsBefore, IsChoosing, TypingFails}
+use Rattle.scrib_elaborate.specs.Typing.{Made, made_of, IsMarked, Makes, Target, FailsUp, AreTyped, Path, IsState, IsBefore, IsChoosing, TypingFails}
+use Rattle.scrib_elaborate.proofs.Rounds.{levels_chosen, levels_block}
 use Rattle.scrib_elaborate.proofs.NeededParts.{fails_through}
 use Rattle.scrib_elaborate.proofs.Sited.{marks_through, made_from, marks_more, marks_some, marks_joined}
 use Rattle.scrib_elaborate.proofs.Steps.{opened}
@@ -52,9 +53,9 @@ in_before s after (OrBlock c t cs) st = in_other (in_before s after cs st)
 none_typed : (ms : List ModuleTree) (n : ℕ) (sc : Scope) (fs : Frames) (bs : List Block) (types : List Typed) → types ≡ [] → AreTyped ms n sc fs bs types
 none_typed ms n sc fs bs types none k b t e f = absurd (omega (arith, slice_get_within types k t f, ap length none))
 
-pub choosing_begins : (ms : List ModuleTree) (root : Declaration) (ts : List Task) (sc : Scope) (n : ℕ) (p : List ℕ) (bs : List Block) (spot : Spot) (t : Typed) (types : List Typed)
-    → types ≡ [] → IsBefore ms root ts sc n (Chooses p (blocks_of bs) spot) (made_of t) → IsChoosing ms root ts sc n p bs spot (Some t) types
-choosing_begins ms root ts sc n p bs spot t types none b = record {
+pub choosing_begins : (ms : List ModuleTree) (target : Target) (ts : List Task) (sc : Scope) (n : ℕ) (p : List ℕ) (bs : List Block) (spot : Spot) (t : Typed) (types : List Typed)
+    → types ≡ [] → IsBefore ms target ts sc n (Chooses p (blocks_of bs) spot) (made_of t) → IsChoosing ms target ts sc n p bs spot (Some t) types
+choosing_begins ms target ts sc n p bs spot t types none b = record {
   rest = b.rest;
   outer = b.outer;
   typed = none_typed ms n sc (Under sc b.rest b.outer) bs types none;
@@ -63,6 +64,7 @@ choosing_begins ms root ts sc n p bs spot t types none b = record {
   up = b.up;
   recs = b.recs;
   parts = λ inner r q. b.part inner r (in_choice q);
+  levels = levels_chosen sc b.recs p (blocks_of bs) spot b.rest b.levels;
   reached = b.reached;
   below = b.below;
   path = b.path;
@@ -74,10 +76,10 @@ kept_on None P Q R g f h r = f h
 kept_on (Some t) P Q R g f h r = subst R (sym h) r
 
 -- the next block is entered
-pub next_block : (ms : List ModuleTree) (root : Declaration) (ts : List Task) (c : Choosing) (inner : CodeScope) (ss : Bor (List Statement)) (b : Block) (t : Typed) (left : ℕ) (g : Made)
+pub next_block : (ms : List ModuleTree) (target : Target) (ts : List Task) (c : Choosing) (inner : CodeScope) (ss : Bor (List Statement)) (b : Block) (t : Typed) (left : ℕ) (g : Made)
     → slice_get c.branches.now (length c.types.items) ≡ Some b → length c.types.items + 1 + left ≡ length c.branches.now → IsSame c.scope inner → ss.now ≡ b.body → g ≡ made_of t → MatchOption c.follows (left ≡ 0) (λ u. made_of u ≡ made_of t)
-    → IsChoosing ms root ts (scope_of c.scope) c.scope.depth c.chooser.now c.branches.now c.spot (Some t) c.types.items → IsState ms root (Front inner ss ∷ Join c ∷ ts) g
-next_block ms root ts c inner ss b t left g at count same body is kept x =
+    → IsChoosing ms target ts (scope_of c.scope) c.scope.depth c.chooser.now c.branches.now c.spot (Some t) c.types.items → IsState ms target (Front inner ss ∷ Join c ∷ ts) g
+next_block ms target ts c inner ss b t left g at count same body is kept x =
     let sc = scope_of c.scope in
     let n = c.scope.depth in
     let bs = c.branches.now in
@@ -87,12 +89,13 @@ next_block ms root ts c inner ss b t left g at count same body is kept x =
     let split = block_at bs k b at in
     let first = blocks_of (take k bs) in
     let last = blocks_of (drop (suc k) bs) in
-    opened ms root (Join c ∷ ts) inner ss sc n (body_of b.body) after (Under sc (body_of b.body) after) g same.scope same.depth (ap body_of body) (record {
+    opened ms target (Join c ∷ ts) inner ss sc n (body_of b.body) after (Under sc (body_of b.body) after) g same.scope same.depth (ap body_of body) (record {
       made = subst (λ y. Makes ms n after y) (sym is) x.after;
       leads = λ h t. t;
       up = λ f d s h. x.up f d s (fails_through f d s (needs_branch first (body_of b.body) b.spot last split needs_itself) h);
       recs = x.recs;
       part = λ i r q. x.parts i r (subst (λ y. StandsIn x.recs y i r) (sym split) (in_before b.spot last first q));
+      levels = levels_block sc x.recs first (body_of b.body) b.spot last (blocks_of bs) split x.levels;
       reached = x.reached;
       below = (x.below.0, x.below);
     }) (
@@ -111,6 +114,7 @@ next_block ms root ts c inner ss b t left g at count same body is kept x =
             kept_on c.follows (left ≡ 0) (k + 1 ≡ length bs) (λ y. Makes ms n after y) (made_of t) (λ none. omega (arith, count, none)) kept x.after;
         recs = x.recs;
         parts = x.parts;
+        levels = x.levels;
         reached = x.reached;
         below = x.below;
       },
@@ -118,11 +122,11 @@ next_block ms root ts c inner ss b t left g at count same body is kept x =
     )
 
 -- a choice without a block
-pub no_block : (ms : List ModuleTree) (root : Declaration) (ts : List Task) (st : CodeScope) (p : List ℕ) (bs : List Block) (spot : Spot) (g : Made)
-    → bs ≡ [] → IsBefore ms root ts (scope_of st) st.depth (Chooses p (blocks_of bs) spot) g → (place : Declaration) × Reaches ms root place × (st.within.home.now ≡ place.home) × FailsTyping kind.EmptyBranch ms 0 (start_of root) place spot
-no_block ms root ts st p bs spot g none b =
+pub no_block : (ms : List ModuleTree) (target : Target) (ts : List Task) (st : CodeScope) (p : List ℕ) (bs : List Block) (spot : Spot) (g : Made)
+    → bs ≡ [] → IsBefore ms target ts (scope_of st) st.depth (Chooses p (blocks_of bs) spot) g → (place : Declaration) × Reaches ms target.root place × (st.within.home.now ≡ place.home) × FailsTyping kind.EmptyBranch ms 0 (start_of target.root) place spot
+no_block ms target ts st p bs spot g none b =
     let sc = scope_of st in
-    let c = subst (λ x. IsBefore ms root ts sc st.depth (Chooses p (blocks_of x) spot) g) none b in (
+    let c = subst (λ x. IsBefore ms target ts sc st.depth (Chooses p (blocks_of x) spot) g) none b in (
       sc.within,
       c.reached,
       refl,
@@ -322,13 +326,13 @@ head_fails kind.SameOperator ms n sc at bs i b spot rest outer receiver cs g the
     }
 head_fails other ms n sc at bs i b spot rest outer receiver cs g there a t h = absurd h
 
-pub head_fault : (ms : List ModuleTree) (root : Declaration) (ts : List Task) (sc : Scope) (n : ℕ) (at : List ℕ) (bs : List Block) (i : ℕ) (b : Block) (spot : Spot) (follows : Option Typed) (types : List Typed) (receiver : Option (List ℕ)) (cs : GlobalBranches) (g : GlobalTree) (x : IsChoosing ms root ts sc n at bs spot follows types)
+pub head_fault : (ms : List ModuleTree) (target : Target) (ts : List Task) (sc : Scope) (n : ℕ) (at : List ℕ) (bs : List Block) (i : ℕ) (b : Block) (spot : Spot) (follows : Option Typed) (types : List Typed) (receiver : Option (List ℕ)) (cs : GlobalBranches) (g : GlobalTree) (x : IsChoosing ms target ts sc n at bs spot follows types)
     → slice_get bs i ≡ Some b → AreJoined ms n sc (Under sc x.rest x.outer) (role_in sc at) (blocks_of (take i bs)) receiver cs → Types ms n (Under sc (body_of b.body) (Under sc x.rest x.outer)) g → (e : BuildError) → IsHeadFault sc.within.home b.spot (role_in sc at) receiver cs g e
-    → TypingFails ms root e
-head_fault ms root ts sc n at bs i b spot follows types receiver cs g x there a t (untyped.Broken h f) k =
+    → TypingFails ms target.root e
+head_fault ms target ts sc n at bs i b spot follows types receiver cs g x there a t (untyped.Broken h f) k =
     let whole = Under sc (Then (Chooses at (blocks_of bs) spot) x.rest) x.outer in
     (sc.within, x.reached, k.0, x.up f.kind sc.within f.spot (subst (λ s. FailsTyping f.kind ms n whole sc.within s) (sym k.1) (head_fails f.kind ms n sc at bs i b spot x.rest x.outer receiver cs g there a t k.2)))
-head_fault ms root ts sc n at bs i b spot follows types receiver cs g x there a t untyped.OutOfMemory k = tt
+head_fault ms target ts sc n at bs i b spot follows types receiver cs g x there a t untyped.OutOfMemory k = tt
 
 -- all blocks have joined
 
@@ -354,10 +358,10 @@ own_mark {ms = ms} {n = n} {sc = sc} {at = at} {bs = bs} {spot = spot} {rest = r
     } in
     (own.0, subst (λ (i : Origin). IsSite ms n whole i.home.now.name i.spot n (Comm p q cs)) (sym own.1) site)
 
-pub joined_put : (ms : List ModuleTree) (root : Declaration) (ts : List Task) (sc : Scope) (n : ℕ) (at : List ℕ) (bs : List Block) (spot : Spot) (follows : Option Typed) (types : List Typed) (receiver : Option (List ℕ)) (cs : GlobalBranches) (q : List ℕ) (js : List (Option Origin)) (o : Option Origin) (home : Bor ModuleTree) (h : Made) (x : IsChoosing ms root ts sc n at bs spot follows types)
+pub joined_put : (ms : List ModuleTree) (target : Target) (ts : List Task) (sc : Scope) (n : ℕ) (at : List ℕ) (bs : List Block) (spot : Spot) (follows : Option Typed) (types : List Typed) (receiver : Option (List ℕ)) (cs : GlobalBranches) (q : List ℕ) (js : List (Option Origin)) (o : Option Origin) (home : Bor ModuleTree) (h : Made) (x : IsChoosing ms target ts sc n at bs spot follows types)
     → AreJoined ms n sc (Under sc x.rest x.outer) (role_in sc at) (blocks_of bs) receiver cs → receiver ≡ Some q → h.type ≡ Comm (role_in sc at) q cs → h.origins ≡ js ++ o ∷ [] → home.now ≡ sc.within.home → IsOwnOrigin home spot (has_several cs) o
-    → AllZip (IsMarked ms n (Under sc (Then (Chooses at (blocks_of bs) spot) x.rest) x.outer)) (branch_communications n cs) js → IsState ms root ts h
-joined_put ms root ts sc n at bs spot follows types receiver cs q js o home h x a told is kept here own marks =
+    → AllZip (IsMarked ms n (Under sc (Then (Chooses at (blocks_of bs) spot) x.rest) x.outer)) (branch_communications n cs) js → IsState ms target ts h
+joined_put ms target ts sc n at bs spot follows types receiver cs q js o home h x a told is kept here own marks =
     let j = a.some q told in
     let whole = Under sc (Then (Chooses at (blocks_of bs) spot) x.rest) x.outer in
     let typed : Types ms n whole (Comm (role_in sc at) q cs) = chooses j.0 j.1 a.different refl in
@@ -369,9 +373,9 @@ joined_put ms root ts sc n at bs spot follows types receiver cs q js o home h x 
       path = x.path;
     }
 
-pub joined_none : (ms : List ModuleTree) (root : Declaration) (ts : List Task) (sc : Scope) (n : ℕ) (at : List ℕ) (bs : List Block) (spot : Spot) (follows : Option Typed) (types : List Typed) (receiver : Option (List ℕ)) (cs : GlobalBranches) (x : IsChoosing ms root ts sc n at bs spot follows types)
-    → AreJoined ms n sc (Under sc x.rest x.outer) (role_in sc at) (blocks_of bs) receiver cs → receiver ≡ None → (place : Declaration) × Reaches ms root place × (sc.within.home ≡ place.home) × FailsTyping kind.EmptyBranch ms 0 (start_of root) place spot
-joined_none ms root ts sc n at bs spot follows types receiver cs x a none =
+pub joined_none : (ms : List ModuleTree) (target : Target) (ts : List Task) (sc : Scope) (n : ℕ) (at : List ℕ) (bs : List Block) (spot : Spot) (follows : Option Typed) (types : List Typed) (receiver : Option (List ℕ)) (cs : GlobalBranches) (x : IsChoosing ms target ts sc n at bs spot follows types)
+    → AreJoined ms n sc (Under sc x.rest x.outer) (role_in sc at) (blocks_of bs) receiver cs → receiver ≡ None → (place : Declaration) × Reaches ms target.root place × (sc.within.home ≡ place.home) × FailsTyping kind.EmptyBranch ms 0 (start_of target.root) place spot
+joined_none ms target ts sc n at bs spot follows types receiver cs x a none =
     let empty = (a.none none).0 in
     let whole = Under sc (Then (Chooses at (blocks_of bs) spot) x.rest) x.outer in (
       sc.within,
@@ -401,10 +405,10 @@ blocks_push : (bs : List Block) (b : Block) → blocks_of (bs ++ b ∷ []) ≡ b
 blocks_push [] b = refl
 blocks_push (c ∷ bs) b = ap (OrBlock (body_of c.body) c.spot) (blocks_push bs b)
 
-pub next_joined : (ms : List ModuleTree) (root : Declaration) (ts : List Task) (sc : Scope) (n : ℕ) (at : List ℕ) (bs : List Block) (i j : ℕ) (b : Block) (spot : Spot) (follows : Option Typed) (types : List Typed) (t : Typed) (chooser : List ℕ) (old new : Option (List ℕ)) (cs ds : GlobalBranches) (x : IsChoosing ms root ts sc n at bs spot follows types)
+pub next_joined : (ms : List ModuleTree) (target : Target) (ts : List Task) (sc : Scope) (n : ℕ) (at : List ℕ) (bs : List Block) (i j : ℕ) (b : Block) (spot : Spot) (follows : Option Typed) (types : List Typed) (t : Typed) (chooser : List ℕ) (old new : Option (List ℕ)) (cs ds : GlobalBranches) (x : IsChoosing ms target ts sc n at bs spot follows types)
     → j ≡ i + 1 → slice_get bs i ≡ Some b → slice_get types i ≡ Some t → chooser ≡ role_in sc at → AreJoined ms n sc (Under sc x.rest x.outer) (role_in sc at) (blocks_of (take i bs)) old cs → IsAdded chooser old new cs ds (type_of t)
     → AreJoined ms n sc (Under sc x.rest x.outer) (role_in sc at) (blocks_of (take j bs)) new ds
-next_joined ms root ts sc n at bs i j b spot follows types t chooser old new cs ds x next found there given a d =
+next_joined ms target ts sc n at bs i j b spot follows types t chooser old new cs ds x next found there given a d =
     let typed = (x.typed i b t found there).typed in
     let added = subst (λ p. IsAdded p old new cs ds (type_of t)) given d in
     let more : blocks_of (take j bs) ≡ blocks_before (blocks_of (take i bs)) (body_of b.body) b.spot NoBlock =
@@ -412,10 +416,10 @@ next_joined ms root ts sc n at bs i j b spot follows types t chooser old new cs 
     let u = one_joined ms n sc (Under sc x.rest x.outer) (role_in sc at) (blocks_of (take i bs)) old new cs ds (body_of b.body) b.spot (type_of t) a added typed in
     subst (λ y. AreJoined ms n sc (Under sc x.rest x.outer) (role_in sc at) y new ds) (sym more) u
 
-pub next_marked : (ms : List ModuleTree) (root : Declaration) (ts : List Task) (sc : Scope) (n : ℕ) (at : List ℕ) (bs : List Block) (i : ℕ) (b : Block) (spot : Spot) (follows : Option Typed) (types : List Typed) (t : Typed) (chooser : List ℕ) (old new : Option (List ℕ)) (cs ds : GlobalBranches) (js ks : List (Option Origin)) (x : IsChoosing ms root ts sc n at bs spot follows types)
+pub next_marked : (ms : List ModuleTree) (target : Target) (ts : List Task) (sc : Scope) (n : ℕ) (at : List ℕ) (bs : List Block) (i : ℕ) (b : Block) (spot : Spot) (follows : Option Typed) (types : List Typed) (t : Typed) (chooser : List ℕ) (old new : Option (List ℕ)) (cs ds : GlobalBranches) (js ks : List (Option Origin)) (x : IsChoosing ms target ts sc n at bs spot follows types)
     → slice_get bs i ≡ Some b → slice_get types i ≡ Some t → IsAdded chooser old new cs ds (type_of t) → AddsOrigins js ks t.origins.items
     → AllZip (IsMarked ms n (Under sc (Then (Chooses at (blocks_of bs) spot) x.rest) x.outer)) (branch_communications n cs) js → AllZip (IsMarked ms n (Under sc (Then (Chooses at (blocks_of bs) spot) x.rest) x.outer)) (branch_communications n ds) ks
-next_marked ms root ts sc n at bs i b spot follows types t chooser old new cs ds js ks x found there d more marks =
+next_marked ms target ts sc n at bs i b spot follows types t chooser old new cs ds js ks x found there d more marks =
     let after = Under sc x.rest x.outer in
     let whole = Under sc (Then (Chooses at (blocks_of bs) spot) x.rest) x.outer in
     let R = IsMarked ms n whole in
@@ -424,12 +428,12 @@ next_marked ms root ts sc n at bs i b spot follows types t chooser old new cs ds
     let marked = subst (λ g. AllZip R (communications n g) t.origins.items) d.is here in
     ⊎_elim (λ e. absurd (marks_some ms n whole n chooser d.receiver d.branches (subst (λ y. AllZip R (communications n (Comm chooser d.receiver d.branches)) y) e marked))) (λ m. subst (λ y. AllZip R (branch_communications n ds) y) (sym m.3) (subst (λ y. AllZip R (branch_communications n y) (js ++ m.0)) (sym d.joined) (marks_more ms n whole n chooser d.receiver cs d.branches js m.0 m.1 marks (subst (λ y. AllZip R (communications n (Comm chooser d.receiver d.branches)) y) m.2 marked)))) more
 
-pub next_fails : (ms : List ModuleTree) (root : Declaration) (ts : List Task) (sc : Scope) (n : ℕ) (at : List ℕ) (bs : List Block) (i : ℕ) (b : Block) (spot : Spot) (follows : Option Typed) (types : List Typed) (t : Typed) (chooser : List ℕ) (old : Option (List ℕ)) (cs : GlobalBranches) (x : IsChoosing ms root ts sc n at bs spot follows types)
+pub next_fails : (ms : List ModuleTree) (target : Target) (ts : List Task) (sc : Scope) (n : ℕ) (at : List ℕ) (bs : List Block) (i : ℕ) (b : Block) (spot : Spot) (follows : Option Typed) (types : List Typed) (t : Typed) (chooser : List ℕ) (old : Option (List ℕ)) (cs : GlobalBranches) (x : IsChoosing ms target ts sc n at bs spot follows types)
     → slice_get bs i ≡ Some b → slice_get types i ≡ Some t → chooser ≡ role_in sc at → AreJoined ms n sc (Under sc x.rest x.outer) (role_in sc at) (blocks_of (take i bs)) old cs → (e : BuildError) → IsHeadFault sc.within.home b.spot chooser old cs (type_of t) e
-    → TypingFails ms root e
-next_fails ms root ts sc n at bs i b spot follows types t chooser old cs x found there given a e f =
+    → TypingFails ms target.root e
+next_fails ms target ts sc n at bs i b spot follows types t chooser old cs x found there given a e f =
     let typed = (x.typed i b t found there).typed in
-    head_fault ms root ts sc n at bs i b spot follows types old cs (type_of t) x found a typed e (subst (λ p. IsHeadFault sc.within.home b.spot p old cs (type_of t) e) given f)
+    head_fault ms target ts sc n at bs i b spot follows types old cs (type_of t) x found a typed e (subst (λ p. IsHeadFault sc.within.home b.spot p old cs (type_of t) e) given f)
 
 -- the next block's type is there
 
@@ -467,9 +471,9 @@ one_left None follows b t e = absurd (cc e)
 one_left (Some c) None b t e = absurd (cc e)
 one_left (Some c) (Some u) b t e = (ap (option_map (λ x. x.0)) e, ap (option_map (λ x. x.1)) e)
 
-pub block_typed : (ms : List ModuleTree) (root : Declaration) (ts : List Task) (c : Choosing) (types : List Typed) (t : Typed) → types ≡ c.types.items ++ t ∷ [] → IsState ms root (Join c ∷ ts) (made_of t)
-    → IsChoosing ms root ts (scope_of c.scope) c.scope.depth c.chooser.now c.branches.now c.spot c.follows types
-block_typed ms root ts c types t more s =
+pub block_typed : (ms : List ModuleTree) (target : Target) (ts : List Task) (c : Choosing) (types : List Typed) (t : Typed) → types ≡ c.types.items ++ t ∷ [] → IsState ms target (Join c ∷ ts) (made_of t)
+    → IsChoosing ms target ts (scope_of c.scope) c.scope.depth c.chooser.now c.branches.now c.spot c.follows types
+block_typed ms target ts c types t more s =
     let sc = scope_of c.scope in
     let hs = s.path.0 in
     let f = s.path.1 in
@@ -478,16 +482,17 @@ block_typed ms root ts c types t more s =
     let here : Makes ms s.depth (Under sc (body_of f.block.body) after) (made_of t) = subst (λ fs. Makes ms s.depth fs (made_of t)) f.is s.made in
     let all : AreTyped ms s.depth sc after c.branches.now types = subst (λ ts. AreTyped ms s.depth sc after c.branches.now ts) (sym more) (typed_push ms s.depth sc after c.branches.now c.types.items t f.block f.here f.typed here) in
     let long : length types ≡ length c.types.items + 1 = ap length more ∙ length_push c.types.items t in
-    subst (λ n. IsChoosing ms root ts sc n c.chooser.now c.branches.now c.spot c.follows types) f.deep (record {
+    subst (λ n. IsChoosing ms target ts sc n c.chooser.now c.branches.now c.spot c.follows types) f.deep (record {
       rest = f.rest;
       outer = f.outer;
       typed = all;
       few = omega (arith, long, slice_get_within c.branches.now (length c.types.items) f.block f.here);
       after = longer c.follows (λ u. Makes ms s.depth after (made_of u)) (length types) (length c.types.items + 1) (length c.branches.now) long f.after;
-      up = subst (λ fs. FailsUp ms root s.depth fs) f.goes f.up;
+      up = subst (λ fs. FailsUp ms target.root s.depth fs) f.goes f.up;
       recs = f.recs;
       parts = f.parts;
+      levels = f.levels;
       reached = f.reached;
       below = f.below;
-      path = subst (λ fs. Path ms root ts s.depth fs) f.goes s.path.2;
+      path = subst (λ fs. Path ms target ts s.depth fs) f.goes s.path.2;
     })

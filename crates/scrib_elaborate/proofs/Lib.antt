@@ -18,6 +18,7 @@ pub mod Moved
 mod TypesKept
 mod Steps
 mod Joined
+mod Rounds
 mod Finished
 mod Staying
 mod Alone

@@ -23,7 +23,7 @@ use Rattle.scrib_modules.specs.Shape.{HasShape, IsShapeOf, Passes}
 use Rattle.scrib_elaborate.specs.Sites.{communications, IsSite}
 use Rattle.scrib_modules.specs.Table.{declaration_of, shown}
 use Rattle.scrib_typed.specs.Typed.{retold}
-use Rattle.scrib_elaborate.specs.Typing.{Made, IsMarked, Makes, IsAlone, PassesOn, IsBefore, IsState}
+use Rattle.scrib_elaborate.specs.Typing.{Made, IsMarked, Makes, Target, IsAlone, PassesOn, IsBefore, IsState}
 use Rattle.scrib_elaborate.proofs.Begun.{nothing_needs, only_needs, begins_site}
 use Rattle.scrib_modules.proofs.RulesKept.{of_then, of_calls}
 use Rattle.scrib_elaborate.proofs.Moved.{made_moved}
@@ -40,9 +40,9 @@ shown_at table k d h = of (slice_get table k) refl (sym (slice_get-map declarati
     of None e f = absurd (cc f)
     of (Some x) e f = let same : declaration_of x ≡ d = cc f in (x, e, same)
 
-pub call_skipped : (ms : List ModuleTree) (root : Declaration) (ts : List Task) (sc : Scope) (n : ℕ) (path roles given : List (List ℕ)) (spot : Spot) (c : Declaration) (f : Shape) (table : List CodeDeclaration) (g h : Made)
-    → called ms sc.within.home path ≡ Some c → IsShapeOf ms c f → given ≡ map (role_in sc) roles → Passes f given g.type → shown table ≡ declarations ms → PassesOn table f g h → IsBefore ms root ts sc n (Calls path roles spot) g → IsState ms root ts h
-call_skipped ms root ts sc n path roles given spot c f table g h there shaped named passed all told b = record {
+pub call_skipped : (ms : List ModuleTree) (target : Target) (ts : List Task) (sc : Scope) (n : ℕ) (path roles given : List (List ℕ)) (spot : Spot) (c : Declaration) (f : Shape) (table : List CodeDeclaration) (g h : Made)
+    → called ms sc.within.home path ≡ Some c → IsShapeOf ms c f → given ≡ map (role_in sc) roles → Passes f given g.type → shown table ≡ declarations ms → PassesOn table f g h → IsBefore ms target ts sc n (Calls path roles spot) g → IsState ms target ts h
+call_skipped ms target ts sc n path roles given spot c f table g h there shaped named passed all told b = record {
   depth = n;
   frames = whole;
   made = ⊎_elim (λ e. absurd (subst (λ x. Passes x gs g.type) e named_passes)) (λ k. by f k.1 k.0 named_passes told) shaped;
@@ -80,10 +80,10 @@ call_skipped ms root ts sc n path roles given spot c f table g h there shaped na
     by Other k apart none on = absurd none
 
 -- nor is one that nothing follows, of a protocol whose type alone is known
-pub call_known : (ms : List ModuleTree) (root : Declaration) (x : Bool) (ts : List Task) (sc : Scope) (n : ℕ) (path roles given : List (List ℕ)) (spot : Spot) (c : Declaration) (g k h : Made)
-    → KeepsRules ms root x → called ms sc.within.home path ≡ Some c → IsAlone ms c k → given ≡ map (role_in sc) roles → g.type ≡ GlobalEnd → h.type ≡ renamed (given_for (roles_of c) given) k.type → h.origins ≡ k.origins
-    → IsBefore ms root ts sc n (Calls path roles spot) g → IsState ms root ts h
-call_known ms root x ts sc n path roles given spot c g k h kept there alone named none is same b =
+pub call_known : (ms : List ModuleTree) (target : Target) (x : Bool) (ts : List Task) (sc : Scope) (n : ℕ) (path roles given : List (List ℕ)) (spot : Spot) (c : Declaration) (g k h : Made)
+    → KeepsRules ms target.root x → called ms sc.within.home path ≡ Some c → IsAlone ms c k → given ≡ map (role_in sc) roles → g.type ≡ GlobalEnd → h.type ≡ renamed (given_for (roles_of c) given) k.type → h.origins ≡ k.origins
+    → IsBefore ms target ts sc n (Calls path roles spot) g → IsState ms target ts h
+call_known ms target x ts sc n path roles given spot c g k h kept there alone named none is same b =
     let gs = map (role_in sc) roles in
     let block = (block_kept b.recs (Then (Calls path roles spot) b.rest) b.reached x kept b.part).2 in
     let call = of_calls (of_then block).step in

@@ -4,6 +4,7 @@ use Rattle.std.specs.Prelude.{◌≡◌, ℕ, ◌+◌, ◌≤◌, Bool, true, fa
 use Rattle.std.specs.List.{All, AllZip}
 use Rattle.scrib_types.specs.declared.spot.Spot.{Spot}
 use Rattle.scrib_types.specs.Trees.{GlobalTree, GlobalEnd, GlobalVar}
+use Rattle.scrib_types.specs.WellFormed.{has_role}
 use Rattle.scrib_parser.specs.declared.tree.ModuleTree.{ModuleTree}
 use Rattle.scrib_parser.specs.declared.tree.Statement.{Statement as ParsedStatement}
 use Rattle.scrib_parser.specs.declared.tree.Block.{Block}
@@ -16,15 +17,15 @@ use Rattle.scrib_modules.specs.declared.shape.Shape.TheVariants.{Joining}
 use Rattle.scrib_modules.specs.declared.checking.State.{State}
 use Rattle.scrib_elaborate.specs.declared.tasks.Program.{Program}
 use Rattle.scrib_elaborate.specs.declared.tasks.Task.{Task}
-use Rattle.scrib_elaborate.specs.declared.tasks.Task.TheVariants.{Front, Join, Close, Trial}
+use Rattle.scrib_elaborate.specs.declared.tasks.Task.TheVariants.{Front, Join, Close}
 use Rattle.scrib_modules.specs.declared.fault.FaultKind.{FaultKind}
 use Rattle.scrib_typed.specs.declared.build_error.BuildError.{BuildError}
 use Rattle.scrib_typed.specs.declared.build_error.BuildError.TheVariants.{Broken, OutOfMemory}
 use Rattle.scrib_typed.specs.Typed.{type_of, retold}
-use Rattle.scrib_modules.specs.Source.{Body, Then, Statement, Chooses, Repeats}
+use Rattle.scrib_modules.specs.Source.{Body, Then, Statement, Chooses, Repeats, Blocks}
 use Rattle.scrib_modules.specs.SourceView.{statement_of, body_of, blocks_of}
 use Rattle.scrib_modules.specs.Names.{Declaration, declarations}
-use Rattle.scrib_modules.specs.Elaboration.{continues_in, Scope, level_of, inside, Frames, Under, Types, start_of}
+use Rattle.scrib_modules.specs.Elaboration.{continues_in, continues_some, Scope, level_of, inside, Frames, Under, Types, start_of}
 use Rattle.scrib_modules.specs.Faults.{Reaches, FailsTyping}
 use Rattle.scrib_modules.specs.Directory.{IsDirectory}
 use Rattle.scrib_modules.specs.Statements.{KeepsRules}
@@ -103,6 +104,27 @@ abbrev pub FailsUp : List ModuleTree → Declaration → ℕ → Frames → Type
 FailsUp modules root n fs =
     (k : FaultKind) (d : Declaration) (spot : Spot) → FailsTyping k modules n fs d spot → FailsTyping k modules 0 (start_of root) d spot
 
+-- What a run makes: the type of these frames, under so many recursions. A fault of it is told of the type of the protocol
+-- that was asked for.
+pub record Target : Type 0 where
+  pub root : Declaration
+  pub depth : ℕ
+  pub frames : Frames
+
+-- the type of the protocol that was asked for
+abbrev pub whole_target : Declaration → Target
+whole_target root = record { root = root; depth = 0; frames = start_of root }
+
+-- of each of these recursions that the block continues it is known how many stand round it in the type
+abbrev pub HasLevels : Scope → (recs : List (List ℕ)) → Body → Type 0
+HasLevels sc recs b =
+    (x : List ℕ) → has_role x recs ≡ true → continues_in x b ≡ true → (k : ℕ) × (level_of x sc.recs ≡ Some k)
+
+-- so it is of each that a block of a choice continues
+abbrev pub HaveLevels : Scope → (recs : List (List ℕ)) → Blocks → Type 0
+HaveLevels sc recs bs =
+    (x : List ℕ) → has_role x recs ≡ true → continues_some x bs ≡ true → (k : ℕ) × (level_of x sc.recs ≡ Some k)
+
 -- where the statements are in front of these frames, their type is that of the others
 pub record IsFront (modules : List ModuleTree) (root : Declaration) (sc : Scope) (depth : ℕ) (statements : List ParsedStatement) (n : ℕ) (fs hs : Frames) : Type 0 where
   pub rest : Body
@@ -113,6 +135,7 @@ pub record IsFront (modules : List ModuleTree) (root : Declaration) (sc : Scope)
   pub up : FailsUp modules root n (Under sc (before statements rest) outer)
   pub recs : List (List ℕ)
   pub part : IsPart sc.within recs (before statements rest)
+  pub levels : HasLevels sc recs (before statements rest)
   pub reached : Reaches modules root sc.within
   pub below : AreBelow n (Under sc rest outer)
 
@@ -135,6 +158,7 @@ pub record IsJoin (modules : List ModuleTree) (root : Declaration) (sc : Scope) 
   pub after : MatchOption follows (length types + 1 ≡ length blocks) (λ t. Makes modules n (Under sc rest outer) (made_of t))
   pub recs : List (List ℕ)
   pub parts : AreParts sc.within recs (blocks_of blocks)
+  pub levels : HaveLevels sc recs (blocks_of blocks)
   pub reached : Reaches modules root sc.within
   pub below : AreBelow n (Under sc rest outer)
 
@@ -153,35 +177,34 @@ pub record IsClose (modules : List ModuleTree) (root : Declaration) (home : Modu
   pub reached : Reaches modules root scope.within
   pub at : home ≡ scope.within.home
 
--- the tasks, the next one first, lead from these frames to those of the protocol that was asked for
-abbrev pub Path : List ModuleTree → Declaration → List Task → ℕ → Frames → Type 0
-Path modules root [] n fs = (n ≡ 0) × (fs ≡ start_of root)
-Path modules root (Front scope statements ∷ tasks) n fs =
-    (hs : Frames) × IsFront modules root (scope_of scope) scope.depth statements.now n fs hs × Path modules root tasks n hs
-Path modules root (Join c ∷ tasks) n fs =
-    (hs : Frames) × IsJoin modules root (scope_of c.scope) c.scope.depth c.chooser.now c.branches.now c.spot c.follows c.types.items n fs hs × Path modules root tasks n hs
-Path modules root (Close home spot ∷ tasks) n fs =
-    (m : ℕ) × (hs : Frames) × IsClose modules root home.now spot n fs m hs × Path modules root tasks m hs
--- a trial leads to none: its task is the last
-Path modules root (Trial ∷ tasks) n fs = tasks ≡ []
+-- the tasks, the next one first, lead from these frames to those of the target
+abbrev pub Path : List ModuleTree → Target → List Task → ℕ → Frames → Type 0
+Path modules target [] n fs = (n ≡ target.depth) × (fs ≡ target.frames)
+Path modules target (Front scope statements ∷ tasks) n fs =
+    (hs : Frames) × IsFront modules target.root (scope_of scope) scope.depth statements.now n fs hs × Path modules target tasks n hs
+Path modules target (Join c ∷ tasks) n fs =
+    (hs : Frames) × IsJoin modules target.root (scope_of c.scope) c.scope.depth c.chooser.now c.branches.now c.spot c.follows c.types.items n fs hs × Path modules target tasks n hs
+Path modules target (Close home spot ∷ tasks) n fs =
+    (m : ℕ) × (hs : Frames) × IsClose modules target.root home.now spot n fs m hs × Path modules target tasks m hs
 
 -- the type that was made last is that of the frames from which the tasks lead on
-pub record IsState (modules : List ModuleTree) (root : Declaration) (tasks : List Task) (m : Made) : Type 0 where
+pub record IsState (modules : List ModuleTree) (target : Target) (tasks : List Task) (m : Made) : Type 0 where
   pub depth : ℕ
   pub frames : Frames
   pub made : Makes modules depth frames m
-  pub path : Path modules root tasks depth frames
+  pub path : Path modules target tasks depth frames
 
 -- it is that of what follows this statement, and the tasks lead on from the statement
-pub record IsBefore (modules : List ModuleTree) (root : Declaration) (tasks : List Task) (sc : Scope) (n : ℕ) (s : Statement) (m : Made) : Type 0 where
+pub record IsBefore (modules : List ModuleTree) (target : Target) (tasks : List Task) (sc : Scope) (n : ℕ) (s : Statement) (m : Made) : Type 0 where
   pub rest : Body
   pub outer : Frames
   pub made : Makes modules n (Under sc rest outer) m
-  pub path : Path modules root tasks n (Under sc (Then s rest) outer)
-  pub up : FailsUp modules root n (Under sc (Then s rest) outer)
+  pub path : Path modules target tasks n (Under sc (Then s rest) outer)
+  pub up : FailsUp modules target.root n (Under sc (Then s rest) outer)
   pub recs : List (List ℕ)
   pub part : IsPart sc.within recs (Then s rest)
-  pub reached : Reaches modules root sc.within
+  pub levels : HasLevels sc recs (Then s rest)
+  pub reached : Reaches modules target.root sc.within
   pub below : AreBelow n (Under sc rest outer)
 
 -- a rule on types fails in a protocol that is reached from the one that was asked for, unless memory was refused
@@ -197,6 +220,7 @@ pub record IsAhead (modules : List ModuleTree) (root : Declaration) (sc : Scope)
   pub up : FailsUp modules root n (Under sc b outer)
   pub recs : List (List ℕ)
   pub part : IsPart sc.within recs b
+  pub levels : HasLevels sc recs b
   pub reached : Reaches modules root sc.within
   pub below : AreBelow n (Under sc b outer)
 
@@ -206,7 +230,6 @@ IsTaskAhead modules root (Front scope statements) =
     (rest : Body) × IsAhead modules root (scope_of scope) scope.depth (before statements.now rest)
 IsTaskAhead modules root (Join c) = Unit {0}
 IsTaskAhead modules root (Close home spot) = Unit {0}
-IsTaskAhead modules root Trial = Unit {0}
 
 abbrev pub AreAhead : List ModuleTree → Declaration → List Task → Type 0
 AreAhead modules root tasks = All (IsTaskAhead modules root) tasks
@@ -218,18 +241,19 @@ StopsAhead modules root tasks (Broken home b) =
 StopsAhead modules root tasks OutOfMemory = Unit {0}
 
 -- a choice in whose place the tasks lead on: the types of its first blocks, and while some are left of what follows it
-pub record IsChoosing (modules : List ModuleTree) (root : Declaration) (tasks : List Task) (sc : Scope) (n : ℕ) (chooser : List ℕ) (blocks : List Block) (spot : Spot) (follows : Option Typed) (types : List Typed) : Type 0 where
+pub record IsChoosing (modules : List ModuleTree) (target : Target) (tasks : List Task) (sc : Scope) (n : ℕ) (chooser : List ℕ) (blocks : List Block) (spot : Spot) (follows : Option Typed) (types : List Typed) : Type 0 where
   pub rest : Body
   pub outer : Frames
   pub typed : AreTyped modules n sc (Under sc rest outer) blocks types
   pub few : length types ≤ length blocks
   pub after : MatchOption follows (length types ≡ length blocks) (λ t. Makes modules n (Under sc rest outer) (made_of t))
-  pub up : FailsUp modules root n (Under sc (Then (Chooses chooser (blocks_of blocks) spot) rest) outer)
+  pub up : FailsUp modules target.root n (Under sc (Then (Chooses chooser (blocks_of blocks) spot) rest) outer)
   pub recs : List (List ℕ)
   pub parts : AreParts sc.within recs (blocks_of blocks)
-  pub reached : Reaches modules root sc.within
+  pub levels : HaveLevels sc recs (blocks_of blocks)
+  pub reached : Reaches modules target.root sc.within
   pub below : AreBelow n (Under sc rest outer)
-  pub path : Path modules root tasks n (Under sc (Then (Chooses chooser (blocks_of blocks) spot) rest) outer)
+  pub path : Path modules target tasks n (Under sc (Then (Chooses chooser (blocks_of blocks) spot) rest) outer)
 
 -- where the choices stand of those that have an origin
 abbrev pub told_sites : List (Option Origin) → List ChoiceSite

@@ -7,10 +7,9 @@ ghost use Rattle.scrib_elaborate.specs.declared.tasks.Task.TheVariants.{Front, J
 ghost use Rattle.scrib_parser.specs.declared.tree.ModuleTree.{ModuleTree};
 ghost use Rattle.scrib_modules.specs.Source.{Chooses};
 ghost use Rattle.scrib_modules.specs.SourceView.{blocks_of};
-ghost use Rattle.scrib_modules.specs.Names.{Declaration};
 ghost use Rattle.scrib_elaborate.specs.declared.scope.Scope.{Scope};
 ghost use Rattle.scrib_elaborate.specs.Scope.{scope_of, IsSame};
-ghost use Rattle.scrib_elaborate.specs.Typing.{Made, made_of, IsBefore, IsState, TypingFails, StopsAhead, IsChoosing};
+ghost use Rattle.scrib_elaborate.specs.Typing.{Target, Made, made_of, IsBefore, IsState, TypingFails, StopsAhead, IsChoosing};
 
 use crate::scope::Scope;
 use crate::tasks::{Choosing, Task};
@@ -39,9 +38,9 @@ pub fn choose<'a>(
     spot: Spot,
     typed: Typed<'a>,
 ) -> Result<Typed<'a>, BuildError<'a>>
-    ensures { (modules : List ModuleTree) (root : Declaration)
-        → IsBefore modules root (reverse tasks.old.items) (scope_of scope.entry) scope.entry.depth (Chooses chooser.now (blocks_of branches.now) spot) (made_of typed.entry)
-        → MatchResult result (λ t. IsState modules root (reverse tasks.new.items) (made_of t)) (StopsAhead modules root tasks.new.items) }
+    ensures { (modules : List ModuleTree) (target : Target)
+        → IsBefore modules target (reverse tasks.old.items) (scope_of scope.entry) scope.entry.depth (Chooses chooser.now (blocks_of branches.now) spot) (made_of typed.entry)
+        → MatchResult result (λ t. IsState modules target (reverse tasks.new.items) (made_of t)) (StopsAhead modules target.root tasks.new.items) }
 {
     let Some(first) = branches.first() else {
         return Err(broken(scope.within.home, FaultKind::EmptyBranch, spot));
@@ -69,9 +68,9 @@ pub fn join<'a>(
     choosing: Choosing<'a>,
     typed: Typed<'a>,
 ) -> Result<Typed<'a>, BuildError<'a>>
-    ensures { (modules : List ModuleTree) (root : Declaration)
-        → IsState modules root (Join choosing.entry ∷ reverse tasks.old.items) (made_of typed.entry)
-        → MatchResult result (λ t. IsState modules root (reverse tasks.new.items) (made_of t)) (StopsAhead modules root tasks.new.items) }
+    ensures { (modules : List ModuleTree) (target : Target)
+        → IsState modules target (Join choosing.entry ∷ reverse tasks.old.items) (made_of typed.entry)
+        → MatchResult result (λ t. IsState modules target (reverse tasks.new.items) (made_of t)) (StopsAhead modules target.root tasks.new.items) }
 {
     let Choosing {
         scope,
@@ -107,9 +106,9 @@ fn enter<'a>(
     choosing: Choosing<'a>,
     body: &'a [Statement],
 ) -> Result<(), AllocError>
-    ensures { (modules : List ModuleTree) (root : Declaration) (g : Made)
-        → ((inner : Scope) → IsSame choosing.entry.scope inner → IsState modules root (Front inner body.entry ∷ Join choosing.entry ∷ reverse tasks.old.items) g)
-        → IfOk result (λ _. IsState modules root (reverse tasks.new.items) g) }
+    ensures { (modules : List ModuleTree) (target : Target) (g : Made)
+        → ((inner : Scope) → IsSame choosing.entry.scope inner → IsState modules target (Front inner body.entry ∷ Join choosing.entry ∷ reverse tasks.old.items) g)
+        → IfOk result (λ _. IsState modules target (reverse tasks.new.items) g) }
 {
     let inner = choosing.scope.copy(alloc)?;
     tasks.push(Task::Join(choosing))?;
@@ -142,10 +141,10 @@ fn joined<'a>(
     spot: Spot,
     types: Vec<Typed<'a>>,
 ) -> Result<Typed<'a>, BuildError<'a>>
-    ensures { (modules : List ModuleTree) (root : Declaration) (tasks : List Task) (follows : Option Typed)
-        → IsChoosing modules root tasks (scope_of scope.now) scope.now.depth given.now blocks.now spot follows types.entry.items
+    ensures { (modules : List ModuleTree) (target : Target) (tasks : List Task) (follows : Option Typed)
+        → IsChoosing modules target tasks (scope_of scope.now) scope.now.depth given.now blocks.now spot follows types.entry.items
         → length types.entry.items ≡ length blocks.now
-        → MatchResult result (λ t. IsState modules root tasks (made_of t)) (TypingFails modules root) }
+        → MatchResult result (λ t. IsState modules target tasks (made_of t)) (TypingFails modules target.root) }
 {
     let home = scope.within.home;
     let chooser = scope.role(given);

@@ -175,7 +175,6 @@ fn try_alone<'a>(
         → IfErr result (StopsAhead program.now.modules.now root ahead.new.items) }
 {
     let mut tasks = Vec::new(alloc);
-    tasks.push(Task::Trial)?;
     tasks.push(Task::Front(scope, body))?;
     match run(alloc, program, &mut tasks) {
         Ok(_) => Ok(()),

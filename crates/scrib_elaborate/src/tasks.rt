@@ -51,6 +51,4 @@ pub enum Task<'a> {
     Join(Choosing<'a>),
     /// It is the type of the body of the recursion here.
     Close(&'a ModuleTree, Spot),
-    /// It is the type of a block that was tried alone.
-    Trial,
 }

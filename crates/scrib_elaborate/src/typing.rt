@@ -1,23 +1,22 @@
 //! The global type of a protocol: the third pass.
 
-ghost use Rattle.std.specs.Prelude.{◌≡◌, ℕ, Bool, List, ◌∷◌, map, slice_get, Some, IfOk, IfErr, IfSome, MatchResult, reverse};
+ghost use Rattle.std.specs.Prelude.{◌≡◌, ℕ, ◌<◌, Bool, List, ◌∷◌, map, slice_get, Some, None, IfOk, IfErr, IfSome, MatchResult, reverse};
 ghost use Rattle.scrib_types.specs.declared.spot.Spot.{Spot};
 ghost use Rattle.scrib_types.specs.GlobalView.{global_of};
 ghost use Rattle.scrib_types.specs.Trees.{GlobalEnd};
 ghost use Rattle.scrib_parser.specs.declared.tree.ModuleTree.{ModuleTree};
 ghost use Rattle.scrib_elaborate.specs.declared.tasks.Task.TheVariants.{Front, Join, Close};
-ghost use Rattle.scrib_typed.specs.declared.build_error.BuildError.TheVariants.{OutOfMemory};
 ghost use Rattle.scrib_modules.specs.Source.{Repeats, Calls};
 ghost use Rattle.scrib_modules.specs.SourceView.{statement_of, body_of};
-ghost use Rattle.scrib_modules.specs.Names.{Declaration as PureDeclaration, called};
+ghost use Rattle.scrib_modules.specs.Names.{called};
 ghost use Rattle.scrib_modules.specs.Statements.{KeepsRules};
-ghost use Rattle.scrib_modules.specs.Elaboration.{Frames, Types, role_in, sent, start_of};
+ghost use Rattle.scrib_modules.specs.Elaboration.{Frames, Types, role_in, sent, level_of, start_of};
 ghost use Rattle.scrib_typed.specs.Lifting.{lifted};
 ghost use Rattle.scrib_modules.specs.Table.{shown, declaration_of};
 ghost use Rattle.scrib_modules.specs.Shape.{IsShapeOf};
 ghost use Rattle.scrib_elaborate.specs.Scope.{scope_of};
 ghost use Rattle.scrib_typed.specs.Typed.{type_of, none_told};
-ghost use Rattle.scrib_elaborate.specs.Typing.{made_of, nothing_made, Makes, PassesOn, IsBefore, IsState, IsTable, IsVariable, TypingFails, StopsAhead};
+ghost use Rattle.scrib_elaborate.specs.Typing.{Target, whole_target, made_of, nothing_made, Makes, PassesOn, IsBefore, IsState, IsTable, IsVariable, TypingFails, StopsAhead};
 
 use crate::choices::{choose, join};
 use crate::earlier::first_fault;
@@ -67,9 +66,9 @@ fn repeat<'a>(
     spot: Spot,
     typed: Typed<'a>,
 ) -> Result<Typed<'a>, Refused>
-    ensures { (modules : List ModuleTree) (root : PureDeclaration)
-        → IsBefore modules root (reverse tasks.old.items) (scope_of scope.entry) scope.entry.depth (Repeats name.now (body_of body.now) spot) (made_of typed.entry)
-        → IfOk result (λ t. IsState modules root (reverse tasks.new.items) (made_of t)) }
+    ensures { (modules : List ModuleTree) (target : Target)
+        → IsBefore modules target (reverse tasks.old.items) (scope_of scope.entry) scope.entry.depth (Repeats name.now (body_of body.now) spot) (made_of typed.entry)
+        → IfOk result (λ t. IsState modules target (reverse tasks.new.items) (made_of t)) }
 {
     if continues_in(name, body) {
         let inside = scope.inside(alloc, name)?;
@@ -107,13 +106,13 @@ fn call<'a>(
     typed: Typed<'a>,
 ) -> Result<Typed<'a>, Refused>
     requires { IsTable program.now }
-    ensures { (root : PureDeclaration) (e : Bool) (path : List (List ℕ)) (spot : Spot)
-        → KeepsRules program.now.modules.now root e
+    ensures { (target : Target) (e : Bool) (path : List (List ℕ)) (spot : Spot)
+        → KeepsRules program.now.modules.now target.root e
         → called program.now.modules.now scope.now.within.home.now path ≡ Some (declaration_of callee.entry.declared)
         → slice_get (shown program.now.declared.now) callee.entry.place ≡ Some (declaration_of callee.entry.declared)
         → IsShapeOf program.now.modules.now (declaration_of callee.entry.declared) callee.entry.shape
-        → IsBefore program.now.modules.now root (reverse tasks.old.items) (scope_of scope.now) scope.now.depth (Calls path roles.now spot) (made_of typed.entry)
-        → IfOk result (λ t. IsState program.now.modules.now root (reverse tasks.new.items) (made_of t)) }
+        → IsBefore program.now.modules.now target (reverse tasks.old.items) (scope_of scope.now) scope.now.depth (Calls path roles.now spot) (made_of typed.entry)
+        → IfOk result (λ t. IsState program.now.modules.now target (reverse tasks.new.items) (made_of t)) }
 {
     let Callee {
         declared,
@@ -170,9 +169,9 @@ fn close<'a>(
     spot: Spot,
     typed: Typed<'a>,
 ) -> Result<Typed<'a>, BuildError<'a>>
-    ensures { (modules : List ModuleTree) (root : PureDeclaration) (tasks : List Task)
-        → IsState modules root (Close home.entry spot ∷ tasks) (made_of typed.entry)
-        → MatchResult result (λ t. IsState modules root tasks (made_of t)) (TypingFails modules root) }
+    ensures { (modules : List ModuleTree) (target : Target) (tasks : List Task)
+        → IsState modules target (Close home.entry spot ∷ tasks) (made_of typed.entry)
+        → MatchResult result (λ t. IsState modules target tasks (made_of t)) (TypingFails modules target.root) }
 {
     typed.closed(alloc, home, spot)
 }
@@ -187,9 +186,9 @@ fn prepend<'a>(
     typed: Typed<'a>,
 ) -> Result<Typed<'a>, BuildError<'a>>
     requires { IsTable program.now }
-    ensures { (root : PureDeclaration) (e : Bool) → KeepsRules program.now.modules.now root e
-        → IsBefore program.now.modules.now root (reverse tasks.old.items) (scope_of scope.entry) scope.entry.depth (statement_of statement.now) (made_of typed.entry)
-        → MatchResult result (λ t. IsState program.now.modules.now root (reverse tasks.new.items) (made_of t)) (StopsAhead program.now.modules.now root tasks.new.items) }
+    ensures { (target : Target) (e : Bool) → KeepsRules program.now.modules.now target.root e
+        → IsBefore program.now.modules.now target (reverse tasks.old.items) (scope_of scope.entry) scope.entry.depth (statement_of statement.now) (made_of typed.entry)
+        → MatchResult result (λ t. IsState program.now.modules.now target (reverse tasks.new.items) (made_of t)) (StopsAhead program.now.modules.now target.root tasks.new.items) }
 {
     match statement {
         Statement::Message {
@@ -214,15 +213,15 @@ fn prepend<'a>(
             let begun = repeat(alloc, tasks, scope, name, body.as_slice(), *spot, typed)?;
             Ok(begun)
         }
-        Statement::Continue { name, .. } => again(alloc, &scope, name),
+        Statement::Continue { name, .. } => Ok(again(alloc, &scope, name)),
         Statement::Do {
             protocol,
             roles,
             ..
         } => {
-            // The first pass found it.
             let Some(callee) = callee(program, scope.within.home, protocol) else {
-                return Err(BuildError::OutOfMemory);
+                // Not reached: the first pass found it.
+                return Ok(typed);
             };
             let entered = call(
                 alloc,
@@ -238,18 +237,13 @@ fn prepend<'a>(
     }
 }
 
-// The variable of the recursion of this name.
-fn again<'a>(alloc: Global, scope: &Scope<'a>, name: &Name) -> Result<Typed<'a>, BuildError<'a>>
-    ensures { MatchResult result (λ t. IsVariable (scope_of scope.now) scope.now.depth name.now (made_of t)) (λ e. e ≡ OutOfMemory) }
+// The variable of the recursion of this name. The first pass found it, and it stands round the statement.
+fn again<'a>(alloc: Global, scope: &Scope<'a>, name: &Name) -> Typed<'a>
+    ensures { (level : ℕ) → level_of name.now (scope_of scope.now).recs ≡ Some level → level < scope.now.depth
+        → IsVariable (scope_of scope.now) scope.now.depth name.now (made_of result) }
 {
-    // The first pass found it, and it stands round the statement.
-    let Some(level) = scope.level_of(name) else {
-        return Err(BuildError::OutOfMemory);
-    };
-    if level >= scope.depth {
-        return Err(BuildError::OutOfMemory);
-    }
-    Ok(Typed::variable(alloc, scope.depth - 1 - level))
+    let level = scope.level_of(name).unwrap_or(0);
+    Typed::variable(alloc, scope.depth.saturating_sub(level.saturating_add(1)))
 }
 
 /// The protocol that a call of this path names.
@@ -259,6 +253,7 @@ pub fn callee<'a>(
     path: &'a Dotted,
 ) -> Option<Callee<'a>>
     requires { IsTable program.now }
+    ensures none { result ≡ None → called program.now.modules.now at.now path.now ≡ None }
     ensures place { IfSome result (λ c. slice_get (shown program.now.declared.now) c.place ≡ Some (declaration_of c.declared)) }
     ensures called { IfSome result (λ c. called program.now.modules.now at.now path.now ≡ Some (declaration_of c.declared)) }
     ensures shape { IfSome result (λ c. IsShapeOf program.now.modules.now (declaration_of c.declared) c.shape) }
@@ -288,9 +283,9 @@ fn front<'a>(
     typed: Typed<'a>,
 ) -> Result<Typed<'a>, BuildError<'a>>
     requires { IsTable program.now }
-    ensures { (root : PureDeclaration) (e : Bool) → KeepsRules program.now.modules.now root e
-        → IsState program.now.modules.now root (Front scope.entry statements.entry ∷ reverse tasks.old.items) (made_of typed.entry)
-        → MatchResult result (λ t. IsState program.now.modules.now root (reverse tasks.new.items) (made_of t)) (StopsAhead program.now.modules.now root tasks.new.items) }
+    ensures { (target : Target) (e : Bool) → KeepsRules program.now.modules.now target.root e
+        → IsState program.now.modules.now target (Front scope.entry statements.entry ∷ reverse tasks.old.items) (made_of typed.entry)
+        → MatchResult result (λ t. IsState program.now.modules.now target (reverse tasks.new.items) (made_of t)) (StopsAhead program.now.modules.now target.root tasks.new.items) }
 {
     let (typed, statements) = messages(alloc, &scope, statements, typed)?;
     let Some((last, rest)) = statements.split_last() else {
@@ -308,9 +303,9 @@ fn messages<'a>(
     statements: &'a [Statement],
     typed: Typed<'a>,
 ) -> Result<(Typed<'a>, &'a [Statement]), AllocError>
-    ensures { (modules : List ModuleTree) (root : PureDeclaration) (e : Bool) (tasks : List Task) → KeepsRules modules root e
-        → IsState modules root (Front scope.now statements.entry ∷ tasks) (made_of typed.entry)
-        → IfOk result (λ r. IsState modules root (Front scope.now r.1 ∷ tasks) (made_of r.0)) }
+    ensures { (modules : List ModuleTree) (target : Target) (e : Bool) (tasks : List Task) → KeepsRules modules target.root e
+        → IsState modules target (Front scope.now statements.entry ∷ tasks) (made_of typed.entry)
+        → IfOk result (λ r. IsState modules target (Front scope.now r.1 ∷ tasks) (made_of r.0)) }
 {
     let mut typed = typed;
     let mut left = statements;
@@ -339,21 +334,19 @@ fn step<'a>(
     typed: Typed<'a>,
 ) -> Result<Typed<'a>, BuildError<'a>>
     requires { IsTable program.now }
-    ensures { (root : PureDeclaration) (e : Bool) → KeepsRules program.now.modules.now root e
-        → IsState program.now.modules.now root (task.entry ∷ reverse tasks.old.items) (made_of typed.entry)
-        → MatchResult result (λ t. IsState program.now.modules.now root (reverse tasks.new.items) (made_of t)) (StopsAhead program.now.modules.now root tasks.new.items) }
+    ensures { (target : Target) (e : Bool) → KeepsRules program.now.modules.now target.root e
+        → IsState program.now.modules.now target (task.entry ∷ reverse tasks.old.items) (made_of typed.entry)
+        → MatchResult result (λ t. IsState program.now.modules.now target (reverse tasks.new.items) (made_of t)) (StopsAhead program.now.modules.now target.root tasks.new.items) }
 {
     match task {
         Task::Front(scope, statements) => { front(alloc, program, tasks, scope, statements, typed) }
         Task::Join(choosing) => join(alloc, tasks, choosing, typed),
         Task::Close(home, spot) => close(alloc, home, spot, typed),
-        // A run ends before it.
-        Task::Trial => Err(BuildError::OutOfMemory),
     }
 }
 
 /// Does these tasks, the last one first, from the end: nothing follows the first type that is made. At the end it is
-/// the type of the protocol that was asked for. There is none where a block was tried alone.
+/// the type of the statements that the tasks are for: those of a protocol, or of a block that is tried alone.
 ///
 /// # Errors
 /// `Broken` with the first rule on types that is broken, from the end, its module and its place: what is left of
@@ -362,21 +355,18 @@ pub fn run<'a>(
     alloc: Global,
     program: &Program<'a, '_>,
     tasks: &mut Vec<Task<'a>>,
-) -> Result<Option<Typed<'a>>, BuildError<'a>>
+) -> Result<Typed<'a>, BuildError<'a>>
     requires { IsTable program.now }
-    ensures { (root : PureDeclaration) (e : Bool) → KeepsRules program.now.modules.now root e
-        → IsState program.now.modules.now root (reverse tasks.old.items) nothing_made
-        → MatchResult result (λ o. IfSome o (λ t. Makes program.now.modules.now 0 (start_of root) (made_of t))) (StopsAhead program.now.modules.now root tasks.new.items) }
+    ensures { (target : Target) (e : Bool) → KeepsRules program.now.modules.now target.root e
+        → IsState program.now.modules.now target (reverse tasks.old.items) nothing_made
+        → MatchResult result (λ t. Makes program.now.modules.now target.depth target.frames (made_of t)) (StopsAhead program.now.modules.now target.root tasks.new.items) }
 {
     let mut typed = Typed::end(alloc);
     // Memory ends long before this many tasks.
     for _ in 0..u64::MAX {
         let Some(task) = tasks.pop() else {
-            return Ok(Some(typed));
+            return Ok(typed);
         };
-        if let Task::Trial = task {
-            return Ok(None);
-        }
         typed = step(alloc, program, tasks, task, typed)?;
     }
     Err(BuildError::OutOfMemory)
@@ -400,9 +390,7 @@ pub fn type_of_root<'a>(
 {
     let mut tasks = first_task(alloc, program.root)?;
     match run(alloc, program, &mut tasks) {
-        Ok(Some(typed)) => Ok(typed),
-        // No block is tried yet.
-        Ok(None) => Err(BuildError::OutOfMemory),
+        Ok(typed) => Ok(typed),
         Err(found) => Err(first_fault(alloc, program, tasks, found)),
     }
 }
@@ -421,7 +409,7 @@ pub fn type_alone<'a>(
 {
     let mut tasks = first_task(alloc, program.root)?;
     match run(alloc, program, &mut tasks) {
-        Ok(typed) => Ok(typed),
+        Ok(typed) => Ok(Some(typed)),
         Err(BuildError::Broken(..)) => Ok(None),
         Err(BuildError::OutOfMemory) => Err(Refused),
     }
@@ -429,7 +417,7 @@ pub fn type_alone<'a>(
 
 // All statements of the protocol that was asked for.
 fn first_task<'a>(alloc: Global, root: Declaration<'a>) -> Result<Vec<Task<'a>>, AllocError>
-    ensures { IfOk result (λ tasks. (modules : List ModuleTree) → IsState modules (declaration_of root.entry) (reverse tasks.items) nothing_made) }
+    ensures { IfOk result (λ tasks. (modules : List ModuleTree) → IsState modules (whole_target (declaration_of root.entry)) (reverse tasks.items) nothing_made) }
 {
     let scope = Scope::start(alloc, root)?;
     let statements = root.protocol.body.as_slice();

@@ -1,10 +1,12 @@
-use Rattle.std.proofs.Common.{Some, ap, ◌∙◌, subst, arith}
+use Rattle.std.proofs.Common.{Some, None, ap, ◌∙◌, subst, ⊎_elim, arith}
+use Rattle.std.proofs.lemmas.Bool.{cases_Bool}
 use Rattle.std.proofs.lemmas.Option.{slice_get_within}
-use Rattle.scrib_modules.specs.Names.{Declaration}
+use Rattle.scrib_modules.specs.Names.{Declaration, has_name, module_names}
 use Rattle.scrib_modules.specs.Shape.{IsShapeOf}
 use Rattle.scrib_modules.specs.Table.{shown}
-use Rattle.scrib_modules.proofs.Places.{name_last, called_home-there}
+use Rattle.scrib_modules.proofs.Places.{name_last, called_home-there, called_home-away, called_home-unknown}
 use Rattle.scrib_modules.proofs.Checks.{called-is, entry_is, found_home}
+use Rattle.scrib_elaborate.proofs.Steps.{no_callee}
 use Rattle.scrib_elaborate.proofs.typing.callee.Goals as goal
 
 pub shape_at-shape-requires : goal.shape_at-shape-requires
@@ -14,6 +16,26 @@ shape_at-shape-requires c =
     let within = slice_get_within (shown program.declared.now) c.in_ok-place.place f.found f.there in
     let long = c.requires.kept.all in
     omega (arith, within, long)
+
+pub returns-in_err-home-clause-none : goal.returns-in_err-home-clause-none
+returns-in_err-home-clause-none c = λ none.
+    let program = c.args.program.now in
+    let path = c.args.path.now in
+    let names = c.as_slice-names in
+    no_callee program.modules.now c.args.at.now path (called_home-unknown program.modules.now c.args.at.now path names.result.now names.ensures.names names.ensures.some c.in_err-home.ensures)
+
+pub returns-in_err-place-clause-none : goal.returns-in_err-place-clause-none
+returns-in_err-place-clause-none c = λ none.
+    let program = c.args.program.now in
+    let at = c.args.at.now in
+    let path = c.args.path.now in
+    let names = c.as_slice-names in
+    let home = c.in_ok-home.home.now in
+    let last = c.index-names-last in
+    let n = name_last path names.result.now last.result names.ensures.names names.ensures.some last.is in
+    ⊎_elim (λ there. called-is program.modules.now at path home last.result _ None (called_home-there program.modules.now at path names.result.now home names.ensures.names names.ensures.some c.in_ok-home.ensures there) n c.requires.all c.in_err-place.ensures)
+    (λ away. no_callee program.modules.now at path (called_home-away program.modules.now at path names.result.now home names.ensures.names names.ensures.some c.in_ok-home.ensures away))
+    (cases_Bool (has_name home (module_names program.modules.now)))
 
 pub returns-clause-place : goal.returns-clause-place
 returns-clause-place c =

@@ -8,7 +8,7 @@ use Rattle.scrib_elaborate.proofs.Steps.{front_done, front_step, pushed_before}
 use Rattle.scrib_elaborate.proofs.typing.front.Goals as goal
 
 pub returns : goal.returns
-returns c = λ root e kept s.
+returns c = λ target e kept s.
     let ms = c.args.program.now.modules.now in
     let old = c.args.tasks.now.items in
     let scope = c.args.scope in
@@ -16,12 +16,12 @@ returns c = λ root e kept s.
     let statements = c.in_ok-typed.statements in
     let g = made_of c.in_ok-typed.typed in
     let last = c.in-Some.last.now in
-    let state = c.in_ok-typed.ensures ms root e (reverse old) kept s in
-    c.prepend.ensures root e kept (pushed_before ms root old c.push.new.self.items (Front again c.in-Some.rest) (scope_of scope) scope.depth (statement_of last) g c.in_ok-push.ensures.items (front_step ms root (reverse old) scope again statements c.in-Some.rest last g e kept c.in-Some.ensures.cases.0 c.in_ok-again.ensures state))
+    let state = c.in_ok-typed.ensures ms target e (reverse old) kept s in
+    c.prepend.ensures target e kept (pushed_before ms target old c.push.new.self.items (Front again c.in-Some.rest) (scope_of scope) scope.depth (statement_of last) g c.in_ok-push.ensures.items (front_step ms target (reverse old) scope again statements c.in-Some.rest last g e kept c.in-Some.ensures.cases.0 c.in_ok-again.ensures state))
 
 pub returns-in_default : goal.returns-in_default
-returns-in_default c = λ root e kept s.
+returns-in_default c = λ target e kept s.
     let ms = c.args.program.now.modules.now in
     let old = reverse c.args.tasks.now.items in
     let statements = c.in_ok-typed.statements in
-    front_done ms root old c.args.scope statements (made_of c.in_ok-typed.typed) (nil_from_length statements.now c.in_default.ensures.cases) (c.in_ok-typed.ensures ms root e old kept s)
+    front_done ms target old c.args.scope statements (made_of c.in_ok-typed.typed) (nil_from_length statements.now c.in_default.ensures.cases) (c.in_ok-typed.ensures ms target e old kept s)

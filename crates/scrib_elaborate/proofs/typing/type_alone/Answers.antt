@@ -1,0 +1,8 @@
+use Rattle.scrib_modules.specs.Table.{declaration_of}
+use Rattle.scrib_elaborate.specs.Typing.{whole_target}
+use Rattle.scrib_elaborate.proofs.typing.type_alone.Goals as goal
+
+pub returns-in-Ok : goal.returns-in-Ok
+returns-in-Ok c =
+    let program = c.args.program.now in
+    c.in-Ok.ensures (whole_target (declaration_of program.root)) c.requires.kept.0 c.requires.kept.1 (c.in_ok-tasks.ensures program.modules.now)
