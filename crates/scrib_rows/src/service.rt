@@ -7,6 +7,7 @@ mod longest;
 mod making;
 mod meeting;
 mod notes;
+mod parts;
 mod script;
 mod several;
 mod sweeps;
@@ -17,6 +18,7 @@ use crate::service::example::push_example;
 use crate::service::longest::push_longest_log;
 use crate::service::meeting::push_meeting;
 use crate::service::notes::{push_asked, push_many};
+use crate::service::parts::push_parts;
 use crate::service::script::run_script;
 use crate::service::several::{push_full_shard, push_strangers};
 use crate::service::sweeps::{
@@ -40,6 +42,7 @@ fn obey<R: Threads + Wait + Sync>(
         "script" => run_script(rt, alloc, number, body, out),
         "full" => push_full_shard(rt, alloc, number, out),
         "strangers" => push_strangers(rt, alloc, number, out),
+        "parts" => push_parts(alloc, number, out),
         "swept" => push_swept(rt, alloc, number, out),
         "example" => push_example(rt, alloc, number, out),
         "threads" => push_threads(rt, alloc, number, out),

@@ -3,7 +3,7 @@
 ghost use Rattle.std.specs.Prelude.{◌≡◌, IfOk};
 
 use crate::fault::{RowsFault, check};
-use crate::making::{DEMO, event_of};
+use crate::making::{DEMO, event_of, name_of};
 use crate::memory::core_rows::{is_refused, made};
 use crate::memory::rows::{PUT_DEMO, PUT_TWO_OF_THREE};
 use crate::memory::script_rows::page;
@@ -11,11 +11,18 @@ use scrib_cli::fault::ScriptFault;
 use scrib_cli::machine::machine_text;
 use scrib_cli::project::project_text;
 use scrib_core::monitor::Core;
+use scrib_elaborate::elaborate::elaborate;
 use scrib_lexer::fault::LexFault;
 use scrib_lexer::lex::lex;
+use scrib_library::fault::EditFault;
+use scrib_modules::modules::Modules;
+use scrib_parser::parse::parse;
+use scrib_parser::recent::Recent;
+use scrib_project::protocol::protocol;
 use scrib_queues::queues::Queues;
 use scrib_types::event::Event;
 use scrib_types::global::GlobalType;
+use scrib_types::name::{Dotted, Name};
 use scrib_types::plain::Items;
 use scrib_types::profile::Profile;
 use scrib_types::protocol::Protocol;
@@ -110,9 +117,34 @@ fn protocol_of(core: &Core) -> Result<&Protocol, RowsFault> {
     }
 }
 
-/// The tokens of a module, the projections of its protocol, and the machine of one.
+// The module of the demonstration alone.
+fn modules(alloc: Global) -> Result<Modules, EditFault> {
+    let tokens = lex(alloc, DEMO.as_bytes())?;
+    let tree = parse(alloc, &tokens, &mut Recent::new())?;
+    let mut modules = Modules::new(alloc);
+    modules.add(tree)?;
+    Ok(modules)
+}
+
+// The protocol of the demonstration, made by itself.
+fn agreed(alloc: Global, module: &Dotted, name: &Name) -> Result<Protocol, EditFault> {
+    let elaborated = elaborate(alloc, &modules(alloc)?, module, name)?;
+    Ok(protocol(alloc, elaborated, Profile::Plain)?)
+}
+
+// The protocol of the demonstration, made by itself, means what a monitor has.
+fn check_protocol(alloc: Global) -> Result<(), RowsFault> {
+    let module = name_of(alloc, "demo")?;
+    let name = name_of(alloc, "Hello")?;
+    let agreed = agreed(alloc, &module, &name.as_slice()[0])?;
+    let core = core_of(alloc, PUT_DEMO, "open 1 demo.Hello")?;
+    check(Protocol::same_meaning(&agreed, protocol_of(&core)?))
+}
+
+/// The tokens of a module, its protocol, the projections of that, and the machine of one.
 pub(crate) fn run_front_end(alloc: Global) -> Result<(), RowsFault> {
     check_tokens(alloc)?;
+    check_protocol(alloc)?;
     check_projection(alloc, "A", "B!hello().B?bye().end\n")?;
     check_projection(alloc, "B", "A?hello().A!bye().end\n")?;
     check_machine(alloc)
