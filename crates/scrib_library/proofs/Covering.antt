@@ -1,7 +1,12 @@
 -- From what names mean to the versions, the changes and the numbers after an edit.
-use Rattle.std.proofs.Common.{◌≡◌, ℕ, ◌≤◌, true, List, [], ◌∷◌, Option, Some, None, ◌⊎◌, inl, inr, refl, sym, ap, ◌∙◌, subst, arith}
+use Rattle.std.proofs.Common.{◌≡◌, ◌≢◌, ℕ, ◌≤◌, true, List, [], ◌∷◌, Option, Some, None, ◌⊎◌, inl, inr, refl, sym, ap, ◌∙◌, subst, arith}
 use Rattle.std.specs.Prelude.{◌↔◌}
 use Rattle.std.specs.List.{Contains}
+use Rattle.std.specs.Ordering.{nat_cmp}
+use Rattle.std.specs.declared.cmp.Ordering.TheVariants.{Less, Equal}
+use Rattle.std.specs.Cmp.Lexicographic.{slice_cmp}
+use Rattle.std.proofs.lemmas.Cmp.{nat_list_cmp_total, tied_itself}
+use Rattle.scrib_types.specs.Texts.{dotted_text}
 use Rattle.scrib_types.specs.Agreement.{Agreement}
 use Rattle.scrib_types.specs.declared.profile.Profile.{Profile}
 use Rattle.scrib_types.specs.WellFormed.{projects}
@@ -19,12 +24,12 @@ use Rattle.scrib_library.specs.declared.changes.Change.{Change}
 use Rattle.scrib_library.specs.Modules.{name_of, Means, IsMeaning, AreImportsThere, AllProject, AreWellFormed}
 use Rattle.scrib_library.specs.Holdings.{HasNumber}
 use Rattle.scrib_library.specs.Listed.{AreInOrder}
-use Rattle.scrib_library.specs.Edits.{Changes, IsChanges, AreVersionsUsed, RunsOut}
+use Rattle.scrib_library.specs.Edits.{Changes, NamedBefore, IsChanges, has_new_version, AreVersionsUsed, RunsOut}
 use Rattle.scrib_library.specs.Stored.{version_names, HasVersion, IsVersion, AreVersions, AreCounted, IsSpelled}
 use Rattle.scrib_library.specs.Elaborated.{ProjectsUnder, meant, meaning_names}
 use Rattle.scrib_library.specs.Drafts.{shown, edit_names, meaning_before, IsKind, IsChangedBy, IsUnchanged, IsDraft, IsOverdrawn, AreMade}
 use Rattle.scrib_library.specs.Plans.{IsCovered}
-use Rattle.scrib_library.proofs.Lists.{Contains-nil, Contains-head_at, Contains-tail, Contains-cases, Contains-map, Contains-map_back}
+use Rattle.scrib_library.proofs.Lists.{Contains-nil, Contains-head_at, Contains-tail, Contains-cases, Contains-map, Contains-map_back, count_within}
 use Rattle.scrib_library.proofs.Orders.{once}
 use Rattle.scrib_library.proofs.Places.{either}
 use Rattle.scrib_library.proofs.Drafting.{names_shown}
@@ -102,6 +107,14 @@ unchanged before after n a p q Added d = d.0 a p
 unchanged before after n a p q Withdrawn d = d.1 a q
 unchanged before after n a p q Replaced d = d.4 (means_once before n d.0 a d.2 p ∙ means_once after n a d.1 q d.3)
 
+-- what comes before another isn't it
+named_apart : (x y : Change) → NamedBefore x y → x ≢ y
+named_apart x y before same =
+    let text : Change → List ℕ = λ z. dotted_text z.name in
+    let less : slice_cmp nat_cmp (text x) (text y) ≡ Less = before in
+    let tied : slice_cmp nat_cmp (text x) (text y) ≡ Equal = ap (λ (z : Change). slice_cmp nat_cmp (text x) (text z)) (sym same) ∙ tied_itself nat_list_cmp_total (text x) in
+    cc
+
 projects_some : (profile : Profile) (o : Option Agreement) (a : Agreement) → o ≡ Some a → ProjectsUnder profile o → projects profile a.global a.roles ≡ true
 projects_some profile None a e h = absurd (cc)
 projects_some profile (Some b) a e h = let same : b ≡ a = cc in subst (λ (x : Agreement). projects profile x.global x.roles ≡ true) same h
@@ -137,7 +150,10 @@ module _ (profile : Profile) (before after : List ModuleTree) (olds : List Named
     pub runs_out : (first : ℕ) (cs : List Change) → IsOverdrawn olds ys first cs → RunsOut before after first
     runs_out first cs h =
         let told : (c : Change) → Contains cs c → Changes before after c.kind c.name = λ c p. changed_by c.kind c.name (h.sound c p) in
-        (cs, record { sorted = sorted_texts before after spelled spelled_after cs h.sorted told; sound = told }, h.many)
+        let sorted_cs = sorted_texts before after spelled spelled_after cs h.sorted told in (
+          (cs, record { sorted = sorted_cs; sound = told }, h.many),
+          λ list exact. omega (arith, h.many, count_within (λ (x : Change). has_new_version x.kind) NamedBefore named_apart cs list sorted_cs (λ c p. (exact.exact c).1 (told c p))),
+        )
 
   module _ (first : ℕ) (es : List VersionEdit) (used : ℕ) (draft : IsDraft olds ys first es used) where
     -- the edit of a name that is one of these, or that it keeps its version

@@ -1,5 +1,5 @@
 -- From entries to what their protocols mean, and to the projections.
-use Rattle.std.proofs.Common.{◌≡◌, ℕ, true, List, ◌∷◌, [], ◌++◌, Option, Some, None, Ok, Err, inl, inr, refl, sym, ap, ◌∙◌, subst}
+use Rattle.std.proofs.Common.{◌≡◌, ℕ, Bool, true, false, ◌&&◌, if◌then◌else◌, List, ◌∷◌, [], ◌++◌, Option, Some, None, is_some, Ok, Err, inl, inr, refl, sym, ap, ◌∙◌, subst}
 use Rattle.std.specs.List.{Contains}
 use Rattle.std.specs.Option.{option_map}
 use Rattle.std.proofs.lemmas.Bool.{false≢true}
@@ -9,6 +9,8 @@ use Rattle.scrib_types.specs.declared.profile.Profile.{Profile}
 use Rattle.scrib_types.specs.declared.protocol.Protocol.{Protocol}
 use Rattle.scrib_types.specs.Agreement.{Agreement}
 use Rattle.scrib_types.specs.Meaning.{agreement_of}
+use Rattle.scrib_types.specs.Trees.{GlobalTree}
+use Rattle.scrib_types.specs.Projection.{projection}
 use Rattle.scrib_types.specs.WellFormed.{projects}
 use Rattle.scrib_parser.specs.declared.tree.ModuleTree.{ModuleTree}
 use Rattle.scrib_parser.specs.declared.tree.ProtocolDeclaration.{ProtocolDeclaration}
@@ -17,12 +19,12 @@ use Rattle.scrib_modules.specs.declared.fault.ElaborateFault.TheVariants as elab
 use Rattle.scrib_elaborate.specs.declared.elaborated.Elaborated.{Elaborated}
 use Rattle.scrib_modules.specs.Elaboration.{Elaborates}
 use Rattle.scrib_modules.specs.Faults.{FailsAt, IsBroken}
-use Rattle.scrib_elaborate.specs.Meaning.{meaning_of}
+use Rattle.scrib_elaborate.specs.Meaning.{meaning_of, Means}
 use Rattle.scrib_elaborate.specs.Sites.{AreSites}
 use Rattle.scrib_project.specs.declared.projected.ProjectedProtocol.{ProjectedProtocol}
 use Rattle.scrib_project.specs.declared.fault.ProjectFault.{ProjectFault}
 use Rattle.scrib_project.specs.declared.fault.ProjectFault.TheVariants as project
-use Rattle.scrib_project.specs.Faults.{Agrees, IsPlaced, IsFaultPlaced}
+use Rattle.scrib_project.specs.Faults.{Agrees, first_without, IsPlaced, IsFaultPlaced}
 use Rattle.scrib_project.proofs.Protocols.{all_project}
 use Rattle.scrib_record.specs.declared.compilation.Compiled.{Compiled}
 use Rattle.scrib_library.specs.declared.declared.Entry.{Entry}
@@ -39,9 +41,10 @@ use Rattle.scrib_library.proofs.Orders.{once}
 
 -- ---- elaboration
 
-pub broken_entry : (ms : List ModuleTree) (e : Entry) (f : ElaborateFault) → e.stands ≡ true → FailsAt ms e.home.now.name e.protocol.now.name f → IsBrokenEntry ms e (edit_fault_of_elaborate f)
-broken_entry ms e elaborate.OutOfMemory s k = tt
-broken_entry ms e (elaborate.Broken f) s k = (s, k)
+pub broken_entry : (ms : List ModuleTree) (e : Entry) (f : ElaborateFault) → e.stands ≡ true → ((a : Agreement) → Elaborates ms e.home.now.name e.protocol.now.name a → Means (Err f) a) → FailsAt ms e.home.now.name e.protocol.now.name f
+    → IsBrokenEntry ms e (edit_fault_of_elaborate f)
+broken_entry ms e elaborate.OutOfMemory s only k = tt
+broken_entry ms e (elaborate.Broken f) s only k = (s, only, k)
 
 module _ (ms : List ModuleTree) (es : List Entry) where
   -- one more that is elaborated
@@ -59,9 +62,10 @@ module _ (ms : List ModuleTree) (es : List Entry) where
   pub not_elaborated : AreStanding ms es → (e : Entry) (f : EditFault) → Contains es e → IsBrokenEntry ms e f → (profile : Profile) → IsRefusal profile ms es f
   not_elaborated stand e (edit.Elaborate f) there k profile =
       let s = stand e there k.0 in
-      let P : List (List ℕ) → Type 0 = λ home. IsBroken ms home s.declaration.protocol.name f in
-      let Q : List ℕ → Type 0 = λ name. IsBroken ms e.home.now.name name f in
-      ((e, there, k.0), (s.declaration, s.there, subst P (ap (λ (x : ModuleTree). x.name) s.entry.home) (subst Q (ap (λ (x : ProtocolDeclaration). x.name) s.entry.protocol) k.1)))
+      let P : List (List ℕ) → Type 0 = λ home. ((a : Agreement) → Elaborates ms home s.declaration.protocol.name a → ⊥) × IsBroken ms home s.declaration.protocol.name f in
+      let Q : List ℕ → Type 0 = λ name. ((a : Agreement) → Elaborates ms e.home.now.name name a → ⊥) × IsBroken ms e.home.now.name name f in
+      let both = subst P (ap (λ (x : ModuleTree). x.name) s.entry.home) (subst Q (ap (λ (x : ProtocolDeclaration). x.name) s.entry.protocol) (k.1, k.2)) in
+      ((e, there, k.0), (s.declaration, s.there, both.0, both.1))
   not_elaborated stand e edit.OutOfMemory there k profile = tt
   not_elaborated stand e (edit.Project u) there k profile = absurd k
   not_elaborated stand e edit.TooManyModules there k profile = absurd k
@@ -98,6 +102,15 @@ pub unprojected_named : (profile : Profile) (x : NamedElaborated) (e : Elaborate
     → ((ms : List ModuleTree) (home : List (List ℕ)) (name : List ℕ) → AreSites ms home name e → IsFaultPlaced profile ms home name (meaning_of e).global f) → StopsNamed profile x (edit_fault_of_project f)
 unprojected_named profile x e project.OutOfMemory is k place = tt
 unprojected_named profile x e (project.Unmergeable u) is k place = record { elaborated = e; is = is; first = k.0; place = place }
+
+-- where a role has no projection, not all have one
+lacking : (profile : Profile) (g : GlobalTree) (rs : List (List ℕ)) (r : List ℕ) → first_without profile g rs ≡ Some r → projects profile g rs ≡ false
+lacking profile g [] r e = absurd (cc)
+lacking profile g (x ∷ xs) r e = by (is_some (projection profile x g)) (lacking profile g xs r) e
+  where
+    by : (b : Bool) → (first_without profile g xs ≡ Some r → projects profile g xs ≡ false) → (if b then first_without profile g xs else Some x) ≡ Some r → (b && projects profile g xs) ≡ false
+    by true rest d = rest d
+    by false rest d = refl
 
 module _ (profile : Profile) (xs : List NamedElaborated) where
   pub projected_more : (vs : List NamedMeaning) (ys : List NamedElaborated) (x : NamedElaborated) (v : NamedMeaning) → Contains xs x → meaning_names vs ≡ elaborated_names ys → ((w : NamedMeaning) → Contains vs w → IsProjectionOf profile xs w) → IsProjected profile x v
@@ -176,7 +189,7 @@ module _ (ms : List ModuleTree) (es : List Entry) where
         let R : List (List ℕ) → Type 0 = λ home. Elaborates ms home s.declaration.protocol.name (meaning_of k.elaborated) × IsPlaced profile ms home s.declaration.protocol.name g u in
         let S : List ℕ → Type 0 = λ name. Elaborates ms m.entry.home.now.name name (meaning_of k.elaborated) × IsPlaced profile ms m.entry.home.now.name name g u in
         let both = subst R (ap (λ (x : ModuleTree). x.name) s.entry.home) (subst S (ap (λ (x : ProtocolDeclaration). x.name) s.entry.protocol) (e.1, at)) in
-        ((m.entry, m.there, e.0), elaborable_by sorted xs h, (s.declaration, meaning_of k.elaborated, s.there, both.0, k.first, both.1))
+        ((m.entry, m.there, e.0), elaborable_by sorted xs h, (s.declaration, meaning_of k.elaborated, s.there, both.0, lacking profile g (meaning_of k.elaborated).roles u.role k.first, k.first, both.1))
     no_meanings sorted stand edit.OutOfMemory k = tt
     no_meanings sorted stand (edit.Elaborate f) k = absurd k
     no_meanings sorted stand edit.TooManyModules k = absurd k

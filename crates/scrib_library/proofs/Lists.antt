@@ -1,9 +1,10 @@
 -- Membership in lists, by recursion.
-use Rattle.std.proofs.Common.{◌≡◌, ℕ, zero, suc, ◌<◌, List, [], ◌∷◌, ◌++◌, length, get_or, set, take, drop, map, ◌⊎◌, inl, inr, refl, sym, ap, ◌∙◌, subst, arith}
-use Rattle.std.specs.List.{Contains, remove}
+use Rattle.std.proofs.Common.{◌≡◌, ◌≢◌, ℕ, zero, suc, ◌<◌, ◌≤◌, Bool, cond, List, [], ◌∷◌, ◌++◌, length, get_or, set, take, drop, map, ◌⊎◌, inl, inr, refl, sym, ap, ◌∙◌, subst, arith}
+use Rattle.std.specs.List.{Contains, AllPairs, count_by, remove}
 use Rattle.std.proofs.Math.ListN.{length-set}
 use Rattle.std.proofs.Common.{drop-cons}
 use Rattle.std.proofs.lemmas.List.{take-append-drop, map-append, take-map, drop-map, get_or-set_same, get_or-set_other}
+use Rattle.std.proofs.lemmas.List.Sums.{sum_by-cons, sum_by-remove}
 use Rattle.std.proofs.lemmas.List.Elements.{Contains-append_left, Contains-append_right, Contains-append_cases}
 
 pub Contains-nil : {X : Type 0} (x : X) → Contains [] x → ⊥
@@ -75,3 +76,33 @@ Contains-set_here xs i x lt = (i, omega (arith, lt, length-set xs i x), get_or-s
 
 pub Contains-set_other : {X : Type 0} (xs : List X) (i : ℕ) (x y : X) → (p : Contains xs y) → (p.0 ≡ i → ⊥) → Contains (set xs i x) y
 Contains-set_other xs i x y p other = (p.0, omega (arith, p.1, length-set xs i x), get_or-set_other xs i p.0 x y other ∙ p.2)
+
+same_at : {X : Type 0} (xs : List X) (k : ℕ) (d c : X) → k < length xs → get_or xs k d ≡ get_or xs k c
+same_at [] k d c lt = absurd (omega (arith, lt))
+same_at (x ∷ xs) zero d c lt = refl
+same_at (x ∷ xs) (suc k) d c lt = same_at xs k d c (omega (arith, lt))
+
+-- different elements of a list count no more than all of it
+pub count_within : {X : Type 0} (p : X → Bool) (R : X → X → Type 0) → ((x y : X) → R x y → x ≢ y) → (xs ys : List X) → AllPairs R xs → ((x : X) → Contains xs x → Contains ys x) → count_by p xs ≤ count_by p ys
+count_within p R apart [] ys pairs within = omega arith
+count_within {X} p R apart (x ∷ xs) ys pairs within =
+    let at = within x (Contains-head x xs) in
+    let rest = count_within p R apart xs (remove ys at.0) (λ i j d lt l. pairs (suc i) (suc j) d (omega (arith, lt)) (omega (arith, l))) left in
+    let one : X → ℕ = λ z. cond (p z) 1 0 in
+    let all = sum_by-cons one x xs in
+    let out = sum_by-remove one ys at.0 x at.1 in
+    let same : one (get_or ys at.0 x) ≡ one x = ap one at.2 in
+    omega (arith, rest, all, out, same)
+  where
+    other : (y : X) → Contains xs y → x ≢ y
+    other y q =
+        let first : R x (get_or xs q.0 y) = pairs 0 (suc q.0) y (omega arith) (omega (arith, q.1)) in
+        apart x y (subst (R x) q.2 first)
+
+    left : (y : X) → Contains xs y → Contains (remove ys (within x (Contains-head x xs)).0) y
+    left y q =
+        let at = within x (Contains-head x xs) in
+        elim (Contains-remove_cases ys at.0 y at.1 (within y (Contains-tail x xs y q))) [
+          | inl e ↦ absurd (other y q (sym at.2 ∙ same_at ys at.0 x y at.1 ∙ e))
+          | inr r ↦ r
+        ]

@@ -22,10 +22,10 @@ use Rattle.scrib_library.specs.declared.changes.ChangeKind.{ChangeKind}
 use Rattle.scrib_library.specs.declared.changes.ChangeKind.TheVariants.{Added, Replaced, Withdrawn}
 use Rattle.scrib_library.specs.declared.changes.Change.{Change}
 use Rattle.scrib_library.specs.Modules.{full_name, name_of, Means, IsMeaning, DeclaredMeans}
-use Rattle.scrib_library.specs.Holdings.{Stamp, Holdings, HasNumber, IsNumber, IsStamp, AreNumbered}
+use Rattle.scrib_library.specs.Holdings.{Stamp, Holdings, HasNumber, IsNumber, IsStamp, AreNumbered, IsAccepting}
 use Rattle.scrib_library.specs.Listed.{name_cmp, AreInOrder}
 use Rattle.scrib_library.specs.Edits.{Changes, NamedBefore}
-use Rattle.scrib_library.specs.Stored.{version_names, stamps_of, HasVersion, IsVersion, IsStored, AreVersions, AreCounted, AreNames, IsSpelled}
+use Rattle.scrib_library.specs.Stored.{version_names, stamps_of, HasVersion, IsVersion, IsStored, AreVersions, AreCounted, AreNames, IsSpelled, IsLibrary}
 use Rattle.scrib_library.specs.Drafts.{change_names}
 use Rattle.scrib_library.proofs.Lists.{Contains-map, Contains-map_back}
 use Rattle.scrib_library.proofs.Orders.{once, get_or_any}
@@ -142,6 +142,21 @@ module _ (profile : Profile) (ms : List ModuleTree) (vs : List NamedVersion) (us
         let P : ℕ → Type 0 = λ l. l < used in
         subst P s.2 (counted.below (record { name = n; version = s.0 }) s.1);
     few = counted.few;
+  }
+
+  pub is_accepting : IsLibrary profile ms vs used → IsAccepting (holdings profile ms vs used)
+  is_accepting h = record {
+    few = h.few;
+    distinct = h.distinct;
+    formed = record {
+      imports = h.imports;
+      meant = λ d q.
+          let w = Contains-map_back (λ (v : NamedVersion). v.name) vs (name_of d) (h.stored.listed.complete d q) in
+          (meaning_of w.0.version, declared_means ms d w.0.name (meaning_of w.0.version) (h.stored.sound w.0 w.1) w.2);
+      projected = λ d a q p. h.projected (name_of d) a (means_declared ms d a p);
+    };
+    once = means_once ms;
+    numbered = are_numbered h.stored h.counted;
   }
 
 -- ---- names of what means something

@@ -1,7 +1,8 @@
 -- Modules of different names, before and after one is put or taken out.
-use Rattle.std.proofs.Common.{◌≡◌, ◌≢◌, ℕ, suc, ◌<◌, Bool, true, false, not, ◌||◌, List, [], ◌∷◌, ◌++◌, length, get_or, drop, Some, None, inl, inr, refl, sym, ap, ◌∙◌, subst, arith, length-append}
+use Rattle.std.proofs.Common.{◌≡◌, ◌≢◌, ℕ, suc, ◌<◌, ◌≤◌, Bool, true, false, not, ◌||◌, List, [], ◌∷◌, ◌++◌, length, get_or, drop, Some, None, inl, inr, refl, sym, ap, ◌∙◌, subst, arith, length-append}
 use Rattle.std.specs.List.{Contains, remove}
 use Rattle.std.proofs.Math.Seq.{take-append_seam, get_or-append_seam}
+use Rattle.std.proofs.lemmas.List.Sums.{sum_by-cons}
 use Rattle.std.proofs.lemmas.Bool.{false≢true, and_parts, and_from, or_parts, false_from_ne_true}
 use Rattle.scrib_parser.specs.declared.tree.ModuleTree.{ModuleTree}
 use Rattle.scrib_parser.specs.declared.tree.Import.{Import}
@@ -9,7 +10,7 @@ use Rattle.scrib_modules.specs.Names.{dotted_eq, has_name, distinct_names, modul
 use Rattle.scrib_elaborate.specs.Locality.{without_module}
 use Rattle.scrib_modules.specs.Table.{IsPlace}
 use Rattle.scrib_modules.proofs.Distinct.{dotted_eq-Decides}
-use Rattle.scrib_library.specs.Modules.{is_missing, missing_import}
+use Rattle.scrib_library.specs.Modules.{is_missing, missing_import, protocol_count, AreFew}
 use Rattle.scrib_library.proofs.Lists.{Contains-nil, Contains-head, Contains-head_at, Contains-tail, Contains-cases}
 use Rattle.scrib_library.proofs.Places.{either, or_right, or_cases, has_name-there}
 
@@ -95,6 +96,23 @@ distinct_without k (x ∷ xs) d =
       | inl t ↦ rw t h.1
       | inr f ↦ rw f (whole x (without_module k xs) (not_without x.name k xs h.0) (distinct_without k xs h.1))
     ]
+
+-- and what is left is no more
+fewer_without : (k : List (List ℕ)) (ms : List ModuleTree) → (length (without_module k ms) ≤ length ms) × (protocol_count (without_module k ms) ≤ protocol_count ms)
+fewer_without k [] = (omega arith, omega arith)
+fewer_without k (x ∷ xs) =
+    let rest = fewer_without k xs in
+    let all = sum_by-cons (λ (m : ModuleTree). length m.protocols) x xs in
+    let others = sum_by-cons (λ (m : ModuleTree). length m.protocols) x (without_module k xs) in
+    elim (either (dotted_eq k x.name)) [
+      | inl t ↦ rw t (omega arith, omega (arith, all))
+      | inr f ↦ rw f (omega (arith, rest.0), omega (arith, rest.1, all, others))
+    ]
+
+pub few_without : (k : List (List ℕ)) (ms : List ModuleTree) → AreFew ms → AreFew (without_module k ms)
+few_without k ms h =
+    let fewer = fewer_without k ms in
+    record { count = omega (arith, fewer.0, h.count); protocols = omega (arith, fewer.1, h.protocols) }
 
 pub without-back : (k : List (List ℕ)) (ms : List ModuleTree) (m : ModuleTree) → Contains (without_module k ms) m → Contains ms m
 without-back k [] m p = p

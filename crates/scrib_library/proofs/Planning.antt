@@ -56,6 +56,7 @@ module _ (profile : Profile) (m : ModuleTree) (before after : List ModuleTree) (
   module _ (news : List NamedVersion) (made : AreMade versions plan.edits.items news) where
     pub library_then : IsLibrary profile after news plan.used
     library_then = record {
+      few = record { count = h.room.modules; protocols = h.room.protocols };
       distinct = distinct_after profile m before after p placed versions used library;
       imports = imports_after profile m before after p placed versions used library h.room;
       spelled = all_spelled;

@@ -1,36 +1,43 @@
 -- Why a put is refused.
-use Rattle.std.proofs.Common.{◌≡◌, ℕ, List, subst}
+use Rattle.std.proofs.Common.{◌≡◌, ℕ, List, Err, sym, subst}
 use Rattle.scrib_types.specs.declared.profile.Profile.{Profile}
 use Rattle.scrib_lexer.specs.declared.fault.LexFault.{LexFault}
 use Rattle.scrib_lexer.specs.declared.fault.LexFault.TheVariants as lex
 use Rattle.scrib_lexer.specs.Lexeme.{Lexeme}
 use Rattle.scrib_lexer.specs.Tokens as tokens
-use Rattle.scrib_lexer.specs.Tokens.{IsTokens}
+use Rattle.scrib_lexer.specs.Tokens.{IsTokens, LexGives}
 use Rattle.scrib_parser.specs.declared.fault.ParseFault.{ParseFault}
 use Rattle.scrib_parser.specs.declared.fault.ParseFault.TheVariants as parse
 use Rattle.scrib_parser.specs.declared.tree.ModuleTree.{ModuleTree}
-use Rattle.scrib_parser.specs.Grammar.{IsFaultOf}
+use Rattle.scrib_parser.specs.Grammar.{IsModule, IsFaultOf, ParseGives}
 use Rattle.scrib_modules.specs.Names.{with_module}
 use Rattle.scrib_library.specs.declared.fault.EditFault.{EditFault}
 use Rattle.scrib_library.specs.declared.fault.EditFault.TheVariants as edit
 use Rattle.scrib_library.specs.Made.{edit_fault_of_lex, edit_fault_of_parse}
-use Rattle.scrib_library.specs.Edits.{Reads, ModuleFails, PutFails}
+use Rattle.scrib_library.specs.Edits.{Reads, IsUnread, ModuleFails, PutFails}
 
 -- why the text has no tokens is why it is refused
-pub lex_refused : (text : List ℕ) (f : LexFault) → tokens.FailsAt text f → (profile : Profile) → (before : List ModuleTree) → (used : ℕ) → PutFails profile before used text (edit_fault_of_lex f)
-lex_refused text lex.OutOfMemory h profile before used = h
-lex_refused text lex.TextTooLong h profile before used = h
-lex_refused text (lex.BadByte at) h profile before used = h
-lex_refused text (lex.OpenComment at) h profile before used = h
-lex_refused text (lex.OpenString at) h profile before used = h
-lex_refused text (lex.LongName at) h profile before used = h
+pub lex_refused : (text : List ℕ) (f : LexFault) → ((ts : List Lexeme) → IsTokens text ts → LexGives (Err f) ts) → tokens.FailsAt text f
+    → (profile : Profile) → (before : List ModuleTree) → (used : ℕ) → PutFails profile before used text (edit_fault_of_lex f)
+lex_refused text lex.OutOfMemory only h profile before used = h
+lex_refused text lex.TextTooLong only h profile before used = (λ m r. only r.0 r.1, h)
+lex_refused text (lex.BadByte at) only h profile before used = (λ m r. only r.0 r.1, h)
+lex_refused text (lex.OpenComment at) only h profile before used = (λ m r. only r.0 r.1, h)
+lex_refused text (lex.OpenString at) only h profile before used = (λ m r. only r.0 r.1, h)
+lex_refused text (lex.LongName at) only h profile before used = (λ m r. only r.0 r.1, h)
 
-pub parse_refused : (text : List ℕ) (ts : List Lexeme) (f : ParseFault) → IsTokens text ts → IsFaultOf ts f → (profile : Profile) → (before : List ModuleTree) → (used : ℕ) → PutFails profile before used text (edit_fault_of_parse f)
-parse_refused text ts parse.OutOfMemory t h profile before used = t.0
-parse_refused text ts parse.EndOfText t h profile before used = (ts, t, h)
-parse_refused text ts (parse.Unexpected at) t h profile before used = (ts, t, h)
-parse_refused text ts (parse.LeftOut word at) t h profile before used = (ts, t, h)
-parse_refused text ts (parse.TooDeep at) t h profile before used = (ts, t, h)
+-- and so is why the only tokens that it has are no module
+module _ (text : List ℕ) (ts : List Lexeme) (t : IsTokens text ts) (one : (us : List Lexeme) → IsTokens text us → ts ≡ us) where
+  unread : ((m : ModuleTree) → IsModule ts m → ⊥) → IsUnread text
+  unread none m r = none m (subst (λ (l : List Lexeme). IsModule l m) (sym (one r.0 r.1)) r.2)
+
+  pub parse_refused : (f : ParseFault) → ((m : ModuleTree) → IsModule ts m → ParseGives (Err f) m) → IsFaultOf ts f
+      → (profile : Profile) → (before : List ModuleTree) → (used : ℕ) → PutFails profile before used text (edit_fault_of_parse f)
+  parse_refused parse.OutOfMemory only h profile before used = t.0
+  parse_refused parse.EndOfText only h profile before used = (unread only, (ts, t, h))
+  parse_refused (parse.Unexpected at) only h profile before used = (unread only, (ts, t, h))
+  parse_refused (parse.LeftOut word at) only h profile before used = (unread only, (ts, t, h))
+  parse_refused (parse.TooDeep at) only h profile before used = (unread only, (ts, t, h))
 
 -- why the module fails is why the put does
 pub put_refused : (profile : Profile) (before : List ModuleTree) (used : ℕ) (text : List ℕ) (m : ModuleTree) (after : List ModuleTree) (f : EditFault) → Reads text m → after ≡ with_module m before → ModuleFails profile before used m after f → PutFails profile before used text f

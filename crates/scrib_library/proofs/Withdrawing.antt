@@ -31,7 +31,7 @@ use Rattle.scrib_library.specs.Drafts.{shown, meaning_before, IsKind, IsChangedB
 use Rattle.scrib_library.specs.Withdrawals.{AreNothing, AreDropped, IsRemovalPlan}
 use Rattle.scrib_library.proofs.Lists.{Contains-nil, Contains-head, Contains-tail, Contains-map, Contains-map_back}
 use Rattle.scrib_library.proofs.Places.{either, declared-back, declared-there}
-use Rattle.scrib_library.proofs.Naming.{named_once, distinct_without, without-back, without-other, imports_stay, place_has, place_there, place_named}
+use Rattle.scrib_library.proofs.Naming.{named_once, distinct_without, few_without, without-back, without-other, imports_stay, place_has, place_there, place_named}
 use Rattle.scrib_library.proofs.Meant.{declared_of, declared_means, means_declared, holdings}
 use Rattle.scrib_library.specs.Plans.{IsCovered}
 use Rattle.scrib_library.proofs.Covering.{projected_after, well_formed, changes_told, versions_after, counted_after, versions_used}
@@ -211,6 +211,7 @@ module _ (profile : Profile) (name : List (List ℕ)) (before : List ModuleTree)
     module _ (news : List NamedVersion) (made : AreMade versions plan.edits.items news) where
       library_after : IsLibrary profile after news plan.used
       library_after = record {
+        few = few_without name before library.few;
         distinct = distinct_without name before library.distinct;
         imports = imports_after;
         spelled = spelled_after;

@@ -6,6 +6,7 @@ use Rattle.std.specs.declared.cmp.Ordering.TheVariants.{Less, Greater}
 use Rattle.std.specs.Cmp.Lexicographic.{slice_cmp}
 use Rattle.scrib_types.specs.declared.profile.Profile.{Profile}
 use Rattle.scrib_types.specs.Agreement.{Agreement}
+use Rattle.scrib_types.specs.WellFormed.{projects}
 use Rattle.scrib_types.specs.Texts.{dotted_text}
 use Rattle.scrib_lexer.specs.declared.fault.LexFault.{LexFault}
 use Rattle.scrib_lexer.specs.declared.fault.LexFault.TheVariants as lex
@@ -34,6 +35,10 @@ use Rattle.scrib_library.specs.Holdings.{Holdings, IsStamped}
 -- the text's tokens are the module
 abbrev pub Reads : List ℕ → ModuleTree → Type 0
 Reads text m = (ts : List Lexeme) × IsTokens text ts × IsModule ts m
+
+-- the text is no module
+abbrev pub IsUnread : List ℕ → Type 0
+IsUnread text = (m : ModuleTree) → Reads text m → ⊥
 
 -- the name's meaning was changed in this way
 abbrev pub Changes : (before after : List ModuleTree) → ChangeKind → List (List ℕ) → Type 0
@@ -70,9 +75,12 @@ pub record AreVersionsUsed (before after : Holdings) (list : List Change) : Type
   pub few : after.used ≤ 65536
   pub stamped : IsStamped before after
 
--- with the versions of the names that are added or replaced, more than 65,536 would be used
+-- With the versions of the names that are added or replaced, more than 65,536 would be used: it is so with some of the
+-- changes, and so with all of them.
 abbrev pub RunsOut : (before after : List ModuleTree) (used : ℕ) → Type 0
-RunsOut before after used = (list : List Change) × AreChanges before after list × (65536 < used + new_versions list)
+RunsOut before after used =
+    ((list : List Change) × AreChanges before after list × (65536 < used + new_versions list))
+    × ((list : List Change) → IsChanges before after list → 65536 < used + new_versions list)
 
 -- with the module there are at most 256 modules, each that it imports is there, and there are at most 1,024 protocols
 pub record HasRoom (m : ModuleTree) (after : List ModuleTree) : Type 0 where
@@ -146,17 +154,18 @@ TellsParse ts (parse.LeftOut word at) = IsFaultOf ts (parse.LeftOut word at)
 TellsParse ts (parse.TooDeep at) = IsFaultOf ts (parse.TooDeep at)
 TellsParse ts parse.OutOfMemory = ⊥
 
--- a declared protocol breaks a rule there
+-- a declared protocol means nothing, and breaks a rule there
 abbrev pub IsBrokenIn : List ModuleTree → Fault → Type 0
 IsBrokenIn modules f =
-    (d : Declaration) × Contains (declarations modules) d × IsBroken modules d.home.name d.protocol.name f
+    (d : Declaration) × Contains (declarations modules) d × ((a : Agreement) → DeclaredMeans modules d a → ⊥)
+    × IsBroken modules d.home.name d.protocol.name f
 
 -- What a declared protocol means has no projection on the role under the profile, and the role is the first such role
 -- of it. At the place stands a choice that the protocol's type is made of, and whose branches don't merge for the role.
 abbrev pub IsUnmergeableIn : Profile → List ModuleTree → Unmergeable → Type 0
 IsUnmergeableIn profile modules u =
     (d : Declaration) × (a : Agreement) × Contains (declarations modules) d × DeclaredMeans modules d a
-    × (first_without profile a.global a.roles ≡ Some u.role) × IsPlaced profile modules d.home.name d.protocol.name a.global u
+    × (projects profile a.global a.roles ≡ false) × (first_without profile a.global a.roles ≡ Some u.role) × IsPlaced profile modules d.home.name d.protocol.name a.global u
 
 -- With the module there is no room, the modules aren't well formed under the profile, or versions run out, for this
 -- and nothing that comes before it.
@@ -182,8 +191,8 @@ TextFails profile before used text f = (m : ModuleTree) × Reads text m × Modul
 -- The put, under the profile and after so many used versions, is refused for this, and for nothing that comes before it
 -- in this list. Memory may lack for any text that isn't too long.
 abbrev pub PutFails : Profile → (before : List ModuleTree) (used : ℕ) → List ℕ → EditFault → Type 0
-PutFails profile before used text (edit.Lex f) = TellsLex text f
-PutFails profile before used text (edit.Parse f) = (ts : List Lexeme) × IsTokens text ts × TellsParse ts f
+PutFails profile before used text (edit.Lex f) = IsUnread text × TellsLex text f
+PutFails profile before used text (edit.Parse f) = IsUnread text × ((ts : List Lexeme) × IsTokens text ts × TellsParse ts f)
 PutFails profile before used text edit.TooManyModules = TextFails profile before used text edit.TooManyModules
 PutFails profile before used text (edit.ImportMissing name) = TextFails profile before used text (edit.ImportMissing name)
 PutFails profile before used text edit.TooManyProtocols = TextFails profile before used text edit.TooManyProtocols

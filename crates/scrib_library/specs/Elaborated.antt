@@ -65,7 +65,9 @@ pub record IsFoundFor (modules : List ModuleTree) (e : Entry) (x : NamedElaborat
   pub sites : HasSites modules e x.elaborated
 
 abbrev pub IsBrokenEntry : List ModuleTree → Entry → EditFault → Type 0
-IsBrokenEntry modules e (edit.Elaborate f) = (e.stands ≡ true) × IsBroken modules e.home.now.name e.protocol.now.name f
+IsBrokenEntry modules e (edit.Elaborate f) =
+    (e.stands ≡ true) × ((a : Agreement) → Elaborates modules e.home.now.name e.protocol.now.name a → ⊥)
+    × IsBroken modules e.home.now.name e.protocol.now.name f
 IsBrokenEntry modules e edit.OutOfMemory = Unit {0}
 IsBrokenEntry modules e other = ⊥
 

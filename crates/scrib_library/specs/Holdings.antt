@@ -1,10 +1,11 @@
 -- What contracts see of a library (this project's own).
-use Rattle.std.specs.Prelude.{◌≡◌, ◌⊎◌, ℕ, ◌<◌, ◌≤◌, List, [], Option, Some, None, Contains}
+use Rattle.std.specs.Prelude.{◌≡◌, ◌⊎◌, ℕ, ◌<◌, ◌≤◌, true, List, [], Option, Some, None, Contains}
 use Rattle.scrib_types.specs.Agreement.{Agreement}
 use Rattle.scrib_types.specs.declared.profile.Profile.{Profile}
 use Rattle.scrib_types.specs.declared.profile.Profile.TheVariants.{Plain}
 use Rattle.scrib_parser.specs.declared.tree.ModuleTree.{ModuleTree}
-use Rattle.scrib_library.specs.Modules.{Means}
+use Rattle.scrib_modules.specs.Names.{distinct_names, module_names}
+use Rattle.scrib_library.specs.Modules.{Means, AreWellFormed, MeansOnce, AreFew}
 
 -- a full name, and the number of the version that it has
 pub record Stamp : Type 0 where
@@ -53,6 +54,15 @@ pub record AreNumbered (h : Holdings) : Type 0 where
   pub once : (m n : List (List ℕ)) (k : ℕ) → HasNumber h m k → HasNumber h n k → m ≡ n
   pub below : (name : List (List ℕ)) (k : ℕ) → HasNumber h name k → k < h.used
   pub few : h.used ≤ 65536
+
+-- What a library can hold: few modules, of different names, well formed under the profile, of which each name means one
+-- thing, and numbers of the versions, of which at most 65,536 were ever used.
+pub record IsAccepting (h : Holdings) : Type 0 where
+  pub few : AreFew h.modules
+  pub distinct : distinct_names (module_names h.modules) ≡ true
+  pub formed : AreWellFormed h.profile h.modules
+  pub once : MeansOnce h.modules
+  pub numbered : AreNumbered h
 
 -- A name that means the same before and after an edit keeps its number, and each other number was never used before.
 pub record IsStamped (before after : Holdings) : Type 0 where

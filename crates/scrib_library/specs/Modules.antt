@@ -1,5 +1,5 @@
 -- What the accepted modules mean (this project's own).
-use Rattle.std.specs.Prelude.{◌≡◌, ℕ, Bool, true, not, List, [], ◌∷◌, ◌++◌, length, Option, Some, None, Contains}
+use Rattle.std.specs.Prelude.{◌≡◌, ℕ, ◌≤◌, Bool, true, not, List, [], ◌∷◌, ◌++◌, length, Option, Some, None, Contains}
 use Rattle.std.specs.List.{sum_by}
 use Rattle.scrib_types.specs.Agreement.{Agreement}
 use Rattle.scrib_types.specs.declared.profile.Profile.{Profile}
@@ -71,3 +71,8 @@ MeansOnce modules = (name : List (List ℕ)) (a b : Agreement) → Means modules
 -- how many protocols the modules declare
 abbrev pub protocol_count : List ModuleTree → ℕ
 protocol_count modules = sum_by (λ (m : ModuleTree). length m.protocols) modules
+
+-- there are at most 256 modules, which declare at most 1,024 protocols
+pub record AreFew (modules : List ModuleTree) : Type 0 where
+  pub count : length modules ≤ 256
+  pub protocols : protocol_count modules ≤ 1024

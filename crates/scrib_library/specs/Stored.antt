@@ -8,7 +8,7 @@ use Rattle.scrib_modules.specs.Names.{distinct_names, module_names}
 use Rattle.scrib_record.specs.declared.version.Version.{Version}
 use Rattle.scrib_record.specs.Versions.{meaning_of, number_of}
 use Rattle.scrib_library.specs.declared.versions.NamedVersion.{NamedVersion}
-use Rattle.scrib_library.specs.Modules.{Means, AreImportsThere, AllProject}
+use Rattle.scrib_library.specs.Modules.{Means, AreFew, AreImportsThere, AllProject}
 use Rattle.scrib_library.specs.Holdings.{Stamp}
 use Rattle.scrib_library.specs.Listed.{AreDeclaredNames}
 
@@ -50,9 +50,10 @@ pub record AreCounted (versions : List NamedVersion) (used : ℕ) : Type 0 where
   pub once : (v w : NamedVersion) → Contains versions v → Contains versions w → number_of v.version ≡ number_of w.version → v.name ≡ w.name
   pub few : used ≤ 65536
 
--- modules of different names whose imports are there, with a version of each protocol, and all these project under the
--- profile
+-- few modules, of different names, whose imports are there, with a version of each protocol, and all these project
+-- under the profile
 pub record IsLibrary (profile : Profile) (modules : List ModuleTree) (versions : List NamedVersion) (used : ℕ) : Type 0 where
+  pub few : AreFew modules
   pub distinct : distinct_names (module_names modules) ≡ true
   pub imports : AreImportsThere modules
   pub spelled : (m : ModuleTree) → Contains modules m → IsSpelled m

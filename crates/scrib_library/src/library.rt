@@ -5,7 +5,7 @@ ghost use Rattle.std.specs.Option.{option_map};
 ghost use Rattle.scrib_parser.specs.declared.tree.ModuleTree as parsed;
 ghost use Rattle.scrib_record.specs.Versions.{meaning_of, number_of};
 ghost use Rattle.scrib_library.specs.Modules.{IsMeaning, AllProject, MeansProtocols, MeansOnce};
-ghost use Rattle.scrib_library.specs.Holdings.{no_holdings, no_holdings_under, IsNumber, IsStamp, AreNumbered};
+ghost use Rattle.scrib_library.specs.Holdings.{no_holdings, no_holdings_under, IsNumber, IsStamp, AreNumbered, IsAccepting};
 ghost use Rattle.scrib_library.specs.Edits.{IsPut, IsChanges, AreVersionsUsed, PutFails, IsWithdrawal, AreWithdrawn, WithdrawFails};
 ghost use Rattle.scrib_library.specs.Profiles.{ProfileFails};
 
@@ -244,6 +244,14 @@ impl Library {
     pub fn are_numbered(&self)
         ensures once { MeansOnce self.now.modules }
         ensures numbers { AreNumbered self.now }
+    {
+        let _versions = self.versions.as_slice();
+    }
+
+    /// A law: the modules have different names and are well formed under the profile that is held, a name means one
+    /// thing, and the versions are numbered.
+    pub fn is_accepting(&self)
+        ensures { IsAccepting self.now }
     {
         let _versions = self.versions.as_slice();
     }

@@ -25,6 +25,7 @@ invariant_of-self c =
     let library = c.self.invariant in
     let P : List NamedVersion → Type 0 = λ l. AllVersionsProject held l → AllVersionsProject wanted l in
     record {
+      few = library.few;
       distinct = library.distinct;
       imports = library.imports;
       spelled = library.spelled;
