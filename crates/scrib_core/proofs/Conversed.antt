@@ -28,7 +28,7 @@ use Rattle.scrib_core.specs.declared.reply.Reply.TheVariants as reply
 use Rattle.scrib_core.specs.World.{Conversation, conversation, noted, opened, Follows, Refuses}
 use Rattle.scrib_core.specs.Marks.{Mark, Fresh, Stale, IsStale, IsLeft, Remarks}
 use Rattle.scrib_core.specs.Answers.{IsTold, IsAnswered, IsDue}
-use Rattle.scrib_core.specs.Held.{Records, record_at, conversation_of, world_of, mark_of, mark_at, marks_of, state, IsKnown, AreKnown}
+use Rattle.scrib_core.specs.Held.{Records, Held, LeavesRefused, record_at, conversation_of, world_of, mark_of, mark_at, marks_of, state, IsKnown, AreKnown}
 use Rattle.scrib_core.specs.Conversing.{IsPresent, IsOpened, OpenFails, IsNotedAt, NoteFails, IsTurnedAt, IsAskedAt, TellFails, AnswersOpen, AnswersNote, AnswersTurn, AnswersAsk}
 use Rattle.scrib_core.proofs.Marking.{fresh_mark, stale_mark, note_mark, turn_mark}
 
@@ -199,10 +199,15 @@ noted_known h r s name held known = record {
   means = λ v e there. subst (λ (n : List (List ℕ)). Means h.modules n (meaning_of v)) (sym name) (known.means v (sym held ∙ e) (subst (λ (n : List (List ℕ)). HasNumber h n (number_of v)) name there));
 }
 
--- what an answer makes of the state
+-- the records beside the library
+abbrev pub held : Holdings → Records → Held
+held h rs = record { library = h; records = rs }
+
+-- what an answer makes of the state, and that a refusal leaves what is held
 pub record Makes (h : Holdings) (old : Records) (step : Step) (answer : Reply) (k : Holdings) (new : Records) : Type 0 where
   pub answered : IsAnswered (state h old) step answer (state k new)
   pub due : IsDue (world_of h old) step answer
+  pub left : LeavesRefused answer (held h old) (held k new)
   pub known : AreKnown k new
 
 module _ (h : Holdings) (old : Records) (numbered : AreNumbered h) (once : MeansOnce h.modules) (known : AreKnown h old) where
@@ -210,6 +215,7 @@ module _ (h : Holdings) (old : Records) (numbered : AreNumbered h) (once : Means
   refused step f new refuses due same = record {
     answered = (refuses, ap (state h) same);
     due = due;
+    left = ap (held h) same;
     known = subst (AreKnown h) (sym same) known;
   }
 
@@ -243,6 +249,7 @@ module _ (h : Holdings) (old : Records) (numbered : AreNumbered h) (once : Means
             remarks = set_remarks h old id x.before x.after x.there (Note id e) marked (λ j events m other. refl);
           };
           due = tt;
+          left = tt;
           known = set_known h old id x.before x.after x.there k' known;
         } in
         subst (Makes h old (Note id e) (reply.Noted i place answer) h) (sym x.put) made
@@ -294,6 +301,7 @@ module _ (h : Holdings) (old : Records) (numbered : AreNumbered h) (once : Means
             remarks = set_remarks h old id x.before x.after x.there (Turn id) (λ same. marked, λ apart. absurd (apart refl)) (left_by_other_turn id);
           };
           due = tt;
+          left = tt;
           known = set_known h old id x.before x.after x.there k' known;
         } in
         subst (Makes h old (Turn id) (reply.Judged i name events answer) h) (sym x.put) made
@@ -333,6 +341,7 @@ module _ (h : Holdings) (old : Records) (numbered : AreNumbered h) (once : Means
         remarks = same_remarks h old (Ask id) (left_by_ask id);
       };
       due = tt;
+      left = tt;
       known = known;
     }
 
@@ -396,6 +405,7 @@ module _ (h : Holdings) (old : Records) (numbered : AreNumbered h) (once : Means
       open_made i n is named = record {
         answered = record { follows = open_follows; replies = (is, named); remarks = pushed_remarks };
         due = tt;
+        left = tt;
         known = λ j q e. pushed_known j q (record_at old j) refl e;
       }
 

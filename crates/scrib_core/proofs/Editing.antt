@@ -172,6 +172,7 @@ module _ (h k : Holdings) (rs : Records) (before : AreNumbered h) (after : AreNu
           remarks = edit_remarks h k rs before after once known (Put text) (left_by_put text) versions.stamped grows;
         };
         due = tt;
+        left = tt;
         known = edit_known h k rs before after once known versions.stamped grows;
       }
 
@@ -186,6 +187,7 @@ module _ (h k : Holdings) (rs : Records) (before : AreNumbered h) (after : AreNu
           remarks = edit_remarks h k rs before after once known (Withdraw name) (left_by_withdraw name) versions.stamped grows;
         };
         due = tt;
+        left = tt;
         known = edit_known h k rs before after once known versions.stamped grows;
       }
 
@@ -248,6 +250,7 @@ module _ (h : Holdings) (rs : Records) (numbered : AreNumbered h) (once : MeansO
       remarks = record { unopened = λ id e. ap (mark_at h) (none_seen h rs id e); opened = λ id c e. inl refl };
     };
     due = tt;
+    left = tt;
     known = known_under p;
   }
 

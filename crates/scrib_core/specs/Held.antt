@@ -13,9 +13,12 @@ use Rattle.scrib_record.specs.Stale.{Recorded, is_final}
 use Rattle.scrib_record.specs.Versions.{meaning_of, number_of}
 use Rattle.scrib_library.specs.Holdings.{Stamp, Holdings, HasNumber}
 use Rattle.scrib_library.specs.Modules.{Means, IsMeaning}
+use Rattle.scrib_core.specs.declared.step.Step.{Step}
+use Rattle.scrib_core.specs.declared.reply.Reply.{Reply}
+use Rattle.scrib_core.specs.declared.reply.Reply.TheVariants as reply
 use Rattle.scrib_core.specs.World.{World, Conversation, conversation}
 use Rattle.scrib_core.specs.Marks.{Mark, Marks, Fresh, Stale}
-use Rattle.scrib_core.specs.Answers.{State}
+use Rattle.scrib_core.specs.Answers.{State, IsAnswered, IsDue}
 
 -- the records of the conversations, under their ids, in the order in which they were opened
 abbrev pub Records : Type 0
@@ -25,6 +28,15 @@ Records = List (ℕ × Recorded)
 pub record Held : Type 0 where
   pub library : Holdings
   pub records : Records
+
+-- a refusal leaves all that is held
+abbrev pub LeavesRefused : Reply → (old new : Held) → Type 0
+LeavesRefused (reply.Refused f) old new = new ≡ old
+LeavesRefused (reply.Edited e changes) old new = Unit {0}
+LeavesRefused (reply.Profiled p) old new = Unit {0}
+LeavesRefused (reply.Opened i n) old new = Unit {0}
+LeavesRefused (reply.Noted i place told) old new = Unit {0}
+LeavesRefused (reply.Judged i n events told) old new = Unit {0}
 
 -- the record under the id, if any
 abbrev pub record_at : Records → ℕ → Option Recorded
@@ -72,6 +84,15 @@ state h rs = record { world = world_of h rs; marks = marks_of h rs }
 
 abbrev pub state_of : Held → State
 state_of c = state c.library c.records
+
+-- Answered, with what is held after each step: memory is refused only where it is due, and a refused step leaves all
+-- that was held before it.
+abbrev pub AnswersHeld : Held → List Step → List Reply → Held → Type 0
+AnswersHeld c [] [] d = d ≡ c
+AnswersHeld c [] (r ∷ rs) d = ⊥
+AnswersHeld c (step ∷ steps) [] d = ⊥
+AnswersHeld c (step ∷ steps) (r ∷ rs) d =
+    (u : Held) × IsAnswered (state_of c) step r (state_of u) × IsDue (state_of c).world step r × LeavesRefused r c u × AnswersHeld u steps rs d
 
 -- The version that the record holds was used before, and where its number is that of a name now, the name is the record's
 -- and means what the version does.

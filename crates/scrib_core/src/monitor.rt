@@ -7,7 +7,7 @@ ghost use Rattle.scrib_library.specs.Modules.{IsMeaning};
 ghost use Rattle.scrib_core.specs.declared.step.Step.TheVariants.{Put, Withdraw, Open, Note, Turn, Ask};
 ghost use Rattle.scrib_core.specs.declared.step.Step.TheVariants as steps;
 ghost use Rattle.scrib_core.specs.Answers.{initial, initial_under, IsAnswered, IsDue, AnswersAsDue};
-ghost use Rattle.scrib_core.specs.Held.{state_of, IsViewed};
+ghost use Rattle.scrib_core.specs.Held.{state_of, LeavesRefused, AnswersHeld, IsViewed};
 ghost use Rattle.scrib_core.specs.Runs.{PermitsRuns};
 ghost use Rattle.scrib_core.specs.Telling.{reply_of, profile_reply_of};
 
@@ -73,14 +73,15 @@ impl Core {
         }
     }
 
-    /// Makes one step and answers it. A refused step changes nothing. What is told of a conversation that isn't marked
-    /// stale is the verdict on its whole log under what its protocol means now; it is marked only where that changed
-    /// since it was judged.
+    /// Makes one step and answers it. A refused step leaves what the library holds and every record. What is told of a
+    /// conversation that isn't marked stale is the verdict on its whole log under what its protocol means now; it is
+    /// marked only where that changed since it was judged.
     #[inline(always)]
     #[tactic(auto, using(crate::proofs::Runs::permits_runs))]
     pub fn apply(&mut self, step: Step) -> Reply
         ensures answered { IsAnswered (state_of self.old) step result (state_of self.new) }
         ensures memory { IsDue (state_of self.old).world step result }
+        ensures refused { LeavesRefused result self.old self.new }
         ensures runs { PermitsRuns (state_of self.new).world }
     {
         let reply = match step {
@@ -96,16 +97,18 @@ impl Core {
         reply
     }
 
-    /// Makes the steps one after another and answers each. After them a fresh verdict on a conversation is that it is
-    /// permitted exactly where whoever acted joined beforehand and its sends and receptions are a run of its protocol's
-    /// global type over first-in-first-out queues.
+    /// Makes the steps one after another and answers each, as `apply` does: a refused one leaves what the library holds
+    /// and every record. After them a fresh verdict on a conversation is that it is permitted exactly where whoever
+    /// acted joined beforehand and its sends and receptions are a run of its protocol's global type over
+    /// first-in-first-out queues.
     ///
     /// # Errors
-    /// `AllocError` where there is no memory for all replies: then no step was made.
+    /// `AllocError` where there is no memory for all replies: then no step was made, and nothing changed.
     #[tactic(auto, using(crate::proofs::Runs::permits_runs))]
     pub fn run(&mut self, steps: &[Step]) -> Result<Vec<Reply>, AllocError>
         ensures answered { IfOk result (λ replies. AnswersAsDue (state_of self.old) steps.now replies.items (state_of self.new)) }
-        ensures err { OnErr result (state_of self.new ≡ state_of self.old) }
+        ensures held { IfOk result (λ replies. AnswersHeld self.old steps.now replies.items self.new) }
+        ensures err { OnErr result (self.new ≡ self.old) }
         ensures runs { PermitsRuns (state_of self.new).world }
     {
         self.library.means_protocols();
@@ -131,6 +134,7 @@ impl Core {
     fn apply_lent(&mut self, step: &Step) -> Reply
         ensures answered { IsAnswered (state_of self.old) step.now result (state_of self.new) }
         ensures memory { IsDue (state_of self.old).world step.now result }
+        ensures refused { LeavesRefused result self.old self.new }
     {
         match step {
             Step::Put { text } => self.put(text.as_slice()),
@@ -146,6 +150,7 @@ impl Core {
     fn note_lent(&mut self, id: u32, event: &SharedEvent) -> Reply
         ensures answered { IsAnswered (state_of self.old) (Note id event.now) result (state_of self.new) }
         ensures memory { IsDue (state_of self.old).world (Note id event.now) result }
+        ensures refused { LeavesRefused result self.old self.new }
     {
         let Some(record) = self.records.get(&id) else {
             return Reply::Refused(Refusal::NoConversation);
@@ -162,6 +167,7 @@ impl Core {
     fn put(&mut self, text: &[u8]) -> Reply
         ensures answered { IsAnswered (state_of self.old) (Put text.now) result (state_of self.new) }
         ensures memory { IsDue (state_of self.old).world (Put text.now) result }
+        ensures refused { LeavesRefused result self.old self.new }
     {
         self.library.are_numbered();
         let edited = self.library.put(text);
@@ -172,6 +178,7 @@ impl Core {
     fn withdraw(&mut self, name: &Dotted) -> Reply
         ensures answered { IsAnswered (state_of self.old) (Withdraw name.now) result (state_of self.new) }
         ensures memory { IsDue (state_of self.old).world (Withdraw name.now) result }
+        ensures refused { LeavesRefused result self.old self.new }
     {
         self.library.are_numbered();
         let edited = self.library.withdraw(name);
@@ -182,6 +189,7 @@ impl Core {
     fn set_profile(&mut self, profile: Profile) -> Reply
         ensures answered { IsAnswered (state_of self.old) (steps.Profile profile) result (state_of self.new) }
         ensures memory { IsDue (state_of self.old).world (steps.Profile profile) result }
+        ensures refused { LeavesRefused result self.old self.new }
     {
         self.library.are_numbered();
         let changed = self.library.set_profile(profile);
@@ -191,6 +199,7 @@ impl Core {
     fn open(&mut self, id: u32, name: &Dotted) -> Reply
         ensures answered { IsAnswered (state_of self.old) (Open id name.now) result (state_of self.new) }
         ensures memory { IsDue (state_of self.old).world (Open id name.now) result }
+        ensures refused { LeavesRefused result self.old self.new }
     {
         self.library.are_numbered();
         open(
@@ -207,6 +216,7 @@ impl Core {
     fn note(&mut self, id: u32, event: SharedEvent) -> Reply
         ensures answered { IsAnswered (state_of self.old) (Note id event) result (state_of self.new) }
         ensures memory { IsDue (state_of self.old).world (Note id event) result }
+        ensures refused { LeavesRefused result self.old self.new }
     {
         self.library.are_numbered();
         note(
@@ -221,6 +231,7 @@ impl Core {
     fn turn(&mut self, id: u32) -> Reply
         ensures answered { IsAnswered (state_of self.old) (Turn id) result (state_of self.new) }
         ensures memory { IsDue (state_of self.old).world (Turn id) result }
+        ensures refused { LeavesRefused result self.old self.new }
     {
         self.library.are_numbered();
         turn(&self.library, &mut self.records, Comparison::Numbers, id)
@@ -229,6 +240,7 @@ impl Core {
     fn ask(&self, id: u32) -> Reply
         ensures answered { IsAnswered (state_of self.now) (Ask id) result (state_of self.now) }
         ensures memory { IsDue (state_of self.now).world (Ask id) result }
+        ensures refused { LeavesRefused result self.now self.now }
     {
         self.library.are_numbered();
         ask(&self.library, &self.records, Comparison::Numbers, id)

@@ -11,3 +11,8 @@ pub returns-clause-memory : goal.returns-clause-memory
 returns-clause-memory c =
     let made = ask_answered c.self.inside.library c.self.inside.records.entries c.are_numbered.ensures.numbers c.are_numbered.ensures.once c.self.invariant c.args.id c.ask.result c.ask.ensures in
     rw (sym c.self.view_is) made.due
+
+pub returns-clause-refused : goal.returns-clause-refused
+returns-clause-refused c =
+    let made = ask_answered c.self.inside.library c.self.inside.records.entries c.are_numbered.ensures.numbers c.are_numbered.ensures.once c.self.invariant c.args.id c.ask.result c.ask.ensures in
+    rw (sym c.self.view_is) made.left

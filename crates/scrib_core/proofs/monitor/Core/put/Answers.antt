@@ -14,3 +14,8 @@ pub returns-clause-memory : goal.returns-clause-memory
 returns-clause-memory c =
     let made = put_answered c.self.inside.library c.self.inside.records.entries c.are_numbered.ensures.numbers c.are_numbered.ensures.once c.self.invariant c.put-edited.new.self c.are_numbered-2.ensures.numbers c.args.text.now c.put-edited.result c.put-edited.ensures.ok c.put-edited.ensures.versions c.put-edited.ensures.profile c.put-edited.ensures.fault c.put-edited.ensures.err in
     rw (sym c.self.view_is, c.edit_reply.ensures) made.due
+
+pub returns-clause-refused : goal.returns-clause-refused
+returns-clause-refused c =
+    let made = put_answered c.self.inside.library c.self.inside.records.entries c.are_numbered.ensures.numbers c.are_numbered.ensures.once c.self.invariant c.put-edited.new.self c.are_numbered-2.ensures.numbers c.args.text.now c.put-edited.result c.put-edited.ensures.ok c.put-edited.ensures.versions c.put-edited.ensures.profile c.put-edited.ensures.fault c.put-edited.ensures.err in
+    rw (sym c.self.view_is, c.edit_reply.ensures) made.left

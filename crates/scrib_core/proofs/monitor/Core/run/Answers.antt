@@ -4,7 +4,7 @@ use Rattle.std.proofs.lemmas.List.{take_more}
 use Rattle.scrib_core.specs.declared.step.Step.{Step}
 use Rattle.scrib_core.specs.Held.{world_of, state_of}
 use Rattle.scrib_core.proofs.Runs.{permits_runs}
-use Rattle.scrib_core.proofs.Steps.{answers_push}
+use Rattle.scrib_core.proofs.Steps.{answers_push, held_push}
 use Rattle.scrib_core.proofs.monitor.Core.run.Goals as goal
 
 pub loop-step-preserved : goal.loop-step-preserved
@@ -16,8 +16,11 @@ loop-step-preserved c =
     take_more steps i c.step-item.result within ∙ ap (λ (s : Step). take i steps ++ s ∷ []) (sym c.step-item.is) in
     let more = answers_push (take i steps) c.loop-step.replies.items (state_of c.args.self.now) (state_of c.loop-step.self) (state_of c.apply_lent-reply.new.self) c.step-item.result c.apply_lent-reply.result
     c.loop-step.invariant.answered c.apply_lent-reply.ensures.answered c.apply_lent-reply.ensures.memory in
+    let kept = held_push (take i steps) c.loop-step.replies.items c.args.self.now c.loop-step.self c.apply_lent-reply.new.self c.step-item.result c.apply_lent-reply.result
+    c.loop-step.invariant.held c.apply_lent-reply.ensures.answered c.apply_lent-reply.ensures.memory c.apply_lent-reply.ensures.refused in
     record {
       answered = rw (taken, c.push_reserved.ensures.items) more;
+      held = rw (taken, c.push_reserved.ensures.items) kept;
       room = omega (arith, c.push_reserved.ensures.capacity, c.loop-step.invariant.room);
       count = omega (arith, c.push_reserved.ensures.len, c.loop-step.invariant.count);
     }
@@ -30,3 +33,6 @@ returns-clause-runs c = rw (sym c.self-2.view_is) (permits_runs (world_of c.self
 
 pub returns-clause-answered : goal.returns-clause-answered
 returns-clause-answered c = grind (arith, common_steps)
+
+pub returns-clause-held : goal.returns-clause-held
+returns-clause-held c = grind (arith, common_steps)

@@ -14,3 +14,8 @@ pub returns-clause-memory : goal.returns-clause-memory
 returns-clause-memory c =
     let made = profile_answered c.self.inside.library c.self.inside.records.entries c.are_numbered.ensures.numbers c.are_numbered.ensures.once c.self.invariant c.args.profile c.set_profile-changed.new.self c.set_profile-changed.result c.set_profile-changed.ensures.ok c.set_profile-changed.ensures.projected c.set_profile-changed.ensures.fault c.set_profile-changed.ensures.err in
     rw (sym c.self.view_is, c.profile_reply.ensures) made.due
+
+pub returns-clause-refused : goal.returns-clause-refused
+returns-clause-refused c =
+    let made = profile_answered c.self.inside.library c.self.inside.records.entries c.are_numbered.ensures.numbers c.are_numbered.ensures.once c.self.invariant c.args.profile c.set_profile-changed.new.self c.set_profile-changed.result c.set_profile-changed.ensures.ok c.set_profile-changed.ensures.projected c.set_profile-changed.ensures.fault c.set_profile-changed.ensures.err in
+    rw (sym c.self.view_is, c.profile_reply.ensures) made.left

@@ -14,3 +14,8 @@ pub returns-clause-memory : goal.returns-clause-memory
 returns-clause-memory c =
     let made = turn_answered c.self.inside.library c.self.inside.records.entries c.are_numbered.ensures.numbers c.are_numbered.ensures.once c.self.invariant c.args.id c.turn.new.records.entries c.turn.result c.turn.ensures in
     rw (sym c.self.view_is) made.due
+
+pub returns-clause-refused : goal.returns-clause-refused
+returns-clause-refused c =
+    let made = turn_answered c.self.inside.library c.self.inside.records.entries c.are_numbered.ensures.numbers c.are_numbered.ensures.once c.self.invariant c.args.id c.turn.new.records.entries c.turn.result c.turn.ensures in
+    rw (sym c.self.view_is) made.left

@@ -14,3 +14,8 @@ pub returns-clause-memory : goal.returns-clause-memory
 returns-clause-memory c =
     let made = withdraw_answered c.self.inside.library c.self.inside.records.entries c.are_numbered.ensures.numbers c.are_numbered.ensures.once c.self.invariant c.withdraw-edited.new.self c.are_numbered-2.ensures.numbers c.args.name.now c.withdraw-edited.result c.withdraw-edited.ensures.ok c.withdraw-edited.ensures.versions c.withdraw-edited.ensures.profile c.withdraw-edited.ensures.fault c.withdraw-edited.ensures.err in
     rw (sym c.self.view_is, c.edit_reply.ensures) made.due
+
+pub returns-clause-refused : goal.returns-clause-refused
+returns-clause-refused c =
+    let made = withdraw_answered c.self.inside.library c.self.inside.records.entries c.are_numbered.ensures.numbers c.are_numbered.ensures.once c.self.invariant c.withdraw-edited.new.self c.are_numbered-2.ensures.numbers c.args.name.now c.withdraw-edited.result c.withdraw-edited.ensures.ok c.withdraw-edited.ensures.versions c.withdraw-edited.ensures.profile c.withdraw-edited.ensures.fault c.withdraw-edited.ensures.err in
+    rw (sym c.self.view_is, c.edit_reply.ensures) made.left
