@@ -1,13 +1,17 @@
 -- Sweeps: a turn of one conversation, and one conversation after another.
-use Rattle.std.proofs.Common.{◌≡◌, ◌⊎◌, inl, inr, ℕ, ◌+◌, ◌*◌, ◌<◌, ◌≤◌, ◌&&◌, not, Bool, true, false, cond, if◌then◌else◌, List, length, get_or, Option, Some, None, IsSome, nat_eq, refl, sym, ap, subst, ◌∙◌, arith, true≢false}
-use Rattle.std.specs.List.{list_any}
+use Rattle.std.proofs.Common.{◌≡◌, ◌⊎◌, inl, inr, ℕ, zero, suc, ◌+◌, ◌*◌, ◌<◌, ◌≤◌, ◌&&◌, not, Bool, true, false, cond, if◌then◌else◌, List, length, get_or, Option, Some, None, IsSome, nat_eq, refl, sym, ap, subst, ◌∙◌, arith, true≢false}
+use Rattle.std.specs.List.{IsDistinct, list_any}
+use Rattle.std.specs.List.Sorted.{IsStrictlyIncreasing}
 use Rattle.std.specs.Map.{set_value}
 use Rattle.std.specs.Cmp.{nat_eq_equiv}
 use Rattle.std.proofs.lemmas.Bool.{cases_eq}
 use Rattle.std.proofs.lemmas.Bool.Decides.{Decides-eqb, nat_tests}
 use Rattle.std.proofs.lemmas.List.{get_or_default}
+use Rattle.std.proofs.lemmas.List.Kept.{AllPairs-from_increasing}
 use Rattle.std.proofs.lemmas.Map.{lookup-set_value, keys-set_value}
-use Rattle.std.proofs.lemmas.Map.Made.{is_some-lookup}
+use Rattle.std.proofs.lemmas.Map.Made.{IsDistinct-from_AllPairs}
+use Rattle.std.proofs.lemmas.Map.Steps.{length-le_from_keys}
+use Rattle.std.proofs.lemmas.Map.Views.{Contains-from_any}
 use Rattle.scrib_types.specs.declared.event.Told.{Told}
 use Rattle.scrib_types.specs.declared.event.Told.TheVariants.{Stale, Judged}
 use Rattle.scrib_types.specs.declared.event.Verdict.{Verdict}
@@ -23,7 +27,7 @@ use Rattle.scrib_core.specs.Held.{Records, record_at}
 use Rattle.scrib_core.specs.Conversing.{IsPresent}
 use Rattle.scrib_locked.specs.Locked.{IsTurnedFor}
 use Rattle.scrib_locked.specs.Shards.{AreWithin}
-use Rattle.scrib_locked.specs.Sweeping.{IsFreshNow, IsFreshAt, AreSame, AreSameBut, AreTouched, AreSwept}
+use Rattle.scrib_locked.specs.Sweeping.{IsStaleNow, IsFreshNow, IsStaleAt, IsFreshAt, AreSame, AreSameBut, AreTouched, IsStaleTurn, AreTurns, AreSwept}
 use Rattle.scrib_locked.proofs.Keeping.{within_at}
 
 same_some : {X : Type 0} (x y : X) → Some x ≡ Some y → x ≡ y
@@ -86,9 +90,18 @@ same_written rs id r s there name log = record {
   others = λ j other. at_other rs id j s r there other;
 }
 
-pub there_still : (old new : Records) (id : ℕ) → AreSame old new → IsSome (record_at old id) → IsSome (record_at new id)
-there_still old new id same there =
-    is_some-lookup (nat_eq id) new ∙ ap (λ (ks : List ℕ). list_any (nat_eq id) ks) same.ids ∙ sym (is_some-lookup (nat_eq id) old) ∙ there
+-- ---- turns of stale records, counted
+
+pub turns_more : (h : Holdings) (n : ℕ) (a b c : Records) → AreTurns h n a b → IsStaleTurn h b c → AreTurns h (n + 1) a c
+turns_more h n a b c turns turn = let one : suc n ≡ n + 1 = omega arith in subst (λ (k : ℕ). AreTurns h k a c) one (b, turns, turn)
+
+pub turns_both : (h : Holdings) (m n : ℕ) (a b c : Records) → AreTurns h m a b → AreTurns h n b c → AreTurns h (m + n) a c
+turns_both h m zero a b c x y =
+    let none : m ≡ m + zero = omega arith in
+    subst (λ (k : ℕ). AreTurns h k a c) none (subst (AreTurns h m a) (sym y) x)
+turns_both h m (suc n) a b c x y =
+    let all : suc (m + n) ≡ m + suc n = omega arith in
+    subst (λ (k : ℕ). AreTurns h k a c) all (y.0, turns_both h m n a b y.0 x y.1, y.2)
 
 -- ---- turns of one conversation
 
@@ -103,6 +116,10 @@ alike h name (Some v) (Some w) held numbered once x y =
 under_alike : (h : Holdings) (r : Recorded) (p q : Option Version) → AreNumbered h → MeansOnce h.modules → IsPresent h r.name p → IsPresent h r.name q → judged_under p r ≡ judged_under q r
 under_alike h r p q numbered once x y = ap (λ (b : Bool). if b then r.judged else 0) (alike h r.name p q r.held numbered once x y)
 
+stale_alike : (h : Holdings) (r : Recorded) (p q : Option Version) → AreNumbered h → MeansOnce h.modules → IsPresent h r.name p → IsPresent h r.name q → is_stale p r ≡ true → is_stale q r ≡ true
+stale_alike h r p q numbered once x y stale =
+    ap (λ (b : Bool). not (b && is_final r.verdict r.judged (length r.log))) (alike h r.name q p r.held numbered once y x) ∙ stale
+
 -- after so many turns the record is stale, and 256 events of it are judged for each
 pub record IsStaleAfter (h : Holdings) (turns : ℕ) (r : Recorded) : Type 0 where
   pub present : Option Version
@@ -111,11 +128,13 @@ pub record IsStaleAfter (h : Holdings) (turns : ℕ) (r : Recorded) : Type 0 whe
   pub held : is_present present r.held ≡ true
   pub far : 256 * turns ≤ judged_under present r
 
--- the conversation is there, and was given so many turns that left it stale
+-- the conversation is there and stale, and was given so many turns that left it so
 pub record IsSwept (h : Holdings) (id turns : ℕ) (old now : Records) : Type 0 where
   pub but : AreSameBut id old now
+  pub turned : AreTurns h turns old now
   pub of : Recorded
   pub there : record_at now id ≡ Some of
+  pub stale : IsStaleNow h of
   pub after : (turns ≡ 0) ⊎ IsStaleAfter h turns of
 
 not_final : (v : Verdict) (judged events : ℕ) → is_final v judged events ≡ false → judged < events
@@ -172,14 +191,25 @@ module _ (h : Holdings) (id turns : ℕ) (old now new : Records) (numbered : Are
   turned_there : (answer : Told) (x : IsTurnedFor h now id answer new) → record_at new id ≡ Some x.2.after
   turned_there answer x = ap (λ (rs : Records). record_at rs id) x.2.put ∙ at_itself now id x.2.after x.2.before x.2.there
 
+  -- the record that took it was stale
+  pub swept_turn : (answer : Told) → IsTurnedFor h now id answer new → AreTurns h (turns + 1) old new
+  swept_turn answer x =
+      let t = x.2 in
+      let same : s.of ≡ t.before = same_some s.of t.before (sym s.there ∙ t.there) in
+      let was : IsStaleNow h t.before = subst (IsStaleNow h) same s.stale in
+      turns_more h turns old now new s.turned
+      (record { id = id; answer = answer; turned = x; stale = stale_alike h t.before was.0 t.present numbered once was.1 t.is_present was.2 })
+
   pub swept_stale : IsTurnedFor h now id Stale new → IsSwept h id (turns + 1) old new
   swept_stale x =
       let t = x.2 in
       let same : s.of ≡ t.before = same_some s.of t.before (sym s.there ∙ t.there) in
       record {
         but = turned_same Stale x;
+        turned = swept_turn Stale x;
         of = t.after;
         there = turned_there Stale x;
+        stale = (t.present, subst (λ (n : List (List ℕ)). IsPresent h n t.present) (sym t.turned.name) t.is_present, t.turned.told);
         after = inr (stale_more h turns t.present t.before t.after Stale numbered once t.is_present t.turned t.turned.told
             (subst (λ (r : Recorded). (turns ≡ 0) ⊎ IsStaleAfter h turns r) same s.after));
       }
@@ -196,12 +226,12 @@ module _ (h : Holdings) (id turns : ℕ) (old now new : Records) (numbered : Are
   pub swept_refused : new ≡ now → AreSameBut id old new
   swept_refused e = subst (AreSameBut id old) (sym e) s.but
 
-pub swept_none : (h : Holdings) (id : ℕ) (rs : Records) → IsSome (record_at rs id) → IsSwept h id 0 rs rs
-swept_none h id rs there = by (record_at rs id) refl there
-  where
-    by : (o : Option Recorded) → record_at rs id ≡ o → IsSome o → IsSwept h id 0 rs rs
-    by None e some = absurd (true≢false (sym some))
-    by (Some r) e some = record { but = same_but_itself id rs; of = r; there = e; after = inl refl }
+  pub swept_refused_turns : new ≡ now → AreTurns h turns old new
+  swept_refused_turns e = subst (AreTurns h turns old) (sym e) s.turned
+
+pub swept_none : (h : Holdings) (id : ℕ) (rs : Records) → IsStaleAt h rs id → IsSwept h id 0 rs rs
+swept_none h id rs stale =
+    record { but = same_but_itself id rs; turned = refl; of = stale.0; there = stale.1; stale = stale.2; after = inl refl }
 
 -- ---- one conversation after another
 
@@ -209,24 +239,29 @@ swept_none h id rs there = by (record_at rs id) refl there
 abbrev IsLeft : List ℕ → ℕ → ℕ → Type 0
 IsLeft ids i id = (k : ℕ) × (i ≤ k) × (k < length ids) × (get_or ids k id ≡ id)
 
--- what is stale is among the ids that are still to be swept
+-- what is stale is among the ids that are still to be swept, and these are stale
 pub record IsSweptSoFar (h : Holdings) (ids : List ℕ) (i : ℕ) (old now : Records) : Type 0 where
   pub same : AreSame old now
+  pub stale : (k d : ℕ) → i ≤ k → k < length ids → IsStaleAt h now (get_or ids k d)
   pub left : (id : ℕ) (r : Recorded) → record_at now id ≡ Some r → IsLeft ids i id ⊎ IsFreshNow h r
 
 pub sweep_none : (h : Holdings) (rs : Records) (ids : List ℕ) → AreTouched h rs ids → IsSweptSoFar h ids 0 rs rs
 sweep_none h rs ids touched = record {
   same = same_itself rs;
+  stale = λ k d from below. touched.stale k d below;
   left = λ id r e. elim (touched.others id r e) [
     | inl has ↦ inl (has.0, omega arith, has.1, has.2)
     | inr fresh ↦ inr fresh
   ];
 }
 
-pub sweep_more : (h : Holdings) (ids : List ℕ) (i id : ℕ) (old now new : Records) → i < length ids → id ≡ get_or ids i id
+pub sweep_more : (h : Holdings) (ids : List ℕ) (i id : ℕ) (old now new : Records) → i < length ids → id ≡ get_or ids i id → IsStrictlyIncreasing ids
     → IsSweptSoFar h ids i old now → AreSameBut id now new → IsFreshAt h new id → IsSweptSoFar h ids (i + 1) old new
-sweep_more h ids i id old now new within is so_far but fresh = record {
+sweep_more h ids i id old now new within is rise so_far but fresh = record {
   same = same_twice old now new so_far.same but.same;
+  stale = λ k d from below.
+      let was = so_far.stale k d (omega arith) below in
+      (was.0, but.others (get_or ids k d) (apart k d (omega arith) below) ∙ was.1, was.2);
   left = λ j r e. elim (cases_eq id j) [
     | inl at ↦ inr (fresh r (ap (record_at new) at ∙ e))
     | inr other ↦ (elim (so_far.left j r (sym (but.others j other) ∙ e)) [
@@ -236,6 +271,12 @@ sweep_more h ids i id old now new within is so_far but fresh = record {
   ];
 }
   where
+    apart : (k d : ℕ) → i < k → k < length ids → id ≡ get_or ids k d → ⊥
+    apart k d from below same =
+        let less : get_or ids i d < get_or ids k d = AllPairs-from_increasing ids rise i k d from below in
+        let at : id ≡ get_or ids i d = is ∙ get_or_default ids i id d within in
+        omega (arith, less, at, same)
+
     past : (j : ℕ) → (id ≡ j → ⊥) → (later : IsLeft ids i j) → (later.0 ≡ i) ⊎ (later.0 ≡ i → ⊥) → i + 1 ≤ later.0
     past j other later (inl here) = absurd (other (is ∙ get_or_default ids i id j within ∙ ap (λ (k : ℕ). get_or ids k j) (sym here) ∙ later.3))
     past j other later (inr there) = let from = later.1 in omega (arith, from, there)
@@ -248,3 +289,17 @@ sweep_all h ids i old now end so_far = record {
     | inr fresh ↦ fresh
   ];
 }
+
+-- no more conversations are stale than there are
+pub few_touched : (h : Holdings) (rs : Records) (ids : List ℕ) → AreTouched h rs ids → length ids ≤ length rs
+few_touched h rs ids touched = length-le_from_keys nat_eq_equiv ids rs distinct there
+  where
+    distinct : IsDistinct nat_eq ids
+    distinct = IsDistinct-from_AllPairs Decides-eqb ids
+        (λ i j d from below same. let less : get_or ids i d < get_or ids j d = AllPairs-from_increasing ids touched.rise i j d from below in omega (arith, less, same))
+
+    there : (q : ℕ) → list_any (nat_eq q) ids ≡ true → IsSome (record_at rs q)
+    there q has =
+        let at = Contains-from_any (λ x y. (Decides-eqb x y).0) q ids has in
+        let stale = touched.stale at.0 q at.1 in
+        subst (λ (id : ℕ). IsSome (record_at rs id)) at.2 (subst IsSome (sym stale.1) refl)

@@ -26,7 +26,7 @@ use Rattle.scrib_core.specs.Held.{Records, record_at}
 use Rattle.scrib_core.specs.Conversing.{IsPresent}
 use Rattle.scrib_locked.specs.declared.index.ProtocolName.{ProtocolName}
 use Rattle.scrib_locked.specs.Indexing.{Listing, IsIndex, listed, ids_in, ids_of, name_of, dotted_eq-Decides}
-use Rattle.scrib_locked.specs.Sweeping.{IsStaleNow, IsFreshNow, AreTouched, is_touched_of, touched_of}
+use Rattle.scrib_locked.specs.Sweeping.{IsStaleNow, IsFreshNow, IsStaleAt, AreTouched, is_touched_of, touched_of}
 use Rattle.scrib_locked.proofs.Listed.{id_there, there_id}
 
 same_some : {X : Type 0} (x y : X) → Some x ≡ Some y → x ≡ y
@@ -43,10 +43,6 @@ pub record AreTouchedUnder (h : Holdings) (rs : Records) (es : Listing) (n : ℕ
   pub stale : All (IsStaleUnder h rs es n) ids
   pub others : (k : ℕ) (key : ProtocolName) (v : Vec ℕ Global) (id : ℕ) (r : Recorded) → k < n → slice_get es k ≡ Some (key, v) → record_at rs id ≡ Some r → key.name ≡ r.name
       → Contains ids id ⊎ IsFreshNow h r
-
--- the record under the id is stale
-abbrev IsStaleAt : Holdings → Records → ℕ → Type 0
-IsStaleAt h rs id = (r : Recorded) × (record_at rs id ≡ Some r) × IsStaleNow h r
 
 pub touched_none : (h : Holdings) (rs : Records) (es : Listing) → AreTouchedUnder h rs es 0 []
 unfolding IsDistinct

@@ -1,9 +1,8 @@
 //! Conversations whose verdict is out of date, and sweeps, after which none is.
 
-ghost use Rattle.std.specs.Prelude.{◌≡◌, ◌≤◌, ◌++◌, IsSome, IfOk, OnOk};
+ghost use Rattle.std.specs.Prelude.{◌≡◌, ◌≤◌, ◌*◌, ◌++◌, IfOk, OnOk, OnErr};
 ghost use Rattle.std.specs.Option.{option_copied};
-ghost use Rattle.scrib_core.specs.Held.{record_at};
-ghost use Rattle.scrib_locked.specs.Sweeping.{is_touched_of, touched_of, IsFreshAt, AreTouched, AreSame, AreSameBut, AreSwept};
+ghost use Rattle.scrib_locked.specs.Sweeping.{is_touched_of, touched_of, IsStaleAt, IsFreshAt, AreTouched, IsStaleCount, AreSame, AreSameBut, AreTurns, AreSomeTurns, AreSwept};
 
 use crate::shard::Shard;
 use crate::stepping::turn_step;
@@ -18,8 +17,7 @@ use std::alloc::AllocError;
 /// The most turns of a conversation in one sweep. As each judges 256 events, they are enough for the longest log.
 pub const MAX_TURNS: u64 = 4_096;
 
-/// How many turns were made, and of how many conversations the verdict was brought up to date by them. Counts stay at
-/// the greatest value.
+/// How many turns were made, and of how many conversations the verdict was brought up to date by them.
 #[derive(Clone, Copy, Debug, PartialEq, Eq)]
 pub struct Swept {
     pub turns: u64,
@@ -68,10 +66,16 @@ fn push_touched(
 /// `AllocError` where memory was refused. Each turn that was made before stays.
 pub fn sweep_shard(library: &Library, shard: &mut Shard) -> Result<Swept, AllocError>
     ensures swept { OnOk result (AreSwept library.now shard.old.records shard.new.records) }
+    ensures turned { IfOk result (λ s. AreTurns library.now s.turns shard.old.records shard.new.records) }
+    ensures judged { IfOk result (λ s. IsStaleCount library.now shard.old.records s.judged) }
+    ensures err { OnErr result (AreSomeTurns library.now shard.old.records shard.new.records) }
     ensures same { AreSame shard.old.records shard.new.records }
     ensures limit { shard.new.most ≡ shard.old.most }
     ensures turns { IfOk result (λ s. s.judged ≤ s.turns) }
+    ensures few { IfOk result (λ s. s.turns ≤ 4096 * s.judged) }
 {
+    // The number of conversations bounds that of the turns.
+    let _conversations = shard.len();
     let touched = touched_locked(library, shard)?;
     let mut swept = Swept {
         turns: 0,
@@ -85,13 +89,16 @@ pub fn sweep_shard(library: &Library, shard: &mut Shard) -> Result<Swept, AllocE
     Ok(swept)
 }
 
-// Gives the conversation turns until its verdict is up to date; how many.
+// Gives the conversation, whose verdict is out of date, turns until it is up to date; how many.
 fn sweep_conversation(library: &Library, shard: &mut Shard, id: u32) -> Result<u64, AllocError>
-    requires { IsSome (record_at shard.old.records id) }
+    requires { IsStaleAt library.now shard.old.records id }
     ensures fresh { OnOk result (IsFreshAt library.now shard.new.records id) }
+    ensures turned { IfOk result (λ n. AreTurns library.now n shard.old.records shard.new.records) }
+    ensures err { OnErr result (AreSomeTurns library.now shard.old.records shard.new.records) }
     ensures same { AreSameBut id shard.old.records shard.new.records }
     ensures limit { shard.new.most ≡ shard.old.most }
-    ensures turns { IfOk result (λ n. 1 ≤ n) }
+    ensures some { IfOk result (λ n. 1 ≤ n) }
+    ensures few { IfOk result (λ n. n ≤ 4096) }
 {
     library.are_numbered();
     let _conversations = shard.len();

@@ -44,7 +44,7 @@ impl Model for Queues {
 }
 
 impl Queues {
-    /// Empty queues between so many roles.
+    /// Empty queues between so many roles. Positions above 65,535 get no queue: `reserve` and `send` fail there.
     pub fn new(alloc: Global, roles: usize) -> Queues
         ensures roles { result.roles ≡ roles }
         ensures empty { AllEmpty result }
