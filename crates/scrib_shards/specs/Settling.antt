@@ -13,9 +13,8 @@ pub record AreShards (count : ℕ) (shards : List ShardHeld) : Type 0 where
   pub some : 0 < length shards
   pub few : length shards ≤ 64
 
--- there were so many shards that the passes settle under the library, to this list
-pub record IsSettledSome (count : ℕ) (h : Holdings) (passes : List PassHeld) (list : List Ended) : Type 0 where
-  pub shards : List ShardHeld
+-- these are so many shards, and the passes settle under the library, to this list
+pub record IsSettledSome (count : ℕ) (h : Holdings) (shards : List ShardHeld) (passes : List PassHeld) (list : List Ended) : Type 0 where
   pub are : AreShards count shards
   pub settled : IsSettled h shards passes list
 

@@ -1,6 +1,7 @@
 //! Gates, by which a test sees a call while it holds its locks.
 
-/// What is done once in each call of `note`, `note_all` and `turn`, while the locks are held and before the reply.
+/// What each call of `note`, `note_all` and `turn` does once while it holds its locks, before it returns. That is what
+/// their bodies do: no clause says it.
 pub trait Gate {
     /// The call holds the lock of the shard of this number, from 0.
     fn hold(&self, shard: usize);

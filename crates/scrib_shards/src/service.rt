@@ -109,7 +109,12 @@ impl Service {
         ensures ok { IfOk result (IsPutSome text.now) }
         ensures fault { IfErr result (PutFailsSome text.now) }
     {
-        self.library.write(rt).put(text)
+        let mut guard = self.library.write(rt);
+        let library = &mut *guard;
+        library.is_accepting();
+        let changes = library.put(text)?;
+        library.is_accepting();
+        Ok(changes)
     }
 
     /// Takes the module of this name out, and answers what changed.
@@ -121,7 +126,12 @@ impl Service {
         ensures ok { IfOk result (IsWithdrawnSome name.now) }
         ensures fault { IfErr result (WithdrawFailsSome name.now) }
     {
-        self.library.write(rt).withdraw(name)
+        let mut guard = self.library.write(rt);
+        let library = &mut *guard;
+        library.is_accepting();
+        let changes = library.withdraw(name)?;
+        library.is_accepting();
+        Ok(changes)
     }
 
     /// Accepts protocols by this profile from now on.
@@ -134,7 +144,12 @@ impl Service {
         ensures ok { OnOk result (IsProfiledSome profile) }
         ensures fault { IfErr result (ProfileFailsSome profile) }
     {
-        self.library.write(rt).set_profile(profile)
+        let mut guard = self.library.write(rt);
+        let library = &mut *guard;
+        library.is_accepting();
+        library.set_profile(profile)?;
+        library.is_accepting();
+        Ok(())
     }
 
     /// Opens a conversation of the protocol.
@@ -147,9 +162,12 @@ impl Service {
         ensures fault { IfErr result (OpenFailsSome id name.now) }
     {
         let at = self.shard_of(id);
-        let library = self.library.read(rt, at);
+        let guard = self.library.read(rt, at);
+        let library = &*guard;
         let mut shard = self.shards[at].lock(rt);
-        open_step(&library, &mut shard, id, name)
+        library.is_accepting();
+        let _conversations = shard.len();
+        open_step(library, &mut shard, id, name)
     }
 
     /// A pass to a conversation, by which nothing was noted.
@@ -187,9 +205,12 @@ impl Service {
         ensures err { OnErr result (pass.new ≡ pass.old) }
     {
         let at = self.shard_of(pass.conversation());
-        let library = self.library.read(rt, at);
+        let guard = self.library.read(rt, at);
+        let library = &*guard;
         let mut shard = self.shards[at].lock(rt);
-        let noted = note_by_pass(&library, &mut shard, pass, event);
+        library.is_accepting();
+        let _conversations = shard.len();
+        let noted = note_by_pass(library, &mut shard, pass, event);
         gate.hold(at);
         noted
     }
@@ -211,9 +232,11 @@ impl Service {
         ensures { AreAnsweredSome pass.old events.items result.items pass.new }
     {
         let at = self.shard_of(pass.conversation());
-        let library = self.library.read(rt, at);
+        let guard = self.library.read(rt, at);
+        let library = &*guard;
         let mut shard = self.shards[at].lock(rt);
-        let answers = note_all_by_pass(&library, &mut shard, pass, events, room);
+        library.is_accepting();
+        let answers = note_all_by_pass(library, &mut shard, pass, events, room);
         gate.hold(at);
         answers
     }
@@ -227,9 +250,11 @@ impl Service {
         ensures fault { IfErr result (TellFailsSome id) }
     {
         let at = self.shard_of(id);
-        let library = self.library.read(rt, at);
+        let guard = self.library.read(rt, at);
+        let library = &*guard;
         let mut shard = self.shards[at].lock(rt);
-        let turned = turn_step(&library, &mut shard, id);
+        library.is_accepting();
+        let turned = turn_step(library, &mut shard, id);
         gate.hold(at);
         turned
     }
@@ -244,9 +269,11 @@ impl Service {
         ensures fault { IfErr result (AskFailsSome pass.now) }
     {
         let at = self.shard_of(pass.conversation());
-        let library = self.library.read(rt, at);
+        let guard = self.library.read(rt, at);
+        let library = &*guard;
         let shard = self.shards[at].lock(rt);
-        ask_by_pass(&library, &shard, pass)
+        library.is_accepting();
+        ask_by_pass(library, &shard, pass)
     }
 }
 

@@ -53,7 +53,8 @@ impl Service {
     /// least conversation and its least place that differs; or else `OutOfMemory`, which may also come in place of
     /// `Mismatch`. The service and the passes come back, with as many shards.
     pub fn settle(self, passes: Vec<Pass>) -> Result<Settled, (SettleFault, Service, Vec<Pass>)>
-        ensures settled { IfOk result (λ s. IsSettledSome (vec_len self.shards) s.library passes.items s.list.items) }
+        ensures settled { IfOk result (λ s. IsSettledSome (vec_len self.shards) s.library s.shards.items s.passes.items s.list.items) }
+        ensures given { IfOk result (λ s. s.passes ≡ passes) }
         ensures fault { IfErr result (λ e. IsFaultSome (vec_len self.shards) passes.items e.0) }
         ensures shards { IfErr result (λ e. vec_len e.1.shards ≡ vec_len self.shards) }
         ensures passes { IfErr result (λ e. e.2 ≡ passes) }
@@ -79,7 +80,8 @@ impl Service {
         rt: &R,
         passes: Vec<Pass>,
     ) -> Result<Settled, (SettleFault, Service, Vec<Pass>)>
-        ensures settled { IfOk result (λ s. IsSettledSome (vec_len self.shards) s.library passes.items s.list.items) }
+        ensures settled { IfOk result (λ s. IsSettledSome (vec_len self.shards) s.library s.shards.items s.passes.items s.list.items) }
+        ensures given { IfOk result (λ s. s.passes ≡ passes) }
         ensures fault { IfErr result (λ e. IsFaultSome (vec_len self.shards) passes.items e.0) }
         ensures shards { IfErr result (λ e. vec_len e.1.shards ≡ vec_len self.shards) }
         ensures passes { IfErr result (λ e. e.2 ≡ passes) }
@@ -128,7 +130,8 @@ fn settle_unlocked(
     requires empty { vec_len locks ≡ 0 }
     requires room { vec_len shards ≤ vec_capacity locks }
     requires found { IfOk found (λ all. AreFound shards.items passes.items all.items) }
-    ensures settled { IfOk result (λ s. IsSettledSome (vec_len shards) s.library passes.items s.list.items) }
+    ensures settled { IfOk result (λ s. IsSettledSome (vec_len shards) s.library s.shards.items s.passes.items s.list.items) }
+    ensures given { IfOk result (λ s. s.passes ≡ passes) }
     ensures fault { IfErr result (λ e. IsFaultSome (vec_len shards) passes.items e.0) }
     ensures shards { IfErr result (λ e. vec_len e.1.shards ≡ vec_len shards) }
     ensures passes { IfErr result (λ e. e.2 ≡ passes) }

@@ -1,6 +1,6 @@
 //! What is out of date in a service, and a sweep of all its shards.
 
-ghost use Rattle.std.specs.Prelude.{◌<◌, ◌≤◌, IfOk, vec_len};
+ghost use Rattle.std.specs.Prelude.{◌<◌, ◌≤◌, ◌*◌, IfOk, vec_len};
 ghost use Rattle.scrib_shards.specs.Called.{IsTouchedSome};
 
 use crate::service::Service;
@@ -17,18 +17,22 @@ impl Service {
         requires { shard < vec_len self.now.shards }
         ensures { IfOk result (λ ids. IsTouchedSome ids.items) }
     {
-        let library = self.library.read(rt, shard);
+        let guard = self.library.read(rt, shard);
+        let library = &*guard;
         let shard = self.shards[shard].lock(rt);
-        touched_locked(&library, &shard)
+        library.is_accepting();
+        touched_locked(library, &shard)
     }
 
     /// Brings the verdict of each conversation up to date, shard after shard, with at most 4,096 turns of each
-    /// conversation. It waits for no lock.
+    /// conversation. It waits for no lock: it has the service alone, so that the library's lock, of which it takes a
+    /// guard, is free.
     ///
     /// # Errors
     /// `AllocError` where memory was refused. Each turn that was made before stays.
     pub fn sweep_shards(&mut self) -> Result<Swept, AllocError>
-        ensures { IfOk result (λ s. s.judged ≤ s.turns) }
+        ensures turns { IfOk result (λ s. s.judged ≤ s.turns) }
+        ensures few { IfOk result (λ s. s.turns ≤ 4096 * s.judged) }
     {
         let Some(library) = self.library.try_read(0) else {
             // Not reached: who sweeps has the service alone, and no call of this crate forgets a guard.
