@@ -54,6 +54,11 @@ abbrev pub has_changes : List Change → Bool
 has_changes [] = false
 has_changes (c ∷ cs) = true
 
+-- the answer to an opening
+abbrev pub open_answer : ℕ → List (List ℕ) → Result (Unit {0}) Refusal → Answer
+open_answer id name (Ok done) = answer.Reply (reply.Opened id name)
+open_answer id name (Err f) = answer.Reply (reply.Refused f)
+
 -- some protocols changed
 abbrev pub is_change : Answer → Bool
 is_change (answer.Reply (reply.Edited e changes)) = has_changes changes.list
@@ -64,6 +69,17 @@ is_change (answer.Reply (reply.Judged id name events told)) = false
 is_change (answer.Reply (reply.Refused f)) = false
 is_change (answer.Judged id told) = false
 is_change (answer.Mismatch c place) = false
+
+-- an event was noted
+abbrev pub is_noted : Answer → Bool
+is_noted (answer.Reply (reply.Edited e changes)) = false
+is_noted (answer.Reply (reply.Profiled p)) = false
+is_noted (answer.Reply (reply.Opened id name)) = false
+is_noted (answer.Reply (reply.Noted id place told)) = true
+is_noted (answer.Reply (reply.Judged id name events told)) = false
+is_noted (answer.Reply (reply.Refused f)) = false
+is_noted (answer.Judged id told) = false
+is_noted (answer.Mismatch c place) = false
 
 -- the text of an answer in this format, with the LF behind it
 abbrev pub answer_text : Format → Answer → List ℕ

@@ -3,7 +3,7 @@
 ghost use Rattle.std.specs.Prelude.{◌≡◌, ◌++◌, OnOk};
 ghost use Rattle.scrib_core.specs.declared.reply.Reply.TheVariants.{Refused};
 ghost use Rattle.scrib_connection.specs.declared.answer.Answer.TheVariants as answer;
-ghost use Rattle.scrib_connection.specs.Answers.{answer_text, asked_answer, edit_answer, is_change, noted_answer, profile_answer, refusal_answer, turn_answer};
+ghost use Rattle.scrib_connection.specs.Answers.{answer_text, asked_answer, edit_answer, is_change, is_noted, noted_answer, profile_answer, refusal_answer, turn_answer};
 
 use scrib_cli::printing::push_reply;
 use scrib_core::reply::{Edit, Refusal, Reply};
@@ -108,7 +108,9 @@ pub fn asked(id: u32, answer: Result<Told, PassRefusal>) -> Answer
 }
 
 /// Whether it is that an event was noted.
-pub fn is_noted(answer: &Answer) -> bool {
+pub fn is_noted(answer: &Answer) -> bool
+    ensures { result ≡ is_noted answer.now }
+{
     matches!(answer, Answer::Reply(Reply::Noted { .. }))
 }
 
