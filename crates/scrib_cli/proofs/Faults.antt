@@ -1,24 +1,38 @@
--- Which faults are told as the reader's.
-use Rattle.std.proofs.Common.{◌≡◌, ◌≢◌, ◌∙◌, Result, Ok, Err, refl, sym}
+-- Which faults come from where.
+use Rattle.std.proofs.Common.{◌≡◌, ◌≢◌, ◌∙◌, true, false, Result, Ok, Err, refl, sym, ap}
 use Rattle.std.specs.Prelude.{IfErr}
 use Rattle.scrib_script.specs.declared.fault.SpellFault.{SpellFault}
 use Rattle.scrib_script.specs.declared.fault.SpellFault.TheVariants as spell
 use Rattle.scrib_cli.specs.declared.fault.ScriptFault.{ScriptFault}
 use Rattle.scrib_cli.specs.declared.fault.ScriptFault.TheVariants as fault
-use Rattle.scrib_cli.specs.Faults.{fault_of}
+use Rattle.scrib_cli.specs.Faults.{fault_of, of_output, of_script}
 
-pub no_read : {T : Type 0} (r : Result T ScriptFault) → IfErr r (λ e. e ≡ fault.Write) → IfErr r (λ e. e ≢ fault.Read)
-no_read (Ok v) h = tt
-no_read (Err e) h = λ read. let same : fault.Write ≡ fault.Read = sym h ∙ read in cc
+pub written_of_output : {T : Type 0} (r : Result T ScriptFault) → IfErr r (λ e. e ≡ fault.Write) → IfErr r (λ e. of_output e ≡ true)
+written_of_output (Ok v) h = tt
+written_of_output (Err e) h = ap of_output h
 
-pub memory_no_read : (f : ScriptFault) → f ≡ fault.OutOfMemory → f ≢ fault.Read
-memory_no_read f e = λ read. let same : fault.OutOfMemory ≡ fault.Read = sym e ∙ read in cc
+pub memory_of_output : (f : ScriptFault) → f ≡ fault.OutOfMemory → of_output f ≡ true
+memory_of_output f e = ap of_output e
 
--- a fault of reading a script that is told as the reader's
+pub output_not_read : (f : ScriptFault) → of_output f ≡ true → f ≢ fault.Read
+output_not_read f h = λ read. let same : false ≡ true = sym (ap of_output read) ∙ h in cc
+
+pub output_of_script : (f : ScriptFault) → of_output f ≡ true → of_script f ≡ true
+output_of_script fault.Read h = refl
+output_of_script fault.Write h = refl
+output_of_script fault.Settle h = h
+output_of_script fault.OutOfMemory h = refl
+
+-- a fault of reading a script
+pub spelled_of_script : (e : SpellFault) (f : ScriptFault) → f ≡ fault_of e → of_script f ≡ true
+spelled_of_script spell.TooLong f is = ap of_script is
+spelled_of_script spell.OutOfMemory f is = ap of_script is
+
+-- a fault of reading a script that is given as the reader's
 pub limit_told : (e : SpellFault) (f : ScriptFault) → f ≡ fault_of e → f ≡ fault.Read → e ≡ spell.TooLong
 limit_told spell.TooLong f is read = refl
 limit_told spell.OutOfMemory f is read = let same : fault.OutOfMemory ≡ fault.Read = sym is ∙ read in cc
 
 -- and one that isn't
-pub not_limit : (e : SpellFault) (f : ScriptFault) → f ≡ fault_of e → e ≡ spell.OutOfMemory → f ≢ fault.Read
-not_limit e f is other = λ read. let same : spell.OutOfMemory ≡ spell.TooLong = sym other ∙ limit_told e f is read in cc
+pub not_limit : (e : SpellFault) (f : ScriptFault) → f ≡ fault_of e → e ≡ spell.OutOfMemory → of_output f ≡ true
+not_limit e f is other = ap of_output (is ∙ ap fault_of other)

@@ -15,6 +15,7 @@ use Rattle.scrib_cli.specs.declared.explaining.Explained.{Explained}
 use Rattle.scrib_cli.specs.declared.explaining.Explained.TheVariants.{Flights, Refused}
 use Rattle.scrib_cli.specs.declared.fault.ScriptFault.{ScriptFault}
 use Rattle.scrib_cli.specs.declared.fault.ScriptFault.TheVariants as fault
+use Rattle.scrib_cli.specs.declared.commands.fault.CommandFault.{CommandFault}
 
 -- The module texts of these files were put in order, each into the world after those before it, and their lines
 -- written one after the other; and whether all of them were accepted.
@@ -88,14 +89,14 @@ IsPartToldOf id script was now =
     ⊎ IfSome script (λ input. (explained : Explained) × (output : List ℕ) × IsExplanation input id explained output × AppendsPart was now output)
 
 -- the exit status of a command: 0 where it did all that it was to do, 1 where it printed a refusal or failed
-abbrev pub status_of : Result Bool ScriptFault → ℕ
+abbrev pub status_of : Result Bool CommandFault → ℕ
 status_of (Ok true) = 0
 status_of (Ok false) = 1
 status_of (Err f) = 1
 
--- what standard error is told of a fault
+-- the fixed line that standard error gets for a fault
 abbrev pub fault_text : ScriptFault → List ℕ
 fault_text fault.Read = codes "scribmon: read fault"
 fault_text fault.Write = codes "scribmon: write fault"
-fault_text fault.Settle = codes "scribmon: the service did not settle"
+fault_text fault.Settle = codes "scribmon: settle fault"
 fault_text fault.OutOfMemory = codes "scribmon: out of memory"

@@ -1,11 +1,11 @@
 //! Carries out what a script spells, and writes what is answered.
 
-ghost use Rattle.std.specs.Prelude.{◌≡◌, ◌≢◌, IfErr, OnOk, OnErr};
+ghost use Rattle.std.specs.Prelude.{◌≡◌, ◌≢◌, true, IfErr, OnOk, OnErr};
 ghost use Rattle.scrib_core.specs.Held.{state_of};
 ghost use Rattle.scrib_core.specs.declared.reply.Reply.TheVariants.{Refused};
 ghost use Rattle.scrib_core.specs.declared.reply.Refusal.TheVariants.{OutOfMemory};
 ghost use Rattle.scrib_cli.specs.Progress.{Answered, PartMade, IsTold, IsPartTold};
-ghost use Rattle.scrib_cli.specs.declared.fault.ScriptFault.TheVariants as fault;
+ghost use Rattle.scrib_cli.specs.Faults.{of_output};
 
 use crate::fault::ScriptFault;
 use crate::printing::{reply_format, tell_bad_line, tell_end, write_reply};
@@ -30,7 +30,7 @@ fn make_step<W: Write>(
 ) -> Result<(), ScriptFault>
     ensures ok { OnOk result (Answered telling format (state_of core.old) step (state_of core.new) (W.contents writer.old) (W.contents writer.new)) }
     ensures err { OnErr result (PartMade telling format (state_of core.old) step (state_of core.new) (W.contents writer.old) (W.contents writer.new)) }
-    ensures fault { IfErr result (λ e. e ≢ fault.Read) }
+    ensures fault { IfErr result (λ e. of_output e ≡ true) }
 {
     let reply = core.apply(step);
     match telling {
@@ -45,7 +45,7 @@ fn make_step<W: Write>(
 fn check_memory(reply: &Reply) -> Result<(), ScriptFault>
     ensures ok { OnOk result (reply.now ≢ Refused OutOfMemory) }
     ensures err { OnErr result (reply.now ≡ Refused OutOfMemory) }
-    ensures fault { IfErr result (λ e. e ≢ fault.Read) }
+    ensures fault { IfErr result (λ e. of_output e ≡ true) }
 {
     match reply {
         Reply::Refused(Refusal::OutOfMemory) => Err(ScriptFault::OutOfMemory),
@@ -65,7 +65,7 @@ pub fn tell_item<W: Write>(
 ) -> Result<(), ScriptFault>
     ensures ok { OnOk result (IsTold telling item (state_of core.old) (state_of core.new) (W.contents writer.old) (W.contents writer.new)) }
     ensures err { OnErr result (IsPartTold telling item (state_of core.old) (W.contents writer.old) (W.contents writer.new)) }
-    ensures fault { IfErr result (λ e. e ≢ fault.Read) }
+    ensures fault { IfErr result (λ e. of_output e ≡ true) }
 {
     match item {
         Item::Step(format, step) => make_step(buffer, core, step, format, telling, writer),

@@ -1,9 +1,10 @@
 //! Checking modules.
 
-ghost use Rattle.std.specs.Prelude.{◌≡◌, IfOk, OnErr, IfSome};
+ghost use Rattle.std.specs.Prelude.{◌≡◌, true, IfOk, IfErr, OnErr, IfSome};
 ghost use Rattle.std.specs.Io.KnownBytes.{Appends};
 ghost use Rattle.scrib_core.specs.Held.{state_of};
 ghost use Rattle.scrib_cli.specs.Checks.{IsChecked, IsPartChecked, is_accepted};
+ghost use Rattle.scrib_cli.specs.Faults.{of_output, of_script};
 ghost use Rattle.scrib_cli.specs.Scripts.{AppendsPart, reply_line};
 
 pub use crate::fault::ScriptFault;
@@ -36,6 +37,7 @@ pub fn check_module<R: Read, W: Write>(
         IsChecked input (state_of core.old) accepted (state_of core.new) (W.contents writer.old) (W.contents writer.new))) }
     ensures err { OnErr result (IfSome (R.remaining reader.old) (λ input.
         IsPartChecked input (state_of core.old) (state_of core.new) (W.contents writer.old) (W.contents writer.new))) }
+    ensures fault { IfErr result (λ e. of_script e ≡ true) }
 {
     let text = read_text(alloc, reader)?;
     let reply = core.apply(Step::Put { text });
@@ -46,6 +48,7 @@ pub fn check_module<R: Read, W: Write>(
 fn tell_reply<W: Write>(alloc: Global, reply: &Reply, writer: &mut W) -> Result<bool, ScriptFault>
     ensures ok { IfOk result (λ accepted. (accepted ≡ is_accepted reply.now) × Appends (W.contents writer.old) (W.contents writer.new) (reply_line reply.now)) }
     ensures err { OnErr result (AppendsPart (W.contents writer.old) (W.contents writer.new) (reply_line reply.now)) }
+    ensures fault { IfErr result (λ e. of_output e ≡ true) }
 {
     let mut buffer = Vec::new(alloc);
     write_reply(&mut buffer, reply, Format::Line, writer)?;

@@ -2,9 +2,12 @@
 
 pub mod check;
 pub mod explain;
+pub mod fault;
 pub mod folder;
 pub mod machine;
+pub mod observed;
 pub mod project;
 mod reading;
+pub mod source;
 pub mod status;
 pub mod watch;

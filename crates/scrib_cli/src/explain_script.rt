@@ -1,9 +1,10 @@
 //! Explaining a conversation of a script.
 
-ghost use Rattle.std.specs.Prelude.{◌≡◌, ◌⊎◌, [], ℕ, List, IfOk, OnOk, OnErr, IfSome};
+ghost use Rattle.std.specs.Prelude.{◌≡◌, ◌⊎◌, [], ℕ, List, true, IfOk, IfErr, OnOk, OnErr, IfSome};
 ghost use Rattle.std.specs.Io.KnownBytes.{Appends};
 ghost use Rattle.scrib_core.specs.Answers.{State};
 ghost use Rattle.scrib_cli.specs.Scripts.{AppendsPart};
+ghost use Rattle.scrib_cli.specs.Faults.{of_script};
 ghost use Rattle.scrib_cli.specs.Explanations.{Explanation, IsExplanation};
 ghost use Rattle.scrib_cli.specs.Progress.{Ran};
 ghost use Rattle.scrib_cli.specs.declared.telling.Telling.TheVariants.{Silent};
@@ -43,6 +44,7 @@ pub fn explain_script<R: Read, W: Write>(
         Appends (W.contents writer.old) (W.contents writer.new) []
         ⊎ ((explained : declared.Explained) × (output : List ℕ) × IsExplanation input id explained output
         × AppendsPart (W.contents writer.old) (W.contents writer.new) output))) }
+    ensures fault { IfErr result (λ e. of_script e ≡ true) }
     ensures within { OnOk result (IfSome (R.remaining reader.old) (λ input. IsWithin of_scripts input)) }
 {
     let (explained, text) = run_silently(alloc, reader, id, writer)?;
@@ -61,6 +63,7 @@ fn run_silently<R: Read, W: Write>(
     ensures ok { IfOk result (λ r. (s : State) × Ran Silent (R.remaining reader.old) s (W.contents writer.old) (W.contents writer.new)
         × Explanation s.world id r.0 r.1.items) }
     ensures err { OnErr result (IfSome (R.remaining reader.old) (λ input. Appends (W.contents writer.old) (W.contents writer.new) [])) }
+    ensures fault { IfErr result (λ e. of_script e ≡ true) }
 {
     let core = run_whole(alloc, Telling::Silent, reader, writer)?;
     let printed = explanation(alloc, &core, id)?;

@@ -1,9 +1,10 @@
 //! What is printed of the messages in flight in a conversation.
 
-ghost use Rattle.std.specs.Prelude.{◌≡◌, ◌++◌, IfOk, codes};
+ghost use Rattle.std.specs.Prelude.{◌≡◌, ◌++◌, IfOk, IfErr, codes};
 ghost use Rattle.std.specs.Fmt.{decimal};
 ghost use Rattle.scrib_core.specs.Held.{state_of};
 ghost use Rattle.scrib_cli.specs.Explanations.{Explanation, flight_lines, refusal_line};
+ghost use Rattle.scrib_cli.specs.declared.fault.ScriptFault.TheVariants as fault;
 
 use crate::fault::ScriptFault;
 use scrib_core::monitor::Core;
@@ -28,7 +29,8 @@ pub(crate) fn explanation(
     core: &Core,
     id: u32,
 ) -> Result<(Explained, Vec<u8>), ScriptFault>
-    ensures { IfOk result (λ r. Explanation (state_of core.now).world id r.0 r.1.items) }
+    ensures explained { IfOk result (λ r. Explanation (state_of core.now).world id r.0 r.1.items) }
+    ensures fault { IfErr result (λ e. e ≡ fault.OutOfMemory) }
 {
     let Some((protocol, log)) = core.view(id) else {
         let text = refusal(alloc, b"NoConversation")?;

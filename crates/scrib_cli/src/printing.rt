@@ -1,11 +1,11 @@
 //! What is written of replies, of lines that say nothing, and of an end inside a module text, as lines of text or as
 //! JSON.
 
-ghost use Rattle.std.specs.Prelude.{◌≡◌, ◌≢◌, ◌++◌, OnOk, OnErr, IfOk, IfErr, string_bytes};
+ghost use Rattle.std.specs.Prelude.{◌≡◌, ◌++◌, true, OnOk, OnErr, IfOk, IfErr, string_bytes};
 ghost use Rattle.std.specs.Io.KnownBytes.{Appends};
 ghost use Rattle.scrib_cli.specs.Scripts.{AppendsPart, bad_line, end_of_text, reply_format, reply_text};
 ghost use Rattle.scrib_cli.specs.Progress.{told_bad_line, told_end};
-ghost use Rattle.scrib_cli.specs.declared.fault.ScriptFault.TheVariants as fault;
+ghost use Rattle.scrib_cli.specs.Faults.{of_output};
 
 use crate::fault::ScriptFault;
 use crate::telling::Telling;
@@ -54,7 +54,7 @@ pub fn write_reply<W: Write>(
 ) -> Result<(), ScriptFault>
     ensures ok { OnOk result (Appends (W.contents writer.old) (W.contents writer.new) (reply_text format reply.now)) }
     ensures err { OnErr result (AppendsPart (W.contents writer.old) (W.contents writer.new) (reply_text format reply.now)) }
-    ensures fault { IfErr result (λ e. e ≢ fault.Read) }
+    ensures fault { IfErr result (λ e. of_output e ≡ true) }
 {
     buffer.clear();
     push_reply(buffer, reply, format)?;
@@ -83,7 +83,7 @@ fn refuse_line<W: Write>(
 ) -> Result<(), ScriptFault>
     ensures ok { OnOk result (Appends (W.contents writer.old) (W.contents writer.new) (bad_line format number)) }
     ensures err { OnErr result (AppendsPart (W.contents writer.old) (W.contents writer.new) (bad_line format number)) }
-    ensures fault { IfErr result (λ e. e ≢ fault.Read) }
+    ensures fault { IfErr result (λ e. of_output e ≡ true) }
 {
     let text = bad_line(alloc, number, format)?;
     write_out(writer, text.as_bytes())
@@ -98,7 +98,7 @@ pub(crate) fn tell_bad_line<W: Write>(
 ) -> Result<(), ScriptFault>
     ensures ok { OnOk result (Appends (W.contents writer.old) (W.contents writer.new) (told_bad_line telling number)) }
     ensures err { OnErr result (AppendsPart (W.contents writer.old) (W.contents writer.new) (told_bad_line telling number)) }
-    ensures fault { IfErr result (λ e. e ≢ fault.Read) }
+    ensures fault { IfErr result (λ e. of_output e ≡ true) }
 {
     match telling {
         Telling::Printed(format) => refuse_line(alloc, number, format, writer),
@@ -120,7 +120,7 @@ pub fn end_of_text(format: Format) -> &'static [u8]
 pub(crate) fn tell_end<W: Write>(telling: Telling, writer: &mut W) -> Result<(), ScriptFault>
     ensures ok { OnOk result (Appends (W.contents writer.old) (W.contents writer.new) (told_end telling)) }
     ensures err { OnErr result (AppendsPart (W.contents writer.old) (W.contents writer.new) (told_end telling)) }
-    ensures fault { IfErr result (λ e. e ≢ fault.Read) }
+    ensures fault { IfErr result (λ e. of_output e ≡ true) }
 {
     match telling {
         Telling::Printed(format) => write_out(writer, end_of_text(format)),

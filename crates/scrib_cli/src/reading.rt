@@ -1,6 +1,7 @@
 //! Reading module texts.
 
-ghost use Rattle.std.specs.Prelude.{◌≡◌, ◌<◌, IfOk, IfSome, length, take};
+ghost use Rattle.std.specs.Prelude.{◌≡◌, ◌<◌, true, IfOk, IfErr, IfSome, length, take};
+ghost use Rattle.scrib_cli.specs.Faults.{of_script};
 
 use crate::fault::ScriptFault;
 use scrib_script::keeping::{KEPT_TEXT_BYTES, keep};
@@ -16,7 +17,8 @@ const PIECE_BYTES: usize = 8192;
 /// # Errors
 /// `Read` where the reader fails, and `OutOfMemory` where memory was refused.
 pub fn read_text<R: Read>(alloc: Global, reader: &mut R) -> Result<Items<u8>, ScriptFault>
-    ensures { IfOk result (λ text. IfSome (R.remaining reader.old) (λ input. text ≡ take 1_048_577 input)) }
+    ensures text { IfOk result (λ text. IfSome (R.remaining reader.old) (λ input. text ≡ take 1_048_577 input)) }
+    ensures fault { IfErr result (λ e. of_script e ≡ true) }
 {
     let mut piece = vec![in alloc; 0u8; PIECE_BYTES]?;
     let text = read_by_pieces(alloc, reader, piece.as_mut_slice())?;
@@ -30,7 +32,8 @@ fn read_by_pieces<R: Read>(
     piece: &mut [u8],
 ) -> Result<Vec<u8>, ScriptFault>
     requires { 0 < length piece.old }
-    ensures { IfOk result (λ text. IfSome (R.remaining reader.old) (λ input. text.items ≡ take 1_048_577 input)) }
+    ensures text { IfOk result (λ text. IfSome (R.remaining reader.old) (λ input. text.items ≡ take 1_048_577 input)) }
+    ensures fault { IfErr result (λ e. of_script e ≡ true) }
 {
     let mut text = Vec::new(alloc);
     for _ in 0..u64::MAX {

@@ -19,8 +19,9 @@ pub struct Run {
 }
 
 impl Run {
-    ghost use Rattle.std.specs.Prelude.{◌≡◌, ◌≢◌, IfErr, OnOk, OnErr};
+    ghost use Rattle.std.specs.Prelude.{◌≡◌, true, IfErr, OnOk, OnErr};
     ghost use Rattle.scrib_core.specs.Held.{state_of};
+    ghost use Rattle.scrib_cli.specs.Faults.{of_output, of_script};
     ghost use Rattle.scrib_cli.specs.Progress.{IsNew, Went, Stopped, StoppedPast, Ended, Failed};
     ghost use Rattle.scrib_cli.specs.declared.fault.ScriptFault.TheVariants as fault;
 
@@ -51,6 +52,7 @@ impl Run {
     pub fn take_piece<W: Write>(&mut self, writer: &mut W, piece: &[u8]) -> Result<(), ScriptFault>
         ensures ok { OnOk result (Went self.old self.new piece.now (W.contents writer.old) (W.contents writer.new)) }
         ensures err { OnErr result (Stopped self.old piece.now (W.contents writer.old) (W.contents writer.new)) }
+        ensures fault { IfErr result (λ e. of_script e ≡ true) }
         ensures limit { IfErr result (λ e. e ≡ fault.Read → StoppedPast self.old piece.now (W.contents writer.old) (W.contents writer.new)) }
     {
         let mut rest = piece;
@@ -68,7 +70,7 @@ impl Run {
     pub fn finish<W: Write>(&mut self, writer: &mut W) -> Result<(), ScriptFault>
         ensures ok { OnOk result (Ended self.old (state_of self.new.core) (W.contents writer.old) (W.contents writer.new)) }
         ensures err { OnErr result (Failed self.old (W.contents writer.old) (W.contents writer.new)) }
-        ensures limit { IfErr result (λ e. e ≢ fault.Read) }
+        ensures fault { IfErr result (λ e. of_output e ≡ true) }
     {
         match self.script.last_item()? {
             Some(item) => tell_item(&mut self.buffer, &mut self.core, item, self.telling, writer),

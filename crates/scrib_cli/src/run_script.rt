@@ -1,9 +1,10 @@
 //! Running a script.
 
-ghost use Rattle.std.specs.Prelude.{◌≡◌, ◌<◌, ◌≢◌, ℕ, List, IfOk, OnOk, OnErr, IfSome, length};
+ghost use Rattle.std.specs.Prelude.{◌≡◌, ◌<◌, ℕ, List, true, IfOk, IfErr, OnOk, OnErr, IfSome, length};
 ghost use Rattle.std.specs.Io.KnownBytes.{Appends};
 ghost use Rattle.scrib_core.specs.Held.{state_of};
 ghost use Rattle.scrib_cli.specs.Scripts.{IsOutput, AppendsPart};
+ghost use Rattle.scrib_cli.specs.Faults.{of_script};
 ghost use Rattle.scrib_cli.specs.Progress.{IsNew, Ran, RanShort};
 ghost use Rattle.scrib_script.specs.Limits.{of_scripts, IsWithin};
 
@@ -43,6 +44,7 @@ pub fn run_script<R: Read, W: Write>(
         × Appends (W.contents writer.old) (W.contents writer.new) output)) }
     ensures err { OnErr result (IfSome (R.remaining reader.old) (λ input. (output : List ℕ) × IsOutput format input output
         × AppendsPart (W.contents writer.old) (W.contents writer.new) output)) }
+    ensures fault { IfErr result (λ e. of_script e ≡ true) }
     ensures within { OnOk result (IfSome (R.remaining reader.old) (λ input. IsWithin of_scripts input)) }
 {
     let core = run_whole(alloc, Telling::Printed(format), reader, writer)?;
@@ -60,6 +62,7 @@ pub(crate) fn run_whole<R: Read, W: Write>(
 ) -> Result<Core, ScriptFault>
     ensures ok { IfOk result (λ core. Ran telling (R.remaining reader.old) (state_of core) (W.contents writer.old) (W.contents writer.new)) }
     ensures err { OnErr result (RanShort telling (R.remaining reader.old) (W.contents writer.old) (W.contents writer.new)) }
+    ensures fault { IfErr result (λ e. of_script e ≡ true) }
 {
     let mut run = Run::new(alloc, telling);
     run_through(alloc, &mut run, reader, writer)?;
@@ -76,6 +79,7 @@ fn run_through<R: Read, W: Write>(
     requires { IsNew run.old.telling run.old }
     ensures ok { OnOk result (Ran run.old.telling (R.remaining reader.old) (state_of run.new.core) (W.contents writer.old) (W.contents writer.new)) }
     ensures err { OnErr result (RanShort run.old.telling (R.remaining reader.old) (W.contents writer.old) (W.contents writer.new)) }
+    ensures fault { IfErr result (λ e. of_script e ≡ true) }
 {
     let mut piece = vec![in alloc; 0u8; SCRIPT_PIECE_BYTES]?;
     run_by_pieces(run, reader, writer, piece.as_mut_slice())
@@ -93,6 +97,7 @@ fn run_by_pieces<R: Read, W: Write>(
     requires some { 0 < length piece.old }
     ensures ok { OnOk result (Ran run.old.telling (R.remaining reader.old) (state_of run.new.core) (W.contents writer.old) (W.contents writer.new)) }
     ensures err { OnErr result (RanShort run.old.telling (R.remaining reader.old) (W.contents writer.old) (W.contents writer.new)) }
+    ensures fault { IfErr result (λ e. of_script e ≡ true) }
 {
     for _ in 0..u64::MAX {
         let n = match reader.read(piece) {

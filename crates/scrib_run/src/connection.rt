@@ -6,12 +6,11 @@ use scrib_cli::fault::ScriptFault;
 use scrib_cli::printing::{bad_line, end_of_text, reply_format};
 use scrib_connection::answer::{Answer, is_change, is_noted, noted, push_answer};
 use scrib_connection::passes::Passes;
-use scrib_connection::steps::{make_step, note_event};
+use scrib_connection::steps::make_step;
 use scrib_core::step::Step;
 use scrib_rejudge::notices::Notice;
 use scrib_script::format::Format;
 use scrib_script::item::Item;
-use scrib_shards::gate::OpenGate;
 use scrib_shards::pass::Pass;
 use scrib_shards::passing::PassAnswer;
 use scrib_shards::service::Service;
@@ -153,12 +152,10 @@ impl<'a> Connection<'a> {
         requires empty { room.items ≡ [] }
         requires room { vec_len events ≤ vec_capacity room }
     {
-        let service = self.service;
-        let Ok(pass) = self.passes.pass_to(rt, service, id) else {
-            return self.note_each(rt, id, events);
-        };
-        let answers = service.note_all(rt, pass, events, room, &OpenGate);
-        self.tell_answers(id, answers)
+        match self.passes.note_all(rt, self.service, id, events, room) {
+            Ok(answers) => self.tell_answers(id, answers),
+            Err(events) => self.note_each(rt, id, events),
+        }
     }
 
     // Adds the lines of what the notes of the conversation answered.
@@ -189,8 +186,8 @@ impl<'a> Connection<'a> {
     }
 
     fn note_now(&mut self, rt: &impl Wait, id: u32, event: SharedEvent) -> Result<(), ScriptFault> {
-        let answer = note_event(rt, self.service, &mut self.passes, id, event);
-        self.tell_answer(&answer, Format::Line)
+        let answer = self.passes.note(rt, self.service, id, event);
+        self.tell_noted(id, answer)
     }
 
     // Adds the line of what is answered, which is asked for in this format.

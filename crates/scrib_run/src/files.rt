@@ -5,8 +5,10 @@ ghost use Rattle.std.specs.Prelude.{◌≡◌, true, IfOk};
 use crate::options::Options;
 use crate::progress::Progress;
 use crate::run_service::run_service;
+use scrib_cli::commands::fault::CommandFault;
 use scrib_cli::commands::folder::Folder;
-use scrib_cli::fault::ScriptFault;
+use scrib_cli::commands::observed::Observed;
+use scrib_cli::commands::source::Source;
 use std::alloc::Global;
 use std::io::Write;
 use std::marker::Send;
@@ -17,26 +19,43 @@ use std::thread::Threads;
 ///
 /// # Errors
 /// What was written by then is a beginning of the output.
-/// - `Read` where one of the files can't be opened, before anything is written, and where `run_service` answers it.
-/// - `Write`, `Settle` and `OutOfMemory` where `run_service` answers them.
-pub fn run_files<R: Threads + Wait + Sync, P: Progress + Sync, F: Folder, W: Write>(
+/// - `Unopened` where one of the files can't be opened, before anything is written.
+/// - `Unread` and `TooLong` where `run_service` returns `Read`, of the setup.
+/// - `Unwritten`, `Unsettled` and `OutOfMemory` where `run_service` returns `Write`, `Settle` and `OutOfMemory`.
+pub fn run_files<'a, R: Threads + Wait + Sync, P: Progress + Sync, F: Folder, W: Write>(
     rt: &R,
     alloc: Global,
     options: &Options<P>,
     folder: &F,
-    setup: &str,
-    connections: &[&str],
+    setup: &'a str,
+    connections: &[&'a str],
     writer: &mut W,
-) -> Result<bool, ScriptFault>
+) -> Result<bool, CommandFault<'a>>
 where
     F::File: Send,
     ensures done { IfOk result (λ done. done ≡ true) }
 {
-    let mut setup = folder.open(setup)?;
-    let mut readers = Vec::with_capacity(alloc, connections.len())?;
-    for path in connections {
-        readers.push(folder.open(path)?)?;
+    let mut first = Observed::new(folder.open(setup)?);
+    let readers = open_all(alloc, folder, connections)?;
+    match run_service(rt, alloc, options, &mut first, readers, writer) {
+        Ok(()) => Ok(true),
+        Err(fault) => Err(CommandFault::over(Source::named(setup), &fault, first.has_failed())),
     }
-    run_service(rt, alloc, options, &mut setup, readers, writer)?;
-    Ok(true)
+}
+
+// The files of these paths, opened in order.
+fn open_all<'a, F: Folder>(
+    alloc: Global,
+    folder: &F,
+    paths: &[&'a str],
+) -> Result<Vec<F::File>, CommandFault<'a>> {
+    let Ok(mut files) = Vec::with_capacity(alloc, paths.len()) else {
+        return Err(CommandFault::OutOfMemory);
+    };
+    for path in paths {
+        if files.push(folder.open(path)?).is_err() {
+            return Err(CommandFault::OutOfMemory);
+        }
+    }
+    Ok(files)
 }

@@ -1,58 +1,83 @@
 //! Checking the modules of files.
 
-ghost use Rattle.std.specs.Prelude.{IfOk, OnErr};
+ghost use Rattle.std.specs.Prelude.{◌≡◌, true, IfOk, IfErr, IfSome, OnErr};
 ghost use Rattle.scrib_core.specs.Answers.{State, initial_under};
 ghost use Rattle.scrib_core.specs.Held.{state_of};
+ghost use Rattle.scrib_cli.specs.Checks.{IsChecked, IsPartChecked};
 ghost use Rattle.scrib_cli.specs.Commands.{AreChecked, ArePartChecked};
+ghost use Rattle.scrib_cli.specs.Faults.{of_script, script_fault};
 
 use crate::check::{Core, check_module};
+use crate::commands::fault::CommandFault;
 use crate::commands::folder::Folder;
-use crate::fault::ScriptFault;
+use crate::commands::source::Source;
 use scrib_types::profile::Profile;
 use std::alloc::Global;
-use std::io::Write;
+use std::io::{Read, Write};
 
 /// Puts the module texts of these files, in order, into one new monitor that accepts by this profile, and writes the
 /// line of each reply as `check_module` does. Goes on after a refusal. Returns whether all of them were accepted.
 ///
 /// # Errors
 /// What was written by then are the lines of the files before, and a beginning of the next.
-/// - `Read` at the first file that can't be opened or read.
-/// - `Write` where the writer fails.
+/// - `Unopened` and `Unread` at the first file that can't be opened or read.
+/// - `Unwritten` where the writer fails.
 /// - `OutOfMemory` where there is no memory for a module text or a line.
-pub fn check_files<F: Folder, W: Write>(
+pub fn check_files<'a, F: Folder, W: Write>(
     alloc: Global,
     profile: Profile,
     folder: &F,
-    paths: &[&str],
+    paths: &[&'a str],
     writer: &mut W,
-) -> Result<bool, ScriptFault>
+) -> Result<bool, CommandFault<'a>>
     ensures ok { IfOk result (λ accepted. (after : State) ×
         AreChecked (F.text folder.now) paths.now (initial_under profile) accepted after (W.contents writer.old) (W.contents writer.new)) }
     ensures err { OnErr result (ArePartChecked (F.text folder.now) paths.now (initial_under profile) (W.contents writer.old) (W.contents writer.new)) }
+    ensures fault { IfErr result (λ e. of_script (script_fault e) ≡ true) }
 {
     let mut core = Core::with_profile(alloc, profile);
     check_each(alloc, &mut core, folder, paths, writer)
 }
 
 /// The same over this monitor.
-fn check_each<F: Folder, W: Write>(
+fn check_each<'a, F: Folder, W: Write>(
     alloc: Global,
     core: &mut Core,
     folder: &F,
-    paths: &[&str],
+    paths: &[&'a str],
     writer: &mut W,
-) -> Result<bool, ScriptFault>
+) -> Result<bool, CommandFault<'a>>
     ensures ok { IfOk result (λ accepted. (after : State) ×
         AreChecked (F.text folder.now) paths.now (state_of core.old) accepted after (W.contents writer.old) (W.contents writer.new)) }
     ensures err { OnErr result (ArePartChecked (F.text folder.now) paths.now (state_of core.old) (W.contents writer.old) (W.contents writer.new)) }
+    ensures fault { IfErr result (λ e. of_script (script_fault e) ≡ true) }
 {
     let mut accepted = true;
     for path in paths {
         let mut file = folder.open(path)?;
-        if !check_module(alloc, core, &mut file, writer)? {
+        if !check_file(alloc, core, path, &mut file, writer)? {
             accepted = false;
         }
     }
     Ok(accepted)
+}
+
+/// Does what `check_module` does with the module of this path, which this reader reads.
+fn check_file<'a, R: Read, W: Write>(
+    alloc: Global,
+    core: &mut Core,
+    path: &'a str,
+    reader: &mut R,
+    writer: &mut W,
+) -> Result<bool, CommandFault<'a>>
+    ensures ok { IfOk result (λ accepted. IfSome (R.remaining reader.old) (λ input.
+        IsChecked input (state_of core.old) accepted (state_of core.new) (W.contents writer.old) (W.contents writer.new))) }
+    ensures err { OnErr result (IfSome (R.remaining reader.old) (λ input.
+        IsPartChecked input (state_of core.old) (state_of core.new) (W.contents writer.old) (W.contents writer.new))) }
+    ensures fault { IfErr result (λ e. of_script (script_fault e) ≡ true) }
+{
+    match check_module(alloc, core, reader, writer) {
+        Ok(accepted) => Ok(accepted),
+        Err(fault) => Err(CommandFault::over(Source::named(path), &fault, true)),
+    }
 }

@@ -1,13 +1,16 @@
 //! Explaining a conversation of a script of standard input or of a file.
 
-ghost use Rattle.std.specs.Prelude.{IfOk, IfSome, OnOk, OnErr};
+ghost use Rattle.std.specs.Prelude.{◌≡◌, true, IfOk, IfErr, IfSome, OnOk, OnErr};
 ghost use Rattle.std.specs.Option.{option_copied};
 ghost use Rattle.scrib_cli.specs.Commands.{source, IsToldOf, IsPartToldOf};
+ghost use Rattle.scrib_cli.specs.Faults.{of_script, script_fault};
 ghost use Rattle.scrib_script.specs.Limits.{of_scripts, IsWithin};
 
+use crate::commands::fault::CommandFault;
 use crate::commands::folder::Folder;
+use crate::commands::observed::Observed;
+use crate::commands::source::Source;
 use crate::explain_script::{Explained, explain_script};
-use crate::fault::ScriptFault;
 use std::alloc::Global;
 use std::io::{Read, Write};
 
@@ -16,26 +19,47 @@ use std::io::{Read, Write};
 ///
 /// # Errors
 /// Nothing was written by then, or a beginning of what was to be written.
-/// - `Read` where the file can't be opened, and where `explain_script` answers it.
-/// - `Write` and `OutOfMemory` where `explain_script` answers them.
-pub fn explain<F: Folder, R: Read, W: Write>(
+/// - `Unopened` where the file can't be opened.
+/// - `Unread` and `TooLong` where `explain_script` returns `Read`.
+/// - `Unwritten` and `OutOfMemory` where `explain_script` returns `Write` and `OutOfMemory`.
+pub fn explain<'a, F: Folder, R: Read, W: Write>(
     alloc: Global,
     id: u32,
     folder: &F,
-    path: Option<&str>,
+    path: Option<&'a str>,
     reader: &mut R,
     writer: &mut W,
-) -> Result<bool, ScriptFault>
+) -> Result<bool, CommandFault<'a>>
     ensures ok { IfOk result (λ flights. IsToldOf id (source (F.text folder.now) (option_copied path.entry) (R.remaining reader.old)) flights (W.contents writer.old) (W.contents writer.new)) }
     ensures err { OnErr result (IsPartToldOf id (source (F.text folder.now) (option_copied path.entry) (R.remaining reader.old)) (W.contents writer.old) (W.contents writer.new)) }
+    ensures fault { IfErr result (λ e. of_script (script_fault e) ≡ true) }
     ensures within { OnOk result (IfSome (source (F.text folder.now) (option_copied path.entry) (R.remaining reader.old)) (λ input. IsWithin of_scripts input)) }
 {
-    let explained = match path {
-        None => explain_script(alloc, reader, id, writer)?,
+    match path {
+        None => explain_source(alloc, id, Source::StandardInput, reader, writer),
         Some(path) => {
-            let mut file = folder.open(path)?;
-            explain_script(alloc, &mut file, id, writer)?
+            let file = folder.open(path)?;
+            explain_source(alloc, id, Source::named(path), file, writer)
         }
-    };
-    Ok(explained == Explained::Flights)
+    }
+}
+
+// The same of this source, which this reader reads.
+fn explain_source<'a, R: Read + Drop, W: Write>(
+    alloc: Global,
+    id: u32,
+    source: Source<'a>,
+    reader: R,
+    writer: &mut W,
+) -> Result<bool, CommandFault<'a>>
+    ensures ok { IfOk result (λ flights. IsToldOf id (R.remaining reader) flights (W.contents writer.old) (W.contents writer.new)) }
+    ensures err { OnErr result (IsPartToldOf id (R.remaining reader) (W.contents writer.old) (W.contents writer.new)) }
+    ensures fault { IfErr result (λ e. of_script (script_fault e) ≡ true) }
+    ensures within { OnOk result (IfSome (R.remaining reader) (λ input. IsWithin of_scripts input)) }
+{
+    let mut reader = Observed::new(reader);
+    match explain_script(alloc, &mut reader, id, writer) {
+        Ok(explained) => Ok(explained == Explained::Flights),
+        Err(fault) => Err(CommandFault::over(source, &fault, reader.has_failed())),
+    }
 }

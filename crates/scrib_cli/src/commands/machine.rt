@@ -4,9 +4,9 @@ ghost use Rattle.std.specs.Prelude.{IfOk, OnErr};
 ghost use Rattle.scrib_cli.specs.Commands.{IsAnswered, IsPartAnswered};
 ghost use Rattle.scrib_cli.specs.declared.form.Form.TheVariants as form;
 
+use crate::commands::fault::CommandFault;
 use crate::commands::folder::Folder;
 use crate::commands::reading::read_files;
-use crate::fault::ScriptFault;
 use crate::machine::machine_text;
 use scrib_types::profile::Profile;
 use std::alloc::Global;
@@ -16,21 +16,34 @@ use std::io::Write;
 ///
 /// # Errors
 /// Nothing was written by then, or a beginning of what was to be written.
-/// - `Read` where the protocol has a full name and the first file that is no module can't be opened or read.
-/// - `Write` where the writer fails.
+/// - `Unopened` and `Unread` where the protocol has a full name and the first file that is no module can't be opened
+///   or read.
+/// - `Unwritten` where the writer fails.
 /// - `OutOfMemory` where memory was refused.
-pub fn machine_files<F: Folder, W: Write>(
+pub fn machine_files<'a, F: Folder, W: Write>(
     alloc: Global,
     profile: Profile,
     protocol: &str,
     role: &str,
     folder: &F,
-    paths: &[&str],
+    paths: &[&'a str],
     writer: &mut W,
-) -> Result<bool, ScriptFault>
+) -> Result<bool, CommandFault<'a>>
     ensures ok { IfOk result (λ does_so. IsAnswered form.Graph profile (F.text folder.now) paths.now protocol.now role.now does_so (W.contents writer.old) (W.contents writer.new)) }
     ensures err { OnErr result (IsPartAnswered form.Graph profile (F.text folder.now) paths.now protocol.now role.now (W.contents writer.old) (W.contents writer.new)) }
 {
-    let texts = read_files(alloc, folder, paths)?;
-    machine_text(alloc, profile, protocol, role, texts.as_slice(), writer)
+    let Ok(read) = read_files(alloc, folder, paths) else {
+        return Err(CommandFault::OutOfMemory);
+    };
+    match machine_text(
+        alloc,
+        profile,
+        protocol,
+        role,
+        read.texts.as_slice(),
+        writer,
+    ) {
+        Ok(does_so) => Ok(does_so),
+        Err(fault) => Err(read.fault_of(&fault)),
+    }
 }

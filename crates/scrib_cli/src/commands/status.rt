@@ -2,12 +2,13 @@
 
 ghost use Rattle.std.specs.Prelude.{◌≡◌};
 ghost use Rattle.scrib_cli.specs.Commands.{status_of, fault_text};
+ghost use Rattle.scrib_cli.specs.Faults.{script_fault};
 
-use crate::fault::ScriptFault;
+use crate::commands::fault::CommandFault;
 
 /// The exit status of what a command answered: 0 where it did all that it was to do, and 1 where it printed a refusal
 /// or failed.
-pub fn status_of(answer: &Result<bool, ScriptFault>) -> u8
+pub fn status_of(answer: &Result<bool, CommandFault<'_>>) -> u8
     ensures { result ≡ status_of answer.now }
 {
     match answer {
@@ -16,14 +17,17 @@ pub fn status_of(answer: &Result<bool, ScriptFault>) -> u8
     }
 }
 
-/// What standard error is told of a fault.
-pub fn fault_text(fault: &ScriptFault) -> &'static str
-    ensures { result.now ≡ fault_text fault.now }
+/// The fixed line that standard error gets for a fault. The line behind it is the fault's own text, which names its
+/// cause.
+pub fn fault_text(fault: &CommandFault<'_>) -> &'static str
+    ensures { result.now ≡ fault_text (script_fault fault.now) }
 {
     match fault {
-        ScriptFault::Read => "scribmon: read fault",
-        ScriptFault::Write => "scribmon: write fault",
-        ScriptFault::Settle => "scribmon: the service did not settle",
-        ScriptFault::OutOfMemory => "scribmon: out of memory",
+        CommandFault::Unopened(_) | CommandFault::Unread(_) | CommandFault::TooLong(_) => {
+            "scribmon: read fault"
+        }
+        CommandFault::Unwritten => "scribmon: write fault",
+        CommandFault::Unsettled => "scribmon: settle fault",
+        CommandFault::OutOfMemory => "scribmon: out of memory",
     }
 }

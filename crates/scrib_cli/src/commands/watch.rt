@@ -1,12 +1,15 @@
 //! Watching a script of standard input or of a file.
 
-ghost use Rattle.std.specs.Prelude.{◌≡◌, true, IfOk, IfSome, OnOk, OnErr};
+ghost use Rattle.std.specs.Prelude.{◌≡◌, true, IfOk, IfErr, IfSome, OnOk, OnErr};
 ghost use Rattle.std.specs.Option.{option_copied};
 ghost use Rattle.scrib_cli.specs.Commands.{source, IsWatched, IsPartWatched};
+ghost use Rattle.scrib_cli.specs.Faults.{of_script, script_fault};
 ghost use Rattle.scrib_script.specs.Limits.{of_scripts, IsWithin};
 
+use crate::commands::fault::CommandFault;
 use crate::commands::folder::Folder;
-use crate::fault::ScriptFault;
+use crate::commands::observed::Observed;
+use crate::commands::source::Source;
 use crate::run_script::run_script;
 use scrib_script::format::Format;
 use std::alloc::Global;
@@ -17,27 +20,49 @@ use std::io::{Read, Write};
 ///
 /// # Errors
 /// What was written by then is a beginning of the script's output.
-/// - `Read` where the file can't be opened, and where `run_script` answers it.
-/// - `Write` and `OutOfMemory` where `run_script` answers them.
-pub fn watch<F: Folder, R: Read, W: Write>(
+/// - `Unopened` where the file can't be opened.
+/// - `Unread` and `TooLong` where `run_script` returns `Read`.
+/// - `Unwritten` and `OutOfMemory` where `run_script` returns `Write` and `OutOfMemory`.
+pub fn watch<'a, F: Folder, R: Read, W: Write>(
     alloc: Global,
     format: Format,
     folder: &F,
-    path: Option<&str>,
+    path: Option<&'a str>,
     reader: &mut R,
     writer: &mut W,
-) -> Result<bool, ScriptFault>
+) -> Result<bool, CommandFault<'a>>
     ensures done { IfOk result (λ done. done ≡ true) }
     ensures ok { OnOk result (IsWatched format (source (F.text folder.now) (option_copied path.entry) (R.remaining reader.old)) (W.contents writer.old) (W.contents writer.new)) }
     ensures err { OnErr result (IsPartWatched format (source (F.text folder.now) (option_copied path.entry) (R.remaining reader.old)) (W.contents writer.old) (W.contents writer.new)) }
+    ensures fault { IfErr result (λ e. of_script (script_fault e) ≡ true) }
     ensures within { OnOk result (IfSome (source (F.text folder.now) (option_copied path.entry) (R.remaining reader.old)) (λ input. IsWithin of_scripts input)) }
 {
     match path {
-        None => run_script(alloc, format, reader, writer)?,
+        None => watch_source(alloc, format, Source::StandardInput, reader, writer),
         Some(path) => {
-            let mut file = folder.open(path)?;
-            run_script(alloc, format, &mut file, writer)?;
+            let file = folder.open(path)?;
+            watch_source(alloc, format, Source::named(path), file, writer)
         }
     }
-    Ok(true)
+}
+
+// The same of this source, which this reader reads.
+fn watch_source<'a, R: Read + Drop, W: Write>(
+    alloc: Global,
+    format: Format,
+    source: Source<'a>,
+    reader: R,
+    writer: &mut W,
+) -> Result<bool, CommandFault<'a>>
+    ensures done { IfOk result (λ done. done ≡ true) }
+    ensures ok { OnOk result (IsWatched format (R.remaining reader) (W.contents writer.old) (W.contents writer.new)) }
+    ensures err { OnErr result (IsPartWatched format (R.remaining reader) (W.contents writer.old) (W.contents writer.new)) }
+    ensures fault { IfErr result (λ e. of_script (script_fault e) ≡ true) }
+    ensures within { OnOk result (IfSome (R.remaining reader) (λ input. IsWithin of_scripts input)) }
+{
+    let mut reader = Observed::new(reader);
+    match run_script(alloc, format, &mut reader, writer) {
+        Ok(()) => Ok(true),
+        Err(fault) => Err(CommandFault::over(source, &fault, reader.has_failed())),
+    }
 }

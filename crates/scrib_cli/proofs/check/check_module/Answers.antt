@@ -6,11 +6,11 @@ use Rattle.scrib_cli.proofs.check.check_module.Goals as goal
 pub returns-clause-ok : goal.returns-clause-ok
 returns-clause-ok g c =
     checked c.in_ok-text.text (state_of c.args.core.now) (state_of c.apply-reply.new.self) c.apply-reply.result (g.W.Write.contents c.args.writer.now) (g.W.Write.contents c.tell_reply.new.writer) c.apply-reply.ensures.answered
-    c.tell_reply.result (g.R.Read.remaining c.args.reader.now) c.in_ok-text.ensures c.tell_reply.ensures.ok
+    c.tell_reply.result (g.R.Read.remaining c.args.reader.now) c.in_ok-text.ensures.text c.tell_reply.ensures.ok
 
 pub returns-clause-err : goal.returns-clause-err
 returns-clause-err g c =
     on_err_weaker c.tell_reply.result
     (part_checked c.in_ok-text.text (state_of c.args.core.now) (state_of c.apply-reply.new.self) c.apply-reply.result (g.W.Write.contents c.args.writer.now) (g.W.Write.contents c.tell_reply.new.writer) c.apply-reply.ensures.answered
-    (g.R.Read.remaining c.args.reader.now) c.in_ok-text.ensures)
+    (g.R.Read.remaining c.args.reader.now) c.in_ok-text.ensures.text)
     c.tell_reply.ensures.err

@@ -14,4 +14,4 @@ returns-in_err-printed-clause-err g c =
     rw p.1 (untold (g.R.Read.remaining c.args.reader.now) (state_of c.in_ok-core.core) (g.W.Write.contents c.args.writer.now) (g.W.Write.contents c.run_whole.new.writer) c.in_ok-core.ensures.ok)
 
 pub returns-clause-ok : goal.returns-clause-ok
-returns-clause-ok g c = (state_of c.in_ok-core.core, c.in_ok-core.ensures.ok, c.in_ok-printed.ensures)
+returns-clause-ok g c = (state_of c.in_ok-core.core, c.in_ok-core.ensures.ok, c.in_ok-printed.ensures.explained)

@@ -1,7 +1,7 @@
 use Rattle.std.proofs.Common.{◌≡◌, ◌∙◌, sym}
 use Rattle.std.proofs.lemmas.Result.{err_from_is_err_and, on_err_weaker}
 use Rattle.scrib_cli.specs.Scripts.{bad_line}
-use Rattle.scrib_cli.proofs.Faults.{no_read, memory_no_read}
+use Rattle.scrib_cli.proofs.Faults.{written_of_output, memory_of_output}
 use Rattle.scrib_cli.proofs.Writes.{part_none}
 use Rattle.scrib_cli.proofs.printing.refuse_line.Goals as goal
 
@@ -18,7 +18,7 @@ returns-clause-err g c =
 pub returns-in_err-text-clause-fault : goal.returns-in_err-text-clause-fault
 returns-in_err-text-clause-fault g c =
     let p = err_from_is_err_and c.from_residual.result c.from_residual.ensures.1 in
-    rw p.1 (memory_no_read p.0 p.2)
+    rw p.1 (memory_of_output p.0 p.2)
 
 pub returns-clause-fault : goal.returns-clause-fault
-returns-clause-fault g c = no_read c.write_out.result c.write_out.ensures.fault
+returns-clause-fault g c = written_of_output c.write_out.result c.write_out.ensures.fault

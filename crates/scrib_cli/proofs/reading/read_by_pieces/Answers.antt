@@ -3,8 +3,8 @@ use Rattle.std.specs.Io.KnownBytes.{IsAtEnd}
 use Rattle.scrib_cli.proofs.KeptTexts.{has_read_few, has_read_more, has_read_all}
 use Rattle.scrib_cli.proofs.reading.read_by_pieces.Goals as goal
 
-pub returns-then-n-eq0 : goal.returns-then-n-eq0
-returns-then-n-eq0 g c =
+pub returns-then-n-eq0-clause-text : goal.returns-then-n-eq0-clause-text
+returns-then-n-eq0-clause-text g c =
     let some : 0 < length c.read.new.buf = omega (arith, c.read.auto.buf, c.loop.auto.piece, c.requires) in
     let at_end : IsAtEnd (g.R.Read.remaining c.read.new.self) = c.in-Ok.ensures.bytes.1 c.if-n-eq0.true some in
     has_read_all (g.R.Read.remaining c.args.reader.now) (g.R.Read.remaining c.loop.reader) (g.R.Read.remaining c.read.new.self) c.loop.text.items c.read.new.buf c.in-Ok.n

@@ -13,17 +13,17 @@ pub returns-in_err-file-clause-err : goal.returns-in_err-file-clause-err
 returns-in_err-file-clause-err g c =
     on_err_any c.from_residual.result (c.loop-path.invariant.part (g.W.Write.contents c.loop-path.writer) (none_checked (g.F.Folder.text c.args.folder.now) (drop c.loop-path.path-index c.args.paths.now) (state_of c.loop-path.core) (g.W.Write.contents c.loop-path.writer)))
 
-pub returns-in_err-check_module-clause-err : goal.returns-in_err-check_module-clause-err
-returns-in_err-check_module-clause-err g c =
+pub returns-in_err-check_file-clause-err : goal.returns-in_err-check_file-clause-err
+returns-in_err-check_file-clause-err g c =
     let text = g.F.Folder.text c.args.folder.now in
     let here : Bor (List ℕ) = record { ref_ptr = (0, 0); now = [] } in
     let p : Bor (List ℕ) = get_or c.args.paths.now c.loop-path.path-index here in
     let front = drop_more c.args.paths.now c.loop-path.path-index here c.loop-path-test.true in
     let was = g.W.Write.contents c.loop-path.writer in
-    let now = g.W.Write.contents c.check_module.new.writer in
-    let h = known (λ input. IsPartChecked input (state_of c.loop-path.core) (state_of c.check_module.new.core) was now) (text p.now) (g.F.File.Read.remaining c.in_ok-file.file) c.in_ok-file.ensures.text c.in_err-check_module.ensures.err in
-    on_err_any c.from_residual-in_err-check_module.result
-    (c.loop-path.invariant.part now (part_checked_next text p (drop (c.loop-path.path-index + 1) c.args.paths.now) (drop c.loop-path.path-index c.args.paths.now) front (state_of c.loop-path.core) (state_of c.check_module.new.core) was now h))
+    let now = g.W.Write.contents c.check_file.new.writer in
+    let h = known (λ input. IsPartChecked input (state_of c.loop-path.core) (state_of c.check_file.new.core) was now) (text p.now) (g.F.File.Read.remaining c.in_ok-file.file) c.in_ok-file.ensures.text c.in_err-check_file.ensures.err in
+    on_err_any c.from_residual-in_err-check_file.result
+    (c.loop-path.invariant.part now (part_checked_next text p (drop (c.loop-path.path-index + 1) c.args.paths.now) (drop c.loop-path.path-index c.args.paths.now) front (state_of c.loop-path.core) (state_of c.check_file.new.core) was now h))
 
 pub loop-path-preserved : goal.loop-path-preserved
 loop-path-preserved g c =
@@ -34,11 +34,11 @@ loop-path-preserved g c =
     let ps = drop (c.loop-path.path-index + 1) c.args.paths.now in
     let front = drop_more c.args.paths.now c.loop-path.path-index here c.loop-path-test.true in
     let was = g.W.Write.contents c.loop-path.writer in
-    let mid = g.W.Write.contents c.check_module.new.writer in
+    let mid = g.W.Write.contents c.check_file.new.writer in
     let w = state_of c.loop-path.core in
-    let v = state_of c.check_module.new.core in
-    let first : Bool = c.in_ok-check_module.field-0 in
-    let h = known (λ input. IsChecked input w first v was mid) (text p.now) (g.F.File.Read.remaining c.in_ok-file.file) c.in_ok-file.ensures.text c.in_ok-check_module.ensures.ok in
+    let v = state_of c.check_file.new.core in
+    let first : Bool = c.in_ok-check_file.field-0 in
+    let h = known (λ input. IsChecked input w first v was mid) (text p.now) (g.F.File.Read.remaining c.in_ok-file.file) c.in_ok-file.ensures.text c.in_ok-check_file.ensures.ok in
     let same : (others : Bool) → (c.loop-path.accepted && (first && others)) ≡ (c.if-not-branch.accepted && others) =
     elim c.if-not-branch.branch [
       | then-not-branch b ↦ agree_refused c.loop-path.accepted first c.if-not-branch.accepted b.if-not-branch.true b.accepted-is

@@ -22,7 +22,7 @@ returns-in-Some-clause-err g c =
     let ends = subst (λ (o : Option Item). EndsIn c.args.self.now.script (listed o)) c.in-Some.is c.in_ok-item.ensures.ends in
     on_err_weaker c.tell_item.result (failed_last c.args.self.now c.in-Some.item (g.W.Write.contents c.args.writer.now) (g.W.Write.contents c.tell_item.new.writer) ends) c.tell_item.ensures.err
 
-pub returns-in_err-item-clause-limit : goal.returns-in_err-item-clause-limit
-returns-in_err-item-clause-limit g c =
+pub returns-in_err-item-clause-fault : goal.returns-in_err-item-clause-fault
+returns-in_err-item-clause-fault g c =
     let p = err_from_is_err_and c.from_residual.result c.from_residual.ensures.1 in
     rw p.1 (not_limit _ p.0 p.2 c.in_err-item.ensures.limit)

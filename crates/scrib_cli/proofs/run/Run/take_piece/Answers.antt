@@ -4,7 +4,7 @@ use Rattle.scrib_core.specs.Held.{state_of}
 use Rattle.scrib_script.specs.declared.item.Item.{Item}
 use Rattle.scrib_script.specs.Scripts.{listed}
 use Rattle.scrib_script.specs.Standing.{TakesFront}
-use Rattle.scrib_cli.proofs.Faults.{limit_told}
+use Rattle.scrib_cli.proofs.Faults.{limit_told, output_not_read}
 use Rattle.scrib_cli.proofs.Results.{on_err_any}
 use Rattle.scrib_cli.proofs.Running.{Carried, took_item, stopped_took, stopped_item, stopped_past}
 use Rattle.scrib_cli.proofs.run.Run.take_piece.Goals as goal
@@ -39,4 +39,4 @@ returns-in_err-item-clause-limit g c =
 pub returns-in_err-tell_item-clause-limit : goal.returns-in_err-tell_item-clause-limit
 returns-in_err-tell_item-clause-limit g c =
     let p = err_from_is_err_and c.from_residual-in_err-tell_item.result c.from_residual-in_err-tell_item.ensures.1 in
-    rw p.1 (λ e. absurd (c.in_err-tell_item.ensures.fault (sym p.2 ∙ e)))
+    rw p.1 (λ e. absurd (output_not_read _ c.in_err-tell_item.ensures.fault (sym p.2 ∙ e)))

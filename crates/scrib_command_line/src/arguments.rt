@@ -1,0 +1,191 @@
+//! The words that the command line takes.
+
+use crate::help;
+use clap::{Arg, ArgAction, Command};
+use std::alloc::{AllocError, Global};
+
+fn file_arg<'a>(alloc: Global) -> Arg<'a> {
+    Arg::new(alloc, "FILE").help("The script; standard input where none is named, or -")
+}
+
+// A word that is required.
+fn value_arg<'a>(alloc: Global, name: &'a str, help: &'a str) -> Arg<'a> {
+    Arg::new(alloc, name).help(help).required(true)
+}
+
+// A word that is required, once or more.
+fn values_arg<'a>(alloc: Global, name: &'a str, help: &'a str) -> Arg<'a> {
+    value_arg(alloc, name, help)
+        .num_args(1..)
+        .action(ArgAction::Append)
+}
+
+fn files_arg<'a>(alloc: Global) -> Arg<'a> {
+    let help = "The modules' texts, in the order in which they are read; - is standard input";
+    values_arg(alloc, "FILE", help)
+}
+
+// A word that is given or left out.
+fn flag_arg<'a>(alloc: Global, name: &'a str, help: &'a str) -> Arg<'a> {
+    Arg::new(alloc, name)
+        .long(name)
+        .help(help)
+        .action(ArgAction::SetTrue)
+}
+
+fn reception_arg<'a>(alloc: Global) -> Arg<'a> {
+    flag_arg(
+        alloc,
+        "reception",
+        "Let a role learn from the message that it receives which branch was chosen",
+    )
+}
+
+fn json_arg<'a>(alloc: Global) -> Arg<'a> {
+    flag_arg(
+        alloc,
+        "json",
+        "Print each line of the output as one JSON object",
+    )
+}
+
+fn progress_arg<'a>(alloc: Global) -> Arg<'a> {
+    flag_arg(
+        alloc,
+        "progress",
+        "Print on standard error how far the run is, after each 100,000 events",
+    )
+}
+
+fn count_arg<'a>(alloc: Global, name: &'a str, help: &'a str, usual: &'a str) -> Arg<'a> {
+    Arg::new(alloc, name)
+        .long(name)
+        .value_name("N")
+        .help(help)
+        .default_value(usual)
+}
+
+fn shards_arg<'a>(alloc: Global) -> Arg<'a> {
+    count_arg(
+        alloc,
+        "shards",
+        "How many shards the service has, 1 to 64",
+        "4",
+    )
+}
+
+fn workers_arg<'a>(alloc: Global) -> Arg<'a> {
+    count_arg(
+        alloc,
+        "workers",
+        "How many threads bring verdicts up to date, 1 to 16",
+        "2",
+    )
+}
+
+fn connections_arg<'a>(alloc: Global) -> Arg<'a> {
+    let help = "The scripts that are then carried out, each on a thread of its own";
+    values_arg(alloc, "CONNECTION", help)
+}
+
+fn check_command<'a>(alloc: Global) -> Result<Command<'a>, AllocError> {
+    Command::new(alloc, "check")
+        .about("Puts modules into one library, and prints a line for each put")
+        .after_help(help::CHECK)
+        .arg(reception_arg(alloc))?
+        .arg(files_arg(alloc))
+}
+
+// A command on what a role does in a protocol of some modules.
+fn role_command<'a>(
+    alloc: Global,
+    name: &'a str,
+    about: &'a str,
+    after: &'a str,
+) -> Result<Command<'a>, AllocError> {
+    Command::new(alloc, name)
+        .about(about)
+        .after_help(after)
+        .arg(reception_arg(alloc))?
+        .arg(value_arg(alloc, "PROTOCOL", "The protocol's full name, as demo.Hello"))?
+        .arg(value_arg(alloc, "ROLE", "A role of the protocol"))?
+        .arg(files_arg(alloc))
+}
+
+fn project_command<'a>(alloc: Global) -> Result<Command<'a>, AllocError> {
+    let about = "Prints what a role does in a protocol of some modules";
+    role_command(alloc, "project", about, help::PROJECT)
+}
+
+fn machine_command<'a>(alloc: Global) -> Result<Command<'a>, AllocError> {
+    let about = "Prints the machine of a role of a protocol, as a graph in the DOT language";
+    role_command(alloc, "machine", about, help::MACHINE)
+}
+
+fn watch_command<'a>(alloc: Global) -> Result<Command<'a>, AllocError> {
+    Command::new(alloc, "watch")
+        .about("Runs a script of edits and events, and prints a line for each reply")
+        .after_help(help::WATCH)
+        .arg(json_arg(alloc))?
+        .arg(file_arg(alloc))
+}
+
+fn explain_command<'a>(alloc: Global) -> Result<Command<'a>, AllocError> {
+    Command::new(alloc, "explain")
+        .about("Runs a script in silence, and prints the messages in flight in a conversation")
+        .after_help(help::EXPLAIN)
+        .arg(value_arg(alloc, "ID", "The conversation's number in the script"))?
+        .arg(file_arg(alloc))
+}
+
+// Each argument is made where it is taken: the time of a proof grows with what is alive at each `?`.
+fn run_command<'a>(alloc: Global) -> Result<Command<'a>, AllocError> {
+    Command::new(alloc, "run")
+        .about(
+            "Runs scripts of many connections over one service, and prints a table of the conversations",
+        )
+        .after_help(help::RUN)
+        .arg(shards_arg(alloc))?
+        .arg(workers_arg(alloc))?
+        .arg(json_arg(alloc))?
+        .arg(progress_arg(alloc))?
+        .arg(value_arg(alloc, "SETUP", "The script that is carried out first"))?
+        .arg(connections_arg(alloc))
+}
+
+// With one command more, where it could be made.
+fn with_one<'a>(
+    line: Command<'a>,
+    command: Result<Command<'a>, AllocError>,
+) -> Result<Command<'a>, AllocError> {
+    line.subcommand(command?)
+}
+
+// With the commands that read modules.
+fn with_modules<'a>(alloc: Global, line: Command<'a>) -> Result<Command<'a>, AllocError> {
+    let line = with_one(line, check_command(alloc))?;
+    let line = with_one(line, project_command(alloc))?;
+    with_one(line, machine_command(alloc))
+}
+
+// With the commands that read a script.
+fn with_scripts<'a>(alloc: Global, line: Command<'a>) -> Result<Command<'a>, AllocError> {
+    let line = with_one(line, watch_command(alloc))?;
+    let line = with_one(line, explain_command(alloc))?;
+    with_one(line, run_command(alloc))
+}
+
+/// The words that the program takes.
+///
+/// # Errors
+/// `AllocError` where memory was refused.
+pub(crate) fn command<'a>(alloc: Global) -> Result<Command<'a>, AllocError> {
+    let line = Command::new(alloc, "scribmon")
+        .version("0.1.0")
+        .about("Judges running conversations against Scribble protocols")
+        .after_help(help::PROGRAM)
+        .subcommand_required(true)
+        .arg_required_else_help(true);
+    let line = with_modules(alloc, line)?;
+    with_scripts(alloc, line)
+}

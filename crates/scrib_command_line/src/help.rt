@@ -1,0 +1,119 @@
+//! What `--help` prints behind the words of a command.
+
+/// Behind the list of commands.
+pub(crate) const PROGRAM: &str = "\
+`scribmon COMMAND --help` shows the lines that a command reads and an example.
+A FILE may be - for standard input.
+
+Exit status:
+  0  the command did what it was to do; replies of watch and run that are
+     refusals or offences count as done
+  1  check, project, machine or explain printed a refusal; a read or write
+     failed; memory ran out (a line on standard error names the cause)
+  2  the command line was refused\n";
+
+/// Behind the words of `check`.
+pub(crate) const CHECK: &str = "\
+Prints for each file what the put changed or why it was refused:
+  put demo: +demo.Hello
+  refused Unmergeable C demo 2:1
+A name is new (+), changed (~) or gone (-). A refusal names kind and place,
+as line:column of the text.
+
+Example:
+  scribmon check examples/02_two_buyer/two_buyer.scr
+
+Exit status:
+  0  all modules were accepted
+  1  one was refused; a file could not be read; memory ran out
+  2  the command line was refused\n";
+
+/// Behind the words of `project`.
+pub(crate) const PROJECT: &str = "\
+Prints one line, the local type of the role:
+  A!m(T)       sends m(T) to A, and then what follows the dot
+  A?m(T)       receives m(T) from A
+  {..,..}      one of these
+  rec X.T, X   a loop, and its repetition
+  end          the end
+
+Example:
+  scribmon project two_buyer.TwoBuyer Seller \\
+    examples/02_two_buyer/two_buyer.scr
+
+Exit status:
+  0  the local type was printed
+  1  a refusal was printed; a file could not be read; memory ran out
+  2  the command line was refused\n";
+
+/// Behind the words of `machine`.
+pub(crate) const MACHINE: &str = "\
+Prints a graph: states by numbers, an arrow into the start, double circles for
+ends, and on each edge the action that leads to the next state.
+
+Example:
+  scribmon machine two_buyer.TwoBuyer Second \\
+    examples/02_two_buyer/two_buyer.scr | dot -Tsvg -o second.svg
+
+Exit status:
+  0  the machine was printed
+  1  a refusal was printed; a file could not be read; memory ran out
+  2  the command line was refused\n";
+
+/// Behind the words of `watch`.
+pub(crate) const WATCH: &str = "\
+Lines of a script:
+  put                      puts the module text of the lines that follow, up to
+                           a line %%
+  withdraw MODULE          takes a module out of the library
+  profile plain|reception  chooses which branches merge
+  open ID PROTOCOL         opens a conversation, as in: open 1 demo.Hello
+  join ID ROLE             ROLE joined
+  send ID FROM TO MESSAGE  FROM sent, as in: send 1 A B hello()
+  recv ID FROM TO MESSAGE  TO received what FROM sent
+  ask ID                   prints the verdict
+  turn ID                  judges up to 256 more events of a stale conversation
+  json LINE                one of these lines, its reply as one JSON object
+  # ..                     a comment
+Each line is answered before the next one is read.
+
+Example:
+  scribmon watch examples/01_hello/receive_before_send.script
+
+Exit status:
+  0  the script was read to its end; refusals and offences are replies
+  1  a read or write failed; memory ran out
+  2  the command line was refused\n";
+
+/// Behind the words of `explain`.
+pub(crate) const EXPLAIN: &str = "\
+Prints a line for each message in flight, by sender and then receiver in the
+order in which the roles are declared, the oldest first:
+  A B hello()
+The lines of a script are those of `scribmon watch --help`.
+
+Example:
+  examples/put.sh examples/01_hello/hello.scr \\
+    examples/09_in_flight/in_flight.script | scribmon explain 1
+
+Exit status:
+  0  the messages in flight were printed
+  1  a refusal was printed; a read or write failed; memory ran out
+  2  the command line was refused\n";
+
+/// Behind the words of `run`.
+pub(crate) const RUN: &str = "\
+SETUP puts the modules and opens the conversations; the CONNECTION scripts then
+report their events. The lines of a script are those of `scribmon watch --help`.
+Prints the replies of SETUP, those of each connection behind a line with its
+number, and a table: id, events, verdict, protocol.
+
+Example:
+  scribmon run setup.script buyers.script stream.script
+
+Exit status:
+  0  all scripts were carried out; a connection that could not be read to its
+     end has `read fault` as its last line
+  1  a file could not be opened; SETUP could not be read; a write failed; memory
+     ran out
+  2  the command line was refused\n";
