@@ -1,151 +1,85 @@
-//! Commands as the program takes them, over files.
+//! Command lines as a user types them, over files and an example's own standard input.
+
+ghost use Rattle.std.specs.Prelude.{◌≡◌, ◌+◌, IfOk, string_len};
 
 use crate::fault::RowsFault;
-use scrib_cli::commands::check::check_files;
-use scrib_cli::commands::explain::explain;
-use scrib_cli::commands::folder::SystemFiles;
-use scrib_cli::commands::machine::machine_files;
-use scrib_cli::commands::project::project_files;
-use scrib_cli::commands::status::{fault_text, status_of};
-use scrib_cli::commands::watch::watch;
-use scrib_cli::id::id_of;
-use scrib_cli::run_script::{Format, ScriptFault};
-use scrib_run::files::run_files;
-use scrib_run::options::Options;
-use scrib_run::progress::{Mark, Progress};
-use scrib_run::shape::Shape;
-use scrib_types::profile::Profile;
-use std::alloc::Global;
-use std::io::Write;
+use scrib_command_line::run_command_line::{Streams, run_command_line};
+use std::alloc::Allocator;
+use std::fmt::Display;
+use std::io;
+use std::io::{BufRead, Input, Lines, Write};
 use std::marker::Send;
 use std::rt::Files;
 use std::sync::Wait;
 use std::thread::Threads;
 
-// The shape that the numbers of these words are.
-fn shape_of(shards: &str, workers: &str) -> Result<Shape, RowsFault> {
-    let (Some(shards), Some(workers)) = (id_of(shards), id_of(workers)) else {
-        return Err(RowsFault::BadRow);
-    };
-    Shape::new(shards as usize, workers as usize)
-        .ok()
-        .ok_or(RowsFault::BadRow)
-}
-
-// Standard output, where the marks of a run stand among its lines.
+// Standard input that is the text of an example.
 #[derive(Clone, Copy)]
-struct StandardOutput<'a, R>(&'a R);
+struct ExampleInput<'a>(&'a [u8]);
 
-impl<R: Print> Progress for StandardOutput<'_, R> {
-    fn tell(&self, mark: Mark) {
-        let _ = self.0.println(mark);
+impl<'a> Input for ExampleInput<'a> {
+    type Reader = &'a [u8];
+
+    fn read_line<A: Allocator + Clone>(&self, buf: &mut String<A>) -> io::Result<usize> {
+        self.reader().read_line(buf)
+    }
+
+    fn lines<A: Allocator>(&self, alloc: A) -> Lines<&'a [u8], A> {
+        self.reader().lines(alloc)
+    }
+
+    fn reader(&self) -> &'a [u8] {
+        self.0
     }
 }
 
-// How replies are printed by these words, and those behind `--json`.
-fn format_in<'a, 'b>(words: &'a [&'b str]) -> (Format, &'a [&'b str]) {
-    match words {
-        ["--json", rest @ ..] => (Format::Json, rest),
-        _ => (Format::Line, words),
+// Both standard streams in one: what goes to standard error is printed among the rest.
+#[derive(Clone, Copy)]
+struct OneStream<'a, R>(&'a R);
+
+impl<R: Print> Print for OneStream<'_, R> {
+    fn print<D: Display + Drop>(&self, value: D) -> io::Result<()> {
+        self.0.print(value)
+    }
+
+    fn println<D: Display + Drop>(&self, value: D) -> io::Result<()> {
+        self.0.println(value)
+    }
+
+    fn write_all(&self, bytes: &[u8]) -> io::Result<()> {
+        self.0.write_all(bytes)
     }
 }
 
-// The words behind this one, if it is the first, and whether it is.
-fn behind<'a, 'b>(word: &str, words: &'a [&'b str]) -> (bool, &'a [&'b str]) {
-    match words {
-        [first, rest @ ..] if *first == word => (true, rest),
-        _ => (false, words),
+impl<R: Print> Eprint for OneStream<'_, R> {
+    fn eprint<D: Display + Drop>(&self, value: D) -> io::Result<()> {
+        self.0.print(value)
+    }
+
+    fn eprintln<D: Display + Drop>(&self, value: D) -> io::Result<()> {
+        self.0.println(value)
     }
 }
 
-// What `run` answers over the files that these words name, behind the numbers of shards and of workers, and `--json`
-// and `--progress` where they stand.
-fn run_over_service<R: Print + Files + Threads + Wait + AllocGlobal + Sync, W: Write>(
-    rt: &R,
-    words: &[&str],
-    writer: &mut W,
-) -> Result<Result<bool, ScriptFault>, RowsFault>
+// Runs the program's command line of these words over these streams, and returns the status that it ends with.
+fn run_words<R, I, E, W>(rt: &R, input: &I, messages: &E, writer: &mut W, words: &[String]) -> u8
 where
+    R: Files + Threads + Wait + AllocGlobal + Sync,
+    I: Input + Sync,
+    E: Print + Eprint + Sync,
+    W: Write,
     R::File: Send,
+    I::Reader: Send,
 {
-    let ["--shards", shards, "--workers", workers, words @ ..] = words else {
-        return Err(RowsFault::BadRow);
+    let mut streams = Streams {
+        input,
+        output: writer,
+        messages,
     };
-    let (format, words) = format_in(words);
-    let (progress, words) = behind("--progress", words);
-    let [setup, connections @ ..] = words else {
-        return Err(RowsFault::BadRow);
-    };
-    writer.flush()?;
-    let options = Options {
-        shape: shape_of(shards, workers)?,
-        format,
-        progress: progress.then_some(StandardOutput(rt)),
-    };
-    let files = SystemFiles(rt);
-    Ok(run_files(rt, rt.alloc(), &options, &files, setup, connections, writer))
+    run_command_line(rt, &mut streams, words)
 }
 
-// What a command on modules answers, over the files that the words name, behind `--reception` where it stands.
-fn answer_on_modules<R: Files + AllocGlobal, W: Write>(
-    rt: &R,
-    words: &[&str],
-    writer: &mut W,
-) -> Option<Result<bool, ScriptFault>> {
-    let [command, words @ ..] = words else {
-        return None;
-    };
-    let (is_wider, words) = behind("--reception", words);
-    let profile = if is_wider {
-        Profile::Reception
-    } else {
-        Profile::Plain
-    };
-    let alloc = rt.alloc();
-    let files = SystemFiles(rt);
-    match (*command, words) {
-        ("check", paths) => Some(check_files(alloc, profile, &files, paths, writer)),
-        ("project", [protocol, role, paths @ ..]) => {
-            Some(project_files(alloc, profile, protocol, role, &files, paths, writer))
-        }
-        ("machine", [protocol, role, paths @ ..]) => {
-            Some(machine_files(alloc, profile, protocol, role, &files, paths, writer))
-        }
-        _ => None,
-    }
-}
-
-// What the command of these words answers, over the files that they name or this input.
-fn answer<R: Print + Files + Threads + Wait + AllocGlobal + Sync, W: Write>(
-    rt: &R,
-    words: &[&str],
-    mut input: &[u8],
-    writer: &mut W,
-) -> Result<Result<bool, ScriptFault>, RowsFault>
-where
-    R::File: Send,
-{
-    if let Some(answer) = answer_on_modules(rt, words, writer) {
-        return Ok(answer);
-    }
-    let alloc = rt.alloc();
-    let files = SystemFiles(rt);
-    let reader = &mut input;
-    match words {
-        ["watch", words @ ..] => {
-            let (format, path) = format_in(words);
-            Ok(watch(alloc, format, &files, path.first().copied(), reader, writer))
-        }
-        ["explain", id, path @ ..] => {
-            let id = id_of(id).ok_or(RowsFault::BadRow)?;
-            Ok(explain(alloc, id, &files, path.first().copied(), reader, writer))
-        }
-        ["run", words @ ..] => run_over_service(rt, words, writer),
-        _ => Err(RowsFault::BadRow),
-    }
-}
-
-/// Runs a command over files, and tells what the program would end with.
+/// Runs the program's command line of these words, and writes the status that it ends with.
 pub(crate) fn obey_files<R: Print + Files + Threads + Wait + AllocGlobal + Sync, W: Write>(
     rt: &R,
     command: &str,
@@ -156,22 +90,17 @@ where
     R::File: Send,
 {
     let alloc = rt.alloc();
-    let words: Vec<&str> = command.split_whitespace().collect(alloc)?;
-    let answer = answer(rt, &words, input.as_bytes(), writer)?;
-    tell_ending(alloc, &answer, writer)
-}
-
-// Tells what the program would end with.
-fn tell_ending<W: Write>(
-    alloc: Global,
-    answer: &Result<bool, ScriptFault>,
-    writer: &mut W,
-) -> Result<(), RowsFault> {
-    if let Err(fault) = answer {
-        let text = format!(in alloc; "{}\n", fault_text(fault))?;
-        writer.write_all(text.as_bytes())?;
+    let mut words = Vec::new(alloc);
+    words.push(String::from_str(alloc, "scribmon")?)?;
+    for word in command.split_whitespace() {
+        words.push(String::from_str(alloc, word)?)?;
     }
-    let text = format!(in alloc; "status {}\n", status_of(answer))?;
+    writer.flush()?;
+    let bytes = input.as_bytes();
+    let input = ExampleInput(bytes);
+    let messages = OneStream(rt);
+    let status = run_words(rt, &input, &messages, writer, words.as_slice());
+    let text = format!(in alloc; "status {status}\n")?;
     writer.write_all(text.as_bytes())?;
     Ok(())
 }

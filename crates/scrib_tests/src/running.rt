@@ -84,11 +84,11 @@ struct Outcome {
     writes: u32,
 }
 
-fn obey(
+fn obey<R: Read, W: Write>(
     alloc: Global,
     command: Command,
-    reader: &mut Pieces,
-    writer: &mut Page,
+    reader: &mut R,
+    writer: &mut W,
 ) -> Result<(), ScriptFault> {
     match command {
         Command::Watch => run_script(alloc, Format::Line, reader, writer)?,
@@ -234,7 +234,7 @@ fn fail_writes(
 
 #[test]
 fn each_failing_read_is_told(rt: HostRuntime) {
-    for size in [1usize, 7, 8192] {
+    for size in [1usize, 2, 7, 8192] {
         for row in ROWS {
             fail_reads(&rt, rt.alloc(), row, size);
         }
@@ -243,11 +243,76 @@ fn each_failing_read_is_told(rt: HostRuntime) {
 
 #[test]
 fn each_failing_write_is_told(rt: HostRuntime) {
-    for size in [1usize, 7, 8192] {
+    for size in [1usize, 2, 7, 8192] {
         for row in ROWS {
             fail_writes(&rt, rt.alloc(), row, size);
         }
     }
+}
+
+// Interrupts each read and each write once before it is made.
+#[derive(Drop)]
+struct Interrupted<T> {
+    inner: T,
+    is_next: bool,
+}
+
+impl<T> Interrupted<T> {
+    // Whether this call is interrupted: every other one, from the first.
+    fn interrupts(&mut self) -> bool {
+        self.is_next = !self.is_next;
+        !self.is_next
+    }
+}
+
+impl<T: Read> Read for Interrupted<T> {
+    fn read(&mut self, buf: &mut [u8]) -> io::Result<usize> {
+        if self.interrupts() {
+            return Err(io::Error::from(ErrorKind::Interrupted));
+        }
+        self.inner.read(buf)
+    }
+}
+
+impl<T: Write> Write for Interrupted<T> {
+    fn write(&mut self, buf: &[u8]) -> io::Result<usize> {
+        if self.interrupts() {
+            return Err(io::Error::from(ErrorKind::Interrupted));
+        }
+        self.inner.write(buf)
+    }
+
+    fn flush(&mut self) -> io::Result<()> {
+        self.inner.flush()
+    }
+}
+
+#[test]
+fn interrupted_calls_are_made_again(rt: HostRuntime) -> Result<(), Fail> {
+    let alloc = rt.alloc();
+    for (command, text, want) in ROWS {
+        let mut reader = Interrupted {
+            inner: Pieces {
+                text,
+                size: 7,
+                calls: 0,
+                fails_at: 0,
+            },
+            is_next: true,
+        };
+        let mut writer = Interrupted {
+            inner: Page {
+                output: Vec::new(alloc),
+                size: 7,
+                calls: 0,
+                fails_at: 0,
+            },
+            is_next: true,
+        };
+        obey(alloc, command, &mut reader, &mut writer)?;
+        assert_eq!(rt; writer.inner.output.as_slice(), want);
+    }
+    Ok(())
 }
 
 // Asks, and then gives so many empty lines.

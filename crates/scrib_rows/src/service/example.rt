@@ -1,4 +1,4 @@
-//! A service in use: the example of `docs/SERVICE.md`. Two threads note what the roles of one conversation do, each by a
+//! A service in use: the example of `docs/EMBEDDING.md`. Two threads note what the roles of one conversation do, each by a
 //! pass of its own; then the service is settled, and the table of its conversations is told.
 
 use crate::fault::RowsFault;
