@@ -1,13 +1,14 @@
 #!/usr/bin/env python3
 """Times the built program on large libraries, module texts and logs.
 
-    bench.py [--beside PROGRAM]
+    bench.py [--program FILE] [--beside FILE]
 
-Run it from anywhere, after `make run`. It prints, for each script, its bytes, the seconds of processor time that
-`scribmon watch` took and the most memory that it held (15 to 20 MB where it held less: this script has that much
-itself); with --beside the same of another program that takes the same command and script, run in turn with the
-first on the same machine, and whether both wrote the same. The best of three runs counts. From the two scripts of
-events it prints what one event more costs in time and in memory. It is no test: it compares nothing but outputs.
+Run it from anywhere, after `make build`. For each script it prints the bytes, the seconds of processor time of
+`scribmon watch`, and the most memory that this held. Memory below 15 to 20 MB is not seen: this script holds that
+much itself. With --beside it does the same for another program with the same command, in turn with the first, and
+prints whether both outputs are the same. The best of three runs counts. From the two scripts of events it prints the
+time and memory of one event more. It is no test: it compares nothing but outputs. Status: 0 fine, 1 a program failed,
+2 a bad command line.
 """
 
 import argparse
@@ -18,7 +19,7 @@ import subprocess
 import sys
 import tempfile
 
-PROGRAM = os.path.join(os.path.dirname(__file__), "..", "crates", "scribmon", "out", "scribmon")
+PROGRAM = os.path.join(os.path.dirname(os.path.abspath(__file__)), "..", "crates", "scribmon", "out", "scribmon")
 LIMIT = 1_048_576
 RUNS = 3
 
@@ -44,7 +45,7 @@ def long_text(name="long", seed=0):
 
 
 def long_texts():
-    """Four such modules, each put ten times: three times in ten with the protocols that it has already."""
+    """Four such modules, each put ten times: three times in ten with unchanged protocols."""
     seeds = [0, 1, 2, 3]
     for revision in range(10):
         for i in range(4):
@@ -54,13 +55,13 @@ def long_texts():
 
 
 def nodes():
-    """One protocol of 4,095 nodes: eleven choices of two branches, one after the other."""
+    """One protocol of 4,095 nodes: eleven choices of two branches, one behind the other."""
     choice = "choice at A { a() from A to B; } or { b() from A to B; }\n"
     return put("module wide; global protocol P(role A, role B) {\n" + choice * 11 + "}")
 
 
 def chained_module(i):
-    """The module with this number: four protocols, most of which call those of the module before it."""
+    """The module of this number: four protocols, most of which call those of the previous module."""
     lines = ["module m%d;" % i]
     if i:
         lines.append("import m%d;" % (i - 1))
@@ -71,12 +72,12 @@ def chained_module(i):
 
 
 def many_modules():
-    """256 modules of four protocols, each importing the one before it and calling its protocols."""
+    """256 modules of four protocols. Each imports the previous module and calls its protocols."""
     return "".join(chained_module(i) for i in range(256))
 
 
 def edits_of_one(others):
-    """One module that nobody imports, put a thousand times in turn with two bodies, among so many others."""
+    """One module without importers, put a thousand times with two bodies in turn, among so many others."""
     script = [chained_module(i) for i in range(others)]
     for i in range(1000):
         operator = "ab"[i % 2]
@@ -85,7 +86,7 @@ def edits_of_one(others):
 
 
 def nested_calls(step):
-    """1,000 protocols in a chain of calls, each from 60 nested blocks: each calls the one so many numbers behind it."""
+    """1,000 protocols in a chain, each with one call in 60 nested blocks: of the one whose number is `step` more."""
     lines = ["module t;"]
     for i in range(1000):
         inner = "do P%d(A, B);" % (i + step) if 0 <= i + step < 1000 else "a() from A to B;"
@@ -100,7 +101,7 @@ def silent_chain():
 
 
 def events(logs):
-    """So many logs of 62,500 events each, one after the other: sends and receptions of a loop of two roles."""
+    """So many logs of 62,500 events each, one behind the other: sends and receives of a loop of two roles."""
     yield put("module loop; global protocol P(role A, role B) {\nrec X { ask(Int) from A to B; answer(Str) from B to A; continue X; }\n}")
     for i in range(logs):
         yield "open %d loop.P\njoin %d A\njoin %d B\n" % (i, i, i)
@@ -124,8 +125,10 @@ SCRIPTS = [
 
 
 def run_once(program, path):
-    """Seconds of processor time, KiB at most, and a digest of the output, which is not kept: a child's most memory
-    begins with what this process held."""
+    """Seconds of processor time, the most KiB held, and a digest of the output.
+
+    The output is not kept, since the most memory of a child begins with what this process held.
+    """
     with tempfile.TemporaryFile() as out:
         child = subprocess.Popen([program, "watch", path], stdout=out)
         _, status, usage = os.wait4(child.pid, 0)
@@ -137,14 +140,14 @@ def run_once(program, path):
 
 
 def measure(programs, path):
-    """For each program its seconds, the least of three runs, and its KiB, the most; and whether all wrote the same."""
+    """For each program the least seconds and the most KiB of three runs; and whether all outputs are the same."""
     runs = [[run_once(program, path) for program in programs] for _ in range(RUNS)]
     same = len({output for run in runs for _, _, output in run}) == 1
     return [(min(run[i][0] for run in runs), max(run[i][1] for run in runs)) for i in range(len(programs))], same
 
 
 def print_event_costs(fewer, more):
-    """What one of a million further events costs each program."""
+    """Prints what one of a million further events costs each program."""
     cells = []
     for (seconds, memory), (more_seconds, more_memory) in zip(fewer, more):
         cells.append("%5.0f ns %5.1f bytes" % ((more_seconds - seconds) * 1e3, (more_memory - memory) * 1024 / 1e6))
@@ -153,9 +156,13 @@ def print_event_costs(fewer, more):
 
 def main():
     parser = argparse.ArgumentParser(description=__doc__, formatter_class=argparse.RawDescriptionHelpFormatter)
-    parser.add_argument("--beside", help="another program to run in turn with this one")
-    beside = parser.parse_args().beside
-    programs = [PROGRAM] + ([beside] if beside else [])
+    parser.add_argument("--program", metavar="FILE", default=PROGRAM, help="the built scribmon")
+    parser.add_argument("--beside", metavar="FILE", help="another program to run in turn with it")
+    options = parser.parse_args()
+    programs = [options.program] + ([options.beside] if options.beside else [])
+    for program in programs:
+        if not os.path.exists(program):
+            parser.error("%s is not built: make build" % program)
     costs = {}
     with tempfile.TemporaryDirectory() as folder:
         for name, make in SCRIPTS:

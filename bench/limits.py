@@ -1,11 +1,11 @@
 #!/usr/bin/env python3
-"""Prints what the dearest inputs within the limits cost that are known here.
+"""Prints the cost of the dearest known inputs within the limits.
 
     limits.py [--program FILE]
 
-Run it from anywhere, after `make run`. For each script it prints its bytes, the bytes of the output, the seconds of
-processor time and the most memory that `watch`, or last `run`, took. docs/LIMITS.md says what each of them is. It
-needs 2 GB of memory, and is no test.
+Run it from anywhere, after `make build`. For each script it prints the bytes in, the bytes out, the seconds of
+processor time and the most memory of `watch`, or of `run` for the last one. docs/PERFORMANCE.md has such figures. It
+needs 2 GB of memory, and is no test. Status: 0 fine, 1 a script was not written, 2 a bad command line.
 """
 
 import argparse
@@ -26,7 +26,7 @@ CHOICE = "choice at R0 { a() from R0 to R1; } or { b() from R0 to R1; }\n"
 
 
 def long_protocols(protocols, count):
-    """So many protocols, each of about 4,090 nodes for so many roles: one of messages round the roles, and calls of it."""
+    """So many protocols of about 4,090 nodes, each for so many roles: one of messages in a ring, and calls of it."""
     roles = ["R%d" % i for i in range(count)]
     declared = ", ".join("role " + role for role in roles)
     body = " ".join("m%d() from %s to %s;" % (i % 7, roles[i % count], roles[(i + 1) % count]) for i in range(4090))
@@ -37,7 +37,7 @@ def long_protocols(protocols, count):
 
 
 def wide_protocols(protocols, count):
-    """So many protocols of 65,535 nodes and more, for so many roles: fifteen choices of two messages one after another."""
+    """So many protocols of 65,535 nodes and more, for so many roles: fifteen choices of two messages in a row."""
     roles = ["R%d" % i for i in range(count)]
     declared = ", ".join("role " + role for role in roles)
     text = "module w;\n"
@@ -47,7 +47,7 @@ def wide_protocols(protocols, count):
 
 
 def many_loops():
-    """2,000 loops one after another, each of which is left by a choice, and fourteen choices behind them."""
+    """2,000 loops in a row, each with a choice that leaves it, and fourteen choices behind them."""
     loop = "rec X { choice at R0 { a() from R0 to R1; continue X; } or { b() from R0 to R1; } }\n"
     return put("module l;\nglobal protocol L(role R0, role R1) {\n%s%s}\n" % (loop * 2000, CHOICE * 14))
 
@@ -59,14 +59,14 @@ def wide_choice():
 
 
 def choice_of_one_hash():
-    """One choice of 18,000 messages whose operators have one hash: `Ab` counts as much as `BA`."""
+    """One choice of 18,000 messages whose operators have one hash: `Ab` and `BA` hash alike."""
     operators = ("".join(("Ab", "BA")[i >> k & 1] for k in range(15)) for i in range(18_000))
     branches = " or ".join("{ %s() from R0 to R1; }" % operator for operator in operators)
     return put("module h;\nglobal protocol H(role R0, role R1) { choice at R0 %s }\n" % branches)
 
 
 def learned_choice():
-    """One choice of 16,000 messages, of which a third role is told, where receptions merge."""
+    """One choice of 16,000 messages, which a third role learns from its own messages, under the profile `reception`."""
     branches = " or ".join("{ m%d() from R0 to R1; m%d() from R0 to R2; }" % (i, i) for i in range(16_000))
     text = "module r;\nglobal protocol R(role R0, role R1, role R2) { choice at R0 %s }\n" % branches
     return "profile reception\n" + put(text)
@@ -83,7 +83,7 @@ def large_modules():
 
 
 def long_replies():
-    """A choice of 1,500 operators of 128 bytes, and 2,000 events after an offence at it."""
+    """A choice of 1,500 operators of 128 bytes, and 2,000 events behind an offence there."""
     branches = " or ".join("{ %s%04d() from A to B; }" % ("o" * 124, i) for i in range(1500))
     text = "module d; global protocol D(role A, role B) { choice at A %s }" % branches
     return put(text) + "open 1 d.D\njoin 1 A\njoin 1 B\n" + "send 1 A B x()\n" * 2000
@@ -105,7 +105,7 @@ def wide_events():
 
 
 def write(path, make):
-    """Writes the script in a process of its own. The most memory that this one took would be told of all that it starts."""
+    """Writes the script in a process of its own: the most memory of each child begins with that of this process."""
     writer = os.fork()
     if writer == 0:
         with open(path, "w") as file:
@@ -116,25 +116,25 @@ def write(path, make):
 
 
 def cost(program, name, make, command="watch"):
-    """Prints what a script costs under `watch`, or as the setup of `run` with a connection that says nothing."""
+    """Prints what a script costs under `watch`, or as the setup of `run` with one empty connection."""
     with tempfile.TemporaryDirectory() as folder:
-        path, said = os.path.join(folder, "script"), os.path.join(folder, "said")
+        path, printed = os.path.join(folder, "script"), os.path.join(folder, "printed")
         write(path, make)
         words = [program, command, path] + ([os.devnull] if command == "run" else [])
-        with open(said, "wb") as file:
+        with open(printed, "wb") as file:
             ran = subprocess.Popen(words, stdout=file)
             _, status, used = os.wait4(ran.pid, 0)
         line = "%-16s %9d bytes in, %9d out, %6.2f s, %7.1f MB" % (
-            name, os.path.getsize(path), os.path.getsize(said), used.ru_utime + used.ru_stime, used.ru_maxrss / 1024)
+            name, os.path.getsize(path), os.path.getsize(printed), used.ru_utime + used.ru_stime, used.ru_maxrss / 1024)
         print(line if status == 0 else line + ", status %d" % status)
 
 
 def main():
-    parser = argparse.ArgumentParser()
-    parser.add_argument("--program", default=PROGRAM)
+    parser = argparse.ArgumentParser(description=__doc__, formatter_class=argparse.RawDescriptionHelpFormatter)
+    parser.add_argument("--program", metavar="FILE", default=PROGRAM, help="the built scribmon")
     program = parser.parse_args().program
     if not os.path.exists(program):
-        sys.exit("there is no program yet: make run")
+        parser.error("%s is not built: make build" % program)
     cost(program, "one long type", lambda: long_protocols(1, 2))
     cost(program, "one wide type", lambda: wide_protocols(1, 2))
     cost(program, "a wide type, 64", lambda: wide_protocols(1, 64))

@@ -3,17 +3,18 @@
 
     machines.py [--rt RT]
 
-Run it from anywhere, best after `make run`: it copies the crates that it needs, with what was proved of them, into a
-new folder, proves and builds the program of `machine_times/` there, which reads no clock, and runs it with two counts
-of rounds. What one round takes is the difference of their processor times by that of the counts; the best of five
-runs counts. The program's files end in `.txt` here, since they are of no crate of this repository, and the gate would
-stop at them. Prints, of machines with so many states, nanoseconds for a step in a state with so many branches (the
-mean of its actions, on a walk from choice to choice); and, of local types with so many nodes, nanoseconds of
-`compile` for each node. It is no test.
+Run it from anywhere, best after `make build`, which keeps proofs that this script uses again. It copies the crates
+that it needs into a new folder, and proves and builds the program of `machine_times/` there. The names of that
+program's files end in `.txt`, since the gate refuses Rattle files outside crates. The program reads no clock: it is
+run with two counts of rounds, and a round takes the difference of the processor times by that of the counts. The best
+of five runs counts. Prints nanoseconds for a step, by states of the machine and branches of the state: the mean of
+the state's actions, on a walk from choice to choice. Prints nanoseconds of `compile` for a node, by nodes of the
+local type. It is no test. Status: 0 fine, 1 the program was not built or made too few steps, 2 a bad command line.
 """
 
 import argparse
 import os
+import re
 import resource
 import shutil
 import subprocess
@@ -27,7 +28,7 @@ RUNS = 5
 
 
 def choice(width, goes_on, others):
-    """A choice of so many branches, of which the last in the order of printed actions goes on."""
+    """A choice of so many branches. The last of them, in the order of printed actions, goes on."""
     blocks = ["m%02d() from A to B; %s" % (i, goes_on if i == width - 1 else others) for i in range(width)]
     return "choice at A { %s }\n" % " } or { ".join(blocks)
 
@@ -37,13 +38,13 @@ def module(body):
 
 
 def pair(width):
-    """Two states: a choice that comes back by all branches but the first, and an end."""
+    """Two states: a choice to which all branches but the first return, and an end."""
     blocks = ["m%02d() from A to B; %s" % (i, "continue X;" if i else "") for i in range(width)]
     return module("rec X { choice at A { %s } }" % " } or { ".join(blocks))
 
 
 def ring(line, choices, width):
-    """A line of sends, and then a ring of choices, which each branch but one begins again."""
+    """A line of sends, and then a ring of choices. Each branch of a choice but one begins the ring again."""
     ring = choice(width, "", "continue Y;") * (choices - 1) + choice(width, "continue Y;", "continue Y;")
     return module("s() from A to B;\n" * line + "rec Y {\n%s}\n" % ring)
 
@@ -64,7 +65,7 @@ TYPES = [
 
 
 def build(rt, folder):
-    """The built program."""
+    """The path of the program, proved and built in this folder."""
     lines = []
     with open(os.path.join(TOP, "crates.txt"), encoding="utf-8") as crates:
         lines = [line for line in crates if line.split(":")[0] in CRATES]
@@ -78,7 +79,7 @@ def build(rt, folder):
         to = os.path.join(home, os.path.relpath(path, source))
         os.makedirs(to)
         for name in names:
-            shutil.copy(os.path.join(path, name), os.path.join(to, name.removesuffix(".txt")))
+            shutil.copy(os.path.join(path, name), os.path.join(to, re.sub(r"\.txt$", "", name)))
     done = subprocess.run([rt, "run", "--", "step", "0"], cwd=home, input=STEPS[0][2].encode(), capture_output=True)
     if done.returncode != 0:
         sys.exit(done.stdout.decode() + done.stderr.decode())
@@ -86,7 +87,7 @@ def build(rt, folder):
 
 
 def seconds(program, work, rounds, text):
-    """Processor time of one run, and what it printed."""
+    """The processor time of one run, and the number that it printed."""
     before = resource.getrusage(resource.RUSAGE_CHILDREN)
     done = subprocess.run([program, work, str(rounds)], input=text.encode(), capture_output=True, check=True)
     after = resource.getrusage(resource.RUSAGE_CHILDREN)
@@ -94,7 +95,7 @@ def seconds(program, work, rounds, text):
 
 
 def nanoseconds(program, work, rounds, made, text):
-    """Nanoseconds of a round, by its steps or nodes: `made` of them in each. Of steps, all must have been made."""
+    """Nanoseconds of one step or node, where a round has `made` of them. All steps must have been made."""
     few = min(seconds(program, work, rounds // 10, text)[0] for _ in range(RUNS))
     runs = [seconds(program, work, rounds, text) for _ in range(RUNS)]
     if work == "step" and any(run[1] != rounds * made for run in runs):
@@ -105,7 +106,7 @@ def nanoseconds(program, work, rounds, made, text):
 
 def main():
     parser = argparse.ArgumentParser(description=__doc__, formatter_class=argparse.RawDescriptionHelpFormatter)
-    parser.add_argument("--rt", default="rt", help="the kit's command")
+    parser.add_argument("--rt", default=os.environ.get("RT", "rt"), help="the kit's command (default: $RT, else rt)")
     rt = parser.parse_args().rt
     with tempfile.TemporaryDirectory() as folder:
         program = build(rt, folder)

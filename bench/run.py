@@ -1,18 +1,23 @@
 #!/usr/bin/env python3
-"""Times `scribmon run` over the clock.
+"""Times `scribmon run` by the clock.
 
     run.py [--program FILE] [--rounds N] [--events N] [--conversations N] [--cores LIST]
 
-Run it from anywhere, after `make run`; times are those of the clock, so nothing else should run. First four
-connections of 250,000 events each, over 4 shards with 2 workers, against `watch` over the same events in one script,
-and against four times `watch` beside each other over a quarter each, which is the most that the machine gives. Each
-round runs the three in turn, so that a machine that changes its pace does so for all of them; of each the least
-seconds are printed, and how many times as fast as that round's `watch` it was, in the middle of the rounds. Output
-goes nowhere. Then the time from an edit that changes the one protocol of 10,000 conversations of 100 events each
-until none is out of date, with 1, 2 and 4 workers: that of a run whose connection puts the changed text, which
-permits all that the first one does, less that of one whose connection puts the text that stands there, the best of so
-many rounds. --program names another program, --rounds, --events and --conversations other sizes, and --cores keeps
-the runs on these processors, as 2,3. It is no test: it looks only at the number of events in the tables.
+Run it from anywhere, after `make build`, while nothing else runs: times are those of the clock, and output is
+dropped.
+
+First it runs four connections of 250,000 events each, over 4 shards with 2 workers. Beside that it runs `watch` over
+the same events in one script, and four `watch` at once over a quarter each, which is the most that the machine gives.
+Each round runs the three in turn, so that a change of the machine's pace meets all of them. For each it prints the
+least seconds, and the median over the rounds of how many times as fast as that round's `watch` it was.
+
+Then it times an edit of the one protocol of 10,000 conversations with 100 events each, until no verdict is stale,
+with 1, 2 and 4 workers. The time is the difference of two runs, the best of all rounds each. One has a connection
+that puts a changed text, which permits all that the first text permits. In the other the connection puts the first
+text again.
+
+It is no test: it prints the last line of the tables and compares nothing. Status: 0 fine, 1 a command failed, 2 a bad
+command line.
 """
 
 import argparse
@@ -33,7 +38,7 @@ TEXT = "put\nmodule k; global protocol K(role A, role B) { rec X { %s } }\n%%%%\
 
 
 def exchanges(conversation, events):
-    """Lines of so many events of a conversation whose roles joined."""
+    """Lines of so many events of a conversation, behind its joins."""
     turn = ["send %d A B ask(Int)", "recv %d A B ask(Int)", "send %d B A tell(Int,Str)", "recv %d B A tell(Int,Str)"]
     return [turn[i % 4] % conversation for i in range(events)]
 
@@ -50,7 +55,7 @@ def write(folder, name, lines):
 
 
 def seconds_of(commands, cores):
-    """The seconds until these commands, started at once, have ended."""
+    """The seconds until these commands, started together, have all ended."""
     pin = ["taskset", "-c", cores] if cores else []
     begun = time.monotonic()
     running = [subprocess.Popen(pin + words, stdout=subprocess.DEVNULL) for words in commands]
@@ -66,7 +71,7 @@ def last_line(words):
 
 
 def beside_watch(program, folder, events, rounds, cores):
-    """Four connections against one script."""
+    """Prints the times of four connections, of one script, and of four programs at once."""
     setup, connections, quarters, whole = [TEXT % BODY], [], [], [TEXT % BODY]
     for number in range(CONNECTIONS):
         lines, quarter = [], [TEXT % BODY]
@@ -95,7 +100,7 @@ def beside_watch(program, folder, events, rounds, cores):
 
 
 def until_judged(program, folder, conversations, rounds, cores):
-    """An edit under many conversations, until none is out of date."""
+    """Prints the times from an edit under many conversations until no verdict is stale."""
     setup = [TEXT % BODY]
     for conversation in range(conversations):
         setup.append("open %d k.K" % conversation)
@@ -108,19 +113,19 @@ def until_judged(program, folder, conversations, rounds, cores):
         last = last_line(words + [changed])
         without = min(seconds_of([words + [same]], cores) for _ in range(rounds))
         with_edit = min(seconds_of([words + [changed]], cores) for _ in range(rounds))
-        print("until none is out of date, %s workers: %.3f s (%s)" % (workers, with_edit - without, last))
+        print("until no verdict is stale, %s workers: %.3f s (%s)" % (workers, with_edit - without, last))
 
 
 def main():
-    parser = argparse.ArgumentParser()
-    parser.add_argument("--program", default=PROGRAM)
-    parser.add_argument("--rounds", type=int, default=ROUNDS)
-    parser.add_argument("--events", type=int, default=250_000)
-    parser.add_argument("--conversations", type=int, default=10_000)
-    parser.add_argument("--cores")
+    parser = argparse.ArgumentParser(description=__doc__, formatter_class=argparse.RawDescriptionHelpFormatter)
+    parser.add_argument("--program", metavar="FILE", default=PROGRAM, help="the built scribmon")
+    parser.add_argument("--rounds", metavar="N", type=int, default=ROUNDS, help="rounds of each part (default: 10)")
+    parser.add_argument("--events", metavar="N", type=int, default=250_000, help="of a connection (default: 250000)")
+    parser.add_argument("--conversations", metavar="N", type=int, default=10_000, help="of the edit (default: 10000)")
+    parser.add_argument("--cores", metavar="LIST", help="the processors that are used, as 2,3")
     options = parser.parse_args()
     if not os.path.exists(options.program):
-        sys.exit("there is no program yet: make run")
+        parser.error("%s is not built: make build" % options.program)
     with tempfile.TemporaryDirectory() as folder:
         beside_watch(options.program, folder, options.events, options.rounds, options.cores)
         until_judged(options.program, folder, options.conversations, options.rounds, options.cores)

@@ -1,12 +1,15 @@
 #!/usr/bin/env python3
 """Prints a script of generated logs, with edits of their protocol between the events.
 
-Usage: generated_logs.py [SEED]. With no seed it is the example of crates/scrib_rows/stdin that stands behind `judge`, in
-which each verdict that isn't out of date is compared with the judgement of the whole log by the definitions. `watch`
-prints as many such verdicts as the stored output tells.
+    generated_logs.py [--seed N]
+
+With the default seed this is the input of a stored example, `each_verdict_on_generated_logs_with_edits_between_their`
+among the cases of crates/scrib_rows, topic `whole_logs`. That example compares each verdict that is not stale with
+the judgement of the whole log by the definitions. `watch` reads the script too.
 """
+
+import argparse
 import random
-import sys
 
 LOGS = 24
 EVENTS = 40
@@ -16,12 +19,12 @@ TEXTS = [
     HEAD + "(role A, role B) { rec X { a() from A to B; continue X; } }\n%%",
     HEAD + "(role A, role B, role C) { a() from A to B; rec X { a() from A to B; c() from C to B; continue X; } }\n%%",
 ]
-# What happens now and then, whatever went before.
+# One event in a hundred is one of these, whatever the log holds.
 OTHERS = ["join {} C", "join {} A", "recv {} A B b()", "recv {} A B a()", "send {} C B c()", "send {} B A a()"]
 
 
 def event(pick, flight):
-    """A sends and B receives, in order, but for some events."""
+    """An event of A and B, which mostly follow the protocol."""
     if pick.random() < 0.01:
         return pick.choice(OTHERS)
     if flight and pick.random() < 0.5:
@@ -31,7 +34,7 @@ def event(pick, flight):
 
 
 def log(pick, id):
-    """A conversation's lines."""
+    """The lines of one conversation."""
     yield pick.choice([TEXTS[0], *TEXTS])
     yield f"open {id} m.P"
     for role in pick.choice(["AB", "AB", "AB", "AB", "AB", "ABC"]):
@@ -47,9 +50,12 @@ def log(pick, id):
 
 
 def main():
-    pick = random.Random(int(sys.argv[1]) if len(sys.argv) > 1 else 2)
+    parser = argparse.ArgumentParser(description=__doc__, formatter_class=argparse.RawDescriptionHelpFormatter)
+    parser.add_argument("--seed", metavar="N", type=int, default=2, help="of the generated events (default: 2)")
+    pick = random.Random(parser.parse_args().seed)
     for id in range(1, LOGS + 1):
         print("\n".join(log(pick, id)))
 
 
-main()
+if __name__ == "__main__":
+    main()

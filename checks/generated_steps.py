@@ -1,11 +1,14 @@
 #!/usr/bin/env python3
-"""Prints examples of generated steps: edits, withdrawals, openings, turns, questions and events, which a service answers.
+"""Prints examples of generated steps: edits, withdrawals, openings, turns, asks and events over a service.
 
-Usage: generated_steps.py [LISTS]. With no number they are the examples of crates/scrib_rows/stdin whose titles begin
-with 'generated steps': eight lists under each profile. A service of two shards runs them beside a core, and where their
-answers differ the output has a line more. What is printed is a script for `watch` too, but for titles and commands.
+    generated_steps.py [--lists N]
+
+Sixteen lists under each profile are the stored examples of the topic `generated_steps`, among the cases of
+crates/scrib_rows. Such an example runs its steps over a service of two shards and beside a core. Where two replies
+differ, its output has one line more. Without titles and commands, each list is a script that `watch` reads too.
 """
-import sys
+
+import argparse
 
 STEPS = 500
 CALLED = "module lib; global protocol P(role A, role B) { a() from A to B; }"
@@ -19,14 +22,14 @@ CHOICE = (
 TEXTS = [CALLED, CALLED_LATER, CALLING, LOOP, CHOICE]
 OPENED = ["open 0 use.Q", "open 1 lib.P", "open 2 k.K", "open 3 k.K"]
 WITHDRAWN = ["withdraw use", "withdraw lib", "withdraw k"]
-# What is done with a conversation whatever went before.
+# Steps of a conversation, whatever its log holds.
 OTHERS = ["ask", "turn", "ask", "turn", "join A", "join C", "send A B b()", "recv A B a(Int)"]
-# What its roles do in turn.
+# The events that follow the protocol, in turn.
 EXCHANGED = ["send A B a()", "recv A B a()"]
 
 
 class Numbers:
-    """Numbers without a pattern that matters: x = 1664525 x + 1013904223 modulo 2^32, of which the upper half counts."""
+    """A linear congruential generator: x = 1664525 x + 1013904223 modulo 2^32, of which the upper 16 bits are used."""
 
     def __init__(self):
         self.last = 1
@@ -47,7 +50,7 @@ def put(text):
 
 
 def line_with(text, id):
-    """The line with the conversation's id behind its word."""
+    """The line with the conversation's number behind its first word."""
     word, _, rest = text.partition(" ")
     return f"{word} {id} {rest}".rstrip()
 
@@ -64,7 +67,7 @@ def next_step(numbers, made):
 
 
 def steps(profile, numbers):
-    """A list of steps: the profile, three modules, four conversations that two roles join, and what the numbers say."""
+    """A list of steps: the profile, three modules, four conversations that two roles join, and generated steps."""
     made = [f"profile {profile}", *map(put, [CALLED, CALLING, LOOP]), *OPENED]
     for id in range(4):
         made += [f"join {id} A", f"join {id} B"]
@@ -74,7 +77,9 @@ def steps(profile, numbers):
 
 
 def main():
-    lists = int(sys.argv[1]) if len(sys.argv) > 1 else 8
+    parser = argparse.ArgumentParser(description=__doc__, formatter_class=argparse.RawDescriptionHelpFormatter)
+    parser.add_argument("--lists", metavar="N", type=int, default=16, help="lists under each profile (default: 16)")
+    lists = parser.parse_args().lists
     numbers = Numbers()
     for profile in ("plain", "reception"):
         for number in range(1, lists + 1):
@@ -82,4 +87,5 @@ def main():
             print("\n".join(steps(profile, numbers)))
 
 
-main()
+if __name__ == "__main__":
+    main()

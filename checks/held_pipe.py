@@ -1,13 +1,19 @@
 #!/usr/bin/env python3
-"""Feeds scribmon by a pipe that stays open, and sees each reply before the next line is sent.
+"""Feeds scribmon through a pipe that stays open, and reads each reply before it sends the next line.
 
-Usage: held_pipe.py PROGRAM. Prints how many replies came, and ends with status 1 where one didn't come within ten
-seconds.
+    held_pipe.py [--program FILE]
+
+Prints how many replies came. Status: 0 fine, 1 a reply is wrong or did not come within ten seconds, 2 a bad command
+line.
 """
+
+import argparse
+import os
 import select
 import subprocess
 import sys
 
+PROGRAM = os.path.join(os.path.dirname(os.path.abspath(__file__)), "..", "crates", "scribmon", "out", "scribmon")
 TEXT = b"""put
 module demo; global protocol Hello(role A, role B) { hello() from A to B; bye() from B to A; }
 %%
@@ -25,7 +31,7 @@ EXCHANGES = [
 
 
 def reply(program, wanted):
-    """The next bytes of the program's output, as many as wanted, or fewer where they don't come in time."""
+    """The next bytes of the program's output: as many as are wanted, or fewer where the rest comes too late."""
     got = b""
     while len(got) < len(wanted):
         ready, _, _ = select.select([program.stdout], [], [], 10)
@@ -36,15 +42,26 @@ def reply(program, wanted):
     return got
 
 
-program = subprocess.Popen([sys.argv[1], "watch"], stdin=subprocess.PIPE, stdout=subprocess.PIPE)
-for line, wanted in EXCHANGES:
-    program.stdin.write(line)
-    program.stdin.flush()
-    got = reply(program, wanted)
-    if got != wanted:
-        print("after", line, "came", got, "and not", wanted)
-        program.kill()
-        sys.exit(1)
-program.stdin.close()
-program.wait()
-print(len(EXCHANGES), "replies, each before the next line was sent")
+def main():
+    parser = argparse.ArgumentParser(description=__doc__, formatter_class=argparse.RawDescriptionHelpFormatter)
+    parser.add_argument("--program", metavar="FILE", default=PROGRAM, help="the built scribmon")
+    options = parser.parse_args()
+    if not os.path.exists(options.program):
+        parser.error("%s is not built: make build" % options.program)
+    program = subprocess.Popen([options.program, "watch"], stdin=subprocess.PIPE, stdout=subprocess.PIPE)
+    for line, wanted in EXCHANGES:
+        program.stdin.write(line)
+        program.stdin.flush()
+        got = reply(program, wanted)
+        if got != wanted:
+            print("after %r came %r and not %r" % (line, got, wanted))
+            program.kill()
+            return 1
+    program.stdin.close()
+    program.wait()
+    print("%d replies, each before the next line was sent" % len(EXCHANGES))
+    return 0
+
+
+if __name__ == "__main__":
+    sys.exit(main())

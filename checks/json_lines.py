@@ -1,20 +1,41 @@
 #!/usr/bin/env python3
-"""Reads JSON lines on standard input back by another parser, and writes each again.
+"""Reads the JSON lines of standard input with Python's parser, and compares each with what that writes of it.
 
-Usage: scribmon watch SCRIPT | json_lines.py. A line that begins with { has to be one object whose keys come in the
-order of their bytes, without blanks; other lines are passed over. Prints how many there were; ends with status 1 at
-one that isn't so, and where there was none.
+    scribmon watch --json SCRIPT | json_lines.py
+
+A line that begins with { must be one object without blanks, with its keys in the order of their bytes. Other lines
+are passed over. Prints how many objects came. Status: 0 fine, 1 a line is wrong or none came, 2 a bad command line.
 """
+
+import argparse
 import json
 import sys
 
-count = 0
-for number, line in enumerate(sys.stdin, 1):
-    if not line.startswith("{"):
-        continue
-    count += 1
-    again = json.dumps(json.loads(line), separators=(",", ":"), sort_keys=True, ensure_ascii=False) + "\n"
-    if again != line:
-        sys.exit(f"line {number} is {line!r}, and written again {again!r}")
-print(count, "lines of JSON")
-sys.exit(0 if count else 1)
+
+def fault_of(line):
+    """What is wrong with a line, or None."""
+    try:
+        value = json.loads(line)
+    except ValueError as fault:
+        return "%r is no JSON: %s" % (line, fault)
+    again = json.dumps(value, separators=(",", ":"), sort_keys=True, ensure_ascii=False) + "\n"
+    return None if again == line else "%r, and written again %r" % (line, again)
+
+
+def main():
+    argparse.ArgumentParser(description=__doc__, formatter_class=argparse.RawDescriptionHelpFormatter).parse_args()
+    count = 0
+    for number, line in enumerate(sys.stdin, 1):
+        if not line.startswith("{"):
+            continue
+        count += 1
+        fault = fault_of(line)
+        if fault:
+            print("line %d: %s" % (number, fault))
+            return 1
+    print("%d lines of JSON" % count)
+    return 0 if count else 1
+
+
+if __name__ == "__main__":
+    sys.exit(main())

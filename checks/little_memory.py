@@ -1,26 +1,31 @@
 #!/usr/bin/env python3
-"""Runs scribmon with its address space cut to 4, 8, 16 and so on to 512 MB, over examples and a long log.
+"""Runs scribmon with its address space cut to 4, 8, 16 and so on to 512 MB, over examples, a long log and a large
+module.
 
-Usage: little_memory.py PROGRAM. Each reply has to be the right one, or `refused OutOfMemory` for a step that then
-made no change: what is answered to the other steps has to be what is answered to them alone with ample memory. Or the
-program ends with `scribmon: out of memory` and status 1 behind some of these replies. Prints for each size how many
-runs answered all, how many steps were refused and how many runs ended early, and ends with status 1 where one did
-anything else, as where it was stopped by a signal.
+    little_memory.py [--program FILE]
+
+A reply must be the right one, or `refused OutOfMemory` for a step that changed nothing: the other replies must be
+those that the other steps alone get with ample memory. The program may also end early, with `scribmon: out of memory`
+and status 1, behind some of these replies. Prints for each size how many runs gave all replies, how many steps were
+refused and how many runs ended early. Status: 0 fine, 1 a run did anything else, 2 a bad command line.
 """
-import glob
+
+import argparse
 import os
 import resource
 import subprocess
 import sys
 
-HERE = os.path.dirname(os.path.abspath(__file__))
+from examples import read_numbered
+
+PROGRAM = os.path.join(os.path.dirname(os.path.abspath(__file__)), "..", "crates", "scribmon", "out", "scribmon")
 REFUSED = b"refused OutOfMemory"
 SIZES = [4, 8, 16, 32, 64, 128, 256, 512]
 EXCHANGES = [b"send 1 A B a()", b"recv 1 A B a()"]
 
 
 def steps_of(script):
-    """The script, cut behind each line or module text that is answered."""
+    """The parts of the script that get one reply each: a line, or a module text with its `put`."""
     steps, text = [], b""
     for line in script.split(b"\n"):
         word = line.strip()
@@ -37,16 +42,16 @@ def steps_of(script):
 
 
 def run(program, script, megabytes):
-    """The lines of the replies, the last line of standard error, and the status."""
+    """The replies, the lines of standard error, and the status."""
     def cut():
         if megabytes:
             resource.setrlimit(resource.RLIMIT_AS, (megabytes << 20, megabytes << 20))
     done = subprocess.run([program, "watch"], input=script, capture_output=True, preexec_fn=cut)
-    return done.stdout.split(b"\n")[:-1], done.stderr.strip().split(b"\n")[-1], done.returncode
+    return done.stdout.split(b"\n")[:-1], done.stderr.splitlines(), done.returncode
 
 
 def long_log():
-    """A protocol's conversation of many messages in flight, and then as many received."""
+    """A log of 32,000 sends and then as many receives."""
     lines = [b"put", b"module k; global protocol K(role A, role B) { rec X { a() from A to B; continue X; } }", b"%%"]
     lines += [b"open 1 k.K", b"join 1 A", b"join 1 B"]
     lines += [EXCHANGES[0]] * 32_000 + [EXCHANGES[1]] * 32_000 + [b"ask 1"]
@@ -54,20 +59,21 @@ def long_log():
 
 
 def large_module():
-    """A text of 1 MB, put twice with another body."""
+    """A module text of 1 MB, put twice with two bodies, and two events."""
     step = b"message(Int, Str) from First to Second; " * 100
     body = b"".join(b"global protocol P%d(role First, role Second) { %s }\n" % (i, step) for i in range(250))
     put = b"put\nmodule m;\n%s%%%%\n"
-    return put % body + put % body.replace(b"Int", b"Nat") + b"open 1 m.P3\njoin 1 First\nsend 1 First Second message(Nat,Str)\n"
+    events = b"open 1 m.P3\njoin 1 First\nsend 1 First Second message(Nat,Str)\n"
+    return put % body + put % body.replace(b"Int", b"Nat") + events
 
 
 def fault_of(program, script, megabytes, counts):
-    """What is wrong with a run, or nothing."""
+    """What is wrong with a run, or None."""
     steps = steps_of(script)
-    replies, complaint, status = run(program, script, megabytes)
-    ended = status == 1 and complaint == b"scribmon: out of memory"
-    if not ended and (status != 0 or complaint):
-        return "status %d, %r" % (status, complaint)
+    replies, complaints, status = run(program, script, megabytes)
+    ended = status == 1 and b"scribmon: out of memory" in complaints
+    if not ended and (status != 0 or complaints):
+        return "status %d, %r" % (status, complaints)
     if len(replies) > len(steps) or (not ended and len(replies) != len(steps)):
         return "%d replies to %d steps" % (len(replies), len(steps))
     made = [step for step, reply in zip(steps, replies) if reply != REFUSED]
@@ -83,21 +89,26 @@ def fault_of(program, script, megabytes, counts):
 
 
 def main():
-    program = sys.argv[1]
-    scripts = {os.path.basename(path): open(path, "rb").read() for path in glob.glob(os.path.join(HERE, "..", "examples", "*.script"))}
+    parser = argparse.ArgumentParser(description=__doc__, formatter_class=argparse.RawDescriptionHelpFormatter)
+    parser.add_argument("--program", metavar="FILE", default=PROGRAM, help="the built scribmon")
+    options = parser.parse_args()
+    if not os.path.exists(options.program):
+        parser.error("%s is not built: make build" % options.program)
+    scripts = {example.path: example.input for example in read_numbered()}
     scripts["a long log"] = long_log()
     scripts["a large module"] = large_module()
     failed = False
     for megabytes in SIZES:
         counts = {"whole": 0, "refused": 0, "early": 0}
         for name, script in sorted(scripts.items()):
-            fault = fault_of(program, script, megabytes, counts)
+            fault = fault_of(options.program, script, megabytes, counts)
             if fault:
                 print("%d MB, %s: %s" % (megabytes, name, fault))
                 failed = True
-        print("%d MB: %d runs answered all, %d steps were refused, %d runs ended early" % (megabytes, counts["whole"], counts["refused"], counts["early"]))
-    sys.exit(failed)
+        line = "%d MB: %d runs gave all replies, %d steps were refused, %d runs ended early"
+        print(line % (megabytes, counts["whole"], counts["refused"], counts["early"]), flush=True)
+    return 1 if failed else 0
 
 
 if __name__ == "__main__":
-    main()
+    sys.exit(main())
