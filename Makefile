@@ -1,16 +1,57 @@
 # The kit's command; set RT where it isn't on the path.
 RT ?= rt
+PYTHON ?= python3
+PREFIX ?= /usr/local
+PROGRAM = crates/scribmon/out/scribmon
+ROWS = crates/scrib_rows/out/scrib_rows
 
-.PHONY: run test try
+.DEFAULT_GOAL := help
+.PHONY: help run try build install test checks bench prove example examples
 
-# Proves and builds what the program needs, and runs it on the script of the first example.
-run:
-	cd crates/scribmon && $(RT) run -- watch ../../examples/hello.script
+help: ## prints this table
+	@sed -n 's/^\([a-z]*\):.*## /\1	/p' Makefile | expand -t 12
 
-# Builds the program without proof, and runs it on an offence. Takes a minute or two.
-try:
-	cd crates/scribmon && $(RT) try -- watch < ../../examples/receive_before_send.script
+# Feeds the first example to a program that was compiled without any proof.
+run: ## builds without proof and runs the first example: a minute or two
+	@echo 'Built without proof. make build proves and builds the program, which takes about an hour.'
+	cd crates/scribmon && $(RT) try -- watch < ../../examples/01_hello/receive_before_send.script
 
-# The gate: each proof from nothing, the edits that must be refused, the tests, and the stored run.
-test:
+try: run ## the same as run
+
+build: ## proves and builds crates/scribmon/out/scribmon: about an hour
+	cd crates/scribmon && $(RT) run -- --version
+
+install: ## copies the built program and its man page below PREFIX
+	install -d $(DESTDIR)$(PREFIX)/bin $(DESTDIR)$(PREFIX)/share/man/man1
+	install -m 755 $(PROGRAM) $(DESTDIR)$(PREFIX)/bin/scribmon
+	install -m 644 docs/scribmon.1 $(DESTDIR)$(PREFIX)/share/man/man1/scribmon.1
+
+# Each proof, the edits that must be refused, the tests, and the stored runs by two compilers.
+test: ## the gate: everything from nothing, over an hour
+	$(PYTHON) checks/examples.py check
 	$(RT) ci
+
+examples: ## proves and builds the program of the worked examples, and runs them
+	cd crates/scrib_rows && $(RT) run < /dev/null
+	$(PYTHON) checks/examples.py run
+
+example: ## runs one worked example, NAME=.., without proof where nothing is built
+	$(PYTHON) checks/examples.py run $(NAME)
+
+prove: ## proves one crate, CRATE=.., over what earlier checks kept
+	cd crates/$(CRATE) && $(RT) check
+
+checks: ## tries the built programs outside the gate: some ten minutes
+	$(PYTHON) checks/documents.py
+	$(PYTHON) checks/held_pipe.py
+	$(PYTHON) checks/generated_logs.py | $(PROGRAM) watch --json | $(PYTHON) checks/json_lines.py
+	$(PYTHON) checks/little_memory.py
+	$(PYTHON) checks/broken_input.py --rounds 1000
+	$(PYTHON) checks/refused_memory.py
+
+bench: ## measures the built programs on an idle machine: half an hour
+	$(PYTHON) bench/bench.py
+	$(PYTHON) bench/limits.py
+	$(PYTHON) bench/run.py
+	$(PYTHON) bench/service.py
+	$(PYTHON) bench/machines.py
