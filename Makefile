@@ -3,7 +3,7 @@ RT ?= rt
 PYTHON ?= python3
 PREFIX ?= /usr/local
 PROGRAM = crates/scribmon/out/scribmon
-ROWS = crates/scrib_rows/out/scrib_rows
+ROWS = crates/scrib_examples/out/scrib_examples
 
 .DEFAULT_GOAL := help
 .PHONY: help run try build install test checks bench prove example examples
@@ -32,7 +32,7 @@ test: ## the gate: everything from nothing, over an hour
 	$(RT) ci
 
 examples: ## proves and builds the program of the worked examples, and runs them
-	cd crates/scrib_rows && $(RT) run < /dev/null
+	cd crates/scrib_examples && $(RT) run < /dev/null
 	$(PYTHON) checks/examples.py run
 
 example: ## runs one worked example, NAME=.., without proof where nothing is built

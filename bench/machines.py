@@ -22,7 +22,7 @@ import sys
 import tempfile
 
 TOP = os.path.join(os.path.dirname(os.path.abspath(__file__)), "..")
-CRATES = ["scrib_types", "scrib_lexer", "scrib_parser", "scrib_modules", "scrib_typed", "scrib_elaborate", "scrib_local", "scrib_project", "scrib_machine"]
+CRATES = ["scrib_types", "scrib_lexer", "scrib_parser", "scrib_static_checks", "scrib_type_builder", "scrib_elaborate", "scrib_projection", "scrib_project", "scrib_machine"]
 PROGRAM = "machine_times"
 RUNS = 5
 

@@ -25,7 +25,7 @@ import sys
 import time
 
 HERE = os.path.dirname(os.path.abspath(__file__))
-PROGRAM = os.path.join(HERE, "..", "crates", "scrib_rows", "out", "scrib_rows")
+PROGRAM = os.path.join(HERE, "..", "crates", "scrib_examples", "out", "scrib_examples")
 RUNS = 3
 
 
@@ -72,7 +72,7 @@ def per_note_of_many(program, count, notes, cores):
 
 def main():
     parser = argparse.ArgumentParser(description=__doc__, formatter_class=argparse.RawDescriptionHelpFormatter)
-    parser.add_argument("--program", metavar="FILE", default=PROGRAM, help="the built scrib_rows")
+    parser.add_argument("--program", metavar="FILE", default=PROGRAM, help="the built scrib_examples")
     parser.add_argument("--whole", action="store_true", help="settle a million notes too")
     parser.add_argument("--notes", metavar="N", type=int, default=400_000, help="of the longer run (default: 400000)")
     parser.add_argument("--cores", metavar="LIST", help="the processors that are used, as 2,3")

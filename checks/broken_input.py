@@ -4,7 +4,7 @@
     broken_input.py [--program FILE] [--rows FILE] [--rounds N] [--seed N]
 
 A round is one script. `watch` must end with status 0 and print only lines of the known forms. Where the script is
-UTF-8, scrib_rows compares each verdict that is not stale with the judgement of the whole log by the definitions.
+UTF-8, scrib_examples compares each verdict that is not stale with the judgement of the whole log by the definitions.
 Prints the numbers of rounds and verdicts, or the first script that fails. Status: 0 fine, 1 a script failed, 2 a bad
 command line.
 """
@@ -20,7 +20,7 @@ from examples import read_numbered
 
 CRATES = os.path.join(os.path.dirname(os.path.abspath(__file__)), "..", "crates")
 PROGRAM = os.path.join(CRATES, "scribmon", "out", "scribmon")
-ROWS = os.path.join(CRATES, "scrib_rows", "out", "scrib_rows")
+ROWS = os.path.join(CRATES, "scrib_examples", "out", "scrib_examples")
 NAME = rb"[A-Za-z_][A-Za-z0-9_]*"
 DOTTED = NAME + rb"(\." + NAME + rb")*"
 VERDICT = rb"(stale|permitted|withdrawn|offence at \d+ by " + NAME + rb", allowed: .+)"
@@ -95,7 +95,7 @@ def fault_of(program, rows, script):
 def main():
     parser = argparse.ArgumentParser(description=__doc__, formatter_class=argparse.RawDescriptionHelpFormatter)
     parser.add_argument("--program", metavar="FILE", default=PROGRAM, help="the built scribmon")
-    parser.add_argument("--rows", metavar="FILE", default=ROWS, help="the built scrib_rows")
+    parser.add_argument("--rows", metavar="FILE", default=ROWS, help="the built scrib_examples")
     parser.add_argument("--rounds", metavar="N", type=int, default=2_000, help="how many scripts (default: 2000)")
     parser.add_argument("--seed", metavar="N", type=int, default=1, help="of the random changes (default: 1)")
     options = parser.parse_args()

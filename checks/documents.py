@@ -42,11 +42,11 @@ TOP = os.path.dirname(os.path.dirname(os.path.abspath(__file__)))
 PROGRAM = os.path.join("crates", "scribmon", "out", "scribmon")
 USAGE, MANUAL = "docs/USAGE.md", "docs/scribmon.1"
 PAGES = ["README.md", "HACKING.md", "CHANGELOG.md", "docs/*.md", "examples/**/README.md", "checks/README.md",
-         "bench/README.md", "crates/*/README.md", "crates/scrib_rows/cases/README.md"]
+         "bench/README.md", "crates/*/README.md", "crates/scrib_examples/cases/README.md"]
 COPIED = ["examples", "checks", "bench", "docs"]
 UNREAD_FOLDERS = {".git", ".ci", "out", "__pycache__"}
 SOURCES = ["crates/*/src/**/*.rt", "crates/*/specs/**/*.antt", "crates/*/proofs/**/*.antt", "crates.txt",
-           "checks/**/*.py", "bench/**/*.py", "crates/scrib_rows/cases/**/*.py", "examples/**/*"]
+           "checks/**/*.py", "bench/**/*.py", "crates/scrib_examples/cases/**/*.py", "examples/**/*"]
 INFO_WORDS = {"console", "sh", "script", "scribble", "json", "text", "rust", "ebnf", "antt", "dot", "make", "yaml"}
 # Blocks of these kinds show code or what is not tried: their words don't excuse a name in the text around them.
 UNTRIED_WORDS = {"rust", "antt", "sh"}
@@ -531,7 +531,7 @@ def command_flags(program: str) -> Dict[str, Set[str]]:
 def script_flags(top: str) -> Set[str]:
     """The flags of the repository's scripts."""
     flags: Set[str] = set()
-    for folder in ("checks", "bench", "examples", "crates/scrib_rows/cases"):
+    for folder in ("checks", "bench", "examples", "crates/scrib_examples/cases"):
         for path in glob.glob(os.path.join(top, folder, "**/*.py"), recursive=True):
             flags.update(FLAG.findall(read_text(path)))
     return flags

@@ -1,19 +1,19 @@
 #!/usr/bin/env python3
-"""Joins the worked examples into the stored run of scrib_rows, compares it, and runs examples by name.
+"""Joins the worked examples into the stored run of scrib_examples, compares it, and runs examples by name.
 
-    examples.py join                    writes crates/scrib_rows/stdin and stdout
+    examples.py join                    writes crates/scrib_examples/stdin and stdout
     examples.py check                   compares these two files with what `join` would write
     examples.py list [NAME ..]          prints the names and titles of examples
     examples.py run [NAME ..]           runs examples and compares their outputs
 
 An example is a title, a command, an input and an output. It has one of two homes:
 
-- a case: crates/scrib_rows/cases/TOPIC/NAME.in and NAME.out, in the form that the README.md there describes;
+- a case: crates/scrib_examples/cases/TOPIC/NAME.in and NAME.out, in the form that the README.md there describes;
 - a script of a numbered folder of examples/, with NAME.out beside it: see NUMBERED in this file.
 
 A NAME selects the examples of this name (the_queue_is_empty), of this topic or numbered folder (verdicts,
 02_two_buyer), or of both (02_two_buyer/good). Without a NAME all are selected. `run` takes the built program of
-scrib_rows. Where it is not built, `rt try` builds it without proof, in a minute or two; with that program all
+scrib_examples. Where it is not built, `rt try` builds it without proof, in a minute or two; with that program all
 examples together take more than ten minutes. Status: 0 fine, 1 an example is wrong, 2 a bad command line, or no
 program and no `rt`.
 """
@@ -33,10 +33,10 @@ from typing import NamedTuple
 
 TOP = Path(__file__).resolve().parent.parent
 EXAMPLES = TOP / "examples"
-CRATE = TOP / "crates" / "scrib_rows"
+CRATE = TOP / "crates" / "scrib_examples"
 CASES = CRATE / "cases"
 DATA = CRATE / "data"
-PROGRAM = CRATE / "out" / "scrib_rows"
+PROGRAM = CRATE / "out" / "scrib_examples"
 HEAD = b"Worked examples: a title, a command of the program, and its input.\n"
 # The program splits its input at each mark, at the beginning of a line or not.
 MARK = b"== "
@@ -202,9 +202,9 @@ def differences(examples):
     texts, outputs = split_input(stored_input), split_output(stored_output)
     for example in examples:
         if texts.pop(example.title, None) != example.text:
-            yield "%s: not as in crates/scrib_rows/stdin" % example.path
+            yield "%s: not as in crates/scrib_examples/stdin" % example.path
         if outputs.pop(example.title, None) != example.output:
-            yield "%s: not as in crates/scrib_rows/stdout" % example.path
+            yield "%s: not as in crates/scrib_examples/stdout" % example.path
     for title in sorted({*texts, *outputs}):
         yield "%s: in the stored run alone" % title
     if stored_input != joined_input(examples) or stored_output != joined_output(examples):
@@ -233,8 +233,8 @@ def allow_deep_stacks():
 def output_of_try(rt, text):
     """The same of the program that `rt try` builds without proof."""
     if not shutil.which(rt):
-        raise NoProgram("scrib_rows is not built (make examples builds it), and no command %s is on the path" % rt)
-    print("scrib_rows is not built (make examples builds it): building it without proof", file=sys.stderr, flush=True)
+        raise NoProgram("scrib_examples is not built (make examples builds it), and no command %s is on the path" % rt)
+    print("scrib_examples is not built (make examples builds it): building it without proof", file=sys.stderr, flush=True)
     words = [rt, "try", "--seconds", str(TRY_SECONDS)]
     for path in sorted(path for path in DATA.rglob("*") if path.is_file()):
         words += ["--data", "%s=%s" % (path.relative_to(DATA), path)]
@@ -324,7 +324,7 @@ def parsed():
     lists.set_defaults(run=print_list)
     runs = commands.add_parser("run", help="run examples and compare their outputs")
     runs.set_defaults(run=run)
-    runs.add_argument("--program", metavar="FILE", help="the built scrib_rows")
+    runs.add_argument("--program", metavar="FILE", help="the built scrib_examples")
     runs.add_argument("--rt", default=os.environ.get("RT", "rt"), help="the kit's command (default: $RT, else rt)")
     for command in (lists, runs):
         command.add_argument("names", metavar="NAME", nargs="*", help="an example, a topic or a numbered folder")

@@ -4,7 +4,7 @@
     generated_logs.py [--seed N]
 
 With the default seed this is the input of a stored example, `each_verdict_on_generated_logs_with_edits_between_their`
-among the cases of crates/scrib_rows, topic `whole_logs`. That example compares each verdict that is not stale with
+among the cases of crates/scrib_examples, topic `whole_logs`. That example compares each verdict that is not stale with
 the judgement of the whole log by the definitions. `watch` reads the script too.
 """
 

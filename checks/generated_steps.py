@@ -4,7 +4,7 @@
     generated_steps.py [--lists N]
 
 Sixteen lists under each profile are the stored examples of the topic `generated_steps`, among the cases of
-crates/scrib_rows. Such an example runs its steps over a service of two shards and beside a core. Where two replies
+crates/scrib_examples. Such an example runs its steps over a service of two shards and beside a core. Where two replies
 differ, its output has one line more. Without titles and commands, each list is a script that `watch` reads too.
 """
 

@@ -1,11 +1,11 @@
 #!/usr/bin/env python3
-"""Refuses each request for memory in turn, in worked examples of scrib_rows.
+"""Refuses each request for memory in turn, in worked examples of scrib_examples.
 
     refused_memory.py [--program FILE] [EXAMPLE ..]
 
 An example is run again and again: request 1 is refused, then 2, then 3 and so on, until a run meets no refusal. The
 library of refused_request.c.txt refuses it: `cc` builds that, and the loader puts it before the C library. Where a
-call on a core is refused, scrib_rows compares the core with what it was, and makes the call again. A refused call on
+call on a core is refused, scrib_examples compares the core with what it was, and makes the call again. A refused call on
 a service or on queues it makes again; at any other it begins the example again. The replies must be those of the
 example. Prints for each example how many requests were refused. Status: 0 fine, 1 a run failed, 2 a bad command line.
 """
@@ -17,7 +17,7 @@ import sys
 import tempfile
 
 HERE = os.path.dirname(os.path.abspath(__file__))
-PROGRAM = os.path.join(HERE, "..", "crates", "scrib_rows", "out", "scrib_rows")
+PROGRAM = os.path.join(HERE, "..", "crates", "scrib_examples", "out", "scrib_examples")
 EXAMPLES = """
     conversation called-protocol changed-back withdrawn unmergeable turns json in-flight passes run front-end queues
     copies
@@ -53,7 +53,7 @@ def refuse_each(program, example, shim):
 
 def main():
     parser = argparse.ArgumentParser(description=__doc__, formatter_class=argparse.RawDescriptionHelpFormatter)
-    parser.add_argument("--program", metavar="FILE", default=PROGRAM, help="the built scrib_rows")
+    parser.add_argument("--program", metavar="FILE", default=PROGRAM, help="the built scrib_examples")
     parser.add_argument("examples", metavar="EXAMPLE", nargs="*", help="one of: %s (default: all)" % " ".join(EXAMPLES))
     options = parser.parse_args()
     if not os.path.exists(options.program):

@@ -1,8 +1,8 @@
 -- Which faults come from where.
 use Rattle.std.proofs.Common.{◌≡◌, ◌≢◌, ◌∙◌, true, false, Result, Ok, Err, refl, sym, ap}
 use Rattle.std.specs.Prelude.{IfErr}
-use Rattle.scrib_script.specs.declared.fault.SpellFault.{SpellFault}
-use Rattle.scrib_script.specs.declared.fault.SpellFault.TheVariants as spell
+use Rattle.scrib_script_reader.specs.declared.fault.SpellFault.{SpellFault}
+use Rattle.scrib_script_reader.specs.declared.fault.SpellFault.TheVariants as spell
 use Rattle.scrib_cli.specs.declared.fault.ScriptFault.{ScriptFault}
 use Rattle.scrib_cli.specs.declared.fault.ScriptFault.TheVariants as fault
 use Rattle.scrib_cli.specs.Faults.{fault_of, of_output, of_script}

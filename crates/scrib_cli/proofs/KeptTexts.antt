@@ -3,7 +3,7 @@ use Rattle.std.proofs.Common.{◌≡◌, ◌≤◌, ◌∙◌, ℕ, List, [], �
 use Rattle.std.specs.Prelude.{IfSome}
 use Rattle.std.specs.Io.KnownBytes.{Consumes, Keeps, IsAtEnd}
 use Rattle.std.proofs.lemmas.List.{append-nil, length-take}
-use Rattle.scrib_script.proofs.Bytes.{take_kept, take_of_none}
+use Rattle.scrib_script_reader.proofs.Bytes.{take_kept, take_of_none}
 use Rattle.scrib_cli.proofs.Writes.{consumes_none, consumes_more, consumes_kept}
 
 -- so much was read, and this is kept of it

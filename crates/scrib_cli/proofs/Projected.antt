@@ -22,13 +22,13 @@ use Rattle.scrib_parser.specs.declared.fault.ParseFault.{ParseFault}
 use Rattle.scrib_parser.specs.declared.fault.ParseFault.TheVariants as parse
 use Rattle.scrib_parser.specs.declared.tree.ModuleTree.{ModuleTree}
 use Rattle.scrib_parser.specs.Grammar.{IsFaultOf}
-use Rattle.scrib_modules.specs.Elaboration.{Elaborates, nodes, branch_nodes}
+use Rattle.scrib_static_checks.specs.Elaboration.{Elaborates, nodes, branch_nodes}
 use Rattle.scrib_elaborate.specs.Sound.{is_sound}
 use Rattle.scrib_library.specs.declared.fault.EditFault.{EditFault}
 use Rattle.scrib_library.specs.declared.fault.EditFault.TheVariants as edit
 use Rattle.scrib_library.specs.Made.{edit_fault_of_lex, edit_fault_of_parse}
-use Rattle.scrib_script.specs.Fields.{IsDottedText}
-use Rattle.scrib_script.proofs.Pieces.{dotted-pieces}
+use Rattle.scrib_script_reader.specs.Fields.{IsDottedText}
+use Rattle.scrib_script_reader.proofs.Pieces.{dotted-pieces}
 use Rattle.scrib_cli.specs.declared.fault.ScriptFault.{ScriptFault}
 use Rattle.scrib_cli.specs.declared.full_name.FullName.{FullName}
 use Rattle.scrib_cli.specs.declared.projection.Projection.{Projection}

@@ -4,8 +4,8 @@ use Rattle.std.specs.Prelude.{IfSome}
 use Rattle.std.specs.Io.KnownBytes.{Appends, Consumes, IsAtEnd, Keeps}
 use Rattle.std.proofs.lemmas.List.{append_assoc, append-nil}
 use Rattle.scrib_core.specs.Answers.{State}
-use Rattle.scrib_script.specs.declared.format.Format.{Format}
-use Rattle.scrib_script.specs.Limits.{of_scripts, IsWithin}
+use Rattle.scrib_script_reader.specs.declared.format.Format.{Format}
+use Rattle.scrib_script_reader.specs.Limits.{of_scripts, IsWithin}
 use Rattle.scrib_cli.specs.declared.run.Run.{Run}
 use Rattle.scrib_cli.specs.declared.telling.Telling.{Telling}
 use Rattle.scrib_cli.specs.declared.telling.Telling.TheVariants.{Printed}

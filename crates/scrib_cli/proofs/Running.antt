@@ -14,15 +14,15 @@ use Rattle.scrib_core.specs.declared.reply.Refusal.TheVariants.{OutOfMemory}
 use Rattle.scrib_core.specs.World.{World, Refuses}
 use Rattle.scrib_core.specs.Answers.{State, initial, Answers}
 use Rattle.scrib_core.specs.Held.{state_of}
-use Rattle.scrib_script.specs.declared.format.Format.{Format}
-use Rattle.scrib_script.specs.declared.item.Item.{Item}
-use Rattle.scrib_script.specs.declared.item.Item.TheVariants as item
-use Rattle.scrib_script.specs.declared.script.Script.{Script}
-use Rattle.scrib_script.specs.Scripts.{Spells, lines, steps_of, listed}
-use Rattle.scrib_script.specs.Standing.{Holds, Takes, TakesFront, PassesLimits, EndsIn, Read}
-use Rattle.scrib_script.specs.Limits.{of_scripts, IsPast}
-use Rattle.scrib_script.proofs.Places.{are_spelled}
-use Rattle.scrib_script.proofs.Reading.{read_none, read_more, read_all, read_first, read_past}
+use Rattle.scrib_script_reader.specs.declared.format.Format.{Format}
+use Rattle.scrib_script_reader.specs.declared.item.Item.{Item}
+use Rattle.scrib_script_reader.specs.declared.item.Item.TheVariants as item
+use Rattle.scrib_script_reader.specs.declared.script.Script.{Script}
+use Rattle.scrib_script_reader.specs.Scripts.{Spells, lines, steps_of, listed}
+use Rattle.scrib_script_reader.specs.Standing.{Holds, Takes, TakesFront, PassesLimits, EndsIn, Read}
+use Rattle.scrib_script_reader.specs.Limits.{of_scripts, IsPast}
+use Rattle.scrib_script_reader.proofs.Places.{are_spelled}
+use Rattle.scrib_script_reader.proofs.Reading.{read_none, read_more, read_all, read_first, read_past}
 use Rattle.scrib_cli.specs.declared.run.Run.{Run}
 use Rattle.scrib_cli.specs.declared.telling.Telling.{Telling}
 use Rattle.scrib_cli.specs.declared.telling.Telling.TheVariants.{Printed, Silent}

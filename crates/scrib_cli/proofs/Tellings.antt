@@ -6,9 +6,9 @@ use Rattle.scrib_core.specs.declared.reply.Reply.{Reply}
 use Rattle.scrib_core.specs.declared.reply.Reply.TheVariants.{Refused}
 use Rattle.scrib_core.specs.declared.reply.Refusal.TheVariants.{OutOfMemory}
 use Rattle.scrib_core.specs.Answers.{State, IsAnswered}
-use Rattle.scrib_script.specs.declared.format.Format.{Format}
-use Rattle.scrib_script.specs.declared.item.Item.{Item}
-use Rattle.scrib_script.specs.declared.item.Item.TheVariants as item
+use Rattle.scrib_script_reader.specs.declared.format.Format.{Format}
+use Rattle.scrib_script_reader.specs.declared.item.Item.{Item}
+use Rattle.scrib_script_reader.specs.declared.item.Item.TheVariants as item
 use Rattle.scrib_cli.specs.declared.telling.Telling.{Telling}
 use Rattle.scrib_cli.specs.declared.telling.Telling.TheVariants.{Printed, Silent}
 use Rattle.scrib_cli.specs.Scripts.{AppendsPart, reply_format, reply_text}

@@ -14,8 +14,8 @@ use Rattle.scrib_global.specs.Explained.{IsExplained}
 use Rattle.scrib_report.specs.Lines.{flight_text}
 use Rattle.scrib_cli.specs.declared.explaining.Explained.{Explained}
 use Rattle.scrib_cli.specs.declared.explaining.Explained.TheVariants.{Flights, Refused}
-use Rattle.scrib_script.specs.declared.item.Item.{Item}
-use Rattle.scrib_script.specs.Scripts.{Spells, lines, steps_of}
+use Rattle.scrib_script_reader.specs.declared.item.Item.{Item}
+use Rattle.scrib_script_reader.specs.Scripts.{Spells, lines, steps_of}
 
 -- a line for each message in flight
 abbrev pub flight_lines : List Flight → List ℕ

@@ -1,7 +1,7 @@
 -- What a fault of reading a script is told as (this project's own).
 use Rattle.std.specs.Prelude.{Bool, true, false}
-use Rattle.scrib_script.specs.declared.fault.SpellFault.{SpellFault}
-use Rattle.scrib_script.specs.declared.fault.SpellFault.TheVariants as spell
+use Rattle.scrib_script_reader.specs.declared.fault.SpellFault.{SpellFault}
+use Rattle.scrib_script_reader.specs.declared.fault.SpellFault.TheVariants as spell
 use Rattle.scrib_cli.specs.declared.fault.ScriptFault.{ScriptFault}
 use Rattle.scrib_cli.specs.declared.fault.ScriptFault.TheVariants as fault
 use Rattle.scrib_cli.specs.declared.commands.fault.CommandFault.{CommandFault}

@@ -8,13 +8,13 @@ use Rattle.scrib_core.specs.declared.reply.Refusal.TheVariants.{OutOfMemory}
 use Rattle.scrib_core.specs.declared.step.Step.{Step}
 use Rattle.scrib_core.specs.Answers.{State, initial, IsAnswered, Answers}
 use Rattle.scrib_core.specs.Held.{state_of}
-use Rattle.scrib_script.specs.declared.format.Format.{Format}
-use Rattle.scrib_script.specs.declared.format.Format.TheVariants as format
-use Rattle.scrib_script.specs.declared.item.Item.{Item}
-use Rattle.scrib_script.specs.declared.item.Item.TheVariants as item
-use Rattle.scrib_script.specs.Scripts.{Spells, lines, steps_of}
-use Rattle.scrib_script.specs.Limits.{of_scripts, IsWithin, IsPast}
-use Rattle.scrib_script.specs.Standing.{Read}
+use Rattle.scrib_script_reader.specs.declared.format.Format.{Format}
+use Rattle.scrib_script_reader.specs.declared.format.Format.TheVariants as format
+use Rattle.scrib_script_reader.specs.declared.item.Item.{Item}
+use Rattle.scrib_script_reader.specs.declared.item.Item.TheVariants as item
+use Rattle.scrib_script_reader.specs.Scripts.{Spells, lines, steps_of}
+use Rattle.scrib_script_reader.specs.Limits.{of_scripts, IsWithin, IsPast}
+use Rattle.scrib_script_reader.specs.Standing.{Read}
 use Rattle.scrib_cli.specs.declared.run.Run.{Run}
 use Rattle.scrib_cli.specs.declared.telling.Telling.{Telling}
 use Rattle.scrib_cli.specs.declared.telling.Telling.TheVariants.{Printed, Silent}

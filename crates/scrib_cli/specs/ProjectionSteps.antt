@@ -12,7 +12,7 @@ use Rattle.scrib_parser.specs.declared.tree.ModuleTree.{ModuleTree}
 use Rattle.scrib_project.specs.Faults.{IsUnmergeable, IsPlaced}
 use Rattle.scrib_library.specs.declared.fault.EditFault.{EditFault}
 use Rattle.scrib_library.specs.declared.fault.EditFault.TheVariants as edit
-use Rattle.scrib_script.specs.Fields.{IsDottedText}
+use Rattle.scrib_script_reader.specs.Fields.{IsDottedText}
 use Rattle.scrib_cli.specs.declared.fault.ScriptFault.{ScriptFault}
 use Rattle.scrib_cli.specs.declared.fault.ScriptFault.TheVariants as fault
 use Rattle.scrib_cli.specs.declared.full_name.FullName.{FullName}

@@ -10,13 +10,13 @@ use Rattle.scrib_types.specs.declared.local.Local.{Local}
 use Rattle.scrib_lexer.specs.Lexeme.{Lexeme}
 use Rattle.scrib_lexer.specs.Tokens.{IsTokens}
 use Rattle.scrib_parser.specs.declared.tree.ModuleTree.{ModuleTree}
-use Rattle.scrib_modules.specs.declared.fault.Fault.{Fault}
-use Rattle.scrib_modules.specs.Names.{with_module}
-use Rattle.scrib_modules.specs.Elaboration.{Elaborates}
-use Rattle.scrib_modules.specs.Faults.{IsBroken}
+use Rattle.scrib_static_checks.specs.declared.fault.Fault.{Fault}
+use Rattle.scrib_static_checks.specs.Names.{with_module}
+use Rattle.scrib_static_checks.specs.Elaboration.{Elaborates}
+use Rattle.scrib_static_checks.specs.Faults.{IsBroken}
 use Rattle.scrib_project.specs.declared.fault.Unmergeable.{Unmergeable}
 use Rattle.scrib_project.specs.Faults.{IsUnmergeable, IsPlaced}
-use Rattle.scrib_local.specs.Text.{local_text}
+use Rattle.scrib_projection.specs.Text.{local_text}
 use Rattle.scrib_machine.specs.declared.machine.Edge.{Edge}
 use Rattle.scrib_machine.specs.Machines.{IsMachine, IsSystemOf, Follows}
 use Rattle.scrib_machine.specs.Graph.{graph_text}
@@ -25,7 +25,7 @@ use Rattle.scrib_library.specs.declared.fault.EditFault.TheVariants as edit
 use Rattle.scrib_library.specs.Edits.{Reads, TellsLex, TellsParse}
 use Rattle.scrib_core.specs.declared.reply.Reply.TheVariants as reply
 use Rattle.scrib_core.specs.declared.reply.Refusal.TheVariants as refusal
-use Rattle.scrib_script.specs.Fields.{IsDottedText}
+use Rattle.scrib_script_reader.specs.Fields.{IsDottedText}
 use Rattle.scrib_cli.specs.Scripts.{reply_line}
 use Rattle.scrib_cli.specs.Explanations.{refusal_line}
 use Rattle.scrib_cli.specs.declared.fault.ScriptFault.{ScriptFault}

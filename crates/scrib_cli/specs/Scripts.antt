@@ -6,11 +6,11 @@ use Rattle.scrib_core.specs.declared.reply.Reply.{Reply}
 use Rattle.scrib_core.specs.Answers.{State, initial, Answers}
 use Rattle.scrib_report.specs.Lines.{line_of}
 use Rattle.scrib_report.specs.Json.{json_text}
-use Rattle.scrib_script.specs.declared.format.Format.{Format}
-use Rattle.scrib_script.specs.declared.format.Format.TheVariants as format
-use Rattle.scrib_script.specs.declared.item.Item.{Item}
-use Rattle.scrib_script.specs.declared.item.Item.TheVariants.{Step, BadLine, EndOfText}
-use Rattle.scrib_script.specs.Scripts.{Spells, lines, steps_of}
+use Rattle.scrib_script_reader.specs.declared.format.Format.{Format}
+use Rattle.scrib_script_reader.specs.declared.format.Format.TheVariants as format
+use Rattle.scrib_script_reader.specs.declared.item.Item.{Item}
+use Rattle.scrib_script_reader.specs.declared.item.Item.TheVariants.{Step, BadLine, EndOfText}
+use Rattle.scrib_script_reader.specs.Scripts.{Spells, lines, steps_of}
 
 -- what is written for a line that says nothing: its number, from 1
 abbrev pub bad_line : Format → ℕ → List ℕ

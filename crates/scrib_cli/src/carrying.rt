@@ -13,8 +13,8 @@ use crate::telling::Telling;
 use scrib_core::monitor::Core;
 use scrib_core::reply::{Refusal, Reply};
 use scrib_core::step::Step;
-use scrib_script::format::Format;
-use scrib_script::item::Item;
+use scrib_script_reader::format::Format;
+use scrib_script_reader::item::Item;
 use std::io::Write;
 
 /// Makes the step and writes its reply to a line that asks for this format, or in silence sees that it had memory.

@@ -14,7 +14,7 @@ use crate::writing::flush_out;
 pub use scrib_core::monitor::Core;
 use scrib_core::reply::Reply;
 use scrib_core::step::Step;
-use scrib_script::format::Format;
+use scrib_script_reader::format::Format;
 use std::alloc::Global;
 use std::io::{Read, Write};
 

@@ -8,7 +8,7 @@ ghost use Rattle.scrib_cli.specs.Faults.{of_script};
 ghost use Rattle.scrib_cli.specs.Explanations.{Explanation, IsExplanation};
 ghost use Rattle.scrib_cli.specs.Progress.{Ran};
 ghost use Rattle.scrib_cli.specs.declared.telling.Telling.TheVariants.{Silent};
-ghost use Rattle.scrib_script.specs.Limits.{of_scripts, IsWithin};
+ghost use Rattle.scrib_script_reader.specs.Limits.{of_scripts, IsWithin};
 ghost use Rattle.scrib_cli.specs.declared.explaining.Explained as declared;
 
 pub use crate::explaining::Explained;

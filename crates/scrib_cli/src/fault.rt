@@ -1,6 +1,6 @@
 //! Why a script ended early.
 
-use scrib_script::fault::SpellFault;
+use scrib_script_reader::fault::SpellFault;
 use std::alloc::{AllocError, AllocFailed};
 use thiserror::Error;
 

@@ -1,7 +1,7 @@
 //! The full name of a protocol on a command line.
 
 ghost use Rattle.std.specs.Prelude.{IfOk, option_map};
-ghost use Rattle.scrib_script.specs.Fields.{Finds};
+ghost use Rattle.scrib_script_reader.specs.Fields.{Finds};
 ghost use Rattle.scrib_cli.specs.Projections.{IsFullName};
 ghost use Rattle.scrib_cli.specs.ProjectionSteps.{AreNamesOf};
 

@@ -1,6 +1,6 @@
 //! The id of a conversation on a command line.
 
-ghost use Rattle.scrib_script.specs.Fields.{Finds, IsNumber};
+ghost use Rattle.scrib_script_reader.specs.Fields.{Finds, IsNumber};
 
 // The most digits of an id.
 const MAX_DIGITS: usize = 10;

@@ -7,7 +7,7 @@ ghost use Rattle.scrib_cli.specs.ProjectionSteps.{IsUnreadOrRefused, AreAddedOrF
 use crate::fault::ScriptFault;
 use scrib_lexer::lex::lex;
 use scrib_library::fault::EditFault;
-use scrib_modules::modules::Modules;
+use scrib_static_checks::modules::Modules;
 use scrib_parser::parse::parse;
 use scrib_parser::recent::Recent;
 use scrib_parser::tree::ModuleTree;

@@ -13,7 +13,7 @@ use crate::writing::write_out;
 use scrib_core::reply::Reply;
 use scrib_report::json::json;
 use scrib_report::line::push_whole_line;
-use scrib_script::format::Format;
+use scrib_script_reader::format::Format;
 use scrib_types::text::push_bytes;
 use std::alloc::{AllocError, Global};
 use std::io::Write;

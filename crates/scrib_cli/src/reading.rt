@@ -4,7 +4,7 @@ ghost use Rattle.std.specs.Prelude.{◌≡◌, ◌<◌, true, IfOk, IfErr, IfSom
 ghost use Rattle.scrib_cli.specs.Faults.{of_script};
 
 use crate::fault::ScriptFault;
-use scrib_script::keeping::{KEPT_TEXT_BYTES, keep};
+use scrib_script_reader::keeping::{KEPT_TEXT_BYTES, keep};
 pub use scrib_types::plain::Items;
 use std::alloc::Global;
 use std::io::{ErrorKind, Read};

@@ -4,7 +4,7 @@ use crate::carrying::tell_item;
 use crate::fault::ScriptFault;
 use crate::telling::Telling;
 use scrib_core::monitor::Core;
-use scrib_script::script::Script;
+use scrib_script_reader::script::Script;
 use std::alloc::Global;
 use std::io::Write;
 

@@ -6,14 +6,14 @@ ghost use Rattle.scrib_core.specs.Held.{state_of};
 ghost use Rattle.scrib_cli.specs.Scripts.{IsOutput, AppendsPart};
 ghost use Rattle.scrib_cli.specs.Faults.{of_script};
 ghost use Rattle.scrib_cli.specs.Progress.{IsNew, Ran, RanShort};
-ghost use Rattle.scrib_script.specs.Limits.{of_scripts, IsWithin};
+ghost use Rattle.scrib_script_reader.specs.Limits.{of_scripts, IsWithin};
 
 pub use crate::fault::ScriptFault;
 use crate::run::Run;
 use crate::telling::Telling;
 use crate::writing::flush_out;
 use scrib_core::monitor::Core;
-pub use scrib_script::format::Format;
+pub use scrib_script_reader::format::Format;
 use std::alloc::Global;
 use std::io::{ErrorKind, Read, Write};
 use std::mem::forget;

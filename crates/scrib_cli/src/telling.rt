@@ -1,6 +1,6 @@
 //! What a run does with what it has to tell.
 
-use scrib_script::format::Format;
+use scrib_script_reader::format::Format;
 
 /// What a run does with its replies, with the lines that say nothing, and with an end inside a module text.
 #[derive(Clone, Copy)]

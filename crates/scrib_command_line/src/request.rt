@@ -2,8 +2,8 @@
 
 use clap::ArgMatches;
 use scrib_cli::id::id_of;
-use scrib_run::shape::{Shape, ShapeFault};
-use scrib_script::format::Format;
+use scrib_run_service::shape::{Shape, ShapeFault};
+use scrib_script_reader::format::Format;
 use scrib_types::profile::Profile;
 
 /// The format of what a script doesn't ask for by itself.

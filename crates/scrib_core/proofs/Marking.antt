@@ -12,7 +12,7 @@ use Rattle.scrib_types.specs.declared.event.Verdict.TheVariants.{Permitted, Offe
 use Rattle.scrib_types.specs.declared.event.Event.{Event}
 use Rattle.scrib_types.specs.declared.event.Told.{Told}
 use Rattle.scrib_types.specs.Judgement.{Judges}
-use Rattle.scrib_modules.specs.Names.{dotted_eq}
+use Rattle.scrib_static_checks.specs.Names.{dotted_eq}
 use Rattle.scrib_record.specs.declared.version.Version.{Version}
 use Rattle.scrib_record.specs.Flat.{flat_form}
 use Rattle.scrib_record.specs.Stale.{same_stamp, is_present, is_final, Recorded, is_stale, IsLawful}

@@ -7,7 +7,7 @@ use Rattle.scrib_types.specs.declared.event.Event.{Event}
 use Rattle.scrib_types.specs.declared.event.Verdict.{Verdict}
 use Rattle.scrib_types.specs.declared.protocol.Protocol.{Protocol}
 use Rattle.scrib_types.specs.Meaning.{agreement_of}
-use Rattle.scrib_modules.specs.Names.{dotted_eq}
+use Rattle.scrib_static_checks.specs.Names.{dotted_eq}
 use Rattle.scrib_record.specs.declared.version.Version.{Version}
 use Rattle.scrib_record.specs.Stale.{Recorded, is_final}
 use Rattle.scrib_record.specs.Versions.{meaning_of, number_of}

@@ -12,19 +12,19 @@ use Rattle.scrib_types.specs.Trees.{GlobalTree, GlobalRec, Comm, GlobalBranches,
 use Rattle.scrib_types.specs.Projection.{open_depth, branches_open_depth, is_closed}
 use Rattle.scrib_types.specs.WellFormed.{has_role, distinct_roles, leads_to_communication, uses, distinct_operators, has_branches, well_formed, branches_well_formed}
 use Rattle.scrib_parser.specs.declared.tree.ModuleTree.{ModuleTree}
-use Rattle.scrib_modules.specs.Source.{Body, Then, Statement, Sends, Calls, Blocks}
-use Rattle.scrib_modules.specs.SourceView.{body_of}
-use Rattle.scrib_modules.specs.Names.{Declaration, roles_of, find_protocol, called}
-use Rattle.scrib_modules.specs.Statements.{are_roles, IsCall, KeepsRules, BlockKeeps, StatementKeeps, BlocksKeep}
-use Rattle.scrib_modules.specs.Elaboration.{Scope, role_in, level_of, inside, inside_call, Frames, NoFrame, Under, sent, and_branches, Types, ends, closes, sends, chooses, repeats, passes, continues, calls, JoinsTo, joins_none, joins, nodes, height, start_of, Elaborates}
-use Rattle.scrib_modules.specs.Sizes.{NodesOf, HeightOf}
-use Rattle.scrib_modules.specs.Walking.{IsWithin}
+use Rattle.scrib_static_checks.specs.Source.{Body, Then, Statement, Sends, Calls, Blocks}
+use Rattle.scrib_static_checks.specs.SourceView.{body_of}
+use Rattle.scrib_static_checks.specs.Names.{Declaration, roles_of, find_protocol, called}
+use Rattle.scrib_static_checks.specs.Statements.{are_roles, IsCall, KeepsRules, BlockKeeps, StatementKeeps, BlocksKeep}
+use Rattle.scrib_static_checks.specs.Elaboration.{Scope, role_in, level_of, inside, inside_call, Frames, NoFrame, Under, sent, and_branches, Types, ends, closes, sends, chooses, repeats, passes, continues, calls, JoinsTo, joins_none, joins, nodes, height, start_of, Elaborates}
+use Rattle.scrib_static_checks.specs.Sizes.{NodesOf, HeightOf}
+use Rattle.scrib_static_checks.specs.Walking.{IsWithin}
 use Rattle.scrib_elaborate.specs.Sound.{is_sound}
-use Rattle.scrib_modules.proofs.RulesKept.{of_then, of_or, of_sends, of_chooses, of_repeats, of_calls, of_protocol}
+use Rattle.scrib_static_checks.proofs.RulesKept.{of_then, of_or, of_sends, of_chooses, of_repeats, of_calls, of_protocol}
 use Rattle.scrib_elaborate.proofs.Functional.{types_same}
 use Rattle.scrib_elaborate.proofs.Counted.{counted, measured}
 use Rattle.scrib_elaborate.proofs.RecursionsUsed.{used, in_first}
-use Rattle.scrib_modules.proofs.GivenRoles.{role_itself, role_among, GivesRoles, gives_itself, gives_called}
+use Rattle.scrib_static_checks.proofs.GivenRoles.{role_itself, role_among, GivesRoles, gives_itself, gives_called}
 
 -- no variable counts more recursions than there are
 

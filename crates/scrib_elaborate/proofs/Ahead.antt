@@ -12,19 +12,19 @@ use Rattle.scrib_parser.specs.declared.tree.Block.{Block}
 use Rattle.scrib_elaborate.specs.declared.tasks.Task.{Task}
 use Rattle.scrib_elaborate.specs.declared.tasks.Task.TheVariants.{Front, Join, Close}
 use Rattle.scrib_elaborate.specs.declared.scope.Scope.{Scope as CodeScope}
-use Rattle.scrib_typed.specs.declared.build_error.BuildError.{BuildError}
-use Rattle.scrib_typed.specs.declared.build_error.BuildError.TheVariants.{Broken, OutOfMemory}
-use Rattle.scrib_modules.specs.Source.{Body, Done, Then, Statement, Chooses, Repeats, Calls}
-use Rattle.scrib_modules.specs.SourceView.{statement_of, body_of, blocks_of}
-use Rattle.scrib_modules.specs.Names.{Declaration, called}
-use Rattle.scrib_modules.specs.Statements.{KeepsRules, StatementKeeps}
-use Rattle.scrib_modules.specs.Elaboration.{continues_in, Scope, inside, inside_call, Frames, NoFrame, Under, ends}
-use Rattle.scrib_modules.specs.Faults.{later, in_choice, in_rec, StandsIn, needs_itself, needs_branch, needs_repeats, needs_passes, needs_calls}
+use Rattle.scrib_type_builder.specs.declared.build_error.BuildError.{BuildError}
+use Rattle.scrib_type_builder.specs.declared.build_error.BuildError.TheVariants.{Broken, OutOfMemory}
+use Rattle.scrib_static_checks.specs.Source.{Body, Done, Then, Statement, Chooses, Repeats, Calls}
+use Rattle.scrib_static_checks.specs.SourceView.{statement_of, body_of, blocks_of}
+use Rattle.scrib_static_checks.specs.Names.{Declaration, called}
+use Rattle.scrib_static_checks.specs.Statements.{KeepsRules, StatementKeeps}
+use Rattle.scrib_static_checks.specs.Elaboration.{continues_in, Scope, inside, inside_call, Frames, NoFrame, Under, ends}
+use Rattle.scrib_static_checks.specs.Faults.{later, in_choice, in_rec, StandsIn, needs_itself, needs_branch, needs_repeats, needs_passes, needs_calls}
 use Rattle.scrib_elaborate.specs.Staying.{Stays}
 use Rattle.scrib_elaborate.specs.Scope.{scope_of, IsSame, IsInside, IsInsideCall}
 use Rattle.scrib_elaborate.specs.Typing.{Made, nothing_made, Target, before, IsFront, Path, IsState, TypingFails, IsAhead, IsTaskAhead, AreAhead, StopsAhead}
-use Rattle.scrib_modules.proofs.RulesKept.{of_then, reaches_on}
-use Rattle.scrib_modules.proofs.Checks.{stands_here}
+use Rattle.scrib_static_checks.proofs.RulesKept.{of_then, reaches_on}
+use Rattle.scrib_static_checks.proofs.Checks.{stands_here}
 use Rattle.scrib_elaborate.proofs.Rounds.{levels_none, levels_rest, levels_chosen, levels_block, levels_passes, levels_repeats}
 use Rattle.scrib_elaborate.proofs.Lifted.{below_more, levels_more}
 use Rattle.scrib_elaborate.proofs.NeededParts.{fails_through, fails_rest}

@@ -2,21 +2,21 @@
 use Rattle.std.proofs.Common.{◌≡◌, ℕ, ◌<◌, true, false, List, length, None, Err, refl, sym, ap, ◌∙◌, subst, ⊎_elim, inl, inr}
 use Rattle.scrib_types.specs.Agreement.{Agreement}
 use Rattle.scrib_parser.specs.declared.tree.ModuleTree.{ModuleTree}
-use Rattle.scrib_modules.specs.declared.declared.Declaration.{Declaration as CodeDeclaration}
+use Rattle.scrib_static_checks.specs.declared.declared.Declaration.{Declaration as CodeDeclaration}
 use Rattle.std.proofs.lemmas.Option.{slice_get_within}
-use Rattle.scrib_modules.specs.declared.checking.State.{State}
-use Rattle.scrib_modules.specs.declared.checking.State.TheVariants.{Walked}
-use Rattle.scrib_modules.specs.declared.fault.ElaborateFault.{ElaborateFault}
-use Rattle.scrib_modules.specs.declared.fault.ElaborateFault.TheVariants as elaborate
-use Rattle.scrib_modules.specs.declared.fault.FaultKind.{FaultKind}
-use Rattle.scrib_modules.specs.declared.fault.FaultKind.TheVariants as kind
-use Rattle.scrib_modules.specs.Names.{Declaration, has_name, module_names, first_where, declarations, is_called}
-use Rattle.scrib_modules.specs.Elaboration.{Elaborates}
-use Rattle.scrib_modules.specs.Faults.{IsAbsent, FailsAt}
+use Rattle.scrib_static_checks.specs.declared.checking.State.{State}
+use Rattle.scrib_static_checks.specs.declared.checking.State.TheVariants.{Walked}
+use Rattle.scrib_static_checks.specs.declared.fault.ElaborateFault.{ElaborateFault}
+use Rattle.scrib_static_checks.specs.declared.fault.ElaborateFault.TheVariants as elaborate
+use Rattle.scrib_static_checks.specs.declared.fault.FaultKind.{FaultKind}
+use Rattle.scrib_static_checks.specs.declared.fault.FaultKind.TheVariants as kind
+use Rattle.scrib_static_checks.specs.Names.{Declaration, has_name, module_names, first_where, declarations, is_called}
+use Rattle.scrib_static_checks.specs.Elaboration.{Elaborates}
+use Rattle.scrib_static_checks.specs.Faults.{IsAbsent, FailsAt}
 use Rattle.scrib_elaborate.specs.Meaning.{Means}
-use Rattle.scrib_modules.specs.Table.{shown, IsFound}
-use Rattle.scrib_modules.specs.Walking.{WasWalked, WalkFails, IsAbsentFault}
-use Rattle.scrib_modules.proofs.Checks.{entry_within}
+use Rattle.scrib_static_checks.specs.Table.{shown, IsFound}
+use Rattle.scrib_static_checks.specs.Walking.{WasWalked, WalkFails, IsAbsentFault}
+use Rattle.scrib_static_checks.proofs.Checks.{entry_within}
 use Rattle.scrib_elaborate.proofs.Refuted.{refuted}
 
 -- the protocol that was asked for isn't there

@@ -4,16 +4,16 @@ use Rattle.scrib_types.specs.declared.spot.Spot.{Spot}
 use Rattle.scrib_types.specs.Trees.{Comm, GlobalBranches}
 use Rattle.scrib_types.specs.WellFormed.{distinct_operators, has_branches}
 use Rattle.scrib_parser.specs.declared.tree.ModuleTree.{ModuleTree}
-use Rattle.scrib_modules.specs.Source.{Body, Done, Then, Statement, NoBlock}
-use Rattle.scrib_modules.specs.SourceView.{body_of}
-use Rattle.scrib_modules.specs.Names.{Declaration, roles_of}
-use Rattle.scrib_modules.specs.Elaboration.{Scope, given_for, role_in, Frames, Under, Types}
-use Rattle.scrib_modules.specs.Faults.{Needs, needs_itself, needs_close, needs_branch, needs_passes, needs_calls}
-use Rattle.scrib_modules.specs.Joining.{AddsNothing, nothing_ends, nothing_repeats, nothing_calls, OnlyJoins, only_ends, only_chooses, only_repeats, only_passes, only_calls, BeginsAt, begins_here, begins_in_rec, begins_in_call, begins_later}
+use Rattle.scrib_static_checks.specs.Source.{Body, Done, Then, Statement, NoBlock}
+use Rattle.scrib_static_checks.specs.SourceView.{body_of}
+use Rattle.scrib_static_checks.specs.Names.{Declaration, roles_of}
+use Rattle.scrib_static_checks.specs.Elaboration.{Scope, given_for, role_in, Frames, Under, Types}
+use Rattle.scrib_static_checks.specs.Faults.{Needs, needs_itself, needs_close, needs_branch, needs_passes, needs_calls}
+use Rattle.scrib_static_checks.specs.Joining.{AddsNothing, nothing_ends, nothing_repeats, nothing_calls, OnlyJoins, only_ends, only_chooses, only_repeats, only_passes, only_calls, BeginsAt, begins_here, begins_in_rec, begins_in_call, begins_later}
 use Rattle.scrib_elaborate.specs.Sites.{IsSite}
 use Rattle.scrib_elaborate.proofs.NeededParts.{needs_trans}
 use Rattle.scrib_elaborate.proofs.Passing.{nothing_unused, only_unused, given_through, only_types}
-use Rattle.scrib_modules.proofs.Shaped.{JoinsCalled, nothing_view, only_view}
+use Rattle.scrib_static_checks.proofs.Shaped.{JoinsCalled, nothing_view, only_view}
 use Rattle.scrib_elaborate.proofs.Sited.{site_through}
 
 -- such a block is made of what follows it

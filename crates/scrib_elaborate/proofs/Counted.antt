@@ -5,12 +5,12 @@ use Rattle.scrib_types.specs.declared.message.Message.{Message}
 use Rattle.scrib_types.specs.declared.spot.Spot.{Spot}
 use Rattle.scrib_types.specs.Trees.{GlobalTree, GlobalEnd, GlobalVar, GlobalRec, Comm, GlobalBranches, NoBranch, Branch}
 use Rattle.scrib_parser.specs.declared.tree.ModuleTree.{ModuleTree}
-use Rattle.scrib_modules.specs.Source.{Body, Done, Then, Sends, Chooses, Repeats, Continues, Calls, Blocks, NoBlock, OrBlock}
-use Rattle.scrib_modules.specs.SourceView.{body_of}
-use Rattle.scrib_modules.specs.Names.{Declaration, called}
-use Rattle.scrib_modules.specs.Elaboration.{continues_in, Scope, role_in, Frames, NoFrame, Under, sent, and_branches, Types, ends, closes, sends, chooses, repeats, passes, continues, calls, JoinsTo, joins_none, joins, nodes, branch_nodes, height, branch_height}
-use Rattle.scrib_modules.specs.Sizes.{Size, size_done, size_sends, size_chooses, size_repeats, size_continues, size_calls, SizeOfBlocks, size_none, size_or}
-use Rattle.scrib_modules.proofs.Grown.{Gathers, sums_gather, heights_gather}
+use Rattle.scrib_static_checks.specs.Source.{Body, Done, Then, Sends, Chooses, Repeats, Continues, Calls, Blocks, NoBlock, OrBlock}
+use Rattle.scrib_static_checks.specs.SourceView.{body_of}
+use Rattle.scrib_static_checks.specs.Names.{Declaration, called}
+use Rattle.scrib_static_checks.specs.Elaboration.{continues_in, Scope, role_in, Frames, NoFrame, Under, sent, and_branches, Types, ends, closes, sends, chooses, repeats, passes, continues, calls, JoinsTo, joins_none, joins, nodes, branch_nodes, height, branch_height}
+use Rattle.scrib_static_checks.specs.Sizes.{Size, size_done, size_sends, size_chooses, size_repeats, size_continues, size_calls, SizeOfBlocks, size_none, size_or}
+use Rattle.scrib_static_checks.proofs.Grown.{Gathers, sums_gather, heights_gather}
 
 -- a size of types, and that of branches, which puts those of the types together
 pub record IsSize (both : ℕ → ℕ → ℕ) (size : GlobalTree → ℕ) (branches : GlobalBranches → ℕ) : Type 0 where

@@ -5,24 +5,24 @@ use Rattle.scrib_types.specs.declared.spot.Spot.{Spot}
 use Rattle.scrib_types.specs.Agreement.{Agreement}
 use Rattle.scrib_types.specs.Trees.{GlobalTree}
 use Rattle.scrib_parser.specs.declared.tree.ModuleTree.{ModuleTree}
-use Rattle.scrib_modules.specs.declared.declared.Declaration.{Declaration as CodeDeclaration}
+use Rattle.scrib_static_checks.specs.declared.declared.Declaration.{Declaration as CodeDeclaration}
 use Rattle.scrib_elaborate.specs.declared.elaborated.Elaborated.{Elaborated}
-use Rattle.scrib_modules.specs.declared.fault.FaultKind.{FaultKind}
-use Rattle.scrib_modules.specs.declared.fault.FaultKind.TheVariants as kind
-use Rattle.scrib_modules.specs.declared.fault.ElaborateFault.{ElaborateFault}
-use Rattle.scrib_modules.specs.declared.checking.BrokenRule.{BrokenRule}
-use Rattle.scrib_modules.specs.declared.checking.State.{State}
-use Rattle.scrib_typed.specs.declared.build_error.BuildError.TheVariants as untyped
-use Rattle.scrib_modules.specs.Names.{Declaration, roles_of, declarations, first_where, is_called}
-use Rattle.scrib_modules.specs.Elaboration.{Types, start_of, Elaborates}
-use Rattle.scrib_modules.specs.Faults.{FailsTyping, Fails, FailsAt}
+use Rattle.scrib_static_checks.specs.declared.fault.FaultKind.{FaultKind}
+use Rattle.scrib_static_checks.specs.declared.fault.FaultKind.TheVariants as kind
+use Rattle.scrib_static_checks.specs.declared.fault.ElaborateFault.{ElaborateFault}
+use Rattle.scrib_static_checks.specs.declared.checking.BrokenRule.{BrokenRule}
+use Rattle.scrib_static_checks.specs.declared.checking.State.{State}
+use Rattle.scrib_type_builder.specs.declared.build_error.BuildError.TheVariants as untyped
+use Rattle.scrib_static_checks.specs.Names.{Declaration, roles_of, declarations, first_where, is_called}
+use Rattle.scrib_static_checks.specs.Elaboration.{Types, start_of, Elaborates}
+use Rattle.scrib_static_checks.specs.Faults.{FailsTyping, Fails, FailsAt}
 use Rattle.scrib_elaborate.specs.Meaning.{meaning_of, Means}
-use Rattle.scrib_modules.specs.Table.{declaration_of, shown, IsFound}
+use Rattle.scrib_static_checks.specs.Table.{declaration_of, shown, IsFound}
 use Rattle.scrib_elaborate.specs.Typing.{TypingFails}
-use Rattle.scrib_modules.specs.Walking.{IsFaultIn, WasWalked, IsSmall, IsCounted}
+use Rattle.scrib_static_checks.specs.Walking.{IsFaultIn, WasWalked, IsSmall, IsCounted}
 use Rattle.scrib_elaborate.proofs.Accepted.{accepted, meaning_same}
 use Rattle.scrib_elaborate.proofs.Answered.{nothing_missed}
-use Rattle.scrib_modules.proofs.Checks.{entry_is}
+use Rattle.scrib_static_checks.proofs.Checks.{entry_is}
 
 -- what was typed is elaborated
 pub elaborated : (ms : List ModuleTree) (ds : List Declaration) (root : Declaration) (count : ℕ) (home : List (List ℕ)) (name : List ℕ) (roles : List (List ℕ)) (g : GlobalTree) → IsCounted ms ds root count home name → roles ≡ roles_of root

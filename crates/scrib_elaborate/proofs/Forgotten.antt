@@ -2,11 +2,11 @@
 use Rattle.std.proofs.Common.{ℕ, List, set, ⊎_elim, ◌∙◌}
 use Rattle.std.proofs.lemmas.List.{length-set}
 use Rattle.scrib_parser.specs.declared.tree.ModuleTree.{ModuleTree}
-use Rattle.scrib_modules.specs.declared.checking.State.{State}
-use Rattle.scrib_modules.specs.declared.checking.State.TheVariants.{Unwalked, Walking, Walked}
-use Rattle.scrib_modules.specs.Names.{Declaration}
-use Rattle.scrib_modules.specs.Walking.{IsIdle}
-use Rattle.scrib_modules.proofs.Walks.{get_set}
+use Rattle.scrib_static_checks.specs.declared.checking.State.{State}
+use Rattle.scrib_static_checks.specs.declared.checking.State.TheVariants.{Unwalked, Walking, Walked}
+use Rattle.scrib_static_checks.specs.Names.{Declaration}
+use Rattle.scrib_static_checks.specs.Walking.{IsIdle}
+use Rattle.scrib_static_checks.proofs.Walks.{get_set}
 
 pub idle_without : (ms : List ModuleTree) (ds : List Declaration) (at : ℕ) (states : List State) → IsIdle ms ds states → IsIdle ms ds (set states at Unwalked)
 idle_without ms ds at states idle = record {

@@ -4,9 +4,9 @@ use Rattle.std.proofs.lemmas.Bool.{false≢true}
 use Rattle.scrib_types.specs.Trees.{GlobalTree, GlobalVar, GlobalRec, Comm, GlobalBranches}
 use Rattle.scrib_types.specs.WellFormed.{has_branches}
 use Rattle.scrib_parser.specs.declared.tree.ModuleTree.{ModuleTree}
-use Rattle.scrib_modules.specs.Source.{Blocks}
-use Rattle.scrib_modules.specs.SourceView.{body_of}
-use Rattle.scrib_modules.specs.Elaboration.{Scope, role_in, inside_call, Frames, Under, sent, and_branches, Types, ends, closes, sends, chooses, repeats, passes, continues, calls, JoinsTo, joins_none, joins}
+use Rattle.scrib_static_checks.specs.Source.{Blocks}
+use Rattle.scrib_static_checks.specs.SourceView.{body_of}
+use Rattle.scrib_static_checks.specs.Elaboration.{Scope, role_in, inside_call, Frames, Under, sent, and_branches, Types, ends, closes, sends, chooses, repeats, passes, continues, calls, JoinsTo, joins_none, joins}
 use Rattle.scrib_elaborate.proofs.Inversion.{type_of_none, type_of_done, type_of_sends, type_of_chooses, type_of_repeats, type_of_continues, type_of_calls, join_of_none, join_of_or}
 
 -- the branches of a join, and their receiver where there is one

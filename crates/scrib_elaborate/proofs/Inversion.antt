@@ -5,10 +5,10 @@ use Rattle.scrib_types.specs.declared.spot.Spot.{Spot}
 use Rattle.scrib_types.specs.Trees.{GlobalTree, GlobalEnd, GlobalVar, GlobalRec, Comm, GlobalBranches, NoBranch}
 use Rattle.scrib_types.specs.WellFormed.{leads_to_communication, distinct_operators, has_branches}
 use Rattle.scrib_parser.specs.declared.tree.ModuleTree.{ModuleTree}
-use Rattle.scrib_modules.specs.Source.{Body, Done, Then, Sends, Chooses, Repeats, Continues, Calls, Blocks, NoBlock, OrBlock}
-use Rattle.scrib_modules.specs.SourceView.{body_of}
-use Rattle.scrib_modules.specs.Names.{Declaration, called}
-use Rattle.scrib_modules.specs.Elaboration.{continues_in, Scope, role_in, level_of, inside, inside_call, Frames, NoFrame, Under, sent, and_branches, Types, ends, closes, sends, chooses, repeats, passes, continues, calls, JoinsTo, joins_none, joins}
+use Rattle.scrib_static_checks.specs.Source.{Body, Done, Then, Sends, Chooses, Repeats, Continues, Calls, Blocks, NoBlock, OrBlock}
+use Rattle.scrib_static_checks.specs.SourceView.{body_of}
+use Rattle.scrib_static_checks.specs.Names.{Declaration, called}
+use Rattle.scrib_static_checks.specs.Elaboration.{continues_in, Scope, role_in, level_of, inside, inside_call, Frames, NoFrame, Under, sent, and_branches, Types, ends, closes, sends, chooses, repeats, passes, continues, calls, JoinsTo, joins_none, joins}
 
 pub type_of_none : {ms : List ModuleTree} {n : ℕ} {g : GlobalTree} → Types ms n NoFrame g → g ≡ GlobalEnd
 type_of_none ends = refl

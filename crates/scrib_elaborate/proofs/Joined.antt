@@ -13,25 +13,25 @@ use Rattle.scrib_types.specs.WellFormed.{same_operator, has_operator, distinct_o
 use Rattle.scrib_parser.specs.declared.tree.ModuleTree.{ModuleTree}
 use Rattle.scrib_parser.specs.declared.tree.Statement.{Statement}
 use Rattle.scrib_parser.specs.declared.tree.Block.{Block}
-use Rattle.scrib_modules.specs.declared.fault.FaultKind.{FaultKind}
-use Rattle.scrib_modules.specs.declared.fault.FaultKind.TheVariants as kind
+use Rattle.scrib_static_checks.specs.declared.fault.FaultKind.{FaultKind}
+use Rattle.scrib_static_checks.specs.declared.fault.FaultKind.TheVariants as kind
 use Rattle.scrib_elaborate.specs.declared.tasks.Task.{Task}
 use Rattle.scrib_elaborate.specs.declared.tasks.Task.TheVariants.{Front, Join}
 use Rattle.scrib_elaborate.specs.declared.tasks.Choosing.{Choosing}
 use Rattle.scrib_elaborate.specs.declared.scope.Scope.{Scope as CodeScope}
-use Rattle.scrib_typed.specs.declared.built.Origin.{Origin}
-use Rattle.scrib_typed.specs.declared.built.Typed.{Typed}
-use Rattle.scrib_typed.specs.declared.build_error.BuildError.{BuildError}
-use Rattle.scrib_typed.specs.declared.build_error.BuildError.TheVariants as untyped
-use Rattle.scrib_modules.specs.Source.{Body, Then, Chooses, Blocks, NoBlock, OrBlock}
-use Rattle.scrib_modules.specs.SourceView.{body_of, blocks_of}
-use Rattle.scrib_modules.specs.Names.{Declaration}
-use Rattle.scrib_modules.specs.Elaboration.{Scope, role_in, Frames, Under, and_branches, sent, Types, ends, closes, sends, chooses, repeats, passes, continues, calls, JoinsTo, joins_none, joins, start_of}
-use Rattle.scrib_modules.specs.Faults.{Stands, StandsIn, in_this, in_other, in_choice, Reaches, blocks_before, Needs, needs_itself, needs_branch, IsBranch, IsOneOf, IsFirstBlock, share_operator, FailsTyping}
+use Rattle.scrib_type_builder.specs.declared.built.Origin.{Origin}
+use Rattle.scrib_type_builder.specs.declared.built.Typed.{Typed}
+use Rattle.scrib_type_builder.specs.declared.build_error.BuildError.{BuildError}
+use Rattle.scrib_type_builder.specs.declared.build_error.BuildError.TheVariants as untyped
+use Rattle.scrib_static_checks.specs.Source.{Body, Then, Chooses, Blocks, NoBlock, OrBlock}
+use Rattle.scrib_static_checks.specs.SourceView.{body_of, blocks_of}
+use Rattle.scrib_static_checks.specs.Names.{Declaration}
+use Rattle.scrib_static_checks.specs.Elaboration.{Scope, role_in, Frames, Under, and_branches, sent, Types, ends, closes, sends, chooses, repeats, passes, continues, calls, JoinsTo, joins_none, joins, start_of}
+use Rattle.scrib_static_checks.specs.Faults.{Stands, StandsIn, in_this, in_other, in_choice, Reaches, blocks_before, Needs, needs_itself, needs_branch, IsBranch, IsOneOf, IsFirstBlock, share_operator, FailsTyping}
 use Rattle.scrib_elaborate.specs.Sites.{communications, branch_communications, has_several, IsSite}
 use Rattle.scrib_elaborate.specs.Scope.{scope_of, IsSame}
-use Rattle.scrib_typed.specs.Typed.{type_of}
-use Rattle.scrib_typed.specs.Rules.{AddsOrigins, IsFirst, IsAdded, HeadFails, IsHeadFault}
+use Rattle.scrib_type_builder.specs.Typed.{type_of}
+use Rattle.scrib_type_builder.specs.Rules.{AddsOrigins, IsFirst, IsAdded, HeadFails, IsHeadFault}
 use Rattle.scrib_elaborate.specs.Typing.{Made, made_of, IsMarked, Makes, Target, FailsUp, AreTyped, Path, IsState, IsBefore, IsChoosing, TypingFails}
 use Rattle.scrib_elaborate.proofs.Rounds.{levels_chosen, levels_block}
 use Rattle.scrib_elaborate.proofs.NeededParts.{fails_through}

@@ -10,19 +10,19 @@ use Rattle.scrib_types.specs.declared.spot.Spot.{Spot}
 use Rattle.scrib_types.specs.Trees.{GlobalTree, GlobalEnd, GlobalVar, GlobalRec, Comm, Flight, GlobalBranches, NoBranch, Branch}
 use Rattle.scrib_types.specs.WellFormed.{leads_to_communication, has_operator, distinct_operators, has_branches, has_role, distinct_roles}
 use Rattle.scrib_parser.specs.declared.tree.ModuleTree.{ModuleTree}
-use Rattle.scrib_typed.specs.declared.built.Origin.{Origin}
-use Rattle.scrib_modules.specs.Source.{Body, Blocks, NoBlock, OrBlock}
-use Rattle.scrib_modules.specs.SourceView.{body_of}
-use Rattle.scrib_modules.specs.Names.{Declaration, roles_of}
-use Rattle.scrib_modules.specs.Statements.{are_roles, IsCall, KeepsRules, BlockKeeps, BlocksKeep}
-use Rattle.scrib_modules.specs.Elaboration.{Scope, given_for, role_in, level_of, inside, inside_call, Frames, NoFrame, Under, sent, and_branches, Types, ends, closes, sends, chooses, repeats, passes, continues, calls, JoinsTo, joins_none, joins, start_of}
-use Rattle.scrib_modules.specs.Faults.{blocks_before, Needs, needs_itself, needs_close, needs_sends, needs_branch, needs_repeats, needs_passes, needs_calls}
+use Rattle.scrib_type_builder.specs.declared.built.Origin.{Origin}
+use Rattle.scrib_static_checks.specs.Source.{Body, Blocks, NoBlock, OrBlock}
+use Rattle.scrib_static_checks.specs.SourceView.{body_of}
+use Rattle.scrib_static_checks.specs.Names.{Declaration, roles_of}
+use Rattle.scrib_static_checks.specs.Statements.{are_roles, IsCall, KeepsRules, BlockKeeps, BlocksKeep}
+use Rattle.scrib_static_checks.specs.Elaboration.{Scope, given_for, role_in, level_of, inside, inside_call, Frames, NoFrame, Under, sent, and_branches, Types, ends, closes, sends, chooses, repeats, passes, continues, calls, JoinsTo, joins_none, joins, start_of}
+use Rattle.scrib_static_checks.specs.Faults.{blocks_before, Needs, needs_itself, needs_close, needs_sends, needs_branch, needs_repeats, needs_passes, needs_calls}
 use Rattle.scrib_elaborate.specs.Levels.{AreBelow}
-use Rattle.scrib_typed.specs.Renaming.{renamed, branches_renamed}
+use Rattle.scrib_type_builder.specs.Renaming.{renamed, branches_renamed}
 use Rattle.scrib_elaborate.specs.Sites.{communications, branch_communications, has_several, is_several, IsSite}
 use Rattle.scrib_elaborate.specs.Typing.{Made, IsMarked, Makes}
-use Rattle.scrib_modules.proofs.GivenRoles.{role_itself, true_or_false}
-use Rattle.scrib_modules.proofs.RulesKept.{of_then, of_chooses, of_repeats, of_or, of_sends, of_calls, of_protocol}
+use Rattle.scrib_static_checks.proofs.GivenRoles.{role_itself, true_or_false}
+use Rattle.scrib_static_checks.proofs.RulesKept.{of_then, of_chooses, of_repeats, of_or, of_sends, of_calls, of_protocol}
 use Rattle.scrib_elaborate.proofs.Lifted.{lift_below, below_more}
 use Rattle.scrib_elaborate.proofs.Sited.{made_from, zip_map}
 

@@ -4,14 +4,14 @@ use Rattle.std.proofs.lemmas.Bool.{false≢true, or_cases}
 use Rattle.scrib_types.specs.declared.spot.Spot.{Spot}
 use Rattle.scrib_types.specs.Trees.{GlobalBranches}
 use Rattle.scrib_parser.specs.declared.tree.ModuleTree.{ModuleTree}
-use Rattle.scrib_modules.specs.declared.fault.FaultKind.{FaultKind}
-use Rattle.scrib_modules.specs.declared.fault.FaultKind.TheVariants as kind
-use Rattle.scrib_modules.specs.Source.{Body, Then, Statement, Repeats, Blocks, NoBlock, OrBlock}
-use Rattle.scrib_modules.specs.Names.{Declaration, called}
-use Rattle.scrib_modules.specs.Statements.{protocol_keeps, BlockKeeps, end_keeps, then_keeps, StatementKeeps, sends_keeps, chooses_keeps, repeats_keeps, continues_keeps, calls_keeps, BlocksKeep, none_keeps, or_keeps}
-use Rattle.scrib_modules.specs.Elaboration.{continues_in, Scope, inside, inside_call, Frames, Under, Types}
-use Rattle.scrib_modules.specs.Faults.{blocks_before, Needs, needs_itself, needs_close, needs_sends, needs_branch, needs_repeats, needs_passes, needs_calls, IsNeeded, IsBranch, IsOneOf, IsFirstBlock, FailsTyping}
-use Rattle.scrib_typed.specs.Lifting.{lifted, branches_lifted}
+use Rattle.scrib_static_checks.specs.declared.fault.FaultKind.{FaultKind}
+use Rattle.scrib_static_checks.specs.declared.fault.FaultKind.TheVariants as kind
+use Rattle.scrib_static_checks.specs.Source.{Body, Then, Statement, Repeats, Blocks, NoBlock, OrBlock}
+use Rattle.scrib_static_checks.specs.Names.{Declaration, called}
+use Rattle.scrib_static_checks.specs.Statements.{protocol_keeps, BlockKeeps, end_keeps, then_keeps, StatementKeeps, sends_keeps, chooses_keeps, repeats_keeps, continues_keeps, calls_keeps, BlocksKeep, none_keeps, or_keeps}
+use Rattle.scrib_static_checks.specs.Elaboration.{continues_in, Scope, inside, inside_call, Frames, Under, Types}
+use Rattle.scrib_static_checks.specs.Faults.{blocks_before, Needs, needs_itself, needs_close, needs_sends, needs_branch, needs_repeats, needs_passes, needs_calls, IsNeeded, IsBranch, IsOneOf, IsFirstBlock, FailsTyping}
+use Rattle.scrib_type_builder.specs.Lifting.{lifted, branches_lifted}
 use Rattle.scrib_elaborate.specs.Levels.{AreBelow}
 use Rattle.scrib_elaborate.proofs.Lifted.{raised_scope, raised, inside_raised, lift_types, leads_lifted, share_lifted, raised_stay, below_more}
 

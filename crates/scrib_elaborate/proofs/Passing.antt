@@ -7,11 +7,11 @@ use Rattle.scrib_types.specs.declared.message.Message.{Message}
 use Rattle.scrib_types.specs.Trees.{GlobalTree, Comm, GlobalBranches, NoBranch, Branch}
 use Rattle.scrib_types.specs.WellFormed.{has_role, distinct_operators, has_branches}
 use Rattle.scrib_parser.specs.declared.tree.ModuleTree.{ModuleTree}
-use Rattle.scrib_modules.specs.Source.{Body, Then, Calls}
-use Rattle.scrib_modules.specs.SourceView.{body_of}
-use Rattle.scrib_modules.specs.Names.{Declaration, roles_of, called}
-use Rattle.scrib_modules.specs.Elaboration.{continues_in, Scope, given_for, role_in, Frames, Under, sent, and_branches, Types, ends, closes, sends, chooses, repeats, passes, continues, calls, joins_none, joins}
-use Rattle.scrib_modules.specs.Joining.{AddsNothing, nothing_ends, nothing_repeats, nothing_calls, OnlyJoins, only_ends, only_chooses, only_repeats, only_passes, only_calls}
+use Rattle.scrib_static_checks.specs.Source.{Body, Then, Calls}
+use Rattle.scrib_static_checks.specs.SourceView.{body_of}
+use Rattle.scrib_static_checks.specs.Names.{Declaration, roles_of, called}
+use Rattle.scrib_static_checks.specs.Elaboration.{continues_in, Scope, given_for, role_in, Frames, Under, sent, and_branches, Types, ends, closes, sends, chooses, repeats, passes, continues, calls, joins_none, joins}
+use Rattle.scrib_static_checks.specs.Joining.{AddsNothing, nothing_ends, nothing_repeats, nothing_calls, OnlyJoins, only_ends, only_chooses, only_repeats, only_passes, only_calls}
 
 -- no recursion is continued in such a block
 

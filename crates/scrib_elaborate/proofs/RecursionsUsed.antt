@@ -8,12 +8,12 @@ use Rattle.scrib_types.specs.declared.spot.Spot.{Spot}
 use Rattle.scrib_types.specs.Trees.{GlobalTree, GlobalBranches, NoBranch, Branch}
 use Rattle.scrib_types.specs.WellFormed.{uses, branches_use}
 use Rattle.scrib_parser.specs.declared.tree.ModuleTree.{ModuleTree}
-use Rattle.scrib_modules.specs.Source.{Body, Done, Then, Statement, Chooses, Repeats, Continues, Calls, Blocks, NoBlock, OrBlock}
-use Rattle.scrib_modules.specs.SourceView.{body_of}
-use Rattle.scrib_modules.specs.Names.{Declaration, called}
-use Rattle.scrib_modules.specs.Statements.{KeepsRules, BlockKeeps, end_keeps, then_keeps, StatementKeeps, BlocksKeep}
-use Rattle.scrib_modules.specs.Elaboration.{continues_in, continues_at, continues_some, Scope, role_in, level_of, inside, inside_call, Frames, NoFrame, Under, sent, and_branches, Types, ends, closes, sends, chooses, repeats, passes, continues, calls, JoinsTo, joins_none, joins}
-use Rattle.scrib_modules.proofs.RulesKept.{of_then, of_none, of_or, of_chooses, of_repeats, of_continues, of_calls, of_protocol}
+use Rattle.scrib_static_checks.specs.Source.{Body, Done, Then, Statement, Chooses, Repeats, Continues, Calls, Blocks, NoBlock, OrBlock}
+use Rattle.scrib_static_checks.specs.SourceView.{body_of}
+use Rattle.scrib_static_checks.specs.Names.{Declaration, called}
+use Rattle.scrib_static_checks.specs.Statements.{KeepsRules, BlockKeeps, end_keeps, then_keeps, StatementKeeps, BlocksKeep}
+use Rattle.scrib_static_checks.specs.Elaboration.{continues_in, continues_at, continues_some, Scope, role_in, level_of, inside, inside_call, Frames, NoFrame, Under, sent, and_branches, Types, ends, closes, sends, chooses, repeats, passes, continues, calls, JoinsTo, joins_none, joins}
+use Rattle.scrib_static_checks.proofs.RulesKept.{of_then, of_none, of_or, of_chooses, of_repeats, of_continues, of_calls, of_protocol}
 use Rattle.scrib_elaborate.proofs.NeededParts.{leads_before}
 
 -- A `continue` of the recursion of this level is reached: it stands in the first block, or this one has an exit

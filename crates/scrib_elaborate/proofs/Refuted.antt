@@ -8,21 +8,21 @@ use Rattle.scrib_types.specs.Agreement.{Agreement}
 use Rattle.scrib_types.specs.Trees.{GlobalTree, Comm, GlobalBranches}
 use Rattle.scrib_types.specs.WellFormed.{has_role, distinct_roles, leads_to_communication, has_branches, distinct_operators}
 use Rattle.scrib_parser.specs.declared.tree.ModuleTree.{ModuleTree}
-use Rattle.scrib_modules.specs.declared.fault.FaultKind.{FaultKind}
-use Rattle.scrib_modules.specs.declared.fault.FaultKind.TheVariants as kind
-use Rattle.scrib_modules.specs.declared.fault.Fault.{Fault}
-use Rattle.scrib_modules.specs.Source.{Body, Then, Calls, Blocks, NoBlock}
-use Rattle.scrib_modules.specs.Names.{Declaration, has_name, distinct_names, roles_of, called_home, called}
-use Rattle.scrib_modules.specs.Statements.{are_roles, KeepsRules}
-use Rattle.scrib_modules.specs.Elaboration.{and_branches, Scope, role_in, inside, Frames, Under, Types, nodes, height, start_of, Elaborates}
-use Rattle.scrib_modules.specs.Sizes.{IsTooLarge}
-use Rattle.scrib_modules.specs.Faults.{HasStatement, IsAgain, HasNoRole, message, choice, call, IsUnreachable, IsLoose, blocks_before, IsNeeded, IsUnguarded, IsBranch, IsWithoutBranch, IsOfAnother, IsToAnother, IsSameOperator, share_operator, Fails, IsInside, IsBroken}
+use Rattle.scrib_static_checks.specs.declared.fault.FaultKind.{FaultKind}
+use Rattle.scrib_static_checks.specs.declared.fault.FaultKind.TheVariants as kind
+use Rattle.scrib_static_checks.specs.declared.fault.Fault.{Fault}
+use Rattle.scrib_static_checks.specs.Source.{Body, Then, Calls, Blocks, NoBlock}
+use Rattle.scrib_static_checks.specs.Names.{Declaration, has_name, distinct_names, roles_of, called_home, called}
+use Rattle.scrib_static_checks.specs.Statements.{are_roles, KeepsRules}
+use Rattle.scrib_static_checks.specs.Elaboration.{and_branches, Scope, role_in, inside, Frames, Under, Types, nodes, height, start_of, Elaborates}
+use Rattle.scrib_static_checks.specs.Sizes.{IsTooLarge}
+use Rattle.scrib_static_checks.specs.Faults.{HasStatement, IsAgain, HasNoRole, message, choice, call, IsUnreachable, IsLoose, blocks_before, IsNeeded, IsUnguarded, IsBranch, IsWithoutBranch, IsOfAnother, IsToAnother, IsSameOperator, share_operator, Fails, IsInside, IsBroken}
 use Rattle.scrib_elaborate.proofs.Inversion.{type_of_chooses, type_of_repeats, join_of_none, join_of_or, IsJoin}
 use Rattle.scrib_elaborate.proofs.Functional.{types_same}
-use Rattle.scrib_modules.proofs.RulesKept.{kept_at, of_then, of_protocol, of_sends, of_chooses, of_continues, step_at, callee, no_cycle, kept_along, step_exits_same}
+use Rattle.scrib_static_checks.proofs.RulesKept.{kept_at, of_then, of_protocol, of_sends, of_chooses, of_continues, step_at, callee, no_cycle, kept_along, step_exits_same}
 use Rattle.scrib_elaborate.proofs.Typed.{split_join, branch_of_join, IsBranchOf, typed_at, not_shared}
 use Rattle.scrib_elaborate.proofs.Counted.{counted, measured}
-use Rattle.scrib_modules.proofs.Distinct.{distinct_roles-again, distinct_names-again, found_nowhere}
+use Rattle.scrib_static_checks.proofs.Distinct.{distinct_roles-again, distinct_names-again, found_nowhere}
 
 -- a name that is declared twice
 

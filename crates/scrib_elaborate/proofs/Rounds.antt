@@ -6,10 +6,10 @@ use Rattle.std.proofs.lemmas.Slice.Eq.{bytes_eq-Decides}
 use Rattle.scrib_types.specs.declared.spot.Spot.{Spot}
 use Rattle.scrib_types.specs.WellFormed.{has_role}
 use Rattle.scrib_parser.specs.declared.tree.Statement.{Statement as ParsedStatement}
-use Rattle.scrib_modules.specs.Source.{Body, Then, Statement, Chooses, Repeats, Blocks, NoBlock, OrBlock}
-use Rattle.scrib_modules.specs.SourceView.{statement_of}
-use Rattle.scrib_modules.specs.Elaboration.{continues_in, continues_at, continues_some, Scope, level_of, inside}
-use Rattle.scrib_modules.specs.Faults.{blocks_before}
+use Rattle.scrib_static_checks.specs.Source.{Body, Then, Statement, Chooses, Repeats, Blocks, NoBlock, OrBlock}
+use Rattle.scrib_static_checks.specs.SourceView.{statement_of}
+use Rattle.scrib_static_checks.specs.Elaboration.{continues_in, continues_at, continues_some, Scope, level_of, inside}
+use Rattle.scrib_static_checks.specs.Faults.{blocks_before}
 use Rattle.scrib_elaborate.specs.Levels.{LevelsBelow}
 use Rattle.scrib_elaborate.specs.Typing.{before, HasLevels, HaveLevels}
 

@@ -6,16 +6,16 @@ use Rattle.scrib_types.specs.declared.message.Message.{Message}
 use Rattle.scrib_types.specs.declared.spot.Spot.{Spot}
 use Rattle.scrib_types.specs.Trees.{GlobalTree, GlobalEnd, GlobalVar, GlobalRec, Comm, Flight, GlobalBranches, NoBranch, Branch}
 use Rattle.scrib_parser.specs.declared.tree.ModuleTree.{ModuleTree}
-use Rattle.scrib_typed.specs.declared.built.Origin.{Origin}
+use Rattle.scrib_type_builder.specs.declared.built.Origin.{Origin}
 use Rattle.scrib_elaborate.specs.declared.elaborated.ChoiceSite.{ChoiceSite}
-use Rattle.scrib_modules.specs.Source.{Then, Chooses}
-use Rattle.scrib_modules.specs.Names.{Declaration}
-use Rattle.scrib_modules.specs.Elaboration.{Frames, NoFrame, Under, and_branches, sent, Types, ends, start_of}
-use Rattle.scrib_modules.specs.Faults.{Needs}
-use Rattle.scrib_typed.specs.Lifting.{lifted, branches_lifted}
+use Rattle.scrib_static_checks.specs.Source.{Then, Chooses}
+use Rattle.scrib_static_checks.specs.Names.{Declaration}
+use Rattle.scrib_static_checks.specs.Elaboration.{Frames, NoFrame, Under, and_branches, sent, Types, ends, start_of}
+use Rattle.scrib_static_checks.specs.Faults.{Needs}
+use Rattle.scrib_type_builder.specs.Lifting.{lifted, branches_lifted}
 use Rattle.scrib_elaborate.specs.Levels.{AreBelow}
 use Rattle.scrib_elaborate.specs.Sites.{communications, branch_communications, has_several, is_several, several_of, IsSite, IsSiteOf}
-use Rattle.scrib_typed.specs.Typed.{none_told, retold}
+use Rattle.scrib_type_builder.specs.Typed.{none_told, retold}
 use Rattle.scrib_elaborate.specs.Typing.{Made, nothing_made, IsMarked, Makes, told_sites}
 use Rattle.scrib_elaborate.proofs.Lifted.{raised_scope, raised, raised_stay, lift_types, lift_below, has_branches_lifted}
 use Rattle.scrib_elaborate.proofs.NeededParts.{needs_trans, needs_deeper, needs_raised}

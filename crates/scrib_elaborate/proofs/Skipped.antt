@@ -7,28 +7,28 @@ use Rattle.scrib_types.specs.declared.spot.Spot.{Spot}
 use Rattle.scrib_types.specs.Trees.{GlobalEnd, Comm}
 use Rattle.scrib_types.specs.WellFormed.{distinct_roles}
 use Rattle.scrib_parser.specs.declared.tree.ModuleTree.{ModuleTree}
-use Rattle.scrib_typed.specs.declared.built.Origin.{Origin}
-use Rattle.scrib_modules.specs.declared.declared.Declaration.{Declaration as CodeDeclaration}
-use Rattle.scrib_modules.specs.declared.shape.Shape.{Shape}
-use Rattle.scrib_modules.specs.declared.shape.Shape.TheVariants.{Nothing, Joining, Other}
+use Rattle.scrib_type_builder.specs.declared.built.Origin.{Origin}
+use Rattle.scrib_static_checks.specs.declared.declared.Declaration.{Declaration as CodeDeclaration}
+use Rattle.scrib_static_checks.specs.declared.shape.Shape.{Shape}
+use Rattle.scrib_static_checks.specs.declared.shape.Shape.TheVariants.{Nothing, Joining, Other}
 use Rattle.scrib_elaborate.specs.declared.tasks.Task.{Task}
-use Rattle.scrib_modules.specs.Source.{Then, Calls}
-use Rattle.scrib_modules.specs.SourceView.{body_of}
-use Rattle.scrib_modules.specs.Names.{Declaration, roles_of, declarations, called}
-use Rattle.scrib_modules.specs.Statements.{KeepsRules}
-use Rattle.scrib_modules.specs.Elaboration.{Scope, given_for, role_in, inside_call, Frames, Under, Types, calls}
-use Rattle.scrib_modules.specs.Faults.{needs_itself, needs_calls}
-use Rattle.scrib_typed.specs.Renaming.{renamed}
-use Rattle.scrib_modules.specs.Shape.{HasShape, IsShapeOf, Passes}
+use Rattle.scrib_static_checks.specs.Source.{Then, Calls}
+use Rattle.scrib_static_checks.specs.SourceView.{body_of}
+use Rattle.scrib_static_checks.specs.Names.{Declaration, roles_of, declarations, called}
+use Rattle.scrib_static_checks.specs.Statements.{KeepsRules}
+use Rattle.scrib_static_checks.specs.Elaboration.{Scope, given_for, role_in, inside_call, Frames, Under, Types, calls}
+use Rattle.scrib_static_checks.specs.Faults.{needs_itself, needs_calls}
+use Rattle.scrib_type_builder.specs.Renaming.{renamed}
+use Rattle.scrib_static_checks.specs.Shape.{HasShape, IsShapeOf, Passes}
 use Rattle.scrib_elaborate.specs.Sites.{communications, IsSite}
-use Rattle.scrib_modules.specs.Table.{declaration_of, shown}
-use Rattle.scrib_typed.specs.Typed.{retold}
+use Rattle.scrib_static_checks.specs.Table.{declaration_of, shown}
+use Rattle.scrib_type_builder.specs.Typed.{retold}
 use Rattle.scrib_elaborate.specs.Typing.{Made, IsMarked, Makes, Target, IsAlone, PassesOn, IsBefore, IsState}
 use Rattle.scrib_elaborate.proofs.Begun.{nothing_needs, only_needs, begins_site}
-use Rattle.scrib_modules.proofs.RulesKept.{of_then, of_calls}
+use Rattle.scrib_static_checks.proofs.RulesKept.{of_then, of_calls}
 use Rattle.scrib_elaborate.proofs.Moved.{made_moved}
 use Rattle.scrib_elaborate.proofs.Passing.{call_of_nothing, call_of_only, typed_branches}
-use Rattle.scrib_modules.proofs.Shaped.{placed_at, given_at}
+use Rattle.scrib_static_checks.proofs.Shaped.{placed_at, given_at}
 use Rattle.scrib_elaborate.proofs.Sited.{site_through, marks_through, marks_retold, made_through, made_from}
 use Rattle.scrib_elaborate.proofs.Steps.{block_kept}
 

@@ -6,12 +6,12 @@ use Rattle.scrib_types.specs.declared.spot.Spot.{Spot}
 use Rattle.scrib_parser.specs.declared.tree.ModuleTree.{ModuleTree}
 use Rattle.scrib_parser.specs.declared.tree.Statement.{Statement as ParsedStatement}
 use Rattle.scrib_parser.specs.declared.tree.Block.{Block}
-use Rattle.scrib_modules.specs.Source.{Body, Done, Then, Statement, Sends, Chooses, Repeats, Calls, Blocks, OrBlock}
-use Rattle.scrib_modules.specs.SourceView.{statement_of, body_of, blocks_of}
-use Rattle.scrib_modules.specs.Names.{Declaration, called}
-use Rattle.scrib_modules.specs.Statements.{KeepsRules, protocol_keeps, BlockKeeps, end_keeps, then_keeps, StatementKeeps, sends_keeps, chooses_keeps, repeats_keeps, continues_keeps, calls_keeps, BlocksKeep, none_keeps, or_keeps}
+use Rattle.scrib_static_checks.specs.Source.{Body, Done, Then, Statement, Sends, Chooses, Repeats, Calls, Blocks, OrBlock}
+use Rattle.scrib_static_checks.specs.SourceView.{statement_of, body_of, blocks_of}
+use Rattle.scrib_static_checks.specs.Names.{Declaration, called}
+use Rattle.scrib_static_checks.specs.Statements.{KeepsRules, protocol_keeps, BlockKeeps, end_keeps, then_keeps, StatementKeeps, sends_keeps, chooses_keeps, repeats_keeps, continues_keeps, calls_keeps, BlocksKeep, none_keeps, or_keeps}
 use Rattle.scrib_elaborate.specs.Staying.{Stays, stays_here, stays_later, StatementStays, chooses_stays, repeats_stays, continues_stays, calls_stays, AllStay, none_stays, all_stay}
-use Rattle.scrib_modules.proofs.Checks.{body_more, blocks_more}
+use Rattle.scrib_static_checks.proofs.Checks.{body_more, blocks_more}
 
 -- what keeps the rules and has no exit
 

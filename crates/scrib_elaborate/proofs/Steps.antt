@@ -12,29 +12,29 @@ use Rattle.scrib_types.specs.Trees.{GlobalVar, GlobalRec}
 use Rattle.scrib_types.specs.WellFormed.{leads_to_communication}
 use Rattle.scrib_parser.specs.declared.tree.ModuleTree.{ModuleTree}
 use Rattle.scrib_parser.specs.declared.tree.Statement.{Statement as ParsedStatement}
-use Rattle.scrib_modules.specs.declared.fault.FaultKind.{FaultKind}
-use Rattle.scrib_modules.specs.declared.fault.FaultKind.TheVariants as kind
-use Rattle.scrib_typed.specs.declared.build_error.BuildError.{BuildError}
-use Rattle.scrib_typed.specs.declared.build_error.BuildError.TheVariants as untyped
+use Rattle.scrib_static_checks.specs.declared.fault.FaultKind.{FaultKind}
+use Rattle.scrib_static_checks.specs.declared.fault.FaultKind.TheVariants as kind
+use Rattle.scrib_type_builder.specs.declared.build_error.BuildError.{BuildError}
+use Rattle.scrib_type_builder.specs.declared.build_error.BuildError.TheVariants as untyped
 use Rattle.scrib_elaborate.specs.declared.tasks.Task.{Task}
 use Rattle.scrib_elaborate.specs.declared.tasks.Task.TheVariants.{Front, Close}
 use Rattle.scrib_elaborate.specs.declared.scope.Scope.{Scope as CodeScope}
-use Rattle.scrib_modules.specs.Source.{Body, Done, Then, Statement, Sends, Repeats, Continues, Calls}
-use Rattle.scrib_modules.specs.SourceView.{statement_of, body_of}
-use Rattle.scrib_modules.specs.Names.{Declaration, find_protocol, last_name, called_home, called}
-use Rattle.scrib_modules.specs.Statements.{KeepsRules, BlockKeeps, StatementKeeps}
-use Rattle.scrib_modules.specs.Elaboration.{continues_in, Scope, role_in, level_of, inside, inside_call, Frames, NoFrame, Under, sent, closes, sends, repeats, passes, continues, calls, start_of}
-use Rattle.scrib_modules.specs.Faults.{Stands, here, later, in_rec, Reaches, itself, needs_itself, needs_close, needs_sends, needs_repeats, needs_passes, needs_calls, FailsTyping}
-use Rattle.scrib_typed.specs.Lifting.{lifted}
+use Rattle.scrib_static_checks.specs.Source.{Body, Done, Then, Statement, Sends, Repeats, Continues, Calls}
+use Rattle.scrib_static_checks.specs.SourceView.{statement_of, body_of}
+use Rattle.scrib_static_checks.specs.Names.{Declaration, find_protocol, last_name, called_home, called}
+use Rattle.scrib_static_checks.specs.Statements.{KeepsRules, BlockKeeps, StatementKeeps}
+use Rattle.scrib_static_checks.specs.Elaboration.{continues_in, Scope, role_in, level_of, inside, inside_call, Frames, NoFrame, Under, sent, closes, sends, repeats, passes, continues, calls, start_of}
+use Rattle.scrib_static_checks.specs.Faults.{Stands, here, later, in_rec, Reaches, itself, needs_itself, needs_close, needs_sends, needs_repeats, needs_passes, needs_calls, FailsTyping}
+use Rattle.scrib_type_builder.specs.Lifting.{lifted}
 use Rattle.scrib_elaborate.specs.Levels.{AreBelow}
-use Rattle.scrib_modules.specs.Table.{IsPart}
+use Rattle.scrib_static_checks.specs.Table.{IsPart}
 use Rattle.scrib_elaborate.specs.Scope.{scope_of, start_scope, IsStart, IsSame, IsInside}
 use Rattle.scrib_elaborate.specs.Sites.{communications}
-use Rattle.scrib_typed.specs.Typed.{none_told}
-use Rattle.scrib_typed.specs.Rules.{IsUnguarded}
+use Rattle.scrib_type_builder.specs.Typed.{none_told}
+use Rattle.scrib_type_builder.specs.Rules.{IsUnguarded}
 use Rattle.scrib_elaborate.specs.Typing.{Made, nothing_made, Makes, Target, whole_target, HasLevels, before, FailsUp, IsFront, Path, IsState, IsBefore, TypingFails}
-use Rattle.scrib_modules.proofs.RulesKept.{of_then, of_continues, of_calls, of_protocol, kept_at, kept_along, reaches_on}
-use Rattle.scrib_modules.proofs.Checks.{stands_here}
+use Rattle.scrib_static_checks.proofs.RulesKept.{of_then, of_continues, of_calls, of_protocol, kept_at, kept_along, reaches_on}
+use Rattle.scrib_static_checks.proofs.Checks.{stands_here}
 use Rattle.scrib_elaborate.proofs.Rounds.{level_below, levels_none, levels_after, levels_passes, levels_repeats}
 use Rattle.scrib_elaborate.proofs.Lifted.{below_more, levels_more}
 use Rattle.scrib_elaborate.proofs.NeededParts.{fails_through, fails_rest}

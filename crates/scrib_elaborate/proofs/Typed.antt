@@ -5,10 +5,10 @@ use Rattle.scrib_types.specs.declared.spot.Spot.{Spot}
 use Rattle.scrib_types.specs.Trees.{GlobalTree, Comm, GlobalBranches, NoBranch, Branch}
 use Rattle.scrib_types.specs.WellFormed.{same_operator, has_operator, distinct_operators}
 use Rattle.scrib_parser.specs.declared.tree.ModuleTree.{ModuleTree}
-use Rattle.scrib_modules.specs.Source.{Body, Blocks, NoBlock, OrBlock}
-use Rattle.scrib_modules.specs.SourceView.{body_of}
-use Rattle.scrib_modules.specs.Elaboration.{Scope, inside_call, Frames, Under, and_branches, Types, JoinsTo, joins_none, joins}
-use Rattle.scrib_modules.specs.Faults.{blocks_before, Needs, needs_itself, needs_close, needs_sends, needs_branch, needs_repeats, needs_passes, needs_calls, share_operator}
+use Rattle.scrib_static_checks.specs.Source.{Body, Blocks, NoBlock, OrBlock}
+use Rattle.scrib_static_checks.specs.SourceView.{body_of}
+use Rattle.scrib_static_checks.specs.Elaboration.{Scope, inside_call, Frames, Under, and_branches, Types, JoinsTo, joins_none, joins}
+use Rattle.scrib_static_checks.specs.Faults.{blocks_before, Needs, needs_itself, needs_close, needs_sends, needs_branch, needs_repeats, needs_passes, needs_calls, share_operator}
 use Rattle.scrib_elaborate.proofs.Inversion.{type_of_done, type_of_sends, type_of_chooses, type_of_repeats, type_of_calls, join_of_or}
 
 -- the branches of the blocks before one, and those of it and the later ones

@@ -3,19 +3,19 @@ use Rattle.std.proofs.Common.{◌≡◌, ℕ, List, [], ◌∷◌, ◌++◌, set
 use Rattle.std.specs.List.{slice_get}
 use Rattle.std.specs.Option.{IfSome}
 use Rattle.scrib_parser.specs.declared.tree.ModuleTree.{ModuleTree}
-use Rattle.scrib_typed.specs.declared.built.Typed.{Typed}
-use Rattle.scrib_modules.specs.declared.declared.Declaration.{Declaration as CodeDeclaration}
-use Rattle.scrib_modules.specs.declared.checking.State.{State}
-use Rattle.scrib_modules.specs.declared.checking.State.TheVariants.{Walked}
-use Rattle.scrib_modules.specs.declared.checking.Summary.{Summary}
-use Rattle.scrib_modules.specs.Elaboration.{start_of}
-use Rattle.scrib_modules.specs.Names.{Declaration}
-use Rattle.scrib_modules.specs.Statements.{KeepsRules}
-use Rattle.scrib_modules.specs.Table.{declaration_of, shown}
+use Rattle.scrib_type_builder.specs.declared.built.Typed.{Typed}
+use Rattle.scrib_static_checks.specs.declared.declared.Declaration.{Declaration as CodeDeclaration}
+use Rattle.scrib_static_checks.specs.declared.checking.State.{State}
+use Rattle.scrib_static_checks.specs.declared.checking.State.TheVariants.{Walked}
+use Rattle.scrib_static_checks.specs.declared.checking.Summary.{Summary}
+use Rattle.scrib_static_checks.specs.Elaboration.{start_of}
+use Rattle.scrib_static_checks.specs.Names.{Declaration}
+use Rattle.scrib_static_checks.specs.Statements.{KeepsRules}
+use Rattle.scrib_static_checks.specs.Table.{declaration_of, shown}
 use Rattle.scrib_elaborate.specs.Typing.{Made, made_of, Makes, IsAlone, AreKnown, AreUnknown, IsAloneAt}
-use Rattle.scrib_modules.specs.Walking.{AreSummaries}
-use Rattle.scrib_modules.proofs.Shown.{there_shown}
-use Rattle.scrib_modules.proofs.Walks.{get_either, get_set}
+use Rattle.scrib_static_checks.specs.Walking.{AreSummaries}
+use Rattle.scrib_static_checks.proofs.Shown.{there_shown}
+use Rattle.scrib_static_checks.proofs.Walks.{get_either, get_set}
 
 pub unknown_none : (known : List (Option Typed)) → known ≡ [] → AreUnknown known
 unknown_none known e = subst AreUnknown (sym e) (λ k o h. absurd (cc h))

@@ -1,7 +1,7 @@
 -- Frames below a number of recursions (this project's own).
 -- Only contracts of private functions cite this file.
 use Rattle.std.specs.Prelude.{ℕ, ◌<◌, List, [], ◌∷◌}
-use Rattle.scrib_modules.specs.Elaboration.{Frames, NoFrame, Under}
+use Rattle.scrib_static_checks.specs.Elaboration.{Frames, NoFrame, Under}
 
 -- all levels in the frames are below n
 

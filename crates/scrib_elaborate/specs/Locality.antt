@@ -11,10 +11,10 @@ use Rattle.scrib_types.specs.Trees.{GlobalTree, GlobalBranches}
 use Rattle.scrib_parser.specs.declared.tree.ModuleTree.{ModuleTree}
 use Rattle.scrib_parser.specs.declared.tree.Import.{Import}
 use Rattle.scrib_parser.specs.declared.tree.ProtocolDeclaration.{ProtocolDeclaration}
-use Rattle.scrib_modules.specs.Source.{Body, Statement, Blocks}
-use Rattle.scrib_modules.specs.Names.{Declaration, dotted_eq, has_name, first_where, known_by, module_names, with_module, declared_in, declarations, is_called, find_protocol, all_but_last, last_name, imported, looked_in, called}
-use Rattle.scrib_modules.specs.Statements.{KeepsRules, protocol_keeps, BlockKeeps, end_keeps, then_keeps, StatementKeeps, sends_keeps, chooses_keeps, repeats_keeps, continues_keeps, calls_keeps, BlocksKeep, none_keeps, or_keeps}
-use Rattle.scrib_modules.specs.Elaboration.{Scope, Frames, NoFrame, Under, Types, ends, closes, sends, chooses, repeats, passes, continues, calls, JoinsTo, joins_none, joins, Elaborates}
+use Rattle.scrib_static_checks.specs.Source.{Body, Statement, Blocks}
+use Rattle.scrib_static_checks.specs.Names.{Declaration, dotted_eq, has_name, first_where, known_by, module_names, with_module, declared_in, declarations, is_called, find_protocol, all_but_last, last_name, imported, looked_in, called}
+use Rattle.scrib_static_checks.specs.Statements.{KeepsRules, protocol_keeps, BlockKeeps, end_keeps, then_keeps, StatementKeeps, sends_keeps, chooses_keeps, repeats_keeps, continues_keeps, calls_keeps, BlocksKeep, none_keeps, or_keeps}
+use Rattle.scrib_static_checks.specs.Elaboration.{Scope, Frames, NoFrame, Under, Types, ends, closes, sends, chooses, repeats, passes, continues, calls, JoinsTo, joins_none, joins, Elaborates}
 
 -- what a module of such a name imports has such a name
 abbrev pub IsClosed : (S : List (List ℕ) → Type 0) → List ModuleTree → Type 0

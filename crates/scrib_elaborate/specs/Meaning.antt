@@ -4,8 +4,8 @@ use Rattle.scrib_types.specs.Agreement.{Agreement}
 use Rattle.scrib_types.specs.GlobalView.{global_of}
 use Rattle.scrib_elaborate.specs.declared.elaborated.Elaborated.{Elaborated}
 use Rattle.scrib_elaborate.specs.declared.elaborated.ChoiceSite.{ChoiceSite}
-use Rattle.scrib_modules.specs.declared.fault.ElaborateFault.{ElaborateFault}
-use Rattle.scrib_modules.specs.declared.fault.ElaborateFault.TheVariants.{Broken, OutOfMemory}
+use Rattle.scrib_static_checks.specs.declared.fault.ElaborateFault.{ElaborateFault}
+use Rattle.scrib_static_checks.specs.declared.fault.ElaborateFault.TheVariants.{Broken, OutOfMemory}
 
 abbrev pub meaning_of : Elaborated → Agreement
 meaning_of e = record { roles = e.roles; global = global_of e.global }

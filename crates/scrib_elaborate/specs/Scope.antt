@@ -3,10 +3,10 @@
 use Rattle.std.specs.Prelude.{◌≡◌, ℕ, ◌+◌, List, [], map}
 use Rattle.scrib_elaborate.specs.declared.scope.Level.{Level}
 use Rattle.scrib_elaborate.specs.declared.scope.Scope.{Scope as CodeScope}
-use Rattle.scrib_typed.specs.Renaming.{named}
-use Rattle.scrib_modules.specs.Names.{Declaration, roles_of}
-use Rattle.scrib_modules.specs.Elaboration.{Scope, inside, inside_call}
-use Rattle.scrib_modules.specs.Table.{declaration_of}
+use Rattle.scrib_type_builder.specs.Renaming.{named}
+use Rattle.scrib_static_checks.specs.Names.{Declaration, roles_of}
+use Rattle.scrib_static_checks.specs.Elaboration.{Scope, inside, inside_call}
+use Rattle.scrib_static_checks.specs.Table.{declaration_of}
 
 -- the recursions' names and levels
 abbrev pub levels_of : List Level → List (List ℕ × ℕ)

@@ -7,10 +7,10 @@ use Rattle.scrib_types.specs.WellFormed.{has_branches}
 use Rattle.scrib_parser.specs.declared.tree.ModuleTree.{ModuleTree}
 use Rattle.scrib_elaborate.specs.declared.elaborated.Elaborated.{Elaborated}
 use Rattle.scrib_elaborate.specs.declared.elaborated.ChoiceSite.{ChoiceSite}
-use Rattle.scrib_modules.specs.Source.{Body, Then, Chooses, Blocks}
-use Rattle.scrib_modules.specs.Names.{Declaration, find_protocol}
-use Rattle.scrib_modules.specs.Elaboration.{Scope, Frames, Under, Types, start_of}
-use Rattle.scrib_modules.specs.Faults.{Needs}
+use Rattle.scrib_static_checks.specs.Source.{Body, Then, Chooses, Blocks}
+use Rattle.scrib_static_checks.specs.Names.{Declaration, find_protocol}
+use Rattle.scrib_static_checks.specs.Elaboration.{Scope, Frames, Under, Types, start_of}
+use Rattle.scrib_static_checks.specs.Faults.{Needs}
 use Rattle.scrib_elaborate.specs.Meaning.{meaning_of, sites_of}
 
 -- The communications of a type in post-order, each with the number of recursions round it, where n stand round the

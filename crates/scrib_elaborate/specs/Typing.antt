@@ -8,29 +8,29 @@ use Rattle.scrib_types.specs.WellFormed.{has_role}
 use Rattle.scrib_parser.specs.declared.tree.ModuleTree.{ModuleTree}
 use Rattle.scrib_parser.specs.declared.tree.Statement.{Statement as ParsedStatement}
 use Rattle.scrib_parser.specs.declared.tree.Block.{Block}
-use Rattle.scrib_typed.specs.declared.built.Typed.{Typed}
-use Rattle.scrib_typed.specs.declared.built.Origin.{Origin}
-use Rattle.scrib_modules.specs.declared.declared.Declaration.{Declaration as CodeDeclaration}
+use Rattle.scrib_type_builder.specs.declared.built.Typed.{Typed}
+use Rattle.scrib_type_builder.specs.declared.built.Origin.{Origin}
+use Rattle.scrib_static_checks.specs.declared.declared.Declaration.{Declaration as CodeDeclaration}
 use Rattle.scrib_elaborate.specs.declared.elaborated.ChoiceSite.{ChoiceSite}
-use Rattle.scrib_modules.specs.declared.shape.Shape.{Shape}
-use Rattle.scrib_modules.specs.declared.shape.Shape.TheVariants.{Joining}
-use Rattle.scrib_modules.specs.declared.checking.State.{State}
+use Rattle.scrib_static_checks.specs.declared.shape.Shape.{Shape}
+use Rattle.scrib_static_checks.specs.declared.shape.Shape.TheVariants.{Joining}
+use Rattle.scrib_static_checks.specs.declared.checking.State.{State}
 use Rattle.scrib_elaborate.specs.declared.tasks.Program.{Program}
 use Rattle.scrib_elaborate.specs.declared.tasks.Task.{Task}
 use Rattle.scrib_elaborate.specs.declared.tasks.Task.TheVariants.{Front, Join, Close}
-use Rattle.scrib_modules.specs.declared.fault.FaultKind.{FaultKind}
-use Rattle.scrib_typed.specs.declared.build_error.BuildError.{BuildError}
-use Rattle.scrib_typed.specs.declared.build_error.BuildError.TheVariants.{Broken, OutOfMemory}
-use Rattle.scrib_typed.specs.Typed.{type_of, retold}
-use Rattle.scrib_modules.specs.Source.{Body, Then, Statement, Chooses, Repeats, Blocks}
-use Rattle.scrib_modules.specs.SourceView.{statement_of, body_of, blocks_of}
-use Rattle.scrib_modules.specs.Names.{Declaration, declarations}
-use Rattle.scrib_modules.specs.Elaboration.{continues_in, continues_some, Scope, level_of, inside, Frames, Under, Types, start_of}
-use Rattle.scrib_modules.specs.Faults.{Reaches, FailsTyping}
-use Rattle.scrib_modules.specs.Directory.{IsDirectory}
-use Rattle.scrib_modules.specs.Statements.{KeepsRules}
-use Rattle.scrib_modules.specs.Table.{shown, IsPart, AreParts, IsSettledSo}
-use Rattle.scrib_modules.specs.Walking.{AreSummaries, IsIdle}
+use Rattle.scrib_static_checks.specs.declared.fault.FaultKind.{FaultKind}
+use Rattle.scrib_type_builder.specs.declared.build_error.BuildError.{BuildError}
+use Rattle.scrib_type_builder.specs.declared.build_error.BuildError.TheVariants.{Broken, OutOfMemory}
+use Rattle.scrib_type_builder.specs.Typed.{type_of, retold}
+use Rattle.scrib_static_checks.specs.Source.{Body, Then, Statement, Chooses, Repeats, Blocks}
+use Rattle.scrib_static_checks.specs.SourceView.{statement_of, body_of, blocks_of}
+use Rattle.scrib_static_checks.specs.Names.{Declaration, declarations}
+use Rattle.scrib_static_checks.specs.Elaboration.{continues_in, continues_some, Scope, level_of, inside, Frames, Under, Types, start_of}
+use Rattle.scrib_static_checks.specs.Faults.{Reaches, FailsTyping}
+use Rattle.scrib_static_checks.specs.Directory.{IsDirectory}
+use Rattle.scrib_static_checks.specs.Statements.{KeepsRules}
+use Rattle.scrib_static_checks.specs.Table.{shown, IsPart, AreParts, IsSettledSo}
+use Rattle.scrib_static_checks.specs.Walking.{AreSummaries, IsIdle}
 use Rattle.scrib_elaborate.specs.Levels.{AreBelow}
 use Rattle.scrib_elaborate.specs.Sites.{communications, is_several, IsSite}
 use Rattle.scrib_elaborate.specs.Scope.{scope_of}

@@ -1,24 +1,24 @@
 //! The types of choices.
 
 ghost use Rattle.std.specs.Prelude.{◌≡◌, List, ◌∷◌, length, Option, IfOk, MatchOption, MatchResult, reverse};
-ghost use Rattle.scrib_typed.specs.declared.built.Typed.{Typed};
+ghost use Rattle.scrib_type_builder.specs.declared.built.Typed.{Typed};
 ghost use Rattle.scrib_elaborate.specs.declared.tasks.Task.{Task};
 ghost use Rattle.scrib_elaborate.specs.declared.tasks.Task.TheVariants.{Front, Join};
 ghost use Rattle.scrib_parser.specs.declared.tree.ModuleTree.{ModuleTree};
-ghost use Rattle.scrib_modules.specs.Source.{Chooses};
-ghost use Rattle.scrib_modules.specs.SourceView.{blocks_of};
+ghost use Rattle.scrib_static_checks.specs.Source.{Chooses};
+ghost use Rattle.scrib_static_checks.specs.SourceView.{blocks_of};
 ghost use Rattle.scrib_elaborate.specs.declared.scope.Scope.{Scope};
 ghost use Rattle.scrib_elaborate.specs.Scope.{scope_of, IsSame};
 ghost use Rattle.scrib_elaborate.specs.Typing.{Target, Made, made_of, IsBefore, IsState, TypingFails, StopsAhead, IsChoosing};
 
 use crate::scope::Scope;
 use crate::tasks::{Choosing, Task};
-use scrib_modules::fault::FaultKind;
+use scrib_static_checks::fault::FaultKind;
 use scrib_parser::tree::{Block, ModuleTree, Statement};
-use scrib_typed::build_error::{BuildError, broken};
-use scrib_typed::built::{Origin, Typed};
-use scrib_typed::heads::{Heads, add};
-use scrib_typed::operators::Operators;
+use scrib_type_builder::build_error::{BuildError, broken};
+use scrib_type_builder::built::{Origin, Typed};
+use scrib_type_builder::heads::{Heads, add};
+use scrib_type_builder::operators::Operators;
 use scrib_types::global::GlobalType;
 use scrib_types::name::Role;
 use scrib_types::plain::{Items, at};

@@ -8,11 +8,11 @@
 ghost use Rattle.std.specs.Prelude.{◌≡◌, ℕ, Bool, List, IfOk, IfErr, MatchResult};
 ghost use Rattle.scrib_types.specs.declared.spot.Spot.{Spot};
 ghost use Rattle.scrib_parser.specs.declared.tree.ModuleTree.{ModuleTree};
-ghost use Rattle.scrib_modules.specs.Source.{Body, Then, Chooses, Repeats, Calls};
-ghost use Rattle.scrib_modules.specs.SourceView.{statement_of, body_of, blocks_of};
-ghost use Rattle.scrib_modules.specs.Names.{Declaration};
-ghost use Rattle.scrib_modules.specs.Statements.{KeepsRules};
-ghost use Rattle.scrib_modules.specs.Table.{declaration_of};
+ghost use Rattle.scrib_static_checks.specs.Source.{Body, Then, Chooses, Repeats, Calls};
+ghost use Rattle.scrib_static_checks.specs.SourceView.{statement_of, body_of, blocks_of};
+ghost use Rattle.scrib_static_checks.specs.Names.{Declaration};
+ghost use Rattle.scrib_static_checks.specs.Statements.{KeepsRules};
+ghost use Rattle.scrib_static_checks.specs.Table.{declaration_of};
 ghost use Rattle.scrib_elaborate.specs.Staying.{Stays};
 ghost use Rattle.scrib_elaborate.specs.Scope.{scope_of};
 ghost use Rattle.scrib_elaborate.specs.Typing.{IsTable, TypingFails, IsAhead, IsTaskAhead, AreAhead, StopsAhead};
@@ -21,9 +21,9 @@ use crate::exits::has_exit;
 use crate::scope::Scope;
 use crate::tasks::{Program, Task};
 use crate::typing::{callee, run};
-use scrib_modules::size::continues_in;
+use scrib_static_checks::size::continues_in;
 use scrib_parser::tree::{Block, Statement};
-use scrib_typed::build_error::{BuildError, Refused};
+use scrib_type_builder::build_error::{BuildError, Refused};
 use scrib_types::name::{Dotted, Name, Role};
 use std::alloc::Global;
 

@@ -2,7 +2,7 @@
 
 ghost use Rattle.std.specs.Prelude.{◌≡◌, ◌≤◌, IsTrue};
 ghost use Rattle.scrib_types.specs.GlobalView.{global_of};
-ghost use Rattle.scrib_modules.specs.Elaboration.{nodes, height};
+ghost use Rattle.scrib_static_checks.specs.Elaboration.{nodes, height};
 ghost use Rattle.scrib_elaborate.specs.Sound.{is_sound};
 
 use scrib_types::global::GlobalType;
@@ -35,7 +35,7 @@ pub struct Elaborated {
 impl Elaborated {
     ghost use Rattle.std.specs.Prelude.{◌≡◌, ◌≤◌, IsTrue};
     ghost use Rattle.scrib_types.specs.GlobalView.{global_of};
-    ghost use Rattle.scrib_modules.specs.Elaboration.{nodes, height};
+    ghost use Rattle.scrib_static_checks.specs.Elaboration.{nodes, height};
     ghost use Rattle.scrib_elaborate.specs.Sound.{is_sound};
     ghost use Rattle.scrib_elaborate.specs.Meaning.{meaning_of, sites_of};
 

@@ -2,16 +2,16 @@
 
 ghost use Rattle.std.specs.Prelude.{◌≡◌, ◌<◌, List, length, slice_get, Some, false};
 ghost use Rattle.scrib_parser.specs.declared.tree.ModuleTree.{ModuleTree};
-ghost use Rattle.scrib_modules.specs.SourceView.{statement_of, body_of, blocks_of};
-ghost use Rattle.scrib_modules.specs.Names.{Declaration};
-ghost use Rattle.scrib_modules.specs.Statements.{KeepsRules};
+ghost use Rattle.scrib_static_checks.specs.SourceView.{statement_of, body_of, blocks_of};
+ghost use Rattle.scrib_static_checks.specs.Names.{Declaration};
+ghost use Rattle.scrib_static_checks.specs.Statements.{KeepsRules};
 ghost use Rattle.scrib_elaborate.specs.Staying.{Stays, StatementStays, AllStay};
 ghost use Rattle.scrib_elaborate.specs.Typing.{IsTable};
-ghost use Rattle.scrib_modules.specs.Walking.{AreSummaries};
+ghost use Rattle.scrib_static_checks.specs.Walking.{AreSummaries};
 
 use crate::tasks::Program;
 use crate::typing::callee;
-use scrib_modules::checking::State;
+use scrib_static_checks::checking::State;
 use scrib_parser::tree::{Block, ModuleTree, Statement};
 
 /// Whether a way through the block, in this module, leads to its end.

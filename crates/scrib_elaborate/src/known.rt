@@ -2,21 +2,21 @@
 
 ghost use Rattle.std.specs.Prelude.{◌≡◌, List, Bool, slice_get, Some, IfOk, IfErr, IfSome};
 ghost use Rattle.scrib_parser.specs.declared.tree.ModuleTree.{ModuleTree as ParsedTree};
-ghost use Rattle.scrib_modules.specs.Names.{Declaration as PureDeclaration};
-ghost use Rattle.scrib_modules.specs.Walking.{IsIdle};
-ghost use Rattle.scrib_modules.specs.Statements.{KeepsRules};
-ghost use Rattle.scrib_modules.specs.Elaboration.{start_of};
-ghost use Rattle.scrib_modules.specs.Table.{shown, declaration_of};
+ghost use Rattle.scrib_static_checks.specs.Names.{Declaration as PureDeclaration};
+ghost use Rattle.scrib_static_checks.specs.Walking.{IsIdle};
+ghost use Rattle.scrib_static_checks.specs.Statements.{KeepsRules};
+ghost use Rattle.scrib_static_checks.specs.Elaboration.{start_of};
+ghost use Rattle.scrib_static_checks.specs.Table.{shown, declaration_of};
 ghost use Rattle.scrib_elaborate.specs.Typing.{made_of, Makes, AreKnown, AreUnknown, IsAloneAt, IsTable, IsTabled, TypingFails};
 
 use crate::tasks::Program;
 use crate::typing::{type_alone, type_of_root};
-use scrib_modules::checking::State;
-use scrib_modules::declared::Declaration;
-use scrib_modules::directory::Directory;
+use scrib_static_checks::checking::State;
+use scrib_static_checks::declared::Declaration;
+use scrib_static_checks::directory::Directory;
 use scrib_parser::tree::ModuleTree;
-use scrib_typed::build_error::{BuildError, Refused};
-use scrib_typed::built::Typed;
+use scrib_type_builder::build_error::{BuildError, Refused};
+use scrib_type_builder::built::Typed;
 use std::alloc::{AllocError, Global};
 
 // The most nodes of a type that is kept. A larger one is made where it is needed, so that the types of many

@@ -1,16 +1,16 @@
 //! Where statements stand while the type of a protocol is computed.
 
 ghost use Rattle.std.specs.Prelude.{◌≡◌, ◌∷◌, map, IfOk};
-ghost use Rattle.scrib_modules.specs.Names.{role_names};
-ghost use Rattle.scrib_modules.specs.Elaboration.{role_in, level_of};
-ghost use Rattle.scrib_modules.specs.Table.{declaration_of};
-ghost use Rattle.scrib_typed.specs.Renaming.{named};
+ghost use Rattle.scrib_static_checks.specs.Names.{role_names};
+ghost use Rattle.scrib_static_checks.specs.Elaboration.{role_in, level_of};
+ghost use Rattle.scrib_static_checks.specs.Table.{declaration_of};
+ghost use Rattle.scrib_type_builder.specs.Renaming.{named};
 ghost use Rattle.scrib_elaborate.specs.Scope.{scope_of, levels_of, IsStart, IsSame, IsInside, IsInsideCall};
 
-use scrib_modules::declared::Declaration;
+use scrib_static_checks::declared::Declaration;
 use scrib_parser::tree::RoleDeclaration;
-use scrib_typed::build_error::{Refused, next};
-use scrib_typed::renamed::given_for;
+use scrib_type_builder::build_error::{Refused, next};
+use scrib_type_builder::renamed::given_for;
 use scrib_types::name::{Name, Role};
 use std::alloc::{AllocError, Global};
 

@@ -1,12 +1,12 @@
 //! What is left to do for the type of a protocol.
 
 use crate::scope::Scope;
-use scrib_modules::checking::State;
-use scrib_modules::declared::Declaration;
-use scrib_modules::directory::Directory;
-use scrib_modules::shape::Shape;
+use scrib_static_checks::checking::State;
+use scrib_static_checks::declared::Declaration;
+use scrib_static_checks::directory::Directory;
+use scrib_static_checks::shape::Shape;
 use scrib_parser::tree::{Block, ModuleTree, Statement};
-use scrib_typed::built::Typed;
+use scrib_type_builder::built::Typed;
 use scrib_types::name::Role;
 use scrib_types::spot::Spot;
 

@@ -16,7 +16,7 @@ ghost use Rattle.scrib_global.specs.Named as spec;
 use crate::logs::event_of;
 use crate::permitted::is_permitted;
 use crate::sorted::insert;
-use scrib_local::projection::project_type;
+use scrib_projection::projection::project_type;
 use scrib_types::event::Action;
 use scrib_types::global::GlobalType;
 use scrib_types::local::Local;

@@ -11,7 +11,7 @@ ghost use Rattle.scrib_global.specs.Traced.{IsTraced, AllTraced};
 use crate::logs::{all_joined, own_actions};
 use crate::queues::is_queued;
 use crate::trace::is_trace;
-use scrib_local::projection::project_type;
+use scrib_projection::projection::project_type;
 use scrib_types::global::GlobalType;
 use scrib_types::name::Role;
 use scrib_types::profile::Profile;

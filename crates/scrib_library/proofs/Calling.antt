@@ -13,12 +13,12 @@ use Rattle.scrib_parser.specs.declared.tree.Import.{Import}
 use Rattle.scrib_parser.specs.declared.tree.ProtocolDeclaration.{ProtocolDeclaration}
 use Rattle.scrib_parser.specs.declared.tree.Statement.{Statement as ParsedStatement}
 use Rattle.scrib_parser.specs.declared.tree.Block.{Block}
-use Rattle.scrib_modules.specs.Source.{Body, Done, Then, Statement, Sends, Chooses, Repeats, Continues, Calls, Blocks, NoBlock, OrBlock}
-use Rattle.scrib_modules.specs.SourceView.{body_of, blocks_of, statement_of}
-use Rattle.scrib_modules.specs.Names.{Declaration, dotted_eq, has_name, first_where, known_by, module_names, with_module, declared_in, declarations, is_called, find_protocol, all_but_last, last_name, imported, looked_in, called}
-use Rattle.scrib_modules.specs.Statements.{KeepsRules, protocol_keeps, BlockKeeps, end_keeps, then_keeps, StatementKeeps, sends_keeps, chooses_keeps, repeats_keeps, continues_keeps, calls_keeps, BlocksKeep, none_keeps, or_keeps}
-use Rattle.scrib_modules.specs.Elaboration.{Frames, NoFrame, Under, Types, ends, closes, sends, chooses, repeats, passes, continues, calls, JoinsTo, joins_none, joins, Elaborates}
-use Rattle.scrib_modules.proofs.Distinct.{dotted_eq-Decides, found_nowhere}
+use Rattle.scrib_static_checks.specs.Source.{Body, Done, Then, Statement, Sends, Chooses, Repeats, Continues, Calls, Blocks, NoBlock, OrBlock}
+use Rattle.scrib_static_checks.specs.SourceView.{body_of, blocks_of, statement_of}
+use Rattle.scrib_static_checks.specs.Names.{Declaration, dotted_eq, has_name, first_where, known_by, module_names, with_module, declared_in, declarations, is_called, find_protocol, all_but_last, last_name, imported, looked_in, called}
+use Rattle.scrib_static_checks.specs.Statements.{KeepsRules, protocol_keeps, BlockKeeps, end_keeps, then_keeps, StatementKeeps, sends_keeps, chooses_keeps, repeats_keeps, continues_keeps, calls_keeps, BlocksKeep, none_keeps, or_keeps}
+use Rattle.scrib_static_checks.specs.Elaboration.{Frames, NoFrame, Under, Types, ends, closes, sends, chooses, repeats, passes, continues, calls, JoinsTo, joins_none, joins, Elaborates}
+use Rattle.scrib_static_checks.proofs.Distinct.{dotted_eq-Decides, found_nowhere}
 use Rattle.scrib_library.specs.Calls.{EachCall, EachCallAt, EachCallOf}
 use Rattle.scrib_library.proofs.Lists.{Contains-head, Contains-tail}
 use Rattle.scrib_library.proofs.Places.{first-there}

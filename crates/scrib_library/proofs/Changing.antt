@@ -11,12 +11,12 @@ use Rattle.std.proofs.lemmas.Bool.{and_parts, or_left}
 use Rattle.std.proofs.lemmas.Slice.Eq.{bytes_eq-Decides}
 use Rattle.scrib_types.specs.WellFormed.{has_role, distinct_roles}
 use Rattle.scrib_parser.specs.declared.tree.ProtocolDeclaration.{ProtocolDeclaration}
-use Rattle.scrib_modules.specs.SourceView.{body_of}
-use Rattle.scrib_modules.specs.Names.{Declaration, distinct_names, module_names, protocol_names, declarations, find_protocol, looked_in, all_but_last, last_name}
-use Rattle.scrib_modules.specs.Statements.{KeepsRules, protocol_keeps}
-use Rattle.scrib_modules.specs.Elaboration.{Elaborates}
-use Rattle.scrib_modules.specs.declared.modules.Placed.{Placed}
-use Rattle.scrib_modules.specs.Placed.{IsPlaced}
+use Rattle.scrib_static_checks.specs.SourceView.{body_of}
+use Rattle.scrib_static_checks.specs.Names.{Declaration, distinct_names, module_names, protocol_names, declarations, find_protocol, looked_in, all_but_last, last_name}
+use Rattle.scrib_static_checks.specs.Statements.{KeepsRules, protocol_keeps}
+use Rattle.scrib_static_checks.specs.Elaboration.{Elaborates}
+use Rattle.scrib_static_checks.specs.declared.modules.Placed.{Placed}
+use Rattle.scrib_static_checks.specs.Placed.{IsPlaced}
 use Rattle.scrib_record.specs.Versions.{meaning_of}
 use Rattle.scrib_library.specs.declared.declared.Entry.{Entry}
 use Rattle.scrib_library.specs.declared.versions.NamedVersion.{NamedVersion}

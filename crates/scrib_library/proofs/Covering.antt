@@ -11,8 +11,8 @@ use Rattle.scrib_types.specs.Agreement.{Agreement}
 use Rattle.scrib_types.specs.declared.profile.Profile.{Profile}
 use Rattle.scrib_types.specs.WellFormed.{projects}
 use Rattle.scrib_parser.specs.declared.tree.ModuleTree.{ModuleTree}
-use Rattle.scrib_modules.specs.Names.{dotted_eq}
-use Rattle.scrib_modules.proofs.Distinct.{dotted_eq-Decides}
+use Rattle.scrib_static_checks.specs.Names.{dotted_eq}
+use Rattle.scrib_static_checks.proofs.Distinct.{dotted_eq-Decides}
 use Rattle.scrib_record.specs.declared.version.Version.{Version}
 use Rattle.scrib_record.specs.Versions.{meaning_of}
 use Rattle.scrib_library.specs.declared.versions.NamedVersion.{NamedVersion}

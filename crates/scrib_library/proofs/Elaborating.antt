@@ -14,11 +14,11 @@ use Rattle.scrib_types.specs.Projection.{projection}
 use Rattle.scrib_types.specs.WellFormed.{projects}
 use Rattle.scrib_parser.specs.declared.tree.ModuleTree.{ModuleTree}
 use Rattle.scrib_parser.specs.declared.tree.ProtocolDeclaration.{ProtocolDeclaration}
-use Rattle.scrib_modules.specs.declared.fault.ElaborateFault.{ElaborateFault}
-use Rattle.scrib_modules.specs.declared.fault.ElaborateFault.TheVariants as elaborate
+use Rattle.scrib_static_checks.specs.declared.fault.ElaborateFault.{ElaborateFault}
+use Rattle.scrib_static_checks.specs.declared.fault.ElaborateFault.TheVariants as elaborate
 use Rattle.scrib_elaborate.specs.declared.elaborated.Elaborated.{Elaborated}
-use Rattle.scrib_modules.specs.Elaboration.{Elaborates}
-use Rattle.scrib_modules.specs.Faults.{FailsAt, IsBroken}
+use Rattle.scrib_static_checks.specs.Elaboration.{Elaborates}
+use Rattle.scrib_static_checks.specs.Faults.{FailsAt, IsBroken}
 use Rattle.scrib_elaborate.specs.Meaning.{meaning_of, Means}
 use Rattle.scrib_elaborate.specs.Sites.{AreSites}
 use Rattle.scrib_project.specs.declared.projected.ProjectedProtocol.{ProjectedProtocol}

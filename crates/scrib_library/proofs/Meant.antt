@@ -13,9 +13,9 @@ use Rattle.scrib_types.specs.WellFormed.{is_protocol}
 use Rattle.scrib_record.specs.declared.version.Version.{Version}
 use Rattle.scrib_record.specs.Versions.{meaning_of, number_of}
 use Rattle.scrib_parser.specs.declared.tree.ModuleTree.{ModuleTree}
-use Rattle.scrib_modules.specs.Names.{Declaration, dotted_eq, declarations, is_called, roles_of}
-use Rattle.scrib_modules.specs.Elaboration.{Elaborates, Types, start_of}
-use Rattle.scrib_modules.proofs.Distinct.{dotted_eq-Decides}
+use Rattle.scrib_static_checks.specs.Names.{Declaration, dotted_eq, declarations, is_called, roles_of}
+use Rattle.scrib_static_checks.specs.Elaboration.{Elaborates, Types, start_of}
+use Rattle.scrib_static_checks.proofs.Distinct.{dotted_eq-Decides}
 use Rattle.scrib_elaborate.proofs.Functional.{types_same}
 use Rattle.scrib_library.specs.declared.versions.NamedVersion.{NamedVersion}
 use Rattle.scrib_library.specs.declared.changes.ChangeKind.{ChangeKind}

@@ -6,10 +6,10 @@ use Rattle.std.proofs.lemmas.List.Sums.{sum_by-cons}
 use Rattle.std.proofs.lemmas.Bool.{false≢true, and_parts, and_from, or_parts, false_from_ne_true}
 use Rattle.scrib_parser.specs.declared.tree.ModuleTree.{ModuleTree}
 use Rattle.scrib_parser.specs.declared.tree.Import.{Import}
-use Rattle.scrib_modules.specs.Names.{dotted_eq, has_name, distinct_names, module_names, with_module}
+use Rattle.scrib_static_checks.specs.Names.{dotted_eq, has_name, distinct_names, module_names, with_module}
 use Rattle.scrib_elaborate.specs.Locality.{without_module}
-use Rattle.scrib_modules.specs.Table.{IsPlace}
-use Rattle.scrib_modules.proofs.Distinct.{dotted_eq-Decides}
+use Rattle.scrib_static_checks.specs.Table.{IsPlace}
+use Rattle.scrib_static_checks.proofs.Distinct.{dotted_eq-Decides}
 use Rattle.scrib_library.specs.Modules.{is_missing, missing_import, protocol_count, AreFew}
 use Rattle.scrib_library.proofs.Lists.{Contains-nil, Contains-head, Contains-head_at, Contains-tail, Contains-cases}
 use Rattle.scrib_library.proofs.Places.{either, or_right, or_cases, has_name-there}

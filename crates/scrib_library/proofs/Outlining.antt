@@ -4,11 +4,11 @@ use Rattle.std.specs.List.{fold}
 use Rattle.std.proofs.Math.ListN.{length-set}
 use Rattle.std.proofs.lemmas.List.{get_or-map, map-append, map-set, length-map, length-take-le, take-append-drop, drop_more, take_more, take_all}
 use Rattle.scrib_parser.specs.declared.tree.ModuleTree.{ModuleTree}
-use Rattle.scrib_modules.specs.declared.modules.Placed.{Placed}
-use Rattle.scrib_modules.specs.Names.{dotted_eq, has_name, module_names, with_module}
-use Rattle.scrib_modules.specs.Table.{IsPlace}
-use Rattle.scrib_modules.proofs.Distinct.{dotted_eq-Decides}
-use Rattle.scrib_modules.specs.Placed.{IsPlaced, back_to}
+use Rattle.scrib_static_checks.specs.declared.modules.Placed.{Placed}
+use Rattle.scrib_static_checks.specs.Names.{dotted_eq, has_name, module_names, with_module}
+use Rattle.scrib_static_checks.specs.Table.{IsPlace}
+use Rattle.scrib_static_checks.proofs.Distinct.{dotted_eq-Decides}
+use Rattle.scrib_static_checks.specs.Placed.{IsPlaced, back_to}
 use Rattle.scrib_library.specs.declared.outlines.Outline.{Outline}
 use Rattle.scrib_library.specs.Sieve.{bit_of}
 use Rattle.scrib_library.specs.Outlines.{outline, outlines_of, declared_count}

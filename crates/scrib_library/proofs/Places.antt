@@ -8,8 +8,8 @@ use Rattle.std.proofs.lemmas.List.Sums.{sum_by-take-le, sum_by_push}
 use Rattle.scrib_parser.specs.declared.tree.ModuleTree.{ModuleTree}
 use Rattle.scrib_parser.specs.declared.tree.Import.{Import}
 use Rattle.scrib_parser.specs.declared.tree.ProtocolDeclaration.{ProtocolDeclaration}
-use Rattle.scrib_modules.specs.Names.{Declaration, dotted_eq, has_name, first_where, module_names, with_module, declared_in, declarations}
-use Rattle.scrib_modules.proofs.Distinct.{dotted_eq-Decides}
+use Rattle.scrib_static_checks.specs.Names.{Declaration, dotted_eq, has_name, first_where, module_names, with_module, declared_in, declarations}
+use Rattle.scrib_static_checks.proofs.Distinct.{dotted_eq-Decides}
 use Rattle.scrib_library.specs.Modules.{is_missing, missing_import, protocol_count}
 use Rattle.scrib_library.proofs.Lists.{Contains-nil, Contains-head, Contains-head_at, Contains-tail, Contains-cases, Contains-map, Contains-map_back}
 

@@ -4,8 +4,8 @@ use Rattle.std.specs.List.{Contains}
 use Rattle.std.proofs.lemmas.List.{set-get_or}
 use Rattle.scrib_types.specs.declared.profile.Profile.{Profile}
 use Rattle.scrib_parser.specs.declared.tree.ModuleTree.{ModuleTree}
-use Rattle.scrib_modules.specs.declared.modules.Placed.{Placed}
-use Rattle.scrib_modules.specs.Placed.{IsPlaced}
+use Rattle.scrib_static_checks.specs.declared.modules.Placed.{Placed}
+use Rattle.scrib_static_checks.specs.Placed.{IsPlaced}
 use Rattle.scrib_record.specs.Versions.{meaning_of}
 use Rattle.scrib_library.specs.declared.declared.Entry.{Entry}
 use Rattle.scrib_library.specs.declared.versions.NamedVersion.{NamedVersion}

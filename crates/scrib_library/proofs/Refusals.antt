@@ -10,7 +10,7 @@ use Rattle.scrib_parser.specs.declared.fault.ParseFault.{ParseFault}
 use Rattle.scrib_parser.specs.declared.fault.ParseFault.TheVariants as parse
 use Rattle.scrib_parser.specs.declared.tree.ModuleTree.{ModuleTree}
 use Rattle.scrib_parser.specs.Grammar.{IsModule, IsFaultOf, ParseGives}
-use Rattle.scrib_modules.specs.Names.{with_module}
+use Rattle.scrib_static_checks.specs.Names.{with_module}
 use Rattle.scrib_library.specs.declared.fault.EditFault.{EditFault}
 use Rattle.scrib_library.specs.declared.fault.EditFault.TheVariants as edit
 use Rattle.scrib_library.specs.Made.{edit_fault_of_lex, edit_fault_of_parse}

@@ -5,10 +5,10 @@ use Rattle.std.proofs.Math.ListN.{length-set}
 use Rattle.std.proofs.lemmas.List.{take-append-drop, get_or-set_same}
 use Rattle.std.proofs.lemmas.List.Elements.{Contains-append_left}
 use Rattle.scrib_parser.specs.declared.tree.ModuleTree.{ModuleTree}
-use Rattle.scrib_modules.specs.Names.{dotted_eq, with_module}
-use Rattle.scrib_modules.specs.declared.modules.Placed.{Placed}
-use Rattle.scrib_modules.specs.Placed.{IsPlaced, back_to}
-use Rattle.scrib_modules.proofs.Distinct.{dotted_eq-Decides}
+use Rattle.scrib_static_checks.specs.Names.{dotted_eq, with_module}
+use Rattle.scrib_static_checks.specs.declared.modules.Placed.{Placed}
+use Rattle.scrib_static_checks.specs.Placed.{IsPlaced, back_to}
+use Rattle.scrib_static_checks.proofs.Distinct.{dotted_eq-Decides}
 use Rattle.scrib_library.proofs.Lists.{Contains-set_cases}
 use Rattle.scrib_library.proofs.Orders.{get_or_any}
 use Rattle.scrib_library.proofs.Places.{either}

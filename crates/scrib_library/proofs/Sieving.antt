@@ -9,7 +9,7 @@ use Rattle.std.proofs.lemmas.List.{drop_more, take_all}
 use Rattle.scrib_parser.specs.declared.tree.Import.{Import}
 use Rattle.scrib_parser.specs.declared.tree.ModuleTree.{ModuleTree}
 use Rattle.scrib_library.specs.Affected.{names_now, ImportsSome}
-use Rattle.scrib_modules.specs.Names.{last_name}
+use Rattle.scrib_static_checks.specs.Names.{last_name}
 use Rattle.scrib_library.specs.Sieve.{mixed, bit_of, sieve_from, sieve_of, IsSieve, AreSieved, LacksBit}
 use Rattle.scrib_library.proofs.Lists.{Contains-nil, Contains-cases, Contains-map_back}
 use Rattle.scrib_library.proofs.Entering.{taken_cases}

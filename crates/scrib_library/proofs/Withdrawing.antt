@@ -6,10 +6,10 @@ use Rattle.std.proofs.lemmas.List.{same_from_push}
 use Rattle.scrib_types.specs.declared.profile.Profile.{Profile}
 use Rattle.scrib_types.specs.Agreement.{Agreement}
 use Rattle.scrib_parser.specs.declared.tree.ModuleTree.{ModuleTree}
-use Rattle.scrib_modules.specs.Names.{Declaration, dotted_eq, declarations}
+use Rattle.scrib_static_checks.specs.Names.{Declaration, dotted_eq, declarations}
 use Rattle.scrib_elaborate.specs.Locality.{IsClosed, AgreeOn, without_module, elaborates_alike, removal_agrees}
-use Rattle.scrib_modules.specs.Table.{IsPlace}
-use Rattle.scrib_modules.proofs.Distinct.{dotted_eq-Decides}
+use Rattle.scrib_static_checks.specs.Table.{IsPlace}
+use Rattle.scrib_static_checks.proofs.Distinct.{dotted_eq-Decides}
 use Rattle.scrib_record.specs.Versions.{meaning_of}
 use Rattle.scrib_library.specs.declared.declared.Entry.{Entry}
 use Rattle.scrib_library.specs.declared.versions.NamedVersion.{NamedVersion}

@@ -18,10 +18,10 @@ use Rattle.scrib_parser.specs.declared.fault.ParseFault.TheVariants as parse
 use Rattle.scrib_parser.specs.declared.tree.ModuleTree.{ModuleTree}
 use Rattle.scrib_parser.specs.declared.tree.Import.{Import}
 use Rattle.scrib_parser.specs.Grammar.{IsModule, IsFaultOf}
-use Rattle.scrib_modules.specs.declared.fault.Fault.{Fault}
-use Rattle.scrib_modules.specs.Names.{Declaration, declarations, has_name, module_names, with_module}
+use Rattle.scrib_static_checks.specs.declared.fault.Fault.{Fault}
+use Rattle.scrib_static_checks.specs.Names.{Declaration, declarations, has_name, module_names, with_module}
 use Rattle.scrib_elaborate.specs.Locality.{without_module}
-use Rattle.scrib_modules.specs.Faults.{IsBroken}
+use Rattle.scrib_static_checks.specs.Faults.{IsBroken}
 use Rattle.scrib_project.specs.declared.fault.Unmergeable.{Unmergeable}
 use Rattle.scrib_project.specs.Faults.{first_without, IsPlaced}
 use Rattle.scrib_library.specs.declared.changes.ChangeKind.{ChangeKind}

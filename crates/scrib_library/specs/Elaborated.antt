@@ -8,8 +8,8 @@ use Rattle.scrib_types.specs.Agreement.{Agreement}
 use Rattle.scrib_types.specs.Meaning.{agreement_of}
 use Rattle.scrib_parser.specs.declared.tree.ModuleTree.{ModuleTree}
 use Rattle.scrib_elaborate.specs.declared.elaborated.Elaborated.{Elaborated}
-use Rattle.scrib_modules.specs.Elaboration.{Elaborates}
-use Rattle.scrib_modules.specs.Faults.{IsBroken}
+use Rattle.scrib_static_checks.specs.Elaboration.{Elaborates}
+use Rattle.scrib_static_checks.specs.Faults.{IsBroken}
 use Rattle.scrib_elaborate.specs.Meaning.{meaning_of}
 use Rattle.scrib_elaborate.specs.Sites.{AreSites}
 use Rattle.scrib_project.specs.declared.fault.Unmergeable.{Unmergeable}

@@ -4,7 +4,7 @@ use Rattle.scrib_types.specs.Agreement.{Agreement}
 use Rattle.scrib_types.specs.declared.profile.Profile.{Profile}
 use Rattle.scrib_types.specs.declared.profile.Profile.TheVariants.{Plain}
 use Rattle.scrib_parser.specs.declared.tree.ModuleTree.{ModuleTree}
-use Rattle.scrib_modules.specs.Names.{distinct_names, module_names}
+use Rattle.scrib_static_checks.specs.Names.{distinct_names, module_names}
 use Rattle.scrib_library.specs.Modules.{Means, AreWellFormed, MeansOnce, AreFew}
 
 -- a full name, and the number of the version that it has

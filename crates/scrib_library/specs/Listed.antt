@@ -6,7 +6,7 @@ use Rattle.std.specs.declared.cmp.Ordering.{Ordering}
 use Rattle.std.specs.declared.cmp.Ordering.TheVariants.{Less}
 use Rattle.std.specs.Cmp.Lexicographic.{slice_cmp}
 use Rattle.scrib_parser.specs.declared.tree.ModuleTree.{ModuleTree}
-use Rattle.scrib_modules.specs.Names.{declarations, Declaration}
+use Rattle.scrib_static_checks.specs.Names.{declarations, Declaration}
 use Rattle.scrib_library.specs.Modules.{name_of}
 
 -- dotted names by their parts, from the first, and these by their bytes

@@ -3,8 +3,8 @@ use Rattle.scrib_lexer.specs.declared.fault.LexFault.{LexFault}
 use Rattle.scrib_lexer.specs.declared.fault.LexFault.TheVariants as lex
 use Rattle.scrib_parser.specs.declared.fault.ParseFault.{ParseFault}
 use Rattle.scrib_parser.specs.declared.fault.ParseFault.TheVariants as parse
-use Rattle.scrib_modules.specs.declared.fault.ElaborateFault.{ElaborateFault}
-use Rattle.scrib_modules.specs.declared.fault.ElaborateFault.TheVariants as elaborate
+use Rattle.scrib_static_checks.specs.declared.fault.ElaborateFault.{ElaborateFault}
+use Rattle.scrib_static_checks.specs.declared.fault.ElaborateFault.TheVariants as elaborate
 use Rattle.scrib_project.specs.declared.fault.ProjectFault.{ProjectFault}
 use Rattle.scrib_project.specs.declared.fault.ProjectFault.TheVariants as project
 use Rattle.scrib_library.specs.declared.fault.EditFault.{EditFault}

@@ -6,8 +6,8 @@ use Rattle.scrib_types.specs.declared.profile.Profile.{Profile}
 use Rattle.scrib_types.specs.WellFormed.{projects, is_protocol}
 use Rattle.scrib_parser.specs.declared.tree.ModuleTree.{ModuleTree}
 use Rattle.scrib_parser.specs.declared.tree.Import.{Import}
-use Rattle.scrib_modules.specs.Names.{Declaration, has_name, first_where, module_names, declarations}
-use Rattle.scrib_modules.specs.Elaboration.{Elaborates}
+use Rattle.scrib_static_checks.specs.Names.{Declaration, has_name, first_where, module_names, declarations}
+use Rattle.scrib_static_checks.specs.Elaboration.{Elaborates}
 
 -- the protocol's name behind that of its module
 abbrev pub full_name : (home : List (List ℕ)) (name : List ℕ) → List (List ℕ)

@@ -4,7 +4,7 @@ use Rattle.std.specs.Prelude.{◌≡◌, ℕ, ◌+◌, ◌*◌, ◌%◌, ◌^◌
 use Rattle.std.specs.Borrow.{Bor}
 use Rattle.std.specs.Int.{bit_at}
 use Rattle.scrib_parser.specs.declared.tree.Import.{Import}
-use Rattle.scrib_modules.specs.Names.{last_name}
+use Rattle.scrib_static_checks.specs.Names.{last_name}
 
 -- names without where they lie in memory
 abbrev pub names_now : List (Bor (List (List ℕ))) → List (List (List ℕ))

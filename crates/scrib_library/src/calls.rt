@@ -2,8 +2,8 @@
 
 ghost use Rattle.std.specs.Prelude.{◌≡◌, false};
 ghost use Rattle.std.specs.Option.{option_copied};
-ghost use Rattle.scrib_modules.specs.SourceView.{body_of, blocks_of, statement_of};
-ghost use Rattle.scrib_modules.specs.Names.{dotted_eq, known_by, imported, looked_in};
+ghost use Rattle.scrib_static_checks.specs.SourceView.{body_of, blocks_of, statement_of};
+ghost use Rattle.scrib_static_checks.specs.Names.{dotted_eq, known_by, imported, looked_in};
 ghost use Rattle.scrib_library.specs.Calls.{EachCall, EachCallAt, EachCallOf, IsOther};
 
 use scrib_parser::tree::{Block, Import, ModuleTree, Statement};
@@ -36,7 +36,7 @@ fn calls_of(at: &ModuleTree, blocks: &[Block], home: &Dotted, name: &Name) -> bo
 }
 
 #[cycle(calls)]
-#[tactic(auto, using(scrib_modules::specs::SourceView::statement_views))]
+#[tactic(auto, using(scrib_static_checks::specs::SourceView::statement_views))]
 fn calls_at(at: &ModuleTree, statement: &Statement, home: &Dotted, name: &Name) -> bool
     ensures { result ≡ false → EachCallAt (IsOther at.now home.now name.now) (statement_of statement.now) }
 {

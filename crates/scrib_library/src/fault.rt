@@ -1,7 +1,7 @@
 //! Why an edit was refused.
 
 use scrib_lexer::fault::LexFault;
-use scrib_modules::fault::{ElaborateFault, Fault};
+use scrib_static_checks::fault::{ElaborateFault, Fault};
 use scrib_parser::fault::ParseFault;
 use scrib_project::fault::{ProjectFault, Unmergeable};
 use scrib_types::name::Dotted;

@@ -12,7 +12,7 @@ use crate::declared::{Entry, enter};
 use crate::fault::EditFault;
 use scrib_elaborate::elaborate::Elaborator;
 use scrib_elaborate::elaborated::Elaborated;
-use scrib_modules::modules::Modules;
+use scrib_static_checks::modules::Modules;
 use scrib_parser::tree::ModuleTree;
 use scrib_project::projected::ProjectedProtocol;
 use scrib_project::protocol::protocol_with_projections;

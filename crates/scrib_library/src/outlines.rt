@@ -2,8 +2,8 @@
 //! at the modules themselves, which lie far apart in memory.
 
 ghost use Rattle.std.specs.Prelude.{◌≡◌, false, MatchOption};
-ghost use Rattle.scrib_modules.specs.Names.{has_name, module_names};
-ghost use Rattle.scrib_modules.specs.Table.{IsPlace};
+ghost use Rattle.scrib_static_checks.specs.Names.{has_name, module_names};
+ghost use Rattle.scrib_static_checks.specs.Table.{IsPlace};
 ghost use Rattle.scrib_library.specs.Outlines as spec;
 
 use crate::names::same;

@@ -10,7 +10,7 @@ ghost use Rattle.scrib_library.specs.Lacking.{AllVersionsProject, IsFirstOrNone,
 
 use crate::fault::EditFault;
 use crate::versions::NamedVersion;
-use scrib_local::projection::project_type;
+use scrib_projection::projection::project_type;
 use scrib_types::name::Dotted;
 use scrib_types::profile::Profile;
 use scrib_types::protocol::Protocol;

@@ -2,13 +2,13 @@
 
 ghost use Rattle.std.specs.Prelude.{◌≡◌, ◌<◌, [], false, length, remove, slice_index_or, MatchOption, IfOk, OnErr};
 ghost use Rattle.scrib_parser.specs.declared.tree.ModuleTree as parsed;
-ghost use Rattle.scrib_modules.specs.Names.{has_name, module_names};
-ghost use Rattle.scrib_modules.specs.Table.{IsPlace};
-ghost use Rattle.scrib_modules.specs.Placed.{IsPlaced, undone};
+ghost use Rattle.scrib_static_checks.specs.Names.{has_name, module_names};
+ghost use Rattle.scrib_static_checks.specs.Table.{IsPlace};
+ghost use Rattle.scrib_static_checks.specs.Placed.{IsPlaced, undone};
 ghost use Rattle.scrib_library.specs.Outlines.{outlines_of};
 
 use crate::outlines::{Outline, outline_of, place_of};
-use scrib_modules::modules::{Modules, Placed};
+use scrib_static_checks::modules::{Modules, Placed};
 use scrib_parser::tree::ModuleTree;
 use scrib_types::name::Dotted;
 use std::alloc::{AllocError, Global};

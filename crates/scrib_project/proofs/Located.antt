@@ -10,7 +10,7 @@ use Rattle.scrib_types.specs.declared.message.Message.{Message}
 use Rattle.scrib_types.specs.declared.profile.Profile.{Profile}
 use Rattle.scrib_types.specs.Trees.{GlobalTree, GlobalEnd, GlobalVar, GlobalRec, Comm, Flight, GlobalBranches, NoBranch, Branch, LocalTree, NoChoice}
 use Rattle.scrib_types.specs.Projection.{is_closed, occurs, with_choice, projection, branch_projections}
-use Rattle.scrib_local.specs.Differences.{joins_here, joins, branch_joins, differ, difference_here, first_difference, first_among}
+use Rattle.scrib_projection.specs.Differences.{joins_here, joins, branch_joins, differ, difference_here, first_difference, first_among}
 use Rattle.scrib_elaborate.specs.Sites.{communications, branch_communications, has_several, is_several, several_of}
 
 -- the communication's branches differ for the role, which is no part of it

@@ -4,9 +4,9 @@ use Rattle.scrib_types.specs.declared.local.Local.{Local}
 use Rattle.scrib_types.specs.declared.profile.Profile.{Profile}
 use Rattle.scrib_types.specs.Trees.{Comm}
 use Rattle.scrib_parser.specs.declared.tree.ModuleTree.{ModuleTree}
-use Rattle.scrib_local.specs.Differences.{first_difference}
+use Rattle.scrib_projection.specs.Differences.{first_difference}
 use Rattle.scrib_elaborate.specs.declared.elaborated.Elaborated.{Elaborated}
-use Rattle.scrib_modules.specs.Elaboration.{start_of}
+use Rattle.scrib_static_checks.specs.Elaboration.{start_of}
 use Rattle.scrib_elaborate.specs.Meaning.{meaning_of, sites_of}
 use Rattle.scrib_elaborate.specs.Sites.{several, IsSite, IsSiteOf, AreSites}
 use Rattle.scrib_project.specs.declared.fault.Unmergeable.{Unmergeable}

@@ -9,7 +9,7 @@ use Rattle.scrib_types.specs.LocalView.{local_of}
 use Rattle.scrib_types.specs.Trees.{GlobalTree, LocalTree}
 use Rattle.scrib_types.specs.Projection.{projection}
 use Rattle.scrib_types.specs.Same.{same_local-refl}
-use Rattle.scrib_local.specs.Projections.{is_this, are_projections}
+use Rattle.scrib_projection.specs.Projections.{is_this, are_projections}
 use Rattle.scrib_project.specs.Faults.{first_without}
 use Rattle.scrib_project.proofs.Wider.{wider}
 

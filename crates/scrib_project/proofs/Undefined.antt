@@ -9,11 +9,11 @@ use Rattle.scrib_types.specs.Trees.{GlobalTree, GlobalEnd, GlobalVar, GlobalRec,
 use Rattle.scrib_types.specs.Projection.{projection, branch_projections, with_choice, merged}
 use Rattle.scrib_types.specs.WellFormed.{well_formed, branches_well_formed, has_branches}
 use Rattle.scrib_types.specs.LocalView.{local_of}
-use Rattle.scrib_local.specs.Surveys.{IsSight}
+use Rattle.scrib_projection.specs.Surveys.{IsSight}
 use Rattle.scrib_project.specs.Faults.{IsUnmergeable}
 use Rattle.scrib_project.specs.declared.fault.Unmergeable.{Unmergeable}
-use Rattle.scrib_local.specs.declared.look.Sight.{Sight}
-use Rattle.scrib_local.specs.Differences.{joins, branch_joins, differ, first_difference, first_among}
+use Rattle.scrib_projection.specs.declared.look.Sight.{Sight}
+use Rattle.scrib_projection.specs.Differences.{joins, branch_joins, differ, first_difference, first_among}
 
 -- there is a number
 abbrev HasNumber : Option ℕ → Type 0

@@ -10,14 +10,14 @@ use Rattle.scrib_types.specs.LocalView.{local_of}
 use Rattle.scrib_types.specs.Projection.{projection, branch_projections}
 use Rattle.scrib_parser.specs.declared.tree.ModuleTree.{ModuleTree}
 use Rattle.scrib_elaborate.specs.declared.elaborated.ChoiceSite.{ChoiceSite}
-use Rattle.scrib_modules.specs.Names.{Declaration, find_protocol}
-use Rattle.scrib_modules.specs.Elaboration.{start_of}
+use Rattle.scrib_static_checks.specs.Names.{Declaration, find_protocol}
+use Rattle.scrib_static_checks.specs.Elaboration.{start_of}
 use Rattle.scrib_elaborate.specs.Sites.{several, IsSite}
 use Rattle.scrib_project.specs.declared.projected.ProjectedProtocol.{ProjectedProtocol}
 use Rattle.scrib_project.specs.declared.fault.Unmergeable.{Unmergeable}
 use Rattle.scrib_project.specs.declared.fault.ProjectFault.{ProjectFault}
 use Rattle.scrib_project.specs.declared.fault.ProjectFault.TheVariants as fault
-use Rattle.scrib_local.specs.Differences.{first_difference, differ}
+use Rattle.scrib_projection.specs.Differences.{first_difference, differ}
 
 -- under the profile there is no projection on the role, and the branches of some choice don't merge for it
 pub record IsUnmergeable (profile : Profile) (g : GlobalTree) (r : List ℕ) (u : Unmergeable) : Type 0 where

@@ -5,12 +5,12 @@ ghost use Rattle.std.specs.Option.{option_copied};
 ghost use Rattle.scrib_parser.specs.declared.tree.ModuleTree.{ModuleTree};
 ghost use Rattle.scrib_elaborate.specs.Meaning.{meaning_of};
 ghost use Rattle.scrib_elaborate.specs.Sites.{AreSites};
-ghost use Rattle.scrib_local.specs.Surveys.{capped};
+ghost use Rattle.scrib_projection.specs.Surveys.{capped};
 ghost use Rattle.scrib_project.specs.Faults.{Projects, IsOfSite, IsFaultPlaced, IsFaultOf};
 
 use crate::fault::{ProjectFault, Unmergeable};
 use scrib_elaborate::elaborated::{ChoiceSite, Elaborated};
-use scrib_local::look::look;
+use scrib_projection::look::look;
 use scrib_types::local::Local;
 use scrib_types::name::{Dotted, Role};
 use scrib_types::profile::Profile;

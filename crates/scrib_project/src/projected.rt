@@ -3,7 +3,7 @@
 ghost use Rattle.std.specs.Prelude.{◌≤◌, IsTrue};
 ghost use Rattle.scrib_types.specs.Meaning.{agreement_of};
 ghost use Rattle.scrib_types.specs.Nodes.{global_nodes};
-ghost use Rattle.scrib_local.specs.Projections.{are_projections};
+ghost use Rattle.scrib_projection.specs.Projections.{are_projections};
 
 use scrib_types::local::Local;
 use scrib_types::plain::Items;

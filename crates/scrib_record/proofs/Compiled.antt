@@ -11,7 +11,7 @@ use Rattle.scrib_types.specs.Projection.{projection, is_closed}
 use Rattle.scrib_types.specs.Trees.{GlobalTree}
 use Rattle.scrib_types.specs.declared.profile.Profile.TheVariants.{Reception}
 use Rattle.scrib_types.specs.WellFormed.{distinct_roles, is_protocol, well_formed}
-use Rattle.scrib_local.specs.Projections.{are_projections}
+use Rattle.scrib_projection.specs.Projections.{are_projections}
 use Rattle.scrib_machine.specs.declared.machine.Edge.{Edge}
 use Rattle.scrib_machine.specs.Compilable.{IsCompilable, most_nodes}
 use Rattle.scrib_machine.specs.Projected.{global_nodes, projected_compilable}

@@ -7,7 +7,7 @@ use Rattle.scrib_types.specs.Trees.{GlobalTree, LocalTree}
 use Rattle.scrib_types.specs.declared.profile.Profile.TheVariants.{Reception}
 use Rattle.scrib_types.specs.Projection.{projection}
 use Rattle.scrib_types.specs.Same.{same_local-equal}
-use Rattle.scrib_local.specs.Projections.{is_this, are_projections}
+use Rattle.scrib_projection.specs.Projections.{is_this, are_projections}
 
 is_this_some : (o : Option LocalTree) (l : LocalTree) → is_this o l ≡ true → o ≡ Some l
 is_this_some None l h = absurd (true≢false (sym h))

@@ -51,7 +51,7 @@ impl Compiled {
     ghost use Rattle.scrib_types.specs.Meaning.{agreement_of};
     ghost use Rattle.scrib_machine.specs.Compilable.{most_nodes};
     ghost use Rattle.scrib_machine.specs.Projected.{global_nodes};
-    ghost use Rattle.scrib_local.specs.Projections.{are_projections};
+    ghost use Rattle.scrib_projection.specs.Projections.{are_projections};
 
     /// The protocol with the machines of its projections on its roles, which are these.
     ///

@@ -4,7 +4,7 @@ ghost use Rattle.std.specs.Prelude.{◌≡◌, ◌≤◌, IsTrue, IfOk, All};
 ghost use Rattle.std.specs.List.{AllZip};
 ghost use Rattle.scrib_types.specs.LocalView.{local_of};
 ghost use Rattle.scrib_types.specs.Meaning.{agreement_of};
-ghost use Rattle.scrib_local.specs.Projections.{are_projections};
+ghost use Rattle.scrib_projection.specs.Projections.{are_projections};
 ghost use Rattle.scrib_machine.specs.Compilable.{IsCompilable, most_nodes};
 ghost use Rattle.scrib_machine.specs.Machines.{IsMachine, Follows};
 ghost use Rattle.scrib_machine.specs.Projected.{global_nodes};

@@ -4,7 +4,7 @@ use Rattle.std.specs.List.{filter, range_with_len}
 use Rattle.std.specs.declared.alloc.AllocError.{AllocError}
 use Rattle.scrib_types.specs.declared.event.Verdict.{Verdict}
 use Rattle.scrib_types.specs.declared.event.Told.TheVariants.{Judged}
-use Rattle.scrib_locked.specs.declared.sweep.Swept.{Swept}
+use Rattle.scrib_locked_steps.specs.declared.sweep.Swept.{Swept}
 use Rattle.scrib_shards.specs.Called.{IsTurnedSome, IsTouchedSome}
 
 -- the shards that leave the worker's number when they are divided by the number of workers, rising

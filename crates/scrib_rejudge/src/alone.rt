@@ -2,7 +2,7 @@
 
 ghost use Rattle.std.specs.Prelude.{◌≤◌, ◌*◌, IfOk};
 
-use scrib_locked::sweep::Swept;
+use scrib_locked_steps::sweep::Swept;
 use scrib_shards::service::Service;
 use std::alloc::AllocError;
 

@@ -7,4 +7,4 @@ pub mod notices;
 pub mod turns;
 pub mod workers;
 
-pub use scrib_locked::sweep::Swept;
+pub use scrib_locked_steps::sweep::Swept;

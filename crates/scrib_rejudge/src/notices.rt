@@ -4,7 +4,7 @@ ghost use Rattle.std.specs.Prelude.{◌≤◌, IfOk};
 
 use crate::turns::{NOTHING, both, sweep_shard};
 use crossbeam_channel::Receiver;
-use scrib_locked::sweep::Swept;
+use scrib_locked_steps::sweep::Swept;
 use scrib_shards::gate::Gate;
 use scrib_shards::service::Service;
 use std::alloc::AllocError;

@@ -3,7 +3,7 @@
 ghost use Rattle.std.specs.Prelude.{◌≡◌, ◌<◌, ◌+◌, ◌-◌, ◌^◌, min, IfOk, vec_len};
 ghost use Rattle.scrib_rejudge.specs.Sweeps.{IsRound, IsShardSwept};
 
-use scrib_locked::sweep::{MAX_TURNS, Swept};
+use scrib_locked_steps::sweep::{MAX_TURNS, Swept};
 use scrib_shards::gate::Gate;
 use scrib_shards::service::Service;
 use scrib_types::event::Told;

@@ -4,7 +4,7 @@ ghost use Rattle.std.specs.Prelude.{◌≡◌, ◌⊎◌, ◌↔◌, ◌<◌, �
 ghost use Rattle.scrib_rejudge.specs.Sweeps.{shards_of, IsCounted};
 
 use crate::turns::{NOTHING, both, sweep_shard};
-use scrib_locked::sweep::Swept;
+use scrib_locked_steps::sweep::Swept;
 use scrib_shards::gate::Gate;
 use scrib_shards::service::Service;
 use std::alloc::{AllocError, Global};

@@ -10,7 +10,7 @@ use Rattle.scrib_types.specs.Texts.{action_text}
 use Rattle.scrib_core.specs.declared.reply.Reply.{Reply}
 use Rattle.scrib_core.specs.declared.reply.Reply.TheVariants as reply
 use Rattle.scrib_report.specs.Lines.{change_text}
-use Rattle.scrib_settle.specs.declared.ended.Ended.{Ended}
+use Rattle.scrib_settlement.specs.declared.ended.Ended.{Ended}
 use Rattle.scrib_report.specs.Json.{natural, offence_then, verdict_member, json_of, told_object, judged_object, mismatch_object}
 
 pub told_in_order : (id : ℕ) (told : Told)

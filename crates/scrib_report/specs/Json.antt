@@ -14,7 +14,7 @@ use Rattle.scrib_types.specs.Texts.{dotted_text, action_text, profile_word}
 use Rattle.scrib_library.specs.declared.changes.Change.{Change}
 use Rattle.scrib_core.specs.declared.reply.Reply.{Reply}
 use Rattle.scrib_core.specs.declared.reply.Reply.TheVariants as reply
-use Rattle.scrib_settle.specs.declared.ended.Ended.{Ended}
+use Rattle.scrib_settlement.specs.declared.ended.Ended.{Ended}
 use Rattle.scrib_report.specs.Lines.{change_text, edit_word, told_word, refusal_text}
 use Rattle.scrib_report.specs.Table.{events_of}
 

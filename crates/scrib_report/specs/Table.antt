@@ -3,7 +3,7 @@ use Rattle.std.specs.Prelude.{ℕ, ◌-◌, List, [], ◌∷◌, ◌++◌, lengt
 use Rattle.std.specs.Fmt.{decimal}
 use Rattle.std.specs.List.{sum_by}
 use Rattle.scrib_types.specs.Texts.{dotted_text}
-use Rattle.scrib_settle.specs.declared.ended.Ended.{Ended}
+use Rattle.scrib_settlement.specs.declared.ended.Ended.{Ended}
 use Rattle.scrib_report.specs.Lines.{told_word}
 
 -- the number at the right of so many places, with blanks before it

@@ -8,7 +8,7 @@ ghost use Rattle.scrib_report.specs.Lines as lines;
 use scrib_core::reply::Refusal;
 use scrib_lexer::fault::LexFault;
 use scrib_library::fault::EditFault;
-use scrib_modules::fault::{Fault, FaultKind};
+use scrib_static_checks::fault::{Fault, FaultKind};
 use scrib_parser::fault::{LeftOutWord, ParseFault};
 use scrib_project::fault::Unmergeable;
 use scrib_types::name::Dotted;

@@ -13,7 +13,7 @@ use crate::fault::push_refusal;
 use crate::verdict::told_word;
 use scrib_core::reply::{Edit, Refusal, Reply};
 use scrib_library::changes::{Change, Changes};
-use scrib_settle::ended::Ended;
+use scrib_settlement::ended::Ended;
 use scrib_types::event::{Action, Told, Verdict};
 use scrib_types::name::{Dotted, Role};
 use scrib_types::text::{push_action, push_dotted};

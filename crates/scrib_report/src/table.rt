@@ -7,7 +7,7 @@ ghost use Rattle.scrib_report.specs.Table as rows;
 
 use crate::json::ended_json;
 use crate::verdict::told_word;
-use scrib_settle::ended::Ended;
+use scrib_settlement::ended::Ended;
 use scrib_types::text::{push_bytes, push_dotted};
 use std::alloc::{AllocError, Global};
 

@@ -14,14 +14,14 @@ use Rattle.scrib_library.specs.Edits.{IsPut, IsChanges, AreVersionsUsed, PutFail
 use Rattle.scrib_core.specs.declared.reply.Refusal.{Refusal}
 use Rattle.scrib_core.specs.Held.{Records}
 use Rattle.scrib_core.specs.Conversing.{IsOpened, OpenFails, TellFails}
-use Rattle.scrib_locked.specs.declared.passing.PassRefusal.{PassRefusal}
-use Rattle.scrib_locked.specs.declared.stepping.Noted.{Noted}
-use Rattle.scrib_locked.specs.Shards.{ShardHeld, IsKept}
-use Rattle.scrib_locked.specs.Locked.{IsConnected, ConnectFails, IsTurnedFor}
-use Rattle.scrib_locked.specs.Passes.{PassHeld}
-use Rattle.scrib_locked.specs.OneByOne.{OneByOne}
-use Rattle.scrib_locked.specs.Passing.{AnswersBy, IsNotedBy, PassNoteFails, IsAskedBy, PassAskFails}
-use Rattle.scrib_locked.specs.Sweeping.{AreTouched}
+use Rattle.scrib_locked_steps.specs.declared.passing.PassRefusal.{PassRefusal}
+use Rattle.scrib_locked_steps.specs.declared.stepping.Noted.{Noted}
+use Rattle.scrib_locked_steps.specs.Shards.{ShardHeld, IsKept}
+use Rattle.scrib_locked_steps.specs.Locked.{IsConnected, ConnectFails, IsTurnedFor}
+use Rattle.scrib_locked_steps.specs.Passes.{PassHeld}
+use Rattle.scrib_locked_steps.specs.OneByOne.{OneByOne}
+use Rattle.scrib_locked_steps.specs.Passing.{AnswersBy, IsNotedBy, PassNoteFails, IsAskedBy, PassAskFails}
+use Rattle.scrib_locked_steps.specs.Sweeping.{AreTouched}
 
 -- some library, and what a put of the text made of it
 pub record IsPutSome (text : List ℕ) (changes : Changes) : Type 0 where

@@ -1,11 +1,11 @@
 -- What a settled service says of what its locks held (this project's own).
 use Rattle.std.specs.Prelude.{◌≡◌, ℕ, ◌<◌, ◌≤◌, List, length}
 use Rattle.scrib_library.specs.Holdings.{Holdings}
-use Rattle.scrib_locked.specs.Shards.{ShardHeld}
-use Rattle.scrib_locked.specs.Passes.{PassHeld}
-use Rattle.scrib_settle.specs.declared.ended.Ended.{Ended}
-use Rattle.scrib_settle.specs.declared.fault.SettleFault.{SettleFault}
-use Rattle.scrib_settle.specs.Settled.{IsSettled, IsFault}
+use Rattle.scrib_locked_steps.specs.Shards.{ShardHeld}
+use Rattle.scrib_locked_steps.specs.Passes.{PassHeld}
+use Rattle.scrib_settlement.specs.declared.ended.Ended.{Ended}
+use Rattle.scrib_settlement.specs.declared.fault.SettleFault.{SettleFault}
+use Rattle.scrib_settlement.specs.Settled.{IsSettled, IsFault}
 
 -- the values of so many shards, 1 to 64
 pub record AreShards (count : ℕ) (shards : List ShardHeld) : Type 0 where

@@ -7,5 +7,5 @@ pub mod service;
 pub mod settled;
 pub mod sweeping;
 
-pub use scrib_locked::{locked, pass, passing, shard, stepping, sweep};
-pub use scrib_settle::{ended, fault, settle};
+pub use scrib_locked_steps::{locked, pass, passing, shard, stepping, sweep};
+pub use scrib_settlement::{ended, fault, settle};

@@ -1,7 +1,7 @@
 //! The service.
 
 ghost use Rattle.std.specs.Prelude.{◌≡◌, ◌⊎◌, ◌↔◌, ◌<◌, ◌≤◌, [], IfOk, IfErr, OnOk, OnErr, IsErrOf, vec_len, vec_capacity};
-ghost use Rattle.scrib_locked.specs.Passes.{IsReceipted, IsAnsweredOn};
+ghost use Rattle.scrib_locked_steps.specs.Passes.{IsReceipted, IsAnsweredOn};
 ghost use Rattle.scrib_shards.specs.Called.{IsPutSome, PutFailsSome, IsWithdrawnSome, WithdrawFailsSome, IsProfiledSome, ProfileFailsSome, IsOpenedSome, OpenFailsSome, IsConnectedSome, ConnectFailsSome, IsNotedSome, NoteFailsSome, AreAnsweredSome, IsTurnedSome, TellFailsSome, IsAskedSome, AskFailsSome};
 
 use crate::gate::Gate;
@@ -12,13 +12,13 @@ use scrib_core::reply::Refusal;
 use scrib_library::changes::Changes;
 use scrib_library::fault::EditFault;
 use scrib_library::library::Library;
-use scrib_locked::locked::connect_locked;
-use scrib_locked::pass::Pass;
-use scrib_locked::passing::{PassAnswer, PassRefusal, ask_by_pass, note_by_pass};
-use scrib_locked::several::note_all_by_pass;
-use scrib_locked::shard::Shard;
-use scrib_locked::stepping::{Noted, open_step, turn_step};
-use scrib_settle::shares::MAX_SHARDS;
+use scrib_locked_steps::locked::connect_locked;
+use scrib_locked_steps::pass::Pass;
+use scrib_locked_steps::passing::{PassAnswer, PassRefusal, ask_by_pass, note_by_pass};
+use scrib_locked_steps::several::note_all_by_pass;
+use scrib_locked_steps::shard::Shard;
+use scrib_locked_steps::stepping::{Noted, open_step, turn_step};
+use scrib_settlement::shares::MAX_SHARDS;
 use scrib_types::event::Told;
 use scrib_types::name::Dotted;
 use scrib_types::profile::Profile;

@@ -4,7 +4,7 @@ ghost use Rattle.std.specs.Prelude.{◌<◌, ◌≤◌, ◌*◌, IfOk, vec_len};
 ghost use Rattle.scrib_shards.specs.Called.{IsTouchedSome};
 
 use crate::service::Service;
-use scrib_locked::sweep::{Swept, sweep_shard, touched_locked};
+use scrib_locked_steps::sweep::{Swept, sweep_shard, touched_locked};
 use std::alloc::AllocError;
 use std::sync::Wait;
 

@@ -4,7 +4,7 @@ ghost use Rattle.std.specs.Prelude.{◌≡◌, true, IfOk, IfErr, IfSome, OnOk, 
 ghost use Rattle.std.specs.Option.{option_copied};
 ghost use Rattle.scrib_cli.specs.Commands.{source, IsToldOf, IsPartToldOf};
 ghost use Rattle.scrib_cli.specs.Faults.{of_script, script_fault};
-ghost use Rattle.scrib_script.specs.Limits.{of_scripts, IsWithin};
+ghost use Rattle.scrib_script_reader.specs.Limits.{of_scripts, IsWithin};
 
 use crate::commands::fault::CommandFault;
 use crate::commands::folder::Folder;

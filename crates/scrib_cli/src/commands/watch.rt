@@ -4,14 +4,14 @@ ghost use Rattle.std.specs.Prelude.{◌≡◌, true, IfOk, IfErr, IfSome, OnOk, 
 ghost use Rattle.std.specs.Option.{option_copied};
 ghost use Rattle.scrib_cli.specs.Commands.{source, IsWatched, IsPartWatched};
 ghost use Rattle.scrib_cli.specs.Faults.{of_script, script_fault};
-ghost use Rattle.scrib_script.specs.Limits.{of_scripts, IsWithin};
+ghost use Rattle.scrib_script_reader.specs.Limits.{of_scripts, IsWithin};
 
 use crate::commands::fault::CommandFault;
 use crate::commands::folder::Folder;
 use crate::commands::observed::Observed;
 use crate::commands::source::Source;
 use crate::run_script::run_script;
-use scrib_script::format::Format;
+use scrib_script_reader::format::Format;
 use std::alloc::Global;
 use std::io::{Read, Write};
 

@@ -1,9 +1,9 @@
 //! Scripts that are longer than they may be, by small limits.
 
 use scrib_cli::run_script::ScriptFault;
-use scrib_script::fault::SpellFault;
-use scrib_script::limits::Limits;
-use scrib_script::script::Script;
+use scrib_script_reader::fault::SpellFault;
+use scrib_script_reader::limits::Limits;
+use scrib_script_reader::script::Script;
 use std::alloc::Global;
 use std::test::Fail;
 

@@ -1,7 +1,7 @@
 use Rattle.std.proofs.Common.{◌==◌, length, sym, ◌∙◌, rules, tests}
 use Rattle.std.proofs.lemmas.Iterator.Consumers.{YieldsList-at, YieldsList-turn, YieldsList-end}
 use Rattle.std.proofs.lemmas.Iterator.Splits.{YieldsList-from_slice_split}
-use Rattle.scrib_script.proofs.Pieces.{no-dotted, dotted-read, none-named}
+use Rattle.scrib_script_reader.proofs.Pieces.{no-dotted, dotted-read, none-named}
 use Rattle.scrib_cli.proofs.full_name.names_of.Goals as goal
 
 pub returns-in_default : goal.returns-in_default

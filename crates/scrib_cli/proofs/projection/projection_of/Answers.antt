@@ -1,8 +1,8 @@
 use Rattle.std.proofs.Common.{[], sym, subst}
-use Rattle.scrib_modules.specs.declared.fault.Fault.{Fault}
+use Rattle.scrib_static_checks.specs.declared.fault.Fault.{Fault}
 use Rattle.scrib_elaborate.specs.Meaning.{meaning_of}
-use Rattle.scrib_modules.specs.Elaboration.{Elaborates}
-use Rattle.scrib_modules.specs.Faults.{IsBroken}
+use Rattle.scrib_static_checks.specs.Elaboration.{Elaborates}
+use Rattle.scrib_static_checks.specs.Faults.{IsBroken}
 use Rattle.scrib_elaborate.specs.Sites.{AreSites}
 use Rattle.scrib_library.specs.declared.fault.EditFault.TheVariants as edit
 use Rattle.scrib_cli.specs.declared.projection.Projection.TheVariants.{Refused}

@@ -1,9 +1,9 @@
 use Rattle.std.proofs.Common.{◌≡◌, ◌+◌, ◌-◌, length, reverse, sym, ap, subst, arith}
 use Rattle.std.proofs.lemmas.Option.{slice_get_within}
 use Rattle.scrib_elaborate.specs.declared.tasks.Choosing.{Choosing}
-use Rattle.scrib_modules.specs.Source.{Then, Chooses}
-use Rattle.scrib_modules.specs.SourceView.{blocks_of}
-use Rattle.scrib_modules.specs.Elaboration.{Under}
+use Rattle.scrib_static_checks.specs.Source.{Then, Chooses}
+use Rattle.scrib_static_checks.specs.SourceView.{blocks_of}
+use Rattle.scrib_static_checks.specs.Elaboration.{Under}
 use Rattle.scrib_elaborate.specs.Scope.{scope_of}
 use Rattle.scrib_elaborate.specs.Typing.{made_of, StopsAhead}
 use Rattle.scrib_elaborate.proofs.Ahead.{stack_ahead}

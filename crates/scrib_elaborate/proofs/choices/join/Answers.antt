@@ -2,12 +2,12 @@ use Rattle.std.proofs.Common.{◌≡◌, ◌+◌, ◌-◌, length, Option, Some,
 use Rattle.std.specs.List.{slice_get}
 use Rattle.std.specs.Option.{option_copied}
 use Rattle.std.proofs.lemmas.Option.{slice_get_within}
-use Rattle.scrib_typed.specs.declared.built.Typed.{Typed}
+use Rattle.scrib_type_builder.specs.declared.built.Typed.{Typed}
 use Rattle.std.proofs.lemmas.Result.{MatchResult-weaker}
 use Rattle.scrib_elaborate.specs.declared.tasks.Choosing.{Choosing}
-use Rattle.scrib_modules.specs.Source.{Then, Chooses}
-use Rattle.scrib_modules.specs.SourceView.{blocks_of}
-use Rattle.scrib_modules.specs.Elaboration.{Under}
+use Rattle.scrib_static_checks.specs.Source.{Then, Chooses}
+use Rattle.scrib_static_checks.specs.SourceView.{blocks_of}
+use Rattle.scrib_static_checks.specs.Elaboration.{Under}
 use Rattle.scrib_elaborate.specs.Scope.{scope_of}
 use Rattle.scrib_elaborate.specs.Typing.{made_of, IsChoosing}
 use Rattle.scrib_elaborate.proofs.Ahead.{stack_ahead, stops_ahead}

@@ -6,8 +6,8 @@ use Rattle.std.proofs.lemmas.Result.{err_from_is_err_and}
 use Rattle.std.proofs.lemmas.List.{take_all, length_push}
 use Rattle.scrib_types.specs.GlobalView.{global_branches, comm_of}
 use Rattle.scrib_types.specs.Trees.{Comm}
-use Rattle.scrib_modules.specs.SourceView.{blocks_of}
-use Rattle.scrib_modules.specs.Elaboration.{role_in, Under}
+use Rattle.scrib_static_checks.specs.SourceView.{blocks_of}
+use Rattle.scrib_static_checks.specs.Elaboration.{role_in, Under}
 use Rattle.scrib_elaborate.specs.Scope.{scope_of}
 use Rattle.scrib_elaborate.specs.Typing.{TypingFails}
 use Rattle.scrib_elaborate.proofs.Joined.{IsOwnOrigin, AreJoined, next_joined, next_marked, next_fails, joined_put, joined_none}

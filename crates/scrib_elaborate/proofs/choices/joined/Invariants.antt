@@ -2,12 +2,12 @@ use Rattle.std.proofs.Common.{List, length, take, Option}
 use Rattle.std.specs.List.{AllZip}
 use Rattle.scrib_types.specs.GlobalView.{global_branches}
 use Rattle.scrib_parser.specs.declared.tree.ModuleTree.{ModuleTree}
-use Rattle.scrib_typed.specs.declared.built.Typed.{Typed}
+use Rattle.scrib_type_builder.specs.declared.built.Typed.{Typed}
 use Rattle.scrib_elaborate.specs.declared.tasks.Task.{Task}
-use Rattle.scrib_modules.specs.Source.{Then, Chooses}
-use Rattle.scrib_modules.specs.SourceView.{blocks_of}
-use Rattle.scrib_typed.specs.Operators.{AreFiled}
-use Rattle.scrib_modules.specs.Elaboration.{role_in, Under}
+use Rattle.scrib_static_checks.specs.Source.{Then, Chooses}
+use Rattle.scrib_static_checks.specs.SourceView.{blocks_of}
+use Rattle.scrib_type_builder.specs.Operators.{AreFiled}
+use Rattle.scrib_static_checks.specs.Elaboration.{role_in, Under}
 use Rattle.scrib_elaborate.specs.Sites.{branch_communications}
 use Rattle.scrib_elaborate.specs.Scope.{scope_of}
 use Rattle.scrib_elaborate.specs.Typing.{Target, IsMarked, IsChoosing}

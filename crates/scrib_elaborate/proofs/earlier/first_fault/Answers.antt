@@ -1,5 +1,5 @@
 use Rattle.std.proofs.Common.{sym, subst}
-use Rattle.scrib_modules.specs.Table.{declaration_of}
+use Rattle.scrib_static_checks.specs.Table.{declaration_of}
 use Rattle.scrib_elaborate.specs.Typing.{StopsAhead}
 use Rattle.scrib_elaborate.proofs.Ahead.{turned_stops, stops_ahead, broken_ahead, less_ahead}
 use Rattle.scrib_elaborate.proofs.earlier.first_fault.Goals.{in-Err, in_default-look}

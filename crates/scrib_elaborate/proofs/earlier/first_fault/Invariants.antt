@@ -1,4 +1,4 @@
-use Rattle.scrib_modules.specs.Table.{declaration_of}
+use Rattle.scrib_static_checks.specs.Table.{declaration_of}
 use Rattle.scrib_elaborate.specs.Typing.{StopsAhead}
 use Rattle.scrib_elaborate.proofs.earlier.first_fault.Given as goal
 

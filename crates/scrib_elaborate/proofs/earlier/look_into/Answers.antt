@@ -1,6 +1,6 @@
 use Rattle.std.proofs.Common.{sym, ap, ◌∙◌, subst}
-use Rattle.scrib_modules.specs.Source.{Then, Chooses, Repeats, Calls}
-use Rattle.scrib_modules.specs.SourceView.{statement_of, body_of, blocks_of, choice_of, rec_of, do_of}
+use Rattle.scrib_static_checks.specs.Source.{Then, Chooses, Repeats, Calls}
+use Rattle.scrib_static_checks.specs.SourceView.{statement_of, body_of, blocks_of, choice_of, rec_of, do_of}
 use Rattle.scrib_elaborate.specs.Scope.{scope_of}
 use Rattle.scrib_elaborate.specs.Typing.{IsAhead}
 use Rattle.scrib_elaborate.proofs.earlier.look_into.Goals as goal

@@ -1,5 +1,5 @@
 use Rattle.scrib_elaborate.specs.declared.tasks.Task.TheVariants.{Front}
-use Rattle.scrib_modules.specs.Table.{declaration_of}
+use Rattle.scrib_static_checks.specs.Table.{declaration_of}
 use Rattle.scrib_elaborate.proofs.Ahead.{call_ahead, more_ahead}
 use Rattle.scrib_elaborate.proofs.earlier.look_into_call.Goals as goal
 

@@ -1,8 +1,8 @@
 use Rattle.std.proofs.Common.{refl, sym, ap, ◌∙◌, subst}
 use Rattle.std.proofs.lemmas.Result.{err_from_is_err_and}
 use Rattle.scrib_elaborate.specs.declared.tasks.Task.TheVariants.{Front}
-use Rattle.scrib_modules.specs.SourceView.{body_of}
-use Rattle.scrib_modules.specs.Elaboration.{Scope}
+use Rattle.scrib_static_checks.specs.SourceView.{body_of}
+use Rattle.scrib_static_checks.specs.Elaboration.{Scope}
 use Rattle.scrib_elaborate.specs.Staying.{Stays}
 use Rattle.scrib_elaborate.specs.Typing.{AreAhead}
 use Rattle.scrib_elaborate.proofs.Ahead.{choice_block, choice_ahead, more_ahead}

@@ -1,5 +1,5 @@
 use Rattle.std.proofs.Common.{◌≡◌, take}
-use Rattle.scrib_modules.specs.Names.{role_names}
+use Rattle.scrib_static_checks.specs.Names.{role_names}
 use Rattle.scrib_elaborate.proofs.elaborate.copy_roles.Given as goal
 
 abbrev pub invariant-loop-role : goal.invariant-loop-role

@@ -1,8 +1,8 @@
 use Rattle.std.proofs.Common.{refl, sym, subst}
 use Rattle.std.proofs.lemmas.Result.{err_from_is_err_and}
-use Rattle.scrib_modules.specs.Table.{shown}
+use Rattle.scrib_static_checks.specs.Table.{shown}
 use Rattle.scrib_elaborate.specs.Typing.{AreKnown}
-use Rattle.scrib_modules.specs.Walking.{AreSummaries, IsIdle}
+use Rattle.scrib_static_checks.specs.Walking.{AreSummaries, IsIdle}
 use Rattle.scrib_elaborate.proofs.Answered.{walk_told, size_told, root_stated, root_within, nothing_missed}
 use Rattle.scrib_elaborate.proofs.Finished.{is_counted, only_meant}
 use Rattle.scrib_elaborate.proofs.elaborate.elaborate_among.Goals as goal

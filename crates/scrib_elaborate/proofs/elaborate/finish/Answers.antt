@@ -2,12 +2,12 @@ use Rattle.std.proofs.Common.{sym, ap, ◌∙◌, subst, arith}
 use Rattle.std.specs.List.{AllZip}
 use Rattle.scrib_types.specs.Agreement.{Agreement}
 use Rattle.scrib_types.specs.GlobalView.{global_of}
-use Rattle.scrib_modules.specs.Names.{role_names}
-use Rattle.scrib_modules.specs.Elaboration.{Elaborates}
+use Rattle.scrib_static_checks.specs.Names.{role_names}
+use Rattle.scrib_static_checks.specs.Elaboration.{Elaborates}
 use Rattle.scrib_elaborate.specs.Meaning.{sites_of}
 use Rattle.scrib_elaborate.specs.Sites.{communications, several, IsSiteOf}
 use Rattle.scrib_elaborate.specs.Typing.{told_sites}
-use Rattle.scrib_modules.specs.Table.{shown, declaration_of}
+use Rattle.scrib_static_checks.specs.Table.{shown, declaration_of}
 use Rattle.scrib_elaborate.proofs.Accepted.{accepted_sound, size_is_nodes, size_is_height}
 use Rattle.scrib_elaborate.proofs.Finished.{elaborated}
 use Rattle.scrib_elaborate.proofs.Sited.{sites_told}

@@ -1,7 +1,7 @@
 use Rattle.std.proofs.Common.{refl, sym, ap, ◌∙◌, subst}
 use Rattle.std.proofs.lemmas.List.{drop_all}
-use Rattle.scrib_modules.specs.SourceView.{statement_of, body_of, blocks_of, choice_of, rec_of, continue_of, do_of}
-use Rattle.scrib_modules.specs.Table.{shown, declaration_of}
+use Rattle.scrib_static_checks.specs.SourceView.{statement_of, body_of, blocks_of, choice_of, rec_of, continue_of, do_of}
+use Rattle.scrib_static_checks.specs.Table.{shown, declaration_of}
 use Rattle.scrib_elaborate.specs.Staying.{Stays, StatementStays, chooses_stays, repeats_stays, continues_stays, calls_stays, AllStay, none_stays}
 use Rattle.scrib_elaborate.proofs.Staying.{protocol_stays, stays_at, stays_more, all_more}
 use Rattle.scrib_elaborate.proofs.exits.+exits.Goals as goal

@@ -1,5 +1,5 @@
 use Rattle.std.proofs.Common.{drop}
-use Rattle.scrib_modules.specs.SourceView.{body_of, blocks_of}
+use Rattle.scrib_static_checks.specs.SourceView.{body_of, blocks_of}
 use Rattle.scrib_elaborate.specs.Staying.{Stays, AllStay}
 use Rattle.scrib_elaborate.proofs.exits.+exits.Given as goal
 

@@ -1,6 +1,6 @@
 use Rattle.std.proofs.Common.{Some, ap, ◌∙◌}
 use Rattle.std.proofs.lemmas.Result.{IfOk-weaker}
-use Rattle.scrib_modules.proofs.Shown.{lent_at}
+use Rattle.scrib_static_checks.proofs.Shown.{lent_at}
 use Rattle.scrib_elaborate.proofs.TypesKept.{kept_there, alone_there, some_alone}
 use Rattle.scrib_elaborate.proofs.known.alone.Goals as goal
 

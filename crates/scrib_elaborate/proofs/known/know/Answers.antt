@@ -1,5 +1,5 @@
 use Rattle.std.proofs.Common.{sym, subst}
-use Rattle.scrib_modules.specs.Table.{shown}
+use Rattle.scrib_static_checks.specs.Table.{shown}
 use Rattle.scrib_elaborate.specs.Typing.{AreKnown}
 use Rattle.scrib_elaborate.proofs.known.know.Goals as goal
 

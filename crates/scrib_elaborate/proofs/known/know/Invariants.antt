@@ -1,4 +1,4 @@
-use Rattle.scrib_modules.specs.Table.{shown}
+use Rattle.scrib_static_checks.specs.Table.{shown}
 use Rattle.scrib_elaborate.specs.Typing.{AreKnown}
 use Rattle.scrib_elaborate.proofs.known.know.Given as goal
 

@@ -1,9 +1,9 @@
 use Rattle.std.proofs.Common.{Some, sym, ap, ◌∙◌, subst}
-use Rattle.scrib_modules.specs.Elaboration.{start_of}
-use Rattle.scrib_modules.specs.Table.{declaration_of}
+use Rattle.scrib_static_checks.specs.Elaboration.{start_of}
+use Rattle.scrib_static_checks.specs.Table.{declaration_of}
 use Rattle.scrib_elaborate.specs.Typing.{made_of, Makes}
 use Rattle.scrib_elaborate.proofs.Sited.{made_is}
-use Rattle.scrib_modules.proofs.Shown.{lent_at}
+use Rattle.scrib_static_checks.proofs.Shown.{lent_at}
 use Rattle.scrib_elaborate.proofs.known.known_or_typed.Goals as goal
 
 pub returns-in-Some-Some-clause-ok : goal.returns-in-Some-Some-clause-ok

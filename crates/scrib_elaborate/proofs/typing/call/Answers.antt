@@ -1,10 +1,10 @@
 use Rattle.std.proofs.Common.{reverse, refl, ap, ◌∙◌}
 use Rattle.scrib_elaborate.specs.declared.tasks.Task.TheVariants.{Front}
-use Rattle.scrib_modules.specs.Names.{role_names}
-use Rattle.scrib_modules.specs.Elaboration.{Scope, given_for}
-use Rattle.scrib_typed.specs.Renaming.{renamed}
-use Rattle.scrib_modules.specs.Shape.{names_of}
-use Rattle.scrib_modules.specs.Table.{declaration_of}
+use Rattle.scrib_static_checks.specs.Names.{role_names}
+use Rattle.scrib_static_checks.specs.Elaboration.{Scope, given_for}
+use Rattle.scrib_type_builder.specs.Renaming.{renamed}
+use Rattle.scrib_static_checks.specs.Shape.{names_of}
+use Rattle.scrib_static_checks.specs.Table.{declaration_of}
 use Rattle.scrib_elaborate.specs.Scope.{scope_of}
 use Rattle.scrib_elaborate.specs.Typing.{made_of}
 use Rattle.scrib_elaborate.proofs.Skipped.{call_skipped, call_known}

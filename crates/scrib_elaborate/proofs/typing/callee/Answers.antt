@@ -1,11 +1,11 @@
 use Rattle.std.proofs.Common.{Some, None, ap, ◌∙◌, subst, ⊎_elim, arith}
 use Rattle.std.proofs.lemmas.Bool.{cases_Bool}
 use Rattle.std.proofs.lemmas.Option.{slice_get_within}
-use Rattle.scrib_modules.specs.Names.{Declaration, has_name, module_names}
-use Rattle.scrib_modules.specs.Shape.{IsShapeOf}
-use Rattle.scrib_modules.specs.Table.{shown}
-use Rattle.scrib_modules.proofs.Places.{name_last, called_home-there, called_home-away, called_home-unknown}
-use Rattle.scrib_modules.proofs.Checks.{called-is, entry_is, found_home}
+use Rattle.scrib_static_checks.specs.Names.{Declaration, has_name, module_names}
+use Rattle.scrib_static_checks.specs.Shape.{IsShapeOf}
+use Rattle.scrib_static_checks.specs.Table.{shown}
+use Rattle.scrib_static_checks.proofs.Places.{name_last, called_home-there, called_home-away, called_home-unknown}
+use Rattle.scrib_static_checks.proofs.Checks.{called-is, entry_is, found_home}
 use Rattle.scrib_elaborate.proofs.Steps.{no_callee}
 use Rattle.scrib_elaborate.proofs.typing.callee.Goals as goal
 

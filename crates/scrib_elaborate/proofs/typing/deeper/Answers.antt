@@ -1,6 +1,6 @@
 use Rattle.std.proofs.Common.{◌≡◌, sym, subst}
-use Rattle.scrib_typed.specs.Lifting.{lifted}
-use Rattle.scrib_typed.specs.Typed.{type_of}
+use Rattle.scrib_type_builder.specs.Lifting.{lifted}
+use Rattle.scrib_type_builder.specs.Typed.{type_of}
 use Rattle.scrib_elaborate.proofs.Lifted.{lift_none}
 use Rattle.scrib_elaborate.proofs.typing.deeper.Goals as goal
 

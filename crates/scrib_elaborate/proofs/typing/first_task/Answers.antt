@@ -1,5 +1,5 @@
 use Rattle.std.proofs.Common.{refl}
-use Rattle.scrib_modules.specs.Table.{declaration_of}
+use Rattle.scrib_static_checks.specs.Table.{declaration_of}
 use Rattle.scrib_elaborate.specs.Typing.{nothing_made}
 use Rattle.scrib_elaborate.proofs.Steps.{begins}
 use Rattle.scrib_elaborate.proofs.typing.first_task.Goals as goal

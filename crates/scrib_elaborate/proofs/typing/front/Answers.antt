@@ -1,7 +1,7 @@
 use Rattle.std.proofs.Common.{reverse}
 use Rattle.std.proofs.lemmas.List.{nil_from_length}
 use Rattle.scrib_elaborate.specs.declared.tasks.Task.TheVariants.{Front}
-use Rattle.scrib_modules.specs.SourceView.{statement_of}
+use Rattle.scrib_static_checks.specs.SourceView.{statement_of}
 use Rattle.scrib_elaborate.specs.Scope.{scope_of}
 use Rattle.scrib_elaborate.specs.Typing.{made_of}
 use Rattle.scrib_elaborate.proofs.Steps.{front_done, front_step, pushed_before}

@@ -1,8 +1,8 @@
 use Rattle.std.proofs.Common.{[], ◌∷◌, ◌++◌, map, refl, sym, ap, ◌∙◌, subst}
-use Rattle.scrib_modules.specs.SourceView.{statement_of, message_of}
-use Rattle.scrib_modules.specs.Elaboration.{role_in, sent}
+use Rattle.scrib_static_checks.specs.SourceView.{statement_of, message_of}
+use Rattle.scrib_static_checks.specs.Elaboration.{role_in, sent}
 use Rattle.scrib_elaborate.specs.Scope.{scope_of}
-use Rattle.scrib_typed.specs.Typed.{none_told}
+use Rattle.scrib_type_builder.specs.Typed.{none_told}
 use Rattle.scrib_elaborate.specs.Typing.{made_of, IsBefore}
 use Rattle.scrib_elaborate.specs.declared.tasks.Task.TheVariants.{Front}
 use Rattle.scrib_elaborate.proofs.Steps.{front_same, front_step, message_put}

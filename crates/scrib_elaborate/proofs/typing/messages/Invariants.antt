@@ -4,7 +4,7 @@ use Rattle.scrib_parser.specs.declared.tree.ModuleTree.{ModuleTree}
 use Rattle.scrib_parser.specs.declared.tree.Statement.{Statement}
 use Rattle.scrib_elaborate.specs.declared.tasks.Task.{Task}
 use Rattle.scrib_elaborate.specs.declared.tasks.Task.TheVariants.{Front}
-use Rattle.scrib_modules.specs.Statements.{KeepsRules}
+use Rattle.scrib_static_checks.specs.Statements.{KeepsRules}
 use Rattle.scrib_elaborate.specs.Typing.{Target, made_of, IsState}
 use Rattle.scrib_elaborate.proofs.typing.messages.Given as goal
 

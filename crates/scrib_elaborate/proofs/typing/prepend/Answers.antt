@@ -1,9 +1,9 @@
 use Rattle.std.proofs.Common.{map, reverse, sym, ap, ◌∙◌, subst}
-use Rattle.scrib_modules.specs.Source.{Chooses, Repeats, Calls}
-use Rattle.scrib_modules.specs.SourceView.{statement_of, body_of, blocks_of, message_of, choice_of, rec_of, continue_of, do_of}
-use Rattle.scrib_modules.specs.Elaboration.{role_in, sent}
+use Rattle.scrib_static_checks.specs.Source.{Chooses, Repeats, Calls}
+use Rattle.scrib_static_checks.specs.SourceView.{statement_of, body_of, blocks_of, message_of, choice_of, rec_of, continue_of, do_of}
+use Rattle.scrib_static_checks.specs.Elaboration.{role_in, sent}
 use Rattle.scrib_elaborate.specs.Scope.{scope_of}
-use Rattle.scrib_typed.specs.Typed.{none_told}
+use Rattle.scrib_type_builder.specs.Typed.{none_told}
 use Rattle.scrib_elaborate.specs.Typing.{made_of, IsBefore}
 use Rattle.scrib_elaborate.proofs.Steps.{message_put, variable_put, round_found, callee_found}
 use Rattle.scrib_elaborate.proofs.typing.prepend.Goals as goal

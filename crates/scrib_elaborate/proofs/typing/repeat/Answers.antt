@@ -1,6 +1,6 @@
 use Rattle.std.proofs.Common.{reverse, refl, sym, ◌∙◌}
 use Rattle.scrib_elaborate.specs.declared.tasks.Task.TheVariants.{Front, Close}
-use Rattle.scrib_modules.specs.Elaboration.{Under}
+use Rattle.scrib_static_checks.specs.Elaboration.{Under}
 use Rattle.scrib_elaborate.specs.Scope.{scope_of}
 use Rattle.scrib_elaborate.specs.Typing.{made_of}
 use Rattle.scrib_elaborate.proofs.Steps.{pushed, pushed_twice, passes_put, repeats_put}

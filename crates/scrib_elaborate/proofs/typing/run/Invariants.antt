@@ -1,5 +1,5 @@
 use Rattle.std.proofs.Common.{Bool, reverse}
-use Rattle.scrib_modules.specs.Statements.{KeepsRules}
+use Rattle.scrib_static_checks.specs.Statements.{KeepsRules}
 use Rattle.scrib_elaborate.specs.Typing.{Target, made_of, nothing_made, IsState}
 use Rattle.scrib_elaborate.proofs.typing.run.Given as goal
 

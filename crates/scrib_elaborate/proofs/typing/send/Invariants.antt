@@ -1,7 +1,7 @@
 use Rattle.std.proofs.Common.{◌≡◌, drop, map}
-use Rattle.scrib_modules.specs.Elaboration.{role_in, sent}
+use Rattle.scrib_static_checks.specs.Elaboration.{role_in, sent}
 use Rattle.scrib_elaborate.specs.Scope.{scope_of}
-use Rattle.scrib_typed.specs.Typed.{type_of, none_told}
+use Rattle.scrib_type_builder.specs.Typed.{type_of, none_told}
 use Rattle.scrib_elaborate.proofs.typing.send.Given as goal
 
 abbrev pub invariant-loop-i : goal.invariant-loop-i

@@ -1,4 +1,4 @@
-use Rattle.scrib_modules.specs.Table.{declaration_of}
+use Rattle.scrib_static_checks.specs.Table.{declaration_of}
 use Rattle.scrib_elaborate.specs.Typing.{whole_target}
 use Rattle.scrib_elaborate.proofs.typing.type_alone.Goals as goal
 

@@ -1,5 +1,5 @@
 use Rattle.std.proofs.Common.{take}
-use Rattle.scrib_modules.specs.SourceView.{body_of, blocks_of}
+use Rattle.scrib_static_checks.specs.SourceView.{body_of, blocks_of}
 use Rattle.scrib_library.specs.Calls.{EachCall, EachCallOf, IsOther}
 use Rattle.scrib_library.proofs.calls.+calls.Given as goal
 

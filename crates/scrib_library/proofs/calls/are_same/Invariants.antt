@@ -1,5 +1,5 @@
 use Rattle.std.proofs.Common.{◌≡◌, drop}
-use Rattle.scrib_modules.specs.Names.{dotted_eq}
+use Rattle.scrib_static_checks.specs.Names.{dotted_eq}
 use Rattle.scrib_library.proofs.calls.are_same.Given as goal
 
 abbrev pub invariant-loop-i : goal.invariant-loop-i

@@ -1,5 +1,5 @@
 use Rattle.std.proofs.Common.{◌≡◌, drop}
-use Rattle.scrib_modules.specs.Names.{imported}
+use Rattle.scrib_static_checks.specs.Names.{imported}
 use Rattle.scrib_library.proofs.calls.imported.Given as goal
 
 abbrev pub invariant-loop-import : goal.invariant-loop-import

@@ -1,5 +1,5 @@
 use Rattle.std.proofs.Common.{◌≡◌, false, take}
-use Rattle.scrib_modules.specs.Names.{has_name, module_names}
+use Rattle.scrib_static_checks.specs.Names.{has_name, module_names}
 use Rattle.scrib_library.proofs.outlines.place_of.Given as goal
 
 abbrev pub invariant-loop-at : goal.invariant-loop-at

@@ -1,6 +1,6 @@
 use Rattle.std.proofs.Common.{◌≡◌, true, drop, take}
 use Rattle.scrib_elaborate.specs.Meaning.{meaning_of}
-use Rattle.scrib_local.specs.Projections.{are_projections}
+use Rattle.scrib_projection.specs.Projections.{are_projections}
 use Rattle.scrib_project.specs.Faults.{first_without}
 use Rattle.scrib_project.proofs.protocol.protocol_with_projections.Given as goal
 

@@ -1,9 +1,9 @@
 use Rattle.std.proofs.Common.{subst, Option}
 use Rattle.std.proofs.lemmas.Result.{err_from_is_err_and, on_ok_weaker, on_err_weaker}
 use Rattle.scrib_core.specs.Held.{state_of}
-use Rattle.scrib_script.specs.declared.item.Item.{Item}
-use Rattle.scrib_script.specs.Scripts.{listed}
-use Rattle.scrib_script.specs.Standing.{EndsIn}
+use Rattle.scrib_script_reader.specs.declared.item.Item.{Item}
+use Rattle.scrib_script_reader.specs.Scripts.{listed}
+use Rattle.scrib_script_reader.specs.Standing.{EndsIn}
 use Rattle.scrib_cli.proofs.Faults.{not_limit}
 use Rattle.scrib_cli.proofs.Results.{on_err_any}
 use Rattle.scrib_cli.proofs.Running.{ended_item, failed_last, failed_none}

@@ -1,9 +1,9 @@
 use Rattle.std.proofs.Common.{◌∙◌, Option, Some, refl, sym, subst}
 use Rattle.std.proofs.lemmas.Result.{err_from_is_err_and}
 use Rattle.scrib_core.specs.Held.{state_of}
-use Rattle.scrib_script.specs.declared.item.Item.{Item}
-use Rattle.scrib_script.specs.Scripts.{listed}
-use Rattle.scrib_script.specs.Standing.{TakesFront}
+use Rattle.scrib_script_reader.specs.declared.item.Item.{Item}
+use Rattle.scrib_script_reader.specs.Scripts.{listed}
+use Rattle.scrib_script_reader.specs.Standing.{TakesFront}
 use Rattle.scrib_cli.proofs.Faults.{limit_told, output_not_read}
 use Rattle.scrib_cli.proofs.Results.{on_err_any}
 use Rattle.scrib_cli.proofs.Running.{Carried, took_item, stopped_took, stopped_item, stopped_past}

@@ -1,9 +1,9 @@
 use Rattle.std.proofs.Common.{◌≡◌, length, rules, subst, sym}
-use Rattle.scrib_modules.specs.Directory.{IsDirectory}
-use Rattle.scrib_modules.specs.Table.{shown}
-use Rattle.scrib_modules.specs.Walking.{AreUnwalked}
+use Rattle.scrib_static_checks.specs.Directory.{IsDirectory}
+use Rattle.scrib_static_checks.specs.Table.{shown}
+use Rattle.scrib_static_checks.specs.Walking.{AreUnwalked}
 use Rattle.scrib_elaborate.proofs.TypesKept.{none_known}
-use Rattle.scrib_modules.proofs.Walks.{idle_before}
+use Rattle.scrib_static_checks.proofs.Walks.{idle_before}
 use Rattle.scrib_elaborate.proofs.elaborate.Elaborator.new.Goals as goal
 
 pub invariant_of-result : goal.invariant_of-result

@@ -1,5 +1,5 @@
 use Rattle.std.proofs.Common.{◌≡◌, drop}
-use Rattle.scrib_modules.specs.Elaboration.{level_of}
+use Rattle.scrib_static_checks.specs.Elaboration.{level_of}
 use Rattle.scrib_elaborate.specs.Scope.{levels_of}
 use Rattle.scrib_elaborate.proofs.scope.Scope.level_of.Given as goal
 

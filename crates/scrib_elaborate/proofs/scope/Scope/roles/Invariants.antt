@@ -1,6 +1,6 @@
 use Rattle.std.proofs.Common.{◌≡◌, map, take}
-use Rattle.scrib_modules.specs.Elaboration.{role_in}
-use Rattle.scrib_typed.specs.Renaming.{named}
+use Rattle.scrib_static_checks.specs.Elaboration.{role_in}
+use Rattle.scrib_type_builder.specs.Renaming.{named}
 use Rattle.scrib_elaborate.specs.Scope.{scope_of}
 use Rattle.scrib_elaborate.proofs.scope.Scope.roles.Given as goal
 

@@ -1,6 +1,6 @@
 use Rattle.std.proofs.Common.{set, take, sym, ap, ◌∙◌}
 use Rattle.std.proofs.lemmas.List.{take-map, map-set}
-use Rattle.scrib_modules.specs.Placed.{undone, back_to}
+use Rattle.scrib_static_checks.specs.Placed.{undone, back_to}
 use Rattle.scrib_library.specs.Outlines.{outline, outlines_of}
 use Rattle.scrib_library.proofs.shelf.Shelf.undo.Goals.{in-Some, in-None}
 use Rattle.scrib_library.proofs.shelf.Shelf.undo.Goals as goal

@@ -1,11 +1,11 @@
 use Rattle.std.proofs.Common.{Result, Ok, Err, IfOk, ◌∙◌, sym, subst}
 use Rattle.scrib_types.specs.declared.event.Event.{Event}
 use Rattle.scrib_library.specs.Holdings.{Holdings, IsAccepting}
-use Rattle.scrib_locked.specs.declared.passing.PassRefusal.{PassRefusal}
-use Rattle.scrib_locked.specs.declared.stepping.Noted.{Noted}
-use Rattle.scrib_locked.specs.Passes.{PassHeld}
-use Rattle.scrib_locked.specs.Passing.{IsNotedBy}
-use Rattle.scrib_locked.specs.Shards.{ShardHeld, IsKept}
+use Rattle.scrib_locked_steps.specs.declared.passing.PassRefusal.{PassRefusal}
+use Rattle.scrib_locked_steps.specs.declared.stepping.Noted.{Noted}
+use Rattle.scrib_locked_steps.specs.Passes.{PassHeld}
+use Rattle.scrib_locked_steps.specs.Passing.{IsNotedBy}
+use Rattle.scrib_locked_steps.specs.Shards.{ShardHeld, IsKept}
 use Rattle.scrib_shards.specs.Called.{IsNotedSome}
 use Rattle.scrib_shards.proofs.service.Service.note.Goals as goal
 

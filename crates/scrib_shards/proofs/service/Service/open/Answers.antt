@@ -2,7 +2,7 @@ use Rattle.std.proofs.Common.{ℕ, List, Result, Ok, Err, IfErr, ◌∙◌, sym,
 use Rattle.scrib_library.specs.Holdings.{Holdings, IsAccepting}
 use Rattle.scrib_core.specs.declared.reply.Refusal.{Refusal}
 use Rattle.scrib_core.specs.Conversing.{OpenFails}
-use Rattle.scrib_locked.specs.Shards.{ShardHeld, IsKept}
+use Rattle.scrib_locked_steps.specs.Shards.{ShardHeld, IsKept}
 use Rattle.scrib_shards.specs.Called.{OpenFailsSome}
 use Rattle.scrib_shards.proofs.service.Service.open.Goals as goal
 

@@ -3,7 +3,7 @@ use Rattle.scrib_types.specs.declared.event.Told.{Told}
 use Rattle.scrib_library.specs.Holdings.{Holdings, IsAccepting}
 use Rattle.scrib_core.specs.declared.reply.Refusal.{Refusal}
 use Rattle.scrib_core.specs.Held.{Records}
-use Rattle.scrib_locked.specs.Locked.{IsTurnedFor}
+use Rattle.scrib_locked_steps.specs.Locked.{IsTurnedFor}
 use Rattle.scrib_shards.specs.Called.{IsTurnedSome}
 use Rattle.scrib_shards.proofs.service.Service.turn.Goals as goal
 

@@ -1,5 +1,0 @@
-use Rattle.scrib_locked.proofs.Touching.{AreTouchedUnder}
-use Rattle.scrib_locked.proofs.sweep.touched_locked.Given as goal
-
-abbrev pub invariant-loop-place : goal.invariant-loop-place
-invariant-loop-place l = AreTouchedUnder l.library l.shard.records l.shard-inside.index.entries l.place l.ids.items

@@ -1,8 +1,0 @@
-use Rattle.scrib_modules.proofs.Walks.{IsWalkFrom, work}
-use Rattle.scrib_modules.proofs.walk.walk_from.Given as goal
-
-abbrev pub invariant-loop-top : goal.invariant-loop-top
-invariant-loop-top l = IsWalkFrom l.modules l.declared l.root l.states.items l.stack.items
-
-abbrev pub decreases-loop-top : goal.decreases-loop-top
-decreases-loop-top l = work l.states.items l.stack.items

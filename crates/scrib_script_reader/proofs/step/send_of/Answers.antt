@@ -1,0 +1,7 @@
+use Rattle.scrib_script_reader.proofs.Steps.{no-send}
+use Rattle.scrib_script_reader.proofs.step.send_of.Goals as goal
+
+pub returns-in_default : goal.returns-in_default
+returns-in_default c =
+    let none = rw c.in_default.is at c.in_ok-exchange.ensures in
+    no-send c.args.id _ (λ from to m h. none (record { from = from; to = to; message = m }) h)

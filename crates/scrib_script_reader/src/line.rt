@@ -1,0 +1,154 @@
+//! Lines of a script.
+
+ghost use Rattle.std.specs.Prelude.{◌≡◌, ◌↔◌, ◌∷◌, ◌++◌, IfOk, IfSome, IsTrue, map, codes};
+ghost use Rattle.scrib_core.specs.declared.step.Step.TheVariants.{Ask, Turn};
+ghost use Rattle.scrib_script_reader.specs.Fields.{fields};
+ghost use Rattle.scrib_script_reader.specs.Says.{Says, IsSkipped, IsPutLine, Asks};
+ghost use Rattle.scrib_script_reader.specs.declared.format.Format.TheVariants as format;
+ghost use Rattle.scrib_script_reader.specs.declared.line.Line.TheVariants as line;
+
+use crate::fields::fields_of;
+use crate::format::Format;
+use crate::step::step_of;
+use crate::text::number_of;
+use scrib_core::step::Step;
+use std::alloc::{AllocError, Global};
+
+/// The most bytes of a line outside module texts, without its end.
+pub const MAX_LINE_BYTES: usize = 131_072;
+
+/// What a line outside module texts says.
+#[derive(Drop)]
+pub enum Line {
+    /// A line without fields, or a comment.
+    Skipped,
+    /// The text of a module follows, and the reply to its put is printed so.
+    Put(Format),
+    /// A step, and how its reply is printed.
+    Step(Format, Step),
+    /// None of these.
+    Bad,
+}
+
+/// What the line of these bytes, without their end, says.
+///
+/// # Errors
+/// `AllocError` where memory for the fields or for the step was refused.
+pub fn line_of(alloc: Global, bytes: &[u8]) -> Result<Line, AllocError>
+    ensures { IfOk result (Says bytes.now) }
+{
+    if bytes.len() > MAX_LINE_BYTES {
+        return Ok(Line::Bad);
+    }
+    if is_comment(bytes) {
+        return Ok(Line::Skipped);
+    }
+    if let Some(id) = ask_of(bytes) {
+        return Ok(Line::Step(Format::Line, Step::Ask { id }));
+    }
+    if let Some(id) = turn_of(bytes) {
+        return Ok(Line::Step(Format::Line, Step::Turn { id }));
+    }
+    let fields = fields_of(alloc, bytes)?;
+    let fields = fields.as_slice();
+    if is_skipped(fields) {
+        return Ok(Line::Skipped);
+    }
+    let (format, words) = format_of(fields);
+    if is_put(words) {
+        return Ok(Line::Put(format));
+    }
+    match step_of(alloc, words)? {
+        Some(step) => Ok(Line::Step(format, step)),
+        None => Ok(Line::Bad),
+    }
+}
+
+// What stands behind the `#` of a comment.
+fn comment_of(bytes: &[u8]) -> Option<&[u8]>
+    ensures { IfSome result (λ rest. bytes.now ≡ 35 ∷ rest.now) }
+{
+    match bytes {
+        [b'#', rest @ ..] => Some(rest),
+        _ => None,
+    }
+}
+
+// Whether the line begins with `#`, so that its first field does.
+fn is_comment(bytes: &[u8]) -> bool
+    ensures { IsTrue result → IsSkipped (fields bytes.now) }
+{
+    match comment_of(bytes) {
+        Some(_) => true,
+        None => false,
+    }
+}
+
+// What stands behind `ask` and a single blank.
+fn after_ask(bytes: &[u8]) -> Option<&[u8]>
+    ensures { IfSome result (λ rest. bytes.now ≡ codes "ask" ++ 32 ∷ rest.now) }
+{
+    match bytes {
+        [b'a', b's', b'k', b' ', rest @ ..] => Some(rest),
+        _ => None,
+    }
+}
+
+// The id of a line that asks, where it is spelled with a single blank.
+#[tactic(auto, using(crate::proofs::Heads::ask_says))]
+fn ask_of(bytes: &[u8]) -> Option<u32>
+    ensures { IfSome result (λ id. Says bytes.now (line.Step format.Line (Ask id))) }
+{
+    let digits = after_ask(bytes)?;
+    let id = number_of(digits)?;
+    Some(id)
+}
+
+// What stands behind `turn` and a single blank.
+fn after_turn(bytes: &[u8]) -> Option<&[u8]>
+    ensures { IfSome result (λ rest. bytes.now ≡ codes "turn" ++ 32 ∷ rest.now) }
+{
+    match bytes {
+        [b't', b'u', b'r', b'n', b' ', rest @ ..] => Some(rest),
+        _ => None,
+    }
+}
+
+// The id of a line that turns, where it is spelled with a single blank.
+#[tactic(auto, using(crate::proofs::Heads::turn_says))]
+fn turn_of(bytes: &[u8]) -> Option<u32>
+    ensures { IfSome result (λ id. Says bytes.now (line.Step format.Line (Turn id))) }
+{
+    let digits = after_turn(bytes)?;
+    let id = number_of(digits)?;
+    Some(id)
+}
+
+// Whether there is no field, or the first one begins with `#`.
+fn is_skipped(fields: &[&[u8]]) -> bool
+    ensures { IsTrue result ↔ IsSkipped (map (λ field. field.now) fields.now) }
+{
+    match fields {
+        [] => true,
+        [first, ..] => first.first() == Some(&b'#'),
+    }
+}
+
+// The format that the fields ask for, and the fields behind that.
+fn format_of<'a, 'b>(fields: &'a [&'b [u8]]) -> (Format, &'a [&'b [u8]])
+    ensures { Asks (map (λ field. field.now) fields.now) result.0 (map (λ field. field.now) result.1.now) }
+{
+    match fields {
+        [word, rest @ ..] if *word == b"json".as_slice() => (Format::Json, rest),
+        _ => (Format::Line, fields),
+    }
+}
+
+fn is_put(fields: &[&[u8]]) -> bool
+    ensures { IsTrue result ↔ IsPutLine (map (λ field. field.now) fields.now) }
+{
+    match fields {
+        [word] => *word == b"put".as_slice(),
+        _ => false,
+    }
+}

@@ -1,0 +1,85 @@
+//! What single lines spell.
+
+ghost use Rattle.std.specs.Prelude.{◌≡◌, ◌↔◌, ◌∷◌, [], IsTrue, IfOk, option_map};
+ghost use Rattle.scrib_core.specs.declared.step.Step.TheVariants.{Put};
+ghost use Rattle.scrib_script_reader.specs.Scripts.{text_end, listed};
+ghost use Rattle.scrib_script_reader.specs.Standing.{as_text, begun, items_of, spelled_of, TextGives};
+ghost use Rattle.scrib_script_reader.specs.declared.item.Item.TheVariants as item;
+
+use crate::format::Format;
+use crate::item::Item;
+use crate::keeping::{KEPT_TEXT_BYTES, KeptText, before_end, keep};
+use crate::line::Line;
+use scrib_core::step::Step;
+use scrib_types::plain::Items;
+use std::alloc::{AllocError, Global};
+
+/// What a line outside module texts spells.
+#[derive(Drop)]
+pub(crate) enum Spelled {
+    Nothing,
+    /// A module text begins after it, and the reply to its put is printed so.
+    Text(Format),
+    Item(Item),
+}
+
+impl Spelled {
+    /// The item, and what is kept of the text that begins: nothing yet.
+    pub(crate) fn parts(self, alloc: Global) -> (Option<Item>, Option<KeptText>)
+        ensures text { option_map as_text result.1 ≡ begun self }
+        ensures item { listed result.0 ≡ items_of self }
+    {
+        match self {
+            Spelled::Nothing => (None, None),
+            Spelled::Item(item) => (Some(item), None),
+            Spelled::Text(format) => {
+                let bytes = Vec::new(alloc);
+                (None, Some(KeptText { bytes, format }))
+            }
+        }
+    }
+}
+
+/// What the line of this number spells that says this.
+pub(crate) fn spelling_of(line: Line, number: u32) -> Spelled
+    ensures { result ≡ spelled_of number line }
+{
+    match line {
+        Line::Skipped => Spelled::Nothing,
+        Line::Put(format) => Spelled::Text(format),
+        Line::Step(format, step) => Spelled::Item(Item::Step(format, step)),
+        Line::Bad => Spelled::Item(Item::BadLine(number)),
+    }
+}
+
+/// Whether this is the line that ends a module text.
+pub(crate) fn is_text_end(bytes: &[u8]) -> bool
+    ensures { IsTrue result ↔ (bytes.now ≡ text_end) }
+{
+    bytes == b"%%".as_slice()
+}
+
+/// The put of the module text that is kept.
+pub(crate) fn put_of(text: KeptText) -> Item
+    ensures { result ≡ item.Step text.format (Put text.bytes.items) }
+{
+    let KeptText { bytes, format } = text;
+    let text = Items::from_vec(bytes);
+    Item::Step(format, Step::Put { text })
+}
+
+/// The put of the module text that is kept so far, where the line, which an LF ended, is its end; or the text with the
+/// line.
+pub(crate) fn carry_text(
+    mut text: KeptText,
+    line: &[u8],
+) -> Result<(Option<Item>, Option<KeptText>), AllocError>
+    ensures { IfOk result (λ r. TextGives (as_text text) line.now (option_map as_text r.1) (listed r.0)) }
+{
+    if is_text_end(before_end(line)) {
+        return Ok((Some(put_of(text)), None));
+    }
+    keep(&mut text.bytes, line, KEPT_TEXT_BYTES)?;
+    keep(&mut text.bytes, b"\n", KEPT_TEXT_BYTES)?;
+    Ok((None, Some(text)))
+}

@@ -1,5 +1,0 @@
-use Rattle.scrib_settle.proofs.Listing.{AreEndedUpTo}
-use Rattle.scrib_settle.proofs.ended.ended_by_id.Given as goal
-
-abbrev pub invariant-loop-shard : goal.invariant-loop-shard
-invariant-loop-shard l = AreEndedUpTo l.library l.shards l.shard-index l.list.items

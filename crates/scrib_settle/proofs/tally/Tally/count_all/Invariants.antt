@@ -1,8 +1,0 @@
-use Rattle.std.proofs.Common.{◌++◌, List, take}
-use Rattle.scrib_locked.specs.declared.pass.Receipt.{Receipt}
-use Rattle.scrib_settle.specs.Tallies.{Counts}
-use Rattle.scrib_settle.proofs.tally.Tally.count_all.Given as goal
-
-abbrev pub invariant-loop-receipt : goal.invariant-loop-receipt
-invariant-loop-receipt l = (told : List Receipt) → Counts l.log told l.initial.self.due.items l.initial.self.wrong
-    → Counts l.log (told ++ take l.receipt-index l.receipts) l.self.due.items l.self.wrong

@@ -1,0 +1,80 @@
+//! Conversations at their end.
+
+ghost use Rattle.std.specs.Prelude.{◌≡◌, IfOk, OnOk, IsPermutation, IsSome, All, map, flat_map};
+ghost use Rattle.std.specs.List.Sorted.{IsNonDecreasingBy};
+ghost use Rattle.std.specs.Map.{keys_of};
+ghost use Rattle.scrib_core.specs.Held.{record_at};
+ghost use Rattle.scrib_settlement.specs.Settled.{IsEndedIn, IsEndedOf, AreEnded};
+
+use scrib_core::reply::Reply;
+use scrib_library::library::Library;
+use scrib_locked_steps::locked::ask_locked;
+use scrib_locked_steps::shard::Shard;
+use scrib_types::event::Told;
+use scrib_types::name::Dotted;
+use std::alloc::{AllocError, Global};
+
+/// A conversation that is settled: its id, the full name of its protocol, how many events its log has, and what is told
+/// of it.
+#[derive(Drop)]
+pub struct Ended {
+    pub id: u32,
+    pub name: Dotted,
+    pub events: usize,
+    pub told: Told,
+}
+
+/// Every conversation of the shards, by id.
+///
+/// # Errors
+/// `AllocError` where memory was refused.
+pub fn ended_by_id(
+    alloc: Global,
+    library: &Library,
+    shards: &[Shard],
+) -> Result<Vec<Ended>, AllocError>
+    ensures ids { IfOk result (λ list. IsPermutation (flat_map (λ s. keys_of s.records) shards.now) (map (λ e. e.id) list.items)) }
+    ensures each { IfOk result (λ list. All (IsEndedOf library.now shards.now) list.items) }
+    ensures order { IfOk result (λ list. IsNonDecreasingBy (λ e. e.id) list.items) }
+{
+    let mut list = Vec::new(alloc);
+    for shard in shards {
+        push_ended(library, shard, &mut list)?;
+    }
+    list.sort_unstable_by_key(|ended| ended.id);
+    Ok(list)
+}
+
+// Adds the conversations of a shard.
+fn push_ended(library: &Library, shard: &Shard, list: &mut Vec<Ended>) -> Result<(), AllocError>
+    ensures { OnOk result (AreEnded library.now shard.now.records list.old.items list.new.items) }
+{
+    for index in 0..shard.len() {
+        let (id, _) = shard.at(index);
+        let ended = ended_of(library, shard, id)?;
+        list.push(ended)?;
+    }
+    Ok(())
+}
+
+// A conversation of the shard at its end.
+fn ended_of(library: &Library, shard: &Shard, id: u32) -> Result<Ended, AllocError>
+    requires { IsSome (record_at shard.now.records id) }
+    ensures id { IfOk result (λ e. e.id ≡ id) }
+    ensures ended { IfOk result (IsEndedIn library.now shard.now.records) }
+{
+    match ask_locked(library, shard, id) {
+        Reply::Judged {
+            id,
+            name,
+            events,
+            told,
+        } => Ok(Ended {
+            id,
+            name,
+            events,
+            told,
+        }),
+        _ => Err(AllocError),
+    }
+}

@@ -1,0 +1,228 @@
+//! The walk over a protocol and all that it calls, which checks their statements: the first pass.
+
+ghost use Rattle.std.specs.Prelude.{◌≡◌, ◌<◌, List, length, IfOk, IfErr, OnOk, MatchResult};
+ghost use Rattle.std.specs.List.{All};
+ghost use Rattle.scrib_static_checks.specs.Directory.{IsDirectory};
+ghost use Rattle.scrib_static_checks.specs.Names.{declarations};
+ghost use Rattle.scrib_static_checks.specs.Table.{shown, IsSettledSo};
+ghost use Rattle.scrib_static_checks.specs.Walking.{AreUnwalked, IsEntered, EnterFails, IsFaultIn, IsReady, TopKeeps, TopStops, WasWalked, IsIdle, IsSmall, WalkFails};
+ghost use Rattle.scrib_parser.specs.declared.tree.ModuleTree.{ModuleTree};
+
+use crate::block_shapes::shape_block;
+use crate::checking::{BrokenRule, CheckError, Place, State, Summary};
+use crate::declared::Declaration;
+use crate::directory::Directory;
+use crate::fault::{ElaborateFault, Fault, FaultKind};
+use crate::own_names::check_own_names;
+use crate::size::size_block;
+use crate::statements::check_block;
+use scrib_parser::tree::ModuleTree;
+use std::alloc::{AllocError, Global};
+
+/// Walks over the protocol at this place of the table and over each that it calls. What earlier walks found is
+/// kept in the states, and so is what this one finds; after a fault none of it is. The places of the protocols that
+/// it walks are put last into `walked`, each after those that it calls.
+///
+/// # Errors
+/// `Broken` with the first rule that is broken, the module's name and the place; `OutOfMemory` where memory was
+/// refused.
+pub fn walk<'a>(
+    alloc: Global,
+    modules: &'a [ModuleTree],
+    declared: &'a [Declaration<'a>],
+    directory: &'a Directory,
+    root: usize,
+    states: &mut Vec<State>,
+    walked: &mut Vec<usize>,
+) -> Result<(), ElaborateFault>
+    requires all { shown declared.now ≡ declarations modules.now }
+    requires filed { IsDirectory (shown declared.now) directory.now.slots.items }
+    requires settled { All IsSettledSo declared.now }
+    requires there { root < length declared.now }
+    requires idle { IsIdle modules.now (shown declared.now) states.old.items }
+    ensures ok { OnOk result (WasWalked modules.now (shown declared.now) states.new.items root) }
+    ensures idle { IsIdle modules.now (shown declared.now) states.new.items }
+    ensures fault { IfErr result (WalkFails modules.now (shown declared.now) root) }
+{
+    match walk_from(alloc, modules, declared, directory, root, states, walked) {
+        Ok(()) => Ok(()),
+        Err(fault) => {
+            forget(states);
+            Err(fault)
+        }
+    }
+}
+
+// The protocols in which the walk is stand on a stack of their own. Where the check of one meets a call of a
+// protocol that wasn't walked yet, the walk enters that one, and then checks the first again from its beginning.
+// So a protocol is checked once more for each other that is first entered from it.
+fn walk_from<'a>(
+    alloc: Global,
+    modules: &'a [ModuleTree],
+    declared: &'a [Declaration<'a>],
+    directory: &'a Directory,
+    root: usize,
+    states: &mut Vec<State>,
+    walked: &mut Vec<usize>,
+) -> Result<(), ElaborateFault>
+    requires all { shown declared.now ≡ declarations modules.now }
+    requires filed { IsDirectory (shown declared.now) directory.now.slots.items }
+    requires settled { All IsSettledSo declared.now }
+    requires there { root < length declared.now }
+    requires idle { IsIdle modules.now (shown declared.now) states.old.items }
+    ensures ok { OnOk result (WasWalked modules.now (shown declared.now) states.new.items root) }
+    ensures idle { OnOk result (IsIdle modules.now (shown declared.now) states.new.items) }
+    ensures long { length states.new.items ≡ length declared.now }
+    ensures fault { IfErr result (WalkFails modules.now (shown declared.now) root) }
+{
+    let mut stack = Vec::new(alloc);
+    let first = declared[root];
+    enter(alloc, first, root, states, &mut stack)?;
+    while let Some(top) = stack.pop() {
+        match check(alloc, &*modules, &*declared, &*directory, &*states, top) {
+            Ok(summary) => {
+                walked.push(top)?;
+                states[top] = State::Walked(summary);
+            }
+            Err(CheckError::Call(to)) => {
+                let next = declared[to];
+                stack.push(top)?;
+                enter(alloc, next, to, states, &mut stack)?;
+            }
+            Err(CheckError::Broken(rule)) => {
+                let at = declared[top];
+                return Err(fault_in(alloc, at.home, rule));
+            }
+            Err(CheckError::OutOfMemory) => return Err(ElaborateFault::OutOfMemory),
+        }
+    }
+    Ok(())
+}
+
+// No protocol was walked.
+fn forget(states: &mut [State])
+    ensures { AreUnwalked (length states.old) states.new }
+{
+    for state in states.iter_mut() {
+        *state = State::Unwalked;
+    }
+}
+
+/// How many nodes the type of the protocol at this place will have, after a walk over it: at most 65,536, and at most
+/// 4,096 of them on a path.
+///
+/// # Errors
+/// `Broken` with `TooLarge` and the place of the protocol; `OutOfMemory` where memory was refused.
+pub fn check_size(
+    alloc: Global,
+    declared: &[Declaration],
+    states: &[State],
+    root: usize,
+) -> Result<usize, ElaborateFault>
+    requires there { root < length declared.now }
+    requires stated { root < length states.now }
+    ensures ok { (modules : List ModuleTree) → WasWalked modules (shown declared.now) states.now root → IfOk result (IsSmall modules (shown declared.now) root) }
+    ensures fault { (modules : List ModuleTree) → WasWalked modules (shown declared.now) states.now root → IfErr result (WalkFails modules (shown declared.now) root) }
+{
+    match states[root] {
+        State::Walked(summary) => {
+            if summary.size.fits() {
+                return Ok(summary.size.nodes.base + 1);
+            }
+            let at = declared[root];
+            let rule = BrokenRule {
+                kind: FaultKind::TooLarge,
+                spot: at.protocol.spot,
+            };
+            Err(fault_in(alloc, at.home, rule))
+        }
+        // A walk leaves no other state here.
+        State::Walking => Ok(0),
+        State::Unwalked => Ok(0),
+    }
+}
+
+// Checks the statements of the protocol at this place, and computes its size and its shape.
+fn check<'a>(
+    alloc: Global,
+    modules: &'a [ModuleTree],
+    declared: &'a [Declaration<'a>],
+    directory: &'a Directory,
+    states: &'a [State],
+    top: usize,
+) -> Result<Summary, CheckError>
+    requires ready { IsReady modules.now declared.now states.now top }
+    requires filed { IsDirectory (shown declared.now) directory.now.slots.items }
+    requires there { top < length declared.now }
+    ensures { MatchResult result
+        (TopKeeps modules.now (shown declared.now) top)
+        (TopStops modules.now (shown declared.now) states.now top) }
+{
+    let at = declared[top];
+    let place = Place {
+        modules,
+        declared,
+        directory,
+        states,
+        at,
+    };
+    let exits = check_block(alloc, &place, &[], at.protocol.body.as_slice())?;
+    let size = size_block(&place, at.protocol.body.as_slice())?;
+    let shape = shape_block(&place, top, at.protocol.body.as_slice())?;
+    Ok(Summary { exits, size, shape })
+}
+
+// Enters a protocol, whose names are checked first.
+fn enter(
+    alloc: Global,
+    declared: Declaration,
+    to: usize,
+    states: &mut Vec<State>,
+    stack: &mut Vec<usize>,
+) -> Result<(), ElaborateFault>
+    requires within { to < length states.old.items }
+    requires settled { IsSettledSo declared }
+    ensures long { length states.new.items ≡ length states.old.items }
+    ensures ok { OnOk result (IsEntered declared.entry.home.now declared.entry.protocol.now to states.old.items states.new.items stack.old.items stack.new.items) }
+    ensures fault { IfErr result (EnterFails declared.entry.home.now declared.entry.protocol.now) }
+{
+    let Declaration {
+        home,
+        protocol,
+        settled,
+    } = declared;
+    if let Err(rule) = check_own_names(home, protocol, settled) {
+        return Err(fault_in(alloc, home, rule));
+    }
+    stack.push(to)?;
+    states[to] = State::Walking;
+    Ok(())
+}
+
+/// The broken rule as a fault of this module, or `OutOfMemory` where memory for a copy of its name is refused.
+pub fn fault_in(alloc: Global, home: &ModuleTree, rule: BrokenRule) -> ElaborateFault
+    ensures { IsFaultIn home.now rule result }
+{
+    match home.name.copy() {
+        Ok(module) => ElaborateFault::Broken(Fault {
+            kind: rule.kind,
+            module,
+            spot: rule.spot,
+        }),
+        Err(error) => ElaborateFault::from(error),
+    }
+}
+
+/// A state of each protocol before any was walked.
+///
+/// # Errors
+/// `AllocError` where memory was refused.
+pub fn unwalked(alloc: Global, count: usize) -> Result<Vec<State>, AllocError>
+    ensures { IfOk result (λ states. AreUnwalked count states.items) }
+{
+    let mut states = Vec::with_capacity(alloc, count)?;
+    for _ in 0..count {
+        states.push_reserved(State::Unwalked);
+    }
+    Ok(states)
+}

@@ -1,0 +1,126 @@
+//! Branches by their operators, so that a choice of many blocks finds an operator again in a few steps.
+
+ghost use Rattle.std.specs.Prelude.{◌≡◌, ◌<◌};
+ghost use Rattle.scrib_types.specs.GlobalView.{global_branches};
+ghost use Rattle.scrib_types.specs.WellFormed.{has_operator, same_operator};
+ghost use Rattle.scrib_type_builder.specs.Operators as spec;
+
+use scrib_static_checks::directory::{empty, mixed};
+use scrib_types::global::GlobalType;
+use scrib_types::name::Name;
+use scrib_types::shared_message::SharedMessage;
+use std::alloc::{AllocError, Global};
+
+/// Where at most so many are to be compared with others, each is compared with all.
+const FEW: usize = 16;
+
+/// The most slots that there are.
+const MAX_SLOTS: usize = 65_536;
+
+/// Where branches stand, by a number that is mixed of their operators' bytes: each slot holds the place of the last
+/// branch that has it, and each branch that of the one before it in its slot. Where there are no slots, nothing is
+/// filed.
+#[derive(Drop)]
+pub struct Operators {
+    pub latest: Vec<Option<usize>>,
+    pub earlier: Vec<Option<usize>>,
+}
+
+impl Operators {
+    ghost use Rattle.std.specs.Prelude.{◌≡◌, ◌<◌, ◌≤◌, [], length, IfOk, OnOk};
+    ghost use Rattle.scrib_types.specs.GlobalView.{global_branches};
+    ghost use Rattle.scrib_types.specs.WellFormed.{has_operator};
+    ghost use Rattle.scrib_type_builder.specs.Operators.{AreFiled, AreChained};
+
+    /// No branch is filed yet, of about so many that are to be compared with others. There are no slots for a few.
+    ///
+    /// # Errors
+    /// `AllocError` where memory was refused.
+    pub fn new(alloc: Global, count: usize) -> Result<Operators, AllocError>
+        ensures { IfOk result (λ o. AreFiled [] o.latest.items o.earlier.items) }
+    {
+        let earlier = Vec::new(alloc);
+        if count <= FEW {
+            let latest = Vec::new(alloc);
+            return Ok(Operators { latest, earlier });
+        }
+        let size = count.min(MAX_SLOTS).next_power_of_two();
+        let latest = empty(alloc, size)?;
+        Ok(Operators { latest, earlier })
+    }
+
+    /// Files the branches that came after those that are filed.
+    ///
+    /// # Errors
+    /// `AllocError` where memory was refused.
+    pub fn file(&mut self, branches: &[(SharedMessage, GlobalType)]) -> Result<(), AllocError>
+        requires { 0 < length self.old.latest.items → AreChained branches.now (length self.old.earlier.items) self.old.latest.items self.old.earlier.items }
+        ensures { OnOk result (AreFiled branches.now self.new.latest.items self.new.earlier.items) }
+    {
+        let size = self.latest.len();
+        if size == 0 {
+            return Ok(());
+        }
+        for place in self.earlier.len()..branches.len() {
+            let slot = slot_of(size, &branches[place].0.get().op);
+            let earlier = self.latest[slot];
+            self.earlier.push(earlier)?;
+            self.latest[slot] = Some(place);
+        }
+        Ok(())
+    }
+
+    /// Whether one of these branches, which are filed, has this operator.
+    pub fn has(&self, op: &Option<Name>, branches: &[(SharedMessage, GlobalType)]) -> bool
+        requires { AreFiled branches.now self.now.latest.items self.now.earlier.items }
+        ensures { result ≡ has_operator op.now (global_branches branches.now) }
+    {
+        let size = self.latest.len();
+        if size == 0 {
+            return has_operator(op, branches);
+        }
+        let slot = slot_of(size, op);
+        let mut next = self.latest[slot];
+        while let Some(place) = next {
+            if same_operator(op, &branches[place].0.get().op) {
+                return true;
+            }
+            let earlier = self.earlier[place];
+            next = earlier;
+        }
+        false
+    }
+}
+
+// The slot, of so many, of an operator.
+fn slot_of(size: usize, op: &Option<Name>) -> usize
+    requires { 0 < size }
+    ensures slot { result ≡ spec.slot_of size op.now }
+    ensures within { result < size }
+{
+    match op {
+        None => 0,
+        Some(name) => mixed(0, name.as_bytes()) % size,
+    }
+}
+
+fn has_operator(op: &Option<Name>, branches: &[(SharedMessage, GlobalType)]) -> bool
+    ensures { result ≡ has_operator op.now (global_branches branches.now) }
+{
+    for (message, _) in branches {
+        if same_operator(op, &message.get().op) {
+            return true;
+        }
+    }
+    false
+}
+
+fn same_operator(a: &Option<Name>, b: &Option<Name>) -> bool
+    ensures { result ≡ same_operator a.now b.now }
+{
+    match (a, b) {
+        (None, None) => true,
+        (Some(a), Some(b)) => a.equal(b),
+        _ => false,
+    }
+}
