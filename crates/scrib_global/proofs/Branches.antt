@@ -6,7 +6,7 @@ use Rattle.scrib_types.specs.declared.local.Local.{Local}
 use Rattle.scrib_types.specs.LocalView.{local_of, local_branches}
 use Rattle.scrib_types.specs.Trees.{LocalTree, LocalRec, LocalBranches, NoChoice, Choice}
 use Rattle.scrib_types.specs.Traces.{substitute_all, Offers}
-use Rattle.scrib_global.specs.Unfolded.{StandsFor, Substitutes, SubstitutesAll}
+use Rattle.scrib_global.specs.Unfolded.{Represents, Substitutes, SubstitutesAll}
 
 from_index : (bs : List (Message × Local)) (i : ℕ) (d : Message × Local) → i < length bs → local_branches (drop i bs) ≡ Choice (get_or bs i d).0 (local_of (get_or bs i d).1) (local_branches (drop (suc i) bs))
 from_index [] i d h = absurd (omega arith)
@@ -40,23 +40,23 @@ before_none (c ∷ bs) = ap (Choice c.0 (local_of c.1)) (before_none bs)
 -- in these branches it was substituted, and in the rest it is still to be
 abbrev pub SubstitutesSoFar : LocalTree → List (Message × Local) → LocalBranches → ℕ → LocalBranches → Type 0
 SubstitutesSoFar body done rest d all =
-    (n : ℕ) → StandsFor d n → before done (substitute_all (LocalRec body) rest n) ≡ substitute_all (LocalRec body) all n
+    (n : ℕ) → Represents d n → before done (substitute_all (LocalRec body) rest n) ≡ substitute_all (LocalRec body) all n
 
 pub substitute_more : (body : LocalTree) (bs : List (Message × Local)) (i : ℕ) (b : Message × Local) (xs ys : List (Message × Local)) (m : Message) (l : Local) (d : ℕ) (all : LocalBranches) → i < length bs → b ≡ get_or bs i b → m ≡ b.0 → Substitutes body (local_of b.1) d (local_of l) → ys ≡ xs ++ (m, l) ∷ [] → SubstitutesSoFar body xs (local_branches (drop i bs)) d all → SubstitutesSoFar body ys (local_branches (drop (i + 1) bs)) d all
-substitute_more body bs i b xs ys m l d all h is same gives pushed inv = λ n stands.
+substitute_more body bs i b xs ys m l d all h is same gives pushed inv = λ n represents.
     let rest = substitute_all (LocalRec body) (local_branches (drop (i + 1) bs)) n in
     ap (λ (zs : List (Message × Local)). before zs rest) pushed
     ∙ before_push xs m l rest
     ∙ ap (λ (x : Message). before xs (Choice x (local_of l) rest)) same
-    ∙ ap (λ (t : LocalTree). before xs (Choice b.0 t rest)) (gives n stands)
+    ∙ ap (λ (t : LocalTree). before xs (Choice b.0 t rest)) (gives n represents)
     ∙ ap (λ (ls : LocalBranches). before xs (substitute_all (LocalRec body) ls n)) (sym (branches_from bs i b is h))
-    ∙ inv n stands
+    ∙ inv n represents
 
 pub substitute_done : (body : LocalTree) (bs : List (Message × Local)) (i : ℕ) (done : List (Message × Local)) (d : ℕ) (all : LocalBranches) → length bs ≤ i → SubstitutesSoFar body done (local_branches (drop i bs)) d all → SubstitutesAll body all d (local_branches done)
-substitute_done body bs i done d all h inv = λ n stands.
+substitute_done body bs i done d all h inv = λ n represents.
     sym (before_none done)
     ∙ ap (λ (ls : LocalBranches). before done (substitute_all (LocalRec body) ls n)) (sym (branches_end bs i h))
-    ∙ inv n stands
+    ∙ inv n represents
 
 -- the message is offered by the rest as by all
 abbrev pub SameOffers : LocalBranches → LocalBranches → Message → Type 0

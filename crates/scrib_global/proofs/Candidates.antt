@@ -1,4 +1,4 @@
--- What a role does stands in its projection.
+-- The actions that a role is allowed are in its projection.
 use Rattle.std.proofs.Common.{◌≡◌, ◌⊎◌, ◌↔◌, inl, inr, Bool, true, false, ℕ, ◌+◌, ◌==◌, List, [], ◌∷◌, ◌++◌, if◌then◌else◌, AllPairs, Contains, refl, sym, ap, ◌∙◌, subst}
 use Rattle.std.specs.List.{AllByRecursion}
 use Rattle.std.proofs.lemmas.List.Elements.{Contains-append_left, Contains-append_right, Contains-push}
@@ -18,7 +18,7 @@ use Rattle.scrib_types.specs.Logs.{subject_of, action_of, is_action, event_of, o
 use Rattle.scrib_types.specs.Traces.{substitute, substitute_all, unfolding_of, Offers, LocalTransition, sends, receives, unfolds, IsTrace}
 use Rattle.scrib_global.specs.Named.{named, named_sends, named_receptions, named_by}
 use Rattle.scrib_global.proofs.Events.{own_yes}
-use Rattle.scrib_global.proofs.Reading.{own_end}
+use Rattle.scrib_global.proofs.LogPrefixes.{own_end}
 
 -- the action is one of these
 abbrev pub Among : Action → List Action → Type 0
@@ -47,7 +47,7 @@ contains_among a [] h = absurd h
 contains_among a (x ∷ xs) (inl e) = subst (λ z. Contains (x ∷ xs) z) (sym e) (contains_first x xs)
 contains_among a (x ∷ xs) (inr h) = Contains-append_right (x ∷ []) xs a (contains_among a xs h)
 
--- what stands in a type, in which another was substituted, stands in one of them
+-- an action in a type, in which another was substituted, is in one of the two
 named_var : (b : Bool) (t : LocalTree) (k : ℕ) (a : Action) → Among a (named (if b then t else LocalVar k)) → Among a (named t)
 named_var true t k a h = h
 named_var false t k a h = absurd h
@@ -76,7 +76,7 @@ mutual
     | inr x ↦ elim (receptions_substitute t p ls n a x) [ inl y ↦ inl y | inr y ↦ inr (inr (among_right a (named l) (named_receptions p ls) y)) ]
   ]
 
--- an action and what comes after it stand in the type
+-- an action and those after it are in the type
 sends_named : (q : List ℕ) (ls : LocalBranches) (m : Message) (k : LocalTree) → Offers ls m k → Among (Sends q m) (named_sends q ls) × ((a : Action) → Among a (named k) → Among a (named_sends q ls))
 sends_named q NoChoice m k o = absurd o
 sends_named q (Choice n l ls) m k (inl o) =

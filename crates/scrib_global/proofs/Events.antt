@@ -11,16 +11,16 @@ use Rattle.scrib_types.specs.WellFormed.{has_role}
 use Rattle.scrib_types.specs.Logs.{subject_of, action_of, is_action, is_join_of, own_actions, has_joined, IsJoined, AllJoined}
 use Rattle.scrib_types.specs.Queues.{sent, received, flights}
 use Rattle.scrib_global.proofs.Names.{same_name, name_is, name_not, NotPair, pair_cases}
-use Rattle.scrib_global.proofs.Carries.{Effect}
+use Rattle.scrib_global.proofs.FlightPaths.{Effect}
 
--- what a role did
+-- the own actions of a role
 pub own_yes : (r : List ℕ) (e : Event) (log : List Event) → is_action e ≡ true → r ≡ subject_of e → own_actions r (e ∷ log) ≡ action_of e ∷ own_actions r log
 own_yes r e log i s = rw (and_from (is_action e) (bytes_eq r (subject_of e)) i (name_is r (subject_of e) s)) refl
 
 pub own_no : (r : List ℕ) (e : Event) (log : List Event) → is_action e ≡ true → r ≢ subject_of e → own_actions r (e ∷ log) ≡ own_actions r log
 own_no r e log i n = rw (i, name_not r (subject_of e) n) refl
 
--- what goes from a to b
+-- the messages from a to b
 both_yes : (a p b q : List ℕ) → a ≡ p → b ≡ q → (bytes_eq a p && bytes_eq b q) ≡ true
 both_yes a p b q e f = and_from (bytes_eq a p) (bytes_eq b q) (name_is a p e) (name_is b q f)
 
@@ -42,7 +42,7 @@ received_yes a b s p m w e f = rw (both_yes a p b s e f) refl
 pub received_no : (a b s p : List ℕ) (m : Message) (w : List Event) → NotPair a p b s → received a b (Received p s m ∷ w) ≡ received a b w
 received_no a b s p m w n = rw (both_no a p b s n) refl
 
--- what was in flight before an event, in terms of what is after it
+-- the messages in flight before an event, from those after it
 pub effect_log : (e : Event) (a b : List ℕ) (w v x : List Message) (log : List Event) → Effect e a b w v → v ++ sent a b log ≡ received a b log ++ x → w ++ sent a b (e ∷ log) ≡ received a b (e ∷ log) ++ x
 effect_log (Join r) a b w v x log e h = ap (λ z. z ++ sent a b log) (sym e) ∙ h
 effect_log (Sent s q m) a b w v x log e h = go (pair_cases a s b q)
@@ -86,7 +86,7 @@ log_effect (Received p s m) a b w v x log e h = go (pair_cases a p b s)
         (ap (λ z. z ++ sent a b log) (sym (e.0 c.0 c.1)) ∙ h ∙ ap (λ z. z ++ x) (received_yes a b s p m log c.0 c.1))
     go (inr n) = ap (λ z. z ++ sent a b log) (e.1 n) ∙ h ∙ ap (λ z. z ++ x) (received_no a b s p m log n)
 
--- a reception takes what is in flight
+-- a reception takes the oldest message in flight
 pub received_head : (s p : List ℕ) (m : Message) (w x : List Message) → w ++ sent p s (Received p s m ∷ []) ≡ received p s (Received p s m ∷ []) ++ x → w ≡ m ∷ x
 received_head s p m w x h = sym (append-nil w) ∙ h ∙ ap (λ z. z ++ x) (received_yes p s s p m [] refl refl)
 
@@ -116,7 +116,7 @@ split_cases (x ∷ xs) (f ∷ fs) gs y g e =
     let h : x ≡ f = cc in
     elim (split_cases xs fs gs y g t) [ inl p ↦ let q : fs ≡ xs = p.0 in inl (cc, p.1) | inr p ↦ let q : xs ≡ fs ++ g ∷ p.0 = p.1 in inr (p.0, cc) ]
 
--- who joined is declared
+-- a role that joined is declared
 join_declared : (roles : List (List ℕ)) (r : List ℕ) (before : List Event) (e : Event) → is_join_of r e ≡ true → IsJoined roles before e → has_role r roles ≡ true
 join_declared roles r before (Join s) i j = subst (λ x. has_role x roles ≡ true) (sym (same_name r s i)) j.0
 join_declared roles r before (Sent p q m) i j = absurd (true≢false (sym i))
@@ -144,7 +144,7 @@ declared_on roles log before (e ∷ after) j x = (
 pub all_declared : (roles : List (List ℕ)) (log : List Event) → AllJoined roles log → AllByRecursion (λ e. has_role (subject_of e) roles ≡ true) log
 all_declared roles log j = declared_on roles log [] log j refl
 
--- a role that is no subject did nothing
+-- a role that is no subject has no own actions
 pub own_nothing : (roles : List (List ℕ)) (log : List Event) → AllByRecursion (λ e. has_role (subject_of e) roles ≡ true) log → (r : List ℕ) → has_role r roles ≡ false → own_actions r log ≡ []
 own_nothing roles [] h r n = refl
 own_nothing roles (Join s ∷ log) h r n = own_nothing roles log h.1 r n

@@ -1,21 +1,21 @@
 mod Names
 mod Substitution
-mod Projects
+mod ProjectionLemmas
 mod Locals
-mod Widens
-mod Follows
-mod Moves
-mod Carries
-mod Can
+mod WiderTypes
+mod FollowingTypes
+mod TransitionLemmas
+mod FlightPaths
+mod EnabledEvents
 mod Events
-mod Given
+mod ProtocolFacts
 pub mod Runs
-mod Reading
+mod LogPrefixes
 mod Branches
 mod Steps
 mod Order
 mod Candidates
-pub mod Judged
-mod Elsewhere
-mod Explaining
+pub mod JudgementLemmas
+mod UndeclaredFlights
+mod FlightLists
 mod Samples

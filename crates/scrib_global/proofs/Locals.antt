@@ -1,4 +1,4 @@
--- What a local type does: one thing at most by each action, and likeness.
+-- Local types: each action has at most one transition, and one type may be like another.
 use Rattle.std.proofs.Common.{◌≡◌, inl, inr, ℕ, List, [], ◌∷◌, ◌++◌, refl, sym, ◌∙◌, subst}
 use Rattle.scrib_types.specs.declared.message.Message.{Message}
 use Rattle.scrib_types.specs.declared.event.Action.{Action}
@@ -13,7 +13,7 @@ offers_one (Choice n x ls) m k l (inl a) (inr b) = absurd (b.0 a.0)
 offers_one (Choice n x ls) m k l (inr a) (inl b) = absurd (a.0 b.0)
 offers_one (Choice n x ls) m k l (inr a) (inr b) = offers_one ls m k l a.1 b.1
 
--- what it comes to that a type of a known form does this
+-- the transitions of a type of a known form
 abbrev pub DoesAs : LocalTree → Action → LocalTree → Type 0
 DoesAs LocalEnd a k = ⊥
 DoesAs (LocalVar n) a k = ⊥

@@ -87,7 +87,7 @@ before_more y list i x n e w ne le =
     let more : take i list ++ x ∷ [] ≡ take (i + 1) list = ap (λ z. take i list ++ z ∷ []) e ∙ sym (take_more list i x n) in
     subst (AllByRecursion P) more (all_more P (take i list) x w (ne, le))
 
--- an action put at its place
+-- an action inserted at its place
 all_between : (P : Action → Type 0) (xs ys : List Action) (y : Action) → AllByRecursion P (xs ++ ys) → P y → AllByRecursion P (xs ++ y ∷ ys)
 all_between P [] ys y h p = (p, h)
 all_between P (x ∷ xs) ys y h p = (h.0, all_between P xs ys y h.1 p)

@@ -20,14 +20,14 @@ use Rattle.scrib_global.specs.InFlight.{OnPath, ends, repeats, chooses, flies}
 use Rattle.scrib_global.specs.Simulation.{Leads, Awaits, Simulates}
 use Rattle.scrib_global.proofs.Names.{which, NotPair, pair_cases}
 use Rattle.scrib_global.proofs.Substitution.{NonEmpty}
-use Rattle.scrib_global.proofs.Projects.{project_absent}
+use Rattle.scrib_global.proofs.ProjectionLemmas.{project_absent}
 use Rattle.scrib_global.proofs.Locals.{does_one, alike_refl}
-use Rattle.scrib_global.proofs.Follows.{Follows, follows_project}
-use Rattle.scrib_global.proofs.Moves.{others, subject}
-use Rattle.scrib_global.proofs.Carries.{Carries, CarriesAll, CarriesAt, Effect, carries_start, carries_step, carries_head, Bears, carries_at, all_carries}
-use Rattle.scrib_global.proofs.Can.{can_send, can_receive}
+use Rattle.scrib_global.proofs.FollowingTypes.{Follows, follows_project}
+use Rattle.scrib_global.proofs.TransitionLemmas.{others, subject}
+use Rattle.scrib_global.proofs.FlightPaths.{Carries, CarriesAll, CarriesAt, Effect, carries_start, carries_step, carries_head, Bears, carries_at, all_carries}
+use Rattle.scrib_global.proofs.EnabledEvents.{can_send, can_receive}
 use Rattle.scrib_global.proofs.Events.{own_yes, own_no, sent_yes, sent_no, effect_log, log_effect, received_head, flights_are, all_declared, own_nothing, split_cases}
-use Rattle.scrib_global.proofs.Given.{Given, given, projects_of}
+use Rattle.scrib_global.proofs.ProtocolFacts.{Given, given, projects_of}
 
 -- what a run of a known list is
 abbrev RunAs : GlobalTree → List Event → GlobalTree → Type 0

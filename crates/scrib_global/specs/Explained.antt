@@ -1,4 +1,4 @@
--- What explaining a log answers (this project's own).
+-- The result of explaining a log (this project's own).
 use Rattle.std.specs.Prelude.{◌≡◌, ℕ, ◌+◌, false, ◌&&◌, List, [], map, Result, Ok, Err, Vec}
 use Rattle.std.specs.List.{flat_map}
 use Rattle.std.specs.Global.{Global}
@@ -17,21 +17,21 @@ use Rattle.scrib_global.specs.Offences.{Offends}
 abbrev pub flight : List ℕ → List ℕ → Message → Flight
 flight p q m = record { from = p; to = q; message = m }
 
--- what is in flight from p to q after the log, the oldest first
+-- the messages in flight from p to q after the log, the oldest first
 abbrev pub in_flight : List ℕ → List ℕ → List Event → List Flight
 in_flight p q log = map (flight p q) (flights p q log)
 
--- what is in flight from p to each of the roles, in their order
+-- the messages in flight from p to each of the roles, in their order
 abbrev pub in_flight_from : List ℕ → List (List ℕ) → List Event → List Flight
 in_flight_from p roles log = flat_map (λ q. in_flight p q log) roles
 
--- what is in flight after the log, by sender and then receiver
+-- the messages in flight after the log, by sender and then receiver
 abbrev pub all_in_flight : List (List ℕ) → List Event → List Flight
 all_in_flight roles log = flat_map (λ p. in_flight_from p roles log) roles
 
--- The log is a run with lawful joins, and these are its messages in flight, as they are in the state that the
--- run reaches, and none fly elsewhere than between declared roles; whoever awaits a message from a role that has
--- some in flight may receive the oldest.
+-- The log is a run with lawful joins, and these are its messages in flight, as in the state that the run reaches. None
+-- are in flight but between declared roles. A role that awaits a message from another with messages to it in flight may
+-- receive the oldest.
 pub record IsExplained (a : Agreement) (log : List Event) (found : List Flight) : Type 0 where
   pub run : IsJoinedRun a log
   pub exact : found ≡ all_in_flight a.roles log

@@ -1,11 +1,11 @@
--- The sends and receptions that stand in a local type (this project's own).
+-- The sends and receptions in a local type (this project's own).
 -- Only contracts of private functions cite this file.
 use Rattle.std.specs.Prelude.{ℕ, List, [], ◌∷◌, ◌++◌, Option, Some, None}
 use Rattle.scrib_types.specs.declared.event.Action.{Action}
 use Rattle.scrib_types.specs.declared.event.Action.TheVariants.{Sends, Receives}
 use Rattle.scrib_types.specs.Trees.{LocalTree, LocalEnd, LocalVar, LocalRec, Send, Recv, LocalBranches, NoChoice, Choice}
 
--- each of them, in the order in which they stand
+-- the sends and receptions, in order
 abbrev mutual
   pub named : LocalTree → List Action
   named LocalEnd = []

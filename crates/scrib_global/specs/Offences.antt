@@ -1,4 +1,4 @@
--- Where a log stops being permitted (this project's own).
+-- The event with which a log stops being permitted (this project's own).
 use Rattle.std.specs.Prelude.{ℕ, ◌+◌, ◌<◌, ◌≤◌, List, length, take, Option, Some, None}
 use Rattle.scrib_types.specs.declared.event.Event.{Event}
 use Rattle.scrib_types.specs.Agreement.{Agreement}

@@ -16,13 +16,13 @@ use Rattle.scrib_types.specs.Queues.{sent, flights}
 use Rattle.scrib_global.specs.Runs.{Run}
 use Rattle.scrib_global.specs.InFlight.{OnPath}
 
--- whoever acts joined beforehand, and the sends and receptions are a run of the global type
+-- each role that acts joined beforehand, and the sends and receptions are a run of the global type
 pub record IsJoinedRun (a : Agreement) (log : List Event) : Type 0 where
   pub joined : AllJoined a.roles log
   pub state : GlobalTree
   pub run : Run a.global (actions log) state
 
--- what is in flight between each two roles, on each path through the state, is what the log has in flight
+-- on each path through the state, the messages in flight between each two roles are those of the log
 abbrev pub CarriesFlights : List Event → GlobalTree → Type 0
 CarriesFlights log state = (w : List Event) → OnPath state w → (p q : List ℕ) → sent p q w ≡ flights p q log
 
@@ -45,12 +45,14 @@ pub record Awaits (a : Agreement) (log : List Event) (p q : List ℕ) : Type 0 w
 -- where a role awaits a reception from another that has messages to it in flight, it may receive the oldest
 abbrev pub MayReceiveOldest : Agreement → List Event → Type 0
 MayReceiveOldest a log =
-    (p q : List ℕ) → Awaits a log p q → (m : Message) (w : List Message) → flights p q log ≡ m ∷ w → IsPermitted a (log ++ Received p q m ∷ [])
+    (p q : List ℕ) → Awaits a log p q → (m : Message) (w : List Message) → flights p q log ≡ m ∷ w
+    → IsPermitted a (log ++ Received p q m ∷ [])
 
--- A log is permitted exactly where it is a run with lawful joins. The state that the run reaches has in flight
--- what the log has, and has a path. After a permitted log no role is unprepared for the oldest message.
+-- A log is permitted exactly where it is a run with lawful joins. The state that the run reaches has a path, and the
+-- log's messages in flight. After a permitted log each role that awaits a message may receive the oldest.
 pub record Simulates (a : Agreement) : Type 0 where
   pub exact : (log : List Event) → IsPermitted a log ↔ IsJoinedRun a log
   pub carries : (log : List Event) (state : GlobalTree) → Run a.global (actions log) state → CarriesFlights log state
-  pub path : (log : List Event) (state : GlobalTree) → Run a.global (actions log) state → (w : List Event) × OnPath state w
+  pub path : (log : List Event) (state : GlobalTree) → Run a.global (actions log) state
+      → (w : List Event) × OnPath state w
   pub oldest : (log : List Event) → IsPermitted a log → MayReceiveOldest a log

@@ -1,4 +1,4 @@
--- What roles did, beside their projections (this project's own).
+-- The actions of roles as traces of their projections (this project's own).
 -- Only contracts of private functions cite this file.
 use Rattle.std.specs.Prelude.{◌≡◌, ℕ, true, List, Some}
 use Rattle.scrib_types.specs.declared.event.Event.{Event}
@@ -9,7 +9,7 @@ use Rattle.scrib_types.specs.WellFormed.{has_role}
 use Rattle.scrib_types.specs.Logs.{own_actions}
 use Rattle.scrib_types.specs.Traces.{IsTrace}
 
--- the role has a projection, and what it did is a trace of that
+-- the role has a projection, and its own actions are a trace of it
 abbrev pub IsTraced : GlobalTree → List Event → List ℕ → Type 0
 IsTraced g log r = (l : LocalTree) × (projection Reception r g ≡ Some l) × IsTrace l (own_actions r log)
 

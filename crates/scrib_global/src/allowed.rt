@@ -1,4 +1,4 @@
-//! What a role is allowed after a log.
+//! The actions that a role is allowed after a log.
 
 ghost use Rattle.std.specs.Prelude.{◌≡◌, ◌↔◌, ◌⊎◌, [], ◌∷◌, ◌++◌, IsTrue, IfOk, OnOk, AllPairs, Contains};
 ghost use Rattle.scrib_types.specs.GlobalView.{global_of};
@@ -17,21 +17,21 @@ use crate::logs::event_of;
 use crate::permitted::is_permitted;
 use crate::sorted::insert;
 use scrib_projection::projection::project_type;
+use scrib_types::containers::Items;
 use scrib_types::event::Action;
 use scrib_types::global::GlobalType;
 use scrib_types::local::Local;
 use scrib_types::name::Role;
-use scrib_types::plain::Items;
 use scrib_types::profile::Profile;
 use scrib_types::protocol::Protocol;
 use scrib_types::shared_event::SharedEvent;
 use scrib_types::shared_message::SharedMessage;
 use std::alloc::{AllocError, Global};
 
-/// Exactly the actions with which the role may go on after the log, sorted by their printed text, none twice.
+/// Exactly the actions that the role may make after the log, sorted by their printed text, none twice.
 ///
 /// # Errors
-/// `AllocError` where memory was refused, here and below.
+/// `AllocError` where memory is refused.
 pub fn allowed(
     alloc: Global,
     protocol: &Protocol,
@@ -48,7 +48,7 @@ pub fn allowed(
     Ok(Items::from_vec(list))
 }
 
-/// Puts the action at its place in the list, where the role may go on with it.
+// Inserts the action into the sorted list, where the role may make it after the log.
 fn add_allowed(
     alloc: Global,
     protocol: &Protocol,
@@ -69,7 +69,7 @@ fn add_allowed(
     }
 }
 
-/// Whether the log with this action of the role after it is permitted.
+// Whether the log followed by this action of the role is permitted.
 fn may_follow(
     alloc: Global,
     protocol: &Protocol,
@@ -85,7 +85,7 @@ fn may_follow(
     is_permitted(alloc, protocol, &log)
 }
 
-/// The same log once more.
+// A copy of the log.
 fn copies(alloc: Global, log: &[SharedEvent]) -> Result<Vec<SharedEvent>, AllocError>
     ensures { IfOk result (λ copies. copies.items ≡ log.now) }
 {
@@ -96,9 +96,10 @@ fn copies(alloc: Global, log: &[SharedEvent]) -> Result<Vec<SharedEvent>, AllocE
     Ok(copies)
 }
 
-/// The join, and each send and reception that stands in the role's projection: the role does no others.
+// The join, and each send and reception in the role's projection. The role is allowed no other action.
 fn candidates(alloc: Global, global: &GlobalType, role: &Role) -> Result<Vec<Action>, AllocError>
-    ensures { IfOk result (λ list. list.items ≡ act.Join ∷ spec.named_by (projection Reception role.now (global_of global.now))) }
+    ensures { IfOk result (λ list. list.items ≡ act.Join
+        ∷ spec.named_by (projection Reception role.now (global_of global.now))) }
 {
     let mut list = Vec::new(alloc);
     list.push(Action::Join)?;
@@ -108,7 +109,7 @@ fn candidates(alloc: Global, global: &GlobalType, role: &Role) -> Result<Vec<Act
     Ok(list)
 }
 
-/// Adds each send and reception that stands in the type, in order.
+// Adds each send and reception in the type, in order.
 #[cycle(push_named)]
 #[tactic(auto, using(scrib_types::specs::LocalView::local_views))]
 fn push_named(alloc: Global, local: &Local, list: &mut Vec<Action>) -> Result<(), AllocError>
@@ -145,7 +146,8 @@ fn push_receptions(
     from: &Role,
     list: &mut Vec<Action>,
 ) -> Result<(), AllocError>
-    ensures { OnOk result (list.new.items ≡ list.old.items ++ spec.named_receptions from.now (local_branches branches.now)) }
+    ensures { OnOk result (list.new.items ≡ list.old.items ++ spec.named_receptions from.now
+        (local_branches branches.now)) }
 {
     for (message, next) in branches {
         list.push(receives(from, message)?)?;

@@ -1,4 +1,4 @@
-//! What is in flight after a permitted log.
+//! The messages in flight after a permitted log.
 
 ghost use Rattle.std.specs.Prelude.{◌≡◌, ◌++◌, OnOk, IfOk};
 ghost use Rattle.scrib_types.specs.Meaning.{agreement_of};
@@ -21,13 +21,12 @@ pub struct Flight {
     pub message: SharedMessage,
 }
 
-/// The messages in flight after the log, by sender and then receiver in the order in which the roles are
-/// declared, and of each two roles the oldest first. On every path through the state that the log reaches as a
-/// run, just these are in flight.
+/// The messages in flight after the log: by sender and then receiver in declared order, and then the oldest first. On
+/// every path through the state that the log reaches as a run, exactly these are in flight.
 ///
 /// # Errors
-/// `NotPermitted` exactly where the protocol does not permit the log, with the place of the first offence;
-/// `OutOfMemory` where memory was refused.
+/// `NotPermitted` exactly where the protocol does not permit the log, with the place of the first offence.
+/// `OutOfMemory` where memory is refused.
 pub fn explain(
     alloc: Global,
     protocol: &Protocol,
@@ -41,10 +40,8 @@ pub fn explain(
     }
 }
 
-/// What is in flight from each of the roles to each of them.
-///
-/// # Errors
-/// `AllocError` where memory was refused, here and below.
+// The messages in flight from each of the roles to each of them. It fails where memory is refused, as do the functions
+// below.
 fn all_in_flight(
     alloc: Global,
     roles: &[Role],
@@ -59,7 +56,7 @@ fn all_in_flight(
     Ok(flights)
 }
 
-/// Adds what is in flight from the role to each of the roles.
+// Adds the messages in flight from the role to each of the roles.
 fn push_from(
     alloc: Global,
     from: &Role,
@@ -75,7 +72,7 @@ fn push_from(
     Ok(())
 }
 
-/// Adds what is in flight from the one role to the other: what was sent after what was received.
+// Adds the messages in flight between two roles: those that were sent after the received ones.
 fn push_between(
     alloc: Global,
     from: &Role,

@@ -14,12 +14,13 @@ use scrib_types::protocol::Protocol;
 use scrib_types::shared_event::SharedEvent;
 use std::alloc::{AllocError, Global};
 
-/// The verdict on the whole log under the protocol: `Permitted` exactly where it is a run with lawful joins; and
-/// otherwise the least offending place, from 1, its role, and exactly the actions that the role was allowed
-/// there, by their printed text, none twice. It judges each beginning of the log afresh, and is slow.
+/// The verdict on the whole log under the protocol. It is `Permitted` exactly where the log is a run with lawful joins.
+/// Otherwise it is `Offence`, with the least offending place, from 1, and its role. It lists exactly the actions that
+/// the role was allowed there, sorted by their printed text, none twice. The function judges each beginning of the log
+/// from its first event, and is slow.
 ///
 /// # Errors
-/// `AllocError` where memory was refused.
+/// `AllocError` where memory is refused.
 pub fn judge_whole(
     alloc: Global,
     protocol: &Protocol,

@@ -12,15 +12,16 @@ use scrib_types::global::GlobalType;
 use scrib_types::name::Role;
 use scrib_types::protocol::Protocol;
 
-/// A law: a protocol permits exactly its runs. For every log, it is permitted exactly where its joins are right
-/// and its sends and receptions are a run of the global type over first-in-first-out queues; the state that the
-/// run reaches has in flight, on every path, what the log has in flight; and where a role awaits a reception
-/// from another that has messages to it in flight, it may receive the oldest of them.
+/// A law: a protocol permits exactly its runs. A log is permitted exactly where its joins are lawful and its sends and
+/// receptions are a run of the global type over first-in-first-out queues. The state that the run reaches has the log's
+/// messages in flight on every path. A role that awaits a message from another with messages to it in flight may
+/// receive the oldest of them.
 pub fn permits_its_runs(protocol: &Protocol)
     ensures { Simulates (agreement_of protocol.now) }
 {}
 
-/// A law: what the plain profile projects, the one that merges receptions projects to the same local type.
+/// A law: where the plain profile has a projection, the reception profile has the same one.
 pub fn keeps_plain_projections(global: &GlobalType, role: &Role)
-    ensures { (l : LocalTree) → projection Plain role.now (global_of global.now) ≡ Some l → projection Reception role.now (global_of global.now) ≡ Some l }
+    ensures { (l : LocalTree) → projection Plain role.now (global_of global.now) ≡ Some l
+        → projection Reception role.now (global_of global.now) ≡ Some l }
 {}

@@ -1,5 +1,5 @@
-//! Conversations as a whole: the runs of a global type over first-in-first-out queues, the law that a protocol
-//! permits exactly these, and the judgement of a log by the plain definitions.
+//! Conversations as a whole: the judgement of a log by the definitions, and the messages in flight after it. Its law is
+//! that a protocol permits exactly the runs of its global type over first-in-first-out queues.
 #![tactic(auto)]
 
 mod allowed;

@@ -1,4 +1,4 @@
-//! The parts of a log, each read from the whole of it.
+//! The parts of a log: joins, actions and own actions, each computed from the whole log.
 
 ghost use Rattle.std.specs.Prelude.{◌≡◌, ◌↔◌, IsTrue, IfOk};
 ghost use Rattle.scrib_types.specs.Logs as logs;
@@ -21,7 +21,7 @@ pub fn has_role(role: &Role, roles: &[Role]) -> bool
     false
 }
 
-/// Whether the event is the role's join.
+// Whether the event is the role's join.
 fn is_join_of(role: &Role, event: &SharedEvent) -> bool
     ensures { result ≡ logs.is_join_of role.now event.now }
 {
@@ -31,7 +31,7 @@ fn is_join_of(role: &Role, event: &SharedEvent) -> bool
     }
 }
 
-/// Whether the role joined.
+// Whether the role joined.
 fn has_joined(role: &Role, log: &[SharedEvent]) -> bool
     ensures { result ≡ logs.has_joined role.now log.now }
 {
@@ -43,8 +43,8 @@ fn has_joined(role: &Role, log: &[SharedEvent]) -> bool
     false
 }
 
-/// Whether the event, after these, has its join: a join is of a declared role that hasn't joined, and the
-/// subject of a send or a reception has joined.
+// Whether the event, after these, follows the rule of joins. A declared role that hasn't joined may join. The subject
+// of a send or a reception has joined.
 fn is_joined(roles: &[Role], before: &[SharedEvent], event: &SharedEvent) -> bool
     ensures { IsTrue result ↔ logs.IsJoined roles.now before.now event.now }
 {
@@ -67,7 +67,7 @@ pub fn all_joined(roles: &[Role], log: &[SharedEvent]) -> bool
     true
 }
 
-/// Whether the event is a send or a reception of the role.
+// Whether the event is a send or a reception of the role.
 fn is_action_of(role: &Role, event: &SharedEvent) -> bool
     ensures { result ≡ logs.is_action_of role.now event.now }
 {
@@ -78,10 +78,7 @@ fn is_action_of(role: &Role, event: &SharedEvent) -> bool
     }
 }
 
-/// What the event is to its subject.
-///
-/// # Errors
-/// `AllocError` where memory was refused, here and below.
+// The event as an action of its subject. It fails where memory is refused, as do the functions below.
 fn action_of(alloc: Global, event: &SharedEvent) -> Result<Action, AllocError>
     ensures { IfOk result (λ act. act ≡ logs.action_of event.now) }
 {
@@ -121,7 +118,7 @@ pub fn event_of(alloc: Global, role: &Role, action: &Action) -> Result<SharedEve
     SharedEvent::new(alloc, event)
 }
 
-/// What the role sent and received, in order.
+/// The role's sends and receptions, in order.
 pub fn own_actions(
     alloc: Global,
     role: &Role,

@@ -1,5 +1,5 @@
-//! Whether a protocol permits a log, by the definition: the whole log is filtered by role, and lists of messages
-//! are compared.
+//! The test whether a protocol permits a log, by the definition: it filters the whole log by role and compares lists of
+//! messages.
 
 ghost use Rattle.std.specs.Prelude.{◌↔◌, IsTrue, IfOk};
 ghost use Rattle.scrib_types.specs.GlobalView.{global_of};
@@ -22,7 +22,7 @@ use std::alloc::{AllocError, Global};
 /// Whether the protocol permits the log.
 ///
 /// # Errors
-/// `AllocError` where memory was refused, here and below.
+/// `AllocError` where memory is refused, here and in the functions below.
 pub fn is_permitted(
     alloc: Global,
     protocol: &Protocol,
@@ -56,7 +56,7 @@ pub fn first_offence(
     Ok(None)
 }
 
-/// Whether what each of the roles did is a trace of its projection.
+// Whether what each of the roles did is a trace of its projection.
 fn all_traced(
     alloc: Global,
     global: &GlobalType,
@@ -73,7 +73,7 @@ fn all_traced(
     Ok(true)
 }
 
-/// Whether the role has a projection, and what it did is a trace of that.
+// Whether the role has a projection, and what it did is a trace of that.
 fn is_traced(
     alloc: Global,
     global: &GlobalType,

@@ -1,4 +1,4 @@
-//! The messages between two roles, as lists read from the whole log.
+//! The messages between two roles, as lists computed from the whole log.
 
 ghost use Rattle.std.specs.Prelude.{◌≡◌, ◌↔◌, IsTrue, IfOk};
 ghost use Rattle.scrib_types.specs.Queues as queue;
@@ -10,7 +10,7 @@ use scrib_types::shared_event::SharedEvent;
 use scrib_types::shared_message::SharedMessage;
 use std::alloc::{AllocError, Global};
 
-/// The message, where the event is that the one role sent it to the other.
+// The message, where the event is a send of it between these roles.
 fn sent_message(
     alloc: Global,
     from: &Role,
@@ -29,7 +29,7 @@ fn sent_message(
     }
 }
 
-/// The message, where the event is that the other role received it from the one.
+// The message, where the event is a reception of it between these roles.
 fn received_message(
     alloc: Global,
     from: &Role,
@@ -48,10 +48,10 @@ fn received_message(
     }
 }
 
-/// What the one role sent to the other, in order.
+/// The messages that the one role sent to the other, in order.
 ///
 /// # Errors
-/// `AllocError` where memory was refused, here and below.
+/// `AllocError` where memory is refused, here and in the functions below.
 pub fn sent(
     alloc: Global,
     from: &Role,
@@ -70,7 +70,7 @@ pub fn sent(
     Ok(messages)
 }
 
-/// What the other role received from the one, in order.
+/// The messages that the other role received from the one, in order.
 pub fn received(
     alloc: Global,
     from: &Role,
@@ -89,7 +89,7 @@ pub fn received(
     Ok(messages)
 }
 
-/// Whether the two lists are the same.
+// Whether the two lists are the same.
 fn all_equal(a: &[SharedMessage], b: &[SharedMessage]) -> bool
     ensures { IsTrue result ↔ (a.now ≡ b.now) }
 {
@@ -104,15 +104,15 @@ fn all_equal(a: &[SharedMessage], b: &[SharedMessage]) -> bool
     true
 }
 
-/// Whether the second list begins with the first.
+// Whether the second list begins with the first.
 fn is_prefix(a: &[SharedMessage], b: &[SharedMessage]) -> bool
     ensures { IsTrue result ↔ queue.IsPrefix a.now b.now }
 {
     a.len() <= b.len() && all_equal(a, &b[..a.len()])
 }
 
-/// Whether, if the event is a reception, what the receiver has from the sender in the log is a prefix of what
-/// was sent.
+// Whether the event is no reception, or the messages that were received between its roles are a prefix of those that
+// were sent.
 fn is_due(alloc: Global, log: &[SharedEvent], event: &SharedEvent) -> Result<bool, AllocError>
     ensures { IfOk result (λ due. IsTrue due ↔ IsDue log.now event.now) }
 {
@@ -126,7 +126,7 @@ fn is_due(alloc: Global, log: &[SharedEvent], event: &SharedEvent) -> Result<boo
     }
 }
 
-/// Whether at each moment what each role received from another is a prefix of what that one sent to it.
+/// Whether after each event the messages that a role received from another are a prefix of those that were sent.
 pub fn is_queued(alloc: Global, log: &[SharedEvent]) -> Result<bool, AllocError>
     ensures { IfOk result (λ queued. IsTrue queued ↔ queue.IsQueued log.now) }
 {

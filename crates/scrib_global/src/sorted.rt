@@ -14,10 +14,10 @@ use scrib_types::text::push_action;
 use std::alloc::{AllocError, Global};
 use std::cmp::Ordering;
 
-/// Puts the action at its place in the list, which is sorted, unless it stands there already.
+/// Inserts the action into the sorted list, unless the list contains it already.
 ///
 /// # Errors
-/// `AllocError` where memory was refused, here and below.
+/// `AllocError` where memory is refused, here and in the functions below.
 pub fn insert(alloc: Global, list: &mut Vec<Action>, action: Action) -> Result<(), AllocError>
     requires { AllPairs ComesBefore list.old.items }
     ensures sorted { OnOk result (AllPairs ComesBefore list.new.items) }
@@ -30,7 +30,7 @@ pub fn insert(alloc: Global, list: &mut Vec<Action>, action: Action) -> Result<(
     Ok(())
 }
 
-/// Where the action belongs in the list, or `None` where it stands there already.
+// The index at which the action belongs in the list, or `None` where the list contains it already.
 fn place_for(alloc: Global, list: &[Action], action: &Action) -> Result<Option<usize>, AllocError>
     requires { AllPairs ComesBefore list.now }
     ensures { IfOk result (spec.IsPlaceFor action.now list.now) }
@@ -47,7 +47,7 @@ fn place_for(alloc: Global, list: &[Action], action: &Action) -> Result<Option<u
     Ok(Some(list.len()))
 }
 
-/// Whether the action's printed text comes after the text.
+// Whether the action's printed text is greater than the text.
 fn is_after(alloc: Global, action: &Action, text: &[u8]) -> Result<bool, AllocError>
     ensures { IfOk result (λ is. IsTrue is ↔ (slice_cmp nat_cmp (action_text action.now) text.now ≡ Greater)) }
 {
@@ -64,7 +64,7 @@ pub fn printed(alloc: Global, action: &Action) -> Result<Vec<u8>, AllocError>
     Ok(text)
 }
 
-/// Whether the two actions are the same.
+// Whether the two actions are the same.
 fn are_same(a: &Action, b: &Action) -> bool
     ensures { IsTrue result ↔ (a.now ≡ b.now) }
 {

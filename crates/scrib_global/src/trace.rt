@@ -16,7 +16,7 @@ use std::alloc::{AllocError, Global};
 /// Whether the local type may make these actions, one after another.
 ///
 /// # Errors
-/// `AllocError` where memory was refused, here and below.
+/// `AllocError` where memory is refused, here and in the functions below.
 pub fn is_trace(alloc: Global, local: Local, actions: &[Action]) -> Result<bool, AllocError>
     ensures { IfOk result (λ is. IsTrue is ↔ IsTrace (local_of local) actions.now) }
 {
@@ -30,7 +30,7 @@ pub fn is_trace(alloc: Global, local: Local, actions: &[Action]) -> Result<bool,
     Ok(true)
 }
 
-/// What the action leaves of the local type, or `None` where the type cannot make it.
+// The continuation of the local type after the action, or `None` where the type cannot make it.
 #[tactic(auto, using(scrib_types::specs::LocalView::local_views))]
 fn after(alloc: Global, local: &Local, action: &Action) -> Result<Option<Local>, AllocError>
     ensures { IfOk result (spec.Leaves (local_of local.now) action.now) }
@@ -49,7 +49,7 @@ fn after(alloc: Global, local: &Local, action: &Action) -> Result<Option<Local>,
     }
 }
 
-/// What the action leaves of a choice of sends to the role.
+// The continuation of a choice of sends to the role after the action.
 fn after_send(
     alloc: Global,
     to: &Role,
@@ -66,7 +66,7 @@ fn after_send(
     }
 }
 
-/// What the action leaves of a choice of receptions from the role.
+// The continuation of a choice of receptions from the role after the action.
 fn after_reception(
     alloc: Global,
     from: &Role,
@@ -84,7 +84,7 @@ fn after_reception(
     }
 }
 
-/// What the first branch of the message continues as.
+// The continuation of the first branch with the message.
 fn branch_of(
     alloc: Global,
     branches: &[(SharedMessage, Local)],

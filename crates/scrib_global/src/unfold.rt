@@ -1,16 +1,16 @@
-//! Recursions of local types, unfolded.
+//! The unfolding of recursive local types.
 
 ghost use Rattle.std.specs.Prelude.{◌≡◌, IfOk};
 ghost use Rattle.scrib_types.specs.LocalView.{local_of, local_branches};
 ghost use Rattle.scrib_types.specs.Traces.{unfolding_of};
 ghost use Rattle.scrib_global.specs.Unfolded as unfolded;
 
+use scrib_types::containers::{Boxed, Items};
 use scrib_types::local::Local;
-use scrib_types::plain::{Boxed, Items};
 use scrib_types::shared_message::SharedMessage;
 use std::alloc::{AllocError, Global};
 
-/// Whether a send or a reception stands after the leading recursions.
+/// Whether a send or a reception follows the leading recursions.
 #[tactic(auto, using(scrib_types::specs::LocalView::local_views))]
 pub fn acts_first(local: &Local) -> bool
     ensures { result ≡ unfolded.acts_first (local_of local.now) }
@@ -25,14 +25,14 @@ pub fn acts_first(local: &Local) -> bool
 /// The unfolding of the recursion with this body.
 ///
 /// # Errors
-/// `AllocError` where memory was refused.
+/// `AllocError` where memory is refused.
 pub fn unfold(alloc: Global, body: &Local) -> Result<Local, AllocError>
     ensures { IfOk result (λ l. local_of l ≡ unfolding_of (local_of body.now)) }
 {
     substitute(alloc, body, 0, body)
 }
 
-/// The type with the recursion of this body in place of the variable of the `depth`-th recursion outside.
+// The type with the recursion of this body in place of the variable of the `depth`-th enclosing recursion.
 #[cycle(substitute)]
 #[tactic(auto, using(scrib_types::specs::LocalView::local_views))]
 fn substitute(alloc: Global, local: &Local, depth: u64, body: &Local) -> Result<Local, AllocError>
@@ -74,7 +74,8 @@ fn substitute_all(
     body: &Local,
 ) -> Result<Vec<(SharedMessage, Local)>, AllocError>
     ensures { IfOk result
-        (λ v. unfolded.SubstitutesAll (local_of body.now) (local_branches branches.now) depth (local_branches v.items)) }
+        (λ v. unfolded.SubstitutesAll (local_of body.now) (local_branches branches.now) depth
+        (local_branches v.items)) }
 {
     let mut done = Vec::new(alloc);
     for (message, local) in branches {

@@ -1,4 +1,4 @@
--- A table of bytes holds against a definition at each of the 256 bytes, by computing.
+-- A table of bytes agrees with a definition at each of the 256 bytes, by computation.
 use Rattle.std.proofs.Common.{◌≡◌, ℕ, zero, suc, ◌<◌, Bool, true, false, ◌&&◌, refl, arith, inl, inr}
 use Rattle.std.specs.Bool.{beq}
 use Rattle.std.proofs.lemmas.Bool.{cases_eq}

@@ -1,4 +1,4 @@
--- What stands in front of a text is one piece, and the text says which.
+-- The text determines the piece that it begins with.
 use Rattle.std.proofs.Common.{◌≡◌, ℕ, true, false, cond, List, [], ◌∷◌, ◌++◌, refl, sym, ap, ◌∙◌, subst, arith, ◌==◌, Option, Some, None}
 use Rattle.std.proofs.lemmas.Bool.{false≢true}
 use Rattle.std.proofs.lemmas.Bool.Decides.{nat_tests}
@@ -15,7 +15,7 @@ use Rattle.scrib_lexer.specs.Steps.{mark_of}
 use Rattle.scrib_lexer.proofs.Words.{keyword-name, named, name-letter, word_front, word_front-append}
 use Rattle.scrib_lexer.proofs.Quotes.{line_front, line_front-append, block_front, block_front-append, string_front, string_front-append}
 
--- ---- the bytes of the piece in front, read from the left
+-- ---- the bytes of the first piece, read from the left
 
 unfoldable pub comment_front : List ℕ → List ℕ
 comment_front [] = []
@@ -87,7 +87,7 @@ front-element (element.Token kind.CloseBrace) bytes rest h l = front-one 125 byt
 front-element (element.Token kind.OpenAngle) bytes rest h l = front-one 60 bytes rest refl refl refl h
 front-element (element.Token kind.CloseAngle) bytes rest h l = front-one 62 bytes rest refl refl refl h
 
--- ---- what a piece is, read from its bytes
+-- ---- the element of a piece, by its bytes
 
 abbrev pub kind_of_word : Option Keyword → TokenKind
 kind_of_word None = kind.Name
@@ -150,7 +150,7 @@ element-is text p rest f = ap read_element (front-is text p rest f) ∙ read_ele
 same_piece : (p q : Piece) → p.element ≡ q.element → p.bytes ≡ q.bytes → p ≡ q
 same_piece p q e b = λ i. record { element = e i; bytes = b i }
 
--- a text has one piece in front
+-- a text begins with one piece
 pub one_front : (text : List ℕ) (p q : Piece) (rest after : List ℕ) → IsFront text p rest → IsFront text q after → (p ≡ q) × (rest ≡ after)
 one_front text p q rest after f g =
     let bytes : p.bytes ≡ q.bytes = sym (front-is text p rest f) ∙ front-is text q after g in

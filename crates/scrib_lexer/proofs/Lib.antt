@@ -2,8 +2,8 @@ pub mod Words
 pub mod Quotes
 pub mod Spots
 pub mod Front
-pub mod Wrong
-pub mod Read
+pub mod FaultLemmas
+pub mod ReadingLemmas
 pub mod Steps
 pub mod Lines
 pub mod Classes

@@ -63,7 +63,7 @@ before-in_line text (suc i) within none =
     let next : i + 1 ≡ suc i = omega arith in
     subst (λ n. in_line (take n text) ≡ true) next (in_line-take_more text i (omega (arith, within)) here front)
 
--- where a line ends of which the line feed was looked for
+-- the index at which the line ends
 pub record IsLineEnd (text : List ℕ) (n : ℕ) : Type 0 where
   pub within : n ≤ length text
   pub line : in_line (take n text) ≡ true

@@ -73,7 +73,7 @@ has_close-append [] rest = refl
 has_close-append (b ∷ bytes) rest =
     ap (λ t. begins_close (b ∷ (bytes ++ 42 ∷ 47 ∷ rest)) || t) (has_close-append bytes rest) ∙ or-true (begins_close (b ∷ (bytes ++ 42 ∷ 47 ∷ rest)))
 
--- what the first `*/` parts
+-- the text before the first `*/`, and after it
 pub record IsClosed (text : List ℕ) (n : ℕ) : Type 0 where
   pub within : n + 2 ≤ length text
   pub free : has_close (take n text) ≡ false
@@ -130,7 +130,7 @@ close_in-some (b ∷ text) n h = by (begins_close (b ∷ text)) refl h (close_in
 
 -- ---- loops that look for something
 
--- so many more, unless there is none
+-- n more, unless there is none
 abbrev pub on_by : ℕ → Option ℕ → Option ℕ
 on_by i None = None
 on_by i (Some n) = Some (n + i)
@@ -150,7 +150,7 @@ close_in-goes_on text i l h so_far =
 
 -- ---- strings
 
--- what the first quote parts
+-- the text before the first quote, and after it
 pub record IsQuoted (text : List ℕ) (n : ℕ) : Type 0 where
   pub within : n < length text
   pub inner : is_quotable (take n text) ≡ true
@@ -193,7 +193,7 @@ quotable-take [] (suc n) h = refl
 quotable-take (b ∷ bytes) (suc n) h =
     let p = quotable_parts b bytes h in rw (p.0, p.1, quotable-take bytes n p.2) refl
 
--- what the first quote, or the line's end before it, parts
+-- the search for the first quote, or for the line's end before it
 pub quote_in-append : (bytes rest : List ℕ) → is_quotable bytes ≡ true → quote_in (bytes ++ 34 ∷ rest) ≡ Some (length bytes)
 quote_in-append [] rest h = refl
 quote_in-append (b ∷ bytes) rest h =

@@ -64,14 +64,14 @@ past_line spot (b ∷ bytes) h =
     let p = and_parts (not (is_line_feed b)) (in_line bytes) h in
     past_line (spot_past spot b) bytes p.1 ∙ ap (λ s. spot_on s (length bytes)) (spot_past-in_line spot b (not-true (is_line_feed b) p.0)) ∙ spot_on-on spot 1 (length bytes) (length (b ∷ bytes)) (omega arith)
 
--- ---- places told from a line
+-- ---- places computed from a line
 
--- so many bytes on in the same line
+-- n bytes further on the same line
 pub goes_on : (line : Line) (i n k : ℕ) → line.start ≤ i → i + n ≡ k → spot_in line k ≡ spot_on (spot_in line i) n
 unfolding spot_at
 goes_on line i n k within e = same_spot _ _ _ _ refl (omega arith)
 
--- behind a line feed the next line begins
+-- after a line feed the next line begins
 pub next_line : (line : Line) (i k : ℕ) (b : ℕ) → b ≡ 10 → k ≡ i + 1 → spot_in (record { number = line.number + 1; start = k }) (i + 1) ≡ spot_past (spot_in line i) b
 unfolding spot_at
 next_line line i k b e s =

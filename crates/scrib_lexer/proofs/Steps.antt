@@ -1,4 +1,4 @@
--- What each step of the lexer finds in front of a text.
+-- The element or the fault that each step of the lexer finds at the front of a text.
 use Rattle.std.proofs.Common.{◌≡◌, ℕ, ◌+◌, ◌<◌, ◌≤◌, true, false, List, [], ◌∷◌, ◌++◌, length, take, drop, get_or, refl, sym, ap, ◌∙◌, subst, arith, zero, suc, Some, None, inl, inr}
 use Rattle.std.specs.Str.{IsUtf8, IsValidUpTo}
 use Rattle.std.proofs.lemmas.Bool.{and_parts, false≢true, ne_eqb}

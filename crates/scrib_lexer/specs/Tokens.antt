@@ -1,4 +1,4 @@
--- The tokens of a text, and why a text has none (this project's own).
+-- The tokens of a text, and the fault of a text that has none (this project's own).
 use Rattle.std.specs.Prelude.{◌≡◌, ℕ, ◌+◌, ◌≤◌, ◌<◌, Bool, false, not, ◌&&◌, ◌||◌, ◌==◌, List, [], ◌∷◌, ◌++◌, length, take, reverse, count_by, Result, Ok, Err, IsTrue, codes, ◌⊎◌}
 use Rattle.std.specs.List.{prefix_len}
 use Rattle.std.specs.Str.{IsValidUpTo}
@@ -16,18 +16,21 @@ use Rattle.scrib_lexer.specs.Lexeme.{Lexeme, lexemes_of}
 use Rattle.scrib_lexer.specs.Words.{is_space, is_line_feed, ends_line, is_quotable, quoted, IsLexeme, begins_in_word}
 use Rattle.scrib_lexer.specs.Pieces.{has_close, Piece, Pieces, bytes_of}
 
--- the place after the bytes: the line is one more than their line feeds, and the column one more than the
--- bytes after the last of these
+-- The place after the bytes. The line is one more than the number of their line feeds, and the column one more than
+-- the number of bytes after the last of these.
 abbrev pub spot_after : List ℕ → Spot
 spot_after before =
-    record { line = count_by is_line_feed before + 1; column = prefix_len (λ b. not (is_line_feed b)) (reverse before) + 1 }
+    record {
+      line = count_by is_line_feed before + 1;
+      column = prefix_len (λ b. not (is_line_feed b)) (reverse before) + 1;
+    }
 
--- the token that a piece behind `before` is, if it is one
+-- the token of a piece after `before`, if it has one
 abbrev pub token_at : (before : List ℕ) → Element → (bytes : List ℕ) → List Lexeme
 token_at before (element.Token k) bytes = record { kind = k; bytes = bytes; spot = spot_after before } ∷ []
 token_at before _ bytes = []
 
--- the tokens among pieces that stand behind `before`, in order
+-- the tokens among the pieces after `before`, in order
 abbrev pub tokens_of : (before : List ℕ) → List Piece → List Lexeme
 tokens_of before [] = []
 tokens_of before (p ∷ ps) = token_at before p.element p.bytes ++ tokens_of (before ++ p.bytes) ps
@@ -40,7 +43,7 @@ max_text_bytes = 1048576
 abbrev pub IsTokens : List ℕ → List Lexeme → Type 0
 IsTokens text ts = (length text ≤ max_text_bytes) × ((ps : List Piece) × Pieces text ps [] × (ts ≡ tokens_of [] ps))
 
--- `//` or `/*` stands in front
+-- the bytes begin with `//` or `/*`
 abbrev pub begins_comment : List ℕ → Bool
 begins_comment [] = false
 begins_comment (b ∷ []) = false
@@ -50,43 +53,48 @@ begins_comment (b ∷ c ∷ text) = (b == 47) && ((c == 47) || (c == 42))
 abbrev pub BeginsNothing : List ℕ → Type 0
 BeginsNothing [] = ⊥
 BeginsNothing (b ∷ rest) =
-    (is_space b ≡ false) × (begins_comment (b ∷ rest) ≡ false) × ((kind : TokenKind) (bytes : List ℕ) → IsLexeme kind (b ∷ bytes) → ⊥)
+    (is_space b ≡ false) × (begins_comment (b ∷ rest) ≡ false)
+    × ((kind : TokenKind) (bytes : List ℕ) → IsLexeme kind (b ∷ bytes) → ⊥)
 
--- a closed string stands in front whose bytes are no UTF-8, and behind so many bytes of the text the first
--- wrong sequence begins
+-- The text begins with a closed string whose bytes aren't UTF-8. The first invalid sequence begins after this number
+-- of bytes of the text.
 abbrev pub BeginsBadString : List ℕ → ℕ → Type 0
 BeginsBadString text n =
-    (inner : List ℕ) × (rest : List ℕ) × (good : ℕ) × (text ≡ quoted inner ++ rest) × IsTrue (is_quotable inner) × IsValidUpTo inner good × (n ≡ good + 1)
+    (inner : List ℕ) × (rest : List ℕ) × (good : ℕ) × (text ≡ quoted inner ++ rest) × IsTrue (is_quotable inner)
+    × IsValidUpTo inner good × (n ≡ good + 1)
 
--- a comment stands in front that is never closed
+-- the text begins with a comment that is never closed
 abbrev pub BeginsOpenComment : List ℕ → Type 0
 BeginsOpenComment text = (inner : List ℕ) × (text ≡ codes "/*" ++ inner) × (has_close inner ≡ false)
 
--- a string stands in front that its line doesn't close
+-- the text begins with a string that its line doesn't close
 abbrev pub BeginsOpenString : List ℕ → Type 0
 BeginsOpenString text =
-    (inner : List ℕ) × (rest : List ℕ) × (text ≡ 34 ∷ (inner ++ rest)) × IsTrue (is_quotable inner) × IsTrue (ends_line rest)
+    (inner : List ℕ) × (rest : List ℕ) × (text ≡ 34 ∷ (inner ++ rest)) × IsTrue (is_quotable inner)
+    × IsTrue (ends_line rest)
 
--- a whole word of more than 128 bytes stands in front
+-- the text begins with a whole word of more than 128 bytes
 abbrev pub BeginsLongName : List ℕ → Type 0
 BeginsLongName [] = ⊥
 BeginsLongName (b ∷ text) =
-    IsTrue (is_letter b) × ((bytes : List ℕ) × (rest : List ℕ) × (text ≡ bytes ++ rest) × IsTrue (all_word bytes) × (128 ≤ length bytes) × (begins_in_word rest ≡ false))
+    IsTrue (is_letter b) × ((bytes : List ℕ) × (rest : List ℕ) × (text ≡ bytes ++ rest) × IsTrue (all_word bytes)
+    × (128 ≤ length bytes) × (begins_in_word rest ≡ false))
 
--- what is wrong at the first byte
+-- the fault is at the first byte
 abbrev pub AtOnce : (List ℕ → Type 0) → List ℕ → ℕ → Type 0
 AtOnce Wrong text n = Wrong text × (n ≡ 0)
 
--- behind so many bytes stands a byte that is none of a text's
+-- after this number of bytes a byte follows that no text may have there
 abbrev pub BeginsBad : List ℕ → ℕ → Type 0
 BeginsBad text n = AtOnce BeginsNothing text n ⊎ BeginsBadString text n
 
--- the text is pieces and a rest that is wrong, and the place is that of its first wrong byte
+-- the text is pieces and a rest with the fault, and the place is that of the rest's first wrong byte
 abbrev pub FailsWith : (List ℕ → ℕ → Type 0) → List ℕ → Spot → Type 0
 FailsWith Wrong text at =
-    (ps : List Piece) × (rest : List ℕ) × (n : ℕ) × Pieces text ps rest × Wrong rest n × (at ≡ spot_after (bytes_of ps ++ take n rest))
+    (ps : List Piece) × (rest : List ℕ) × (n : ℕ) × Pieces text ps rest × Wrong rest n
+    × (at ≡ spot_after (bytes_of ps ++ take n rest))
 
--- the fault that the text has, and where. Memory may be refused at any text that is not too long
+-- The fault of the text, and its place. Memory may be refused for any text that is not too long.
 abbrev pub FailsAt : List ℕ → LexFault → Type 0
 FailsAt text fault.TextTooLong = max_text_bytes < length text
 FailsAt text (fault.BadByte at) = (length text ≤ max_text_bytes) × FailsWith BeginsBad text at

@@ -1,4 +1,4 @@
--- White space, words, marks and string literals of a module's text (names and marks after the Scribble
+-- White space, words, punctuation marks and string literals of a module's text (names and marks after the Scribble
 -- Language Reference 0.3; the reserved words and the string literals are this project's own).
 use Rattle.std.specs.Prelude.{◌≡◌, ℕ, Bool, true, false, not, ◌||◌, ◌&&◌, ◌==◌, List, [], ◌∷◌, ◌++◌, Option, Some, None, if◌then◌else◌, codes, IsTrue}
 use Rattle.std.specs.Str.{bytes_eq, IsUtf8}
@@ -48,7 +48,7 @@ keyword_of word = look_up word reserved
 abbrev pub is_quote : ℕ → Bool
 is_quote b = b == 34
 
--- what may stand between the quotes of a string literal: no quote and no line's end
+-- bytes that a string literal may have between its quotes: no quote and no line feed
 abbrev pub is_quotable : List ℕ → Bool
 is_quotable [] = true
 is_quotable (b ∷ bs) = not (is_quote b) && not (is_line_feed b) && is_quotable bs
@@ -61,7 +61,8 @@ quoted bytes = 34 ∷ (bytes ++ 34 ∷ [])
 abbrev pub IsLexeme : TokenKind → List ℕ → Type 0
 IsLexeme kind.Name bytes = IsTrue (is_name bytes) × (keyword_of bytes ≡ None)
 IsLexeme (kind.Keyword k) bytes = keyword_of bytes ≡ Some k
-IsLexeme kind.StringLiteral bytes = (inner : List ℕ) × (bytes ≡ quoted inner) × IsTrue (is_quotable inner) × IsUtf8 inner
+IsLexeme kind.StringLiteral bytes =
+    (inner : List ℕ) × (bytes ≡ quoted inner) × IsTrue (is_quotable inner) × IsUtf8 inner
 IsLexeme kind.Semicolon bytes = bytes ≡ codes ";"
 IsLexeme kind.Comma bytes = bytes ≡ codes ","
 IsLexeme kind.Dot bytes = bytes ≡ codes "."

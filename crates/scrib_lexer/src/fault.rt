@@ -10,7 +10,7 @@ pub enum LexFault {
     /// The text is longer than a module text may be.
     #[error("the text is too long")]
     TextTooLong,
-    /// A byte that starts no token, or the first byte of a wrong UTF-8 sequence in a closed string.
+    /// A byte that starts no token, or the first byte of an invalid UTF-8 sequence in a closed string.
     #[error("bad byte")]
     BadByte { at: Spot },
     /// A `/*` that has no `*/`.

@@ -1,4 +1,4 @@
-//! From a module's text to its tokens.
+//! The lexer: the tokens of a module's text.
 
 ghost use Rattle.std.specs.Prelude.{◌≡◌, ◌≢◌, ◌+◌, ◌^◌, ◌<◌, ◌≤◌, IfOk, IfErr, IsTrue, List, false, true, length, slice_index, take, drop};
 ghost use Rattle.std.specs.List.{prefix_len};
@@ -22,16 +22,15 @@ use std::str;
 /// The most bytes that a module's text may have.
 pub const MAX_TEXT_BYTES: usize = 1_048_576;
 
-/// How many bytes of a text there are to a token at least, mostly.
-const BYTES_A_TOKEN: usize = 3;
+// The least number of bytes to a token in most texts.
+const BYTES_PER_TOKEN: usize = 3;
 
-/// The tokens of a module's text, in order. They borrow its bytes. White space and comments lie between
-/// them.
+/// The tokens of a module's text, in order. They borrow its bytes. White space and comments are dropped.
 ///
 /// # Errors
 /// `TextTooLong` for a text of more than `MAX_TEXT_BYTES`. Otherwise the leftmost of these faults:
-/// - `BadByte` at a byte that is no white space and begins no comment and no token, or at the first byte of
-///   a wrong UTF-8 sequence in a closed string;
+/// - `BadByte` at a byte that is no white space and begins no comment and no token;
+/// - `BadByte` at the first byte of an invalid UTF-8 sequence in a closed string;
 /// - `OpenComment` at a `/*` that has no `*/`;
 /// - `OpenString` at a double quote that has no other before the line's end;
 /// - `LongName` at the first byte of a word of more than 128 bytes.
@@ -41,12 +40,13 @@ pub fn lex<'a>(alloc: Global, text: &'a [u8]) -> Result<Vec<Token<'a>>, LexFault
     ensures found { IfOk result (λ tokens. IsTokens text.now (lexemes_of tokens.items)) }
     ensures only { (ts : List Lexeme) → IsTokens text.now ts → LexGives result ts }
     ensures fault { IfErr result (FailsAt text.now) }
-    ensures refused { (fault : LexFault) → fault ≢ LexFault.OutOfMemory → FailsAt text.now fault → LexFails result fault }
+    ensures refused { (fault : LexFault) → fault ≢ LexFault.OutOfMemory → FailsAt text.now fault
+        → LexFails result fault }
 {
     if text.len() > MAX_TEXT_BYTES {
         return Err(LexFault::TextTooLong);
     }
-    let mut tokens = Vec::with_capacity(alloc, text.len() / BYTES_A_TOKEN)?;
+    let mut tokens = Vec::with_capacity(alloc, text.len() / BYTES_PER_TOKEN)?;
     let mut start = 0;
     let mut line = Line {
         number: 1,
@@ -71,8 +71,8 @@ pub fn lex<'a>(alloc: Global, text: &'a [u8]) -> Result<Vec<Token<'a>>, LexFault
     Ok(tokens)
 }
 
-/// The line that is read: its number, and the index of its first byte. A place is told from it where one is wanted,
-/// so most bytes move nothing but the index.
+// The current line: its number, and the index of its first byte. Columns are computed from it where they are needed,
+// so most bytes advance nothing but the index.
 #[derive(Clone, Copy)]
 struct Line {
     number: u32,
@@ -80,7 +80,7 @@ struct Line {
 }
 
 impl Line {
-    /// The place of the byte of this index, which the line has.
+    // The place of the byte at this index of the line.
     fn spot(self, index: usize) -> Spot
         requires within { self.start ≤ index }
         requires column { index + 1 < 2 ^ 32 }
@@ -92,7 +92,7 @@ impl Line {
         }
     }
 
-    /// The line behind the byte of this index.
+    // The line after the byte at this index.
     fn past(self, index: usize, byte: u8) -> Line
         requires within { self.start ≤ index }
         requires number { self.number + 1 < 2 ^ 32 }
@@ -111,7 +111,7 @@ impl Line {
         }
     }
 
-    /// The line behind the bytes, of which the first has this index.
+    // The line after the bytes, of which the first is at this index.
     fn past_all(self, index: usize, bytes: &[u8]) -> Line
         requires within { self.start ≤ index }
         requires number { self.number + length bytes.now < 2 ^ 32 }
@@ -126,8 +126,8 @@ impl Line {
         line
     }
 
-    /// The line behind the element, of which the first byte has this index. A token holds no line feed, nor does a
-    /// comment to the line's end, so their bytes aren't read once more.
+    // The line after the element, whose first byte is at this index. Tokens and line comments hold no line feed, so
+    // their bytes aren't read again.
     fn past_element(self, element: Element, index: usize, bytes: &[u8]) -> Line
         requires element { IsElement element bytes.now }
         requires within { self.start ≤ index }
@@ -143,7 +143,7 @@ impl Line {
     }
 }
 
-/// What the text begins with, and the length of that.
+// The element that the text begins with, and its length.
 fn front_element(text: &[u8], at: Spot) -> Result<(Element, usize), LexFault>
     requires some { 0 < length text.now }
     requires column { at.column + length text.now < 2 ^ 32 }
@@ -167,7 +167,7 @@ fn front_element(text: &[u8], at: Spot) -> Result<(Element, usize), LexFault>
     }
 }
 
-/// The word that the text begins with, and its length.
+// The word that the text begins with, and its length.
 fn front_word(text: &[u8], at: Spot) -> Result<(Element, usize), LexFault>
     requires some { 0 < length text.now }
     requires letter { names.is_letter (slice_index text.now 0) ≡ true }
@@ -184,7 +184,7 @@ fn front_word(text: &[u8], at: Spot) -> Result<(Element, usize), LexFault>
     }
 }
 
-/// The string literal that the text begins with, and its length.
+// The string literal that the text begins with, and its length.
 fn front_string(text: &[u8], at: Spot) -> Result<(Element, usize), LexFault>
     requires some { 0 < length text.now }
     requires quote { slice_index text.now 0 ≡ 34 }
@@ -207,7 +207,7 @@ fn front_string(text: &[u8], at: Spot) -> Result<(Element, usize), LexFault>
     }
 }
 
-/// The comment that the text begins with, and its length.
+// The comment that the text begins with, and its length.
 fn front_comment(text: &[u8], at: Spot) -> Result<(Element, usize), LexFault>
     requires some { 0 < length text.now }
     requires slash { slice_index text.now 0 ≡ 47 }
@@ -227,7 +227,7 @@ fn front_comment(text: &[u8], at: Spot) -> Result<(Element, usize), LexFault>
     }
 }
 
-// What each byte is: `a` is a letter or an underscore, `0` a digit, `.` white space, and `-` any other.
+// The class of each byte: `a` is a letter or an underscore, `0` a digit, `.` white space, and `-` any other.
 static CLASSES: [u8; 256] = *b"\
     ---------..--.------------------\
     .---------------0000000000------\
@@ -238,28 +238,28 @@ static CLASSES: [u8; 256] = *b"\
     --------------------------------\
     --------------------------------";
 
-/// Whether the byte is white space.
+// Whether the byte is white space.
 fn is_space(byte: u8) -> bool
     ensures { result ≡ words.is_space byte }
 {
     CLASSES[byte as usize] == b'.'
 }
 
-/// Whether a word may begin with the byte.
+// Whether a word may begin with the byte.
 fn begins_word(byte: u8) -> bool
     ensures { result ≡ names.is_letter byte }
 {
     CLASSES[byte as usize] == b'a'
 }
 
-/// Whether the byte may stand in a word.
+// Whether a word may have the byte.
 fn in_word(byte: u8) -> bool
     ensures { result ≡ names.is_word_byte byte }
 {
     CLASSES[byte as usize] >= b'0'
 }
 
-/// How many bytes in front may stand in a word.
+// The length of the word that the text begins with.
 fn word_len(text: &[u8]) -> usize
     ensures within { result ≤ length text.now }
     ensures word { IsTrue (names.all_word (take result text.now)) }
@@ -273,7 +273,7 @@ fn word_len(text: &[u8]) -> usize
     text.len()
 }
 
-/// How many bytes stand before the line's end.
+// The number of bytes before the line's end.
 fn line_len(text: &[u8]) -> usize
     ensures within { result ≤ length text.now }
     ensures line { IsTrue (words.in_line (take result text.now)) }
@@ -282,7 +282,7 @@ fn line_len(text: &[u8]) -> usize
     memchr(b'\n', text).unwrap_or(text.len())
 }
 
-/// How many bytes stand before the first `*/`.
+// The number of bytes before the first `*/`.
 fn close_in(text: &[u8]) -> Option<usize>
     ensures { result ≡ close_in text.now }
 {
@@ -294,7 +294,7 @@ fn close_in(text: &[u8]) -> Option<usize>
     None
 }
 
-/// Whether the text begins with `*/`.
+// Whether the text begins with `*/`.
 fn begins_close(text: &[u8]) -> bool
     ensures { result ≡ pieces.begins_close text.now }
 {
@@ -304,7 +304,7 @@ fn begins_close(text: &[u8]) -> bool
     }
 }
 
-/// How many bytes stand before the first double quote of the line.
+// The number of bytes before the first double quote of the line.
 fn quote_in(text: &[u8]) -> Option<usize>
     ensures { result ≡ quote_in text.now }
 {
@@ -318,7 +318,7 @@ fn quote_in(text: &[u8]) -> Option<usize>
     None
 }
 
-/// The mark that the byte is.
+// The punctuation mark that the byte is.
 fn mark_of(byte: u8) -> Option<TokenKind>
     ensures { result ≡ mark_of byte }
 {
@@ -337,7 +337,7 @@ fn mark_of(byte: u8) -> Option<TokenKind>
     }
 }
 
-/// The keyword that the word is.
+// The keyword that the word is.
 fn keyword_of(word: &[u8]) -> Option<Keyword>
     ensures { result ≡ words.keyword_of word.now }
 {

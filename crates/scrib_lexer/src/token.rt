@@ -22,7 +22,7 @@ pub enum Keyword {
     Do,
 }
 
-/// What a token is.
+/// The kind of a token.
 #[derive(Clone, Copy, Debug, PartialEq, Eq)]
 pub enum TokenKind {
     /// A name that is no reserved word.
@@ -43,7 +43,7 @@ pub enum TokenKind {
     CloseAngle,
 }
 
-/// What a piece of a text is: white space, a comment or a token.
+/// The kind of an input element: white space, a comment or a token.
 #[derive(Clone, Copy)]
 pub enum Element {
     /// One byte of white space.

@@ -1,7 +1,7 @@
 pub mod Rows
-pub mod Sorting
+pub mod SortedEdges
 pub mod Branches
-pub mod Closing
-pub mod Laying
-pub mod Required
+pub mod ClosedSubstitution
+pub mod LayoutLemmas
+pub mod LayoutConditions
 pub mod States

@@ -1,4 +1,4 @@
--- What is laid out is the transition system of the tree: each of its states stands for a closed local type.
+-- The layout is the transition system of the tree: each of its states has a closed local type.
 use Rattle.std.proofs.Common.{◌≡◌, inl, inr, ℕ, zero, suc, ◌+◌, ◌<◌, ◌≤◌, List, [], ◌∷◌, ◌++◌, AllPairs, length, get_or, reverse, slice_get, Some, Contains, refl, sym, ap, subst, ◌∙◌, arith, add-one, length-append}
 use Rattle.std.proofs.lemmas.Bool.{cases_lt, cases_eq}
 use Rattle.std.proofs.lemmas.List.Sorted.{IsPermutation-sym, Contains-permutation}
@@ -13,10 +13,9 @@ use Rattle.scrib_machine.specs.declared.machine.Edge.{Edge}
 use Rattle.scrib_machine.specs.Machines.{Steps, IsMachine, UnfoldsTo, as_is, unfolded, IsSystemOf}
 use Rattle.scrib_machine.specs.Compilable.{Closed, ClosedAll, LeadsToChoice, Guarded, GuardedAll, Lacks, Differ, Distinct, DistinctAll, IsCompilable}
 use Rattle.scrib_machine.specs.Layout.{size, sizes, actions_of, edges_of, IsRow, Laid, LaidAll, Placed}
-use Rattle.scrib_machine.proofs.Closing.{closing, closing_all, closing_end, closing_rec, closing_send, closing_recv, closing_none, closing_choice, closing_closed, closing_var, EachClosed}
+use Rattle.scrib_machine.proofs.ClosedSubstitution.{closing, closing_all, closing_end, closing_rec, closing_send, closing_recv, closing_none, closing_choice, closing_closed, closing_var, EachClosed}
 
--- The closed types of a tree's states, in order, where the trees ss stand for its free variables, the
--- innermost first.
+-- The closed types of a tree's states, in order, where the trees ss replace its free variables, the innermost first.
 abbrev mutual
   types : List LocalTree → LocalTree → List LocalTree
   types ss LocalEnd = LocalEnd ∷ []
@@ -42,7 +41,7 @@ mutual
   types_sizes ss NoChoice = refl
   types_sizes ss (Choice m l ls) = length-append (types ss l) (types_all ss ls) ∙ omega (arith, types_size ss l, types_sizes ss ls)
 
--- from state n on, T gives these types
+-- the states from n on have these types by T
 abbrev Gives : (ℕ → LocalTree) → ℕ → List LocalTree → Type 0
 Gives T n [] = Unit {0}
 Gives T n (t ∷ ts) = (T n ≡ t) × Gives T (n + 1) ts
@@ -71,7 +70,7 @@ gives_itself : (ts : List LocalTree) → Gives (λ i. get_or ts i LocalEnd) 0 ts
 gives_itself [] = tt
 gives_itself (t ∷ ts) = (refl, gives_later (λ i. get_or ts i LocalEnd) (λ i. get_or (t ∷ ts) i LocalEnd) 0 ts (read_later t ts) (gives_itself ts))
 
--- what leads to a choice begins where it is laid out, and unfolds to the type of that state
+-- a tree that leads to a choice begins at its first state, and unfolds to the type of that state
 lead_root : (m : List (List Edge)) (env : List ℕ) (l : LocalTree) (n r : ℕ) → LeadsToChoice l → Laid m env l n r → r ≡ n
 lead_root m env LocalEnd n r h w = absurd h
 lead_root m env (LocalVar k) n r h w = absurd h
@@ -112,7 +111,7 @@ bound_closed m T [] (s ∷ ss) b = absurd b
 bound_closed m T (e ∷ env) [] b = absurd b
 bound_closed m T (e ∷ env) (s ∷ ss) b = (b.0.2, bound_closed m T env ss b.1)
 
--- where one goes by beginning the tree: to a state, to whose type the tree unfolds
+-- the tree begins in a state to whose type it unfolds
 record Begins (m : List (List Edge)) (T : ℕ → LocalTree) (t : LocalTree) (r : ℕ) : Type 0 where
   within : r < length m
   type : UnfoldsTo t (T r)
@@ -236,14 +235,14 @@ row_steps m n f ls ks row a j s =
     let same : s.edges ≡ row.edges = some_is s.edges row.edges (sym s.here ∙ row.here) in
     Contains-permutation row.edges (edges_of f ls ks) e (IsPermutation-sym (edges_of f ls ks) row.edges row.same) (subst (λ (es : List Edge). Contains es e) same s.there)
 
--- a state is as machines have it, and has exactly the transitions of its type
+-- the state's edges are sorted, and are exactly the transitions of its closed type
 record IsRight (m : List (List Edge)) (T : ℕ → LocalTree) (i : ℕ) : Type 0 where
   sorted : (es : List Edge) → slice_get m i ≡ Some es → AllPairs ComesBefore (actions_of es)
   closed : Closed (T i) 0
   sound : (a : Action) (j : ℕ) → Steps m i a j → (k : LocalTree) × LocalTransition (T i) a k × Begins m T k j
   complete : (a : Action) (k : LocalTree) → LocalTransition (T i) a k → (j : ℕ) × Steps m i a j × UnfoldsTo k (T j)
 
--- what a tree of a known form does
+-- the transitions of a tree of a known form
 abbrev DoesAs : LocalTree → Action → LocalTree → Type 0
 DoesAs LocalEnd a k = ⊥
 DoesAs (LocalVar n) a k = ⊥

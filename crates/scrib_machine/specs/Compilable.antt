@@ -1,9 +1,9 @@
--- Which local types have a machine. The projections of protocols are such.
+-- The local types that have a machine. The projections of protocols do.
 use Rattle.std.specs.Prelude.{◌≢◌, ℕ, ◌+◌, ◌<◌, ◌≤◌}
 use Rattle.scrib_types.specs.declared.message.Message.{Message}
 use Rattle.scrib_types.specs.Trees.{LocalTree, LocalEnd, LocalVar, LocalRec, Send, Recv, LocalBranches, NoChoice, Choice}
 
--- closed under n recursions: each variable is that of a recursion in the type or of one of these n round it
+-- closed under n recursions: each variable is that of a recursion in the type or of one of n enclosing ones
 abbrev mutual
   pub Closed : LocalTree → ℕ → Type 0
   Closed LocalEnd n = Unit {0}
@@ -16,7 +16,7 @@ abbrev mutual
   ClosedAll NoChoice n = Unit {0}
   ClosedAll (Choice m l ls) n = Closed l n × ClosedAll ls n
 
--- after its leading recursions stands a choice
+-- a choice follows its leading recursions
 abbrev pub LeadsToChoice : LocalTree → Type 0
 LeadsToChoice LocalEnd = ⊥
 LeadsToChoice (LocalVar k) = ⊥
@@ -24,8 +24,7 @@ LeadsToChoice (LocalRec body) = LeadsToChoice body
 LeadsToChoice (Send q ls) = Unit {0}
 LeadsToChoice (Recv p ls) = Unit {0}
 
--- guarded (Honda, Yoshida and Carbone, POPL 2008): under each recursion, after further recursions, stands a
--- choice
+-- guarded (Honda, Yoshida and Carbone, POPL 2008): in each recursion a choice follows the leading recursions
 abbrev mutual
   pub Guarded : LocalTree → Type 0
   Guarded LocalEnd = Unit {0}
@@ -61,7 +60,7 @@ abbrev mutual
   DistinctAll NoChoice = Unit {0}
   DistinctAll (Choice m l ls) = Distinct l × DistinctAll ls
 
--- how many ends, variables, recursions and choices it has
+-- the number of its ends, variables, recursions and choices
 abbrev mutual
   pub nodes : LocalTree → ℕ
   nodes LocalEnd = 1
@@ -75,12 +74,12 @@ abbrev mutual
   nodes_all (Choice m l ls) = nodes l + nodes_all ls
 
 -- the most nodes of a type that has a machine (this project's own)
-abbrev pub most_nodes : ℕ
-most_nodes = 65536
+abbrev pub max_nodes : ℕ
+max_nodes = 65536
 
 -- closed, guarded, with different messages in each choice, and not too large
 pub record IsCompilable (l : LocalTree) : Type 0 where
   pub closed : Closed l 0
   pub guarded : Guarded l
   pub distinct : Distinct l
-  pub small : nodes l ≤ most_nodes
+  pub small : nodes l ≤ max_nodes

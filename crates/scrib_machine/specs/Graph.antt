@@ -25,7 +25,9 @@ state_lines n (es ∷ m) = state_line n es ++ state_lines (n + 1) m
 
 -- `  0 -> 1 [label="B!hello()"];`
 unfoldable pub edge_line : ℕ → Edge → List ℕ
-edge_line n e = codes "  " ++ decimal n ++ codes " -> " ++ decimal e.next ++ codes " [label=\"" ++ action_text e.action ++ codes "\"];\n"
+edge_line n e =
+    codes "  " ++ decimal n ++ codes " -> " ++ decimal e.next
+    ++ codes " [label=\"" ++ action_text e.action ++ codes "\"];\n"
 
 -- a line for each edge of the state of this number
 abbrev pub lines_from : ℕ → List Edge → List ℕ

@@ -1,4 +1,4 @@
--- How a local type is laid out in rows of edges. Only contracts of private functions cite this file.
+-- The layout of a local type in rows of edges. Only contracts of private functions cite this file.
 use Rattle.std.specs.Prelude.{◌≡◌, ℕ, ◌+◌, ◌<◌, List, [], ◌∷◌, length, map, slice_get, Some, All, AllPairs}
 use Rattle.std.specs.List.Sorted.{IsPermutation}
 use Rattle.scrib_types.specs.declared.event.Action.{Action}
@@ -10,7 +10,7 @@ use Rattle.scrib_types.specs.Texts.{action_text}
 use Rattle.scrib_machine.specs.declared.machine.Edge.{Edge}
 use Rattle.scrib_machine.specs.declared.sorted.Printed.{Printed}
 
--- how many states it takes: one for each end and each choice
+-- the number of its states: one for each end and each choice
 abbrev mutual
   pub size : LocalTree → ℕ
   size LocalEnd = 1
@@ -39,7 +39,7 @@ AllPrinted ps = All (λ (p : Printed). p.text.items ≡ action_text p.edge.actio
 abbrev pub edge_of : Action → ℕ → Edge
 edge_of a k = record { action = a; next = k }
 
--- an edge for each branch, to the state at its place in the list
+-- an edge for each branch, to the state at its index in the list
 abbrev pub edges_of : (Message → Action) → LocalBranches → List ℕ → List Edge
 edges_of f NoChoice ks = []
 edges_of f (Choice m l ls) [] = []
@@ -52,7 +52,7 @@ pub record IsRow (m : List (List Edge)) (n : ℕ) (f : Message → Action) (ls :
   pub same : IsPermutation (edges_of f ls ks) edges
   pub sorted : AllPairs ComesBefore (actions_of edges)
 
--- The tree takes the states from n on, and begins in state r. Its variables are those of recursions that
+-- The tree has the states from n on, and begins in state r. Its free variables are those of recursions that
 -- begin in the states env, the innermost first.
 abbrev mutual
   pub Laid : List (List Edge) → List ℕ → LocalTree → ℕ → ℕ → Type 0
@@ -62,14 +62,14 @@ abbrev mutual
   Laid m env (Send q ls) n r = (r ≡ n) × ((ks : List ℕ) × LaidAll m env ls (n + 1) ks × IsRow m n (Sends q) ls ks)
   Laid m env (Recv p ls) n r = (r ≡ n) × ((ks : List ℕ) × LaidAll m env ls (n + 1) ks × IsRow m n (Receives p) ls ks)
 
-  -- the branches take the states from n on, one after another, and begin in the states ks
+  -- the branches have the states from n on, one after another, and begin in the states ks
   pub LaidAll : List (List Edge) → List ℕ → LocalBranches → ℕ → List ℕ → Type 0
   LaidAll m env NoChoice n [] = Unit {0}
   LaidAll m env NoChoice n (k ∷ ks) = ⊥
   LaidAll m env (Choice x l ls) n [] = ⊥
   LaidAll m env (Choice x l ls) n (k ∷ ks) = Laid m env l n k × LaidAll m env ls (n + size l) ks
 
--- the states of the old rows have them still
+-- the states of the old rows have the same edges in the new rows
 abbrev pub Kept : List (List Edge) → List (List Edge) → Type 0
 Kept old new = (i : ℕ) → i < length old → slice_get new i ≡ slice_get old i
 
@@ -79,7 +79,7 @@ pub record Placed (old new : List (List Edge)) (env : List ℕ) (l : LocalTree) 
   pub kept : Kept old new
   pub laid : Laid new env l (length old) r
 
--- and so were the branches
+-- the branches were laid out after the old rows
 pub record PlacedAll (old new : List (List Edge)) (env : List ℕ) (ls : LocalBranches) (ks : List ℕ) : Type 0 where
   pub counted : length new ≡ length old + sizes ls
   pub kept : Kept old new

@@ -4,13 +4,12 @@ ghost use Rattle.std.specs.Prelude.{◌≡◌, ℕ, ◌++◌, IfOk, OnOk};
 ghost use Rattle.scrib_machine.specs.Graph as spec;
 
 use crate::machine::{Edge, Machine};
-use scrib_types::few::Few;
+use scrib_types::one_or_many::OneOrMany;
 use scrib_types::text::{push_action, push_bytes, push_number};
 use std::alloc::{AllocError, Global};
 
-/// The machine's text as a graph in the DOT language, in ASCII: a node for each state by its number, an edge for
-/// each of its edges with the printed action as its label, an arrow from a point to the start, and ends as double
-/// circles.
+/// The machine's text as a graph in the DOT language, in ASCII. Each state is a node with its number, and an end is a
+/// double circle. Each edge is labelled with its printed action. An arrow from a point leads to the start.
 ///
 /// # Errors
 /// `AllocError` where memory for the text is refused, here and below.
@@ -31,8 +30,8 @@ pub fn graph_text(alloc: Global, machine: &Machine) -> Result<Vec<u8>, AllocErro
     Ok(out)
 }
 
-/// Adds a line for each state.
-fn push_states(out: &mut Vec<u8>, rows: &[Few<Edge>]) -> Result<(), AllocError>
+// Adds a line for each state.
+fn push_states(out: &mut Vec<u8>, rows: &[OneOrMany<Edge>]) -> Result<(), AllocError>
     ensures { OnOk result (out.new.items ≡ out.old.items ++ spec.state_lines 0 rows.now) }
 {
     for (i, row) in rows.iter().enumerate() {
@@ -41,7 +40,7 @@ fn push_states(out: &mut Vec<u8>, rows: &[Few<Edge>]) -> Result<(), AllocError>
     Ok(())
 }
 
-/// Adds the line of the state of this number, which has these edges.
+// Adds the line of the state of this number, which has these edges.
 #[tactic(auto, unfolding(crate::specs::Graph::state_line))]
 fn push_state(out: &mut Vec<u8>, number: u64, edges: &[Edge]) -> Result<(), AllocError>
     ensures { OnOk result (out.new.items ≡ out.old.items ++ spec.state_line number edges.now) }
@@ -52,7 +51,7 @@ fn push_state(out: &mut Vec<u8>, number: u64, edges: &[Edge]) -> Result<(), Allo
     push_bytes(out, b";\n")
 }
 
-/// How a state with these edges is drawn, where it isn't as most are.
+// The attributes of the node of a state with these edges: an end is a double circle.
 fn shape_of(edges: &[Edge]) -> &'static [u8]
     ensures { result.now ≡ spec.shape_of edges.now }
 {
@@ -62,8 +61,8 @@ fn shape_of(edges: &[Edge]) -> &'static [u8]
     }
 }
 
-/// Adds a line for each edge of each state.
-fn push_edges(out: &mut Vec<u8>, rows: &[Few<Edge>]) -> Result<(), AllocError>
+// Adds a line for each edge of each state.
+fn push_edges(out: &mut Vec<u8>, rows: &[OneOrMany<Edge>]) -> Result<(), AllocError>
     ensures { OnOk result (out.new.items ≡ out.old.items ++ spec.edge_lines 0 rows.now) }
 {
     for (i, row) in rows.iter().enumerate() {
@@ -72,7 +71,7 @@ fn push_edges(out: &mut Vec<u8>, rows: &[Few<Edge>]) -> Result<(), AllocError>
     Ok(())
 }
 
-/// Adds a line for each of these edges of the state of this number.
+// Adds a line for each of these edges of the state of this number.
 fn push_row(out: &mut Vec<u8>, number: u64, edges: &[Edge]) -> Result<(), AllocError>
     ensures { OnOk result (out.new.items ≡ out.old.items ++ spec.lines_from number edges.now) }
 {
@@ -82,8 +81,8 @@ fn push_row(out: &mut Vec<u8>, number: u64, edges: &[Edge]) -> Result<(), AllocE
     Ok(())
 }
 
-/// Adds the line of an edge of the state of this number. The label needs no escape: an action is printed with
-/// letters, digits, underscores and the marks `!`, `?`, `(`, `)`, `,` and `.` alone, no quote and no backslash.
+// Adds the line of an edge of the state of this number. The label needs no escape: printed actions have letters,
+// digits, underscores and the marks `!`, `?`, `(`, `)`, `,` and `.` alone.
 #[tactic(auto, unfolding(crate::specs::Graph::edge_line))]
 fn push_edge(out: &mut Vec<u8>, number: u64, edge: &Edge) -> Result<(), AllocError>
     ensures { OnOk result (out.new.items ≡ out.old.items ++ spec.edge_line number edge.now) }

@@ -6,8 +6,8 @@ ghost use Rattle.scrib_types.specs.declared.event.Action.TheVariants.{Sends, Rec
 ghost use Rattle.scrib_machine.specs.Machines as machines;
 
 use scrib_types::event::Action;
-use scrib_types::few::Few;
 use scrib_types::name::Role;
+use scrib_types::one_or_many::OneOrMany;
 use scrib_types::shared_message::SharedMessage;
 use std::marker::Model;
 
@@ -25,7 +25,7 @@ pub struct Edge {
 /// Contracts see the row of edges of each state, in the order of the states.
 #[derive(Drop)]
 pub struct Machine {
-    rows: Vec<Few<Edge>>,
+    rows: Vec<OneOrMany<Edge>>,
 }
 
 impl Model for Machine {
@@ -42,7 +42,7 @@ impl Model for Machine {
 
 impl Machine {
     /// The machine whose states have these rows of edges.
-    pub(crate) fn from_rows(rows: Vec<Few<Edge>>) -> Machine
+    pub(crate) fn from_rows(rows: Vec<OneOrMany<Edge>>) -> Machine
         requires { machines.IsMachine rows.items }
         ensures { result ≡ rows.items }
     {
@@ -50,7 +50,7 @@ impl Machine {
     }
 
     /// The row of edges of each state.
-    pub(crate) fn rows(&self) -> &[Few<Edge>]
+    pub(crate) fn rows(&self) -> &[OneOrMany<Edge>]
         ensures { result.now ≡ self.now }
     {
         self.rows.as_slice()
@@ -62,7 +62,7 @@ impl Machine {
         ensures within { result < length self.now }
         ensures machine { machines.IsMachine self.now }
     {
-        // Reading the rows brings in what holds of each machine.
+        // Reading the rows gives the proof the machine's invariant.
         let _rows = &self.rows;
         0
     }
@@ -129,7 +129,7 @@ impl Machine {
     }
 }
 
-/// Whether the two actions are the same. Messages come first, since those of a state's edges differ.
+// Whether the two actions are the same. Messages come first, since those of a state's edges differ.
 fn is_same(a: &Action, b: &Action) -> bool
     ensures { IsTrue result ↔ (a.now ≡ b.now) }
 {
@@ -141,7 +141,7 @@ fn is_same(a: &Action, b: &Action) -> bool
     }
 }
 
-/// Whether the action is a send of the message to the role.
+// Whether the action is a send of the message to the role.
 fn is_send(action: &Action, to: &Role, message: &SharedMessage) -> bool
     ensures { IsTrue result ↔ (Sends to.now message.now ≡ action.now) }
 {
@@ -154,7 +154,7 @@ fn is_send(action: &Action, to: &Role, message: &SharedMessage) -> bool
     }
 }
 
-/// Whether the action is a reception of the message from the role.
+// Whether the action is a reception of the message from the role.
 fn is_reception(action: &Action, from: &Role, message: &SharedMessage) -> bool
     ensures { IsTrue result ↔ (Receives from.now message.now ≡ action.now) }
 {

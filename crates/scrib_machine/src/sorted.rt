@@ -11,10 +11,10 @@ use scrib_types::event::Action;
 use scrib_types::text::push_action;
 use std::alloc::{AllocError, Global};
 
-/// Room for the printed text that most actions have.
+// Room for the printed text that most actions have.
 const USUAL_TEXT: usize = 32;
 
-/// An edge, with the printed text of its action.
+// An edge, with the printed text of its action.
 #[derive(Drop)]
 struct Printed {
     edge: Edge,
@@ -38,7 +38,7 @@ pub fn sorted(alloc: Global, edges: Vec<Edge>) -> Result<Vec<Edge>, AllocError>
     edges_of(alloc, list)
 }
 
-/// Each edge with its text.
+// Each edge with its text.
 fn with_texts(alloc: Global, edges: Vec<Edge>) -> Result<Vec<Printed>, AllocError>
     ensures edges { IfOk result (λ list. layout.printed_edges list.items ≡ edges.items) }
     ensures texts { IfOk result (λ list. layout.AllPrinted list.items) }
@@ -51,7 +51,7 @@ fn with_texts(alloc: Global, edges: Vec<Edge>) -> Result<Vec<Printed>, AllocErro
     Ok(list)
 }
 
-/// The edges without their texts.
+// The edges without their texts.
 fn edges_of(alloc: Global, list: Vec<Printed>) -> Result<Vec<Edge>, AllocError>
     ensures { IfOk result (λ edges. edges.items ≡ layout.printed_edges list.items) }
 {
@@ -62,7 +62,7 @@ fn edges_of(alloc: Global, list: Vec<Printed>) -> Result<Vec<Edge>, AllocError>
     Ok(edges)
 }
 
-/// The action's printed text.
+// The action's printed text.
 fn text_of(alloc: Global, action: &Action) -> Result<Vec<u8>, AllocError>
     ensures { IfOk result (λ text. text.items ≡ action_text action.now) }
 {

@@ -1,4 +1,4 @@
--- Each nonterminal of the grammar in which blocks stand is read by its reader.
+-- Each nonterminal of the grammar that contains blocks is read by its reader.
 use Rattle.std.proofs.Common.{◌≡◌, ℕ, zero, suc, Bool, true, false, cond, List, [], ◌∷◌, ◌++◌, Result, Err, refl, sym, ap, subst, ◌∙◌, inl, inr}
 use Rattle.std.proofs.lemmas.List.{append-nil}
 use Rattle.scrib_types.specs.declared.spot.Spot.{Spot}
@@ -14,8 +14,8 @@ use Rattle.scrib_parser.specs.declared.tree.Statement as tree
 use Rattle.scrib_parser.specs.Grammar.{Language, ◌·◌, many, joined, token_at, token, name, message, choice, recursion, jump, call, statement, block}
 use Rattle.scrib_parser.specs.Reading.{Reader, Stops, begins, same_kind, mapped, both, after, before, branch, repeated, token_of, name_of, begins_message, message_of, blocks_of, choice_of, recursion_of, jump_of, call_of, statement_of, begins_statement, statements_of, deep_fault, opened_block_of, block_of}
 use Rattle.scrib_parser.proofs.Laws.{free, follows_free, Claim, never, Sends, sends_never, sends_same, IsCause, Stopped, Reads, err_is, chain_reads}
-use Rattle.scrib_parser.proofs.Parts.{respelled_up, seen, mapped_up, either, branch_up}
-use Rattle.scrib_parser.proofs.Many.{Takes, takes, begins_front, past, many_up}
+use Rattle.scrib_parser.proofs.Combinations.{respelled_up, seen, mapped_up, either, branch_up}
+use Rattle.scrib_parser.proofs.Repetition.{Takes, takes, begins_front, past, many_up}
 use Rattle.scrib_parser.proofs.Tokens.{kind_is, token_reads, name_reads}
 use Rattle.scrib_parser.proofs.FirstTokens.{begins_token, begins_token_at, behind_token_at}
 use Rattle.scrib_parser.proofs.Statements.{at_first, message_reads, begins_with_message, jump_reads, call_reads}
@@ -41,7 +41,7 @@ pub along : (test passes : TokenKind → Bool) → ((kind : TokenKind) → test 
 along test passes h [] e = absurd cc
 along test passes h (t ∷ ts) e = h t.kind e
 
--- what goes on a choice
+-- a token that continues a choice
 abbrev pub past_choice : TokenKind → Type 0
 past_choice = past (same_kind (Keyword words.Or)) free
 
@@ -331,7 +331,7 @@ module _ (reader : Reader Block) (B W : Block → Language) (r : Reads (claim_of
       (mapped_claimed block_made _ (paired B) (paired W) free
       (both_claimed (token_of OpenBrace) (before (statements_of reader) (token_of CloseBrace)) (token_at OpenBrace) (body B) (body W) free free (token_reads OpenBrace) body_reads (λ y ts rest h fits. follows_free (ts ++ rest))))
 
--- ---- blocks of so many levels
+-- ---- blocks of a number of levels
 
 closing : List Lexeme
 closing = a_token CloseBrace ∷ []
@@ -368,18 +368,18 @@ too_deep_stopped [] f e =
       again = λ u us vs k. absurd cc;
     }
 too_deep_stopped (t ∷ ts) f e =
-    let told = err_is {A = Block × List Lexeme} (deep_fault (t ∷ ts)) f e in
+    let reported = err_is {A = Block × List Lexeme} (deep_fault (t ∷ ts)) f e in
     record {
       front = [];
       rest = t ∷ ts;
       parts = refl;
-      cause = deep_cause t ts (same_kind OpenBrace t.kind) f refl told;
+      cause = deep_cause t ts (same_kind OpenBrace t.kind) f refl reported;
       value = record { body = []; spot = a_brace.spot };
       more = a_brace ∷ closing;
       spelled = empty_block a_brace brace_kind;
       again = λ u us vs k.
           let same : u ≡ t = cc in
-          ap (λ (g : ParseFault). Err g) (ap (λ (v : Lexeme). deep_fault (v ∷ vs)) same ∙ told);
+          ap (λ (g : ParseFault). Err g) (ap (λ (v : Lexeme). deep_fault (v ∷ vs)) same ∙ reported);
     }
 
 too_deep_reads : Reads (claim_of (block 1)) (block_of zero) (block zero) (block 1) free

@@ -1,4 +1,4 @@
--- Readers of languages with blocks: what they stop at, told of the language with one more level.
+-- Readers of languages with blocks: the tokens at which they stop, for the language with one more level.
 use Rattle.std.proofs.Common.{◌≡◌, List, [], ◌∷◌, ◌++◌, refl, sym, ap, subst, ◌∙◌, append_assoc}
 use Rattle.scrib_lexer.specs.declared.token.Keyword.TheVariants as words
 use Rattle.scrib_lexer.specs.declared.token.TokenKind.{TokenKind}
@@ -7,10 +7,10 @@ use Rattle.scrib_lexer.specs.Lexeme.{Lexeme}
 use Rattle.scrib_parser.specs.Grammar.{Language, ◌·◌, any}
 use Rattle.scrib_parser.specs.Reading.{Reader, mapped, both, after, before}
 use Rattle.scrib_parser.proofs.Laws.{Follows, Begun, Claim, never, Sends, sends_never, Reads, Leaf, reclaimed}
-use Rattle.scrib_parser.proofs.Parts.{seen, respelled_up, mapped_up, both_up, after_up, before_up}
+use Rattle.scrib_parser.proofs.Combinations.{seen, respelled_up, mapped_up, both_up, after_up, before_up}
 use Rattle.scrib_parser.proofs.Statements.{IsLeftWord}
 
--- behind these tokens a statement may begin
+-- after these tokens a statement may begin
 abbrev pub MayGo : {A : Type 0} → (A → Language) → List Lexeme → Type 0
 MayGo U ts = (c : Lexeme) × (c.kind ≡ Keyword words.Continue) × Begun U (ts ++ c ∷ [])
 
@@ -40,7 +40,7 @@ module _ {A B : Type 0} (U : A → Language) (V : B → Language) (q : List Lexe
   pub begun_before : (k : A → B) → ((x : A) (ts : List Lexeme) → U x ts → V (k x) (ts ++ q)) → Sends [] (claim_of U) (claim_of V)
   begun_before k lift = sends_of [] U V (λ ts h. (k h.0, h.1 ++ q, subst (λ (l : List Lexeme). V (k h.0) l) (append_assoc ts h.1 q) (lift h.0 (ts ++ h.1) h.2)))
 
--- ---- readers put together
+-- ---- combined readers
 
 module _ {A B : Type 0} (first : Reader A) (second : Reader B) (P : A → Language) (M V : B → Language) (F G : TokenKind → Type 0) where
   abbrev pub Joined : Type 0
@@ -73,7 +73,7 @@ module _ {A : Type 0} (reader : Reader A) (L U M V : A → Language) (F : TokenK
   respelled_claimed to from up r =
       reclaimed (claim_of U) (claim_of V) reader M V F (begun_on [] U V (λ x. x) up) (respelled_up (claim_of U) reader L U M V F to from up r)
 
--- a value that stands in the last part is told of the whole
+-- a value in the last part of a language is one in the whole
 pub out : {A : Type 0} (p q : Language) (r : A → Language) → ((ts : List Lexeme) → q ts → (x : A) × r x ts) → (ts : List Lexeme) → (p · q) ts → (x : A) × (p · r x) ts
 out p q r f ts h = let k = f h.1 h.4 in (k.0, (h.0, h.1, h.2, h.3, k.1))
 

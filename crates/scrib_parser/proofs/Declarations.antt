@@ -7,7 +7,7 @@ use Rattle.scrib_parser.specs.declared.fault.ParseFault.TheVariants.{Unexpected,
 use Rattle.scrib_parser.specs.declared.tree.ProtocolDeclaration.{ProtocolDeclaration}
 use Rattle.scrib_parser.specs.Grammar.{kept}
 use Rattle.scrib_parser.specs.Reading.{Read, ◌>>=◌, Stops, begins, repeated, declaration_of, begins_declaration, declarations_of}
-use Rattle.scrib_parser.proofs.Many.{repeated_ends, repeated_goes}
+use Rattle.scrib_parser.proofs.Repetition.{repeated_ends, repeated_goes}
 use Rattle.scrib_parser.proofs.Loop.{with_front}
 use Rattle.scrib_parser.proofs.Modules.{declaration_takes}
 

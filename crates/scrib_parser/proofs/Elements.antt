@@ -7,8 +7,8 @@ use Rattle.scrib_lexer.specs.Lexeme.{Lexeme}
 use Rattle.scrib_parser.specs.Grammar.{Language, ◌·◌, nothing, any, maybe, many, joined, listed, token_at, token, name, dotted, element}
 use Rattle.scrib_parser.specs.Reading.{begins, same_kind, after, branch, none, token_of, name_of, dots_of, dotted_from, dotted_of, element_of, elements_of, payload_of, names_of}
 use Rattle.scrib_parser.proofs.Laws.{Follows, free, follows_free, never, sends_same, Leaf, chain_reads}
-use Rattle.scrib_parser.proofs.Parts.{respelled, seen, mapped_reads, after_reads, none_reads, either, branch_reads}
-use Rattle.scrib_parser.proofs.Many.{begins_front, past}
+use Rattle.scrib_parser.proofs.Combinations.{respelled, seen, mapped_reads, after_reads, none_reads, either, branch_reads}
+use Rattle.scrib_parser.proofs.Repetition.{begins_front, past}
 use Rattle.scrib_parser.proofs.Tokens.{kind_is, token_reads, name_reads}
 use Rattle.scrib_parser.proofs.FirstTokens.{quiet, other_kind, begins_token, begins_name}
 use Rattle.scrib_parser.proofs.Sequences.{quiet_more_reads, quiet_joined_reads}
@@ -18,7 +18,7 @@ use Rattle.scrib_parser.proofs.Sequences.{quiet_more_reads, quiet_joined_reads}
 abbrev pub no_dot : TokenKind → Type 0
 no_dot = past (same_kind Dot) free
 
--- no token that goes on an element
+-- no token that continues an element
 abbrev pub past_element : TokenKind → Type 0
 past_element kind = (same_kind Colon kind ≡ false) × no_dot kind
 
@@ -26,7 +26,7 @@ pub dotted_reads : Leaf never dotted_of dotted no_dot
 unfolding dotted_of dotted_from
 dotted_reads = quiet_joined_reads name_of name free Dot name_reads (λ kind e. tt)
 
--- the names behind the first
+-- the names after the first
 abbrev dotted_behind : List ℕ → List (List ℕ) → Language
 dotted_behind first = seen (λ (names : List (List ℕ)). first ∷ names) (many (λ y. token Dot · name y))
 
@@ -47,7 +47,7 @@ behind_element : (ts : List Lexeme) → Follows past_element ts → Follows no_d
 behind_element [] fits = tt
 behind_element (t ∷ ts) fits = fits.1
 
--- what stands behind an element's first name
+-- the tokens after an element's first name
 abbrev element_behind : List ℕ → List (List ℕ) → Language
 element_behind first = either (λ y. token Colon · dotted y) (dotted_behind first)
 
@@ -93,7 +93,7 @@ begins_element sort ts w = at (element_from sort ts w)
     at : ((first : List ℕ) × (name first · element_behind first sort) ts) → begins (same_kind Name) ts ≡ true
     at h = begins_name (same_kind Name) h.0 (element_behind h.0 sort) ts refl h.1
 
--- no token that goes on elements
+-- no token that continues elements
 abbrev past_elements : TokenKind → Type 0
 past_elements = past (same_kind Comma) past_element
 

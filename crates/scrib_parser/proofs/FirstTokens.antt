@@ -8,7 +8,7 @@ use Rattle.scrib_parser.specs.Grammar.{Language, ◌·◌, token_at, token, name
 use Rattle.scrib_parser.specs.Reading.{begins}
 use Rattle.scrib_parser.proofs.Laws.{Follows, Claim, never, Sends, sends_never}
 
--- parts of which nothing is claimed
+-- parts with no claim
 pub quiet : {A : Type 0} (L : A → Language) → Sends [] never never × ((x : A) (ts : List Lexeme) → L x ts → Sends ts never never)
 quiet L = (sends_never [] never, (λ x ts h. sends_never ts never))
 

@@ -10,8 +10,8 @@ use Rattle.scrib_parser.specs.declared.tree.RoleDeclaration.{RoleDeclaration}
 use Rattle.scrib_parser.specs.Grammar.{Language, ◌·◌, nothing, any, many, joined, token_at, token, name, dotted, element, role, known_as, «import»}
 use Rattle.scrib_parser.specs.Reading.{Reader, begins, same_kind, mapped, both, after, before, none, token_of, name_of, dotted_of, element_of, role_of, roles_of, known_as_of, import_of, imports_of, type_declaration_of}
 use Rattle.scrib_parser.proofs.Laws.{Follows, free, follows_free, never, sends_never, sends_same, Leaf}
-use Rattle.scrib_parser.proofs.Parts.{respelled, seen, mapped_reads, viewed_reads, both_reads, none_reads, either, branch_reads}
-use Rattle.scrib_parser.proofs.Many.{Takes, takes, begins_front, past, many_reads}
+use Rattle.scrib_parser.proofs.Combinations.{respelled, seen, mapped_reads, viewed_reads, both_reads, none_reads, either, branch_reads}
+use Rattle.scrib_parser.proofs.Repetition.{Takes, takes, begins_front, past, many_reads}
 use Rattle.scrib_parser.proofs.Tokens.{token_reads, name_reads}
 use Rattle.scrib_parser.proofs.FirstTokens.{quiet, begins_token, begins_token_at, follows_kind, behind_token}
 use Rattle.scrib_parser.proofs.Sequences.{marked_reads, begins_marked, quiet_joined_reads, pair_reads, skip_reads, ended_reads}
@@ -62,7 +62,7 @@ known_as_reads =
     (λ y front rest h fits. (begins_front (same_kind (Keyword words.As)) front rest (begins_token (same_kind (Keyword words.As)) (Keyword words.As) (name h.0) front refl h.2), follows_free rest))
     (λ y front rest h fits. (ap (λ (l : List Lexeme). begins (same_kind (Keyword words.As)) (l ++ rest)) h.1 ∙ no_as rest fits, follows_free rest)))
 
--- a dotted name goes on by a dot alone, and what stands behind it begins with `as` or a semicolon
+-- only a dot continues a dotted name, and what follows the name begins with `as` or a semicolon
 behind_dotted : (known : Option (List ℕ)) (ts rest : List Lexeme) → (known_as known · token Semicolon) ts → Follows no_dot (ts ++ rest)
 behind_dotted (Some n) ts rest h =
     behind_token no_dot (Keyword words.As) (name n · token Semicolon) ts rest (refl, tt)

@@ -1,4 +1,4 @@
--- What reading with one token ahead has to do with a grammar: the laws of each way to put readers together.
+-- Readers with one token of look-ahead against the languages of a grammar: the laws of each way to combine readers.
 use Rattle.std.proofs.Common.{◌≡◌, List, [], ◌∷◌, ◌++◌, Result, Ok, Err, refl, sym, ap, subst, ◌∙◌, append_assoc, inl, inr}
 use Rattle.std.specs.Prelude.{◌⊎◌}
 use Rattle.scrib_lexer.specs.declared.token.TokenKind.{TokenKind}
@@ -11,7 +11,7 @@ use Rattle.scrib_types.specs.declared.spot.Spot.{Spot}
 use Rattle.scrib_parser.specs.Grammar.{Language, ◌·◌}
 use Rattle.scrib_parser.specs.Reading.{Reader, ◌>>=◌, chain}
 
--- what may stand behind a value without being read with it: the end, or a token of such a kind
+-- what may follow a value without being read with it: the end, or a token of such a kind
 abbrev pub Follows : (TokenKind → Type 0) → List Lexeme → Type 0
 Follows F [] = Unit {0}
 Follows F (t ∷ ts) = F t.kind
@@ -24,12 +24,12 @@ pub follows_free : (ts : List Lexeme) → Follows free ts
 follows_free [] = tt
 follows_free (t ∷ ts) = tt
 
--- some value's spelling begins so
+-- the tokens begin some value's spelling
 abbrev pub Begun : {A : Type 0} → (A → Language) → List Lexeme → Type 0
 Begun {A} L ts = (value : A) × (more : List Lexeme) × L value (ts ++ more)
 
--- What is claimed of tokens behind which a word and its place are told as left out, and of tokens up to a brace
--- that opens a level too many.
+-- Two claims: one of the tokens after which a word and its place are reported as left out, and one of the tokens up to
+-- a brace that opens one level too many.
 pub record Claim : Type 1 where
   pub left : LeftOutWord → Spot → List Lexeme → Type 0
   pub deep : List Lexeme → Type 0
@@ -38,7 +38,7 @@ pub record Claim : Type 1 where
 abbrev pub never : Claim
 never = record { left = λ word spot ts. ⊥; deep = λ ts. ⊥ }
 
--- what is claimed behind some tokens holds of them too
+-- a claim that holds after some tokens holds with them in front
 abbrev pub Sends : List Lexeme → Claim → Claim → Type 0
 Sends front C D =
     ((word : LeftOutWord) (spot : Spot) (ts : List Lexeme) → C.left word spot ts → D.left word spot (front ++ ts)) × ((ts : List Lexeme) → C.deep ts → D.deep (front ++ ts))
@@ -49,7 +49,7 @@ sends_never front D = ((λ word spot ts h. absurd h), (λ ts h. absurd h))
 pub sends_same : (C : Claim) → Sends [] C C
 sends_same C = ((λ word spot ts h. h), (λ ts h. h))
 
--- why reading stops behind the tokens in front, before the rest
+-- the cause for which reading stops between the tokens in front and the rest
 abbrev pub IsCause : Claim → (front rest : List Lexeme) → ParseFault → Type 0
 IsCause C front rest EndOfText = rest ≡ []
 IsCause C front rest (Unexpected spot) = (u : Lexeme) × (us : List Lexeme) × (rest ≡ u ∷ us) × (u.spot ≡ spot)
@@ -67,14 +67,16 @@ cause_on p C D s front rest (TooDeep spot) h =
     (h.0, h.1, h.2, h.3, h.4, subst D.deep (sym (append_assoc p front (h.0 ∷ []))) (s.1 (front ++ h.0 ∷ []) h.5))
 cause_on p C D s front rest OutOfMemory h = h
 
--- A value that was read is spelled by the tokens before the rest, and would be read if after the rest's first token other tokens stood.
+-- A value that was read is spelled by the tokens before the rest. It would be read with any other tokens after the
+-- rest's first one.
 pub record Taken {A : Type 0} (reader : Reader A) (language : A → Language) (ts : List Lexeme) (x : A) (rest : List Lexeme) : Type 0 where
   pub front : List Lexeme
   pub parts : ts ≡ front ++ rest
   pub spelled : language x front
   pub again : (u : Lexeme) (us vs : List Lexeme) → rest ≡ u ∷ us → reader (front ++ u ∷ vs) ≡ Ok (x, u ∷ vs)
 
--- The tokens before a fault begin some value's spelling, and with the token at the fault reading stops there, whatever stands after it.
+-- The tokens before a fault begin some value's spelling. With the token at the fault reading stops there, whatever
+-- tokens follow it.
 pub record Stopped {A : Type 0} (C : Claim) (reader : Reader A) (language : A → Language) (ts : List Lexeme) (f : ParseFault) : Type 0 where
   pub front : List Lexeme
   pub rest : List Lexeme
@@ -85,8 +87,8 @@ pub record Stopped {A : Type 0} (C : Claim) (reader : Reader A) (language : A �
   pub spelled : language value (front ++ more)
   pub again : (u : Lexeme) (us vs : List Lexeme) → rest ≡ u ∷ us → reader (front ++ u ∷ vs) ≡ Err f
 
--- The reader reads the language's values, where such a token or none follows; what is read of a text that it
--- stops in begins a spelling of the wider language.
+-- The reader reads the language's values, where such a token or none follows. Of a text that it stops in, the tokens
+-- that it read begin a spelling of the wider language.
 pub record Reads {A : Type 0} (C : Claim) (reader : Reader A) (language wide : A → Language) (F : TokenKind → Type 0) : Type 0 where
   pub taken : (ts : List Lexeme) (x : A) (rest : List Lexeme) → reader ts ≡ Ok (x, rest) → Taken reader language ts x rest
   pub again : (front : List Lexeme) (x : A) (rest : List Lexeme) → language x front → Follows F rest → reader (front ++ rest) ≡ Ok (x, rest)
@@ -124,13 +126,13 @@ pub bind_err : {A B : Type 0} (r : Result A ParseFault) (f : A → Result B Pars
 bind_err (Ok x) f d e = inr (x, refl, e)
 bind_err (Err g) f d e = inl (ap (λ (h : ParseFault). Err h) (err_is g d e))
 
--- a fact of a list that begins with a part, from the same of what stands there
+-- a fact of a list that begins with a part, from the same fact of that part
 pub carried : (P : List Lexeme → Type 0) (mid part : List Lexeme) → ((u : Lexeme) (us vs : List Lexeme) → mid ≡ u ∷ us → P (u ∷ vs))
     → (u : Lexeme) (us vs : List Lexeme) → mid ≡ part ++ u ∷ us → P (part ++ u ∷ vs)
 carried P mid [] h u us vs e = h u us vs e
 carried P mid (v ∷ part) h u us vs e = h v (part ++ u ∷ us) (part ++ u ∷ vs) e
 
--- ---- the second behind the first
+-- ---- the second after the first
 
 module _ {A B : Type 0} (first : Reader A) (second : A → Reader B) (L U : A → Language) (M V : A → B → Language) (F G : TokenKind → Type 0) (C : Claim) (D : A → Claim) (E : Claim) where
   abbrev pub chained : B → Language
@@ -161,7 +163,7 @@ module _ {A B : Type 0} (first : Reader A) (second : A → Reader B) (L U : A �
       let two = (s x).again h.1.1 y rest h.1.4 fits in
       ap (λ (l : List Lexeme). chain first second (l ++ rest)) h.1.2 ∙ ap (chain first second) (append_assoc h.1.0 h.1.1 rest) ∙ rw one two
 
-  -- what is claimed of each of the two is claimed of both
+  -- the claims of the two readers hold of both together
   abbrev pub Brings : Type 0
   Brings = Sends [] C E × ((x : A) (ts : List Lexeme) → L x ts → Sends ts (D x) E)
 
@@ -209,7 +211,7 @@ module _ {A B : Type 0} (first : Reader A) (second : A → Reader B) (L U : A �
     spelled = (r.value, (r.example, (s r.value).example, refl, r.spelled, (s r.value).spelled));
   }
 
--- the same with more claimed
+-- the same with a stronger claim
 module _ {A : Type 0} (C D : Claim) (reader : Reader A) (L U : A → Language) (F : TokenKind → Type 0) where
   pub reclaimed : Sends [] C D → Reads C reader L U F → Reads D reader L U F
   reclaimed s r = record {

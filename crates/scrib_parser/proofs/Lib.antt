@@ -1,6 +1,6 @@
 pub mod Laws
-pub mod Parts
-pub mod Many
+pub mod Combinations
+pub mod Repetition
 pub mod Tokens
 pub mod FirstTokens
 pub mod Sequences
@@ -12,8 +12,8 @@ pub mod Claims
 pub mod Blocks
 pub mod Modules
 pub mod Declarations
-pub mod Deeper
-pub mod Whole
-pub mod Plain
-pub mod Starts
-pub mod Exclusive
+pub mod LevelLemmas
+pub mod WholeModules
+pub mod TokenKinds
+pub mod StatementStarts
+pub mod FaultKinds

@@ -7,9 +7,9 @@ use Rattle.scrib_lexer.specs.Lexeme.{Lexeme}
 use Rattle.scrib_parser.specs.declared.fault.ParseFault.{ParseFault}
 use Rattle.scrib_parser.specs.declared.fault.ParseFault.TheVariants.{Unexpected, EndOfText, LeftOut, TooDeep, OutOfMemory}
 use Rattle.scrib_parser.specs.Reading.{Reader, Read, ◌>>=◌, Stops, begins, repeated, token_of, after}
-use Rattle.scrib_parser.proofs.Many.{Takes, repeated_ends, repeated_goes}
+use Rattle.scrib_parser.proofs.Repetition.{Takes, repeated_ends, repeated_goes}
 
--- what was read before, and what is still read
+-- the values that were read, and those that are still read
 abbrev pub with_front : {A : Type 0} → List A → Read (List A) → Read (List A)
 with_front front read = read >>= λ x. Ok (front ++ x.0, x.1)
 
@@ -39,7 +39,7 @@ module _ {A : Type 0} (test : TokenKind → Bool) (item : Reader A) (takes : Tak
       let one : with_front front (repeated test item ts) ≡ Ok (front, ts) = ap (with_front front) (repeated_ends test item takes ts b) ∙ ap (λ (l : List A). Ok (l, ts)) (append-nil front) in
       sym so_far ∙ one
 
--- ---- what stands behind a mark
+-- ---- the value after a mark
 
 module _ {A : Type 0} (mark : TokenKind) (item : Reader A) (ts : List Lexeme) where
   pub behind_mark : (spot : Spot) (mid : List Lexeme) (x : A) (rest : List Lexeme) → token_of mark ts ≡ Ok (spot, mid) → item mid ≡ Ok (x, rest) → after (token_of mark) item ts ≡ Ok (x, rest)

@@ -14,8 +14,8 @@ use Rattle.scrib_parser.specs.declared.tree.Block.{Block}
 use Rattle.scrib_parser.specs.Grammar.{Language, ◌·◌, any, many, joined, token_at, token, name, dotted, block, role, protocol, type_declaration, declaration, kept, «import», module_text}
 use Rattle.scrib_parser.specs.Reading.{begins, same_kind, mapped, both, after, repeated, token_of, name_of, dotted_of, block_of, roles_of, protocol_of, type_declaration_of, declaration_of, begins_declaration, declarations_of, imports_of, module_of}
 use Rattle.scrib_parser.proofs.Laws.{Follows, free, follows_free, never, sends_never, Reads}
-use Rattle.scrib_parser.proofs.Parts.{seen, mapped_reads, either, branch_up, respelled_up}
-use Rattle.scrib_parser.proofs.Many.{Takes, takes, begins_front, past, many_up}
+use Rattle.scrib_parser.proofs.Combinations.{seen, mapped_reads, either, branch_up, respelled_up}
+use Rattle.scrib_parser.proofs.Repetition.{Takes, takes, begins_front, past, many_up}
 use Rattle.scrib_parser.proofs.Tokens.{kind_is, token_reads, name_reads}
 use Rattle.scrib_parser.proofs.FirstTokens.{begins_token, begins_token_at, behind_token}
 use Rattle.scrib_parser.proofs.Elements.{no_dot, dotted_reads}
@@ -149,7 +149,7 @@ declarations_reads levels =
 abbrev pub past_imports : TokenKind → Type 0
 past_imports = past (same_kind (Keyword words.Import)) free
 
--- what may stand behind a module's declarations
+-- a token that may follow a module's declarations
 abbrev pub past_module : TokenKind → Type 0
 past_module kind = past_imports kind × past_declarations kind
 
@@ -213,7 +213,7 @@ in_module_reads levels =
           spelled = r.spelled;
         }
 
--- the declarations that a module keeps, told of the whole
+-- the declarations that a module keeps, for the whole module
 module_to : (levels : ℕ) (m : ModuleTree) (ts : List Lexeme) → seen module_made (in_module levels) m ts → module_text levels m ts
 module_to levels m ts h = subst (λ (n : ModuleTree). module_text levels n ts) h.1 (at h.0 ts h.2)
   where
@@ -258,7 +258,7 @@ many_more L x us h (y ∷ xs) ts k = (k.0, k.1 ++ us, ap (λ (l : List Lexeme). 
 extended : (p q r : Language) (us : List Lexeme) → ((ts : List Lexeme) → q ts → r (ts ++ us)) → (ts : List Lexeme) → (p · q) ts → (p · r) (ts ++ us)
 extended p q r us f ts h = (h.0, h.1 ++ us, ap (λ (l : List Lexeme). l ++ us) h.2 ∙ append_assoc h.0 h.1 us, h.3, f h.1 h.4)
 
--- behind a whole module another protocol may stand
+-- another protocol may follow a whole module
 pub one_protocol_more : (levels : ℕ) (m : ModuleTree) (p : ProtocolDeclaration) (ts us : List Lexeme) → module_text levels m ts → protocol levels p us → (n : ModuleTree) × module_text levels n (ts ++ us)
 one_protocol_more levels m p ts us h k =
     let ds = h.0 ++ Some p ∷ [] in

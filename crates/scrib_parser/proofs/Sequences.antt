@@ -1,4 +1,4 @@
--- Parts that stand behind one another, with marks between or without, are read by their readers in turn.
+-- Parts that follow one another, with marks between or without, are read by their readers in turn.
 use Rattle.std.proofs.Common.{◌≡◌, true, List, [], ◌∷◌, ◌++◌, refl, subst}
 use Rattle.scrib_types.specs.declared.spot.Spot.{Spot}
 use Rattle.scrib_lexer.specs.declared.token.TokenKind.{TokenKind}
@@ -6,8 +6,8 @@ use Rattle.scrib_lexer.specs.Lexeme.{Lexeme}
 use Rattle.scrib_parser.specs.Grammar.{Language, ◌·◌, any, many, joined, token_at, token}
 use Rattle.scrib_parser.specs.Reading.{Reader, begins, same_kind, chain, mapped, both, after, before, repeated, token_of}
 use Rattle.scrib_parser.proofs.Laws.{free, follows_free, Claim, never, Sends, sends_never, Leaf, chain_reads}
-use Rattle.scrib_parser.proofs.Parts.{respelled, seen, mapped_reads, both_reads, after_reads, before_reads}
-use Rattle.scrib_parser.proofs.Many.{past, follows_items, many_reads}
+use Rattle.scrib_parser.proofs.Combinations.{respelled, seen, mapped_reads, both_reads, after_reads, before_reads}
+use Rattle.scrib_parser.proofs.Repetition.{past, follows_items, many_reads}
 use Rattle.scrib_parser.proofs.Tokens.{same_kind-refl, token_reads}
 use Rattle.scrib_parser.proofs.FirstTokens.{quiet, behind_quiet, begins_token, behind_token, behind_token_at}
 
@@ -20,7 +20,7 @@ module _ {A : Type 0} (C E D K : Claim) (item : Reader A) (L : A → Language) (
   abbrev pub past_mark : TokenKind → Type 0
   past_mark = past (same_kind mark) F
 
-  -- what is claimed behind a mark
+  -- the claim after a mark
   abbrev pub BehindMark : Type 0
   BehindMark = (spot : Spot) (ts : List Lexeme) → token_at mark spot ts → Sends ts C E
 
@@ -31,14 +31,14 @@ module _ {A : Type 0} (C E D K : Claim) (item : Reader A) (L : A → Language) (
   pub begins_marked : (y : A) (ts : List Lexeme) → marked y ts → begins (same_kind mark) ts ≡ true
   begins_marked y ts h = begins_token (same_kind mark) mark (L y) ts (same_kind-refl mark) h
 
-  -- what is claimed behind the items that marks precede
+  -- the claim after the items that marks precede
   abbrev pub BehindMarked : Type 0
   BehindMarked = Sends [] E D × ((y : A) (ts : List Lexeme) → marked y ts → Sends ts D D)
 
   pub more_reads : Leaf C item L F → ((kind : TokenKind) → same_kind mark kind ≡ true → F kind) → BehindMark → BehindMarked → Leaf D (repeated (same_kind mark) (after (token_of mark) item)) (many marked) past_mark
   more_reads r goes behind carries = many_reads E D (same_kind mark) (after (token_of mark) item) marked F (marked_reads r behind) begins_marked goes carries
 
-  -- the first value, and those behind marks
+  -- the first value, and those after marks
   abbrev from_first : A → List A → Language
   from_first x = seen (λ (xs : List A). x ∷ xs) (many marked)
 
@@ -54,7 +54,7 @@ module _ {A : Type 0} (C E D K : Claim) (item : Reader A) (L : A → Language) (
       (λ x y ts rest h fits. follows_items E D (same_kind mark) (after (token_of mark) item) marked marked F begins_marked goes h.0 ts rest h.2 fits) brings)
 
 module _ {A : Type 0} (item : Reader A) (L : A → Language) (F : TokenKind → Type 0) (mark : TokenKind) where
-  -- the same of items of which nothing is claimed
+  -- the same for items with no claim
   pub quiet_more_reads : Leaf never item L F → ((kind : TokenKind) → same_kind mark kind ≡ true → F kind) → Leaf never (repeated (same_kind mark) (after (token_of mark) item)) (many (λ y. token mark · L y)) (past (same_kind mark) F)
   quiet_more_reads r goes = more_reads never never never never item L F mark r goes (λ spot ts h. sends_never ts never) (quiet (λ y. token mark · L y))
 
@@ -62,7 +62,7 @@ module _ {A : Type 0} (item : Reader A) (L : A → Language) (F : TokenKind → 
       → Leaf never (chain item (λ first. mapped (λ more. first ∷ more) (repeated (same_kind mark) (after (token_of mark) item)))) (joined L (token mark)) (past (same_kind mark) F)
   quiet_joined_reads r goes = joined_reads never never never never item L F mark r goes (λ spot ts h. sends_never ts never) (quiet (λ y. token mark · L y)) (quiet L)
 
--- ---- parts of which nothing goes on another, and nothing is claimed
+-- ---- parts that don't continue one another, with no claim
 
 module _ {A B : Type 0} (first : Reader A) (second : Reader B) (L : A → Language) (M : B → Language) where
   pub pair_reads : Leaf never first L free → Leaf never second M free → Leaf never (both first second) (λ p. L p.0 · M p.1) free
@@ -75,7 +75,7 @@ module _ {A B : Type 0} (first : Reader A) (second : Reader B) (L : A → Langua
   closed_reads r s = before_reads never never never first second L M free free r s (λ y ts rest h fits. follows_free (ts ++ rest)) (quiet L)
 
 module _ {A B : Type 0} (first : Reader A) (second : Reader B) (L : A → Language) (M : B → Language) (F G : TokenKind → Type 0) (kind : TokenKind) where
-  -- a token of a kind that doesn't go on the first
+  -- a token of a kind that doesn't continue the first
   pub until_reads : Leaf never first L F → Leaf never second M G → F kind → Leaf never (both first (after (token_of kind) second)) (λ p. L p.0 · token kind · M p.1) G
   until_reads r s h =
       both_reads never never never first (after (token_of kind) second) L (λ y. token kind · M y) F G r
@@ -83,7 +83,7 @@ module _ {A B : Type 0} (first : Reader A) (second : Reader B) (L : A → Langua
       (λ y ts rest k fits. behind_token F kind (M y) ts rest h k) (quiet L)
 
 module _ {A : Type 0} (first : Reader A) (L : A → Language) (F : TokenKind → Type 0) (kind : TokenKind) where
-  -- a last token of a kind that doesn't go on the first
+  -- a last token of a kind that doesn't continue the first
   pub ended_reads : Leaf never first L F → F kind → Leaf never (before first (token_of kind)) (λ x. L x · token kind) free
   ended_reads r h =
       before_reads never never never first (token_of kind) L (token_at kind) F free r (token_reads kind) (λ spot ts rest k fits. behind_token_at F kind spot ts rest h k) (quiet L)

@@ -13,8 +13,8 @@ use Rattle.scrib_parser.specs.LeftOut.{statement_word, statement_word_of, left_o
 use Rattle.scrib_parser.specs.Grammar.{Language, ◌·◌, any, joined, listed, token_at, token, name, name_at, dotted, element, opening, message, jump, call}
 use Rattle.scrib_parser.specs.Reading.{Reader, Read, begins, same_kind, mapped, both, after, before, token_of, name_of, placed_name_of, dotted_of, payload_of, refusal_behind, paren_behind, named_opening_of, opening_of, names_of, message_of, jump_of, call_of, begins_message}
 use Rattle.scrib_parser.proofs.Laws.{free, follows_free, Claim, never, Sends, sends_never, sends_same, IsCause, Taken, Stopped, Leaf, ok_is, err_is, chain_reads}
-use Rattle.scrib_parser.proofs.Parts.{respelled, seen, mapped_reads, both_reads, before_reads, either, branch_reads}
-use Rattle.scrib_parser.proofs.Many.{begins_front, past}
+use Rattle.scrib_parser.proofs.Combinations.{respelled, seen, mapped_reads, both_reads, before_reads, either, branch_reads}
+use Rattle.scrib_parser.proofs.Repetition.{begins_front, past}
 use Rattle.scrib_parser.proofs.Tokens.{kind_is, token_reads, name_reads, placed_name_reads}
 use Rattle.scrib_parser.proofs.FirstTokens.{quiet, before_quiet, first_kind, other_kind, begins_token_at, behind_token}
 use Rattle.scrib_parser.proofs.Sequences.{pair_reads, skip_reads, closed_reads, until_reads, ended_reads}
@@ -29,11 +29,11 @@ Opened = Option (List ℕ) × Spot
 abbrev pub IsLeftWord : LeftOutWord → Spot → Lexeme → Type 0
 IsLeftWord word spot w = (left_out_statement w ≡ Some word) × (w.spot ≡ spot)
 
--- what is told as left out is the first token
+-- the first token is reported as left out
 abbrev pub at_first : Claim
 at_first = record { left = λ word spot ts. (w : Lexeme) × (ts ≡ w ∷ []) × IsLeftWord word spot w; deep = λ ts. ⊥ }
 
--- what is told as left out is the name before
+-- the name before is reported as left out
 abbrev behind_name : List ℕ × Spot → Claim
 behind_name op = record { left = λ word spot ts. (ts ≡ []) × (statement_word op.0 ≡ Some word) × (op.1 ≡ spot); deep = λ ts. ⊥ }
 
@@ -70,19 +70,19 @@ paren_stopped op (t ∷ ts) f e = by (same_kind OpenParen t.kind) refl e
     by : (b : Bool) → same_kind OpenParen t.kind ≡ b → cond {A = Read Spot} b (Ok (t.spot, ts)) (Err (refusal_behind (statement_word op.0) op.1 t)) ≡ Err f → Stopped (behind_name op) (paren_behind op) (token_at OpenParen) (t ∷ ts) f
     by true b k = absurd (cc k)
     by false b k =
-        let told : refusal_behind (statement_word op.0) op.1 t ≡ f = err_is {A = Spot × List Lexeme} (refusal_behind (statement_word op.0) op.1 t) f k in
+        let reported : refusal_behind (statement_word op.0) op.1 t ≡ f = err_is {A = Spot × List Lexeme} (refusal_behind (statement_word op.0) op.1 t) f k in
         record {
           front = [];
           rest = t ∷ ts;
           parts = refl;
-          cause = refused_by op t ts (statement_word op.0) f refl told;
+          cause = refused_by op t ts (statement_word op.0) f refl reported;
           value = some_paren.spot;
           more = some_paren ∷ [];
           spelled = (some_paren, refl, (refl, refl));
           again = λ u us vs m.
               let same : t ≡ u = cc in
               let no : same_kind OpenParen u.kind ≡ false = ap (λ (v : Lexeme). same_kind OpenParen v.kind) (sym same) ∙ b in
-              rw no (ap (λ (v : Lexeme). Err (refusal_behind (statement_word op.0) op.1 v)) (sym same) ∙ ap (λ (g : ParseFault). Err g) told);
+              rw no (ap (λ (v : Lexeme). Err (refusal_behind (statement_word op.0) op.1 v)) (sym same) ∙ ap (λ (g : ParseFault). Err g) reported);
         }
 
 paren_again : (op : List ℕ × Spot) (front : List Lexeme) (x : Spot) (rest : List Lexeme) → token_at OpenParen x front → paren_behind op (front ++ rest) ≡ Ok (x, rest)
@@ -103,7 +103,7 @@ paren_reads op = record {
   spelled = (some_paren, refl, (refl, refl));
 }
 
--- what is left out behind a name is so by its token
+-- a form that is left out after a name is so by the name's token
 sends_named : (op : List ℕ × Spot) (ts : List Lexeme) → name_at op.0 op.1 ts → Sends ts (behind_name op) at_first
 sends_named op ts n = (
   (λ word spot us h. (
@@ -162,7 +162,7 @@ begins_opening (Some op) spot p ts h =
     first_kind begins_message Name n.0 h.3.0 (h.3.1 ++ h.1) ts refl n.2.0 n.1 (h.2 ∙ ap (λ (l : List Lexeme). l ++ h.1) h.3.2 ∙ append_assoc h.3.0 h.3.1 h.1)
 begins_opening None spot p ts h = begins_token_at begins_message OpenParen spot p ts refl h
 
--- what stands behind a message's payload, and behind its parenthesis
+-- the tokens after a message's payload, and after its parenthesis
 abbrev ends_of : Reader (List ℕ × List (List ℕ))
 ends_of = after (token_of (Keyword words.From)) (both name_of (after (token_of (Keyword words.To)) (before names_of (token_of Semicolon))))
 

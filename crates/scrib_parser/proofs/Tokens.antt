@@ -13,7 +13,7 @@ use Rattle.scrib_parser.specs.declared.fault.ParseFault.TheVariants.{Unexpected,
 use Rattle.scrib_parser.specs.Grammar.{Language, lexeme, token_at, name, name_at}
 use Rattle.scrib_parser.specs.Reading.{same_word, same_kind, given, lexeme_at, mapped, token_of, name_of, placed_name_of}
 use Rattle.scrib_parser.proofs.Laws.{free, never, IsCause, Taken, Stopped, Reads, ok_is, err_is}
-use Rattle.scrib_parser.proofs.Parts.{respelled, seen, mapped_reads}
+use Rattle.scrib_parser.proofs.Combinations.{respelled, seen, mapped_reads}
 
 -- ---- kinds
 
@@ -89,8 +89,8 @@ same_kind-of a b e = subst (λ (k : TokenKind). same_kind a k ≡ true) (sym e) 
 -- ---- one token
 
 module _ {A : Type 0} (test : Lexeme → Option A) where
-  abbrev pub told : A → Language
-  told x = lexeme (λ t. test t ≡ Some x)
+  abbrev pub passing : A → Language
+  passing x = lexeme (λ t. test t ≡ Some x)
 
   given_ok : (o : Option A) (t : Lexeme) (ts : List Lexeme) (x : A) (rest : List Lexeme) → given o t ts ≡ Ok (x, rest) → (o ≡ Some x) × (ts ≡ rest)
   given_ok (Some y) t ts x rest e = let k = ok_is (y, ts) (x, rest) e in (ap (λ (p : A × List Lexeme). Some p.0) k, ap (λ (p : A × List Lexeme). p.1) k)
@@ -100,16 +100,16 @@ module _ {A : Type 0} (test : Lexeme → Option A) where
   given_err (Some y) t ts f e = absurd cc
   given_err None t ts f e = (refl, sym (err_is {A = A × List Lexeme} (Unexpected t.spot) f e))
 
-  told_taken : (ts : List Lexeme) (x : A) (rest : List Lexeme) → lexeme_at test ts ≡ Ok (x, rest) → Taken (lexeme_at test) told ts x rest
-  told_taken [] x rest e = absurd cc
-  told_taken (t ∷ ts) x rest e =
+  passing_taken : (ts : List Lexeme) (x : A) (rest : List Lexeme) → lexeme_at test ts ≡ Ok (x, rest) → Taken (lexeme_at test) passing ts x rest
+  passing_taken [] x rest e = absurd cc
+  passing_taken (t ∷ ts) x rest e =
       let k = given_ok (test t) t ts x rest e in
       record { front = t ∷ []; parts = ap (λ (l : List Lexeme). t ∷ l) k.1; spelled = (t, refl, k.0); again = λ u us vs h. rw k.0 refl }
 
-  told_stopped : (x : A) (t : Lexeme) → test t ≡ Some x → (ts : List Lexeme) (f : ParseFault) → lexeme_at test ts ≡ Err f → Stopped never (lexeme_at test) told ts f
-  told_stopped x s h [] f e =
+  passing_stopped : (x : A) (t : Lexeme) → test t ≡ Some x → (ts : List Lexeme) (f : ParseFault) → lexeme_at test ts ≡ Err f → Stopped never (lexeme_at test) passing ts f
+  passing_stopped x s h [] f e =
       record { front = []; rest = []; parts = refl; cause = subst (λ (g : ParseFault). IsCause never [] [] g) (err_is {A = A × List Lexeme} EndOfText f e) refl; value = x; more = s ∷ []; spelled = (s, refl, h); again = λ u us vs k. absurd cc }
-  told_stopped x s h (t ∷ ts) f e =
+  passing_stopped x s h (t ∷ ts) f e =
       let k = given_err (test t) t ts f e in
       record {
         front = [];
@@ -125,11 +125,11 @@ module _ {A : Type 0} (test : Lexeme → Option A) where
             rw (no, k.1) (ap (λ (v : Lexeme). Err (Unexpected v.spot)) (sym same));
       }
 
-  pub told_reads : (x : A) (t : Lexeme) → test t ≡ Some x → Reads never (lexeme_at test) told told free
-  told_reads x t h = record {
-    taken = told_taken;
+  pub passing_reads : (x : A) (t : Lexeme) → test t ≡ Some x → Reads never (lexeme_at test) passing passing free
+  passing_reads x t h = record {
+    taken = passing_taken;
     again = λ front y rest k fits. ap (λ (l : List Lexeme). lexeme_at test (l ++ rest)) k.1 ∙ rw k.2 refl;
-    stopped = told_stopped x t h;
+    stopped = passing_stopped x t h;
     wider = λ y ts k. k;
     value = x;
     example = t ∷ [];
@@ -157,17 +157,17 @@ pub token_reads : (kind : TokenKind) → Reads never (token_of kind) (token_at k
 unfolding token_of some_token
 token_reads kind =
     let test : Lexeme → Option Spot = λ t. cond (same_kind kind t.kind) (Some t.spot) None in
-    respelled never (lexeme_at test) (told test) (token_at kind) free
+    respelled never (lexeme_at test) (passing test) (token_at kind) free
     (λ spot ts h. let k = if_some (same_kind kind h.0.kind) h.0.spot spot h.2 in (h.0, h.1, (sym (kind_is kind h.0.kind k.0), k.1)))
     (λ spot ts h. (h.0, h.1, rw (same_kind-of kind h.0.kind h.2.0, h.2.1) refl))
-    (told_reads test somewhere (some_token kind []) (rw (same_kind-refl kind) refl))
+    (passing_reads test somewhere (some_token kind []) (rw (same_kind-refl kind) refl))
 
 -- a name, and its place
 pub placed_name_reads : Reads never placed_name_of (λ p. name_at p.0 p.1) (λ p. name_at p.0 p.1) free
 unfolding placed_name_of some_token
 placed_name_reads =
     let test : Lexeme → Option (List ℕ × Spot) = λ t. cond (same_kind Name t.kind && is_name t.bytes) (Some (t.bytes, t.spot)) None in
-    respelled never (lexeme_at test) (told test) (λ p. name_at p.0 p.1) free
+    respelled never (lexeme_at test) (passing test) (λ p. name_at p.0 p.1) free
     (λ p ts h.
     let k = if_some (same_kind Name h.0.kind && is_name h.0.bytes) (h.0.bytes, h.0.spot) p h.2 in
     let m = both_true (same_kind Name h.0.kind) (is_name h.0.bytes) k.0 in
@@ -176,7 +176,7 @@ placed_name_reads =
     (λ p ts h.
     let real : is_name h.0.bytes ≡ true = ap is_name h.2.1 ∙ h.2.2 in
     (h.0, h.1, rw (same_kind-of Name h.0.kind h.2.0, real) (λ i. Some (h.2.1 i, h.2.3 i))))
-    (told_reads test (97 ∷ [], somewhere) (some_token Name (97 ∷ [])) refl)
+    (passing_reads test (97 ∷ [], somewhere) (some_token Name (97 ∷ [])) refl)
 
 pub name_reads : Reads never name_of name name free
 unfolding name_of

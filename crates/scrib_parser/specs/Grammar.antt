@@ -1,5 +1,5 @@
 -- The grammar of module texts, over their tokens (the forms of the Scribble Language Reference 0.3 that this
--- project takes). A nonterminal at a value is the set of the token lists that spell the value: as in EBNF,
+-- project takes). A nonterminal at a value is the set of the token lists that spell the value. In terms of EBNF,
 -- p · q is p followed by q, maybe p is [ p ], and many p is { p }.
 use Rattle.std.specs.Prelude.{◌≡◌, ℕ, zero, suc, ◌⊎◌, IsTrue, List, [], ◌∷◌, ◌++◌, Option, Some, None, Result, Ok, Err}
 use Rattle.scrib_types.specs.Names.{is_name}
@@ -69,7 +69,7 @@ token_at kind spot = lexeme (λ t. (t.kind ≡ kind) × (t.spot ≡ spot))
 abbrev pub token : TokenKind → Language
 token kind = any (token_at kind)
 
--- a token at this place that is this name: its kind says that it is a name, and its bytes are one
+-- a token at this place that is this name: its kind is a name's, and its bytes are a name
 abbrev pub name_at : List ℕ → Spot → Language
 name_at bytes spot = lexeme (λ t. (t.kind ≡ Name) × (t.bytes ≡ bytes) × IsTrue (is_name bytes) × (t.spot ≡ spot))
 
@@ -94,13 +94,15 @@ opening None spot = token_at OpenParen spot
 abbrev pub message : Statement → Language
 message s ts =
     (m : Message) × (from : List ℕ) × (to : List (List ℕ)) × (spot : Spot) × (s ≡ tree.Message m from to spot)
-    × (opening m.op spot · listed element (token Comma) m.payload · token CloseParen · token (Keyword words.From) · name from · token (Keyword words.To) · joined name (token Comma) to · token Semicolon) ts
+    × (opening m.op spot · listed element (token Comma) m.payload · token CloseParen · token (Keyword words.From)
+    · name from · token (Keyword words.To) · joined name (token Comma) to · token Semicolon) ts
 
 -- choice = "choice" "at" name block { "or" block }, where its word is at the choice's place
 abbrev pub choice : (Block → Language) → Statement → Language
 choice block s ts =
     (at : List ℕ) × (branches : List Block) × (spot : Spot) × (s ≡ tree.Choice at branches spot)
-    × (token_at (Keyword words.Choice) spot · token (Keyword words.At) · name at · joined block (token (Keyword words.Or)) branches) ts
+    × (token_at (Keyword words.Choice) spot · token (Keyword words.At) · name at
+    · joined block (token (Keyword words.Or)) branches) ts
 
 -- rec = "rec" name block
 abbrev pub recursion : (Block → Language) → Statement → Language
@@ -118,14 +120,15 @@ jump s ts =
 abbrev pub call : Statement → Language
 call s ts =
     (protocol : List (List ℕ)) × (roles : List (List ℕ)) × (spot : Spot) × (s ≡ tree.Do protocol roles spot)
-    × (token_at (Keyword words.Do) spot · dotted protocol · token OpenParen · joined name (token Comma) roles · token CloseParen · token Semicolon) ts
+    × (token_at (Keyword words.Do) spot · dotted protocol · token OpenParen · joined name (token Comma) roles
+    · token CloseParen · token Semicolon) ts
 
 -- statement = message | choice | rec | continue | do
 abbrev pub statement : (Block → Language) → Statement → Language
 statement block s ts = message s ts ⊎ (choice block s ts ⊎ (recursion block s ts ⊎ (jump s ts ⊎ call s ts)))
 
--- block = "{" { statement } "}", where its brace is at the block's place; so many levels of blocks at most, its
--- own the first
+-- block = "{" { statement } "}", where its brace is at the block's place. It has at most this number of levels of
+-- blocks, its own the first.
 unfoldable pub block : ℕ → Block → Language
 block zero b ts = ⊥
 block (suc levels) b ts = (token_at OpenBrace b.spot · many (statement (block levels)) b.body · token CloseBrace) ts
@@ -139,7 +142,8 @@ role r = token_at (Keyword words.Role) r.spot · name r.name
 abbrev pub protocol : ℕ → ProtocolDeclaration → Language
 protocol levels p ts =
     (spot : Spot) × (token_at (Keyword words.Global) p.spot · token (Keyword words.Protocol) · name p.name
-    · token OpenParen · joined role (token Comma) p.roles · token CloseParen · block levels (record { body = p.body; spot = spot })) ts
+    · token OpenParen · joined role (token Comma) p.roles · token CloseParen
+    · block levels (record { body = p.body; spot = spot })) ts
 
 -- typedecl = "type" "<" name ">" string "from" string "as" name ";"
 abbrev pub type_declaration : Language
@@ -147,12 +151,12 @@ type_declaration =
     token (Keyword words.«Type») · token OpenAngle · any name · token CloseAngle · token StringLiteral
     · token (Keyword words.From) · token StringLiteral · token (Keyword words.As) · any name · token Semicolon
 
--- decl = typedecl | protocol: a type declaration leaves nothing in the tree
+-- decl = typedecl | protocol, where a type declaration leaves nothing in the tree
 abbrev pub declaration : ℕ → Option ProtocolDeclaration → Language
 declaration levels (Some p) = protocol levels p
 declaration levels None = type_declaration
 
--- what declarations leave in the tree
+-- the protocols among declarations
 abbrev pub kept : {A : Type 0} → List (Option A) → List A
 kept [] = []
 kept (None ∷ ds) = kept ds
@@ -171,9 +175,10 @@ abbrev pub «import» : Import → Language
 abbrev pub module_text : ℕ → ModuleTree → Language
 module_text levels m ts =
     (ds : List (Option ProtocolDeclaration)) × (m.protocols ≡ kept ds)
-    × (token (Keyword words.Module) · dotted m.name · token Semicolon · many «import» m.imports · many (declaration levels) ds) ts
+    × (token (Keyword words.Module) · dotted m.name · token Semicolon · many «import» m.imports
+    · many (declaration levels) ds) ts
 
--- the most levels of blocks, a protocol's own being the first
+-- the most levels of nested blocks, a protocol's own the first
 abbrev pub max_levels : ℕ
 max_levels = 64
 
@@ -181,44 +186,47 @@ max_levels = 64
 abbrev pub IsModule : List Lexeme → ModuleTree → Type 0
 IsModule ts m = module_text max_levels m ts
 
--- what parsing tokens that spell the module gives: it, unless memory runs out
+-- the result is this module, unless memory was refused
 abbrev pub ParseGives : Result ModuleTree ParseFault → ModuleTree → Type 0
 ParseGives (Ok n) m = n ≡ m
 ParseGives (Err OutOfMemory) m = Unit {0}
 ParseGives (Err _) m = ⊥
 
--- the tokens are the beginning of a module's, or all of them, however many levels of blocks it has
+-- the tokens are a beginning of a module's, of any number of levels of blocks
 abbrev pub IsBeginning : List Lexeme → Type 0
 IsBeginning ts = (levels : ℕ) × (more : List Lexeme) × (m : ModuleTree) × module_text levels m (ts ++ more)
 
--- up to the token they begin a module, and with it they begin none
+-- the tokens before t begin a module, and with t they begin none
 abbrev pub IsOffence : List Lexeme → Lexeme → Type 0
 IsOffence front t = IsBeginning front × (IsBeginning (front ++ t ∷ []) → ⊥)
 
--- behind these tokens a token of the kind may stand
-abbrev pub MayStand : TokenKind → List Lexeme → Type 0
-MayStand kind front = (t : Lexeme) × (t.kind ≡ kind) × IsBeginning (front ++ t ∷ [])
+-- a token of the kind may follow these tokens
+abbrev pub MayFollow : TokenKind → List Lexeme → Type 0
+MayFollow kind front = (t : Lexeme) × (t.kind ≡ kind) × IsBeginning (front ++ t ∷ [])
 
--- the offending token stands at the start of a declaration, where `global` may, and is a left-out word; or it
--- stands behind such a word at the start of a statement, where `continue` may
+-- The offending token is a left-out word at the start of a declaration, where `global` may be. Or it follows such a
+-- word at the start of a statement, where `continue` may be.
 abbrev pub IsLeftOut : List Lexeme → Lexeme → LeftOutWord → Spot → Type 0
 IsLeftOut front t word spot =
-    ((left_out_declaration t ≡ Some word) × (t.spot ≡ spot) × MayStand (Keyword words.Global) front)
-    ⊎ ((before : List Lexeme) × (w : Lexeme) × (front ≡ before ++ w ∷ []) × (left_out_statement w ≡ Some word) × (w.spot ≡ spot) × MayStand (Keyword words.Continue) before)
+    ((left_out_declaration t ≡ Some word) × (t.spot ≡ spot) × MayFollow (Keyword words.Global) front)
+    ⊎ ((before : List Lexeme) × (w : Lexeme) × (front ≡ before ++ w ∷ []) × (left_out_statement w ≡ Some word)
+    × (w.spot ≡ spot) × MayFollow (Keyword words.Continue) before)
 
--- what a fault says of the tokens
+-- the fault of the tokens
 abbrev pub IsFaultOf : List Lexeme → ParseFault → Type 0
--- the first token that no module can have, where it begins no form that is told as left out
+-- the first token that no module can have, where no form of the language that is left out begins
 IsFaultOf ts (Unexpected spot) =
     (front : List Lexeme) × (t : Lexeme) × (rest : List Lexeme) × (ts ≡ front ++ t ∷ rest) × IsOffence front t
     × ((word : LeftOutWord) (at : Spot) → IsLeftOut front t word at → ⊥) × (t.spot ≡ spot)
--- the same, where a form of the language begins that is left out
+-- the first token that no module can have, where a form of the language that is left out begins
 IsFaultOf ts (LeftOut word spot) =
-    (front : List Lexeme) × (t : Lexeme) × (rest : List Lexeme) × (ts ≡ front ++ t ∷ rest) × IsOffence front t × IsLeftOut front t word spot
--- a brace with which they begin a module, though none of so few levels as a module may have
+    (front : List Lexeme) × (t : Lexeme) × (rest : List Lexeme) × (ts ≡ front ++ t ∷ rest) × IsOffence front t
+    × IsLeftOut front t word spot
+-- the tokens up to a brace begin a module, but none of the number of levels that a module may have
 IsFaultOf ts (TooDeep spot) =
-    (front : List Lexeme) × (t : Lexeme) × (rest : List Lexeme) × (ts ≡ front ++ t ∷ rest) × (t.kind ≡ OpenBrace) × IsBeginning (front ++ t ∷ [])
+    (front : List Lexeme) × (t : Lexeme) × (rest : List Lexeme) × (ts ≡ front ++ t ∷ rest) × (t.kind ≡ OpenBrace)
+    × IsBeginning (front ++ t ∷ [])
     × ((more : List Lexeme) (m : ModuleTree) → IsModule (front ++ t ∷ more) m → ⊥) × (t.spot ≡ spot)
--- they begin a module, and are none
+-- the tokens begin a module, and are none
 IsFaultOf ts EndOfText = IsBeginning ts × ((levels : ℕ) (m : ModuleTree) → module_text levels m ts → ⊥)
 IsFaultOf ts OutOfMemory = Unit {0}

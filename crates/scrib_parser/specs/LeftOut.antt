@@ -1,5 +1,5 @@
--- The words of Scribble whose forms are no part of this grammar (Scribble Language Reference 0.3; which are
--- told by name is this project's own).
+-- The words of Scribble whose forms this grammar leaves out (Scribble Language Reference 0.3; which of them are
+-- reported by name is this project's own).
 use Rattle.std.specs.Prelude.{ℕ, List, [], ◌∷◌, Option, Some, None, if◌then◌else◌, codes}
 use Rattle.std.specs.Str.{bytes_eq}
 use Rattle.scrib_lexer.specs.declared.token.Keyword.TheVariants as words
@@ -9,7 +9,7 @@ use Rattle.scrib_lexer.specs.Lexeme.{Lexeme}
 use Rattle.scrib_parser.specs.declared.fault.LeftOutWord.{LeftOutWord}
 use Rattle.scrib_parser.specs.declared.fault.LeftOutWord.TheVariants.{Local, Sig, Aux, Explicit, From, Par, Interruptible, Connect, Disconnect}
 
--- a word as it stands in a text
+-- the text of a word
 abbrev pub spelling : LeftOutWord → List ℕ
 spelling Local = codes "local"
 spelling Sig = codes "sig"
@@ -34,11 +34,13 @@ declaration_word bytes = word_among (Local ∷ Sig ∷ Aux ∷ Explicit ∷ []) 
 abbrev pub statement_word : List ℕ → Option LeftOutWord
 statement_word bytes = word_among (Par ∷ Interruptible ∷ Connect ∷ Disconnect ∷ []) bytes
 
+-- the left-out word of a token at the start of a declaration
 abbrev pub declaration_word_of : TokenKind → List ℕ → Option LeftOutWord
 declaration_word_of kind.Name bytes = declaration_word bytes
 declaration_word_of (kind.Keyword words.From) bytes = Some From
 declaration_word_of _ bytes = None
 
+-- the left-out word of a token at the start of a statement
 abbrev pub statement_word_of : TokenKind → List ℕ → Option LeftOutWord
 statement_word_of kind.Name bytes = statement_word bytes
 statement_word_of _ bytes = None

@@ -31,19 +31,22 @@ left tokens = lexemes_of tokens.rest.now
 abbrev pub Read : Type 0 → Type 0
 Read A = Result (A × List Lexeme) ParseFault
 
+-- reads a value from the front of the tokens
 abbrev pub Reader : Type 0 → Type 0
 Reader A = List Lexeme → Read A
 
+-- the second step, on the value of the first, or the fault of the first
 infixl 10 ◌>>=◌
 abbrev pub ◌>>=◌ : {A B : Type 0} → Result A ParseFault → (A → Result B ParseFault) → Result B ParseFault
 (Ok x) >>= f = f x
 (Err e) >>= f = Err e
 
--- What a function returned, with the tokens that it left, is what reading gives, unless memory ran out.
+-- reading stops with this fault, unless memory was refused
 abbrev pub Stops : {A : Type 0} → ParseFault → Result A ParseFault → Type 0
 Stops OutOfMemory read = Unit {0}
 Stops fault read = read ≡ Err fault
 
+-- a function's result, with the tokens that it left, is the result of reading, unless memory was refused
 abbrev pub Gives : {A : Type 0} → Result A ParseFault → List Lexeme → Read A → Type 0
 Gives (Ok x) rest read = read ≡ Ok (x, rest)
 Gives (Err e) rest read = Stops e read
@@ -94,14 +97,16 @@ abbrev pub given : {A : Type 0} → Option A → Lexeme → List Lexeme → Read
 given (Some x) t ts = Ok (x, ts)
 given None t ts = Err (Unexpected t.spot)
 
+-- reads one token, whose value the test finds
 abbrev pub lexeme_at : {A : Type 0} → (Lexeme → Option A) → Reader A
 lexeme_at test [] = Err EndOfText
 lexeme_at test (t ∷ ts) = given (test t) t ts
 
--- the second behind the first, which says what the second is
+-- the second after the first, on whose value the second depends
 abbrev pub chain : {A B : Type 0} → Reader A → (A → Reader B) → Reader B
 chain first second ts = first ts >>= λ x. second x.0 x.1
 
+-- reads a value and maps it by the function
 abbrev pub mapped : {A B : Type 0} → (A → B) → Reader A → Reader B
 mapped f reader ts = reader ts >>= λ x. Ok (f x.0, x.1)
 
@@ -109,13 +114,15 @@ mapped f reader ts = reader ts >>= λ x. Ok (f x.0, x.1)
 abbrev pub both : {A B : Type 0} → Reader A → Reader B → Reader (A × B)
 both first second = chain first (λ x. mapped (λ y. (x, y)) second)
 
+-- reads both, and returns the second's value
 abbrev pub after : {A B : Type 0} → Reader A → Reader B → Reader B
 after first second = chain first (λ x. second)
 
+-- reads both, and returns the first's value
 abbrev pub before : {A B : Type 0} → Reader A → Reader B → Reader A
 before first second = chain first (λ x. mapped (λ y. x) second)
 
--- one or the other, as the next token's kind says
+-- one or the other, by the next token's kind
 abbrev pub branch : {A : Type 0} → (TokenKind → Bool) → Reader A → Reader A → Reader A
 branch test here elsewhere ts = if begins test ts then here ts else elsewhere ts
 
@@ -123,15 +130,17 @@ branch test here elsewhere ts = if begins test ts then here ts else elsewhere ts
 abbrev pub none : {A : Type 0} → A → Reader A
 none x ts = Ok (x, ts)
 
--- as often as the next token's kind says so, and at most so often
+-- repeats while the next token's kind passes the test, at most this number of times
 unfoldable pub repeat : {A : Type 0} → (TokenKind → Bool) → Reader A → ℕ → Reader (List A)
 repeat test item zero ts = Ok ([], ts)
-repeat test item (suc n) ts = if begins test ts then (item ts >>= λ x. repeat test item n x.1 >>= λ xs. Ok (x.0 ∷ xs.0, xs.1)) else Ok ([], ts)
+repeat test item (suc n) ts =
+    if begins test ts then (item ts >>= λ x. repeat test item n x.1 >>= λ xs. Ok (x.0 ∷ xs.0, xs.1)) else Ok ([], ts)
 
--- as often as the next token's kind says so
+-- repeats while the next token's kind passes the test
 unfoldable pub repeated : {A : Type 0} → (TokenKind → Bool) → Reader A → Reader (List A)
 repeated test item ts = repeat test item (length ts) ts
 
+-- reads a token of the kind, and returns its place
 unfoldable pub token_of : TokenKind → Reader Spot
 token_of kind = lexeme_at (λ t. if same_kind kind t.kind then Some t.spot else None)
 
@@ -139,52 +148,62 @@ token_of kind = lexeme_at (λ t. if same_kind kind t.kind then Some t.spot else 
 unfoldable pub placed_name_of : Reader (List ℕ × Spot)
 placed_name_of = lexeme_at (λ t. if same_kind Name t.kind && is_name t.bytes then Some (t.bytes, t.spot) else None)
 
+-- reads a name
 unfoldable pub name_of : Reader (List ℕ)
 name_of = mapped (λ p. p.0) placed_name_of
 
--- the names behind dots
+-- the names after dots
 abbrev pub dots_of : Reader (List (List ℕ))
 dots_of = repeated (same_kind Dot) (after (token_of Dot) name_of)
 
+-- reads the names after dots, following this first name
 unfoldable pub dotted_from : List ℕ → Reader (List (List ℕ))
 dotted_from first = mapped (λ names. first ∷ names) dots_of
 
+-- reads a dotted name
 unfoldable pub dotted_of : Reader (List (List ℕ))
 dotted_of = chain name_of dotted_from
 
+-- reads an element of a payload
 unfoldable pub element_of : Reader (List (List ℕ))
 element_of = chain name_of (λ first. branch (same_kind Colon) (after (token_of Colon) dotted_of) (dotted_from first))
 
--- the elements behind commas
+-- the elements after commas
 abbrev pub more_elements_of : Reader (List (List (List ℕ)))
 more_elements_of = repeated (same_kind Comma) (after (token_of Comma) element_of)
 
+-- reads the elements of a payload that has some
 unfoldable pub elements_of : Reader (List (List (List ℕ)))
 elements_of = chain element_of (λ first. mapped (λ more. first ∷ more) more_elements_of)
 
+-- reads a payload
 unfoldable pub payload_of : Reader (List (List (List ℕ)))
 payload_of = branch (same_kind Name) elements_of (none [])
 
--- the fault at the token behind a name that begins a statement
+-- the fault at the token after a name that begins a statement
 abbrev pub refusal_behind : Option LeftOutWord → Spot → Lexeme → ParseFault
 refusal_behind None spot t = Unexpected t.spot
 refusal_behind (Some word) spot t = LeftOut word spot
 
--- a parenthesis behind the name of a message
+-- a parenthesis after the name of a message
 unfoldable pub paren_behind : List ℕ × Spot → Reader Spot
 paren_behind op [] = Err EndOfText
-paren_behind op (t ∷ ts) = if same_kind OpenParen t.kind then Ok (t.spot, ts) else Err (refusal_behind (statement_word op.0) op.1 t)
+paren_behind op (t ∷ ts) =
+    if same_kind OpenParen t.kind then Ok (t.spot, ts) else Err (refusal_behind (statement_word op.0) op.1 t)
 
+-- reads the name and the parenthesis that begin a message, with the place of the name
 unfoldable pub named_opening_of : Reader (Option (List ℕ) × Spot)
 named_opening_of = chain placed_name_of (λ op. mapped (λ paren. (Some op.0, op.1)) (paren_behind op))
 
+-- reads the opening of a message, with the place of its first token
 unfoldable pub opening_of : Reader (Option (List ℕ) × Spot)
 opening_of = branch (same_kind Name) named_opening_of (mapped (λ spot. (None, spot)) (token_of OpenParen))
 
--- the names behind commas
+-- the names after commas
 abbrev pub more_names_of : Reader (List (List ℕ))
 more_names_of = repeated (same_kind Comma) (after (token_of Comma) name_of)
 
+-- reads names with commas between them
 unfoldable pub names_of : Reader (List (List ℕ))
 names_of = chain name_of (λ first. mapped (λ more. first ∷ more) more_names_of)
 
@@ -192,6 +211,7 @@ names_of = chain name_of (λ first. mapped (λ more. first ∷ more) more_names_
 abbrev pub message_from : Option (List ℕ) → List (List (List ℕ)) → Message
 message_from op sorts = record { op = op; payload = sorts }
 
+-- reads a message
 unfoldable pub message_of : Reader Statement
 message_of =
     mapped (λ x. tree.Message (record { op = x.0.0; payload = x.1.0 }) x.1.1.0 x.1.1.1 x.0.1)
@@ -202,31 +222,38 @@ message_of =
 abbrev pub more_blocks_of : Reader Block → Reader (List Block)
 more_blocks_of block = repeated (same_kind (Keyword words.Or)) (after (token_of (Keyword words.Or)) block)
 
+-- reads the blocks of a choice
 unfoldable pub blocks_of : Reader Block → Reader (List Block)
 blocks_of block = chain block (λ first. mapped (λ more. first ∷ more) (more_blocks_of block))
 
+-- reads a choice
 unfoldable pub choice_of : Reader Block → Reader Statement
 choice_of block =
     mapped (λ x. tree.Choice x.1.0 x.1.1 x.0)
     (both (token_of (Keyword words.Choice)) (after (token_of (Keyword words.At)) (both name_of (blocks_of block))))
 
+-- reads a recursion
 unfoldable pub recursion_of : Reader Block → Reader Statement
 recursion_of block =
     mapped (λ x. tree.Rec x.1.0 x.1.1.body x.0) (both (token_of (Keyword words.Rec)) (both name_of block))
 
+-- reads a `continue`
 unfoldable pub jump_of : Reader Statement
 jump_of =
     mapped (λ x. tree.Continue x.1 x.0) (both (token_of (Keyword words.Continue)) (before name_of (token_of Semicolon)))
 
+-- reads a `do`
 unfoldable pub call_of : Reader Statement
 call_of =
     mapped (λ x. tree.Do x.1.0 x.1.1 x.0)
-    (both (token_of (Keyword words.Do)) (both dotted_of (after (token_of OpenParen) (before names_of (after (token_of CloseParen) (token_of Semicolon))))))
+    (both (token_of (Keyword words.Do))
+    (both dotted_of (after (token_of OpenParen) (before names_of (after (token_of CloseParen) (token_of Semicolon))))))
 
 -- a message begins with its operator, or with its parenthesis
 abbrev pub begins_message : TokenKind → Bool
 begins_message kind = same_kind Name kind || same_kind OpenParen kind
 
+-- reads a statement
 unfoldable pub statement_of : Reader Block → Reader Statement
 statement_of block =
     branch (same_kind (Keyword words.Choice)) (choice_of block)
@@ -234,6 +261,7 @@ statement_of block =
     (branch (same_kind (Keyword words.Continue)) jump_of
     (branch (same_kind (Keyword words.Do)) call_of message_of)))
 
+-- a token of the kind begins a statement
 abbrev pub begins_statement : TokenKind → Bool
 begins_statement Name = true
 begins_statement OpenParen = true
@@ -243,6 +271,7 @@ begins_statement (Keyword words.Continue) = true
 begins_statement (Keyword words.Do) = true
 begins_statement _ = false
 
+-- reads the statements of a block
 unfoldable pub statements_of : Reader Block → Reader (List Statement)
 statements_of block = repeated begins_statement (statement_of block)
 
@@ -251,83 +280,105 @@ abbrev pub deep_fault : List Lexeme → ParseFault
 deep_fault [] = EndOfText
 deep_fault (t ∷ ts) = if same_kind OpenBrace t.kind then TooDeep t.spot else Unexpected t.spot
 
+-- reads a block, with this reader of inner blocks
 unfoldable pub opened_block_of : Reader Block → Reader Block
 opened_block_of inner =
-    mapped (λ x. record { body = x.1; spot = x.0 }) (both (token_of OpenBrace) (before (statements_of inner) (token_of CloseBrace)))
+    mapped (λ x. record { body = x.1; spot = x.0 })
+    (both (token_of OpenBrace) (before (statements_of inner) (token_of CloseBrace)))
 
--- a block of so many levels at most
+-- a block of at most this number of levels
 unfoldable pub block_of : ℕ → Reader Block
 block_of zero ts = Err (deep_fault ts)
 block_of (suc levels) ts = opened_block_of (block_of levels) ts
 
+-- reads the declaration of a role
 unfoldable pub role_of : Reader RoleDeclaration
 role_of = mapped (λ x. record { name = x.1; spot = x.0 }) (both (token_of (Keyword words.Role)) name_of)
 
+-- reads the declarations of roles after commas
 abbrev pub more_roles_of : Reader (List RoleDeclaration)
 more_roles_of = repeated (same_kind Comma) (after (token_of Comma) role_of)
 
+-- reads the declarations of roles with commas between them
 unfoldable pub roles_of : Reader (List RoleDeclaration)
 roles_of = chain role_of (λ first. mapped (λ more. first ∷ more) more_roles_of)
 
+-- reads the declaration of a protocol
 unfoldable pub protocol_of : ℕ → Reader ProtocolDeclaration
 protocol_of levels =
     mapped (λ x. record { name = x.1.0; roles = x.1.1.0; body = x.1.1.1.body; spot = x.0 })
-    (both (token_of (Keyword words.Global)) (after (token_of (Keyword words.Protocol)) (both name_of (after (token_of OpenParen)
+    (both (token_of (Keyword words.Global))
+    (after (token_of (Keyword words.Protocol)) (both name_of (after (token_of OpenParen)
     (both roles_of (after (token_of CloseParen) (block_of levels)))))))
 
--- what stands behind a type declaration's second text, and behind its brackets
+-- the end of a type declaration, after its second text
 abbrev pub type_name_of : Reader Spot
 type_name_of = after (token_of (Keyword words.As)) (after name_of (token_of Semicolon))
 
+-- the end of a type declaration, after its brackets
 abbrev pub type_source_of : Reader Spot
-type_source_of = after (token_of StringLiteral) (after (token_of (Keyword words.From)) (after (token_of StringLiteral) type_name_of))
+type_source_of =
+    after (token_of StringLiteral) (after (token_of (Keyword words.From)) (after (token_of StringLiteral) type_name_of))
 
+-- reads the declaration of a type
 unfoldable pub type_declaration_of : Reader Spot
 type_declaration_of =
-    after (token_of (Keyword words.«Type»)) (after (token_of OpenAngle) (after name_of (after (token_of CloseAngle) type_source_of)))
+    after (token_of (Keyword words.«Type»))
+    (after (token_of OpenAngle) (after name_of (after (token_of CloseAngle) type_source_of)))
 
+-- reads a declaration
 unfoldable pub declaration_of : ℕ → Reader (Option ProtocolDeclaration)
 declaration_of levels =
-    branch (same_kind (Keyword words.«Type»)) (mapped (λ spot. None) type_declaration_of) (mapped Some (protocol_of levels))
+    branch (same_kind (Keyword words.«Type»)) (mapped (λ spot. None) type_declaration_of)
+    (mapped Some (protocol_of levels))
 
+-- a token of the kind begins a declaration
 abbrev pub begins_declaration : TokenKind → Bool
 begins_declaration (Keyword words.«Type») = true
 begins_declaration (Keyword words.Global) = true
 begins_declaration _ = false
 
+-- reads declarations, and keeps the protocols
 unfoldable pub declarations_of : ℕ → Reader (List ProtocolDeclaration)
 declarations_of levels = mapped kept (repeated begins_declaration (declaration_of levels))
 
+-- reads the name that an import has after `as`, if any
 unfoldable pub known_as_of : Reader (Option (List ℕ))
-known_as_of = branch (same_kind (Keyword words.As)) (mapped Some (after (token_of (Keyword words.As)) name_of)) (none None)
+known_as_of =
+    branch (same_kind (Keyword words.As)) (mapped Some (after (token_of (Keyword words.As)) name_of)) (none None)
 
+-- reads an import
 unfoldable pub import_of : Reader Import
 import_of =
     mapped (λ x. record { «module» = x.1.0; known_as = x.1.1; spot = x.0 })
     (both (token_of (Keyword words.Import)) (both dotted_of (before known_as_of (token_of Semicolon))))
 
+-- reads imports
 unfoldable pub imports_of : Reader (List Import)
 imports_of = repeated (same_kind (Keyword words.Import)) import_of
 
+-- reads a module
 unfoldable pub module_of : ℕ → Reader ModuleTree
 module_of levels =
     mapped (λ x. record { name = x.0; imports = x.1.0; protocols = x.1.1 })
-    (after (token_of (Keyword words.Module)) (both dotted_of (after (token_of Semicolon) (both imports_of (declarations_of levels)))))
+    (after (token_of (Keyword words.Module))
+    (both dotted_of (after (token_of Semicolon) (both imports_of (declarations_of levels)))))
 
--- the fault at a token that stands behind the declarations
+-- the fault at a token after the declarations
 abbrev pub refusal : Option LeftOutWord → Lexeme → ParseFault
 refusal None t = Unexpected t.spot
 refusal (Some word) t = LeftOut word t.spot
 
--- all of the tokens
+-- the module, where no tokens are left
 abbrev pub at_end : ModuleTree × List Lexeme → Result ModuleTree ParseFault
 at_end (m, []) = Ok m
 at_end (m, t ∷ ts) = Err (refusal (left_out_declaration t) t)
 
+-- reads a module that all of the tokens spell
 unfoldable pub whole_of : ℕ → List Lexeme → Result ModuleTree ParseFault
 whole_of levels ts = module_of levels ts >>= at_end
 
--- What a function returned is what reading the whole gives, unless memory ran out.
+-- a function's result is the result of reading all tokens, unless memory was refused
 abbrev pub GivesAll : {A : Type 0} → Result A ParseFault → Result A ParseFault → Type 0
 GivesAll (Ok x) read = read ≡ Ok x
 GivesAll (Err e) read = Stops e read

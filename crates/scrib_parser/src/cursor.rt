@@ -1,4 +1,4 @@
-//! The tokens that are left to read.
+//! The parser's cursor: the tokens that are left to read.
 
 ghost use Rattle.std.specs.Prelude.{◌≡◌};
 ghost use Rattle.scrib_lexer.specs.Lexeme.{lexemes_of};
@@ -6,22 +6,22 @@ ghost use Rattle.scrib_parser.specs.LeftOut as left_out;
 ghost use Rattle.scrib_parser.specs.Reading.{left, Gives, begins, same_kind, begins_statement, begins_declaration, deep_fault, token_of, paren_behind, placed_name_of, name_of};
 
 use crate::fault::{LeftOutWord, ParseFault};
-use crate::messages::RecentMessages;
-use crate::names::RecentNames;
-use crate::sorts::RecentSorts;
+use crate::messages::MessageInterner;
+use crate::names::NameInterner;
+use crate::sorts::SortInterner;
 use crate::word::Word;
 use scrib_lexer::token::{Keyword, Token, TokenKind};
 use scrib_types::name::Name;
 use scrib_types::spot::Spot;
 use std::alloc::Global;
 
-/// The tokens that are left to read, and names, dotted names and messages that were read, to be shared.
+/// The tokens that are left to read, with the interners of the names, payload types and messages that were read.
 #[derive(Drop)]
 pub(crate) struct Cursor<'t, 'a> {
     pub(crate) rest: &'t [Token<'a>],
-    pub(crate) names: RecentNames,
-    pub(crate) sorts: RecentSorts<'a>,
-    pub(crate) messages: RecentMessages,
+    pub(crate) names: NameInterner,
+    pub(crate) sorts: SortInterner<'a>,
+    pub(crate) messages: MessageInterner,
 }
 
 impl<'t, 'a> Cursor<'t, 'a> {
@@ -52,7 +52,7 @@ impl<'t, 'a> Cursor<'t, 'a> {
         }
     }
 
-    /// Takes the next token, which has to be of this kind, and gives its place.
+    /// Takes the next token, which must be of this kind, and returns its place.
     #[tactic(auto, unfolding(crate::specs::Reading::token_of))]
     pub(crate) fn take(&mut self, kind: TokenKind) -> Result<Spot, ParseFault>
         ensures { Gives result (left self.new) (token_of kind (left self.old)) }
@@ -69,7 +69,7 @@ impl<'t, 'a> Cursor<'t, 'a> {
         }
     }
 
-    /// Takes the parenthesis behind a name that begins a statement.
+    /// Takes the parenthesis after a name that begins a statement.
     #[tactic(auto, unfolding(crate::specs::Reading::paren_behind))]
     pub(crate) fn take_paren(&mut self, op: &Name, spot: Spot) -> Result<Spot, ParseFault>
         ensures { Gives result (left self.new) (paren_behind (op.now, spot) (left self.old)) }
@@ -89,7 +89,7 @@ impl<'t, 'a> Cursor<'t, 'a> {
         }
     }
 
-    /// The fault where a block is to begin and no more level may be opened.
+    /// The fault where a block must begin and no more level may be opened.
     pub(crate) fn too_deep(&self) -> ParseFault
         ensures { result ≡ deep_fault (left self.now) }
     {
@@ -105,7 +105,7 @@ impl<'t, 'a> Cursor<'t, 'a> {
         }
     }
 
-    /// Takes the next token, which has to be a name, and gives its place too.
+    /// Takes the next token, which must be a name, and returns it with its place.
     #[tactic(auto, unfolding(crate::specs::Reading::placed_name_of))]
     pub(crate) fn placed_name(&mut self, alloc: Global) -> Result<(Name, Spot), ParseFault>
         ensures { Gives result (left self.new) (placed_name_of (left self.old)) }
@@ -124,7 +124,7 @@ impl<'t, 'a> Cursor<'t, 'a> {
         }
     }
 
-    /// Takes the next token, which has to be a name, and gives it as it stands in the text.
+    /// Takes the next token, which must be a name, and returns its bytes in the text.
     #[tactic(auto, unfolding(crate::specs::Reading::name_of, crate::specs::Reading::placed_name_of))]
     pub(crate) fn word(&mut self) -> Result<Word<'a>, ParseFault>
         ensures { Gives result (left self.new) (name_of (left self.old)) }
@@ -143,7 +143,7 @@ impl<'t, 'a> Cursor<'t, 'a> {
         }
     }
 
-    /// Takes the next token, which has to be a name.
+    /// Takes the next token, which must be a name, and returns it.
     #[tactic(auto, unfolding(crate::specs::Reading::name_of))]
     pub(crate) fn name(&mut self, alloc: Global) -> Result<Name, ParseFault>
         ensures { Gives result (left self.new) (name_of (left self.old)) }
@@ -153,7 +153,7 @@ impl<'t, 'a> Cursor<'t, 'a> {
     }
 }
 
-/// Whether the first of the tokens is of this kind.
+// Whether the first of the tokens is of this kind.
 fn first_is(tokens: &[Token], kind: TokenKind) -> bool
     ensures { result ≡ begins (same_kind kind) (lexemes_of tokens.now) }
 {
@@ -169,7 +169,7 @@ fn is_kind(a: TokenKind, b: TokenKind) -> bool
     a == b
 }
 
-/// Whether a token of this kind begins a statement.
+// Whether a token of this kind begins a statement.
 fn starts_statement(kind: TokenKind) -> bool
     ensures { result ≡ begins_statement kind }
 {
@@ -181,7 +181,7 @@ fn starts_statement(kind: TokenKind) -> bool
     }
 }
 
-/// Whether a token of this kind begins a declaration.
+// Whether a token of this kind begins a declaration.
 fn starts_declaration(kind: TokenKind) -> bool
     ensures { result ≡ begins_declaration kind }
 {
@@ -199,7 +199,7 @@ pub(crate) fn left_out_declaration(token: &Token) -> Option<LeftOutWord>
     }
 }
 
-/// The word of a left-out declaration that the name is.
+// The word of a left-out declaration that the name is.
 fn declaration_word(name: &[u8]) -> Option<LeftOutWord>
     ensures { result ≡ left_out.declaration_word name.now }
 {
@@ -216,7 +216,7 @@ fn declaration_word(name: &[u8]) -> Option<LeftOutWord>
     }
 }
 
-/// The word of a left-out statement that the name is.
+// The word of a left-out statement that the name is.
 fn statement_word(name: &[u8]) -> Option<LeftOutWord>
     ensures { result ≡ left_out.statement_word name.now }
 {

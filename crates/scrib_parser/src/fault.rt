@@ -7,7 +7,7 @@ use scrib_types::spot::Spot;
 use std::alloc::{AllocError, AllocFailed};
 use thiserror::Error;
 
-/// A word of the Scribble language whose form is no part of this grammar.
+/// A word of the Scribble language whose form this grammar leaves out.
 #[derive(Clone, Copy, Debug)]
 pub enum LeftOutWord {
     Local,
@@ -22,7 +22,7 @@ pub enum LeftOutWord {
 }
 
 impl LeftOutWord {
-    /// The word as it stands in a text.
+    /// The word's text.
     pub fn text(self) -> &'static str
         ensures { result.now ≡ left_out.spelling self }
     {
@@ -43,10 +43,10 @@ impl LeftOutWord {
 /// Why tokens are no module.
 #[derive(Debug, Drop, Error)]
 pub enum ParseFault {
-    /// The first token that, after the tokens before it, no module can have.
+    /// The first token that no module can have after the tokens before it.
     #[error("unexpected token")]
     Unexpected { at: Spot },
-    /// All tokens are the beginning of a module, and are no module.
+    /// The tokens are the beginning of a module, but no module.
     #[error("the text ends early")]
     EndOfText,
     /// A form of the language that is left out, by its word and the word's place.

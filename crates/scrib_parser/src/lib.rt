@@ -1,13 +1,13 @@
-//! Module trees: the grammar of module texts, over their tokens.
+//! Module trees, and the parser that reads them from tokens.
 #![tactic(auto)]
 
 mod cursor;
 pub mod fault;
+pub mod interner;
 mod messages;
 mod names;
 pub mod parse;
-mod places;
-pub mod recent;
+mod slots;
 mod sorts;
 pub mod tree;
 mod word;

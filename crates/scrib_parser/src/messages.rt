@@ -1,9 +1,9 @@
-//! Messages that texts had before, to be shared by those that are the same.
+//! The interner of messages: equal messages share their memory.
 
 ghost use Rattle.std.specs.Prelude.{◌≡◌, ◌↔◌, IsTrue, IfOk, []};
 ghost use Rattle.scrib_parser.specs.Reading.{message_from};
 
-use crate::places;
+use crate::slots;
 use scrib_types::message::{Message, Payload, operators_equal, sorts_equal};
 use scrib_types::name::{Dotted, Name};
 use scrib_types::shared_message::SharedMessage;
@@ -11,13 +11,14 @@ use std::alloc::{AllocError, Global};
 use std::marker::Model;
 use std::mem;
 
-/// Room for the types that most messages carry.
+// The initial capacity of a payload. Few messages carry more types.
 const FEW: usize = 2;
 
-/// The longest flat form of a message that is kept: a longer one would hold much memory after its text is gone.
-const MOST_KEPT_BYTES: usize = 256;
+// The longest flat form of a message that is kept, in bytes. A longer one would hold much memory after its text is
+// dropped.
+const MAX_KEPT_BYTES: usize = 256;
 
-/// The types of a payload that is read. Contracts see the list.
+/// The types of a payload. Contracts see the list.
 #[derive(Drop)]
 pub(crate) struct Sorts {
     list: Vec<Dotted>,
@@ -32,7 +33,7 @@ impl Model for Sorts {
 }
 
 impl Sorts {
-    /// These types.
+    /// The payload of these types.
     pub(crate) fn from_vec(list: Vec<Dotted>) -> Sorts
         ensures { result ≡ list.items }
     {
@@ -40,26 +41,26 @@ impl Sorts {
     }
 }
 
-/// Messages that texts had before, so that one that comes again is kept once, and takes no memory.
+/// A table of messages. A message that is interned again allocates nothing.
 #[derive(Drop)]
-pub(crate) struct RecentMessages {
-    places: Vec<Option<SharedMessage>>,
-    /// Room for the types of the next one.
+pub(crate) struct MessageInterner {
+    slots: Vec<Option<SharedMessage>>,
+    /// A spare vector for the types of the next message.
     room: Vec<Dotted>,
 }
 
-impl RecentMessages {
-    /// None yet, with so many places.
+impl MessageInterner {
+    /// An empty table with this number of slots.
     ///
     /// # Errors
-    /// `AllocError` where memory for the places is refused.
-    pub(crate) fn new(alloc: Global, count: usize) -> Result<RecentMessages, AllocError> {
-        let places = places::empty(alloc, count)?;
+    /// `AllocError` where memory for the slots is refused.
+    pub(crate) fn new(alloc: Global, count: usize) -> Result<MessageInterner, AllocError> {
+        let slots = slots::empty(alloc, count)?;
         let room = Vec::new(alloc);
-        Ok(RecentMessages { places, room })
+        Ok(MessageInterner { slots, room })
     }
 
-    /// An empty list of types, with the room of the last one that was shared.
+    /// An empty vector of types, with the capacity of the last payload that was found in the table.
     ///
     /// # Errors
     /// `AllocError` where memory for the list is refused.
@@ -74,11 +75,11 @@ impl RecentMessages {
         Ok(sorts)
     }
 
-    /// The message of the operator and the types, shared with one that is the same where that is kept.
+    /// The message of the operator and the types. It shares the memory of an equal one in the table.
     ///
     /// # Errors
-    /// `AllocError` where memory for the message is refused, or the count of those who share it can't rise.
-    pub(crate) fn share(
+    /// `AllocError` where memory for the message is refused, or its reference count can't rise.
+    pub(crate) fn intern(
         &mut self,
         alloc: Global,
         op: Option<Name>,
@@ -86,11 +87,11 @@ impl RecentMessages {
     ) -> Result<SharedMessage, AllocError>
         ensures { IfOk result (λ shared. shared ≡ message_from op sorts) }
     {
-        let at = places::place(hash_of(&op, &sorts.list), self.places.len());
-        if at >= self.places.len() {
+        let at = slots::slot_of(hash_of(&op, &sorts.list), self.slots.len());
+        if at >= self.slots.len() {
             return SharedMessage::new(alloc, message(op, sorts));
         }
-        if let Some(kept) = &self.places[at] {
+        if let Some(kept) = &self.slots[at] {
             if is_message(kept.get(), &op, &sorts.list) {
                 let shared = kept.copy()?;
                 self.room = sorts.list;
@@ -98,14 +99,14 @@ impl RecentMessages {
             }
         }
         let shared = SharedMessage::new(alloc, message(op, sorts))?;
-        if shared.flat().len() <= MOST_KEPT_BYTES {
-            self.places[at] = Some(shared.copy()?);
+        if shared.flat().len() <= MAX_KEPT_BYTES {
+            self.slots[at] = Some(shared.copy()?);
         }
         Ok(shared)
     }
 }
 
-/// The message of the operator and the types.
+// The message of the operator and the types.
 fn message(op: Option<Name>, sorts: Sorts) -> Message
     ensures { result ≡ message_from op sorts }
 {
@@ -113,21 +114,21 @@ fn message(op: Option<Name>, sorts: Sorts) -> Message
     Message { op, payload }
 }
 
-/// Whether the message is of this operator and these types.
+// Whether the message is of this operator and these types.
 fn is_message(message: &Message, op: &Option<Name>, sorts: &[Dotted]) -> bool
     ensures { IsTrue result ↔ (message.now ≡ message_from op.now sorts.now) }
 {
     operators_equal(&message.op, op) && sorts_equal(message.payload.as_slice(), sorts)
 }
 
-/// A number that different messages seldom share.
+// The message's hash.
 fn hash_of(op: &Option<Name>, sorts: &[Dotted]) -> u64 {
     let mut hash = match op {
-        Some(op) => places::hash_on(1, op.as_bytes()),
+        Some(op) => slots::hash_bytes(1, op.as_bytes()),
         None => 0,
     };
     for sort in sorts {
-        hash = places::hash_names(hash, sort.as_slice());
+        hash = slots::hash_names(hash, sort.as_slice());
     }
     hash
 }

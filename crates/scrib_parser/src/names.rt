@@ -1,53 +1,53 @@
-//! Names that texts had before, to be shared by those that are the same.
+//! The interner of names: equal names share their memory.
 
 ghost use Rattle.std.specs.Prelude.{◌≡◌, IsTrue, IfOk, Some, None, if◌then◌else◌};
 ghost use Rattle.scrib_types.specs.Names as names;
 
-use crate::places;
+use crate::slots;
 use crate::word::Word;
 use scrib_types::name::Name;
 use std::alloc::{AllocError, Global};
 
-/// A name that a text had before.
+// A name in the table.
 #[derive(Drop)]
-struct KnownName {
+struct InternedName {
     name: Name,
     ghost named: { IsTrue (names.is_name name) },
 }
 
-/// Names that texts had before, so that one that comes again takes no memory.
+/// A table of names. A name that is interned again allocates nothing.
 #[derive(Drop)]
-pub(crate) struct RecentNames {
-    places: Vec<Option<KnownName>>,
+pub(crate) struct NameInterner {
+    slots: Vec<Option<InternedName>>,
 }
 
-impl RecentNames {
-    /// None yet, with so many places.
+impl NameInterner {
+    /// An empty table with this number of slots.
     ///
     /// # Errors
-    /// `AllocError` where memory for the places is refused.
-    pub(crate) fn new(alloc: Global, count: usize) -> Result<RecentNames, AllocError> {
-        let places = places::empty(alloc, count)?;
-        Ok(RecentNames { places })
+    /// `AllocError` where memory for the slots is refused.
+    pub(crate) fn new(alloc: Global, count: usize) -> Result<NameInterner, AllocError> {
+        let slots = slots::empty(alloc, count)?;
+        Ok(NameInterner { slots })
     }
 
-    /// How many places there are.
+    /// The number of slots.
     pub(crate) fn count(&self) -> usize {
-        self.places.len()
+        self.slots.len()
     }
 
     /// The name that the bytes are, or `None` where they are no name.
     ///
     /// # Errors
-    /// `AllocError` where memory for the name is refused, or the count of those who share it can't rise.
+    /// `AllocError` where memory for the name is refused, or its reference count can't rise.
     pub(crate) fn name(&mut self, alloc: Global, bytes: &[u8]) -> Result<Option<Name>, AllocError>
         ensures { IfOk result (λ name. name ≡ (if names.is_name bytes.now then Some bytes.now else None)) }
     {
-        let at = places::place(places::hash_on(0, bytes), self.places.len());
-        if at >= self.places.len() {
+        let at = slots::slot_of(slots::hash_bytes(0, bytes), self.slots.len());
+        if at >= self.slots.len() {
             return Name::from_bytes(alloc, bytes);
         }
-        if let Some(kept) = &self.places[at] {
+        if let Some(kept) = &self.slots[at] {
             if kept.name.has_bytes(bytes) {
                 return Ok(Some(kept.name.copy()?));
             }
@@ -55,14 +55,14 @@ impl RecentNames {
         let Some(name) = Name::from_bytes(alloc, bytes)? else {
             return Ok(None);
         };
-        self.places[at] = Some(KnownName { name: name.copy()? });
+        self.slots[at] = Some(InternedName { name: name.copy()? });
         Ok(Some(name))
     }
 
     /// The names that the words are, in order.
     ///
     /// # Errors
-    /// `AllocError` where memory for them is refused, or the count of those who share a name can't rise.
+    /// `AllocError` where memory for them is refused, or a name's reference count can't rise.
     pub(crate) fn names(&mut self, alloc: Global, words: &[Word]) -> Result<Vec<Name>, AllocError>
         ensures { IfOk result (λ names. names.items ≡ words.now) }
     {
@@ -73,7 +73,7 @@ impl RecentNames {
         Ok(names)
     }
 
-    /// The name that the word is.
+    // The name that the word is.
     fn name_of_word(&mut self, alloc: Global, word: &Word) -> Result<Name, AllocError>
         ensures { IfOk result (λ name. name ≡ word.now) }
     {

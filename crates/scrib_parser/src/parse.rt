@@ -1,4 +1,4 @@
-//! The parser.
+//! The parser: a function for each nonterminal of the grammar.
 
 ghost use Rattle.std.specs.Prelude.{◌≡◌, IfOk, IfErr};
 ghost use Rattle.scrib_lexer.specs.Lexeme.{lexemes_of};
@@ -8,56 +8,60 @@ ghost use Rattle.scrib_parser.specs.Reading.{left, Gives, GivesAll};
 
 use crate::cursor::{Cursor, left_out_declaration};
 use crate::fault::ParseFault;
+use crate::interner::Interner;
 use crate::messages::Sorts;
-use crate::places;
-use crate::recent::Recent;
-use crate::sorts::RecentSorts;
+use crate::slots;
+use crate::sorts::SortInterner;
 use crate::tree::{Block, Import, ModuleTree, ProtocolDeclaration, RoleDeclaration, Statement};
 use crate::word::Word;
 use scrib_lexer::token::{Keyword, Token, TokenKind};
-use scrib_types::few::Few;
+use scrib_types::containers::Items;
 use scrib_types::name::{Dotted, Name};
-use scrib_types::plain::Items;
+use scrib_types::one_or_many::OneOrMany;
 use scrib_types::spot::Spot;
 use std::alloc::Global;
 
-/// The most levels of blocks, a protocol's own being the first.
+/// The most levels of nested blocks. A protocol's own block is the first level.
 pub const MAX_LEVELS: usize = 64;
 
-/// Room for the receivers that most statements have.
+// The initial capacity of a list of names. Few messages have more receivers.
 const FEW: usize = 2;
 
 /// The module that the tokens are. The tree keeps the text's order; a type declaration leaves nothing in it. Names and
-/// messages are shared with those of the texts before, where these are still known.
+/// messages share their memory with those in the interner.
 ///
 /// # Errors
-/// - `Unexpected` with the place of the first token that, after the tokens before it, no module can have.
-/// - `LeftOut` in its place where that token stands at the start of a declaration and is one of the words
-///   `local`, `sig`, `aux`, `explicit` and `from`, or directly behind one of the words `par`,
-///   `interruptible`, `connect` and `disconnect` at the start of a statement: with the word and its place.
+/// - `Unexpected` with the place of the first token that no module can have after the tokens before it.
+/// - `LeftOut` in place of `Unexpected` for a form that is left out, with its word and the word's place. Either the
+///   token is `local`, `sig`, `aux`, `explicit` or `from` at the start of a declaration. Or it directly follows `par`,
+///   `interruptible`, `connect` or `disconnect` at the start of a statement.
 /// - `TooDeep` with the place of the brace that opens a 65th level of blocks.
-/// - `EndOfText` where all tokens are the beginning of a module, and are no module.
+/// - `EndOfText` where the tokens are the beginning of a module, but no module.
 /// - `OutOfMemory` where memory for the tree, or for reading it, is refused.
-pub fn parse(alloc: Global, tokens: &[Token], recent: &mut Recent) -> Result<ModuleTree, ParseFault>
-    // What is parsed is spelled so.
+pub fn parse(
+    alloc: Global,
+    tokens: &[Token],
+    interner: &mut Interner,
+) -> Result<ModuleTree, ParseFault>
+    // The tokens spell the returned tree.
     ensures found { IfOk result (λ m. IsModule (lexemes_of tokens.now) m) }
-    // What is spelled so is parsed, unless memory runs out: the tree is the grammar's one tree.
+    // A tree that the tokens spell is returned, unless memory is refused: the tokens spell at most one tree.
     ensures only { (m : ModuleTree) → IsModule (lexemes_of tokens.now) m → ParseGives result m }
-    // The fault is the first one.
+    // The fault is the leftmost one.
     ensures fault { IfErr result (λ e. IsFaultOf (lexemes_of tokens.now) e) }
 {
-    whole(alloc, tokens, recent)
+    whole(alloc, tokens, interner)
 }
 
-fn whole(alloc: Global, tokens: &[Token], recent: &mut Recent) -> Result<ModuleTree, ParseFault>
+fn whole(alloc: Global, tokens: &[Token], interner: &mut Interner) -> Result<ModuleTree, ParseFault>
     ensures { GivesAll result (reading.whole_of 64 (lexemes_of tokens.now)) }
 {
-    let count = places::count_for(tokens.len());
-    let (names, messages) = recent.take(alloc, count)?;
+    let count = slots::count_for(tokens.len());
+    let (names, messages) = interner.take(alloc, count)?;
     let mut tokens = Cursor {
         rest: tokens,
         names,
-        sorts: RecentSorts::new(alloc, count)?,
+        sorts: SortInterner::new(alloc, count)?,
         messages,
     };
     let tree = whole_tree(alloc, &mut tokens);
@@ -66,7 +70,7 @@ fn whole(alloc: Global, tokens: &[Token], recent: &mut Recent) -> Result<ModuleT
         messages,
         ..
     } = tokens;
-    recent.give_back(names, messages);
+    interner.give_back(names, messages);
     tree
 }
 
@@ -88,7 +92,7 @@ fn whole_tree(alloc: Global, tokens: &mut Cursor) -> Result<ModuleTree, ParseFau
     }
 }
 
-/// `"module" dotted ";" { import } { decl }`
+// `"module" dotted ";" { import } { decl }`
 #[tactic(auto, unfolding(crate::specs::Reading::module_of))]
 fn module_tree(alloc: Global, levels: usize, tokens: &mut Cursor) -> Result<ModuleTree, ParseFault>
     ensures { Gives result (left tokens.new) (reading.module_of levels (left tokens.old)) }
@@ -105,7 +109,7 @@ fn module_tree(alloc: Global, levels: usize, tokens: &mut Cursor) -> Result<Modu
     })
 }
 
-/// `{ import }`
+// `{ import }`
 fn imports(alloc: Global, tokens: &mut Cursor) -> Result<Items<Import>, ParseFault>
     ensures { Gives result (left tokens.new) (reading.imports_of (left tokens.old)) }
 {
@@ -116,7 +120,7 @@ fn imports(alloc: Global, tokens: &mut Cursor) -> Result<Items<Import>, ParseFau
     Ok(fitted(imports))
 }
 
-/// `"import" dotted [ "as" name ] ";"`
+// `"import" dotted [ "as" name ] ";"`
 #[tactic(auto, unfolding(crate::specs::Reading::import_of))]
 fn import(alloc: Global, tokens: &mut Cursor) -> Result<Import, ParseFault>
     ensures { Gives result (left tokens.new) (reading.import_of (left tokens.old)) }
@@ -132,7 +136,7 @@ fn import(alloc: Global, tokens: &mut Cursor) -> Result<Import, ParseFault>
     })
 }
 
-/// `[ "as" name ]`
+// `[ "as" name ]`
 #[tactic(auto, unfolding(crate::specs::Reading::known_as_of))]
 fn known_as(alloc: Global, tokens: &mut Cursor) -> Result<Option<Name>, ParseFault>
     ensures { Gives result (left tokens.new) (reading.known_as_of (left tokens.old)) }
@@ -145,7 +149,7 @@ fn known_as(alloc: Global, tokens: &mut Cursor) -> Result<Option<Name>, ParseFau
     }
 }
 
-/// `{ decl }`
+// `{ decl }`
 fn declarations(
     alloc: Global,
     levels: usize,
@@ -163,7 +167,7 @@ fn declarations(
     Ok(fitted(protocols))
 }
 
-/// `typedecl | protocol`
+// `typedecl | protocol`
 #[tactic(auto, unfolding(crate::specs::Reading::declaration_of))]
 fn declaration(
     alloc: Global,
@@ -180,7 +184,7 @@ fn declaration(
     }
 }
 
-/// `"type" "<" name ">" string "from" string "as" name ";"`
+// `"type" "<" name ">" string "from" string "as" name ";"`
 #[tactic(auto, unfolding(crate::specs::Reading::type_declaration_of))]
 fn type_declaration(alloc: Global, tokens: &mut Cursor) -> Result<Spot, ParseFault>
     ensures { Gives result (left tokens.new) (reading.type_declaration_of (left tokens.old)) }
@@ -197,7 +201,7 @@ fn type_declaration(alloc: Global, tokens: &mut Cursor) -> Result<Spot, ParseFau
     tokens.take(TokenKind::Semicolon)
 }
 
-/// `"global" "protocol" name "(" role { "," role } ")" block`
+// `"global" "protocol" name "(" role { "," role } ")" block`
 #[tactic(auto, unfolding(crate::specs::Reading::protocol_of))]
 fn protocol(
     alloc: Global,
@@ -221,7 +225,7 @@ fn protocol(
     })
 }
 
-/// `role { "," role }`
+// `role { "," role }`
 #[tactic(auto, unfolding(crate::specs::Reading::roles_of))]
 fn roles(alloc: Global, tokens: &mut Cursor) -> Result<Items<RoleDeclaration>, ParseFault>
     ensures { Gives result (left tokens.new) (reading.roles_of (left tokens.old)) }
@@ -235,7 +239,7 @@ fn roles(alloc: Global, tokens: &mut Cursor) -> Result<Items<RoleDeclaration>, P
     Ok(fitted(roles))
 }
 
-/// `"role" name`
+// `"role" name`
 #[tactic(auto, unfolding(crate::specs::Reading::role_of))]
 fn role(alloc: Global, tokens: &mut Cursor) -> Result<RoleDeclaration, ParseFault>
     ensures { Gives result (left tokens.new) (reading.role_of (left tokens.old)) }
@@ -245,7 +249,7 @@ fn role(alloc: Global, tokens: &mut Cursor) -> Result<RoleDeclaration, ParseFaul
     Ok(RoleDeclaration { name, spot })
 }
 
-/// A block with so many levels of blocks at most, its own the first.
+// A block with at most this number of levels of blocks, its own the first.
 #[cycle(blocks)]
 fn block(alloc: Global, levels: usize, tokens: &mut Cursor) -> Result<Block, ParseFault>
     ensures { Gives result (left tokens.new) (reading.block_of levels (left tokens.old)) }
@@ -256,7 +260,7 @@ fn block(alloc: Global, levels: usize, tokens: &mut Cursor) -> Result<Block, Par
     opened_block(alloc, levels - 1, tokens)
 }
 
-/// `"{" { statement } "}"`, with so many levels of blocks in each statement at most.
+// `"{" { statement } "}"`, with at most this number of levels of blocks in each statement.
 #[cycle(blocks)]
 #[tactic(auto, unfolding(crate::specs::Reading::opened_block_of))]
 fn opened_block(alloc: Global, levels: usize, tokens: &mut Cursor) -> Result<Block, ParseFault>
@@ -268,7 +272,7 @@ fn opened_block(alloc: Global, levels: usize, tokens: &mut Cursor) -> Result<Blo
     Ok(Block { body, spot })
 }
 
-/// `{ statement }`, with so many levels of blocks in each at most.
+// `{ statement }`, with at most this number of levels of blocks in each.
 #[cycle(blocks)]
 fn statements(
     alloc: Global,
@@ -284,7 +288,7 @@ fn statements(
     Ok(fitted(statements))
 }
 
-/// `message | choice | rec | continue | do`
+// `message | choice | rec | continue | do`
 #[cycle(blocks)]
 #[tactic(auto, unfolding(crate::specs::Reading::statement_of))]
 fn statement(alloc: Global, levels: usize, tokens: &mut Cursor) -> Result<Statement, ParseFault>
@@ -303,7 +307,7 @@ fn statement(alloc: Global, levels: usize, tokens: &mut Cursor) -> Result<Statem
     }
 }
 
-/// `"choice" "at" name block { "or" block }`
+// `"choice" "at" name block { "or" block }`
 #[cycle(blocks)]
 #[tactic(auto, unfolding(crate::specs::Reading::choice_of))]
 fn choice(alloc: Global, levels: usize, tokens: &mut Cursor) -> Result<Statement, ParseFault>
@@ -316,7 +320,7 @@ fn choice(alloc: Global, levels: usize, tokens: &mut Cursor) -> Result<Statement
     Ok(Statement::Choice { at, branches, spot })
 }
 
-/// `block { "or" block }`
+// `block { "or" block }`
 #[cycle(blocks)]
 #[tactic(auto, unfolding(crate::specs::Reading::blocks_of))]
 fn blocks(alloc: Global, levels: usize, tokens: &mut Cursor) -> Result<Items<Block>, ParseFault>
@@ -331,7 +335,7 @@ fn blocks(alloc: Global, levels: usize, tokens: &mut Cursor) -> Result<Items<Blo
     Ok(fitted(blocks))
 }
 
-/// `"rec" name block`
+// `"rec" name block`
 #[cycle(blocks)]
 #[tactic(auto, unfolding(crate::specs::Reading::recursion_of))]
 fn recursion(alloc: Global, levels: usize, tokens: &mut Cursor) -> Result<Statement, ParseFault>
@@ -343,7 +347,7 @@ fn recursion(alloc: Global, levels: usize, tokens: &mut Cursor) -> Result<Statem
     Ok(Statement::Rec { name, body, spot })
 }
 
-/// `"continue" name ";"`
+// `"continue" name ";"`
 #[tactic(auto, unfolding(crate::specs::Reading::jump_of))]
 fn jump(alloc: Global, tokens: &mut Cursor) -> Result<Statement, ParseFault>
     ensures { Gives result (left tokens.new) (reading.jump_of (left tokens.old)) }
@@ -354,7 +358,7 @@ fn jump(alloc: Global, tokens: &mut Cursor) -> Result<Statement, ParseFault>
     Ok(Statement::Continue { name, spot })
 }
 
-/// `"do" dotted "(" name { "," name } ")" ";"`
+// `"do" dotted "(" name { "," name } ")" ";"`
 #[tactic(auto, unfolding(crate::specs::Reading::call_of))]
 fn call(alloc: Global, tokens: &mut Cursor) -> Result<Statement, ParseFault>
     ensures { Gives result (left tokens.new) (reading.call_of (left tokens.old)) }
@@ -372,7 +376,7 @@ fn call(alloc: Global, tokens: &mut Cursor) -> Result<Statement, ParseFault>
     })
 }
 
-/// `[ name ] "(" [ element { "," element } ] ")" "from" name "to" name { "," name } ";"`
+// `[ name ] "(" [ element { "," element } ] ")" "from" name "to" name { "," name } ";"`
 #[tactic(auto, unfolding(crate::specs::Reading::message_of))]
 fn message(alloc: Global, tokens: &mut Cursor) -> Result<Statement, ParseFault>
     ensures { Gives result (left tokens.new) (reading.message_of (left tokens.old)) }
@@ -385,7 +389,7 @@ fn message(alloc: Global, tokens: &mut Cursor) -> Result<Statement, ParseFault>
     tokens.take(TokenKind::Keyword(Keyword::To))?;
     let to = names(alloc, tokens)?;
     tokens.take(TokenKind::Semicolon)?;
-    let message = tokens.messages.share(alloc, op, payload)?;
+    let message = tokens.messages.intern(alloc, op, payload)?;
     Ok(Statement::Message {
         message,
         from,
@@ -394,14 +398,14 @@ fn message(alloc: Global, tokens: &mut Cursor) -> Result<Statement, ParseFault>
     })
 }
 
-/// `name { "," name }`
+// `name { "," name }`
 #[tactic(auto, unfolding(crate::specs::Reading::names_of))]
-fn names(alloc: Global, tokens: &mut Cursor) -> Result<Few<Name>, ParseFault>
+fn names(alloc: Global, tokens: &mut Cursor) -> Result<OneOrMany<Name>, ParseFault>
     ensures { Gives result (left tokens.new) (reading.names_of (left tokens.old)) }
 {
     let first = tokens.name(alloc)?;
     if !tokens.next_is(TokenKind::Comma) {
-        return Ok(Few::one(first));
+        return Ok(OneOrMany::one(first));
     }
     let mut names = Vec::with_capacity(alloc, FEW)?;
     names.push(first)?;
@@ -409,10 +413,10 @@ fn names(alloc: Global, tokens: &mut Cursor) -> Result<Few<Name>, ParseFault>
         tokens.take(TokenKind::Comma)?;
         names.push(tokens.name(alloc)?)?;
     }
-    Ok(Few::from_vec(names))
+    Ok(OneOrMany::from_vec(names))
 }
 
-/// `[ name ] "("`, with the place of the first token.
+// `[ name ] "("`, with the place of the first token.
 #[tactic(auto, unfolding(crate::specs::Reading::opening_of))]
 fn opening(alloc: Global, tokens: &mut Cursor) -> Result<(Option<Name>, Spot), ParseFault>
     ensures { Gives result (left tokens.new) (reading.opening_of (left tokens.old)) }
@@ -425,7 +429,7 @@ fn opening(alloc: Global, tokens: &mut Cursor) -> Result<(Option<Name>, Spot), P
     }
 }
 
-/// `name "("`, with the place of the name.
+// `name "("`, with the place of the name.
 #[tactic(auto, unfolding(crate::specs::Reading::named_opening_of))]
 fn named_opening(alloc: Global, tokens: &mut Cursor) -> Result<(Option<Name>, Spot), ParseFault>
     ensures { Gives result (left tokens.new) (reading.named_opening_of (left tokens.old)) }
@@ -435,7 +439,7 @@ fn named_opening(alloc: Global, tokens: &mut Cursor) -> Result<(Option<Name>, Sp
     Ok((Some(op), spot))
 }
 
-/// `[ element { "," element } ]`
+// `[ element { "," element } ]`
 #[tactic(auto, unfolding(crate::specs::Reading::payload_of))]
 fn payload(alloc: Global, tokens: &mut Cursor) -> Result<Sorts, ParseFault>
     ensures { Gives result (left tokens.new) (reading.payload_of (left tokens.old)) }
@@ -447,7 +451,7 @@ fn payload(alloc: Global, tokens: &mut Cursor) -> Result<Sorts, ParseFault>
     }
 }
 
-/// `element { "," element }`
+// `element { "," element }`
 #[tactic(auto, unfolding(crate::specs::Reading::elements_of))]
 fn elements(alloc: Global, tokens: &mut Cursor) -> Result<Sorts, ParseFault>
     ensures { Gives result (left tokens.new) (reading.elements_of (left tokens.old)) }
@@ -461,7 +465,7 @@ fn elements(alloc: Global, tokens: &mut Cursor) -> Result<Sorts, ParseFault>
     Ok(Sorts::from_vec(sorts))
 }
 
-/// `[ name ":" ] dotted`, without the name before the colon.
+// `[ name ":" ] dotted`, without the name before the colon.
 #[tactic(auto, unfolding(crate::specs::Reading::element_of))]
 fn element(alloc: Global, tokens: &mut Cursor) -> Result<Dotted, ParseFault>
     ensures { Gives result (left tokens.new) (reading.element_of (left tokens.old)) }
@@ -475,7 +479,7 @@ fn element(alloc: Global, tokens: &mut Cursor) -> Result<Dotted, ParseFault>
     }
 }
 
-/// `name { "." name }`
+// `name { "." name }`
 #[tactic(auto, unfolding(crate::specs::Reading::dotted_of))]
 fn dotted(alloc: Global, tokens: &mut Cursor) -> Result<Dotted, ParseFault>
     ensures { Gives result (left tokens.new) (reading.dotted_of (left tokens.old)) }
@@ -484,7 +488,7 @@ fn dotted(alloc: Global, tokens: &mut Cursor) -> Result<Dotted, ParseFault>
     dotted_from(alloc, first, tokens)
 }
 
-/// `{ "." name }`, behind the first name.
+// `{ "." name }`, after the first name.
 #[tactic(auto, unfolding(crate::specs::Reading::dotted_from))]
 fn dotted_from<'a>(
     alloc: Global,
@@ -499,10 +503,11 @@ fn dotted_from<'a>(
         tokens.take(TokenKind::Dot)?;
         words.push(tokens.word()?)?;
     }
-    Ok(tokens.sorts.share(alloc, &mut tokens.names, words)?)
+    Ok(tokens.sorts.intern(alloc, &mut tokens.names, words)?)
 }
 
-/// The list, which a tree keeps long: without spare room, where memory for the smaller list is given.
+// The list without spare capacity, since a tree keeps it long. Where memory for the smaller list is refused, the list
+// stays as it is.
 fn fitted<T>(items: Vec<T>) -> Items<T>
     ensures { result ≡ items.items }
 {

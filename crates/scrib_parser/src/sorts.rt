@@ -1,35 +1,34 @@
-//! Dotted names that a text had before, to be shared by those that are the same.
+//! The interner of payload types: equal dotted names share their memory.
 
 ghost use Rattle.std.specs.Prelude.{◌≡◌, ◌↔◌, ◌<◌, IfOk, IsTrue, [], length};
 
-use crate::names::RecentNames;
-use crate::places;
+use crate::names::NameInterner;
+use crate::slots;
 use crate::word::Word;
 use scrib_types::name::{Dotted, Name};
 use std::alloc::{AllocError, Global};
 use std::mem;
 
-/// Dotted names that a text had before, as the types of payloads, so that one that comes again is kept once, and none
-/// of its names is looked up.
+/// A table of dotted names, for the payload types of one text. For one that is interned again, no name is looked up.
 #[derive(Drop)]
-pub(crate) struct RecentSorts<'a> {
-    places: Vec<Option<Dotted>>,
-    /// Room for the words of the next one.
+pub(crate) struct SortInterner<'a> {
+    slots: Vec<Option<Dotted>>,
+    /// A spare vector for the words of the next dotted name.
     room: Vec<Word<'a>>,
 }
 
-impl<'a> RecentSorts<'a> {
-    /// None yet, with so many places.
+impl<'a> SortInterner<'a> {
+    /// An empty table with this number of slots.
     ///
     /// # Errors
-    /// `AllocError` where memory for the places is refused.
-    pub(crate) fn new(alloc: Global, count: usize) -> Result<RecentSorts<'a>, AllocError> {
-        let places = places::empty(alloc, count)?;
+    /// `AllocError` where memory for the slots is refused.
+    pub(crate) fn new(alloc: Global, count: usize) -> Result<SortInterner<'a>, AllocError> {
+        let slots = slots::empty(alloc, count)?;
         let room = Vec::new(alloc);
-        Ok(RecentSorts { places, room })
+        Ok(SortInterner { slots, room })
     }
 
-    /// An empty list, with the room of the last one that was shared.
+    /// An empty vector of words, with the capacity of the last one that was interned.
     pub(crate) fn room(&mut self, alloc: Global) -> Vec<Word<'a>>
         ensures { result.items ≡ [] }
     {
@@ -38,24 +37,24 @@ impl<'a> RecentSorts<'a> {
         words
     }
 
-    /// The dotted name of these words, shared with one that is the same where that is kept.
+    /// The dotted name of these words. It shares the memory of an equal one in the table.
     ///
     /// # Errors
-    /// `AllocError` where memory for it is refused, or the count of those who share it can't rise.
-    pub(crate) fn share(
+    /// `AllocError` where memory for it is refused, or its reference count can't rise.
+    pub(crate) fn intern(
         &mut self,
         alloc: Global,
-        names: &mut RecentNames,
+        names: &mut NameInterner,
         words: Vec<Word<'a>>,
     ) -> Result<Dotted, AllocError>
         requires { 0 < length words.items }
         ensures { IfOk result (λ shared. shared ≡ words.entry.items) }
     {
-        let at = places::place(hash_of(&words), self.places.len());
-        if at >= self.places.len() {
+        let at = slots::slot_of(hash_of(&words), self.slots.len());
+        if at >= self.slots.len() {
             return Dotted::from_vec(alloc, names.names(alloc, &words)?);
         }
-        if let Some(kept) = &self.places[at] {
+        if let Some(kept) = &self.slots[at] {
             if are_words(kept.as_slice(), &words) {
                 let shared = kept.copy()?;
                 self.room = words;
@@ -63,13 +62,13 @@ impl<'a> RecentSorts<'a> {
             }
         }
         let dotted = Dotted::from_vec(alloc, names.names(alloc, &words)?)?;
-        self.places[at] = Some(dotted.copy()?);
+        self.slots[at] = Some(dotted.copy()?);
         self.room = words;
         Ok(dotted)
     }
 }
 
-/// Whether the names are these words, in the same order.
+// Whether the names are these words, in the same order.
 fn are_words(names: &[Name], words: &[Word]) -> bool
     ensures { IsTrue result ↔ (names.now ≡ words.now) }
 {
@@ -84,11 +83,11 @@ fn are_words(names: &[Name], words: &[Word]) -> bool
     true
 }
 
-/// A number that different dotted names seldom share.
+// The hash of a dotted name.
 fn hash_of(words: &[Word]) -> u64 {
     let mut hash = 0;
     for word in words {
-        hash = places::hash_on(hash, word.as_bytes());
+        hash = slots::hash_bytes(hash, word.as_bytes());
     }
     hash
 }

@@ -1,8 +1,8 @@
 //! Module trees.
 
-use scrib_types::few::Few;
+use scrib_types::containers::Items;
 use scrib_types::name::{Dotted, Name, Role};
-use scrib_types::plain::Items;
+use scrib_types::one_or_many::OneOrMany;
 use scrib_types::shared_message::SharedMessage;
 use scrib_types::spot::Spot;
 
@@ -49,7 +49,7 @@ pub enum Statement {
     Message {
         message: SharedMessage,
         from: Role,
-        to: Few<Role>,
+        to: OneOrMany<Role>,
         spot: Spot,
     },
     /// A choice of a role between one or more blocks.
@@ -72,7 +72,7 @@ pub enum Statement {
     /// A call of a protocol, the part before the last dot naming an import, with its roles in order.
     Do {
         protocol: Dotted,
-        roles: Few<Role>,
+        roles: OneOrMany<Role>,
         spot: Spot,
     },
 }

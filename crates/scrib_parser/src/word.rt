@@ -1,4 +1,4 @@
-//! Names as they stand in a text.
+//! Names as bytes of a text.
 
 ghost use Rattle.std.specs.Prelude.{◌≡◌, IsTrue, Some, None, if◌then◌else◌};
 ghost use Rattle.scrib_types.specs.Names as names;
@@ -6,7 +6,7 @@ ghost use Rattle.scrib_types.specs.Names as names;
 use scrib_types::name::is_name;
 use std::marker::Model;
 
-/// A name as it stands in a text, of which no copy is kept. Contracts see its bytes.
+/// A name that borrows its bytes from the text. Contracts see the bytes.
 #[derive(Drop)]
 pub(crate) struct Word<'a> {
     bytes: &'a [u8],

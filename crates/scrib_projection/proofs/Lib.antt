@@ -1,5 +1,5 @@
-pub mod Alike
-pub mod Fitting
-pub mod Parts
-pub mod Seen
+pub mod EqualBranches
+pub mod AlternativeLemmas
+pub mod SurveyedTypes
+pub mod SurveyedBranches
 pub mod Texts

@@ -31,7 +31,7 @@ after_three x y z w a b c p q r = r ∙ ap (λ t. t ++ c) (after_two x y z a b p
 pub after_four : (x y z w v a b c d : List ℕ) → y ≡ x ++ a → z ≡ y ++ b → w ≡ z ++ c → v ≡ w ++ d → v ≡ x ++ ((a ++ b) ++ (c ++ d))
 after_four x y z w v a b c d p q r s = after_two x z v (a ++ b) (c ++ d) (after_two x y z a b p q) (after_two z w v c d r s)
 
--- whether a branch stands before the one at this place
+-- whether a branch precedes the one at this index
 abbrev pub is_later : ℕ → Bool
 is_later zero = false
 is_later (suc i) = true

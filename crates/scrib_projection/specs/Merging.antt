@@ -13,12 +13,12 @@ use Rattle.scrib_projection.specs.declared.merge.Merge.{Merge}
 use Rattle.scrib_projection.specs.declared.merge.Merge.TheVariants.{Empty, One, Differ, Undefined}
 use Rattle.scrib_projection.specs.Differences.{differ}
 
--- what one branch comes to alone
+-- the merge of one branch
 abbrev pub merge_of : Option Local → Merge
 merge_of None = Undefined
 merge_of (Some l) = One l
 
--- the one local type of these branches and the ones that follow
+-- the merge of these branches with the ones that follow
 abbrev pub merged_after : Profile → Merge → Option LocalBranches → Option LocalTree
 merged_after profile Empty rest = option_and_then (merged profile) rest
 merged_after profile (One l) None = None
@@ -39,7 +39,7 @@ abbrev pub and_choice : LocalBranches → Message → LocalTree → LocalBranche
 and_choice NoChoice m l = Choice m l NoChoice
 and_choice (Choice n k ls) m l = Choice n k (and_choice ls m l)
 
--- the alternatives with one more that fits them so
+-- the alternatives with one more, by how it fits
 abbrev pub fitted : Fit → Message → LocalTree → LocalBranches → Option LocalBranches
 fitted Known m l ls = Some ls
 fitted New m l ls = Some (and_choice ls m l)

@@ -1,4 +1,5 @@
--- The projections of a protocol on its roles, where receptions merge. What the plain merge projects is the same here.
+-- The projections of a protocol on its roles, under the reception profile. Where the plain profile has a projection, it
+-- is the same.
 use Rattle.std.specs.Prelude.{ℕ, Bool, true, false, ◌&&◌, List, [], ◌∷◌, Option, Some, None}
 use Rattle.scrib_types.specs.declared.local.Local.{Local}
 use Rattle.scrib_types.specs.declared.profile.Profile.TheVariants.{Reception}
@@ -7,7 +8,7 @@ use Rattle.scrib_types.specs.Trees.{GlobalTree, LocalTree}
 use Rattle.scrib_types.specs.Projection.{projection}
 use Rattle.scrib_types.specs.Same.{same_local}
 
--- there is a local type, and it is this one
+-- the local type is defined, and is this one
 abbrev pub is_this : Option LocalTree → LocalTree → Bool
 is_this None l = false
 is_this (Some k) l = same_local k l

@@ -15,8 +15,8 @@ abbrev pub braced : Bool → List ℕ → List ℕ
 braced true text = text
 braced false text = (123 ∷ text) ++ 125 ∷ []
 
--- The text of a type that stands in so many recursions: `end`, `Xn` where n recursions stand round its own,
--- `rec Xn.L`, `B!m.L`, `A?{m.L,n.K}`.
+-- The text of a type inside `depth` recursions: `end`, `Xn` where n recursions enclose the variable's own, `rec Xn.L`,
+-- `B!m.L`, `A?{m.L,n.K}`.
 abbrev mutual
   pub local_text : ℕ → LocalTree → List ℕ
   local_text depth LocalEnd = codes "end"

@@ -1,4 +1,4 @@
-//! The alternatives of receptions from one sender, taken together.
+//! The merge of the alternatives of receptions from one sender.
 
 ghost use Rattle.std.specs.Prelude.{◌≡◌, ◌&&◌, IfOk};
 ghost use Rattle.scrib_types.specs.LocalView.{local_of, local_branches};
@@ -7,29 +7,29 @@ ghost use Rattle.scrib_types.specs.Same.{same_operator, same_message, same_local
 ghost use Rattle.scrib_projection.specs.Merging.{fitted};
 ghost use Rattle.scrib_projection.specs.Surveys.{offered};
 
+use scrib_types::containers::Items;
 use scrib_types::local::Local;
 use scrib_types::name::Name;
-use scrib_types::plain::Items;
 use scrib_types::shared_message::SharedMessage;
 use std::alloc::{AllocError, Global};
 
-/// How a message and its continuation go with some alternatives.
+// How a message and its continuation fit the alternatives.
 #[derive(Drop)]
 enum Fit {
-    /// They are one of them.
+    /// They are one of the alternatives.
     Known,
-    /// None has the message's operator.
+    /// No alternative has the message's operator.
     New,
-    /// One has the operator, and another payload or continuation.
+    /// An alternative has the operator, and another payload or continuation.
     Clashing,
 }
 
-/// The alternatives and those of another reception, in the order in which they first stand there, or `None` where
-/// two have the same operator and aren't the same.
+/// The alternatives of two receptions, in the order of their first occurrence. `None` where two have the same operator
+/// and differ.
 ///
 /// # Errors
-/// `AllocError` where memory was refused.
-pub(crate) fn joined(
+/// `AllocError` where memory is refused.
+pub(crate) fn merged_alternatives(
     alloc: Global,
     known: Items<(SharedMessage, Local)>,
     more: &[(SharedMessage, Local)],
@@ -47,7 +47,7 @@ pub(crate) fn joined(
     Ok(Some(known))
 }
 
-/// The alternatives and one more, or `None` where one of them has its operator and isn't the same.
+// The alternatives and one more, or `None` where one of them has its operator and differs from it.
 fn with_alternative(
     alloc: Global,
     known: Items<(SharedMessage, Local)>,
@@ -69,9 +69,10 @@ fn with_alternative(
     }
 }
 
-/// How the message and its continuation fit the alternatives.
+// How the message and its continuation fit the alternatives.
 fn fit_of(known: &[(SharedMessage, Local)], message: &SharedMessage, local: &Local) -> Fit
-    ensures { fitted result message.now (local_of local.now) (local_branches known.now) ≡ with_alternative message.now (local_of local.now) (local_branches known.now) }
+    ensures { fitted result message.now (local_of local.now) (local_branches known.now)
+        ≡ with_alternative message.now (local_of local.now) (local_branches known.now) }
 {
     for (other, continuation) in known {
         if same_operator(&message.get().op, &other.get().op) {
@@ -90,7 +91,8 @@ fn same_alternative(
     other: &SharedMessage,
     continuation: &Local,
 ) -> bool
-    ensures { result ≡ (same_message message.now other.now && same_local (local_of local.now) (local_of continuation.now)) }
+    ensures { result ≡ (same_message message.now other.now
+        && same_local (local_of local.now) (local_of continuation.now)) }
 {
     same_message(message, other) && same(local, continuation)
 }

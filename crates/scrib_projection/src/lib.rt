@@ -1,9 +1,9 @@
-//! Local types: the projection of a global type on a role, and the printed text.
+//! The projection of a global type on a role, and the printed text of local types.
 #![tactic(auto)]
 
 mod alternatives;
-pub mod look;
 mod merge;
+pub mod project_role;
 pub mod projection;
 pub mod survey;
 pub mod text;

@@ -1,22 +1,22 @@
-//! The branches of a communication as a role sees them that has no part in it.
+//! The merge of a communication's branches, for a role that is neither its sender nor its receiver.
 
 ghost use Rattle.std.specs.Prelude.{◌≡◌, Option, Some, IfOk, option_map};
 ghost use Rattle.scrib_types.specs.declared.message.Message.{Message};
 ghost use Rattle.scrib_types.specs.Trees.{LocalBranches, NoChoice};
 ghost use Rattle.scrib_types.specs.LocalView.{local_of, local_branches};
-ghost use Rattle.scrib_types.specs.Projection.{joined_from, joined_receptions, merged_two, with_choice};
+ghost use Rattle.scrib_types.specs.Projection.{merged_from, merged_receptions, merged_two, with_choice};
 ghost use Rattle.scrib_types.specs.Same.{same_local};
 ghost use Rattle.scrib_projection.specs.Merging.{merged_after, differ_after};
 
-use crate::alternatives::{joined, same};
+use crate::alternatives::{merged_alternatives, same};
+use scrib_types::containers::Items;
 use scrib_types::local::Local;
 use scrib_types::name::Role;
-use scrib_types::plain::Items;
 use scrib_types::profile::Profile;
 use scrib_types::shared_message::SharedMessage;
 use std::alloc::{AllocError, Global};
 
-/// What some branches come to.
+/// The merge of some branches.
 #[derive(Drop)]
 pub enum Merge {
     /// There is no branch.
@@ -38,7 +38,7 @@ impl Merge {
     ghost use Rattle.scrib_types.specs.Projection.{with_choice};
     ghost use Rattle.scrib_projection.specs.Merging.{merge_of, merged_after, differ_after};
 
-    /// What one branch alone comes to, which has this projection, or none.
+    /// The merge of one branch, which has this projection, or none.
     pub fn of(branch: Option<Local>) -> Merge
         ensures { result ≡ merge_of branch }
     {
@@ -48,18 +48,20 @@ impl Merge {
         }
     }
 
-    /// What they come to with one branch more, which has this projection, or none.
+    /// The merge with one more branch, which has this projection, or none.
     ///
     /// # Errors
-    /// `AllocError` where memory was refused.
+    /// `AllocError` where memory is refused.
     pub fn with(
         self,
         alloc: Global,
         profile: Profile,
         branch: Option<Local>,
     ) -> Result<Merge, AllocError>
-        ensures merged { IfOk result (λ now. (m : Message) (rest : Option LocalBranches) → merged_after profile now rest ≡ merged_after profile self (with_choice m (option_map local_of branch) rest)) }
-        ensures differ { IfOk result (λ now. (m : Message) (rest : Option LocalBranches) → differ_after profile now rest ≡ differ_after profile self (with_choice m (option_map local_of branch) rest)) }
+        ensures merged { IfOk result (λ now. (m : Message) (rest : Option LocalBranches) → merged_after profile now rest
+            ≡ merged_after profile self (with_choice m (option_map local_of branch) rest)) }
+        ensures differ { IfOk result (λ now. (m : Message) (rest : Option LocalBranches) → differ_after profile now rest
+            ≡ differ_after profile self (with_choice m (option_map local_of branch) rest)) }
     {
         match (self, branch) {
             (Merge::Undefined, _) | (_, None) => Ok(Merge::Undefined),
@@ -93,7 +95,7 @@ impl Merge {
     }
 }
 
-/// What two branches come to, if they merge.
+// The merge of two branches, if they merge.
 fn merged_two(
     alloc: Global,
     profile: Profile,
@@ -107,37 +109,38 @@ fn merged_two(
     }
     match profile {
         Profile::Plain => Ok(None),
-        Profile::Reception => joined_receptions(alloc, first, second),
+        Profile::Reception => merged_receptions(alloc, first, second),
     }
 }
 
-/// Two receptions from the same sender as one, if they go together.
+// The merge of two receptions from the same sender, if their alternatives fit.
 #[tactic(auto, using(scrib_types::specs::LocalView::local_views))]
-fn joined_receptions(
+fn merged_receptions(
     alloc: Global,
     first: Local,
     second: &Local,
 ) -> Result<Option<Local>, AllocError>
-    ensures { IfOk result (λ o. option_map local_of o ≡ joined_receptions (local_of first) (local_of second.now)) }
+    ensures { IfOk result (λ o. option_map local_of o ≡ merged_receptions (local_of first) (local_of second.now)) }
 {
     match first {
         Local::Recv { from, branches } => {
-            let joined = joined_from(alloc, from, branches, second)?;
-            Ok(joined)
+            let merged = merged_from(alloc, from, branches, second)?;
+            Ok(merged)
         }
         Local::End | Local::Var(_) | Local::Rec(_) | Local::Send { .. } => Ok(None),
     }
 }
 
-/// A reception from this role with these alternatives, and another one from it, as one.
+// The merge of a reception from this role, with these alternatives, and another type.
 #[tactic(auto, using(scrib_types::specs::LocalView::local_views))]
-fn joined_from(
+fn merged_from(
     alloc: Global,
     from: Role,
     branches: Items<(SharedMessage, Local)>,
     second: &Local,
 ) -> Result<Option<Local>, AllocError>
-    ensures { IfOk result (λ o. option_map local_of o ≡ joined_from from (local_branches branches) (local_of second.now)) }
+    ensures { IfOk result (λ o. option_map local_of o
+        ≡ merged_from from (local_branches branches) (local_of second.now)) }
 {
     match second {
         Local::Recv {
@@ -147,8 +150,8 @@ fn joined_from(
             if !from.equal(sender) {
                 return Ok(None);
             }
-            let joined = joined(alloc, branches, more.as_slice())?;
-            match joined {
+            let merged = merged_alternatives(alloc, branches, more.as_slice())?;
+            match merged {
                 Some(branches) => Ok(Some(Local::Recv { from, branches })),
                 None => Ok(None),
             }

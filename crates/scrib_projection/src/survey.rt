@@ -1,63 +1,64 @@
-//! What one pass finds in a type for a role, beside the projection.
+//! The facts that the pass of a projection collects beside it.
 
 ghost use Rattle.std.specs.Prelude.{◌≡◌, ◌-◌, ◌&&◌, ◌||◌, ◌+◌, ◌==◌, false, not, max, Some, None, option_map, if◌then◌else◌};
 ghost use Rattle.std.specs.Option.{option_or};
 ghost use Rattle.scrib_projection.specs.Surveys.{capped};
 
-/// What one pass finds in a type, or in the branches of a communication, for a role.
+/// The survey of a type, or of the branches of a communication, for a role.
 #[derive(Clone, Copy, Drop)]
 pub struct Survey {
-    /// How many recursions round the type would bind all its variables.
+    /// The number of enclosing recursions that would bind all its variables.
     pub depth: u64,
     /// Whether the role sends or receives somewhere in it.
     pub occurs: bool,
-    /// How many of its communications have several branches, or the greatest number where there are more.
-    pub joins: usize,
-    /// The number of the first of those, from 0 in post-order, whose branches differ for the role.
+    /// The number of its communications with several branches, at most the greatest `usize`.
+    pub choice_count: usize,
+    /// The number of the first of those, from 0 in post-order, whose branches don't merge for the role.
     pub first: Option<usize>,
 }
 
 impl Survey {
-    /// What is found where there is no communication.
+    /// The survey of a type without communications.
     pub(crate) fn leaf(depth: u64) -> Survey
         ensures depth { result.depth ≡ depth }
         ensures occurs { result.occurs ≡ false }
-        ensures joins { result.joins ≡ 0 }
+        ensures choice_count { result.choice_count ≡ 0 }
         ensures first { result.first ≡ None }
     {
         Survey {
             depth,
             occurs: false,
-            joins: 0,
+            choice_count: 0,
             first: None,
         }
     }
 
-    /// What is found in these branches and one more, after them.
+    /// The survey of these branches and one more, after them.
     pub(crate) fn with_branch(self, branch: Survey) -> Survey
         ensures depth { result.depth ≡ max self.depth branch.depth }
         ensures occurs { result.occurs ≡ (self.occurs || branch.occurs) }
-        ensures joins { result.joins ≡ capped (self.joins + branch.joins) }
-        ensures first { result.first ≡ option_or self.first (option_map (λ k. capped (self.joins + k)) branch.first) }
+        ensures choice_count { result.choice_count ≡ capped (self.choice_count + branch.choice_count) }
+        ensures first { result.first ≡ option_or self.first
+            (option_map (λ k. capped (self.choice_count + k)) branch.first) }
     {
         let later = match branch.first {
-            Some(k) => Some(self.joins.saturating_add(k)),
+            Some(k) => Some(self.choice_count.saturating_add(k)),
             None => None,
         };
         Survey {
             depth: self.depth.max(branch.depth),
             occurs: self.occurs || branch.occurs,
-            joins: self.joins.saturating_add(branch.joins),
+            choice_count: self.choice_count.saturating_add(branch.choice_count),
             first: self.first.or(later),
         }
     }
 
-    /// What is found in the recursion of a type with this survey. Where it is closed and the role doesn't
-    /// occur in it, it isn't visited.
+    /// The survey of the recursion of a type with this survey. A closed recursion in which the role doesn't occur isn't
+    /// visited.
     pub(crate) fn recursion(self) -> Survey
         ensures depth { result.depth ≡ self.depth - 1 }
         ensures occurs { result.occurs ≡ self.occurs }
-        ensures joins { result.joins ≡ self.joins }
+        ensures choice_count { result.choice_count ≡ self.choice_count }
         ensures first { result.first ≡ (if (self.depth - 1 == 0) && not self.occurs then None else self.first) }
     {
         let depth = self.depth.saturating_sub(1);
@@ -69,24 +70,28 @@ impl Survey {
         Survey {
             depth,
             occurs: self.occurs,
-            joins: self.joins,
+            choice_count: self.choice_count,
             first,
         }
     }
 
-    /// What is found in a communication whose branches have this survey: whether the role is a part of it,
-    /// whether there are several branches, and whether they differ for the role.
+    /// The survey of a communication whose branches have this survey. `is_part`: the role is its sender or receiver.
+    /// `several`: it has more than one branch. `differ`: the branches don't merge for the role.
     pub(crate) fn communication(self, is_part: bool, several: bool, differ: bool) -> Survey
         ensures depth { result.depth ≡ self.depth }
         ensures occurs { result.occurs ≡ (is_part || self.occurs) }
-        ensures joins { result.joins ≡ capped (self.joins + (if several then 1 else 0)) }
-        ensures first { result.first ≡ option_or self.first (if differ then Some self.joins else None) }
+        ensures choice_count { result.choice_count ≡ capped (self.choice_count + (if several then 1 else 0)) }
+        ensures first { result.first ≡ option_or self.first (if differ then Some self.choice_count else None) }
     {
-        let here = if differ { Some(self.joins) } else { None };
+        let here = if differ {
+            Some(self.choice_count)
+        } else {
+            None
+        };
         Survey {
             depth: self.depth,
             occurs: is_part || self.occurs,
-            joins: self.joins.saturating_add(usize::from(several)),
+            choice_count: self.choice_count.saturating_add(usize::from(several)),
             first: self.first.or(here),
         }
     }

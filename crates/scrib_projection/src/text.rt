@@ -10,11 +10,11 @@ use scrib_types::shared_message::SharedMessage;
 use scrib_types::text::{push_bytes, push_message, push_number};
 use std::alloc::{AllocError, Global};
 
-/// The local type's text, in ASCII: `end`; `Xn` for a variable, n the number of recursions round its
-/// own; `rec Xn.L`; `B!m.L` or `A?m.L` for one branch, and `B!{m.L,n.K}` or `A?{m.L,n.K}` for several.
+/// The local type's text, in ASCII: `end`; `Xn` for a variable, where n recursions enclose its own; `rec Xn.L`; `B!m.L`
+/// or `A?m.L` for one branch, and `B!{m.L,n.K}` or `A?{m.L,n.K}` for several.
 ///
 /// # Errors
-/// `AllocError` where memory was refused.
+/// `AllocError` where memory is refused.
 pub fn text(alloc: Global, local: &Local) -> Result<Vec<u8>, AllocError>
     ensures { IfOk result (λ written. written.items ≡ spec.local_text 0 (local_of local.now)) }
 {
@@ -23,7 +23,7 @@ pub fn text(alloc: Global, local: &Local) -> Result<Vec<u8>, AllocError>
     Ok(out)
 }
 
-// Adds the text of a type that stands in so many recursions, each of which has its byte in the text.
+// Adds the text of a type inside `depth` recursions.
 #[cycle(text)]
 #[tactic(auto, using(scrib_types::specs::LocalView::local_views))]
 fn push_local(out: &mut Vec<u8>, local: &Local, depth: u64) -> Result<(), AllocError>
@@ -71,7 +71,8 @@ fn push_braced(
 ) -> Result<(), AllocError>
     requires { depth ≤ length out.old.items }
     ensures { OnOk result (out.new.items ≡ out.old.items
-        ++ spec.braced (spec.is_one (local_branches branches.now)) (joined_by 44 (spec.branch_texts depth (local_branches branches.now)))) }
+        ++ spec.braced (spec.is_one (local_branches branches.now))
+        (joined_by 44 (spec.branch_texts depth (local_branches branches.now)))) }
 {
     if is_one(branches) {
         push_branches(out, branches, depth)?;
@@ -101,7 +102,8 @@ fn push_branches(
     depth: u64,
 ) -> Result<(), AllocError>
     requires { depth ≤ length out.old.items }
-    ensures { OnOk result (out.new.items ≡ out.old.items ++ joined_by 44 (spec.branch_texts depth (local_branches branches.now))) }
+    ensures { OnOk result (out.new.items ≡ out.old.items
+        ++ joined_by 44 (spec.branch_texts depth (local_branches branches.now))) }
 {
     for (i, (message, local)) in branches.iter().enumerate() {
         if i > 0 {

@@ -1,2 +1,2 @@
 pub mod Lookups
-pub mod Seen
+pub mod QueueViews

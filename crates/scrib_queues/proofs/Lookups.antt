@@ -1,4 +1,4 @@
--- Where the queue of a pair stands, and what a change of one queue leaves as it was.
+-- The look-up of a pair's queue, and the queues that a change of one queue leaves as they were.
 use Rattle.std.proofs.Common.{◌≡◌, ℕ, suc, zero, ◌+◌, ◌≤◌, ◌<◌, Bool, true, false, not, cond, List, [], ◌∷◌, ◌++◌, length, set, get_or, zip, position, Some, None, refl, sym, ap, ◌∙◌, arith, take}
 use Rattle.std.specs.List.{position_or_len}
 use Rattle.std.proofs.lemmas.Grind.{common_steps}
@@ -8,7 +8,7 @@ use Rattle.scrib_queues.specs.declared.queues.Pair.{Pair}
 use Rattle.scrib_queues.specs.Channels.{Channel, channel_in, is_pair, unused}
 use Rattle.scrib_queues.specs.Layout.{messages_of}
 
--- place i is the first at which the pair of p and q stands
+-- index i is the first of the pair of p and q
 abbrev pub IsFirst : ℕ → ℕ → List Pair → ℕ → Type 0
 IsFirst p q [] i = ⊥
 IsFirst p q (k ∷ ks) zero = is_pair p q k ≡ true
@@ -28,7 +28,7 @@ is_first p q ks i e =
 pub is_past : (p q : ℕ) (ks : List Pair) → position (is_pair p q) ks ≡ None → length ks ≤ position_or_len (is_pair p q) ks
 is_past p q ks e = grind (arith, common_steps)
 
--- the queue of a pair that stands nowhere
+-- the queue of a pair that isn't stored
 pub missing : (p q : ℕ) (ks : List Pair) (ls : List Channel) → length ks ≤ position_or_len (is_pair p q) ks → channel_in p q (zip ks ls) ≡ unused
 missing p q [] ls h = refl
 missing p q (k ∷ ks) [] h = refl
@@ -38,7 +38,7 @@ missing p q (k ∷ ks) (l ∷ ls) h = by (is_pair p q k) h (missing p q ks ls)
     by true h rest = absurd (omega arith)
     by false h rest = rest (omega arith)
 
--- the queue of a pair that stands at place i
+-- the queue of a pair at index i
 pub found : (p q : ℕ) (ks : List Pair) (ls : List Channel) (i : ℕ) (d : Channel) → IsFirst p q ks i → length ks ≡ length ls → channel_in p q (zip ks ls) ≡ get_or ls i d
 found p q [] ls i d f e = absurd f
 found p q (k ∷ ks) [] i d f e = absurd (omega arith)
@@ -63,7 +63,7 @@ changed_elsewhere p q from to (k ∷ ks) (l ∷ ls) zero c f differ = rw (other_
 changed_elsewhere p q from to (k ∷ ks) (l ∷ ls) (suc i) c f differ =
     ap (λ rest. cond (is_pair from to k) l rest) (changed_elsewhere p q from to ks ls i c f.1 differ)
 
--- a queue that is added, where its pair stood nowhere
+-- a queue that is added, where its pair wasn't stored
 pub added_here : (p q : ℕ) (ks : List Pair) (ls : List Channel) (k : Pair) (c : Channel) → length ks ≤ position_or_len (is_pair p q) ks → length ks ≡ length ls → is_pair p q k ≡ true → channel_in p q (zip (ks ++ k ∷ []) (ls ++ c ∷ [])) ≡ c
 added_here p q [] [] k c h e t = rw t refl
 added_here p q [] (l ∷ ls) k c h e t = absurd (omega arith)

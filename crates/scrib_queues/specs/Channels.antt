@@ -1,4 +1,4 @@
--- First-in-first-out queues, one for each ordered pair of roles, which stand by their positions. One queue is
+-- First-in-first-out queues, one for each ordered pair of roles, which are given by their positions. One queue is
 -- called a channel, as in communicating finite-state machines (Brand and Zafiropulo, JACM 1983).
 use Rattle.std.specs.Prelude.{◌≡◌, ◌==◌, ℕ, Bool, true, false, ◌&&◌, IsTrue, List, [], ◌∷◌, if◌then◌else◌}
 use Rattle.scrib_types.specs.declared.message.Message.{Message}
@@ -43,16 +43,17 @@ AllEmpty queues = (p q : ℕ) → queue_of queues p q ≡ []
 abbrev pub SameQueues : Channels → Channels → Type 0
 SameQueues old new = (p q : ℕ) → queue_of new p q ≡ queue_of old p q
 
--- where there was room, there is (this project's own)
+-- each queue with room keeps it (this project's own)
 abbrev pub KeepsRoom : Channels → Channels → Type 0
 KeepsRoom old new = (p q : ℕ) → IsTrue (has_room old p q) → IsTrue (has_room new p q)
 
 -- every other queue than the one from p to q has the messages and the room that it had (this project's own)
 abbrev pub SameElsewhere : ℕ → ℕ → Channels → Channels → Type 0
 SameElsewhere p q old new =
-    (from to : ℕ) → ¬ ((from ≡ p) × (to ≡ q)) → (queue_of new from to ≡ queue_of old from to) × (has_room new from to ≡ has_room old from to)
+    (from to : ℕ) → ¬ ((from ≡ p) × (to ≡ q))
+    → (queue_of new from to ≡ queue_of old from to) × (has_room new from to ≡ has_room old from to)
 
--- the oldest message was this one and is taken out; or it wasn't, and all wait as before (this project's own)
+-- the oldest message was this one and is taken out, or it was another and the queue is unchanged (this project's own)
 abbrev pub IsTaken : Message → Bool → List Message → List Message → Type 0
 IsTaken message true old new = old ≡ message ∷ new
 IsTaken message false old new = (new ≡ old) × ((rest : List Message) → old ≡ message ∷ rest → ⊥)

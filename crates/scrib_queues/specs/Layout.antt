@@ -1,9 +1,9 @@
--- Words of private contracts (this project's own).
+-- The stored form of queues (this project's own). Only contracts of private functions and views cite this file.
 use Rattle.std.specs.Prelude.{ℕ, Bool, true, false, List, [], ◌∷◌, map, nat_lt}
 use Rattle.std.specs.VecDeque.{deque_len, deque_capacity}
 use Rattle.scrib_types.specs.declared.message.Message.{Message}
-use Rattle.scrib_queues.specs.declared.lane.Kept.{Kept}
-use Rattle.scrib_queues.specs.declared.lane.Kept.TheVariants.{Nowhere, Here, Ring}
+use Rattle.scrib_queues.specs.declared.queue.Storage.{Storage}
+use Rattle.scrib_queues.specs.declared.queue.Storage.TheVariants.{Nowhere, Here, Ring}
 use Rattle.scrib_queues.specs.declared.queues.Pair.{Pair}
 use Rattle.scrib_queues.specs.Channels.{Channel}
 
@@ -11,7 +11,7 @@ use Rattle.scrib_queues.specs.Channels.{Channel}
 abbrev pub fresh : Channel
 fresh = record { messages = []; room = true }
 
--- what waits in each of the queues
+-- the messages of each queue
 abbrev pub messages_of : List Channel → List (List Message)
 messages_of queues = map (λ queue. queue.messages) queues
 
@@ -19,14 +19,14 @@ messages_of queues = map (λ queue. queue.messages) queues
 abbrev pub pair_of : ℕ → ℕ → Pair
 pair_of p q = record { from = p; to = q }
 
--- the messages that lie there, the oldest first
-abbrev pub messages_in : Kept → List Message
+-- the stored messages, the oldest first
+abbrev pub messages_in : Storage → List Message
 messages_in Nowhere = []
 messages_in (Here message) = message ∷ []
 messages_in (Ring ring) = ring.value.items
 
 -- whether there is room for one more
-abbrev pub room_in : Kept → Bool
+abbrev pub room_in : Storage → Bool
 room_in Nowhere = true
 room_in (Here message) = false
 room_in (Ring ring) = nat_lt (deque_len ring.value) (deque_capacity ring.value)

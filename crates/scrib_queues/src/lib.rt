@@ -1,5 +1,5 @@
 //! First-in-first-out queues of messages, one for each ordered pair of roles.
 #![tactic(auto)]
 
-mod lane;
+mod queue;
 pub mod queues;

@@ -1,35 +1,35 @@
-//! The queues of all pairs.
+//! The queues of all ordered pairs of roles.
 
 ghost use Rattle.std.specs.Prelude.{◌≡◌, ◌<◌, [], ◌∷◌, ◌++◌, false, IsTrue, IfOk, OnOk, OnErr, OnSome, MatchOption, drop, if◌then◌else◌, is_ok, length, position};
 ghost use Rattle.scrib_queues.specs.Channels.{AllEmpty, IsTaken, KeepsRoom, SameElsewhere, SameQueues, has_room, is_pair, queue_of};
 ghost use Rattle.scrib_queues.specs.Layout.{messages_of, pair_of};
 
-use crate::lane::Lane;
+use crate::queue::Queue;
 use scrib_types::shared_message::SharedMessage;
 use std::alloc::{AllocError, Global};
 use std::marker::Model;
 
-/// The positions of a sender and of a receiver. They have few bits, so that the pairs of a conversation, which are
-/// read at each of its events, lie on one cache line where there are at most sixteen.
+// The positions of a sender and of a receiver. With 16 bits for each, up to sixteen pairs fit on one cache line. A
+// conversation's pairs are read at each of its events.
 #[derive(Clone, Copy)]
 struct Pair {
     from: u16,
     to: u16,
 }
 
-/// A first-in-first-out queue of messages for each ordered pair of roles, which stand by their positions.
+/// A first-in-first-out queue of messages for each ordered pair of roles. A role is given by its position.
 ///
-/// Kept are the pairs that were ever sent on or reserved for, and beside them their queues. So a pair that isn't used
-/// takes no memory, where a table of all pairs would grow with the square of the number of roles, in each
-/// conversation. Finding a queue reads these pairs, which lie side by side, and no queue; a conversation uses few.
-/// How many messages are in flight matters to `clear` and `copy` alone, and to a `reserve` or `send` that has to grow
-/// a queue.
+/// It stores the pairs that were ever sent on or reserved for, and beside them their queues. A pair that isn't used
+/// takes no memory; a table of all pairs would grow with the square of the number of roles in each conversation.
+/// Finding a queue is a linear search of the pairs, which are contiguous and few. Only `clear` and `copy`, and a
+/// `reserve` or `send` that grows a queue, take time by the number of messages in flight.
+///
 /// Contracts see the number of roles and, of each pair, the messages and whether there is room for one more.
 #[derive(Drop)]
 pub struct Queues {
     roles: usize,
     pairs: Vec<Pair>,
-    lanes: Vec<Lane>,
+    queues: Vec<Queue>,
 }
 
 impl Model for Queues {
@@ -38,13 +38,13 @@ impl Model for Queues {
 
     ghost Value = { Channels };
 
-    ghost view = { λ queues. record { roles = queues.roles; used = zip queues.pairs.items queues.lanes.items } };
+    ghost view = { λ queues. record { roles = queues.roles; used = zip queues.pairs.items queues.queues.items } };
 
-    ghost invariant = { λ queues. length queues.pairs.items ≡ length queues.lanes.items };
+    ghost invariant = { λ queues. length queues.pairs.items ≡ length queues.queues.items };
 }
 
 impl Queues {
-    /// Empty queues between so many roles. Positions above 65,535 get no queue: `reserve` and `send` fail there.
+    /// Empty queues between this number of roles. Positions above 65,535 get no queue: `reserve` and `send` fail there.
     pub fn new(alloc: Global, roles: usize) -> Queues
         ensures roles { result.roles ≡ roles }
         ensures empty { AllEmpty result }
@@ -52,7 +52,7 @@ impl Queues {
         Queues {
             roles,
             pairs: Vec::new(alloc),
-            lanes: Vec::new(alloc),
+            queues: Vec::new(alloc),
         }
     }
 
@@ -66,8 +66,7 @@ impl Queues {
     /// Makes room for one `push` from `p` to `q`, and takes none away.
     ///
     /// # Errors
-    /// `AllocError` where memory is refused, or where a position is above 65,535, for which there is no room in a pair.
-    /// All messages stay.
+    /// `AllocError` where memory is refused, or where a position is above 65,535. All messages stay.
     pub fn reserve(&mut self, p: usize, q: usize) -> Result<(), AllocError>
         requires sender { p < self.old.roles }
         requires receiver { q < self.old.roles }
@@ -78,11 +77,11 @@ impl Queues {
     {
         match place_of(&self.pairs, p, q) {
             Some(place) => {
-                let alloc = *self.lanes.allocator();
-                let lane = &mut self.lanes[place];
-                lane.reserve(alloc)
+                let alloc = *self.queues.allocator();
+                let queue = &mut self.queues[place];
+                queue.reserve(alloc)
             }
-            None => add_lane(&mut self.pairs, &mut self.lanes, p, q, Lane::new()),
+            None => add_queue(&mut self.pairs, &mut self.queues, p, q, Queue::new()),
         }
     }
 
@@ -98,40 +97,42 @@ impl Queues {
         let Some(place) = place_of(&self.pairs, p, q) else {
             unreachable!()
         };
-        let lane = &mut self.lanes[place];
-        lane.push(message);
+        let queue = &mut self.queues[place];
+        queue.push(message);
     }
 
     /// The oldest message from `p` to `q`, or `None` where none waits.
     pub fn front(&self, p: usize, q: usize) -> Option<&SharedMessage>
         requires sender { p < self.now.roles }
         requires receiver { q < self.now.roles }
-        ensures { MatchOption result (queue_of self.now p q ≡ []) (λ message. queue_of self.now p q ≡ message.now ∷ drop 1 (queue_of self.now p q)) }
+        ensures { MatchOption result (queue_of self.now p q ≡ [])
+            (λ message. queue_of self.now p q ≡ message.now ∷ drop 1 (queue_of self.now p q)) }
     {
         let place = place_of(&self.pairs, p, q)?;
-        let lane = &self.lanes[place];
-        lane.front()
+        let queue = &self.queues[place];
+        queue.front()
     }
 
-    /// Takes the oldest message from `p` to `q` out, or returns `None` where none waits. It leaves room for another.
+    /// Takes the oldest message from `p` to `q` out and leaves its room, or returns `None` where none waits.
     pub fn pop(&mut self, p: usize, q: usize) -> Option<SharedMessage>
         requires sender { p < self.old.roles }
         requires receiver { q < self.old.roles }
         ensures roles { self.new.roles ≡ self.old.roles }
-        ensures popped { MatchOption result ((queue_of self.old p q ≡ []) × (queue_of self.new p q ≡ [])) (λ message. queue_of self.old p q ≡ message ∷ queue_of self.new p q) }
+        ensures popped { MatchOption result ((queue_of self.old p q ≡ []) × (queue_of self.new p q ≡ []))
+            (λ message. queue_of self.old p q ≡ message ∷ queue_of self.new p q) }
         ensures others { SameElsewhere p q self.old self.new }
         ensures room { OnSome result (IsTrue (has_room self.new p q)) }
         ensures kept { KeepsRoom self.old self.new }
     {
         let place = place_of(&self.pairs, p, q)?;
-        let lane = &mut self.lanes[place];
-        lane.pop()
+        let queue = &mut self.queues[place];
+        queue.pop()
     }
 
-    /// Puts the message behind those from `p` to `q`, as `reserve` and `push` do, but finds the queue once.
+    /// Puts the message behind those from `p` to `q`, as `reserve` and then `push` do, but finds the queue once.
     ///
     /// # Errors
-    /// `AllocError` where `reserve` answers it. All messages stay.
+    /// `AllocError` where `reserve` returns it. All messages stay.
     pub fn send(&mut self, p: usize, q: usize, message: SharedMessage) -> Result<(), AllocError>
         requires sender { p < self.old.roles }
         requires receiver { q < self.old.roles }
@@ -142,19 +143,19 @@ impl Queues {
     {
         match place_of(&self.pairs, p, q) {
             Some(place) => {
-                let alloc = *self.lanes.allocator();
-                let lane = &mut self.lanes[place];
-                lane.send(alloc, message)
+                let alloc = *self.queues.allocator();
+                let queue = &mut self.queues[place];
+                queue.send(alloc, message)
             }
             None => {
-                let lane = Lane::of(message);
-                add_lane(&mut self.pairs, &mut self.lanes, p, q, lane)
+                let queue = Queue::of(message);
+                add_queue(&mut self.pairs, &mut self.queues, p, q, queue)
             }
         }
     }
 
-    /// Takes the oldest message from `p` to `q` out where it is this one, and returns whether it was, as `front` and
-    /// `pop` do, but finds the queue once.
+    /// Takes the oldest message from `p` to `q` out where it is this one, and returns whether it was. It does what
+    /// `front` and then `pop` do, but finds the queue once.
     pub fn receive(&mut self, p: usize, q: usize, message: &SharedMessage) -> bool
         requires sender { p < self.old.roles }
         requires receiver { q < self.old.roles }
@@ -166,20 +167,20 @@ impl Queues {
         let Some(place) = place_of(&self.pairs, p, q) else {
             return false;
         };
-        let lane = &mut self.lanes[place];
-        lane.receive(message)
+        let queue = &mut self.queues[place];
+        queue.receive(message)
     }
 
-    /// Forgets all messages, and all room.
+    /// Removes all messages and all room.
     pub fn clear(&mut self)
         ensures roles { self.new.roles ≡ self.old.roles }
         ensures empty { AllEmpty self.new }
     {
         self.pairs.clear();
-        self.lanes.clear();
+        self.queues.clear();
     }
 
-    /// The same messages in queues of their own. What room these have isn't said.
+    /// A copy with the same messages. The contract leaves open which of its queues have room.
     ///
     /// # Errors
     /// `AllocError` where memory is refused.
@@ -188,16 +189,16 @@ impl Queues {
         ensures messages { IfOk result (λ queues. SameQueues self.now queues) }
     {
         let pairs = Vec::from_slice(alloc, &self.pairs)?;
-        let lanes = copy_lanes(alloc, &self.lanes)?;
+        let queues = copy_queues(alloc, &self.queues)?;
         Ok(Queues {
             roles: self.roles,
             pairs,
-            lanes,
+            queues,
         })
     }
 }
 
-// The place at which the pair stands.
+// The index of the pair.
 fn place_of(pairs: &[Pair], p: usize, q: usize) -> Option<usize>
     ensures { result ≡ position (is_pair p q) pairs.now }
 {
@@ -205,24 +206,24 @@ fn place_of(pairs: &[Pair], p: usize, q: usize) -> Option<usize>
 }
 
 // Puts the pair and its queue behind the others.
-fn add_lane(
+fn add_queue(
     pairs: &mut Vec<Pair>,
-    lanes: &mut Vec<Lane>,
+    queues: &mut Vec<Queue>,
     p: usize,
     q: usize,
-    lane: Lane,
+    queue: Queue,
 ) -> Result<(), AllocError>
     ensures pairs { pairs.new.items ≡ (if is_ok result then pairs.old.items ++ pair_of p q ∷ [] else pairs.old.items) }
-    ensures lanes { lanes.new.items ≡ (if is_ok result then lanes.old.items ++ lane ∷ [] else lanes.old.items) }
+    ensures queues { queues.new.items ≡ (if is_ok result then queues.old.items ++ queue ∷ [] else queues.old.items) }
 {
     let pair = pair_of(p, q)?;
     pairs.reserve(1)?;
-    lanes.push(lane)?;
+    queues.push(queue)?;
     pairs.push(pair)?;
     Ok(())
 }
 
-// The pair of these positions. A position above 65,535 has no room in one.
+// The pair of these positions. A position above 65,535 doesn't fit.
 fn pair_of(p: usize, q: usize) -> Result<Pair, AllocError>
     ensures { IfOk result (λ pair. pair ≡ pair_of p q) }
 {
@@ -232,13 +233,13 @@ fn pair_of(p: usize, q: usize) -> Result<Pair, AllocError>
     }
 }
 
-// The same messages, queue by queue.
-fn copy_lanes(alloc: Global, lanes: &[Lane]) -> Result<Vec<Lane>, AllocError>
-    ensures { IfOk result (λ copies. messages_of copies.items ≡ messages_of lanes.now) }
+// A copy of each queue, in order.
+fn copy_queues(alloc: Global, queues: &[Queue]) -> Result<Vec<Queue>, AllocError>
+    ensures { IfOk result (λ copies. messages_of copies.items ≡ messages_of queues.now) }
 {
-    let mut copies = Vec::with_capacity(alloc, lanes.len())?;
-    for lane in lanes {
-        copies.push(lane.copy(alloc)?)?;
+    let mut copies = Vec::with_capacity(alloc, queues.len())?;
+    for queue in queues {
+        copies.push(queue.copy(alloc)?)?;
     }
     Ok(copies)
 }

@@ -1,2 +1,2 @@
-pub mod ReadOnce
-pub mod Written
+pub mod FlatFormLemmas
+pub mod NumberLemmas

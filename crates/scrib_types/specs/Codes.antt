@@ -1,4 +1,4 @@
--- Codes of names, messages and local trees, by which the trees are told apart.
+-- Codes of names, messages and local trees. Two trees are the same where their codes are.
 use Rattle.std.specs.Prelude.{◌≡◌, ℕ, List, Option, refl}
 use Rattle.std.proofs.Common.{ap}
 use Rattle.std.specs.Coded.{Coded, code_by, coded×, coded_ℕ, coded_list, coded_option}
@@ -6,12 +6,16 @@ use base.Stored.{Gv, gnil, gnum, gcons}
 use Rattle.scrib_types.specs.declared.message.Message.{Message}
 use Rattle.scrib_types.specs.Trees.{LocalTree, LocalEnd, LocalVar, LocalRec, Send, Recv, LocalBranches, NoChoice, Choice}
 
+-- the code of a name
 abbrev pub coded_name : Coded (List ℕ)
 coded_name = coded_list coded_ℕ
 
+-- the code of a message
 abbrev pub coded_message : Coded Message
 coded_message =
-    code_by (Option (List ℕ) × List (List (List ℕ))) (coded× (coded_option coded_name) (coded_list (coded_list coded_name))) (λ m. (m.op, m.payload)) (λ p. record { op = p.0; payload = p.1 }) (λ _. refl)
+    code_by (Option (List ℕ) × List (List (List ℕ)))
+    (coded× (coded_option coded_name) (coded_list (coded_list coded_name))) (λ m. (m.op, m.payload))
+    (λ p. record { op = p.0; payload = p.1 }) (λ _. refl)
 
 abbrev num : Gv → ℕ
 num gnil = 0
@@ -38,7 +42,8 @@ abbrev mutual
 
   pub branches_code : LocalBranches → Gv
   branches_code NoChoice = gcons (gnum 0) gnil
-  branches_code (Choice m l bs) = gcons (gnum 1) (gcons (coded_message.code m) (gcons (local_code l) (branches_code bs)))
+  branches_code (Choice m l bs) =
+      gcons (gnum 1) (gcons (coded_message.code m) (gcons (local_code l) (branches_code bs)))
 
 mutual
   -- one code, one tree
@@ -47,9 +52,11 @@ mutual
   local_code-injective (LocalVar m) (LocalVar n) p = ap (λ g. LocalVar (num (tail g))) p
   local_code-injective (LocalRec g) (LocalRec h) p = ap LocalRec (local_code-injective g h (ap tail p))
   local_code-injective (Send p bs) (Send q cs) e =
-      λ i. Send (coded_name.inj p q (ap (λ g. head (tail g)) e) i) (branches_code-injective bs cs (ap (λ g. tail (tail g)) e) i)
+      λ i. Send (coded_name.inj p q (ap (λ g. head (tail g)) e) i)
+      (branches_code-injective bs cs (ap (λ g. tail (tail g)) e) i)
   local_code-injective (Recv p bs) (Recv q cs) e =
-      λ i. Recv (coded_name.inj p q (ap (λ g. head (tail g)) e) i) (branches_code-injective bs cs (ap (λ g. tail (tail g)) e) i)
+      λ i. Recv (coded_name.inj p q (ap (λ g. head (tail g)) e) i)
+      (branches_code-injective bs cs (ap (λ g. tail (tail g)) e) i)
   local_code-injective LocalEnd (LocalVar k) p = cc
   local_code-injective LocalEnd (LocalRec k) p = cc
   local_code-injective LocalEnd (Send k j) p = cc
@@ -74,6 +81,8 @@ mutual
   pub branches_code-injective : (x y : LocalBranches) → branches_code x ≡ branches_code y → x ≡ y
   branches_code-injective NoChoice NoChoice p = refl
   branches_code-injective (Choice m g bs) (Choice n h cs) e =
-      λ i. Choice (coded_message.inj m n (ap (λ g. head (tail g)) e) i) (local_code-injective g h (ap (λ g. head (tail (tail g))) e) i) (branches_code-injective bs cs (ap (λ g. tail (tail (tail g))) e) i)
+      λ i. Choice (coded_message.inj m n (ap (λ g. head (tail g)) e) i)
+      (local_code-injective g h (ap (λ g. head (tail (tail g))) e) i)
+      (branches_code-injective bs cs (ap (λ g. tail (tail (tail g))) e) i)
   branches_code-injective NoChoice (Choice m g bs) p = cc
   branches_code-injective (Choice m g bs) NoChoice p = cc

@@ -1,9 +1,9 @@
--- The flat form of messages: bytes by which two messages are compared (this project's own).
--- Each message has bytes of its own, which no other begins with.
+-- The flat form of messages: an encoding as bytes, by which two messages are compared (this project's own).
+-- It is a prefix-free code: the bytes of no other message begin with those of this one.
 use Rattle.std.specs.Prelude.{ℕ, ◌/◌, ◌%◌, List, [], ◌∷◌, ◌++◌, length, replicate, Option, Some, None}
 use Rattle.scrib_types.specs.declared.message.Message.{Message}
 
--- a number: 255 for each 255 in it, and then the rest (the lacing of Ogg, RFC 3533)
+-- a number: a byte 255 for each 255 in it, and then the remainder (the lacing of Ogg, RFC 3533)
 unfoldable pub number_bytes : ℕ → List ℕ
 number_bytes n = replicate (n / 255) 255 ++ (n % 255) ∷ []
 

@@ -1,4 +1,4 @@
--- What a global type stands for, as a pure tree.
+-- The pure tree of a global type.
 use Rattle.std.specs.Prelude.{◌≡◌, ℕ, List, [], ◌∷◌, refl}
 use Rattle.std.proofs.Common.{ap}
 use Rattle.scrib_types.specs.declared.message.Message.{Message}
@@ -23,7 +23,7 @@ unfoldable mutual
   rows_of end_of-GlobalType-Comm-2-2 = NoBranch
   rows_of (more_of-GlobalType-Comm-2-2 m g rest) = Branch m (global_of g) (rows_of rest)
 
--- what a list of branches stands for
+-- the branches of a list, as a pure tree
 abbrev pub global_branches : List (Message × GlobalType) → GlobalBranches
 global_branches [] = NoBranch
 global_branches (b ∷ bs) = Branch b.0 (global_of b.1) (global_branches bs)
@@ -35,19 +35,24 @@ branches_in (GlobalRec g) = NoBranch
 branches_in (Comm p q bs) = bs
 branches_in (Flight p q j bs) = bs
 
-pub comm_of : (p q : List ℕ) (bs : List (Message × GlobalType)) → global_of (global.Comm p q bs) ≡ Comm p q (global_branches bs)
+-- the tree of a communication
+pub comm_of : (p q : List ℕ) (bs : List (Message × GlobalType))
+    → global_of (global.Comm p q bs) ≡ Comm p q (global_branches bs)
 unfolding hidden-the_row-GlobalType-Comm-2-2-1 hidden global_of rows_of body_of branches_in
 comm_of p q [] = refl
 comm_of p q (b ∷ bs) = ap (λ t. Comm p q (Branch b.0 (global_of b.1) (branches_in t))) (comm_of p q bs)
 
+-- the tree of a recursion
 pub rec_of : (g : GlobalType) → global_of (global.Rec g) ≡ GlobalRec (global_of g)
 unfolding hidden-the_row-GlobalType-0 hidden global_of rows_of body_of
 rec_of g = refl
 
+-- the tree of an end
 pub end_of : global_of global.End ≡ GlobalEnd
 unfolding global_of
 end_of = refl
 
+-- the tree of a variable
 pub var_of : (n : ℕ) → global_of (global.Var n) ≡ GlobalVar n
 unfolding global_of
 var_of n = refl

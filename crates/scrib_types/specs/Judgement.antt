@@ -12,18 +12,19 @@ use Rattle.scrib_types.specs.Logs.{subject_of, event_of}
 use Rattle.scrib_types.specs.Permitted.{IsPermitted}
 use Rattle.scrib_types.specs.Texts.{action_text}
 
--- another action, whose printed text is no less, by its bytes
+-- b is another action, and its printed text is no less than a's in byte order
 abbrev pub ComesBefore : Action → Action → Type 0
 ComesBefore a b = (a ≢ b) × (slice_cmp nat_cmp (action_text a) (action_text b) ≢ Greater)
 
--- exactly the actions that the role may make after the log, sorted by their printed texts, none twice
+-- these are exactly the actions that the role may make after the log, sorted by their printed texts, none twice
 pub record AreAllowed (a : Agreement) (log : List Event) (role : List ℕ) (allowed : List Action) : Type 0 where
   pub sorted : AllPairs ComesBefore allowed
   pub exact : (act : Action) → Contains allowed act ↔ IsPermitted a (log ++ event_of role act ∷ [])
 
--- The first events of the log that aren't permitted end with this event, at this place from 1; what was
--- allowed there are these actions of the event's role.
-pub record IsOffence (a : Agreement) (log : List Event) (place : ℕ) (role : List ℕ) (allowed : List Action) : Type 0 where
+-- The shortest beginning of the log that isn't permitted ends with this event, at this place from 1. Its role
+-- was allowed these actions there.
+pub record IsOffence (a : Agreement) (log : List Event) (place : ℕ) (role : List ℕ) (allowed : List Action)
+    : Type 0 where
   pub before : List Event
   pub event : Event
   pub after : List Event
@@ -34,7 +35,7 @@ pub record IsOffence (a : Agreement) (log : List Event) (place : ℕ) (role : Li
   pub by : role ≡ subject_of event
   pub allows : AreAllowed a before role allowed
 
--- the verdict on a log whose protocol means this, or isn't there
+-- the verdict on a log whose protocol has this meaning, or is not in the library
 abbrev pub Judges : Option Agreement → List Event → Verdict → Type 0
 Judges None log Permitted = ⊥
 Judges None log (Offence place role allowed) = ⊥

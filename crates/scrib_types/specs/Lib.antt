@@ -1,12 +1,12 @@
 pub mod Names
-pub mod Few
+pub mod OneOrMany
 pub mod Trees
 pub mod GlobalView
 pub mod LocalView
 pub mod Codes
 pub mod Same
-pub mod GlobalBack
-pub mod LocalBack
+pub mod GlobalInjective
+pub mod LocalInjective
 pub mod Texts
 pub mod Flat
 pub mod FlatEvents

@@ -8,13 +8,13 @@ use Rattle.scrib_types.specs.declared.event.Event.TheVariants as event
 use Rattle.scrib_types.specs.declared.event.Event.{Event}
 use Rattle.scrib_types.specs.WellFormed.{has_role}
 
--- who acts: of a send the sender, of a reception the receiver, of a join the role
+-- the role that acts: the sender of a send, the receiver of a reception, or the role that joins
 abbrev pub subject_of : Event → List ℕ
 subject_of (event.Join r) = r
 subject_of (event.Sent p q m) = p
 subject_of (event.Received p q m) = q
 
--- what the event is to its subject
+-- the event as an action of its subject
 abbrev pub action_of : Event → Action
 action_of (event.Join r) = action.Join
 action_of (event.Sent p q m) = action.Sends q m
@@ -54,8 +54,8 @@ own_actions r log = map action_of (filter (is_action_of r) log)
 abbrev pub has_joined : List ℕ → List Event → Bool
 has_joined r log = list_any (is_join_of r) log
 
--- After this log the event has its join: a join is of a declared role that hasn't joined, and the subject
--- of a send or a reception has joined.
+-- After this log the event follows the rule of joins. A declared role that hasn't joined may join. The subject of a
+-- send or a reception has joined.
 abbrev pub IsJoined : List (List ℕ) → List Event → Event → Type 0
 IsJoined roles before (event.Join r) = (has_role r roles ≡ true) × (has_joined r before ≡ false)
 IsJoined roles before (event.Sent p q m) = has_joined p before ≡ true

@@ -1,6 +1,6 @@
--- The projection of a global type on a role, by plain merge (Honda, Yoshida and Carbone, POPL 2008) or by a merge of
--- receptions (as in Deniélou and Yoshida, ICALP 2013; that equal messages continue as the same, and the rows for
--- recursions, are this project's own). It is partial.
+-- The projection of a global type on a role, a partial function. It uses the plain merge (Honda, Yoshida and Carbone,
+-- POPL 2008) or a merge of receptions (as in Deniélou and Yoshida, ICALP 2013). That equal messages continue as the
+-- same, and the rows for recursions, are this project's own.
 use Rattle.std.specs.Prelude.{ℕ, ◌+◌, ◌-◌, max, Bool, false, ◌&&◌, ◌||◌, not, ◌==◌, List, Option, Some, None, option_map, option_and_then, if◌then◌else◌}
 use Rattle.std.specs.Str.{bytes_eq}
 use Rattle.scrib_types.specs.declared.message.Message.{Message}
@@ -9,7 +9,7 @@ use Rattle.scrib_types.specs.declared.profile.Profile.TheVariants.{Plain, Recept
 use Rattle.scrib_types.specs.Trees.{GlobalTree, GlobalEnd, GlobalVar, GlobalRec, Comm, Flight, GlobalBranches, NoBranch, Branch, LocalTree, LocalEnd, LocalVar, LocalRec, Send, Recv, LocalBranches, NoChoice, Choice}
 use Rattle.scrib_types.specs.Same.{same_operator, same_message, same_local}
 
--- how many recursions round it would bind all its variables
+-- the number of enclosing recursions that would bind all its variables
 abbrev mutual
   pub open_depth : GlobalTree → ℕ
   open_depth GlobalEnd = 0
@@ -39,49 +39,52 @@ abbrev mutual
   branches_occur r NoBranch = false
   branches_occur r (Branch m g bs) = occurs r g || branches_occur r bs
 
--- The alternatives of a reception, and one more after them. Where its operator is among them, so is the whole of it,
--- or they don't go together.
+-- The alternatives of a reception with one more after them. Where one of them has its operator, it must be the same,
+-- or there is no result.
 abbrev pub with_alternative : Message → LocalTree → LocalBranches → Option LocalBranches
 with_alternative m l NoChoice = Some (Choice m l NoChoice)
 with_alternative m l (Choice n k ls) =
-    if same_operator m.op n.op then (if same_message m n && same_local l k then Some (Choice n k ls) else None) else option_map (Choice n k) (with_alternative m l ls)
+    if same_operator m.op n.op then (if same_message m n && same_local l k then Some (Choice n k ls) else None)
+    else option_map (Choice n k) (with_alternative m l ls)
 
--- the alternatives of two receptions, in the order in which they first stand there
+-- the alternatives of two receptions, in the order of their first occurrence
 abbrev pub alternatives : LocalBranches → LocalBranches → Option LocalBranches
 alternatives ks NoChoice = Some ks
 alternatives ks (Choice m l ls) = option_and_then (λ js. alternatives js ls) (with_alternative m l ks)
 
--- a reception from p with another one from p, as one reception
-abbrev pub joined_from : List ℕ → LocalBranches → LocalTree → Option LocalTree
-joined_from p ks LocalEnd = None
-joined_from p ks (LocalVar n) = None
-joined_from p ks (LocalRec l) = None
-joined_from p ks (Send q ls) = None
-joined_from p ks (Recv q ls) = if bytes_eq p q then option_map (Recv p) (alternatives ks ls) else None
+-- a reception from p, merged with another one from p
+abbrev pub merged_from : List ℕ → LocalBranches → LocalTree → Option LocalTree
+merged_from p ks LocalEnd = None
+merged_from p ks (LocalVar n) = None
+merged_from p ks (LocalRec l) = None
+merged_from p ks (Send q ls) = None
+merged_from p ks (Recv q ls) = if bytes_eq p q then option_map (Recv p) (alternatives ks ls) else None
 
-abbrev pub joined_receptions : LocalTree → LocalTree → Option LocalTree
-joined_receptions LocalEnd k = None
-joined_receptions (LocalVar n) k = None
-joined_receptions (LocalRec l) k = None
-joined_receptions (Send q ls) k = None
-joined_receptions (Recv p ls) k = joined_from p ls k
+-- the merge of two receptions from the same sender
+abbrev pub merged_receptions : LocalTree → LocalTree → Option LocalTree
+merged_receptions LocalEnd k = None
+merged_receptions (LocalVar n) k = None
+merged_receptions (LocalRec l) k = None
+merged_receptions (Send q ls) k = None
+merged_receptions (Recv p ls) k = merged_from p ls k
 
--- what two branches come to: by the plain merge they have to be the same; by the wider one receptions from the same
--- sender may differ
+-- the merge of two branches: under the plain profile they have to be the same; under the reception profile receptions
+-- from the same sender may differ
 abbrev pub merged_two : Profile → LocalTree → LocalTree → Option LocalTree
 merged_two Plain l k = if same_local l k then Some l else None
-merged_two Reception l k = if same_local l k then Some l else joined_receptions l k
+merged_two Reception l k = if same_local l k then Some l else merged_receptions l k
 
--- what l and these branches come to, one after the other
+-- the merge of l with these branches, one after the other
 abbrev pub merged_with : Profile → LocalTree → LocalBranches → Option LocalTree
 merged_with profile l NoChoice = Some l
 merged_with profile l (Choice m k ls) = option_and_then (λ j. merged_with profile j ls) (merged_two profile l k)
 
--- the one local type of all branches
+-- the merge of all branches
 abbrev pub merged : Profile → LocalBranches → Option LocalTree
 merged profile NoChoice = None
 merged profile (Choice m l ls) = merged_with profile l ls
 
+-- adds a branch, where it and all the others have projections
 abbrev pub with_choice : Message → Option LocalTree → Option LocalBranches → Option LocalBranches
 with_choice m None ls = None
 with_choice m (Some l) None = None
@@ -90,17 +93,21 @@ with_choice m (Some l) (Some ls) = Some (Choice m l ls)
 -- a communication as its sender, its receiver and every other role sees it, from the branches' projections
 abbrev pub seen_by : Profile → (role sender receiver : List ℕ) → Option LocalBranches → Option LocalTree
 seen_by profile r p q ls =
-    if bytes_eq r p then option_map (Send q) ls else (if bytes_eq r q then option_map (Recv p) ls else option_and_then (merged profile) ls)
+    if bytes_eq r p then option_map (Send q) ls
+    else (if bytes_eq r q then option_map (Recv p) ls else option_and_then (merged profile) ls)
 
--- under the profile, the projection on a role, if there is one
+-- the projection on a role under the profile, if it is defined
 abbrev mutual
   pub projection : Profile → List ℕ → GlobalTree → Option LocalTree
   projection profile r GlobalEnd = Some LocalEnd
   projection profile r (GlobalVar n) = Some (LocalVar n)
-  projection profile r (GlobalRec g) = if is_closed (GlobalRec g) && not (occurs r g) then Some LocalEnd else option_map LocalRec (projection profile r g)
+  projection profile r (GlobalRec g) =
+      if is_closed (GlobalRec g) && not (occurs r g) then Some LocalEnd
+      else option_map LocalRec (projection profile r g)
   projection profile r (Comm p q bs) = seen_by profile r p q (branch_projections profile r bs)
   projection profile r (Flight p q j bs) = None
 
   pub branch_projections : Profile → List ℕ → GlobalBranches → Option LocalBranches
   branch_projections profile r NoBranch = Some NoChoice
-  branch_projections profile r (Branch m g bs) = with_choice m (projection profile r g) (branch_projections profile r bs)
+  branch_projections profile r (Branch m g bs) =
+      with_choice m (projection profile r g) (branch_projections profile r bs)

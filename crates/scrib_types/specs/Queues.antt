@@ -1,4 +1,4 @@
--- First-in-first-out queues, one for each ordered pair of roles, told from whole logs (this project's own).
+-- First-in-first-out queues, one for each ordered pair of roles, computed from whole logs (this project's own).
 use Rattle.std.specs.Prelude.{◌≡◌, ℕ, ◌&&◌, List, ◌++◌, length, drop, Option, Some, None, if◌then◌else◌}
 use Rattle.std.specs.List.{filter_map}
 use Rattle.std.specs.Str.{bytes_eq}
@@ -30,10 +30,11 @@ received p q log = filter_map (received_message p q) log
 abbrev pub IsPrefix : List Message → List Message → Type 0
 IsPrefix xs ys = (rest : List Message) × (ys ≡ xs ++ rest)
 
--- at each moment, what each role received from another is a prefix of what that one sent to it
+-- after each event, what a role received from another is a prefix of what the other sent to it
 abbrev pub IsQueued : List Event → Type 0
 IsQueued log =
-    (before after : List Event) → log ≡ before ++ after → (p q : List ℕ) → IsPrefix (received p q before) (sent p q before)
+    (before after : List Event) → log ≡ before ++ after → (p q : List ℕ)
+    → IsPrefix (received p q before) (sent p q before)
 
 -- the messages from p to q that are in flight, the oldest first
 abbrev pub flights : List ℕ → List ℕ → List Event → List Message

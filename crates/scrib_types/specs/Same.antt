@@ -49,32 +49,38 @@ code_eq-true (gcons a b) (gnum n) h = cc
 unfoldable pub same_local : LocalTree → LocalTree → Bool
 same_local a b = code_eq (local_code a) (local_code b)
 
+-- the test holds of equal types alone
 pub same_local-equal : (a b : LocalTree) → same_local a b ≡ true → a ≡ b
 unfolding same_local
 same_local-equal a b h = local_code-injective a b (code_eq-true (local_code a) (local_code b) h)
 
+-- the test holds of a type and itself
 pub same_local-refl : (a : LocalTree) → same_local a a ≡ true
 unfolding same_local
 same_local-refl a = code_eq-refl (local_code a)
 
--- what decides whether they are the same is the test
+-- any decision of equality agrees with the test
 pub same_local_decided : (r : Bool) (a b : LocalTree) → (IsTrue r ↔ a ≡ b) → r ≡ same_local a b
 same_local_decided true a b h = sym (ap (same_local a) (sym (h.0 refl)) ∙ same_local-refl a)
-same_local_decided false a b h = sym (false_from_ne_true (same_local a b) (λ e. absurd (cc (h.1 (same_local-equal a b e)))))
+same_local_decided false a b h =
+    sym (false_from_ne_true (same_local a b) (λ e. absurd (cc (h.1 (same_local-equal a b e)))))
 
 -- two messages are the same
 unfoldable pub same_message : Message → Message → Bool
 same_message m n = code_eq (coded_message.code m) (coded_message.code n)
 
+-- the test holds of equal messages alone
 pub same_message-equal : (m n : Message) → same_message m n ≡ true → m ≡ n
 unfolding same_message
 same_message-equal m n h = coded_message.inj m n (code_eq-true (coded_message.code m) (coded_message.code n) h)
 
+-- the test holds of a message and itself
 pub same_message-refl : (m : Message) → same_message m m ≡ true
 unfolding same_message
 same_message-refl m = code_eq-refl (coded_message.code m)
 
--- what decides whether they are the same is the test
+-- any decision of equality agrees with the test
 pub same_message_decided : (r : Bool) (m n : Message) → (IsTrue r ↔ m ≡ n) → r ≡ same_message m n
 same_message_decided true m n h = sym (ap (same_message m) (sym (h.0 refl)) ∙ same_message-refl m)
-same_message_decided false m n h = sym (false_from_ne_true (same_message m n) (λ e. absurd (cc (h.1 (same_message-equal m n e)))))
+same_message_decided false m n h =
+    sym (false_from_ne_true (same_message m n) (λ e. absurd (cc (h.1 (same_message-equal m n e)))))

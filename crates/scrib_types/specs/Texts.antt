@@ -6,11 +6,12 @@ use Rattle.scrib_types.specs.declared.profile.Profile.TheVariants.{Plain, Recept
 use Rattle.scrib_types.specs.declared.event.Action.{Action}
 use Rattle.scrib_types.specs.declared.event.Action.TheVariants.{Join, Sends, Receives}
 
--- the texts with this byte between each two
+-- each text after this byte
 abbrev pub after_each : ℕ → List (List ℕ) → List ℕ
 after_each b [] = []
 after_each b (t ∷ ts) = (b ∷ t) ++ after_each b ts
 
+-- the texts with this byte between each two
 abbrev pub joined_by : ℕ → List (List ℕ) → List ℕ
 joined_by b [] = []
 joined_by b (t ∷ ts) = t ++ after_each b ts
@@ -19,10 +20,12 @@ joined_by b (t ∷ ts) = t ++ after_each b ts
 abbrev pub dotted_text : List (List ℕ) → List ℕ
 dotted_text names = joined_by 46 names
 
+-- the texts of dotted names
 abbrev pub dotted_texts : List (List (List ℕ)) → List (List ℕ)
 dotted_texts [] = []
 dotted_texts (d ∷ ds) = dotted_text d ∷ dotted_texts ds
 
+-- the operator, or nothing
 abbrev pub operator_text : Option (List ℕ) → List ℕ
 operator_text None = []
 operator_text (Some name) = name

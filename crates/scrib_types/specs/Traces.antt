@@ -6,7 +6,7 @@ use Rattle.scrib_types.specs.declared.event.Action.{Action}
 use Rattle.scrib_types.specs.declared.event.Action.TheVariants.{Sends, Receives}
 use Rattle.scrib_types.specs.Trees.{LocalTree, LocalEnd, LocalVar, LocalRec, Send, Recv, LocalBranches, NoChoice, Choice}
 
--- the local type l, in which no variable is free, in place of the variable of the n-th recursion outside
+-- substitutes l, in which no variable is free, for the variable of the n-th enclosing recursion
 abbrev mutual
   pub substitute : LocalTree → LocalTree → ℕ → LocalTree
   substitute l LocalEnd n = LocalEnd
@@ -23,17 +23,20 @@ abbrev mutual
 abbrev pub unfolding_of : LocalTree → LocalTree
 unfolding_of body = substitute (LocalRec body) body 0
 
--- The branches offer the message and continue as l, by the first branch that has it. In the projections of a
--- protocol the messages of a choice are all different, so there is no other.
+-- The first branch with the message continues as l. In the projections of a protocol the messages of a choice
+-- differ, so no other branch has it.
 abbrev pub Offers : LocalBranches → Message → LocalTree → Type 0
 Offers NoChoice m l = ⊥
 Offers (Choice n k ls) m l = ((m ≡ n) × (l ≡ k)) ⊎ ((m ≢ n) × Offers ls m l)
 
--- a transition of a local type: it makes the action and continues as the other; a recursion does what its unfolding does
+-- The first local type makes the action and continues as the second. A recursion has the transitions of its unfolding.
 pub data LocalTransition : LocalTree → Action → LocalTree → Type 0 where
-  sends : {q : List ℕ} {m : Message} {ls : LocalBranches} {l : LocalTree} → Offers ls m l → LocalTransition (Send q ls) (Sends q m) l
-  receives : {p : List ℕ} {m : Message} {ls : LocalBranches} {l : LocalTree} → Offers ls m l → LocalTransition (Recv p ls) (Receives p m) l
-  unfolds : {a : Action} {body l : LocalTree} → LocalTransition (unfolding_of body) a l → LocalTransition (LocalRec body) a l
+  sends : {q : List ℕ} {m : Message} {ls : LocalBranches} {l : LocalTree} → Offers ls m l
+      → LocalTransition (Send q ls) (Sends q m) l
+  receives : {p : List ℕ} {m : Message} {ls : LocalBranches} {l : LocalTree} → Offers ls m l
+      → LocalTransition (Recv p ls) (Receives p m) l
+  unfolds : {a : Action} {body l : LocalTree} → LocalTransition (unfolding_of body) a l
+      → LocalTransition (LocalRec body) a l
 
 -- the local type may make these actions, one after another
 abbrev pub IsTrace : LocalTree → List Action → Type 0

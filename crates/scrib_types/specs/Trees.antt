@@ -1,6 +1,6 @@
 -- Global and local types as pure trees (Honda, Yoshida and Carbone, POPL 2008). A variable counts the
--- recursions between it and its own. A flight, a communication of which branch j, from 0, was sent and not yet
--- received, stands in states of a run alone, in no global type (Deniélou and Yoshida, ICALP 2013).
+-- recursions between it and its own. A flight is a communication of which branch j, from 0, was sent and not yet
+-- received. It occurs in the states of runs alone, not in global types (Deniélou and Yoshida, ICALP 2013).
 use Rattle.std.specs.Prelude.{ℕ, List}
 use Rattle.scrib_types.specs.declared.message.Message.{Message}
 

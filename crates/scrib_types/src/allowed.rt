@@ -1,4 +1,4 @@
-//! What a role is allowed, as verdicts hold it.
+//! The actions that a role is allowed, as verdicts hold them.
 
 ghost use Rattle.std.specs.Prelude.{◌≡◌, ◌++◌, IfOk, OnOk};
 ghost use Rattle.scrib_types.specs.Texts as texts;
@@ -10,15 +10,15 @@ use std::alloc::{AllocError, Global};
 use std::marker::Model;
 use std::sync::Arc;
 
-/// Actions beside their printed text.
+// Actions beside their printed text.
 #[derive(Drop)]
 struct Printed {
     actions: Items<Action>,
     text: Vec<u8>,
 }
 
-/// Actions that its copies share, so that a copy costs a count. They are printed once, since an offence is told again
-/// at each later event. Contracts see the list.
+/// A list of allowed actions. Copies share it by a reference count. Its text is printed once, since an offence is
+/// reported again at each later event. Contracts see the list.
 #[derive(Drop)]
 pub struct Allowed {
     shared: Arc<Printed>,
@@ -37,7 +37,7 @@ impl Model for Allowed {
 }
 
 impl Allowed {
-    /// The actions, to be shared.
+    /// Takes the actions into shared memory.
     ///
     /// # Errors
     /// `AllocError` where memory for them or for their text is refused.
@@ -64,10 +64,10 @@ impl Allowed {
         self.shared.text.as_slice()
     }
 
-    /// The same actions once more.
+    /// A copy that shares the actions.
     ///
     /// # Errors
-    /// `AllocError` where the count of those who share them can't rise.
+    /// `AllocError` where the reference count can't rise.
     pub fn copy(&self) -> Result<Allowed, AllocError>
         ensures { IfOk result (λ allowed. allowed ≡ self.now) }
     {

@@ -2,8 +2,8 @@
 
 ghost use Rattle.std.specs.Prelude.{◌≡◌, ◌≤◌, ◌<◌, ◌↔◌, IsTrue, length, take};
 
-/// Whether both are the same bytes. Most texts here are too short for a comparison that is made for long ones: eight
-/// bytes are compared at a time, then four, and then the rest.
+/// Whether both are the same bytes. It compares eight bytes at a time, then four, and then the rest. Most texts here
+/// are too short for a comparison that is made for long ones.
 pub fn same_bytes(a: &[u8], b: &[u8]) -> bool
     ensures { IsTrue result ↔ (a.now ≡ b.now) }
 {
@@ -25,7 +25,7 @@ pub fn same_bytes(a: &[u8], b: &[u8]) -> bool
     same_few(left, right)
 }
 
-/// Whether both begin with the same eight bytes, which are compared as one number.
+// Whether both begin with the same eight bytes, which are compared as one number.
 fn same_eight(a: &[u8], b: &[u8]) -> bool
     requires a { 8 ≤ length a.now }
     requires b { 8 ≤ length b.now }
@@ -37,14 +37,14 @@ fn same_eight(a: &[u8], b: &[u8]) -> bool
     }
 }
 
-/// Whether the eight bytes are the same.
+// Whether the eight bytes are the same.
 fn same_word(a: &[u8; 8], b: &[u8; 8]) -> bool
     ensures { IsTrue result ↔ (a.now ≡ b.now) }
 {
     u64::from_le_bytes(*a) == u64::from_le_bytes(*b)
 }
 
-/// Whether both are the same bytes, of which the first ones are fewer than eight.
+// Whether both are the same bytes, where `a` has fewer than eight.
 fn same_few(a: &[u8], b: &[u8]) -> bool
     requires { length a.now < 8 }
     ensures { IsTrue result ↔ (a.now ≡ b.now) }
@@ -58,7 +58,7 @@ fn same_few(a: &[u8], b: &[u8]) -> bool
     }
 }
 
-/// Whether both are the same bytes, of which the first ones are fewer than four.
+// Whether both are the same bytes, where `a` has fewer than four.
 fn same_rest(a: &[u8], b: &[u8]) -> bool
     requires { length a.now < 4 }
     ensures { IsTrue result ↔ (a.now ≡ b.now) }

@@ -1,4 +1,4 @@
-//! What roles do, what is recorded of it, and what is judged of the record.
+//! Actions of roles, events of logs, and verdicts on logs.
 
 ghost use Rattle.std.specs.Prelude.{◌≡◌};
 ghost use Rattle.scrib_types.specs.Logs.{subject_of};
@@ -16,7 +16,7 @@ pub enum Action {
 }
 
 /// One entry of a conversation's log: a role joined, a role sent a message to another, or a role
-/// received a message from another. A role that no protocol declares may stand in it.
+/// received a message from another. It may name a role that no protocol declares.
 #[derive(Drop)]
 pub enum Event {
     Join {
@@ -35,7 +35,7 @@ pub enum Event {
 }
 
 impl Event {
-    /// The role that acts: of a send the sender, of a reception the receiver, of a join the role.
+    /// The role that acts: the sender of a send, the receiver of a reception, or the role that joins.
     pub fn subject(&self) -> &Role
         ensures { result.now ≡ subject_of self.now }
     {
@@ -47,13 +47,13 @@ impl Event {
     }
 }
 
-/// What is said of a whole log.
+/// The judgement of a whole log.
 #[derive(Drop)]
 pub enum Verdict {
     /// The protocol permits the log.
     Permitted,
-    /// The first event that broke the protocol: its place in the log from 1, its role, and the actions
-    /// that the role was allowed there, by their printed text, none twice.
+    /// The first event that broke the protocol: its place in the log, from 1, and its role. `allowed` holds the
+    /// actions that the role was allowed there, sorted by their printed text, none twice.
     Offence {
         place: usize,
         role: Role,
@@ -63,7 +63,7 @@ pub enum Verdict {
     Withdrawn,
 }
 
-/// What is told of a conversation: that its verdict is out of date, or its verdict.
+/// The reported state of a conversation: its verdict, or that the verdict is stale.
 #[derive(Drop)]
 pub enum Told {
     Stale,

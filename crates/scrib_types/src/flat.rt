@@ -1,4 +1,4 @@
-//! The flat form of names and messages, added to bytes.
+//! The flat form of names and messages: an encoding as bytes, by which two of them are compared.
 
 ghost use Rattle.std.specs.Prelude.{◌≡◌, ◌++◌, OnOk};
 ghost use Rattle.scrib_types.specs.Flat as flat;
@@ -8,7 +8,7 @@ use crate::name::{Dotted, Name};
 use crate::text::push_bytes;
 use std::alloc::AllocError;
 
-/// Adds the number: 255 for each 255 in it, and then the rest.
+/// Adds the number: a byte 255 for each 255 in it, and then the remainder.
 ///
 /// # Errors
 /// `AllocError` where memory for the longer bytes is refused, here and in the functions below.
@@ -45,7 +45,7 @@ pub fn push_names(out: &mut Vec<u8>, names: &[Name]) -> Result<(), AllocError>
     Ok(())
 }
 
-/// Adds each of the types after a 1, and a 0 at the end.
+// Adds each of the types after a 1, and a 0 at the end.
 fn push_payload(out: &mut Vec<u8>, sorts: &[Dotted]) -> Result<(), AllocError>
     ensures { OnOk result (out.new.items ≡ out.old.items ++ flat.payload_bytes sorts.now) }
 {
@@ -57,7 +57,7 @@ fn push_payload(out: &mut Vec<u8>, sorts: &[Dotted]) -> Result<(), AllocError>
     Ok(())
 }
 
-/// Adds the operator after a 1, or 0 where there is none.
+// Adds the operator after a 1, or 0 where there is none.
 fn push_operator(out: &mut Vec<u8>, op: &Option<Name>) -> Result<(), AllocError>
     ensures { OnOk result (out.new.items ≡ out.old.items ++ flat.operator_bytes op.now) }
 {

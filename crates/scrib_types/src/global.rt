@@ -47,7 +47,7 @@ impl GlobalType {
         }
     }
 
-    /// The same type once more.
+    /// A copy of the type.
     ///
     /// # Errors
     /// `AllocError` where memory for the copy is refused.

@@ -4,12 +4,12 @@
 pub mod allowed;
 pub mod bytes;
 pub mod event;
-pub mod few;
 pub mod flat;
 pub mod global;
 pub mod local;
 pub mod message;
 pub mod name;
+pub mod one_or_many;
 pub mod profile;
 pub mod protocol;
 pub mod shared_event;
@@ -17,4 +17,4 @@ pub mod shared_message;
 pub mod spot;
 pub mod text;
 
-pub use sqlite_items as plain;
+pub use sqlite_items as containers;

@@ -7,8 +7,8 @@ use crate::shared_message::SharedMessage;
 use sqlite_items::{Boxed, Items};
 use std::alloc::{AllocError, Global};
 
-/// A local type (Honda, Yoshida and Carbone, POPL 2008): a global type as one role sees it, with an
-/// internal choice of sends or an external choice of receptions in place of each communication.
+/// A local type (Honda, Yoshida and Carbone, POPL 2008): what one role does. In place of a communication it has an
+/// internal choice of sends or an external choice of receptions.
 #[derive(Drop)]
 pub enum Local {
     End,
@@ -58,7 +58,7 @@ impl Local {
         }
     }
 
-    /// The same type once more.
+    /// A copy of the type.
     ///
     /// # Errors
     /// `AllocError` where memory for the copy is refused.

@@ -1,4 +1,4 @@
-//! Messages: an operator, or none, and the types of what is carried.
+//! Messages: an operator, or none, and the types of the payload.
 
 ghost use Rattle.std.specs.Prelude.{◌≡◌, ◌↔◌, IsTrue};
 

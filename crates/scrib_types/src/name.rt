@@ -13,7 +13,7 @@ use std::sync::Arc;
 pub const MAX_NAME_BYTES: usize = 128;
 
 /// A name: an ASCII letter or underscore, then letters, digits and underscores, 1 to 128 bytes in all.
-/// Copies share the bytes. Contracts see its bytes.
+/// Copies share the bytes. Contracts see them.
 #[derive(Drop)]
 pub struct Name {
     bytes: Arc<Vec<u8>>,
@@ -70,10 +70,10 @@ impl Name {
         same_bytes(self.as_bytes(), bytes)
     }
 
-    /// The same name once more.
+    /// A copy that shares the bytes.
     ///
     /// # Errors
-    /// `AllocError` where the count of those who share the bytes can't rise.
+    /// `AllocError` where the reference count can't rise.
     pub fn copy(&self) -> Result<Name, AllocError>
         ensures { IfOk result (λ name. name ≡ self.now) }
     {
@@ -82,7 +82,7 @@ impl Name {
     }
 }
 
-/// One or more names, joined by dots. Copies share the list. Contracts see the list of the names.
+/// One or more names, joined by dots. Copies share the list. Contracts see the list.
 #[derive(Drop)]
 pub struct Dotted {
     names: Arc<Vec<Name>>,
@@ -126,10 +126,10 @@ impl Dotted {
         names_equal(&self.names, &other.names)
     }
 
-    /// The same once more.
+    /// A copy that shares the names.
     ///
     /// # Errors
-    /// `AllocError` where the count of those who share the names can't rise.
+    /// `AllocError` where the reference count can't rise.
     pub fn copy(&self) -> Result<Dotted, AllocError>
         ensures { IfOk result (λ dotted. dotted ≡ self.now) }
     {
@@ -145,7 +145,7 @@ pub fn is_letter(byte: u8) -> bool
     matches!(byte, b'a'..=b'z' | b'A'..=b'Z' | b'_')
 }
 
-/// Whether the byte may stand in a name after its first byte.
+/// Whether a name may have the byte after its first one.
 pub fn is_word_byte(byte: u8) -> bool
     ensures { result ≡ names.is_word_byte byte }
 {

@@ -1,4 +1,4 @@
-//! Which branches merge in a projection.
+//! The profiles of projection: which branches of a choice merge.
 
 ghost use Rattle.std.specs.Prelude.{◌≡◌};
 ghost use Rattle.scrib_types.specs.Texts.{profile_word};

@@ -8,8 +8,7 @@ use crate::global::GlobalType;
 use crate::name::Role;
 use sqlite_items::Items;
 
-/// A well-formed global type, with its roles in the order in which they are declared. Each role has a
-/// projection.
+/// A well-formed global type with its roles, in declared order. Each role has a projection.
 #[derive(Drop)]
 pub struct Protocol {
     roles: Items<Role>,
@@ -31,7 +30,7 @@ impl Protocol {
         Protocol { roles, global }
     }
 
-    /// The roles, in the order in which they are declared.
+    /// The roles, in declared order.
     pub fn roles(&self) -> &[Role]
         ensures roles { result.now ≡ (agreement_of self.now).roles }
         ensures valid { IsTrue (is_protocol (agreement_of self.now).roles (agreement_of self.now).global) }

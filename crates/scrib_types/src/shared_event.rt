@@ -1,4 +1,4 @@
-//! Events as logs, steps and receipts hold them.
+//! Shared events, as logs, steps and receipts hold them.
 
 ghost use Rattle.std.specs.Prelude.{◌≡◌, ◌↔◌, ◌++◌, IsTrue, IfOk, OnOk};
 ghost use Rattle.scrib_types.specs.Flat.{name_bytes, message_bytes};
@@ -17,15 +17,15 @@ use std::sync::Arc;
 // Room for the flat form of a usual event.
 const USUAL_FLAT_BYTES: usize = 48;
 
-/// An event beside its flat form.
+// An event beside its flat form.
 #[derive(Drop)]
 struct Flattened {
     event: Event,
     flat: Vec<u8>,
 }
 
-/// An event that its copies share, so that a copy costs a count. It keeps its flat form, so that two are compared as
-/// bytes that lie side by side. Contracts see the event.
+/// An event that its copies share by a reference count. It keeps its flat form, so that two events are compared as
+/// contiguous bytes. Contracts see the event.
 #[derive(Drop)]
 pub struct SharedEvent {
     shared: Arc<Flattened>,
@@ -44,7 +44,7 @@ impl Model for SharedEvent {
 }
 
 impl SharedEvent {
-    /// The event, to be shared.
+    /// Takes the event into shared memory.
     ///
     /// # Errors
     /// `AllocError` where memory for it is refused.
@@ -71,10 +71,10 @@ impl SharedEvent {
         same_bytes(self.flat(), other.flat())
     }
 
-    /// The same event once more.
+    /// A copy that shares the event.
     ///
     /// # Errors
-    /// `AllocError` where the count of those who share it can't rise.
+    /// `AllocError` where the reference count can't rise.
     pub fn copy(&self) -> Result<SharedEvent, AllocError>
         ensures { IfOk result (λ shared. shared ≡ self.now) }
     {
@@ -82,7 +82,7 @@ impl SharedEvent {
         Ok(SharedEvent { shared })
     }
 
-    // The flat form, which no other event's begins with.
+    // The flat form. No other event's flat form begins with it.
     fn flat(&self) -> &[u8]
         ensures { result.now ≡ event_bytes self.now }
     {
@@ -90,10 +90,7 @@ impl SharedEvent {
     }
 }
 
-/// Adds the flat form of the event.
-///
-/// # Errors
-/// `AllocError` where memory for the longer bytes is refused, here and below.
+// Adds the flat form of the event. It fails where memory for the longer bytes is refused, as does the function below.
 fn push_event(out: &mut Vec<u8>, event: &Event) -> Result<(), AllocError>
     ensures { OnOk result (out.new.items ≡ out.old.items ++ event_bytes event.now) }
 {
@@ -113,14 +110,15 @@ fn push_event(out: &mut Vec<u8>, event: &Event) -> Result<(), AllocError>
     }
 }
 
-/// Adds the flat forms of both roles, and then that of the message.
+// Adds the flat forms of both roles, and then that of the message.
 fn push_exchange(
     out: &mut Vec<u8>,
     from: &Role,
     to: &Role,
     message: &SharedMessage,
 ) -> Result<(), AllocError>
-    ensures { OnOk result (out.new.items ≡ out.old.items ++ name_bytes from.now ++ name_bytes to.now ++ message_bytes message.now) }
+    ensures { OnOk result (out.new.items ≡ out.old.items ++ name_bytes from.now ++ name_bytes to.now
+        ++ message_bytes message.now) }
 {
     push_name(out, from)?;
     push_name(out, to)?;

@@ -1,4 +1,4 @@
-//! Messages as types, events and actions hold them.
+//! Shared messages, as types, events and actions hold them.
 
 ghost use Rattle.std.specs.Prelude.{◌≡◌, ◌↔◌, IsTrue, IfOk};
 ghost use Rattle.scrib_types.specs.Flat.{message_bytes};
@@ -13,15 +13,15 @@ use std::sync::Arc;
 // Room for the flat form of a usual message.
 const USUAL_FLAT_BYTES: usize = 32;
 
-/// A message beside its flat form.
+// A message beside its flat form.
 #[derive(Drop)]
 struct Flattened {
     message: Message,
     flat: Vec<u8>,
 }
 
-/// A message that its copies share, so that a copy costs a count. It keeps its flat form, so that two are compared as
-/// bytes that lie side by side. Contracts see the message.
+/// A message that its copies share by a reference count. It keeps its flat form, so that two messages are compared as
+/// contiguous bytes. Contracts see the message.
 #[derive(Drop)]
 pub struct SharedMessage {
     shared: Arc<Flattened>,
@@ -40,7 +40,7 @@ impl Model for SharedMessage {
 }
 
 impl SharedMessage {
-    /// The message, to be shared.
+    /// Takes the message into shared memory.
     ///
     /// # Errors
     /// `AllocError` where memory for it is refused.
@@ -60,7 +60,7 @@ impl SharedMessage {
         &self.shared.message
     }
 
-    /// The flat form, which no other message's begins with.
+    /// The flat form. No other message's flat form begins with it.
     pub fn flat(&self) -> &[u8]
         ensures { result.now ≡ message_bytes self.now }
     {
@@ -68,17 +68,17 @@ impl SharedMessage {
     }
 
     /// Whether the two are the same.
-    #[tactic(auto, using(crate::proofs::ReadOnce::same_message))]
+    #[tactic(auto, using(crate::proofs::FlatFormLemmas::same_message))]
     pub fn equal(&self, other: &SharedMessage) -> bool
         ensures { IsTrue result ↔ (self.now ≡ other.now) }
     {
         same_bytes(self.flat(), other.flat())
     }
 
-    /// The same message once more.
+    /// A copy that shares the message.
     ///
     /// # Errors
-    /// `AllocError` where the count of those who share it can't rise.
+    /// `AllocError` where the reference count can't rise.
     pub fn copy(&self) -> Result<SharedMessage, AllocError>
         ensures { IfOk result (λ shared. shared ≡ self.now) }
     {

@@ -1,4 +1,4 @@
-//! The printed text of names, messages and actions, added to the bytes of a text.
+//! The printed text of names, messages and actions, added to a vector of bytes.
 
 ghost use Rattle.std.specs.Prelude.{◌≡◌, ◌++◌, OnOk};
 ghost use Rattle.std.specs.Fmt.{decimal};

@@ -1,6 +1,6 @@
 use Rattle.std.proofs.lemmas.Result.{on_ok_weaker}
 use Rattle.scrib_global.proofs.Order.{passing_if}
-use Rattle.scrib_global.proofs.Reading.{true_part}
+use Rattle.scrib_global.proofs.LogPrefixes.{true_part}
 use Rattle.scrib_global.proofs.allowed.add_allowed.Goals as goal
 
 pub returns-then-branch-clause-kept : goal.returns-then-branch-clause-kept

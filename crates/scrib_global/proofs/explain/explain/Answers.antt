@@ -1,7 +1,7 @@
 use Rattle.std.proofs.Common.{None, subst}
 use Rattle.scrib_types.specs.Meaning.{agreement_of}
 use Rattle.scrib_global.specs.Offences.{FirstOffence}
-use Rattle.scrib_global.proofs.Explaining.{explained}
+use Rattle.scrib_global.proofs.FlightLists.{explained}
 use Rattle.scrib_global.proofs.explain.explain.Goals as goal
 
 pub returns-in_ok-all_in_flight-in-None : goal.returns-in_ok-all_in_flight-in-None

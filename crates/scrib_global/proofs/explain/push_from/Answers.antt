@@ -1,5 +1,5 @@
 use Rattle.scrib_global.specs.Explained.{in_flight}
-use Rattle.scrib_global.proofs.Explaining.{flat_more}
+use Rattle.scrib_global.proofs.FlightLists.{flat_more}
 use Rattle.scrib_global.proofs.explain.push_from.Goals as goal
 
 pub loop-to-preserved : goal.loop-to-preserved

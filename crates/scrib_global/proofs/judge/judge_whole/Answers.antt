@@ -3,7 +3,7 @@ use Rattle.scrib_types.specs.Judgement.{AreAllowed}
 use Rattle.scrib_types.specs.Logs.{subject_of}
 use Rattle.scrib_types.specs.Meaning.{agreement_of}
 use Rattle.scrib_global.specs.Offences.{FirstOffence}
-use Rattle.scrib_global.proofs.Judged.{run_verdict, offence_verdict, is_offence}
+use Rattle.scrib_global.proofs.JudgementLemmas.{run_verdict, offence_verdict, is_offence}
 use Rattle.scrib_global.proofs.judge.judge_whole.Goals as goal
 
 pub returns-in-None-clause-runs : goal.returns-in-None-clause-runs

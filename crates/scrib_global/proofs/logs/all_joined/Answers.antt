@@ -1,4 +1,4 @@
-use Rattle.scrib_global.proofs.Reading.{joined_none, joined_more, joined_at, joined_all, not_whole, whole, true_part}
+use Rattle.scrib_global.proofs.LogPrefixes.{joined_none, joined_more, joined_at, joined_all, not_whole, whole, true_part}
 use Rattle.scrib_global.proofs.logs.all_joined.Goals as goal
 
 pub loop-i-init : goal.loop-i-init

@@ -1,5 +1,5 @@
 use Rattle.std.proofs.Common.{◌∙◌, sym}
-use Rattle.scrib_global.proofs.Reading.{test_is}
+use Rattle.scrib_global.proofs.LogPrefixes.{test_is}
 use Rattle.scrib_global.proofs.logs.is_joined.Goals as goal
 
 pub returns-in-Sent : goal.returns-in-Sent

@@ -1,5 +1,5 @@
 use Rattle.std.proofs.Common.{◌∙◌, sym, ap}
-use Rattle.scrib_global.proofs.Reading.{own_more, own_same}
+use Rattle.scrib_global.proofs.LogPrefixes.{own_more, own_same}
 use Rattle.scrib_global.proofs.logs.own_actions.Goals.{then-is_action_of+in_ok-action_of+in_ok-push, else-is_action_of}
 use Rattle.scrib_global.proofs.logs.own_actions.Goals as goal
 

@@ -1,6 +1,6 @@
 use Rattle.scrib_types.specs.Meaning.{agreement_of}
-use Rattle.scrib_global.proofs.Reading.{true_part}
-use Rattle.scrib_global.proofs.Judged.{first_none, first_more, first_all}
+use Rattle.scrib_global.proofs.LogPrefixes.{true_part}
+use Rattle.scrib_global.proofs.JudgementLemmas.{first_none, first_more, first_all}
 use Rattle.scrib_global.proofs.permitted.first_offence.Goals as goal
 
 pub loop-i-init : goal.loop-i-init

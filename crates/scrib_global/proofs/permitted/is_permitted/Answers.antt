@@ -1,7 +1,7 @@
 use Rattle.scrib_types.specs.Meaning.{agreement_of}
 use Rattle.scrib_types.specs.GlobalView.{global_of}
-use Rattle.scrib_global.proofs.Reading.{not_whole, true_part}
-use Rattle.scrib_global.proofs.Judged.{permitted_traced, permitted_from}
+use Rattle.scrib_global.proofs.LogPrefixes.{not_whole, true_part}
+use Rattle.scrib_global.proofs.JudgementLemmas.{permitted_traced, permitted_from}
 use Rattle.scrib_global.proofs.permitted.is_permitted.Goals as goal
 
 pub returns-then-not-branch : goal.returns-then-not-branch

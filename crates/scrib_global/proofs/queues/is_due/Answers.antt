@@ -1,5 +1,5 @@
 use Rattle.std.proofs.Common.{◌∙◌, sym}
-use Rattle.scrib_global.proofs.Reading.{due_from}
+use Rattle.scrib_global.proofs.LogPrefixes.{due_from}
 use Rattle.scrib_global.proofs.queues.is_due.Goals as goal
 
 pub returns-in_ok-received-in-Received : goal.returns-in_ok-received-in-Received

@@ -1,4 +1,4 @@
-use Rattle.scrib_global.proofs.Reading.{prefix_of}
+use Rattle.scrib_global.proofs.LogPrefixes.{prefix_of}
 use Rattle.scrib_global.proofs.queues.is_prefix.Goals as goal
 
 pub returns-then-a-b : goal.returns-then-a-b

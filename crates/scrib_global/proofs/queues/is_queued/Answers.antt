@@ -1,4 +1,4 @@
-use Rattle.scrib_global.proofs.Reading.{queued_none, queued_more, due_at, queued_all, not_whole, whole, true_part}
+use Rattle.scrib_global.proofs.LogPrefixes.{queued_none, queued_more, due_at, queued_all, not_whole, whole, true_part}
 use Rattle.scrib_global.proofs.queues.is_queued.Goals as goal
 
 pub loop-i-init : goal.loop-i-init

@@ -1,6 +1,6 @@
 use Rattle.std.proofs.Common.{◌∙◌, sym, ap}
 use Rattle.scrib_types.specs.Queues.{received_message}
-use Rattle.scrib_global.proofs.Reading.{given_more, given_none}
+use Rattle.scrib_global.proofs.LogPrefixes.{given_more, given_none}
 use Rattle.scrib_global.proofs.queues.received.Goals.{in-Some+in_ok-push-in-Some, in-None}
 use Rattle.scrib_global.proofs.queues.received.Goals as goal
 

@@ -8,7 +8,7 @@ use Rattle.scrib_lexer.specs.declared.token.Element.TheVariants as element
 use Rattle.scrib_lexer.specs.Steps.{IsFrontElement, spot_in, spot_past, spot_past_all}
 use Rattle.scrib_lexer.specs.Words.{is_space}
 use Rattle.scrib_lexer.proofs.Spots.{line-le, column-le, spot_after-push}
-use Rattle.scrib_lexer.proofs.Read.{IsRead, read_token, read_other, spot_more, fault_here, placed, is_faulty, no_tokens, fails_as, refused_as, end_found, end_only, no_fault}
+use Rattle.scrib_lexer.proofs.ReadingLemmas.{IsRead, read_token, read_other, spot_more, fault_here, placed, is_faulty, no_tokens, fails_as, refused_as, end_found, end_only, no_fault}
 use Rattle.scrib_lexer.proofs.lex.lex.Goals as goal
 use Rattle.scrib_lexer.proofs.lex.lex.Goals.{in-Token+in_ok-push, in_default}
 

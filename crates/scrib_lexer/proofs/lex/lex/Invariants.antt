@@ -2,7 +2,7 @@ use Rattle.std.proofs.Common.{◌≡◌, ◌≤◌, ◌-◌, length, take}
 use Rattle.scrib_lexer.specs.Lexeme.{lexemes_of}
 use Rattle.scrib_lexer.specs.Steps.{spot_in}
 use Rattle.scrib_lexer.specs.Tokens.{spot_after}
-use Rattle.scrib_lexer.proofs.Read.{IsRead}
+use Rattle.scrib_lexer.proofs.ReadingLemmas.{IsRead}
 use Rattle.scrib_lexer.proofs.lex.lex.Given as goal
 
 abbrev pub invariant-loop-start : goal.invariant-loop-start

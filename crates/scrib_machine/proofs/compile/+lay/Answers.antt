@@ -6,10 +6,10 @@ use Rattle.scrib_types.specs.declared.message.Message.{Message}
 use Rattle.scrib_types.specs.LocalView.{local_of, local_branches, end_of, var_of, rec_of, send_of, recv_of}
 use Rattle.scrib_types.specs.Trees.{LocalRec, Send, Recv}
 use Rattle.scrib_machine.specs.declared.machine.Edge.{Edge}
-use Rattle.scrib_machine.specs.Compilable.{Closed, Distinct, nodes, nodes_all, most_nodes}
+use Rattle.scrib_machine.specs.Compilable.{Closed, Distinct, nodes, nodes_all, max_nodes}
 use Rattle.scrib_machine.specs.Layout.{edges_of, PlacedAll}
-use Rattle.scrib_machine.proofs.Laying.{placed_end, placed_var, placed_rec, placed_send, placed_recv, all_more, each_next, pushed_as}
-use Rattle.scrib_machine.proofs.Required.{nodes_at, room_at, closed_at, distinct_at, rec_room, rec_closed, rec_distinct, choice_room}
+use Rattle.scrib_machine.proofs.LayoutLemmas.{placed_end, placed_var, placed_rec, placed_send, placed_recv, all_more, each_next, pushed_as}
+use Rattle.scrib_machine.proofs.LayoutConditions.{nodes_at, room_at, closed_at, distinct_at, rec_room, rec_closed, rec_distinct, choice_room}
 use Rattle.scrib_machine.proofs.compile.+lay.Goals as goal
 
 pub lay-lay-requires : goal.lay-lay-requires
@@ -18,7 +18,7 @@ lay-lay-requires t c =
     let falls : 3 * nodes (local_of c.get.result.now) < t = omega (arith, c.decreases, ap nodes form) in (
       falls,
       (
-        rec_room (local_of c.args.local.now) (local_of c.get.result.now) (length c.args.rows.now.items) most_nodes form c.requires.room,
+        rec_room (local_of c.args.local.now) (local_of c.get.result.now) (length c.args.rows.now.items) max_nodes form c.requires.room,
         (
           rec_closed (local_of c.args.local.now) (local_of c.get.result.now) 0 c.args.outer.now.items c.push-in-Rec.new.self.items _ form c.in_ok-push-in-Rec.ensures.items c.requires.closed,
           rec_distinct (local_of c.args.local.now) (local_of c.get.result.now) form c.requires.distinct,
@@ -47,7 +47,7 @@ lay_all-lay-requires t c = (
       let falls : 3 * nodes (local_of c.loop-local-item.result.1) < t = omega (arith, c.decreases, nodes_at c.args.branches.now c.loop-local.local-index c.loop-local-item.result c.loop-local-item.is c.loop-local-test.true) in falls
       ),
   (
-    room_at c.args.rows.now.items c.loop-local.rows.items (reverse c.loop-local.outer.items) c.args.branches.now c.loop-local.local-index c.loop-local-item.result c.loop-local.nexts.items most_nodes c.requires.room c.loop-local.invariant.0 c.loop-local-item.is c.loop-local-test.true,
+    room_at c.args.rows.now.items c.loop-local.rows.items (reverse c.loop-local.outer.items) c.args.branches.now c.loop-local.local-index c.loop-local-item.result c.loop-local.nexts.items max_nodes c.requires.room c.loop-local.invariant.0 c.loop-local-item.is c.loop-local-test.true,
     (
       closed_at c.args.branches.now c.loop-local.local-index (length c.args.outer.now.items) (length c.loop-local.outer.items) c.loop-local-item.result c.requires.closed c.loop-local-item.is c.loop-local-test.true (ap length c.loop-local.invariant.1),
       distinct_at c.args.branches.now c.loop-local.local-index c.loop-local-item.result c.requires.distinct c.loop-local-item.is c.loop-local-test.true,
@@ -69,7 +69,7 @@ lay-lay_sends-requires t c =
     let falls : 3 * nodes_all (local_branches c.as_slice.result.now) + 2 < t = omega (arith, c.decreases, ap nodes form) in (
       falls,
       (
-        subst (λ x. length c.args.rows.now.items + nodes x ≤ most_nodes) form c.requires.room,
+        subst (λ x. length c.args.rows.now.items + nodes x ≤ max_nodes) form c.requires.room,
         (
           subst (λ x. Closed x (length c.args.outer.now.items)) form c.requires.closed,
           subst (λ x. Distinct x) form c.requires.distinct,
@@ -82,7 +82,7 @@ lay_sends-lay_all-requires t c =
     let falls : 3 * nodes_all (local_branches c.args.branches.now) + 1 < t = omega (arith, c.decreases) in (
       falls,
       (
-        choice_room (Send c.args.to.now (local_branches c.args.branches.now)) (Send c.args.to.now (local_branches c.args.branches.now)) (local_branches c.args.branches.now) c.args.rows.now.items c.push.new.self.items c.none.result most_nodes refl refl c.in_ok-push.ensures.items c.requires.room,
+        choice_room (Send c.args.to.now (local_branches c.args.branches.now)) (Send c.args.to.now (local_branches c.args.branches.now)) (local_branches c.args.branches.now) c.args.rows.now.items c.push.new.self.items c.none.result max_nodes refl refl c.in_ok-push.ensures.items c.requires.room,
         (c.requires.closed, c.requires.distinct.1),
       ),
     )
@@ -111,7 +111,7 @@ lay-lay_receptions-requires t c =
     let falls : 3 * nodes_all (local_branches c.as_slice-in-Recv.result.now) + 2 < t = omega (arith, c.decreases, ap nodes form) in (
       falls,
       (
-        subst (λ x. length c.args.rows.now.items + nodes x ≤ most_nodes) form c.requires.room,
+        subst (λ x. length c.args.rows.now.items + nodes x ≤ max_nodes) form c.requires.room,
         (
           subst (λ x. Closed x (length c.args.outer.now.items)) form c.requires.closed,
           subst (λ x. Distinct x) form c.requires.distinct,
@@ -124,7 +124,7 @@ lay_receptions-lay_all-requires t c =
     let falls : 3 * nodes_all (local_branches c.args.branches.now) + 1 < t = omega (arith, c.decreases) in (
       falls,
       (
-        choice_room (Recv c.args.from.now (local_branches c.args.branches.now)) (Recv c.args.from.now (local_branches c.args.branches.now)) (local_branches c.args.branches.now) c.args.rows.now.items c.push.new.self.items c.none.result most_nodes refl refl c.in_ok-push.ensures.items c.requires.room,
+        choice_room (Recv c.args.from.now (local_branches c.args.branches.now)) (Recv c.args.from.now (local_branches c.args.branches.now)) (local_branches c.args.branches.now) c.args.rows.now.items c.push.new.self.items c.none.result max_nodes refl refl c.in_ok-push.ensures.items c.requires.room,
         (c.requires.closed, c.requires.distinct.1),
       ),
     )

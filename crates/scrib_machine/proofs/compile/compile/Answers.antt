@@ -10,8 +10,8 @@ pub from_rows-requires : goal.from_rows-requires
 from_rows-requires c =
     (placed_system c.new-rows.result.items c.lay.new.rows.items c.new-outer.result.items (local_of c.args.local.now) c.in_ok-lay.field-0 c.requires c.new-rows.ensures.items c.new-outer.ensures.items c.in_ok-lay.ensures.placed).0
 
-pub returns-clause-stands : goal.returns-clause-stands
-returns-clause-stands c =
+pub returns-clause-system : goal.returns-clause-system
+returns-clause-system c =
     let l = local_of c.args.local.now in
     let system = placed_system c.new-rows.result.items c.lay.new.rows.items c.new-outer.result.items l c.in_ok-lay.field-0 c.requires c.new-rows.ensures.items c.new-outer.ensures.items c.in_ok-lay.ensures.placed in
     subst (λ (m : List (List Edge)). IsSystemOf l m) (sym c.from_rows.ensures) system.1

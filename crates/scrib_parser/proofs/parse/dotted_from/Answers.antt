@@ -36,4 +36,4 @@ loop-tokens-preserved c =
 
 pub returns : goal.returns
 returns c =
-    rw c.in_ok-share.ensures (is_done (same_kind Dot) (after (token_of Dot) name_of) dot_takes c.loop-tokens.words.items (lexemes_of c.loop-tokens.tokens.rest.now) (dotted_from c.args.first (lexemes_of c.args.tokens.now.rest.now)) (sym c.loop-tokens-test.ensures) c.loop-tokens.invariant.0)
+    rw c.in_ok-intern.ensures (is_done (same_kind Dot) (after (token_of Dot) name_of) dot_takes c.loop-tokens.words.items (lexemes_of c.loop-tokens.tokens.rest.now) (dotted_from c.args.first (lexemes_of c.args.tokens.now.rest.now)) (sym c.loop-tokens-test.ensures) c.loop-tokens.invariant.0)

@@ -1,5 +1,5 @@
 use Rattle.scrib_lexer.specs.Lexeme.{lexemes_of}
-use Rattle.scrib_parser.proofs.Whole.{is_found, is_only, is_fault}
+use Rattle.scrib_parser.proofs.WholeModules.{is_found, is_only, is_fault}
 use Rattle.scrib_parser.proofs.parse.parse.Goals as goal
 
 pub returns-clause-found : goal.returns-clause-found

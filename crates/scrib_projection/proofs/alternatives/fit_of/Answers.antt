@@ -1,7 +1,7 @@
 use Rattle.std.proofs.Common.{refl, sym, ◌∙◌}
 use Rattle.scrib_types.specs.Same.{same_operator}
 use Rattle.scrib_projection.specs.declared.alternatives.Fit.TheVariants.{Known, New, Clashing}
-use Rattle.scrib_projection.proofs.Fitting.{locals_more, locals_end, fit_here, fit_later, fit_none}
+use Rattle.scrib_projection.proofs.AlternativeLemmas.{locals_more, locals_end, fit_here, fit_later, fit_none}
 use Rattle.scrib_projection.proofs.alternatives.fit_of.Goals as goal
 
 pub returns-then-same_alternative : goal.returns-then-same_alternative

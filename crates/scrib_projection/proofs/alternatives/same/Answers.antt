@@ -1,6 +1,6 @@
 use Rattle.std.proofs.Common.{ap}
 use Rattle.scrib_types.specs.LocalView.{local_of}
-use Rattle.scrib_types.specs.LocalBack.{local_of-injective}
+use Rattle.scrib_types.specs.LocalInjective.{local_of-injective}
 use Rattle.scrib_types.specs.Same.{same_local_decided}
 use Rattle.scrib_projection.proofs.alternatives.same.Goals as goal
 

@@ -1,4 +1,4 @@
-use Rattle.scrib_projection.proofs.Fitting.{pushed}
+use Rattle.scrib_projection.proofs.AlternativeLemmas.{pushed}
 use Rattle.scrib_projection.proofs.alternatives.with_alternative.Goals as goal
 
 pub returns-in_ok-push-in-New : goal.returns-in_ok-push-in-New

@@ -1,5 +1,5 @@
 use Rattle.std.proofs.Common.{arith}
-use Rattle.scrib_types.proofs.Written.{number_written}
+use Rattle.scrib_types.proofs.NumberLemmas.{number_written}
 use Rattle.scrib_types.proofs.flat.push_number.Goals as goal
 
 pub returns : goal.returns

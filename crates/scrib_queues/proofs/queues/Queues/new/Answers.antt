@@ -1,4 +1,4 @@
-use Rattle.scrib_queues.proofs.Seen.{none_used}
+use Rattle.scrib_queues.proofs.QueueViews.{none_used}
 use Rattle.scrib_queues.proofs.queues.Queues.new.Goals as goal
 
 pub returns-clause-empty : goal.returns-clause-empty

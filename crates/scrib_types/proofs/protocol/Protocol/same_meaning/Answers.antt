@@ -2,7 +2,7 @@ use Rattle.std.proofs.Common.{◌≡◌, ℕ, List, ap, sym, ◌∙◌}
 use Rattle.scrib_types.specs.Agreement.{Agreement}
 use Rattle.scrib_types.specs.declared.global.GlobalType.{GlobalType}
 use Rattle.scrib_types.specs.GlobalView.{global_of}
-use Rattle.scrib_types.specs.GlobalBack.{global_of-injective}
+use Rattle.scrib_types.specs.GlobalInjective.{global_of-injective}
 use Rattle.scrib_types.proofs.protocol.Protocol.same_meaning.Goals as goal
 
 abbrev agreement : List (List ℕ) → GlobalType → Agreement

@@ -1,4 +1,4 @@
-use Rattle.scrib_types.proofs.ReadOnce.{same_event}
+use Rattle.scrib_types.proofs.FlatFormLemmas.{same_event}
 use Rattle.scrib_types.proofs.shared_event.SharedEvent.equal.Goals as goal
 
 pub returns : goal.returns

@@ -1,4 +1,4 @@
-use Rattle.scrib_types.proofs.ReadOnce.{same_message}
+use Rattle.scrib_types.proofs.FlatFormLemmas.{same_message}
 use Rattle.scrib_types.proofs.shared_message.SharedMessage.equal.Goals as goal
 
 pub returns : goal.returns
