@@ -1,4 +1,4 @@
--- What a derivation of a type says, by the first statement.
+-- The cases of a derivation of a type, by the first statement.
 use Rattle.std.proofs.Common.{◌≡◌, ◌⊎◌, inl, inr, ℕ, ◌+◌, true, false, List, map, Some, refl}
 use Rattle.scrib_types.specs.declared.message.Message.{Message}
 use Rattle.scrib_types.specs.declared.spot.Spot.{Spot}
@@ -8,7 +8,7 @@ use Rattle.scrib_parser.specs.declared.tree.ModuleTree.{ModuleTree}
 use Rattle.scrib_static_checks.specs.Source.{Body, Done, Then, Sends, Chooses, Repeats, Continues, Calls, Blocks, NoBlock, OrBlock}
 use Rattle.scrib_static_checks.specs.SourceView.{body_of}
 use Rattle.scrib_static_checks.specs.Names.{Declaration, called}
-use Rattle.scrib_static_checks.specs.Elaboration.{continues_in, Scope, role_in, level_of, inside, inside_call, Frames, NoFrame, Under, sent, and_branches, Types, ends, closes, sends, chooses, repeats, passes, continues, calls, JoinsTo, joins_none, joins}
+use Rattle.scrib_static_checks.specs.Elaboration.{continues_in, Scope, role_in, level_of, inside, inside_call, Frames, NoFrame, Under, prefix_message, and_branches, Types, ends, closes, sends, chooses, repeats, passes, continues, calls, JoinsTo, joins_none, joins}
 
 pub type_of_none : {ms : List ModuleTree} {n : ℕ} {g : GlobalTree} → Types ms n NoFrame g → g ≡ GlobalEnd
 type_of_none ends = refl
@@ -17,7 +17,7 @@ pub type_of_done : {ms : List ModuleTree} {n : ℕ} {sc : Scope} {fs : Frames} {
 type_of_done (closes t) = t
 
 pub type_of_sends : {ms : List ModuleTree} {n : ℕ} {sc : Scope} {m : Message} {p : List ℕ} {qs : List (List ℕ)} {s : Spot} {b : Body} {fs : Frames} {h : GlobalTree}
-    → Types ms n (Under sc (Then (Sends m p qs s) b) fs) h → (g : GlobalTree) × Types ms n (Under sc b fs) g × (h ≡ sent m (role_in sc p) (map (role_in sc) qs) g)
+    → Types ms n (Under sc (Then (Sends m p qs s) b) fs) h → (g : GlobalTree) × Types ms n (Under sc b fs) g × (h ≡ prefix_message m (role_in sc p) (map (role_in sc) qs) g)
 type_of_sends (sends {g = g} t e) = (g, t, e)
 
 pub record IsJoin (ms : List ModuleTree) (n : ℕ) (sc : Scope) (p : List ℕ) (bs : Blocks) (fs : Frames) (h : GlobalTree) : Type 0 where

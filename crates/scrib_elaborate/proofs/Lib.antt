@@ -1,26 +1,26 @@
 mod Inversion
 mod Branches
-pub mod Functional
-pub mod Lifted
+pub mod UniqueMeaning
+pub mod ShiftLemmas
 pub mod NeededParts
-mod RecursionsUsed
-pub mod Accepted
-mod Typed
-pub mod Passing
-mod Skipped
-mod Counted
-mod Refuted
-mod Answered
-mod Zipped
-pub mod Sited
-mod Begun
-pub mod Moved
-mod TypesKept
+mod RecursionUse
+pub mod SoundnessLemmas
+mod TypeExistence
+pub mod NoEffectLemmas
+mod SkippedCalls
+mod SizeLemmas
+mod FaultRefutations
+mod FaultLemmas
+mod ZipLemmas
+pub mod SiteLemmas
+mod FirstChoices
+pub mod IsolatedCalls
+mod MemoLemmas
 mod Steps
-mod Joined
-mod Rounds
-mod Finished
-mod Staying
-mod Alone
-mod Ahead
-mod Forgotten
+mod ChoiceSteps
+mod LevelLemmas
+mod PassResults
+mod ExitLemmas
+mod IsolatedBlocks
+mod FaultPrefixes
+mod WalkRemoval

@@ -1,4 +1,4 @@
--- What the type of frames is made of, and which faults of types are theirs.
+-- What the type of frames is built from, and which faults of types are theirs.
 use Rattle.std.proofs.Common.{◌≡◌, inl, inr, ℕ, zero, suc, ◌+◌, ◌-◌, ◌≤◌, Bool, true, false, List, Some, refl, sym, ap, ◌∙◌, subst, ⊎_elim, arith}
 use Rattle.std.proofs.lemmas.Bool.{false≢true, or_cases}
 use Rattle.scrib_types.specs.declared.spot.Spot.{Spot}
@@ -11,9 +11,9 @@ use Rattle.scrib_static_checks.specs.Names.{Declaration, called}
 use Rattle.scrib_static_checks.specs.Statements.{protocol_keeps, BlockKeeps, end_keeps, then_keeps, StatementKeeps, sends_keeps, chooses_keeps, repeats_keeps, continues_keeps, calls_keeps, BlocksKeep, none_keeps, or_keeps}
 use Rattle.scrib_static_checks.specs.Elaboration.{continues_in, Scope, inside, inside_call, Frames, Under, Types}
 use Rattle.scrib_static_checks.specs.Faults.{blocks_before, Needs, needs_itself, needs_close, needs_sends, needs_branch, needs_repeats, needs_passes, needs_calls, IsNeeded, IsBranch, IsOneOf, IsFirstBlock, FailsTyping}
-use Rattle.scrib_type_builder.specs.Lifting.{lifted, branches_lifted}
+use Rattle.scrib_type_builder.specs.Shifting.{shifted, branches_shifted}
 use Rattle.scrib_elaborate.specs.Levels.{AreBelow}
-use Rattle.scrib_elaborate.proofs.Lifted.{raised_scope, raised, inside_raised, lift_types, leads_lifted, share_lifted, raised_stay, below_more}
+use Rattle.scrib_elaborate.proofs.ShiftLemmas.{raised_scope, raised, inside_raised, shift_types, leads_shifted, share_shifted, raised_stay, below_more}
 
 pub needs_trans : {ms : List ModuleTree} {n m k : ℕ} {fs gs hs : Frames} → Needs ms n fs m gs → Needs ms m gs k hs → Needs ms n fs k hs
 needs_trans needs_itself v = v
@@ -45,7 +45,7 @@ needs_below (needs_repeats {n = n} {sc = sc} {b = b} {fs = fs} e u) low =
 needs_below (needs_passes e u) low = needs_below u (low.0, low)
 needs_below (needs_calls e u) low = needs_below u (tt, low)
 
--- under a recursion more
+-- under one more recursion
 pub needs_raised : {ms : List ModuleTree} {n m : ℕ} {fs hs : Frames} → Needs ms n fs m hs → (c : ℕ) → c ≤ n → Needs ms (n + 1) (raised c fs) (m + 1) (raised c hs)
 needs_raised needs_itself c l = needs_itself
 needs_raised (needs_close u) c l = needs_close (needs_raised u c l)
@@ -56,7 +56,7 @@ needs_raised {ms = ms} (needs_repeats {n = n} {k = m} {sc = sc} {x = x} {c = bod
 needs_raised (needs_passes e u) c l = needs_passes e (needs_raised u c l)
 needs_raised (needs_calls e u) c l = needs_calls e (needs_raised u c l)
 
--- the type of statements with an exit is made of what follows them
+-- the type of statements with an exit is built from that of what follows them
 
 pub leads_before : {ms : List ModuleTree} {d : Declaration} {recs : List (List ℕ)} {e f : Bool} {b : Body} → BlockKeeps ms d recs e b f → f ≡ true → e ≡ true
 leads_before end_keeps h = h
@@ -72,12 +72,12 @@ record IsLed (ms : List ModuleTree) (n : ℕ) (sc : Scope) (bs : Blocks) (fs : F
   depth : ℕ
   needs : Needs ms n (Under sc block fs) depth fs
 
--- a recursion that is continued, and one that isn't
-round_body : {ms : List ModuleTree} {n : ℕ} {sc : Scope} {x : List ℕ} {c : Body} {s : Spot} {b : Body} {fs hs : Frames} (t : Bool) → continues_in x c ≡ t
+-- a recursion that is continued, and one that is not
+rec_body : {ms : List ModuleTree} {n : ℕ} {sc : Scope} {x : List ℕ} {c : Body} {s : Spot} {b : Body} {fs hs : Frames} (t : Bool) → continues_in x c ≡ t
     → (m : ℕ) × Needs ms (n + 1) (Under (inside sc x n) c (Under sc b fs)) m hs → (m : ℕ) × Needs ms n (Under sc c (Under sc b fs)) m hs
     → (m : ℕ) × Needs ms n (Under sc (Then (Repeats x c s) b) fs) m hs
-round_body true e stays goes = (stays.0, needs_repeats e stays.1)
-round_body false e stays goes = (goes.0, needs_passes e goes.1)
+rec_body true e stays goes = (stays.0, needs_repeats e stays.1)
+rec_body false e stays goes = (goes.0, needs_passes e goes.1)
 
 mutual
   pub leads_block : {ms : List ModuleTree} {d : Declaration} {recs : List (List ℕ)} {e f : Bool} {b : Body} → BlockKeeps ms d recs e b f → f ≡ true
@@ -95,7 +95,7 @@ mutual
       let l = leads_blocks bs h sc w n (Under sc b fs) in
       (l.depth, needs_branch l.before l.block l.spot l.after l.is l.needs)
   leads_step (repeats_keeps {x = x} {b = c} k) h sc w n b fs =
-      round_body _ refl (leads_block k h (inside sc x n) w (n + 1) (Under sc b fs)) (leads_block k h sc w n (Under sc b fs))
+      rec_body _ refl (leads_block k h (inside sc x n) w (n + 1) (Under sc b fs)) (leads_block k h sc w n (Under sc b fs))
   leads_step (continues_keeps x) h sc w n b fs = absurd (false≢true h)
   leads_step {ms = ms} (calls_keeps {path = path} {roles = roles} {c = c} i (protocol_keeps names block)) h sc w n b fs =
       let there : called ms sc.within.home path ≡ Some c = ap (λ x. called ms x.home path) w ∙ i.there in
@@ -110,7 +110,7 @@ mutual
       (λ t. let u = leads_blocks ks t sc w n fs in record { before = OrBlock b s u.before; block = u.block; spot = u.spot; after = u.after; is = ap (OrBlock b s) u.is; depth = u.depth; needs = u.needs })
       (or_cases e f (sym i ∙ h))
 
--- Each fault of a type is one of what it is made of.
+-- Each fault of a type is one of a type that it is built from.
 
 needed_from : {ms : List ModuleTree} {k n : ℕ} {from fs : Frames} {d : Declaration} → Needs ms k from n fs → {s : Statement} {m : ℕ} {sc : Scope} {hs : Frames} → IsNeeded ms n fs d s m sc hs → IsNeeded ms k from d s m sc hs
 needed_from u h = record { after = h.after; outer = h.outer; same = h.same; home = h.home; needs = needs_trans u h.needs }
@@ -176,7 +176,7 @@ fails_through kind.SameOperator d spot u h = record {
 }
 fails_through other d spot u h = absurd h
 
--- under a recursion more
+-- under one more recursion
 
 needed_deeper : {ms : List ModuleTree} {n : ℕ} {fs : Frames} {d : Declaration} → AreBelow n fs → {s : Statement} {m : ℕ} {sc : Scope} {hs : Frames} → IsNeeded ms n fs d s m sc hs
     → IsNeeded ms (n + 1) fs d s (m + 1) (raised_scope n sc) (raised n hs)
@@ -202,24 +202,24 @@ branch_deeper {n = n} low h = record {
   scope = raised_scope n h.scope;
   follows = raised n h.follows;
   needed = needed_deeper low h.needed;
-  type = lifted (h.depth - n) h.type;
-  typed = lift_types h.typed n (h.depth - n) (omega (arith, needed_depth h.needed));
+  type = shifted (h.depth - n) h.type;
+  typed = shift_types h.typed n (h.depth - n) (omega (arith, needed_depth h.needed));
 }
 
 earlier_deeper : {ms : List ModuleTree} {m : ℕ} {sc : Scope} {fs : Frames} {bs : Blocks} {p q : List ℕ} {cs : GlobalBranches} (c k : ℕ) → m ≡ c + k → IsOneOf ms m sc fs bs p q cs
-    → IsOneOf ms (m + 1) (raised_scope c sc) (raised c fs) bs p q (branches_lifted k cs)
+    → IsOneOf ms (m + 1) (raised_scope c sc) (raised c fs) bs p q (branches_shifted k cs)
 earlier_deeper c k e h = record {
   before = h.before;
   body = h.body;
   spot = h.spot;
   after = h.after;
   here = h.here;
-  typed = lift_types h.typed c k e;
+  typed = shift_types h.typed c k e;
 }
 
 first_deeper : {ms : List ModuleTree} {m : ℕ} {sc : Scope} {fs : Frames} {bs : Blocks} {p q : List ℕ} {cs : GlobalBranches} (c k : ℕ) → m ≡ c + k → IsFirstBlock ms m sc fs bs p q cs
-    → IsFirstBlock ms (m + 1) (raised_scope c sc) (raised c fs) bs p q (branches_lifted k cs)
-first_deeper c k e h = record { body = h.body; spot = h.spot; after = h.after; here = h.here; typed = lift_types h.typed c k e }
+    → IsFirstBlock ms (m + 1) (raised_scope c sc) (raised c fs) bs p q (branches_shifted k cs)
+first_deeper c k e h = record { body = h.body; spot = h.spot; after = h.after; here = h.here; typed = shift_types h.typed c k e }
 
 pub fails_deeper : (k : FaultKind) (ms : List ModuleTree) (n : ℕ) (fs : Frames) (d : Declaration) (spot : Spot) → AreBelow n fs → FailsTyping k ms n fs d spot → FailsTyping k ms (n + 1) fs d spot
 fails_deeper kind.Unguarded ms n fs d spot low h =
@@ -233,20 +233,20 @@ fails_deeper kind.Unguarded ms n fs d spot low h =
       follows = raised n h.follows;
       needed = needed_deeper low h.needed;
       continued = h.continued;
-      inner = lifted (under + 1) h.inner;
-      typed = subst (λ s. Types ms (h.depth + 1 + 1) (Under s h.body (raised n h.follows)) (lifted (under + 1) h.inner)) (inside_raised n h.depth h.scope h.name (omega arith)) (lift_types h.typed n (under + 1) (omega arith));
-      unguarded = leads_lifted (under + 1) h.inner ∙ h.unguarded;
+      inner = shifted (under + 1) h.inner;
+      typed = subst (λ s. Types ms (h.depth + 1 + 1) (Under s h.body (raised n h.follows)) (shifted (under + 1) h.inner)) (inside_raised n h.depth h.scope h.name (omega arith)) (shift_types h.typed n (under + 1) (omega arith));
+      unguarded = leads_shifted (under + 1) h.inner ∙ h.unguarded;
     }
 fails_deeper kind.EmptyBranch ms n fs d spot low h =
-    ⊎_elim (λ b. inl (branch_deeper low b.0, ap (lifted (b.0.depth - n)) b.1)) (λ b. inr (record { chooser = b.chooser; depth = b.depth + 1; scope = raised_scope n b.scope; follows = raised n b.follows; needed = needed_deeper low b.needed })) h
-fails_deeper kind.ContinueHead ms n fs d spot low h = (branch_deeper low h.0, _, ap (lifted (h.0.depth - n)) h.2)
-fails_deeper kind.RecHead ms n fs d spot low h = (branch_deeper low h.0, _, ap (lifted (h.0.depth - n)) h.2)
+    ⊎_elim (λ b. inl (branch_deeper low b.0, ap (shifted (b.0.depth - n)) b.1)) (λ b. inr (record { chooser = b.chooser; depth = b.depth + 1; scope = raised_scope n b.scope; follows = raised n b.follows; needed = needed_deeper low b.needed })) h
+fails_deeper kind.ContinueHead ms n fs d spot low h = (branch_deeper low h.0, _, ap (shifted (h.0.depth - n)) h.2)
+fails_deeper kind.RecHead ms n fs d spot low h = (branch_deeper low h.0, _, ap (shifted (h.0.depth - n)) h.2)
 fails_deeper kind.NotChooser ms n fs d spot low h = record {
   branch = branch_deeper low h.branch;
   sender = h.sender;
   receiver = h.receiver;
-  branches = branches_lifted (h.branch.depth - n) h.branches;
-  is = ap (lifted (h.branch.depth - n)) h.is;
+  branches = branches_shifted (h.branch.depth - n) h.branches;
+  is = ap (shifted (h.branch.depth - n)) h.is;
   another = h.another;
 }
 fails_deeper kind.TwoReceivers ms n fs d spot low h =
@@ -255,10 +255,10 @@ fails_deeper kind.TwoReceivers ms n fs d spot low h =
     record {
       branch = branch_deeper low h.branch;
       receiver = h.receiver;
-      branches = branches_lifted under h.branches;
-      is = ap (lifted under) h.is;
+      branches = branches_shifted under h.branches;
+      is = ap (shifted under) h.is;
       first_receiver = h.first_receiver;
-      first_branches = branches_lifted under h.first_branches;
+      first_branches = branches_shifted under h.first_branches;
       first = first_deeper n under deep h.first;
       another = h.another;
     }
@@ -268,15 +268,15 @@ fails_deeper kind.SameOperator ms n fs d spot low h =
     record {
       branch = branch_deeper low h.branch;
       receiver = h.receiver;
-      branches = branches_lifted under h.branches;
-      is = ap (lifted under) h.is;
-      earlier_branches = branches_lifted under h.earlier_branches;
+      branches = branches_shifted under h.branches;
+      is = ap (shifted under) h.is;
+      earlier_branches = branches_shifted under h.earlier_branches;
       earlier = earlier_deeper n under deep h.earlier;
-      shared = share_lifted under h.earlier_branches h.branches ∙ h.shared;
+      shared = share_shifted under h.earlier_branches h.branches ∙ h.shared;
     }
 fails_deeper other ms n fs d spot low h = absurd h
 
--- under i recursions more
+-- under i more recursions
 fails_at_depth : (k : FaultKind) (ms : List ModuleTree) (i n m : ℕ) → m ≡ n + i → (fs : Frames) (d : Declaration) (spot : Spot) → AreBelow n fs → FailsTyping k ms n fs d spot → FailsTyping k ms m fs d spot
 fails_at_depth k ms zero n m e fs d spot low h = subst (λ x. FailsTyping k ms x fs d spot) (omega arith) h
 fails_at_depth k ms (suc i) n m e fs d spot low h =
@@ -285,14 +285,14 @@ fails_at_depth k ms (suc i) n m e fs d spot low h =
 pub fails_below : (k : FaultKind) (ms : List ModuleTree) (n m : ℕ) → n ≤ m → (fs : Frames) (d : Declaration) (spot : Spot) → AreBelow n fs → FailsTyping k ms n fs d spot → FailsTyping k ms m fs d spot
 fails_below k ms n m l fs d spot low h = fails_at_depth k ms (m - n) n m (omega arith) fs d spot low h
 
--- What fails in what follows a statement with an exit fails with the statement in front.
+-- A fault in what follows a statement with an exit is a fault with the statement in front.
 pub fails_rest : (k : FaultKind) (ms : List ModuleTree) (recs : List (List ℕ)) (n : ℕ) (sc : Scope) (s : Statement) (b : Body) (fs : Frames) (d : Declaration) (spot : Spot)
     → StatementKeeps ms sc.within recs s true → AreBelow n (Under sc b fs) → FailsTyping k ms n (Under sc b fs) d spot → FailsTyping k ms n (Under sc (Then s b) fs) d spot
 fails_rest k ms recs n sc s b fs d spot keeps low h =
     let u = leads_step keeps refl sc refl n b fs in
     fails_through k d spot u.1 (fails_below k ms n u.0 (needs_deeper u.1) (Under sc b fs) d spot low h)
 
--- What fails in what follows a block with an exit fails with the block in front.
+-- A fault in what follows a block with an exit is a fault with the block in front.
 pub fails_after : (k : FaultKind) (ms : List ModuleTree) (recs : List (List ℕ)) (n : ℕ) (sc : Scope) (b : Body) (fs : Frames) (d : Declaration) (spot : Spot)
     → BlockKeeps ms sc.within recs true b true → AreBelow n fs → FailsTyping k ms n fs d spot → FailsTyping k ms n (Under sc b fs) d spot
 fails_after k ms recs n sc b fs d spot keeps low h =

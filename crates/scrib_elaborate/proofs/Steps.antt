@@ -23,22 +23,22 @@ use Rattle.scrib_static_checks.specs.Source.{Body, Done, Then, Statement, Sends,
 use Rattle.scrib_static_checks.specs.SourceView.{statement_of, body_of}
 use Rattle.scrib_static_checks.specs.Names.{Declaration, find_protocol, last_name, called_home, called}
 use Rattle.scrib_static_checks.specs.Statements.{KeepsRules, BlockKeeps, StatementKeeps}
-use Rattle.scrib_static_checks.specs.Elaboration.{continues_in, Scope, role_in, level_of, inside, inside_call, Frames, NoFrame, Under, sent, closes, sends, repeats, passes, continues, calls, start_of}
-use Rattle.scrib_static_checks.specs.Faults.{Stands, here, later, in_rec, Reaches, itself, needs_itself, needs_close, needs_sends, needs_repeats, needs_passes, needs_calls, FailsTyping}
-use Rattle.scrib_type_builder.specs.Lifting.{lifted}
+use Rattle.scrib_static_checks.specs.Elaboration.{continues_in, Scope, role_in, level_of, inside, inside_call, Frames, NoFrame, Under, prefix_message, closes, sends, repeats, passes, continues, calls, start_of}
+use Rattle.scrib_static_checks.specs.Faults.{IsRestOf, here, later, in_rec, Reaches, itself, needs_itself, needs_close, needs_sends, needs_repeats, needs_passes, needs_calls, FailsTyping}
+use Rattle.scrib_type_builder.specs.Shifting.{shifted}
 use Rattle.scrib_elaborate.specs.Levels.{AreBelow}
 use Rattle.scrib_static_checks.specs.Table.{IsPart}
 use Rattle.scrib_elaborate.specs.Scope.{scope_of, start_scope, IsStart, IsSame, IsInside}
 use Rattle.scrib_elaborate.specs.Sites.{communications}
-use Rattle.scrib_type_builder.specs.Typed.{none_told}
+use Rattle.scrib_type_builder.specs.BuiltType.{add_no_origins}
 use Rattle.scrib_type_builder.specs.Rules.{IsUnguarded}
 use Rattle.scrib_elaborate.specs.Typing.{Made, nothing_made, Makes, Target, whole_target, HasLevels, before, FailsUp, IsFront, Path, IsState, IsBefore, TypingFails}
-use Rattle.scrib_static_checks.proofs.RulesKept.{of_then, of_continues, of_calls, of_protocol, kept_at, kept_along, reaches_on}
-use Rattle.scrib_static_checks.proofs.Checks.{stands_here}
-use Rattle.scrib_elaborate.proofs.Rounds.{level_below, levels_none, levels_after, levels_passes, levels_repeats}
-use Rattle.scrib_elaborate.proofs.Lifted.{below_more, levels_more}
+use Rattle.scrib_static_checks.proofs.RuleLemmas.{of_then, of_continues, of_calls, of_protocol, kept_at, kept_along, reaches_on}
+use Rattle.scrib_static_checks.proofs.Checks.{occurs_here}
+use Rattle.scrib_elaborate.proofs.LevelLemmas.{level_below, levels_none, levels_after, levels_passes, levels_repeats}
+use Rattle.scrib_elaborate.proofs.ShiftLemmas.{below_more, levels_more}
 use Rattle.scrib_elaborate.proofs.NeededParts.{fails_through, fails_rest}
-use Rattle.scrib_elaborate.proofs.Sited.{marks_through, made_through, made_from, made_deeper, nothing_follows, marks_sent}
+use Rattle.scrib_elaborate.proofs.SiteLemmas.{marks_through, made_through, made_from, made_deeper, nothing_follows, marks_prefix}
 
 -- statements in front of others
 
@@ -50,7 +50,7 @@ pub before_push : (ss : List ParsedStatement) (s : ParsedStatement) (b : Body) �
 before_push [] s b = refl
 before_push (t ∷ ss) s b = ap (Then (statement_of t)) (before_push ss s b)
 
-later_all : {recs inner : List (List ℕ)} {b r : Body} (ss : List ParsedStatement) → Stands recs b inner r → Stands recs (before ss b) inner r
+later_all : {recs inner : List (List ℕ)} {b r : Body} (ss : List ParsedStatement) → IsRestOf recs b inner r → IsRestOf recs (before ss b) inner r
 later_all [] st = st
 later_all (s ∷ ss) st = later (later_all ss st)
 
@@ -72,7 +72,7 @@ block_kept {ms = ms} {d = d} recs b reached e kept part =
     let r = kept_at (part recs b here) ms d true k.0 (of_protocol k.1).block in
     (r.before, r.exits, r.kept)
 
--- a task more, on the stack
+-- one more task on the stack
 
 pub pushed : (ms : List ModuleTree) (target : Target) (old new : List Task) (t : Task) (g h : Made) → new ≡ old ++ t ∷ [] → h ≡ g → IsState ms target (t ∷ reverse old) g → IsState ms target (reverse new) h
 pushed ms target old new t g h e same st =
@@ -120,7 +120,7 @@ front_at ms target ts st ss g s =
       path = s.path.2;
     })
 
--- the statements count, and not where they lie in memory
+-- only the values of the statements matter
 pub front_same : (ms : List ModuleTree) (target : Target) (ts : List Task) (st : CodeScope) (ss others : Bor (List ParsedStatement)) (g : Made) → ss.now ≡ others.now → IsState ms target (Front st ss ∷ ts) g → IsState ms target (Front st others ∷ ts) g
 front_same ms target ts st ss others g e s = record {
   depth = s.depth;
@@ -218,7 +218,7 @@ opened ms target ts st ss sc n b outer next g scope depth body o path =
 -- a message is sent
 
 pub message_put : (ms : List ModuleTree) (target : Target) (ts : List Task) (sc : Scope) (n : ℕ) (m : Message) (p : List ℕ) (qs : List (List ℕ)) (spot : Spot) (g h : Made)
-    → h.type ≡ sent m (role_in sc p) (map (role_in sc) qs) g.type → h.origins ≡ none_told (map (role_in sc) qs) g.origins → IsBefore ms target ts sc n (Sends m p qs spot) g → IsState ms target ts h
+    → h.type ≡ prefix_message m (role_in sc p) (map (role_in sc) qs) g.type → h.origins ≡ add_no_origins (map (role_in sc) qs) g.origins → IsBefore ms target ts sc n (Sends m p qs spot) g → IsState ms target ts h
 message_put ms target ts sc n m p qs spot g h is none b =
     let sender = role_in sc p in
     let receivers = map (role_in sc) qs in
@@ -227,7 +227,7 @@ message_put ms target ts sc n m p qs spot g h is none b =
       depth = n;
       frames = Under sc (Then (Sends m p qs spot) b.rest) b.outer;
       made =
-          made_from h (sent m sender receivers g.type) (none_told receivers g.origins) is none (sends b.made.typed is) (marks_sent ms n (Under sc (Then (Sends m p qs spot) b.rest) b.outer) n m sender receivers g.type g.origins marks);
+          made_from h (prefix_message m sender receivers g.type) (add_no_origins receivers g.origins) is none (sends b.made.typed is) (marks_prefix ms n (Under sc (Then (Sends m p qs spot) b.rest) b.outer) n m sender receivers g.type g.origins marks);
       path = b.path;
     }
 
@@ -254,11 +254,11 @@ call_put ms target ts st ss sc n path roles spot c g there scope depth body b =
       recs = [];
       part = λ inner r q. q;
       levels = levels_none (inside_call sc c roles) (body_of c.protocol.body);
-      reached = reaches_on b.reached (stands_here sc.within b.recs (Calls path roles spot) b.rest b.part) there;
+      reached = reaches_on b.reached (occurs_here sc.within b.recs (Calls path roles spot) b.rest b.part) there;
       below = (tt, b.below);
     }) b.path
 
--- a recursion that isn't continued
+-- a recursion that is not continued
 
 pub passes_put : (ms : List ModuleTree) (target : Target) (ts : List Task) (st : CodeScope) (ss : Bor (List ParsedStatement)) (x : List ℕ) (spot : Spot) (g : Made)
     → continues_in x (body_of ss.now) ≡ false → IsBefore ms target ts (scope_of st) st.depth (Repeats x (body_of ss.now) spot) g → IsState ms target (Front st ss ∷ ts) g
@@ -277,10 +277,10 @@ passes_put ms target ts st ss x spot g none b =
       below = (b.below.0, b.below);
     }) b.path
 
--- one that is
+-- a recursion that is continued
 
 pub repeats_put : (ms : List ModuleTree) (target : Target) (ts : List Task) (st inner : CodeScope) (ss : Bor (List ParsedStatement)) (home : Bor ModuleTree) (x : List ℕ) (spot : Spot) (g h : Made) → home.now ≡ (scope_of st).within.home
-    → continues_in x (body_of ss.now) ≡ true → IsInside st x inner → h.type ≡ lifted 0 g.type → h.origins ≡ g.origins → IsBefore ms target ts (scope_of st) st.depth (Repeats x (body_of ss.now) spot) g → IsState ms target (Front inner ss ∷ Close home spot ∷ ts) h
+    → continues_in x (body_of ss.now) ≡ true → IsInside st x inner → h.type ≡ shifted 0 g.type → h.origins ≡ g.origins → IsBefore ms target ts (scope_of st) st.depth (Repeats x (body_of ss.now) spot) g → IsState ms target (Front inner ss ∷ Close home spot ∷ ts) h
 repeats_put ms target ts st inner ss home x spot g h at loops same is kept b =
     let sc = scope_of st in
     let n = st.depth in
@@ -395,7 +395,7 @@ close_fails ms target ts home spot g (untyped.Broken h b) f s =
     )
 close_fails ms target ts home spot g untyped.OutOfMemory f s = tt
 
--- the stack at the beginning and at the end, and the task on its top
+-- the stack at the beginning and at the end, and its last task
 
 pub begins : (ms : List ModuleTree) (root : Declaration) (old new : List Task) (st : CodeScope) (ss : Bor (List ParsedStatement)) (g : Made) → old ≡ [] → new ≡ old ++ Front st ss ∷ [] → IsStart root st → ss.now ≡ root.protocol.body → g ≡ nothing_made → IsState ms (whole_target root) (reverse new) g
 begins ms root old new st ss g none push start body is =
@@ -425,25 +425,25 @@ pub pushed_before : (ms : List ModuleTree) (target : Target) (old new : List Tas
 pushed_before ms target old new t sc n s g e b =
     subst (λ ts. IsBefore ms target ts sc n s g) (sym (ap reverse e ∙ reverse-append old (t ∷ []))) b
 
--- the recursion that is continued has a level, below the number of those round the statement
+-- the recursion that is continued has a level, below the number of those around the statement
 
-pub record IsRound (sc : Scope) (n : ℕ) (x : List ℕ) : Type 0 where
+pub record IsEnclosing (sc : Scope) (n : ℕ) (x : List ℕ) : Type 0 where
   pub level : ℕ
   pub there : level_of x sc.recs ≡ Some level
   pub low : level < n
 
-pub round_found : (ms : List ModuleTree) (target : Target) (ts : List Task) (sc : Scope) (n : ℕ) (x : List ℕ) (spot : Spot) (g : Made) (e : Bool) → KeepsRules ms target.root e → IsBefore ms target ts sc n (Continues x spot) g → IsRound sc n x
-round_found ms target ts sc n x spot g e kept b =
+pub enclosing_found : (ms : List ModuleTree) (target : Target) (ts : List Task) (sc : Scope) (n : ℕ) (x : List ℕ) (spot : Spot) (g : Made) (e : Bool) → KeepsRules ms target.root e → IsBefore ms target ts sc n (Continues x spot) g → IsEnclosing sc n x
+enclosing_found ms target ts sc n x spot g e kept b =
     let block = (block_kept b.recs (Then (Continues x spot) b.rest) b.reached e kept b.part).2 in
     let among = (of_continues (of_then block).step).0 in
     let l = b.levels x among (or_left (bytes_eq x x) (continues_in x b.rest) ((bytes_eq-Decides x x).1 refl)) in
     record { level = l.0; there = l.1; low = level_below n x sc.recs l.0 b.below.0 l.1 }
 
--- a call that looks in no module names no protocol
+-- a call without a module names no protocol
 pub no_callee : (ms : List ModuleTree) (home : ModuleTree) (path : List (List ℕ)) → None ≡ called_home ms home path → called ms home path ≡ None
 no_callee ms home path none = ap (option_and_then (λ n. find_protocol ms n (last_name path))) (sym none)
 
--- the protocol that is called is there
+-- the called protocol exists
 pub callee_found : (ms : List ModuleTree) (target : Target) (ts : List Task) (sc : Scope) (n : ℕ) (path roles : List (List ℕ)) (spot : Spot) (g : Made) (e : Bool) → KeepsRules ms target.root e → IsBefore ms target ts sc n (Calls path roles spot) g → called ms sc.within.home path ≡ None → ⊥
 callee_found ms target ts sc n path roles spot g e kept b none =
     let block = (block_kept b.recs (Then (Calls path roles spot) b.rest) b.reached e kept b.part).2 in

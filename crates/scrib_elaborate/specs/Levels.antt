@@ -1,4 +1,4 @@
--- Frames below a number of recursions (this project's own).
+-- Frames whose recursions have levels below a number (this project's own).
 -- Only contracts of private functions cite this file.
 use Rattle.std.specs.Prelude.{ℕ, ◌<◌, List, [], ◌∷◌}
 use Rattle.scrib_static_checks.specs.Elaboration.{Frames, NoFrame, Under}

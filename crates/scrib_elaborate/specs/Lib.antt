@@ -3,6 +3,6 @@ pub mod Meaning
 pub mod Sites
 pub mod Levels
 pub mod Scope
-pub mod Staying
+pub mod NoExit
 pub mod Typing
 pub mod Locality

@@ -1,4 +1,4 @@
--- What an elaborated protocol means, and what an answer says of it.
+-- The meaning of an elaborated protocol, and of the result of a call.
 use Rattle.std.specs.Prelude.{◌≡◌, List, Result, Ok, Err}
 use Rattle.scrib_types.specs.Agreement.{Agreement}
 use Rattle.scrib_types.specs.GlobalView.{global_of}
@@ -7,6 +7,7 @@ use Rattle.scrib_elaborate.specs.declared.elaborated.ChoiceSite.{ChoiceSite}
 use Rattle.scrib_static_checks.specs.declared.fault.ElaborateFault.{ElaborateFault}
 use Rattle.scrib_static_checks.specs.declared.fault.ElaborateFault.TheVariants.{Broken, OutOfMemory}
 
+-- the roles and the global type of an elaborated protocol
 abbrev pub meaning_of : Elaborated → Agreement
 meaning_of e = record { roles = e.roles; global = global_of e.global }
 
@@ -14,7 +15,7 @@ meaning_of e = record { roles = e.roles; global = global_of e.global }
 abbrev pub sites_of : Elaborated → List ChoiceSite
 sites_of e = e.sites
 
--- what was returned means this, unless memory was refused
+-- the result means this, or memory was refused
 abbrev pub Means : Result Elaborated ElaborateFault → Agreement → Type 0
 Means (Ok e) a = meaning_of e ≡ a
 Means (Err (Broken f)) a = ⊥

@@ -1,4 +1,4 @@
--- Where the communications of a type come from (this project's own).
+-- The choices that the communications of a type come from (this project's own).
 use Rattle.std.specs.Prelude.{◌≡◌, ℕ, ◌+◌, Bool, false, List, [], ◌∷◌, ◌++◌, Some, if◌then◌else◌}
 use Rattle.std.specs.List.{AllZip}
 use Rattle.scrib_types.specs.declared.spot.Spot.{Spot}
@@ -13,8 +13,8 @@ use Rattle.scrib_static_checks.specs.Elaboration.{Scope, Frames, Under, Types, s
 use Rattle.scrib_static_checks.specs.Faults.{Needs}
 use Rattle.scrib_elaborate.specs.Meaning.{meaning_of, sites_of}
 
--- The communications of a type in post-order, each with the number of recursions round it, where n stand round the
--- type: those in a communication's branches, the first branch first, and then the communication itself.
+-- The communications of a type in post-order, where n recursions are around the type. Each has the number of recursions
+-- around it. Those in a communication's branches precede it, from the first branch on.
 abbrev mutual
   pub communications : (n : ℕ) → GlobalTree → List (ℕ × GlobalTree)
   communications n GlobalEnd = []
@@ -27,12 +27,12 @@ abbrev mutual
   branch_communications n NoBranch = []
   branch_communications n (Branch m g bs) = communications n g ++ branch_communications n bs
 
--- there are two branches or more
+-- whether there are two branches or more
 abbrev pub has_several : GlobalBranches → Bool
 has_several NoBranch = false
 has_several (Branch m g bs) = has_branches bs
 
--- the type is a communication with several branches
+-- whether the type is a communication with several branches
 abbrev pub is_several : GlobalTree → Bool
 is_several GlobalEnd = false
 is_several (GlobalVar i) = false
@@ -48,9 +48,10 @@ several_of (c ∷ cs) = if is_several c.1 then c ∷ several_of cs else several_
 abbrev pub several : GlobalTree → List (ℕ × GlobalTree)
 several g = several_of (communications 0 g)
 
--- In the module of this name, here, stands a choice whose type, under n recursions, is this. The type of the frames
--- `from`, under k recursions, is made of it.
-pub record IsSite (modules : List ModuleTree) (k : ℕ) (from : Frames) (home : List (List ℕ)) (spot : Spot) (n : ℕ) (type : GlobalTree) : Type 0 where
+-- The module of this name contains a choice at this position, whose type under n recursions is this one. The type of
+-- the frames `from`, under k recursions, is built from it.
+pub record IsSite (modules : List ModuleTree) (k : ℕ) (from : Frames) (home : List (List ℕ)) (spot : Spot) (n : ℕ)
+    (type : GlobalTree) : Type 0 where
   pub scope : Scope
   pub chooser : List ℕ
   pub blocks : Blocks
@@ -60,12 +61,11 @@ pub record IsSite (modules : List ModuleTree) (k : ℕ) (from : Frames) (home : 
   pub needs : Needs modules k from n (Under scope (Then (Chooses chooser blocks spot) after) outer)
   pub typed : Types modules n (Under scope (Then (Chooses chooser blocks spot) after) outer) type
 
--- the site is the place of a choice whose type this communication is, in the protocol
+-- the site is the position of a choice in the protocol whose type is this communication
 abbrev pub IsSiteOf : List ModuleTree → Declaration → (ℕ × GlobalTree) → ChoiceSite → Type 0
 IsSiteOf modules root c j = IsSite modules 0 (start_of root) j.module j.spot c.0 c.1
 
--- the sites of what is elaborated, of the protocol of this name in the module of this name, are those of its type's
--- communications with several branches, one by one
+-- the sites of an elaborated protocol are, one by one, those of its type's communications with several branches
 pub record AreSites (modules : List ModuleTree) (home : List (List ℕ)) (name : List ℕ) (e : Elaborated) : Type 0 where
   pub root : Declaration
   pub there : find_protocol modules home name ≡ Some root

@@ -1,5 +1,4 @@
--- What the parts of the third pass stand for (this project's own).
--- Only contracts of private functions cite this file.
+-- What the parts of the third pass represent (this project's own). Only contracts of private functions cite this file.
 use Rattle.std.specs.Prelude.{◌≡◌, ℕ, ◌+◌, ◌≤◌, Bool, true, false, List, [], ◌∷◌, length, slice_get, Option, Some, None, MatchOption}
 use Rattle.std.specs.List.{All, AllZip}
 use Rattle.scrib_types.specs.declared.spot.Spot.{Spot}
@@ -8,28 +7,28 @@ use Rattle.scrib_types.specs.WellFormed.{has_role}
 use Rattle.scrib_parser.specs.declared.tree.ModuleTree.{ModuleTree}
 use Rattle.scrib_parser.specs.declared.tree.Statement.{Statement as ParsedStatement}
 use Rattle.scrib_parser.specs.declared.tree.Block.{Block}
-use Rattle.scrib_type_builder.specs.declared.built.Typed.{Typed}
-use Rattle.scrib_type_builder.specs.declared.built.Origin.{Origin}
+use Rattle.scrib_type_builder.specs.declared.built_type.BuiltType.{BuiltType}
+use Rattle.scrib_type_builder.specs.declared.built_type.Origin.{Origin}
 use Rattle.scrib_static_checks.specs.declared.declared.Declaration.{Declaration as CodeDeclaration}
 use Rattle.scrib_elaborate.specs.declared.elaborated.ChoiceSite.{ChoiceSite}
-use Rattle.scrib_static_checks.specs.declared.shape.Shape.{Shape}
-use Rattle.scrib_static_checks.specs.declared.shape.Shape.TheVariants.{Joining}
+use Rattle.scrib_static_checks.specs.declared.effect.CallEffect.{CallEffect}
+use Rattle.scrib_static_checks.specs.declared.effect.CallEffect.TheVariants.{Joining}
 use Rattle.scrib_static_checks.specs.declared.checking.State.{State}
-use Rattle.scrib_elaborate.specs.declared.tasks.Program.{Program}
+use Rattle.scrib_elaborate.specs.declared.tasks.ElaborationContext.{ElaborationContext}
 use Rattle.scrib_elaborate.specs.declared.tasks.Task.{Task}
 use Rattle.scrib_elaborate.specs.declared.tasks.Task.TheVariants.{Front, Join, Close}
 use Rattle.scrib_static_checks.specs.declared.fault.FaultKind.{FaultKind}
 use Rattle.scrib_type_builder.specs.declared.build_error.BuildError.{BuildError}
 use Rattle.scrib_type_builder.specs.declared.build_error.BuildError.TheVariants.{Broken, OutOfMemory}
-use Rattle.scrib_type_builder.specs.Typed.{type_of, retold}
+use Rattle.scrib_type_builder.specs.BuiltType.{type_of, with_origin}
 use Rattle.scrib_static_checks.specs.Source.{Body, Then, Statement, Chooses, Repeats, Blocks}
 use Rattle.scrib_static_checks.specs.SourceView.{statement_of, body_of, blocks_of}
 use Rattle.scrib_static_checks.specs.Names.{Declaration, declarations}
 use Rattle.scrib_static_checks.specs.Elaboration.{continues_in, continues_some, Scope, level_of, inside, Frames, Under, Types, start_of}
 use Rattle.scrib_static_checks.specs.Faults.{Reaches, FailsTyping}
-use Rattle.scrib_static_checks.specs.Directory.{IsDirectory}
+use Rattle.scrib_static_checks.specs.ProtocolIndex.{IsProtocolIndex}
 use Rattle.scrib_static_checks.specs.Statements.{KeepsRules}
-use Rattle.scrib_static_checks.specs.Table.{shown, IsPart, AreParts, IsSettledSo}
+use Rattle.scrib_static_checks.specs.Table.{shown, IsPart, AreParts, HasCheckedNames}
 use Rattle.scrib_static_checks.specs.Walking.{AreSummaries, IsIdle}
 use Rattle.scrib_elaborate.specs.Levels.{AreBelow}
 use Rattle.scrib_elaborate.specs.Sites.{communications, is_several, IsSite}
@@ -40,93 +39,96 @@ pub record Made : Type 0 where
   pub type : GlobalTree
   pub origins : List (Option Origin)
 
-abbrev pub made_of : Typed → Made
+abbrev pub made_of : BuiltType → Made
 made_of t = record { type = type_of t; origins = t.origins.items }
 
 -- the type of no statement
 abbrev pub nothing_made : Made
 nothing_made = record { type = GlobalEnd; origins = [] }
 
--- the choice that a communication with several branches comes from stands there, and none is told of another
+-- the origin is the choice that this communication comes from, and there is none for one with a single branch
 abbrev pub IsMarked : List ModuleTree → (k : ℕ) → (from : Frames) → (ℕ × GlobalTree) → Option Origin → Type 0
 IsMarked modules k from c None = is_several c.1 ≡ false
 IsMarked modules k from c (Some o) =
     (is_several c.1 ≡ true) × IsSite modules k from o.home.now.name o.spot c.0 c.1
 
--- the frames, under n recursions, mean this type, and its communications come from there
+-- the frames, under n recursions, mean this type, and its communications come from these choices
 pub record Makes (modules : List ModuleTree) (n : ℕ) (fs : Frames) (m : Made) : Type 0 where
   pub typed : Types modules n fs m.type
   pub marked : AllZip (IsMarked modules n fs) (communications n m.type) m.origins
 
--- the protocol keeps the rules, and its type is this, where nothing follows it
+-- the protocol follows the rules, and this is its type where nothing follows it
 pub record IsAlone (modules : List ModuleTree) (d : Declaration) (m : Made) : Type 0 where
   pub exits : Bool
   pub kept : KeepsRules modules d exits
   pub made : Makes modules 0 (start_of d) m
 
--- the type that is known of the protocol at a place of the table is so
-abbrev pub AreKnown : List ModuleTree → List Declaration → List (Option Typed) → Type 0
-AreKnown modules ds known =
-    (k : ℕ) (d : Declaration) (t : Typed) → slice_get ds k ≡ Some d → slice_get known k ≡ Some (Some t) → IsAlone modules d (made_of t)
+-- each type in the memo is that of the protocol at its index
+abbrev pub IsMemo : List ModuleTree → List Declaration → List (Option BuiltType) → Type 0
+IsMemo modules ds memo =
+    (k : ℕ) (d : Declaration) (t : BuiltType) → slice_get ds k ≡ Some d → slice_get memo k ≡ Some (Some t)
+    → IsAlone modules d (made_of t)
 
--- none is known yet
-abbrev pub AreUnknown : List (Option Typed) → Type 0
-AreUnknown known = (k : ℕ) (o : Option Typed) → slice_get known k ≡ Some o → o ≡ None
+-- the memo has no type
+abbrev pub IsEmptyMemo : List (Option BuiltType) → Type 0
+IsEmptyMemo memo = (k : ℕ) (o : Option BuiltType) → slice_get memo k ≡ Some o → o ≡ None
 
--- it is the type of the protocol at this place
+-- it is the type of the protocol at this index in isolation
 abbrev pub IsAloneAt : List ModuleTree → List Declaration → (place : ℕ) → Made → Type 0
 IsAloneAt modules ds place m = (d : Declaration) → slice_get ds place ≡ Some d → IsAlone modules d m
 
--- The table has all protocols of the modules, the directory is its own, what is kept of one that was walked is so,
--- and so is each type that is known.
-pub record IsTable (p : Program) : Type 0 where
+-- The table has all protocols of the modules, and the index is of them. The summaries of the walk and the types in the
+-- memo are correct.
+pub record IsTable (p : ElaborationContext) : Type 0 where
   pub all : shown p.declared.now ≡ declarations p.modules.now
-  pub filed : IsDirectory (shown p.declared.now) p.directory.now.slots.items
+  pub indexed : IsProtocolIndex (shown p.declared.now) p.protocol_index.now.slots.items
   pub kept : AreSummaries p.modules.now (shown p.declared.now) p.states.now
-  pub known : AreKnown p.modules.now (shown p.declared.now) p.known.now
+  pub memo : IsMemo p.modules.now (shown p.declared.now) p.memo.now
 
--- these are all declared protocols of the modules, their directory, what walks found of them, and the types that are
--- known
-pub record IsTabled (modules : List ModuleTree) (declared : List CodeDeclaration) (slots : List (Option ℕ)) (states : List State) (types : List (Option Typed)) : Type 0 where
+-- these are all declared protocols of the modules, their index, the results of walks, and the types in the memo
+pub record IsTabled (modules : List ModuleTree) (declared : List CodeDeclaration) (slots : List (Option ℕ))
+    (states : List State) (types : List (Option BuiltType)) : Type 0 where
   pub all : shown declared ≡ declarations modules
-  pub filed : IsDirectory (shown declared) slots
-  pub settled : All IsSettledSo declared
+  pub indexed : IsProtocolIndex (shown declared) slots
+  pub names_checked : All HasCheckedNames declared
   pub idle : IsIdle modules (shown declared) states
-  pub known : AreKnown modules (shown declared) types
+  pub memo : IsMemo modules (shown declared) types
 
--- these statements stand in front of the rest of their block
+-- these statements precede the rest of their block
 abbrev pub before : List ParsedStatement → Body → Body
 before [] b = b
 before (s ∷ ss) b = Then (statement_of s) (before ss b)
 
--- a fault of the type of these frames is one of the type of the protocol that was asked for
+-- a fault of the type of these frames is one of the type of the requested protocol
 abbrev pub FailsUp : List ModuleTree → Declaration → ℕ → Frames → Type 0
 FailsUp modules root n fs =
-    (k : FaultKind) (d : Declaration) (spot : Spot) → FailsTyping k modules n fs d spot → FailsTyping k modules 0 (start_of root) d spot
+    (k : FaultKind) (d : Declaration) (spot : Spot) → FailsTyping k modules n fs d spot
+    → FailsTyping k modules 0 (start_of root) d spot
 
--- What a run makes: the type of these frames, under so many recursions. A fault of it is told of the type of the protocol
--- that was asked for.
+-- What a run builds: the type of these frames, under so many recursions. A fault of it is one of the type of the
+-- requested protocol.
 pub record Target : Type 0 where
   pub root : Declaration
   pub depth : ℕ
   pub frames : Frames
 
--- the type of the protocol that was asked for
+-- the type of the requested protocol
 abbrev pub whole_target : Declaration → Target
 whole_target root = record { root = root; depth = 0; frames = start_of root }
 
--- of each of these recursions that the block continues it is known how many stand round it in the type
+-- each of these recursions that the block continues has a level in the type
 abbrev pub HasLevels : Scope → (recs : List (List ℕ)) → Body → Type 0
 HasLevels sc recs b =
     (x : List ℕ) → has_role x recs ≡ true → continues_in x b ≡ true → (k : ℕ) × (level_of x sc.recs ≡ Some k)
 
--- so it is of each that a block of a choice continues
+-- the same for each recursion that a block of a choice continues
 abbrev pub HaveLevels : Scope → (recs : List (List ℕ)) → Blocks → Type 0
 HaveLevels sc recs bs =
     (x : List ℕ) → has_role x recs ≡ true → continues_some x bs ≡ true → (k : ℕ) × (level_of x sc.recs ≡ Some k)
 
--- where the statements are in front of these frames, their type is that of the others
-pub record IsFront (modules : List ModuleTree) (root : Declaration) (sc : Scope) (depth : ℕ) (statements : List ParsedStatement) (n : ℕ) (fs hs : Frames) : Type 0 where
+-- the statements precede these frames, and with them the type is that of the others
+pub record IsFront (modules : List ModuleTree) (root : Declaration) (sc : Scope) (depth : ℕ)
+    (statements : List ParsedStatement) (n : ℕ) (fs hs : Frames) : Type 0 where
   pub rest : Body
   pub outer : Frames
   pub deep : n ≡ depth
@@ -140,12 +142,15 @@ pub record IsFront (modules : List ModuleTree) (root : Declaration) (sc : Scope)
   pub below : AreBelow n (Under sc rest outer)
 
 -- these are the types of the first blocks
-abbrev pub AreTyped : List ModuleTree → ℕ → Scope → Frames → List Block → List Typed → Type 0
+abbrev pub AreTyped : List ModuleTree → ℕ → Scope → Frames → List Block → List BuiltType → Type 0
 AreTyped modules n sc fs blocks types =
-    (k : ℕ) (b : Block) (t : Typed) → slice_get blocks k ≡ Some b → slice_get types k ≡ Some t → Makes modules n (Under sc (body_of b.body) fs) (made_of t)
+    (k : ℕ) (b : Block) (t : BuiltType) → slice_get blocks k ≡ Some b → slice_get types k ≡ Some t
+    → Makes modules n (Under sc (body_of b.body) fs) (made_of t)
 
 -- the frames are those of the next block of a choice, and the others begin with that choice
-pub record IsJoin (modules : List ModuleTree) (root : Declaration) (sc : Scope) (depth : ℕ) (chooser : List ℕ) (blocks : List Block) (spot : Spot) (follows : Option Typed) (types : List Typed) (n : ℕ) (fs hs : Frames) : Type 0 where
+pub record IsJoin (modules : List ModuleTree) (root : Declaration) (sc : Scope) (depth : ℕ) (chooser : List ℕ)
+    (blocks : List Block) (spot : Spot) (follows : Option BuiltType) (types : List BuiltType) (n : ℕ)
+    (fs hs : Frames) : Type 0 where
   pub rest : Body
   pub outer : Frames
   pub deep : n ≡ depth
@@ -155,15 +160,17 @@ pub record IsJoin (modules : List ModuleTree) (root : Declaration) (sc : Scope) 
   pub goes : hs ≡ Under sc (Then (Chooses chooser (blocks_of blocks) spot) rest) outer
   pub up : FailsUp modules root n hs
   pub typed : AreTyped modules n sc (Under sc rest outer) blocks types
-  pub after : MatchOption follows (length types + 1 ≡ length blocks) (λ t. Makes modules n (Under sc rest outer) (made_of t))
+  pub after : MatchOption follows (length types + 1 ≡ length blocks)
+      (λ t. Makes modules n (Under sc rest outer) (made_of t))
   pub recs : List (List ℕ)
   pub parts : AreParts sc.within recs (blocks_of blocks)
   pub levels : HaveLevels sc recs (blocks_of blocks)
   pub reached : Reaches modules root sc.within
   pub below : AreBelow n (Under sc rest outer)
 
--- the frames are those of the body of a recursion, and the others begin with it
-pub record IsClose (modules : List ModuleTree) (root : Declaration) (home : ModuleTree) (spot : Spot) (n : ℕ) (fs : Frames) (m : ℕ) (hs : Frames) : Type 0 where
+-- the frames are those of the body of a recursion, and the others begin with that recursion
+pub record IsClose (modules : List ModuleTree) (root : Declaration) (home : ModuleTree) (spot : Spot) (n : ℕ)
+    (fs : Frames) (m : ℕ) (hs : Frames) : Type 0 where
   pub scope : Scope
   pub name : List ℕ
   pub body : Body
@@ -181,21 +188,24 @@ pub record IsClose (modules : List ModuleTree) (root : Declaration) (home : Modu
 abbrev pub Path : List ModuleTree → Target → List Task → ℕ → Frames → Type 0
 Path modules target [] n fs = (n ≡ target.depth) × (fs ≡ target.frames)
 Path modules target (Front scope statements ∷ tasks) n fs =
-    (hs : Frames) × IsFront modules target.root (scope_of scope) scope.depth statements.now n fs hs × Path modules target tasks n hs
+    (hs : Frames) × IsFront modules target.root (scope_of scope) scope.depth statements.now n fs hs
+    × Path modules target tasks n hs
 Path modules target (Join c ∷ tasks) n fs =
-    (hs : Frames) × IsJoin modules target.root (scope_of c.scope) c.scope.depth c.chooser.now c.branches.now c.spot c.follows c.types.items n fs hs × Path modules target tasks n hs
+    (hs : Frames) × IsJoin modules target.root (scope_of c.scope) c.scope.depth c.chooser.now c.branches.now c.spot
+    c.follows c.types.items n fs hs × Path modules target tasks n hs
 Path modules target (Close home spot ∷ tasks) n fs =
     (m : ℕ) × (hs : Frames) × IsClose modules target.root home.now spot n fs m hs × Path modules target tasks m hs
 
--- the type that was made last is that of the frames from which the tasks lead on
+-- the type that was built last is that of the frames from which the tasks go on
 pub record IsState (modules : List ModuleTree) (target : Target) (tasks : List Task) (m : Made) : Type 0 where
   pub depth : ℕ
   pub frames : Frames
   pub made : Makes modules depth frames m
   pub path : Path modules target tasks depth frames
 
--- it is that of what follows this statement, and the tasks lead on from the statement
-pub record IsBefore (modules : List ModuleTree) (target : Target) (tasks : List Task) (sc : Scope) (n : ℕ) (s : Statement) (m : Made) : Type 0 where
+-- the type is that of what follows this statement, and the tasks go on from the statement
+pub record IsBefore (modules : List ModuleTree) (target : Target) (tasks : List Task) (sc : Scope) (n : ℕ)
+    (s : Statement) (m : Made) : Type 0 where
   pub rest : Body
   pub outer : Frames
   pub made : Makes modules n (Under sc rest outer) m
@@ -207,14 +217,15 @@ pub record IsBefore (modules : List ModuleTree) (target : Target) (tasks : List 
   pub reached : Reaches modules target.root sc.within
   pub below : AreBelow n (Under sc rest outer)
 
--- a rule on types fails in a protocol that is reached from the one that was asked for, unless memory was refused
+-- a rule on types fails in a protocol that the requested one reaches, or memory was refused
 abbrev pub TypingFails : List ModuleTree → Declaration → BuildError → Type 0
 TypingFails modules root (Broken home b) =
-    (place : Declaration) × Reaches modules root place × (home.now ≡ place.home) × FailsTyping b.kind modules 0 (start_of root) place b.spot
+    (place : Declaration) × Reaches modules root place × (home.now ≡ place.home)
+    × FailsTyping b.kind modules 0 (start_of root) place b.spot
 TypingFails modules root OutOfMemory = Unit {0}
 
--- The statements stand in a protocol that is reached from the one that was asked for, and a fault of their type,
--- with some frames after them, is one of the type of that one.
+-- The statements are in a protocol that the requested one reaches. A fault of their type, with some frames after them,
+-- is one of the type of the requested protocol.
 pub record IsAhead (modules : List ModuleTree) (root : Declaration) (sc : Scope) (n : ℕ) (b : Body) : Type 0 where
   pub outer : Frames
   pub up : FailsUp modules root n (Under sc b outer)
@@ -224,7 +235,7 @@ pub record IsAhead (modules : List ModuleTree) (root : Declaration) (sc : Scope)
   pub reached : Reaches modules root sc.within
   pub below : AreBelow n (Under sc b outer)
 
--- so do the statements of this task, with more of their block after them
+-- the same for the statements of this task, with the rest of their block after them
 abbrev pub IsTaskAhead : List ModuleTree → Declaration → Task → Type 0
 IsTaskAhead modules root (Front scope statements) =
     (rest : Body) × IsAhead modules root (scope_of scope) scope.depth (before statements.now rest)
@@ -234,19 +245,23 @@ IsTaskAhead modules root (Close home spot) = Unit {0}
 abbrev pub AreAhead : List ModuleTree → Declaration → List Task → Type 0
 AreAhead modules root tasks = All (IsTaskAhead modules root) tasks
 
--- a rule on types fails, and the statements of these tasks stand in front of the fault, unless memory was refused
+-- a rule on types fails, and these tasks contain the statements in front of the fault, or memory was refused
 abbrev pub StopsAhead : List ModuleTree → Declaration → List Task → BuildError → Type 0
 StopsAhead modules root tasks (Broken home b) =
     TypingFails modules root (Broken home b) × AreAhead modules root tasks
 StopsAhead modules root tasks OutOfMemory = Unit {0}
 
--- a choice in whose place the tasks lead on: the types of its first blocks, and while some are left of what follows it
-pub record IsChoosing (modules : List ModuleTree) (target : Target) (tasks : List Task) (sc : Scope) (n : ℕ) (chooser : List ℕ) (blocks : List Block) (spot : Spot) (follows : Option Typed) (types : List Typed) : Type 0 where
+-- a choice at which the tasks go on, with the types of its first blocks, and while blocks are left that of what follows
+-- it
+pub record IsChoosing (modules : List ModuleTree) (target : Target) (tasks : List Task) (sc : Scope) (n : ℕ)
+    (chooser : List ℕ) (blocks : List Block) (spot : Spot) (follows : Option BuiltType)
+    (types : List BuiltType) : Type 0 where
   pub rest : Body
   pub outer : Frames
   pub typed : AreTyped modules n sc (Under sc rest outer) blocks types
   pub few : length types ≤ length blocks
-  pub after : MatchOption follows (length types ≡ length blocks) (λ t. Makes modules n (Under sc rest outer) (made_of t))
+  pub after : MatchOption follows (length types ≡ length blocks)
+      (λ t. Makes modules n (Under sc rest outer) (made_of t))
   pub up : FailsUp modules target.root n (Under sc (Then (Chooses chooser (blocks_of blocks) spot) rest) outer)
   pub recs : List (List ℕ)
   pub parts : AreParts sc.within recs (blocks_of blocks)
@@ -255,17 +270,21 @@ pub record IsChoosing (modules : List ModuleTree) (target : Target) (tasks : Lis
   pub below : AreBelow n (Under sc rest outer)
   pub path : Path modules target tasks n (Under sc (Then (Chooses chooser (blocks_of blocks) spot) rest) outer)
 
--- where the choices stand of those that have an origin
-abbrev pub told_sites : List (Option Origin) → List ChoiceSite
-told_sites [] = []
-told_sites (None ∷ js) = told_sites js
-told_sites (Some o ∷ js) = record { «module» = o.home.now.name; spot = o.spot } ∷ told_sites js
+-- the positions of the choices of those that have an origin
+abbrev pub origin_sites : List (Option Origin) → List ChoiceSite
+origin_sites [] = []
+origin_sites (None ∷ js) = origin_sites js
+origin_sites (Some o ∷ js) = record { «module» = o.home.now.name; spot = o.spot } ∷ origin_sites js
 
--- What follows a call of a protocol of this shape has the same type. Its communication in front comes from the first
--- choice of the called protocol, if that joins.
-abbrev pub PassesOn : List CodeDeclaration → Shape → (before after : Made) → Type 0
+-- A call of a protocol with this effect leaves the type of what follows unchanged. The communication in front comes
+-- from the first choice of the called protocol, if that joins.
+abbrev pub PassesOn : List CodeDeclaration → CallEffect → (before after : Made) → Type 0
 PassesOn table (Joining k at spot) before after =
-    (d : CodeDeclaration) → slice_get table at ≡ Some d → after ≡ record { type = before.type; origins = retold (record { home = d.home; spot = spot }) before.origins }
+    (d : CodeDeclaration) → slice_get table at ≡ Some d
+    → after ≡ record {
+      type = before.type;
+      origins = with_origin (record { home = d.home; spot = spot }) before.origins;
+    }
 PassesOn table _ before after = after ≡ before
 
 -- the type is the variable of the recursion of this name

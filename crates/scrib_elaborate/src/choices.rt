@@ -1,7 +1,7 @@
 //! The types of choices.
 
 ghost use Rattle.std.specs.Prelude.{◌≡◌, List, ◌∷◌, length, Option, IfOk, MatchOption, MatchResult, reverse};
-ghost use Rattle.scrib_type_builder.specs.declared.built.Typed.{Typed};
+ghost use Rattle.scrib_type_builder.specs.declared.built_type.BuiltType.{BuiltType};
 ghost use Rattle.scrib_elaborate.specs.declared.tasks.Task.{Task};
 ghost use Rattle.scrib_elaborate.specs.declared.tasks.Task.TheVariants.{Front, Join};
 ghost use Rattle.scrib_parser.specs.declared.tree.ModuleTree.{ModuleTree};
@@ -13,22 +13,22 @@ ghost use Rattle.scrib_elaborate.specs.Typing.{Target, Made, made_of, IsBefore, 
 
 use crate::scope::Scope;
 use crate::tasks::{Choosing, Task};
-use scrib_static_checks::fault::FaultKind;
 use scrib_parser::tree::{Block, ModuleTree, Statement};
+use scrib_static_checks::fault::FaultKind;
 use scrib_type_builder::build_error::{BuildError, broken};
-use scrib_type_builder::built::{Origin, Typed};
-use scrib_type_builder::heads::{Heads, add};
+use scrib_type_builder::built_type::{BuiltType, Origin};
+use scrib_type_builder::choice_branches::{ChoiceBranches, add_branch};
 use scrib_type_builder::operators::Operators;
+use scrib_types::containers::{Items, at};
 use scrib_types::global::GlobalType;
 use scrib_types::name::Role;
-use scrib_types::plain::{Items, at};
 use scrib_types::spot::Spot;
 use std::alloc::{AllocError, Global};
 
-/// Begins a choice, of which what follows has this type. The first block comes first.
+/// Begins a choice, where the type of what follows it is `follows`, at its first block.
 ///
 /// # Errors
-/// `Broken` with `EmptyBranch` where it has no block; `OutOfMemory` where memory was refused.
+/// `Broken` with `EmptyBranch` where it has no block. `OutOfMemory` where memory was refused.
 pub fn choose<'a>(
     alloc: Global,
     tasks: &mut Vec<Task<'a>>,
@@ -36,11 +36,13 @@ pub fn choose<'a>(
     chooser: &'a Role,
     branches: &'a [Block],
     spot: Spot,
-    typed: Typed<'a>,
-) -> Result<Typed<'a>, BuildError<'a>>
+    typed: BuiltType<'a>,
+) -> Result<BuiltType<'a>, BuildError<'a>>
     ensures { (modules : List ModuleTree) (target : Target)
-        → IsBefore modules target (reverse tasks.old.items) (scope_of scope.entry) scope.entry.depth (Chooses chooser.now (blocks_of branches.now) spot) (made_of typed.entry)
-        → MatchResult result (λ t. IsState modules target (reverse tasks.new.items) (made_of t)) (StopsAhead modules target.root tasks.new.items) }
+        → IsBefore modules target (reverse tasks.old.items) (scope_of scope.entry) scope.entry.depth
+        (Chooses chooser.now (blocks_of branches.now) spot) (made_of typed.entry)
+        → MatchResult result (λ t. IsState modules target (reverse tasks.new.items) (made_of t))
+        (StopsAhead modules target.root tasks.new.items) }
 {
     let Some(first) = branches.first() else {
         return Err(broken(scope.within.home, FaultKind::EmptyBranch, spot));
@@ -58,19 +60,20 @@ pub fn choose<'a>(
     Ok(begun)
 }
 
-/// The type of the choice's next block is this. After the last block it is the choice's turn.
+/// Adds the type of the choice's next block. After the last block it builds the type of the choice.
 ///
 /// # Errors
-/// `Broken` where a block's type doesn't fit the choice; `OutOfMemory` where memory was refused.
+/// `Broken` where a block's type does not fit the choice. `OutOfMemory` where memory was refused.
 pub fn join<'a>(
     alloc: Global,
     tasks: &mut Vec<Task<'a>>,
     choosing: Choosing<'a>,
-    typed: Typed<'a>,
-) -> Result<Typed<'a>, BuildError<'a>>
+    typed: BuiltType<'a>,
+) -> Result<BuiltType<'a>, BuildError<'a>>
     ensures { (modules : List ModuleTree) (target : Target)
         → IsState modules target (Join choosing.entry ∷ reverse tasks.old.items) (made_of typed.entry)
-        → MatchResult result (λ t. IsState modules target (reverse tasks.new.items) (made_of t)) (StopsAhead modules target.root tasks.new.items) }
+        → MatchResult result (λ t. IsState modules target (reverse tasks.new.items) (made_of t))
+        (StopsAhead modules target.root tasks.new.items) }
 {
     let Choosing {
         scope,
@@ -99,7 +102,7 @@ pub fn join<'a>(
     Ok(begun)
 }
 
-// The statements of the choice's next block are next, and after them it is the choice's turn.
+// Pushes the statements of the choice's next block, to be built before the choice goes on.
 fn enter<'a>(
     alloc: Global,
     tasks: &mut Vec<Task<'a>>,
@@ -107,7 +110,8 @@ fn enter<'a>(
     body: &'a [Statement],
 ) -> Result<(), AllocError>
     ensures { (modules : List ModuleTree) (target : Target) (g : Made)
-        → ((inner : Scope) → IsSame choosing.entry.scope inner → IsState modules target (Front inner body.entry ∷ Join choosing.entry ∷ reverse tasks.old.items) g)
+        → ((inner : Scope) → IsSame choosing.entry.scope inner
+        → IsState modules target (Front inner body.entry ∷ Join choosing.entry ∷ reverse tasks.old.items) g)
         → IfOk result (λ _. IsState modules target (reverse tasks.new.items) g) }
 {
     let inner = choosing.scope.copy(alloc)?;
@@ -116,12 +120,12 @@ fn enter<'a>(
     Ok(())
 }
 
-// The type of what follows a choice, for the block that is next, and once more if blocks are left after that one.
+// Returns the type of what follows a choice, for the next block, and a copy of it if blocks are left after that one.
 fn share<'a>(
     alloc: Global,
-    follows: Typed<'a>,
+    follows: BuiltType<'a>,
     left: usize,
-) -> Result<(Typed<'a>, Option<Typed<'a>>), AllocError>
+) -> Result<(BuiltType<'a>, Option<BuiltType<'a>>), AllocError>
     ensures next { IfOk result (λ t. made_of t.0 ≡ made_of follows.entry) }
     ensures others { IfOk result (λ t. MatchOption t.1 (left ≡ 0) (λ u. made_of u ≡ made_of follows.entry)) }
 {
@@ -132,33 +136,34 @@ fn share<'a>(
     Ok((again, Some(follows)))
 }
 
-// The choice whose blocks have these types.
+// Returns the type of the choice whose blocks have these types.
 fn joined<'a>(
     alloc: Global,
     scope: &Scope<'a>,
     given: &'a Role,
     blocks: &'a [Block],
     spot: Spot,
-    types: Vec<Typed<'a>>,
-) -> Result<Typed<'a>, BuildError<'a>>
-    ensures { (modules : List ModuleTree) (target : Target) (tasks : List Task) (follows : Option Typed)
-        → IsChoosing modules target tasks (scope_of scope.now) scope.now.depth given.now blocks.now spot follows types.entry.items
+    types: Vec<BuiltType<'a>>,
+) -> Result<BuiltType<'a>, BuildError<'a>>
+    ensures { (modules : List ModuleTree) (target : Target) (tasks : List Task) (follows : Option BuiltType)
+        → IsChoosing modules target tasks (scope_of scope.now) scope.now.depth given.now blocks.now spot follows
+        types.entry.items
         → length types.entry.items ≡ length blocks.now
         → MatchResult result (λ t. IsState modules target tasks (made_of t)) (TypingFails modules target.root) }
 {
     let home = scope.within.home;
     let chooser = scope.role(given);
     let operators = Operators::new(alloc, count_others(types.as_slice()))?;
-    let mut so_far = Heads {
+    let mut so_far = ChoiceBranches {
         receiver: None,
         branches: Items::new(alloc),
         operators,
         origins: Vec::new(alloc),
     };
     for (block, typed) in blocks.iter().zip(types) {
-        add(home, chooser, block.spot, &mut so_far, typed)?;
+        add_branch(home, chooser, block.spot, &mut so_far, typed)?;
     }
-    let Heads {
+    let ChoiceBranches {
         receiver,
         branches,
         mut origins,
@@ -175,11 +180,11 @@ fn joined<'a>(
     })?;
     let from = chooser.copy()?;
     let global = GlobalType::Comm { from, to, branches };
-    Ok(Typed { global, origins })
+    Ok(BuiltType { global, origins })
 }
 
-// How many branches the communications have that these types begin with, but for those of the widest one.
-fn count_others(types: &[Typed]) -> usize {
+// Returns the number of branches of the communications that these types begin with, without those of the widest one.
+fn count_others(types: &[BuiltType]) -> usize {
     let mut count: usize = 0;
     let mut most: usize = 0;
     for typed in types {

@@ -3,40 +3,40 @@
 ghost use Rattle.std.specs.Prelude.{◌≡◌, slice_get, Some, IfOk, IfErr, MatchResult};
 ghost use Rattle.scrib_types.specs.Agreement.{Agreement};
 ghost use Rattle.scrib_static_checks.specs.Names.{declarations, is_called, role_names};
-ghost use Rattle.scrib_static_checks.specs.Directory.{IsDirectory};
+ghost use Rattle.scrib_static_checks.specs.ProtocolIndex.{IsProtocolIndex};
 ghost use Rattle.scrib_static_checks.specs.Elaboration.{Elaborates};
 ghost use Rattle.scrib_static_checks.specs.Faults.{FailsAt};
 ghost use Rattle.scrib_elaborate.specs.Meaning.{meaning_of, Means};
 ghost use Rattle.scrib_elaborate.specs.Sites.{AreSites};
 ghost use Rattle.scrib_static_checks.specs.Table.{shown, declaration_of, IsFound};
-ghost use Rattle.scrib_elaborate.specs.Typing.{IsTable, IsTabled, told_sites};
+ghost use Rattle.scrib_elaborate.specs.Typing.{IsTable, IsTabled, origin_sites};
 ghost use Rattle.scrib_static_checks.specs.Walking.{IsAbsentFault, IsCounted};
 
 use crate::elaborated::{ChoiceSite, Elaborated};
-use crate::known::{forget, know, known_or_typed, unknown};
-use crate::tasks::Program;
+use crate::memo::{empty_memo, memoize, memoized_type, remove_walk};
+use crate::tasks::ElaborationContext;
+use scrib_parser::tree::{ModuleTree, RoleDeclaration};
 use scrib_static_checks::checking::State;
 use scrib_static_checks::declared::{Declaration, all_declared};
-use scrib_static_checks::directory::Directory;
 use scrib_static_checks::fault::{ElaborateFault, Fault, FaultKind};
 use scrib_static_checks::modules::Modules;
 use scrib_static_checks::names::has_module;
+use scrib_static_checks::protocol_index::ProtocolIndex;
 use scrib_static_checks::walk::{check_size, fault_in, unwalked, walk};
-use scrib_parser::tree::{ModuleTree, RoleDeclaration};
 use scrib_type_builder::build_error::BuildError;
-use scrib_type_builder::built::{Origin, Typed};
+use scrib_type_builder::built_type::{BuiltType, Origin};
+use scrib_types::containers::Items;
 use scrib_types::name::{Dotted, Name, Role};
-use scrib_types::plain::Items;
 use scrib_types::spot::Spot;
 use std::alloc::{AllocError, Global};
 use std::marker::Model;
 
-/// What the protocol of this name, in the module of this name, means among the modules.
+/// Returns the meaning of the protocol of this name, in the module of this name, among the modules.
 ///
 /// # Errors
-/// `Broken` with a rule that fails and its place, exactly where the protocol means nothing: `NoModule` or
-/// `NoProtocol`, with the module's name and the place 0:0, where it isn't there; `OutOfMemory` where memory
-/// was refused.
+/// `Broken` with a rule that fails and its position, exactly where the protocol means nothing. For a missing protocol
+/// that is `NoModule` or `NoProtocol`, with the requested module's name and the position 0:0. `OutOfMemory` where
+/// memory was refused.
 pub fn elaborate(
     alloc: Global,
     modules: &Modules,
@@ -52,16 +52,16 @@ pub fn elaborate(
     elaborator.elaborate(module, protocol)
 }
 
-/// Elaboration of several protocols among the same modules, which looks once at what they call, and once more at one that
-/// was itself asked for before.
+/// Elaborates several protocols among the same modules. It checks a called protocol once, and once more if that was
+/// itself requested before.
 #[derive(Drop)]
 pub struct Elaborator<'a> {
     alloc: Global,
     modules: &'a Modules,
     declared: Vec<Declaration<'a>>,
-    directory: &'a Directory,
+    protocol_index: &'a ProtocolIndex,
     states: Vec<State>,
-    known: Vec<Option<Typed<'a>>>,
+    memo: Vec<Option<BuiltType<'a>>>,
 }
 
 impl<'a> Model for Elaborator<'a> {
@@ -77,11 +77,12 @@ impl<'a> Model for Elaborator<'a> {
 
     ghost view = { λ e. e.modules.now };
 
-    ghost invariant = { λ e. IsTabled e.modules.now e.declared.items e.directory.now.slots.items e.states.items e.known.items };
+    ghost invariant = { λ e. IsTabled e.modules.now e.declared.items e.protocol_index.now.slots.items e.states.items
+        e.memo.items };
 }
 
 impl<'a> Elaborator<'a> {
-    /// Elaboration among these modules.
+    /// Returns an elaborator for these modules.
     ///
     /// # Errors
     /// `AllocError` where memory was refused.
@@ -90,18 +91,18 @@ impl<'a> Elaborator<'a> {
     {
         let declared = all_declared(alloc, modules)?;
         let states = unwalked(alloc, declared.len())?;
-        let known = unknown(alloc, declared.len())?;
+        let memo = empty_memo(alloc, declared.len())?;
         Ok(Elaborator {
             alloc,
             modules,
             declared,
-            directory: modules.directory(),
+            protocol_index: modules.protocol_index(),
             states,
-            known,
+            memo,
         })
     }
 
-    /// What the protocol of this name, in the module of this name, means.
+    /// Returns the meaning of the protocol of this name, in the module of this name.
     ///
     /// # Errors
     /// Those of `elaborate`.
@@ -120,82 +121,91 @@ impl<'a> Elaborator<'a> {
             self.alloc,
             self.modules.as_slice(),
             &self.declared,
-            self.directory,
+            self.protocol_index,
             &mut self.states,
-            &mut self.known,
+            &mut self.memo,
             module,
             protocol,
         )
     }
 }
 
-// What the protocol means among the modules, where these are their declared protocols and this was found of them.
+// Returns the meaning of the protocol among the modules, with their declared protocols, and the results so far.
 fn elaborate_among<'a>(
     alloc: Global,
     trees: &'a [ModuleTree],
     declared: &[Declaration<'a>],
-    directory: &Directory,
+    protocol_index: &ProtocolIndex,
     states: &mut Vec<State>,
-    known: &mut Vec<Option<Typed<'a>>>,
+    memo: &mut Vec<Option<BuiltType<'a>>>,
     module: &Dotted,
     protocol: &Name,
 ) -> Result<Elaborated, ElaborateFault>
-    requires { IsTabled trees.now declared.now directory.now.slots.items states.old.items known.old.items }
+    requires { IsTabled trees.now declared.now protocol_index.now.slots.items states.old.items memo.old.items }
     ensures ok { IfOk result (λ e. Elaborates trees.now «module».now protocol.now (meaning_of e)) }
     ensures sites { IfOk result (AreSites trees.now «module».now protocol.now) }
     ensures only { (a : Agreement) → Elaborates trees.now «module».now protocol.now a → Means result a }
     ensures fault { IfErr result (FailsAt trees.now «module».now protocol.now) }
-    ensures tabled { IsTabled trees.now declared.now directory.now.slots.items states.new.items known.new.items }
+    ensures tabled { IsTabled trees.now declared.now protocol_index.now.slots.items states.new.items memo.new.items }
 {
-    let root = find_root(alloc, trees, declared, directory, module, protocol)?;
+    let root = find_root(alloc, trees, declared, protocol_index, module, protocol)?;
     let mut walked = Vec::new(alloc);
     walk(
         alloc,
         &*trees,
         &*declared,
-        &*directory,
+        &*protocol_index,
         root,
         states,
         &mut walked,
     )?;
     let count = check_size(alloc, declared, &*states, root)?;
     walked.pop();
-    know(alloc, trees, declared, directory, &*states, &walked, known)?;
+    memoize(
+        alloc,
+        trees,
+        declared,
+        protocol_index,
+        &*states,
+        &walked,
+        memo,
+    )?;
     let at = declared[root];
-    let program = Program {
+    let context = ElaborationContext {
         modules: trees,
         declared: &*declared,
-        directory: &*directory,
+        protocol_index: &*protocol_index,
         states: &*states,
-        known: &*known,
+        memo: &*memo,
         root: at,
     };
-    let answer = finish(alloc, &program, root, count, module, protocol);
-    forget(states, &*known, root, count);
+    let answer = finish(alloc, &context, root, count, module, protocol);
+    remove_walk(states, &*memo, root, count);
     answer
 }
 
-// What the protocol means, after the first two passes.
+// Returns the meaning of the protocol, after the first two passes.
 fn finish(
     alloc: Global,
-    program: &Program,
+    context: &ElaborationContext,
     root: usize,
     count: usize,
     module: &Dotted,
     protocol: &Name,
 ) -> Result<Elaborated, ElaborateFault>
-    requires table { IsTable program.now }
-    requires there { slice_get (shown program.now.declared.now) root ≡ Some (declaration_of program.now.root) }
-    requires ready { IsCounted program.now.modules.now (shown program.now.declared.now) (declaration_of program.now.root) count «module».now protocol.now }
-    ensures ok { IfOk result (λ e. Elaborates program.now.modules.now «module».now protocol.now (meaning_of e)) }
-    ensures sites { IfOk result (AreSites program.now.modules.now «module».now protocol.now) }
-    ensures fault { IfErr result (FailsAt program.now.modules.now «module».now protocol.now) }
+    requires table { IsTable context.now }
+    requires there { slice_get (shown context.now.declared.now) root ≡ Some (declaration_of context.now.root) }
+    requires ready { IsCounted context.now.modules.now (shown context.now.declared.now)
+        (declaration_of context.now.root) count «module».now protocol.now }
+    ensures ok { IfOk result (λ e. Elaborates context.now.modules.now «module».now protocol.now (meaning_of e)) }
+    ensures sites { IfOk result (AreSites context.now.modules.now «module».now protocol.now) }
+    ensures fault { IfErr result (FailsAt context.now.modules.now «module».now protocol.now) }
 {
-    match known_or_typed(alloc, program, root) {
+    match memoized_type(alloc, context, root) {
         Ok(typed) => {
-            let Typed { global, origins } = typed;
-            let roles = copy_roles(alloc, program.root.protocol.roles.as_slice())?;
-            let sites = told(alloc, &origins)?;
+            let BuiltType { global, origins } = typed;
+            let roles = copy_roles(alloc, context.root.protocol.roles.as_slice())?;
+            let sites = choice_sites(alloc, &origins)?;
             Ok(Elaborated::new(roles, global, count, sites))
         }
         Err(BuildError::Broken(home, rule)) => Err(fault_in(alloc, home, rule)),
@@ -213,44 +223,44 @@ fn copy_roles(alloc: Global, roles: &[RoleDeclaration]) -> Result<Items<Role>, A
     Ok(Items::from_vec(names))
 }
 
-// The choices that communications with several branches come from.
-fn told(alloc: Global, origins: &[Option<Origin>]) -> Result<Items<ChoiceSite>, AllocError>
-    ensures { IfOk result (λ ts. ts ≡ told_sites origins.now) }
+// Returns the choices that communications with several branches come from.
+fn choice_sites(alloc: Global, origins: &[Option<Origin>]) -> Result<Items<ChoiceSite>, AllocError>
+    ensures { IfOk result (λ ts. ts ≡ origin_sites origins.now) }
 {
-    let mut told = Vec::new(alloc);
+    let mut found_sites = Vec::new(alloc);
     for found in origins {
         if let Some(origin) = found {
             let module = origin.home.name.copy()?;
             let spot = origin.spot;
-            told.push(ChoiceSite { module, spot })?;
+            found_sites.push(ChoiceSite { module, spot })?;
         }
     }
-    Ok(Items::from_vec(told))
+    Ok(Items::from_vec(found_sites))
 }
 
-// Where the protocol that is asked for stands in the table.
+// Returns the index of the requested protocol in the table.
 fn find_root(
     alloc: Global,
     modules: &[ModuleTree],
     declared: &[Declaration],
-    directory: &Directory,
+    protocol_index: &ProtocolIndex,
     module: &Dotted,
     protocol: &Name,
 ) -> Result<usize, ElaborateFault>
     requires all { shown declared.now ≡ declarations modules.now }
-    requires filed { IsDirectory (shown declared.now) directory.now.slots.items }
+    requires indexed { IsProtocolIndex (shown declared.now) protocol_index.now.slots.items }
     ensures { MatchResult result
         (IsFound (shown declared.now) (is_called «module».now protocol.now))
         (FailsAt modules.now «module».now protocol.now) }
 {
-    match directory.find(declared, module, protocol) {
+    match protocol_index.find(declared, module, protocol) {
         Some(root) => Ok(root),
         None if has_module(modules, module) => { Err(absent(alloc, module, FaultKind::NoProtocol)) }
         None => Err(absent(alloc, module, FaultKind::NoModule)),
     }
 }
 
-// The fault that the protocol isn't there, or `OutOfMemory` where memory for a copy of the name is refused.
+// Returns the fault that the protocol does not exist, or `OutOfMemory` where memory for a copy of the name was refused.
 fn absent(alloc: Global, name: &Dotted, kind: FaultKind) -> ElaborateFault
     ensures { IsAbsentFault name.now kind result }
 {

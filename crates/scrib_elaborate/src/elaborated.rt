@@ -5,21 +5,21 @@ ghost use Rattle.scrib_types.specs.GlobalView.{global_of};
 ghost use Rattle.scrib_static_checks.specs.Elaboration.{nodes, height};
 ghost use Rattle.scrib_elaborate.specs.Sound.{is_sound};
 
+use scrib_types::containers::Items;
 use scrib_types::global::GlobalType;
 use scrib_types::name::{Dotted, Role};
-use scrib_types::plain::Items;
 use scrib_types::spot::Spot;
 
-/// Where the choice stands that a communication with several branches comes from: its module, and the place of
-/// its word `choice`, of the outermost one where several were joined.
+/// The choice that a communication with several branches comes from: its module, and the position of its word `choice`.
+/// Where several choices form one communication, it is the outermost.
 #[derive(Drop)]
 pub struct ChoiceSite {
     pub module: Dotted,
     pub spot: Spot,
 }
 
-/// What a protocol means: its roles in the order in which they are declared, and its global type, which is closed
-/// and well formed.
+/// The meaning of a protocol: its roles in the order in which they are declared, and its global type, which is closed
+/// and well-formed.
 #[derive(Drop)]
 pub struct Elaborated {
     roles: Items<Role>,
@@ -39,8 +39,8 @@ impl Elaborated {
     ghost use Rattle.scrib_elaborate.specs.Sound.{is_sound};
     ghost use Rattle.scrib_elaborate.specs.Meaning.{meaning_of, sites_of};
 
-    /// The protocol of these roles and this type, which has so many nodes, at most 65,536, and at most 4,096 of them
-    /// on a path. The sites are those of the type's communications with several branches, in post-order.
+    /// Returns the protocol of these roles and this type, which has `nodes` nodes, at most 65,536, and at most 4,096 of
+    /// them on a path. `sites` are those of the type's communications with several branches, in post-order.
     pub fn new(
         roles: Items<Role>,
         global: GlobalType,
@@ -62,7 +62,7 @@ impl Elaborated {
         }
     }
 
-    /// The roles, in the order in which they are declared.
+    /// Returns the roles, in the order in which they are declared.
     pub fn roles(&self) -> &[Role]
         ensures roles { result.now ≡ (meaning_of self.now).roles }
         ensures sound { IsTrue (is_sound (meaning_of self.now).roles (meaning_of self.now).global) }
@@ -70,7 +70,7 @@ impl Elaborated {
         self.roles.as_slice()
     }
 
-    /// The global type.
+    /// Returns the global type.
     pub fn global(&self) -> &GlobalType
         ensures global { global_of result.now ≡ (meaning_of self.now).global }
         ensures sound { IsTrue (is_sound (meaning_of self.now).roles (meaning_of self.now).global) }
@@ -78,22 +78,22 @@ impl Elaborated {
         &self.global
     }
 
-    /// How many ends, variables, recursions and communications the global type has.
+    /// Returns the number of ends, variables, recursions and communications of the global type.
     pub fn nodes(&self) -> usize
         ensures { result ≡ nodes (meaning_of self.now).global }
     {
         self.count
     }
 
-    /// Where the communications with several branches come from, in post-order: those in a communication's
-    /// branches, the first branch first, and then its own.
+    /// Returns the choices that the communications with several branches come from, in post-order. Those in a
+    /// communication's branches precede its own, from the first branch on.
     pub fn sites(&self) -> &[ChoiceSite]
         ensures { result.now ≡ sites_of self.now }
     {
         self.sites.as_slice()
     }
 
-    /// The roles and the global type.
+    /// Returns the roles and the global type.
     pub fn into_parts(self) -> (Items<Role>, GlobalType)
         ensures parts { record { roles = result.0; global = global_of result.1 } ≡ meaning_of self }
         ensures small { nodes (global_of result.1) ≤ 65536 }

@@ -1,12 +1,12 @@
-//! Elaboration: from protocols as they are declared to the global types that they mean.
+//! Elaboration: from declared protocols to the global types that they mean.
 #![tactic(auto)]
 
 mod choices;
-mod earlier;
 pub mod elaborate;
 pub mod elaborated;
 mod exits;
-mod known;
+mod first_fault;
+mod memo;
 mod scope;
 mod tasks;
 mod typing;

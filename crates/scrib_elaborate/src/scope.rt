@@ -1,4 +1,4 @@
-//! Where statements stand while the type of a protocol is computed.
+//! The scopes of statements while the type of a protocol is built.
 
 ghost use Rattle.std.specs.Prelude.{◌≡◌, ◌∷◌, map, IfOk};
 ghost use Rattle.scrib_static_checks.specs.Names.{role_names};
@@ -7,22 +7,22 @@ ghost use Rattle.scrib_static_checks.specs.Table.{declaration_of};
 ghost use Rattle.scrib_type_builder.specs.Renaming.{named};
 ghost use Rattle.scrib_elaborate.specs.Scope.{scope_of, levels_of, IsStart, IsSame, IsInside, IsInsideCall};
 
-use scrib_static_checks::declared::Declaration;
 use scrib_parser::tree::RoleDeclaration;
-use scrib_type_builder::build_error::{Refused, next};
+use scrib_static_checks::declared::Declaration;
+use scrib_type_builder::build_error::{Refused, next_depth};
 use scrib_type_builder::renamed::given_for;
 use scrib_types::name::{Name, Role};
 use std::alloc::{AllocError, Global};
 
-/// A recursion round statements, and how many recursions stand round it in the type.
+/// A recursion around statements, and the number of recursions around it in the type.
 #[derive(Clone, Copy, Drop)]
 pub struct Level<'a> {
     pub name: &'a Name,
     pub level: u32,
 }
 
-/// Where statements stand: their protocol, the roles that are given for its roles by position, the recursions
-/// round them in it, the innermost first, and how many recursions stand round them in the type.
+/// The scope of statements: their protocol, and the roles that are passed for its roles by position. It also has the
+/// recursions around them in the protocol, the innermost first, and the number of recursions around them in the type.
 #[derive(Drop)]
 pub struct Scope<'a> {
     pub within: Declaration<'a>,
@@ -32,7 +32,7 @@ pub struct Scope<'a> {
 }
 
 impl<'a> Scope<'a> {
-    /// Where the statements of the protocol that was asked for stand.
+    /// Returns the scope of the requested protocol's statements.
     ///
     /// # Errors
     /// `AllocError` where memory was refused.
@@ -48,7 +48,7 @@ impl<'a> Scope<'a> {
         })
     }
 
-    /// The same once more.
+    /// Returns a copy.
     ///
     /// # Errors
     /// `AllocError` where memory was refused.
@@ -65,7 +65,7 @@ impl<'a> Scope<'a> {
         })
     }
 
-    /// Where the statements of a recursion of this name stand.
+    /// Returns the scope inside a recursion of this name.
     ///
     /// # Errors
     /// `Refused` where memory was refused.
@@ -74,7 +74,7 @@ impl<'a> Scope<'a> {
     {
         let given = Vec::from_slice(alloc, &self.given)?;
         let recs = one_more(alloc, &self.recs, name, self.depth)?;
-        let depth = next(self.depth)?;
+        let depth = next_depth(self.depth)?;
         Ok(Scope {
             within: self.within,
             given,
@@ -83,7 +83,7 @@ impl<'a> Scope<'a> {
         })
     }
 
-    /// Where the statements of a protocol stand that is called with these roles.
+    /// Returns the scope inside a protocol that is called with these roles.
     ///
     /// # Errors
     /// `AllocError` where memory was refused.
@@ -104,7 +104,7 @@ impl<'a> Scope<'a> {
         })
     }
 
-    /// The roles given for these.
+    /// Returns the roles that are passed for these.
     ///
     /// # Errors
     /// `AllocError` where memory was refused.
@@ -118,14 +118,14 @@ impl<'a> Scope<'a> {
         Ok(given)
     }
 
-    /// The role given for this one.
+    /// Returns the role that is passed for this one.
     pub fn role(&self, role: &'a Role) -> &'a Role
         ensures { result.now ≡ role_in (scope_of self.now) role.now }
     {
         given_for(self.within.protocol.roles.as_slice(), &self.given, role)
     }
 
-    /// How many recursions stand round the one of this name.
+    /// Returns how many recursions are around the one of this name.
     pub fn level_of(&self, name: &Name) -> Option<u32>
         ensures { result ≡ level_of name.now (scope_of self.now).recs }
     {
@@ -138,7 +138,7 @@ impl<'a> Scope<'a> {
     }
 }
 
-// The names of roles, in order.
+// Returns the names of roles, in order.
 fn role_names<'a>(alloc: Global, roles: &'a [RoleDeclaration]) -> Result<Vec<&'a Role>, AllocError>
     ensures { IfOk result (λ names. named names.items ≡ role_names roles.now) }
 {
@@ -149,7 +149,7 @@ fn role_names<'a>(alloc: Global, roles: &'a [RoleDeclaration]) -> Result<Vec<&'a
     Ok(names)
 }
 
-// The recursions with one inside them.
+// Returns the recursions with one more inside them.
 fn one_more<'a>(
     alloc: Global,
     recs: &[Level<'a>],

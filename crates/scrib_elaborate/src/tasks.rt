@@ -1,54 +1,54 @@
-//! What is left to do for the type of a protocol.
+//! The tasks of building the type of a protocol.
 
 use crate::scope::Scope;
+use scrib_parser::tree::{Block, ModuleTree, Statement};
 use scrib_static_checks::checking::State;
 use scrib_static_checks::declared::Declaration;
-use scrib_static_checks::directory::Directory;
-use scrib_static_checks::shape::Shape;
-use scrib_parser::tree::{Block, ModuleTree, Statement};
-use scrib_type_builder::built::Typed;
+use scrib_static_checks::effect::CallEffect;
+use scrib_static_checks::protocol_index::ProtocolIndex;
+use scrib_type_builder::built_type::BuiltType;
 use scrib_types::name::Role;
 use scrib_types::spot::Spot;
 
-/// The protocol that is asked for, among all declared protocols of the modules, with their directory, how far a walk
-/// was with each, and the type of each that is known alone, as if nothing followed it.
+/// The requested protocol, with all declared protocols of the modules, their index, the states of the walk, and the
+/// types that are built in isolation.
 #[derive(Clone, Copy, Drop)]
-pub struct Program<'a, 'k> {
+pub struct ElaborationContext<'a, 'k> {
     pub modules: &'a [ModuleTree],
     pub declared: &'k [Declaration<'a>],
-    pub directory: &'k Directory,
+    pub protocol_index: &'k ProtocolIndex,
     pub states: &'k [State],
-    pub known: &'k [Option<Typed<'a>>],
+    pub memo: &'k [Option<BuiltType<'a>>],
     pub root: Declaration<'a>,
 }
 
-/// A called protocol, its place in the table, and its shape.
+/// A called protocol, its index in the table, and its effect.
 #[derive(Clone, Copy, Drop)]
 pub struct Callee<'a> {
     pub place: usize,
     pub declared: Declaration<'a>,
-    pub shape: Shape,
+    pub effect: CallEffect,
 }
 
-/// A choice of which some blocks have their types: those in `types`, from the first. While blocks after the next
-/// one are left, the type of what follows the choice is kept for them.
+/// A choice of which the first blocks have their types, in `types`. While blocks after the next one are left, it keeps
+/// the type of what follows the choice for them.
 #[derive(Drop)]
 pub struct Choosing<'a> {
     pub scope: Scope<'a>,
     pub chooser: &'a Role,
     pub branches: &'a [Block],
     pub spot: Spot,
-    pub follows: Option<Typed<'a>>,
-    pub types: Vec<Typed<'a>>,
+    pub follows: Option<BuiltType<'a>>,
+    pub types: Vec<BuiltType<'a>>,
 }
 
-/// What is done next with the type that was made last.
+/// The next step with the type that was built last.
 #[derive(Drop)]
 pub enum Task<'a> {
-    /// These statements stand in front of what has the type. The last of them is next.
+    /// These statements precede what has the type. The last of them is next.
     Front(Scope<'a>, &'a [Statement]),
-    /// It is the type of the choice's next block.
+    /// The type is that of the choice's next block.
     Join(Choosing<'a>),
-    /// It is the type of the body of the recursion here.
+    /// The type is that of the body of the recursion at this position.
     Close(&'a ModuleTree, Spot),
 }

@@ -1,6 +1,6 @@
-pub mod Wider
+pub mod ProfileLemmas
 pub mod Projections
 pub mod Protocols
-pub mod Undefined
-pub mod Located
-pub mod Placing
+pub mod UndefinedProjections
+pub mod FirstDifferences
+pub mod PositionLemmas

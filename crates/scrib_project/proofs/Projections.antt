@@ -11,7 +11,7 @@ use Rattle.scrib_types.specs.Projection.{projection}
 use Rattle.scrib_types.specs.Same.{same_local-refl}
 use Rattle.scrib_projection.specs.Projections.{is_this, are_projections}
 use Rattle.scrib_project.specs.Faults.{first_without}
-use Rattle.scrib_project.proofs.Wider.{wider}
+use Rattle.scrib_project.proofs.ProfileLemmas.{wider}
 
 is_this_from : (o : Option LocalTree) (l : LocalTree) → o ≡ Some l → is_this o l ≡ true
 is_this_from o l e = ap (λ x. is_this x l) e ∙ same_local-refl l
@@ -24,7 +24,7 @@ projections_more g (s ∷ rs) (k ∷ ls) r l h e =
     let p = and_parts (is_this (projection Reception s g) (local_of k)) (are_projections g rs ls) h in
     and_from (is_this (projection Reception s g) (local_of k)) (are_projections g (rs ++ r ∷ []) (ls ++ l ∷ [])) p.0 (projections_more g rs ls r l p.1 e)
 
--- a step of the loop over a protocol's roles
+-- one iteration of the loop over a protocol's roles
 pub projections_step : (profile : Profile) (g : GlobalTree) (rs : List (List ℕ)) (ls : List Local) (i : ℕ) (r : List ℕ) (l : Local) → i < length rs → r ≡ get_or rs i r → are_projections g (take i rs) ls ≡ true → projection profile r g ≡ Some (local_of l) → are_projections g (take (i + 1) rs) (ls ++ l ∷ []) ≡ true
 projections_step profile g rs ls i r l n x v u =
     let more : take (i + 1) rs ≡ take i rs ++ r ∷ [] = take_more rs i r n ∙ ap (λ y. take i rs ++ y ∷ []) (sym x) in

@@ -1,4 +1,4 @@
--- A type that has a projection on each role makes a protocol.
+-- A type with a projection on each role forms a protocol.
 use Rattle.std.proofs.Common.{◌≡◌, ℕ, true, ◌&&◌, IsTrue, List, [], ◌∷◌, Option, Some, None, is_some, if◌then◌else◌, refl}
 use Rattle.std.proofs.lemmas.Bool.{and_parts}
 use Rattle.scrib_types.specs.declared.profile.Profile.{Profile}
@@ -7,7 +7,7 @@ use Rattle.scrib_types.specs.Projection.{projection}
 use Rattle.scrib_types.specs.WellFormed.{well_formed, projects, is_protocol}
 use Rattle.scrib_elaborate.specs.Sound.{is_sound}
 use Rattle.scrib_project.specs.Faults.{first_without}
-use Rattle.scrib_project.proofs.Wider.{all_wider}
+use Rattle.scrib_project.proofs.ProfileLemmas.{all_wider}
 
 some_projects : (profile : Profile) (g : GlobalTree) (o : Option LocalTree) (r : List ℕ) (rs : List (List ℕ)) → ((first_without profile g rs ≡ None) → projects profile g rs ≡ true) → (if is_some o then first_without profile g rs else Some r) ≡ None → (is_some o && projects profile g rs) ≡ true
 some_projects profile g None r rs h e = absurd (cc)

@@ -1,11 +1,11 @@
-//! Why there is no projection.
+//! The errors of projection.
 
 use scrib_types::name::{Dotted, Role};
 use scrib_types::spot::Spot;
 use std::alloc::{AllocError, AllocFailed};
 
-/// A choice whose branches don't merge for a role that has no part in it: the role, the module, and the place of the
-/// choice in the module's text.
+/// A choice whose branches do not merge for a role without a part in it: the role, the module, and the position in its
+/// text.
 #[derive(Drop)]
 pub struct Unmergeable {
     pub role: Role,
@@ -13,10 +13,10 @@ pub struct Unmergeable {
     pub spot: Spot,
 }
 
-/// Why there is no projection.
+/// The reason for which there is no projection.
 #[derive(Drop)]
 pub enum ProjectFault {
-    /// The branches of a choice between others don't merge for the role.
+    /// The branches of a choice between other roles do not merge for the role.
     Unmergeable(Unmergeable),
     /// Memory was refused.
     OutOfMemory,

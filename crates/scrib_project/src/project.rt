@@ -10,18 +10,18 @@ ghost use Rattle.scrib_project.specs.Faults.{Projects, IsOfSite, IsFaultPlaced, 
 
 use crate::fault::{ProjectFault, Unmergeable};
 use scrib_elaborate::elaborated::{ChoiceSite, Elaborated};
-use scrib_projection::look::look;
+use scrib_projection::project_role::project_role;
 use scrib_types::local::Local;
 use scrib_types::name::{Dotted, Role};
 use scrib_types::profile::Profile;
 use scrib_types::spot::Spot;
 use std::alloc::{AllocError, Global};
 
-/// What the role does in the protocol, under the profile.
+/// Returns the projection of the protocol on the role, under the profile.
 ///
 /// # Errors
-/// `Unmergeable` exactly where the projection is undefined, with the place of the first choice, in post-order,
-/// that is visited and whose branches don't merge for the role; `OutOfMemory` where memory was refused.
+/// `Unmergeable` exactly where the projection is undefined. Its position is that of the first visited choice, in
+/// post-order, whose branches do not merge for the role. `OutOfMemory` where memory was refused.
 pub fn project(
     alloc: Global,
     elaborated: &Elaborated,
@@ -36,7 +36,7 @@ pub fn project(
     project_among(alloc, elaborated, elaborated.sites(), role, profile)
 }
 
-/// What the role does in the protocol, whose communications with several branches come from these sites.
+// Returns the projection on the role, where the communications with several branches come from these sites.
 fn project_among(
     alloc: Global,
     elaborated: &Elaborated,
@@ -47,20 +47,21 @@ fn project_among(
     ensures value { Projects profile (meaning_of elaborated.now).global role.now result }
     ensures place { IfErr result (IsOfSite profile sites.now (meaning_of elaborated.now).global) }
 {
-    let sight = look(alloc, elaborated.global(), role, profile)?;
-    match sight.local {
+    let outcome = project_role(alloc, elaborated.global(), role, profile)?;
+    match outcome.local {
         Some(local) => Ok(local),
         None => {
-            let site = site_at(sites, sight.survey.first);
+            let site = site_at(sites, outcome.survey.first);
             let fault = unmergeable(alloc, role, site)?;
             Err(ProjectFault::Unmergeable(fault))
         }
     }
 }
 
-/// The site with this number, which is capped where no site has it.
+// Returns the site with this number. Where no site has it, the number is capped.
 fn site_at(sites: &[ChoiceSite], number: Option<usize>) -> Option<&ChoiceSite>
-    ensures { (n : Option ℕ) → number ≡ option_map capped n → option_copied result ≡ option_and_then (slice_get sites.now) n }
+    ensures { (n : Option ℕ) → number ≡ option_map capped n
+        → option_copied result ≡ option_and_then (slice_get sites.now) n }
 {
     let number = number?;
     let count = sites.len();
@@ -70,8 +71,8 @@ fn site_at(sites: &[ChoiceSite], number: Option<usize>) -> Option<&ChoiceSite>
     Some(&sites[number])
 }
 
-/// The fault that the choice at the site differs for the role. Without a site it is at 0:0 in a module that has the
-/// role's name.
+// Returns the fault that the branches of the choice at the site differ for the role. Without a site it is at 0:0, in a
+// module with the role's name.
 fn unmergeable(
     alloc: Global,
     role: &Role,

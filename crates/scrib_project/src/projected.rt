@@ -5,8 +5,8 @@ ghost use Rattle.scrib_types.specs.Meaning.{agreement_of};
 ghost use Rattle.scrib_types.specs.Nodes.{global_nodes};
 ghost use Rattle.scrib_projection.specs.Projections.{are_projections};
 
+use scrib_types::containers::Items;
 use scrib_types::local::Local;
-use scrib_types::plain::Items;
 use scrib_types::protocol::Protocol;
 
 /// A protocol of at most 65,536 nodes with its projection on each role, in the order in which the roles are declared.

@@ -1,4 +1,4 @@
-//! Protocols from what is elaborated.
+//! Protocols made from elaborated ones.
 
 ghost use Rattle.std.specs.Prelude.{ℕ, List, IfErr};
 ghost use Rattle.scrib_parser.specs.declared.tree.ModuleTree.{ModuleTree};
@@ -10,17 +10,17 @@ use crate::fault::ProjectFault;
 use crate::project::project;
 use crate::projected::ProjectedProtocol;
 use scrib_elaborate::elaborated::Elaborated;
-use scrib_types::plain::Items;
+use scrib_types::containers::Items;
 use scrib_types::profile::Profile;
 use scrib_types::protocol::Protocol;
 use std::alloc::Global;
 
-/// The protocol, once its type has a projection on each of its roles under the profile. They are tried in the order in
-/// which they are declared.
+/// Returns the protocol, whose type has a projection on each of its roles under the profile. The roles are tried in the
+/// order in which they are declared.
 ///
 /// # Errors
-/// `Unmergeable` exactly where some role has no projection, with the first such role and the place that `project`
-/// tells for it; `OutOfMemory` where memory was refused.
+/// `Unmergeable` exactly where some role has no projection, with the first such role and the position that `project`
+/// returns for it. `OutOfMemory` where memory was refused.
 pub fn protocol(
     alloc: Global,
     elaborated: Elaborated,
@@ -36,7 +36,7 @@ pub fn protocol(
     Ok(protocol)
 }
 
-/// The protocol with its projections, each of which is made once.
+/// Returns the protocol with its projections, each of which is computed once.
 ///
 /// # Errors
 /// As for `protocol`.

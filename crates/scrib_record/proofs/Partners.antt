@@ -105,7 +105,7 @@ among_last : (rs : List (List ℕ)) (w : List Action) (l : LocalTree) (a : Actio
 among_last rs [] l a t j = (among_does rs t.1 j).0
 among_last rs (b ∷ w) l a t j = among_last rs w t.0 a t.2 (among_does rs t.1 j).1
 
--- what a role may do is with one of the roles
+-- the next actions of a role are with one of the roles
 pub acts_among : (a : Agreement) (log : List Event) (r : List ℕ) (act : Action) → well_formed a.roles a.global ≡ true → MayAct a log r act → IsAmong a.roles act
 acts_among a log r act f h =
     among_last a.roles (own_actions r log) h.local act h.trace (among a.roles r (projects_of r a.global h.local h.projected) f)

@@ -1,11 +1,11 @@
--- The flat form of what a protocol means: bytes by which two protocols are compared (this project's own).
--- Each meaning has bytes of its own, which no other begins with.
+-- The flat form of a protocol's meaning: bytes by which two protocols are compared (this project's own). No flat form
+-- is a prefix of that of another meaning.
 use Rattle.std.specs.Prelude.{ℕ, List, [], ◌∷◌, ◌++◌}
 use Rattle.scrib_types.specs.Flat.{number_bytes, name_bytes, names_bytes, message_bytes}
 use Rattle.scrib_types.specs.Agreement.{Agreement}
 use Rattle.scrib_types.specs.Trees.{GlobalTree, GlobalEnd, GlobalVar, GlobalRec, Comm, Flight, GlobalBranches, NoBranch, Branch}
 
--- A tree's form, as a number, and then its parts. Each branch comes after a 1, and at the end a 0.
+-- The number of a tree's form, and then its parts. Each branch follows a 1, and a 0 ends them.
 abbrev mutual
   pub global_bytes : GlobalTree → List ℕ
   global_bytes GlobalEnd = 0 ∷ []

@@ -1,5 +1,4 @@
--- When an event may follow a log that is permitted.
--- Only contracts of private functions cite this file.
+-- When an event may follow a permitted log. Only contracts of private functions cite this file.
 use Rattle.std.specs.Prelude.{◌≡◌, ℕ, true, false, List, [], ◌∷◌, ◌++◌, Some}
 use Rattle.scrib_types.specs.declared.message.Message.{Message}
 use Rattle.scrib_types.specs.declared.event.Action.{Action}
@@ -15,7 +14,7 @@ use Rattle.scrib_types.specs.Traces.{IsTrace}
 use Rattle.scrib_types.specs.Trees.{LocalTree}
 use Rattle.scrib_types.specs.WellFormed.{has_role}
 
--- the role is declared and has joined, and what it did and then the action are a trace of its projection
+-- the role is declared and has joined, and its actions followed by this one are a trace of its projection
 pub record MayAct (a : Agreement) (log : List Event) (role : List ℕ) (act : Action) : Type 0 where
   pub declared : has_role role a.roles ≡ true
   pub joined : has_joined role log ≡ true

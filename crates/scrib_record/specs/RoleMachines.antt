@@ -1,4 +1,4 @@
--- Which machines stand beside a protocol.
+-- The machines of a protocol's roles.
 use Rattle.std.specs.Prelude.{◌≡◌, ℕ, List, length, slice_get, Some}
 use Rattle.scrib_types.specs.Agreement.{Agreement}
 use Rattle.scrib_types.specs.declared.local.Local.{Local}
@@ -23,4 +23,5 @@ pub record IsMachineOf (a : Agreement) (role : List ℕ) (m : List (List Edge)) 
 -- a machine for each role, in the order in which the roles are declared (this project's own)
 pub record AreMachinesOf (a : Agreement) (ms : List (List (List Edge))) : Type 0 where
   pub count : length ms ≡ length a.roles
-  pub each : (i : ℕ) (role : List ℕ) (m : List (List Edge)) → slice_get a.roles i ≡ Some role → slice_get ms i ≡ Some m → IsMachineOf a role m
+  pub each : (i : ℕ) (role : List ℕ) (m : List (List Edge)) → slice_get a.roles i ≡ Some role → slice_get ms i ≡ Some m
+      → IsMachineOf a role m

@@ -10,11 +10,11 @@ use Rattle.scrib_record.specs.declared.version.Version.{Version}
 use Rattle.scrib_record.specs.Flat.{flat_form}
 use Rattle.scrib_record.specs.Versions.{meaning_of, number_of}
 
--- whether the stamps are the same: the numbers are, and the meanings, by their flat forms
+-- whether the stamps are equal: the numbers are, and the meanings, by their flat forms
 abbrev pub same_stamp : Version → Version → Bool
 same_stamp v w = (number_of v == number_of w) && bytes_eq (flat_form (meaning_of v)) (flat_form (meaning_of w))
 
--- whether what is held is the present version, or none where there is none
+-- whether the held version is the present one, or there is neither
 abbrev pub is_present : Option Version → Option Version → Bool
 is_present None None = true
 is_present None (Some w) = false
@@ -27,8 +27,8 @@ is_final Permitted judged events = nat_le events judged
 is_final (Offence place role allowed) judged events = true
 is_final Withdrawn judged events = true
 
--- what a record shows: the full name of its protocol, its log, the version that it was judged under, or none where
--- it was judged withdrawn, how many events are judged, and the verdict on them
+-- The value of a record: the full name of its protocol, its log, the number of judged events, and the verdict on them.
+-- It also has the version under which they were judged, or none if they were judged withdrawn.
 pub record Recorded : Type 0 where
   pub name : List (List ℕ)
   pub log : List Event
@@ -36,11 +36,11 @@ pub record Recorded : Type 0 where
   pub judged : ℕ
   pub verdict : Verdict
 
--- whether the verdict is out of date, where this is the present version of the protocol, or none is there
+-- whether the verdict is stale, under the present version of the protocol, if there is one
 abbrev pub is_stale : Option Version → Recorded → Bool
 is_stale present r = not (is_present present r.held && is_final r.verdict r.judged (length r.log))
 
--- lawful: the verdict is that of judging the events that are judged, under the version that is held
+-- lawful: the verdict is that of judging the judged events under the held version
 pub record IsLawful (r : Recorded) : Type 0 where
   pub within : r.judged ≤ length r.log
   pub judges : Judges (option_map meaning_of r.held) (take r.judged r.log) r.verdict

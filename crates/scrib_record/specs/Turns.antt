@@ -16,14 +16,16 @@ use Rattle.scrib_record.specs.Stale.{same_stamp, is_present, is_final, Recorded,
 use Rattle.scrib_record.specs.Told.{IsNoted, IsTurned, judged_under}
 use Rattle.scrib_record.specs.Versions.{meaning_of, number_of}
 
--- a version has its own stamp
+-- a version has the same stamp as itself
 pub stamp_itself : (v : Version) → same_stamp v v ≡ true
 stamp_itself v =
     let form = flat_form (meaning_of v) in
-    ap (λ b. b && bytes_eq form form) ((Decides-eqb (number_of v) (number_of v)).1 refl) ∙ (bytes_eq-Decides form form).1 refl
+    ap (λ b. b && bytes_eq form form) ((Decides-eqb (number_of v) (number_of v)).1 refl)
+    ∙ (bytes_eq-Decides form form).1 refl
 
 -- versions of one stamp are present for the same records
-pub present_alike : (v w : Version) (held : Option Version) → number_of v ≡ number_of w → meaning_of v ≡ meaning_of w → is_present (Some v) held ≡ is_present (Some w) held
+pub present_alike : (v w : Version) (held : Option Version) → number_of v ≡ number_of w → meaning_of v ≡ meaning_of w
+    → is_present (Some v) held ≡ is_present (Some w) held
 present_alike v w None n m = refl
 present_alike v w (Some h) n m =
     ap (λ i. (i == number_of h) && bytes_eq (flat_form (meaning_of v)) (flat_form (meaning_of h))) n
@@ -33,7 +35,7 @@ present_alike v w (Some h) n m =
 abbrev pub new_record : (name : List (List ℕ)) → Version → Recorded
 new_record name v = record { name = name; log = []; held = Some v; judged = 0; verdict = Permitted }
 
--- a new record isn't stale under the version that it was made with
+-- a new record is not stale under the version with which it was made
 abbrev pub StartsFresh : Type 0
 StartsFresh = (name : List (List ℕ)) (v : Version) → is_stale (Some v) (new_record name v) ≡ false
 
@@ -43,20 +45,25 @@ new_fresh name v = ap (λ b. not (b && true)) (stamp_itself v)
 -- calls of a record under one present version, one after another: notes, and so many turns
 pub data Calls : Option Version → ℕ → Recorded → Recorded → Type 0 where
   none : {now : Option Version} {r : Recorded} → Calls now 0 r r
-  noted : {now : Option Version} {t : ℕ} {first old new : Recorded} {e : Event} {answer : Told} → Calls now t first old → IsNoted now old e new answer → Calls now t first new
-  turned : {now : Option Version} {t : ℕ} {first old new : Recorded} {answer : Told} → Calls now t first old → IsTurned now old new answer → Calls now (suc t) first new
+  noted : {now : Option Version} {t : ℕ} {first old new : Recorded} {e : Event} {answer : Told} → Calls now t first old
+      → IsNoted now old e new answer → Calls now t first new
+  turned : {now : Option Version} {t : ℕ} {first old new : Recorded} {answer : Told} → Calls now t first old
+      → IsTurned now old new answer → Calls now (suc t) first new
 
 stale_again : (b c : Bool) → c ≡ b → c ≡ true → b ≡ true
 stale_again b c e h = sym e ∙ h
 
--- the verdict isn't final: the log goes on
+-- the verdict is not final: the log has more events
 not_final : (v : Verdict) (judged events : ℕ) → is_final v judged events ≡ false → judged < events
 not_final Permitted judged events h = grind (arith, nat_tests)
 not_final (Offence place role allowed) judged events h = absurd (true≢false h)
 not_final Withdrawn judged events h = absurd (true≢false h)
 
-open_log : (now : Option Version) (r : Recorded) → is_stale now r ≡ true → is_present now r.held ≡ true → r.judged < length r.log
-open_log now r s p = not_final r.verdict r.judged (length r.log) (by (is_present now r.held) (is_final r.verdict r.judged (length r.log)) s p)
+open_log : (now : Option Version) (r : Recorded) → is_stale now r ≡ true → is_present now r.held ≡ true
+    → r.judged < length r.log
+open_log now r s p =
+    not_final r.verdict r.judged (length r.log)
+    (by (is_present now r.held) (is_final r.verdict r.judged (length r.log)) s p)
   where
     by : (p f : Bool) → not (p && f) ≡ true → p ≡ true → f ≡ false
     by true true s p = absurd (true≢false (sym s))
@@ -66,12 +73,14 @@ open_log now r s p = not_final r.verdict r.judged (length r.log) (by (is_present
 under_present : (now : Option Version) (r : Recorded) → is_present now r.held ≡ true → judged_under now r ≡ r.judged
 under_present now r p = rw p refl
 
--- a turn that leaves a record stale judged 256 events more
-pub turn_judges : (now : Option Version) (old new : Recorded) (answer : Told) → IsTurned now old new answer → is_stale now new ≡ true → judged_under now new ≡ judged_under now old + 256
+-- a turn that leaves a record stale judged 256 more events
+pub turn_judges : (now : Option Version) (old new : Recorded) (answer : Told) → IsTurned now old new answer
+    → is_stale now new ≡ true → judged_under now new ≡ judged_under now old + 256
 turn_judges now old new answer u s =
     elim u.further [ inl f ↦ absurd (true≢false (sym s ∙ f)) | inr j ↦ under_present now new u.present ∙ j ]
 
-progress : (now : Option Version) {t : ℕ} {first last : Recorded} → Calls now t first last → is_stale now last ≡ true → 256 * t ≤ judged_under now last
+progress : (now : Option Version) {t : ℕ} {first last : Recorded} → Calls now t first last → is_stale now last ≡ true
+    → 256 * t ≤ judged_under now last
 progress now none s = omega arith
 progress now (noted {t} {old = old} {new = new} calls n) s =
     let before : is_stale now old ≡ true = stale_again (is_stale now old) (is_stale now new) n.stale s in
@@ -84,10 +93,11 @@ progress now (turned {t} {old = old} {new = new} {answer = answer} calls u) s =
       | inr fresh ↦ absurd (true≢false (sym s ∙ ap (is_stale now) (u.fresh fresh) ∙ fresh))
     ]
 
--- Enough turns: after so many turns that 256 events each are the whole log, as it is when the last of them begins, a
--- record isn't stale.
+-- Enough turns: after some turns a record is not stale, if 256 events for each cover its log at the last of them.
 abbrev pub TurnsSuffice : Type 0
-TurnsSuffice = (now : Option Version) (t : ℕ) (first old new : Recorded) (answer : Told) → Calls now t first old → IsTurned now old new answer → length old.log ≤ 256 * (t + 1) → is_stale now new ≡ false
+TurnsSuffice =
+    (now : Option Version) (t : ℕ) (first old new : Recorded) (answer : Told) → Calls now t first old
+    → IsTurned now old new answer → length old.log ≤ 256 * (t + 1) → is_stale now new ≡ false
 
 pub enough_turns : TurnsSuffice
 enough_turns now t first old new answer calls u enough =

@@ -4,7 +4,7 @@ use Rattle.scrib_types.specs.Agreement.{Agreement}
 use Rattle.scrib_types.specs.Meaning.{agreement_of}
 use Rattle.scrib_record.specs.declared.version.Version.{Version}
 
--- what a version's protocol means
+-- the meaning of a version's protocol
 abbrev pub meaning_of : Version → Agreement
 meaning_of v = agreement_of v.protocol
 
@@ -12,7 +12,7 @@ meaning_of v = agreement_of v.protocol
 abbrev pub number_of : Version → ℕ
 number_of v = v.number
 
--- the stamps are the same: the numbers are, and the meanings
+-- the stamps are equal: the numbers are, and the meanings
 abbrev pub HaveSameStamp : Version → Version → Type 0
 HaveSameStamp v w = (number_of v ≡ number_of w) × (meaning_of v ≡ meaning_of w)
 

@@ -1,4 +1,4 @@
-//! What a role may do next.
+//! The next actions of a role.
 
 ghost use Rattle.std.specs.Prelude.{◌≡◌, ◌↔◌, ◌<◌, List, IsTrue, IfOk, AllPairs, Contains, length, map};
 ghost use Rattle.scrib_types.specs.declared.event.Action.{Action};
@@ -10,46 +10,48 @@ ghost use Rattle.scrib_record.specs.Versions.{meaning_of};
 
 use crate::configuration::Configuration;
 use crate::copies::copy_action;
-use crate::seat::place_of;
+use crate::role_state::place_of;
 use crate::version::Version;
 use scrib_machine::machine::Edge;
 use scrib_queues::queues::Queues;
+use scrib_types::containers::Items;
 use scrib_types::event::Action;
 use scrib_types::name::Role;
-use scrib_types::plain::Items;
 use scrib_types::shared_message::SharedMessage;
 use std::alloc::{AllocError, Global};
 
-/// The actions that the role may make next, sorted by their printed texts, none twice.
+/// Returns the actions that the role may perform next, sorted by their printed texts, without duplicates.
 ///
 /// # Errors
-/// `AllocError` where memory was refused, here and below.
+/// `AllocError` where memory was refused.
 pub fn choices(
     configuration: &Configuration,
     version: &Version,
     role: &Role,
 ) -> Result<Items<Action>, AllocError>
     requires { conf.IsReached (meaning_of version.now) version.now.machines configuration.now }
-    ensures { IfOk result (λ list. (log : List Event) → conf.Stands (meaning_of version.now) version.now.machines log configuration.now → IsPermitted (meaning_of version.now) log → AreAllowed (meaning_of version.now) log role.now list) }
+    ensures { IfOk result (λ list. (log : List Event)
+        → conf.LeadsTo (meaning_of version.now) version.now.machines log configuration.now
+        → IsPermitted (meaning_of version.now) log → AreAllowed (meaning_of version.now) log role.now list) }
 {
-    let alloc = *configuration.seats.allocator();
+    let alloc = *configuration.role_states.allocator();
     let roles = version.protocol().roles();
     let Some(at) = place_of(roles, role) else {
         return Ok(Items::new(alloc));
     };
-    let seat = &configuration.seats[at];
-    if !seat.joined {
+    let role_state = &configuration.role_states[at];
+    if !role_state.joined {
         let mut only = Items::new(alloc);
         only.push(Action::Join)?;
         return Ok(only);
     }
-    let edges = version.machines()[at].edges(seat.state);
-    let list = due(alloc, roles, &configuration.queues, at, edges)?;
+    let edges = version.machines()[at].edges(role_state.state);
+    let list = allowed_actions(alloc, roles, &configuration.queues, at, edges)?;
     Ok(list)
 }
 
-/// Those of the edges' actions that the messages in flight let the role at this place make, in order.
-fn due(
+// Returns those of the edges' actions that the messages in flight allow the role at this place, in order.
+fn allowed_actions(
     alloc: Global,
     roles: &[Role],
     queues: &Queues,
@@ -60,11 +62,12 @@ fn due(
     requires place { at < length roles.now }
     requires order { AllPairs ComesBefore (map (λ e. e.action) edges.now) }
     ensures sorted { IfOk result (AllPairs ComesBefore) }
-    ensures exact { IfOk result (λ list. (act : Action) → Contains list act ↔ (Contains (map (λ e. e.action) edges.now) act × conf.IsDue roles.now queues.now at act)) }
+    ensures exact { IfOk result (λ list. (act : Action)
+        → Contains list act ↔ (Contains (map (λ e. e.action) edges.now) act × conf.IsDue roles.now queues.now at act)) }
 {
     let mut list = Items::new(alloc);
     for edge in edges {
-        if is_due(roles, queues, at, &edge.action) {
+        if is_allowed(roles, queues, at, &edge.action) {
             let action = copy_action(&edge.action)?;
             list.push(action)?;
         }
@@ -72,14 +75,15 @@ fn due(
     Ok(list)
 }
 
-/// Whether the messages in flight let the role at this place make the action: a reception takes the oldest message.
-fn is_due(roles: &[Role], queues: &Queues, at: usize, action: &Action) -> bool
+// Returns whether the messages in flight allow the role at this place this action. A reception takes the oldest
+// message.
+fn is_allowed(roles: &[Role], queues: &Queues, at: usize, action: &Action) -> bool
     requires roles { queues.now.roles ≡ length roles.now }
     requires place { at < length roles.now }
     ensures { IsTrue result ↔ conf.IsDue roles.now queues.now at action.now }
 {
     match action {
-        // No machine joins.
+        // No machine has a join.
         Action::Join => false,
         Action::Sends { .. } => true,
         Action::Receives { from, message } => match place_of(roles, from) {
@@ -89,7 +93,7 @@ fn is_due(roles: &[Role], queues: &Queues, at: usize, action: &Action) -> bool
     }
 }
 
-/// Whether the message is the oldest from `p` to `q`.
+// Returns whether the message is the oldest from `p` to `q`.
 fn is_first(queues: &Queues, p: usize, q: usize, message: &SharedMessage) -> bool
     requires sender { p < queues.now.roles }
     requires receiver { q < queues.now.roles }

@@ -3,8 +3,8 @@
 /// How the present version of a protocol is compared with the one that a record holds.
 #[derive(Clone, Copy, Debug, PartialEq, Eq)]
 pub enum Comparison {
-    /// By their numbers, and by what they mean where these are the same. It serves for any two versions.
+    /// By their numbers, and where these are equal by their meanings. It is correct for any two versions.
     Whole,
-    /// By their numbers alone, however large the protocols are. It serves where a number was given to one meaning.
+    /// By their numbers alone, however large the protocols are. It is correct where equal numbers imply equal meanings.
     Numbers,
 }

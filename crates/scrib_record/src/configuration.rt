@@ -1,4 +1,4 @@
-//! Where a conversation stands after a log.
+//! The configuration that a conversation's log leads to.
 
 ghost use Rattle.std.specs.Prelude.{◌≡◌, ◌↔◌, ◌<◌, ◌∷◌, ◌++◌, ℕ, List, [], IsTrue, IfOk, OnOk, OnErr};
 ghost use Rattle.scrib_types.specs.declared.event.Event.{Event};
@@ -10,50 +10,57 @@ ghost use Rattle.scrib_queues.specs.Channels.{SameQueues, queue_of};
 ghost use Rattle.scrib_record.specs.Configurations as conf;
 ghost use Rattle.scrib_record.specs.Versions.{meaning_of};
 
-use crate::seat::Seat;
+use crate::role_state::RoleState;
 use crate::version::Version;
 use scrib_queues::queues::Queues;
+use scrib_types::containers::Items;
 use scrib_types::event::{Action, Event};
 use scrib_types::name::Role;
-use scrib_types::plain::Items;
 use scrib_types::shared_event::SharedEvent;
 use scrib_types::shared_message::SharedMessage;
 use std::alloc::{AllocError, Global};
 
-/// A configuration of communicating machines (Brand and Zafiropulo, JACM 1983): a seat for each role, in the order
-/// in which the roles are declared, and the messages in flight.
+/// A configuration of communicating machines (Brand and Zafiropulo, JACM 1983). It has the state of each role, in the
+/// order in which the roles are declared, and the messages in flight.
 #[derive(Drop)]
 pub struct Configuration {
-    pub seats: Vec<Seat>,
+    pub role_states: Vec<RoleState>,
     pub queues: Queues,
 }
 
 impl Configuration {
-    /// The configuration before any event, which is permitted: no role has joined, and nothing is in flight.
+    /// Returns the initial configuration, which is permitted: no role has joined, and no message is in flight.
     ///
     /// # Errors
-    /// `AllocError` where memory was refused, here and below.
+    /// `AllocError` where memory was refused.
     pub fn start(alloc: Global, version: &Version) -> Result<Configuration, AllocError>
-        ensures stands { IfOk result (conf.Stands (meaning_of version.now) version.now.machines []) }
+        ensures led_to { IfOk result (conf.LeadsTo (meaning_of version.now) version.now.machines []) }
         ensures permitted { OnOk result (IsPermitted (meaning_of version.now) []) }
     {
         let machines = version.machines();
-        let mut seats = Vec::with_capacity(alloc, machines.len())?;
+        let mut role_states = Vec::with_capacity(alloc, machines.len())?;
         for machine in machines {
             let state = machine.start();
-            seats.push(Seat {
+            role_states.push(RoleState {
                 joined: false,
                 state,
             })?;
         }
         let queues = Queues::new(alloc, machines.len());
-        Ok(Configuration { seats, queues })
+        Ok(Configuration {
+            role_states,
+            queues,
+        })
     }
 
-    /// Makes the event and returns whether it may follow. One that may not changes nothing.
+    /// Performs the event and returns `true` if it may follow. Otherwise it returns `false` and changes nothing.
+    ///
+    /// # Errors
+    /// `AllocError` where memory was refused. The configuration is unchanged then.
     pub fn advance(&mut self, version: &Version, event: &SharedEvent) -> Result<bool, AllocError>
         requires { conf.IsReached (meaning_of version.now) version.now.machines self.old }
-        ensures ok { IfOk result (conf.Advances (meaning_of version.now) version.now.machines event.now self.old self.new) }
+        ensures ok { IfOk result (conf.Advances (meaning_of version.now) version.now.machines event.now self.old
+            self.new) }
         ensures err { OnErr result (conf.IsSame self.old self.new) }
     {
         match event.get() {
@@ -70,13 +77,13 @@ impl Configuration {
         let Some(at) = version.place_of(role) else {
             return false;
         };
-        let seat = self.seats[at];
-        if seat.joined {
+        let role_state = self.role_states[at];
+        if role_state.joined {
             return false;
         }
-        self.seats[at] = Seat {
+        self.role_states[at] = RoleState {
             joined: true,
-            state: seat.state,
+            state: role_state.state,
         };
         true
     }
@@ -89,7 +96,8 @@ impl Configuration {
         message: &SharedMessage,
     ) -> Result<bool, AllocError>
         requires { conf.IsReached (meaning_of version.now) version.now.machines self.old }
-        ensures ok { IfOk result (conf.Advances (meaning_of version.now) version.now.machines (Sent from.now to.now message.now) self.old self.new) }
+        ensures ok { IfOk result (conf.Advances (meaning_of version.now) version.now.machines
+            (Sent from.now to.now message.now) self.old self.new) }
         ensures err { OnErr result (conf.IsSame self.old self.new) }
     {
         let Some(p) = version.place_of(from) else {
@@ -98,11 +106,11 @@ impl Configuration {
         let Some(q) = version.place_of(to) else {
             return Ok(false);
         };
-        let Some(state) = self.seats[p].step_send(&version.machines()[p], to, message) else {
+        let Some(state) = self.role_states[p].step_send(&version.machines()[p], to, message) else {
             return Ok(false);
         };
         enqueue(&mut self.queues, p, q, message)?;
-        self.seats[p] = Seat {
+        self.role_states[p] = RoleState {
             joined: true,
             state,
         };
@@ -117,7 +125,8 @@ impl Configuration {
         message: &SharedMessage,
     ) -> bool
         requires { conf.IsReached (meaning_of version.now) version.now.machines self.old }
-        ensures { conf.Advances (meaning_of version.now) version.now.machines (Received from.now to.now message.now) self.old self.new result }
+        ensures { conf.Advances (meaning_of version.now) version.now.machines (Received from.now to.now message.now)
+            self.old self.new result }
     {
         let Some(p) = version.place_of(from) else {
             return false;
@@ -125,13 +134,14 @@ impl Configuration {
         let Some(q) = version.place_of(to) else {
             return false;
         };
-        let Some(state) = self.seats[q].step_receive(&version.machines()[q], from, message) else {
+        let Some(state) = self.role_states[q].step_receive(&version.machines()[q], from, message)
+        else {
             return false;
         };
         if !self.queues.receive(p, q, message) {
             return false;
         }
-        self.seats[q] = Seat {
+        self.role_states[q] = RoleState {
             joined: true,
             state,
         };
@@ -139,7 +149,7 @@ impl Configuration {
     }
 }
 
-/// Puts the message behind those from `p` to `q`, or changes nothing.
+// Appends the message to the queue from `p` to `q`, or changes nothing.
 fn enqueue(
     queues: &mut Queues,
     p: usize,

@@ -5,10 +5,10 @@ ghost use Rattle.std.specs.Prelude.{◌≡◌, IfOk};
 use scrib_types::event::{Action, Verdict};
 use std::alloc::AllocError;
 
-/// The same verdict once more.
+/// Returns a copy of the verdict.
 ///
 /// # Errors
-/// `AllocError` where the count of those who share a name, a message or a list can't rise, here and below.
+/// `AllocError` where the reference count of a name, a message or a list cannot rise.
 pub fn copy_verdict(verdict: &Verdict) -> Result<Verdict, AllocError>
     ensures { IfOk result (λ copy. copy ≡ verdict.now) }
 {
@@ -31,7 +31,10 @@ pub fn copy_verdict(verdict: &Verdict) -> Result<Verdict, AllocError>
     }
 }
 
-/// The same action once more.
+/// Returns a copy of the action.
+///
+/// # Errors
+/// Those of `copy_verdict`.
 pub fn copy_action(action: &Action) -> Result<Action, AllocError>
     ensures { IfOk result (λ copy. copy ≡ action.now) }
 {

@@ -1,12 +1,12 @@
-//! Why an event is not noted.
+//! The errors of a note.
 
 use std::alloc::AllocError;
 use thiserror::Error;
 
-/// Why an event is not noted.
+/// The reason for which an event is not noted.
 #[derive(Debug, Drop, Error)]
 pub enum NoteFault {
-    /// The log holds as many events as a log may.
+    /// The log has the largest number of events.
     #[error("the log is full")]
     LogFull,
     /// Memory was refused.

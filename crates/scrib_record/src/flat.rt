@@ -1,19 +1,19 @@
-//! The flat form of what a protocol means.
+//! The flat form of a protocol's meaning.
 
 ghost use Rattle.std.specs.Prelude.{◌≡◌, ◌++◌, IfOk, OnOk};
 ghost use Rattle.scrib_types.specs.GlobalView.{global_of, global_branches};
 ghost use Rattle.scrib_types.specs.Meaning.{agreement_of};
 ghost use Rattle.scrib_record.specs.Flat as flat;
 
+use scrib_types::containers::Items;
 use scrib_types::flat::{push_name, push_names, push_number};
 use scrib_types::global::GlobalType;
-use scrib_types::plain::Items;
 use scrib_types::protocol::Protocol;
 use scrib_types::shared_message::SharedMessage;
 use scrib_types::text::push_bytes;
 use std::alloc::{AllocError, Global};
 
-/// The flat form of what the protocol means.
+/// Returns the flat form of the protocol's meaning.
 ///
 /// # Errors
 /// `AllocError` where memory was refused.
@@ -27,7 +27,7 @@ pub fn flat_form(alloc: Global, protocol: &Protocol) -> Result<Items<u8>, AllocE
     Ok(Items::from_vec(out))
 }
 
-/// Adds the number of the type's form, and its parts.
+// Appends the number of the type's form, and its parts.
 #[cycle(flat)]
 #[tactic(auto, using(scrib_types::specs::GlobalView::global_views))]
 fn push_global(out: &mut Vec<u8>, global: &GlobalType) -> Result<(), AllocError>
@@ -58,7 +58,7 @@ fn push_global(out: &mut Vec<u8>, global: &GlobalType) -> Result<(), AllocError>
     }
 }
 
-/// Adds each of the branches after a 1, and a 0 at the end.
+// Appends each of the branches after a 1, and a 0 at the end.
 #[cycle(flat)]
 fn push_branches(
     out: &mut Vec<u8>,

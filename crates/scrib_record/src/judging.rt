@@ -22,12 +22,12 @@ use scrib_types::event::{Told, Verdict};
 use scrib_types::shared_event::SharedEvent;
 use std::alloc::{AllocError, Global};
 
-/// The most events that a turn judges.
+/// The largest number of events that a turn judges.
 pub const TURN: usize = 256;
 
-/// How far a log is judged: the version that it is judged under, or none where it was judged withdrawn, how many of
-/// its events are judged, the verdict on them, and the configuration that so many of its events reached. A turn that
-/// found no memory judged nothing, but the events that it made stay made.
+/// The progress of judging a log. `held` is the version under which it is judged, or none if it was judged withdrawn.
+/// `judged` is the number of judged events, and `verdict` the verdict on them. `reached` events lead to
+/// `configuration`. A turn that runs out of memory judges no event, but keeps the events that it performed.
 #[derive(Drop)]
 pub struct Judging {
     pub held: Option<Version>,
@@ -37,22 +37,22 @@ pub struct Judging {
     pub verdict: Verdict,
 }
 
-/// Why a run of events ended.
+/// The reason for which a run of events ended.
 #[derive(Clone, Copy, Debug, PartialEq, Eq)]
 pub enum Halt {
     /// No event is left.
     AtEnd,
-    /// The event that comes next may not follow.
+    /// The next event may not follow.
     Refused,
     /// Memory was refused.
     NoMemory,
 }
 
 impl Judging {
-    /// The judgement of no event under the version.
+    /// Returns the judgement of no event under the version.
     ///
     /// # Errors
-    /// `AllocError` where memory was refused, here and below.
+    /// `AllocError` where memory was refused.
     pub fn start(alloc: Global, version: &Version) -> Result<Judging, AllocError>
         ensures kept { IfOk result (λ new. (log : List Event) → kept.IsKept log new) }
         ensures held { IfOk result (λ new. new.held ≡ Some version.now) }
@@ -70,7 +70,7 @@ impl Judging {
         })
     }
 
-    /// The judgement of so many events where no version is present.
+    // Returns the judgement of so many events where no version is present.
     fn withdrawn(alloc: Global, events: usize) -> Judging
         ensures kept { (log : List Event) → events ≤ length log → kept.IsKept log result }
         ensures held { result.held ≡ None }
@@ -81,31 +81,37 @@ impl Judging {
             judged: events,
             reached: events,
             configuration: Configuration {
-                seats: Vec::new(alloc),
+                role_states: Vec::new(alloc),
                 queues: Queues::new(alloc, 0),
             },
             verdict: Verdict::Withdrawn,
         }
     }
 
-    /// Whether the verdict is out of date for a log of so many events. It takes no memory.
+    /// Returns whether the verdict is stale for a log of so many events. It allocates nothing.
     pub fn is_stale(&self, present: Option<&Version>, comparison: Comparison, events: usize) -> bool
         requires { ServesFor comparison (option_copied present) self.now.held }
-        ensures { result ≡ not (stale.is_present (option_copied present.entry) self.now.held && stale.is_final self.now.verdict self.now.judged events) }
+        ensures { result ≡ not (stale.is_present (option_copied present.entry) self.now.held
+            && stale.is_final self.now.verdict self.now.judged events) }
     {
         !(is_present(present, &self.held, comparison)
             && is_final(&self.verdict, self.judged, events))
     }
 
-    /// What is told of a log of so many events.
-    pub fn told(
+    /// Returns the verdict on a log of so many events, or `Stale`.
+    ///
+    /// # Errors
+    /// `AllocError` where memory was refused.
+    pub fn current_verdict(
         &self,
         present: Option<&Version>,
         comparison: Comparison,
         events: usize,
     ) -> Result<Told, AllocError>
         requires { ServesFor comparison (option_copied present) self.now.held }
-        ensures { IfOk result (λ told. told ≡ (if stale.is_present (option_copied present.entry) self.now.held && stale.is_final self.now.verdict self.now.judged events then Judged self.now.verdict else Stale)) }
+        ensures { IfOk result (λ answer. answer
+            ≡ (if stale.is_present (option_copied present.entry) self.now.held
+            && stale.is_final self.now.verdict self.now.judged events then Judged self.now.verdict else Stale)) }
     {
         if self.is_stale(present, comparison, events) {
             return Ok(Told::Stale);
@@ -114,8 +120,10 @@ impl Judging {
         Ok(Told::Judged(verdict))
     }
 
-    /// Judges the event that comes next, where all of the log is judged: one step, however long the log is. Without
-    /// memory the judgement stays.
+    /// Judges the next event, where all of the log is judged. The cost does not depend on the log's length.
+    ///
+    /// # Errors
+    /// `AllocError` where memory was refused. The judgement is unchanged then.
     pub fn note(&mut self, log: &[SharedEvent], event: &SharedEvent) -> Result<Told, AllocError>
         requires kept { kept.IsKept log.now self.old }
         requires whole { stale.is_final self.old.verdict self.old.judged (length log.now) ≡ true }
@@ -134,15 +142,18 @@ impl Judging {
             return Ok(Told::Judged(Verdict::Permitted));
         }
         let verdict = offence(&self.configuration, version, log.len() + 1, event)?;
-        let told = copy_verdict(&verdict)?;
+        let copied = copy_verdict(&verdict)?;
         self.judged = log.len() + 1;
         self.reached = log.len() + 1;
         self.verdict = verdict;
-        Ok(Told::Judged(told))
+        Ok(Told::Judged(copied))
     }
 
-    /// Makes a turn: judges the log withdrawn where no version is present, and else at most 256 events more, from event
-    /// 1 where another version is held. Without memory the judgement stays.
+    /// Performs a turn. Without a present version it judges the log withdrawn. Otherwise it judges at most 256 more
+    /// events, from event 1 if another version is held.
+    ///
+    /// # Errors
+    /// `AllocError` where memory was refused. The judgement is unchanged then.
     pub fn turn(
         &mut self,
         present: Option<&Version>,
@@ -151,28 +162,29 @@ impl Judging {
     ) -> Result<Told, AllocError>
         requires serves { ServesFor comparison (option_copied present) self.old.held }
         requires kept { kept.IsKept log.now self.old }
-        requires stale { (stale.is_present (option_copied present) self.old.held && stale.is_final self.old.verdict self.old.judged (length log.now)) ≢ true }
+        requires stale { (stale.is_present (option_copied present) self.old.held
+            && stale.is_final self.old.verdict self.old.judged (length log.now)) ≢ true }
         requires room { length log.now ≤ 1048576 }
         ensures ok { IfOk result (kept.IsTurnedTo (option_copied present.entry) log.now self.old self.new) }
         ensures kept { OnErr result (kept.IsKept log.now self.new) }
         ensures same { OnErr result (kept.IsSameJudging self.old self.new) }
     {
-        let alloc = *self.configuration.seats.allocator();
+        let alloc = *self.configuration.role_states.allocator();
         let Some(version) = present else {
             *self = Judging::withdrawn(alloc, log.len());
             return Ok(Told::Judged(Verdict::Withdrawn));
         };
         if is_present(present, &self.held, comparison) {
-            return self.go_on(log);
+            return self.judge_more(log);
         }
         let mut anew = Judging::start(alloc, version)?;
-        let told = anew.go_on(log)?;
+        let answer = anew.judge_more(log)?;
         *self = anew;
-        Ok(told)
+        Ok(answer)
     }
 
-    /// Judges at most 256 further events of the log, up to an offence.
-    fn go_on(&mut self, log: &[SharedEvent]) -> Result<Told, AllocError>
+    // Judges at most 256 more events of the log, up to an offence.
+    fn judge_more(&mut self, log: &[SharedEvent]) -> Result<Told, AllocError>
         requires kept { kept.IsKept log.now self.old }
         requires open { self.old.verdict ≡ Permitted }
         requires room { length log.now ≤ 1048576 }
@@ -184,29 +196,29 @@ impl Judging {
             return Ok(Told::Stale);
         };
         let end = log.len().min(self.judged + TURN);
-        let (passed, halt) = run(&mut self.configuration, version, &log[self.reached..end]);
+        let (passed, halt) = perform(&mut self.configuration, version, &log[self.reached..end]);
         self.reached += passed;
         match halt {
             Halt::AtEnd => {
                 self.judged = end;
-                Ok(told_of(end == log.len()))
+                Ok(verdict_of(end == log.len()))
             }
             Halt::Refused => {
                 let place = self.reached + 1;
                 let verdict = offence(&self.configuration, version, place, &log[self.reached])?;
-                let told = copy_verdict(&verdict)?;
+                let copied = copy_verdict(&verdict)?;
                 self.judged = place;
                 self.reached = place;
                 self.verdict = verdict;
-                Ok(Told::Judged(told))
+                Ok(Told::Judged(copied))
             }
             Halt::NoMemory => Err(AllocError),
         }
     }
 }
 
-/// What is told of events that are permitted, which are all of the log's or aren't.
-fn told_of(all: bool) -> Told
+// Returns the verdict on permitted events: `all` is whether they are the whole log.
+fn verdict_of(all: bool) -> Told
     ensures { result ≡ (if all then Judged Permitted else Stale) }
 {
     if all {
@@ -216,7 +228,7 @@ fn told_of(all: bool) -> Told
     }
 }
 
-/// Whether what is held is the present version, or none where there is none.
+// Returns whether the held version is the present one, or there is neither.
 fn is_present(present: Option<&Version>, held: &Option<Version>, comparison: Comparison) -> bool
     requires { ServesFor comparison (option_copied present) held.now }
     ensures { result ≡ stale.is_present (option_copied present.entry) held.now }
@@ -231,7 +243,7 @@ fn is_present(present: Option<&Version>, held: &Option<Version>, comparison: Com
     }
 }
 
-/// Whether the verdict on so many events is that on a log of this length.
+// Returns whether the verdict on `judged` events is that on a log of `events` events.
 fn is_final(verdict: &Verdict, judged: usize, events: usize) -> bool
     ensures { result ≡ stale.is_final verdict.now judged events }
 {
@@ -241,8 +253,8 @@ fn is_final(verdict: &Verdict, judged: usize, events: usize) -> bool
     }
 }
 
-/// Makes the events in order, up to the first that may not follow, and returns how many were made and why no more.
-fn run(
+// Performs the events in order, up to the first that may not follow. Returns how many it performed, and why it ended.
+fn perform(
     configuration: &mut Configuration,
     version: &Version,
     events: &[SharedEvent],
@@ -260,7 +272,7 @@ fn run(
     (events.len(), Halt::AtEnd)
 }
 
-/// The verdict at this place of a log, where the event may not follow what leads to the configuration.
+// Returns the verdict at this place of a log that leads to the configuration, where the event may not follow.
 fn offence(
     configuration: &Configuration,
     version: &Version,
@@ -271,7 +283,7 @@ fn offence(
     ensures { IfOk result (kept.IsRefusal version.now configuration.now place event.now) }
 {
     let role = event.get().subject().copy()?;
-    let alloc = *configuration.seats.allocator();
+    let alloc = *configuration.role_states.allocator();
     let list = choices(configuration, version, &role)?;
     let allowed = Allowed::new(alloc, list)?;
     Ok(Verdict::Offence {

@@ -2,9 +2,8 @@
 
 ghost use Rattle.scrib_record.specs.Turns.{StartsFresh, TurnsSuffice};
 
-/// A law of records under one present version: a new one isn't stale under the version that it was made with; and
-/// after at least one turn, and so many that 256 events each are the whole log, as it is when the last of them begins,
-/// a record isn't stale.
+/// Two laws of records under one present version. A new record is not stale under the version with which it was made.
+/// After some turns a record is not stale, if 256 events for each cover its log at the last of them.
 pub fn turns_suffice()
     ensures new { StartsFresh }
     ensures enough { TurnsSuffice }

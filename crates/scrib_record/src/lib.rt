@@ -14,5 +14,5 @@ pub mod law;
 mod machines;
 pub mod record;
 mod role_hints;
-mod seat;
+mod role_state;
 pub mod version;

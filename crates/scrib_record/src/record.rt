@@ -19,19 +19,19 @@ use scrib_types::shared_event::SharedEvent;
 use std::alloc::{AllocError, Global};
 use std::marker::Model;
 
-/// The most events of a log.
+/// The largest number of events of a log.
 pub const MAX_EVENTS: usize = 1_048_576;
 
-/// One conversation: the full name of its protocol, its log, and the verdict on the events that are judged, which are
-/// all of them until the protocol changes. Contracts see these, the version that the events are judged under, and how
-/// many are judged.
+/// A conversation: the full name of its protocol, its log, and the verdict on the judged events. All events are judged
+/// until the protocol changes. Contracts refer to these, the version under which the events are judged, and their
+/// number.
 #[derive(Drop)]
 pub struct Record {
     name: Dotted,
     log: Vec<SharedEvent>,
     judging: Judging,
-    // Where the version of the protocol was found last. Nothing rests on it.
-    near: usize,
+    // Where the version of the protocol was found last. It is only a hint.
+    hint: usize,
 }
 
 impl Model for Record {
@@ -44,13 +44,19 @@ impl Model for Record {
 
     ghost coded = { Prim.hlevel (codes, version.the_row.coded) };
 
-    ghost view = { λ r. record { name = r.name; log = r.log.items; held = r.judging.held; judged = r.judging.judged; verdict = r.judging.verdict } };
+    ghost view = { λ r. record {
+      name = r.name;
+      log = r.log.items;
+      held = r.judging.held;
+      judged = r.judging.judged;
+      verdict = r.judging.verdict;
+    } };
 
     ghost invariant = { λ r. IsKeptWhole r.log.items r.judging };
 }
 
 impl Record {
-    /// The record of an empty log, judged under the version.
+    /// Returns the record of an empty log, judged under the version.
     ///
     /// # Errors
     /// `AllocError` where memory was refused.
@@ -62,18 +68,18 @@ impl Record {
             name,
             log: Vec::new(alloc),
             judging,
-            near: 0,
+            hint: 0,
         })
     }
 
-    /// The full name of the protocol.
+    /// Returns the full name of the protocol.
     pub fn name(&self) -> &Dotted
         ensures { result.now ≡ self.now.name }
     {
         &self.name
     }
 
-    /// The number of the version that the events are judged under, or none where they are judged withdrawn.
+    /// Returns the number of the version under which the events are judged, or none if they are judged withdrawn.
     pub fn held_number(&self) -> Option<u32>
         ensures { result ≡ option_map number_of self.now.held }
     {
@@ -83,19 +89,19 @@ impl Record {
         }
     }
 
-    /// The place that was kept last, or 0: a hint for who looks the version of the protocol up, on which nothing rests.
-    pub fn near(&self) -> usize {
-        self.near
+    /// Returns the hint that was set last, or 0: where the version of the protocol may be found.
+    pub fn hint(&self) -> usize {
+        self.hint
     }
 
-    /// Keeps a place where the version of the protocol may be found the next time.
-    pub fn keep_near(&mut self, near: usize)
+    /// Sets the hint for the next look-up of the protocol's version.
+    pub fn set_hint(&mut self, hint: usize)
         ensures { self.new ≡ self.old }
     {
-        self.near = near;
+        self.hint = hint;
     }
 
-    /// The events, oldest first.
+    /// Returns the events, oldest first.
     pub fn log(&self) -> &[SharedEvent]
         ensures log { result.now ≡ self.now.log }
         ensures lawful { IsLawful self.now }
@@ -103,11 +109,13 @@ impl Record {
         &self.log
     }
 
-    /// Appends the event. A record that isn't stale, where this is the present version of its protocol or none is
-    /// there, judges it in one step; a stale one doesn't. An offence stays the first.
+    /// Appends the event. `present` is the present version of the record's protocol, if there is one. A record that is
+    /// not stale judges the event, at a cost that does not depend on the log's length. A stale one does not judge it. A
+    /// first offence stays the verdict.
     ///
     /// # Errors
-    /// `LogFull` where the log has 1,048,576 events, and else `OutOfMemory` where memory was refused. Nothing changes.
+    /// `LogFull` where the log has 1,048,576 events, and otherwise `OutOfMemory` where memory was refused. The record
+    /// is unchanged then.
     #[inline(always)]
     pub fn note(
         &mut self,
@@ -126,13 +134,13 @@ impl Record {
             return Err(NoteFault::LogFull);
         }
         self.log.reserve(1)?;
-        // Appended before it is judged, so that the judgement doesn't wait for the end of a long log to come from memory.
+        // Appended first, so that the judgement does not wait for the end of a long log to be fetched from memory.
         self.log.push_reserved(event);
         if self.judging.is_stale(present, comparison, events) {
             return Ok(Told::Stale);
         }
         match self.judging.note(&self.log[..events], &self.log[events]) {
-            Ok(told) => Ok(told),
+            Ok(verdict) => Ok(verdict),
             Err(_) => {
                 self.log.pop();
                 Err(NoteFault::OutOfMemory)
@@ -140,12 +148,11 @@ impl Record {
         }
     }
 
-    /// Judges anew what is stale: withdrawn at once where no version is present, from event 1 where another version is
-    /// held than the present one, and otherwise from where it stands, for at most 256 events. A record that isn't stale
-    /// is unchanged.
+    /// Judges a stale record again. Without a present version it is judged withdrawn at once. Otherwise at most 256
+    /// more events are judged, from event 1 if another version is held. A record that is not stale is unchanged.
     ///
     /// # Errors
-    /// `AllocError` where memory was refused. Nothing changes.
+    /// `AllocError` where memory was refused. The record is unchanged then.
     pub fn turn(
         &mut self,
         present: Option<&Version>,
@@ -156,12 +163,15 @@ impl Record {
         ensures err { OnErr result (self.new ≡ self.old) }
     {
         if !self.judging.is_stale(present, comparison, self.log.len()) {
-            return self.judging.told(present, comparison, self.log.len());
+            return self
+                .judging
+                .current_verdict(present, comparison, self.log.len());
         }
         self.judging.turn(present, comparison, &self.log)
     }
 
-    /// What is told of the log, where this is the present version of its protocol or none is there. It takes no memory.
+    /// Returns the verdict on the log, or `Stale`. `present` is the present version of the record's protocol, if there
+    /// is one. It allocates nothing.
     pub fn ask(&self, present: Option<&Version>, comparison: Comparison) -> Answer<'_>
         requires { ServesFor comparison (option_copied present) self.now.held }
         ensures { IsAnswer (option_copied present.entry) self.now result }

@@ -1,22 +1,22 @@
-//! Hints where roles stand among the roles of a protocol.
+//! Hints for the places of roles among the roles of a protocol.
 
 use scrib_types::name::Role;
 
-/// How many slots there are: as many as six bits have values. A protocol has at most as many roles.
+/// The number of slots: 2^6, which is the largest number of roles of a protocol.
 const SLOTS: usize = 64;
 
 /// An odd number whose bits look random: 2^32 divided by the golden ratio (Knuth, The Art of Computer Programming 3).
 const SPREAD: u32 = 0x9e37_79b9;
 
-/// For each slot the place of a role whose name leads to it. Nothing rests on it: whoever takes a hint compares the
-/// role that stands there.
+/// For each slot the place of a role whose name hashes to it. It is only a hint: each caller compares the role at that
+/// place.
 #[derive(Clone, Copy)]
 pub struct RoleHints {
     places: [u8; SLOTS],
 }
 
 impl RoleHints {
-    /// The hints of these roles; of two with one slot the last.
+    /// Returns the hints for these roles. Of two roles with one slot it contains the last.
     pub fn new(roles: &[Role]) -> RoleHints {
         let mut places = [0; SLOTS];
         for (place, role) in (0..=u8::MAX).zip(roles) {
@@ -27,8 +27,8 @@ impl RoleHints {
         RoleHints { places }
     }
 
-    /// Where the role may stand.
-    pub fn near(&self, role: &Role) -> usize {
+    /// Returns the place where the role may be.
+    pub fn hint(&self, role: &Role) -> usize {
         match self.places.get(slot_of(role)) {
             Some(place) => usize::from(*place),
             None => 0,
@@ -36,7 +36,8 @@ impl RoleHints {
     }
 }
 
-/// The slot of a name: six bits that its last four bytes mix to. Names of roles that belong together often begin alike.
+// Returns the slot of a name: a hash of its last four bytes to six bits. Related roles often have names that begin
+// alike.
 fn slot_of(role: &Role) -> usize {
     let word = match role.as_bytes() {
         [.., a, b, c, d] => u32::from_le_bytes([*a, *b, *c, *d]),

@@ -1,4 +1,4 @@
-//! Versions: protocols with what each role does in them, under the numbers of their stamps.
+//! Versions: compiled protocols with a number.
 
 ghost use Rattle.std.specs.Prelude.{◌≡◌};
 ghost use Rattle.scrib_types.specs.Meaning.{agreement_of};
@@ -6,19 +6,19 @@ ghost use Rattle.scrib_record.specs.Flat.{flat_form};
 
 use crate::compilation::{Compilation, Compiled};
 use crate::role_hints::RoleHints;
-use crate::seat::place_of;
+use crate::role_state::place_of;
 use scrib_machine::machine::Machine;
 use scrib_types::bytes::same_bytes;
+use scrib_types::containers::Items;
 use scrib_types::name::Role;
-use scrib_types::plain::Items;
 use scrib_types::protocol::Protocol;
 use std::alloc::{AllocError, Global};
 use std::marker::Model;
 use std::sync::Arc;
 
-/// What the copies of a version share: a protocol with the machine of its projection on each role, in the order in
-/// which the roles are declared, the number of its stamp, the flat form of what it means, and hints where its roles
-/// stand.
+/// The part of a version that its copies share. It is a protocol with the machine of each role, in the order in which
+/// the roles are declared, and the number of its stamp. It also has the flat form of its meaning, and hints for its
+/// roles' places.
 #[derive(Drop)]
 pub struct Edition {
     protocol: Protocol,
@@ -29,7 +29,7 @@ pub struct Edition {
     pub ghost flattened: { flat ≡ flat_form (agreement_of protocol) },
 }
 
-/// A version of a protocol. Its copies share it. Contracts see the edition.
+/// A version of a protocol. Its copies share one edition, to which contracts refer.
 #[derive(Drop)]
 pub struct Version {
     edition: Arc<Edition>,
@@ -47,7 +47,8 @@ impl Model for Version {
 
     ghost view = { λ version. version.edition.value };
 
-    ghost invariant = { λ version. AreMachinesOf (agreement_of version.edition.value.protocol) version.edition.value.machines };
+    ghost invariant = { λ version. AreMachinesOf (agreement_of version.edition.value.protocol)
+        version.edition.value.machines };
 }
 
 impl Version {
@@ -58,7 +59,7 @@ impl Version {
     ghost use Rattle.scrib_record.specs.RoleMachines.{AreMachinesOf};
     ghost use Rattle.scrib_record.specs.Versions.{meaning_of, number_of, HaveSameStamp};
 
-    /// The version of a compiled protocol under the number.
+    /// Returns the version of a compiled protocol with this number.
     ///
     /// # Errors
     /// `AllocError` where memory was refused.
@@ -85,10 +86,10 @@ impl Version {
         Ok(Version { edition })
     }
 
-    /// The same version once more.
+    /// Returns a copy that shares the edition.
     ///
     /// # Errors
-    /// `AllocError` where the count of those who share it can't rise.
+    /// `AllocError` where the reference count cannot rise.
     pub fn share(&self) -> Result<Version, AllocError>
         ensures { IfOk result (λ version. version ≡ self.now) }
     {
@@ -96,27 +97,28 @@ impl Version {
         Ok(Version { edition })
     }
 
-    /// The protocol.
+    /// Returns the protocol.
     pub fn protocol(&self) -> &Protocol
         ensures { agreement_of result.now ≡ meaning_of self.now }
     {
         &self.edition.protocol
     }
 
-    /// The place of the role among the protocol's roles. It is looked for where the role's name hints first.
+    /// Returns the place of the role among the protocol's roles. It first tries the place that the role's name hints
+    /// at.
     pub fn place_of(&self, role: &Role) -> Option<usize>
         ensures place { result ≡ position (bytes_eq role.now) (meaning_of self.now).roles }
         ensures valid { IsTrue (is_protocol (meaning_of self.now).roles (meaning_of self.now).global) }
     {
         let roles = self.protocol().roles();
-        let near = self.edition.hints.near(role);
-        match roles.get(near) {
-            Some(other) if role.equal(other) => Some(near),
+        let hint = self.edition.hints.hint(role);
+        match roles.get(hint) {
+            Some(other) if role.equal(other) => Some(hint),
             _ => place_of(roles, role),
         }
     }
 
-    /// The machine of each role's projection, in the order in which the roles are declared.
+    /// Returns the machine of each role's projection, in the order in which the roles are declared.
     pub fn machines(&self) -> &[Machine]
         ensures machines { result.now ≡ self.now.machines }
         ensures follow { AreMachinesOf (meaning_of self.now) self.now.machines }
@@ -124,21 +126,21 @@ impl Version {
         self.edition.machines.as_slice()
     }
 
-    /// The number of the stamp.
+    /// Returns the number of the stamp.
     pub fn number(&self) -> u32
         ensures { result ≡ number_of self.now }
     {
         self.edition.number
     }
 
-    /// Whether the two mean the same: the same roles, in order, and the same global type.
+    /// Returns whether the two have the same meaning: the same roles, in order, and the same global type.
     pub fn same_meaning(&self, other: &Version) -> bool
         ensures { IsTrue result ↔ (meaning_of self.now ≡ meaning_of other.now) }
     {
         same_bytes(self.edition.flat.as_slice(), other.edition.flat.as_slice())
     }
 
-    /// Whether the stamps are the same: the numbers, which are compared first, and the meanings.
+    /// Returns whether the stamps are equal: first the numbers are compared, and then the meanings.
     pub fn same_stamp(&self, other: &Version) -> bool
         ensures { IsTrue result ↔ HaveSameStamp self.now other.now }
     {

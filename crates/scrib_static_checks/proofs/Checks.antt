@@ -1,4 +1,4 @@
--- What the checks of a statement find.
+-- The results of the checks of a statement.
 use Rattle.std.proofs.Common.{◌≡◌, ◌⊎◌, inl, inr, ⊎_elim, ℕ, ◌+◌, ◌<◌, Bool, true, false, ◌||◌, List, [], ◌∷◌, ◌++◌, length, get_or, drop, Option, Some, if◌then◌else◌, option_map, option_and_then, refl, ap, sym, ◌∙◌, subst, arith}
 use Rattle.std.specs.List.{slice_get}
 use Rattle.std.specs.Str.{bytes_eq}
@@ -14,13 +14,13 @@ use Rattle.scrib_parser.specs.declared.tree.Block.{Block}
 use Rattle.scrib_static_checks.specs.declared.declared.Declaration.{Declaration as CodeDeclaration}
 use Rattle.scrib_static_checks.specs.declared.fault.FaultKind.TheVariants as kind
 use Rattle.scrib_static_checks.specs.declared.checking.State.{State}
-use Rattle.scrib_static_checks.specs.declared.checking.Place.{Place}
+use Rattle.scrib_static_checks.specs.declared.checking.CheckContext.{CheckContext}
 use Rattle.scrib_static_checks.specs.Source.{Body, Done, Then, Statement, Chooses, Repeats, Continues, Blocks, NoBlock, OrBlock}
 use Rattle.scrib_static_checks.specs.SourceView.{statement_of, body_of, blocks_of}
 use Rattle.scrib_static_checks.specs.Names.{Declaration, dotted_eq, has_name, module_names, roles_of, declared_in, declarations, is_called, first_where, last_name, find_protocol, called_home, called}
 use Rattle.scrib_static_checks.specs.Statements.{are_roles, BlockKeeps, end_keeps, then_keeps, StatementKeeps, BlocksKeep, none_keeps, or_keeps, chooses_keeps, repeats_keeps, continues_keeps}
-use Rattle.scrib_static_checks.specs.Faults.{here, later, in_choice, in_rec, in_this, in_other, StandsAt, IsLoose, HasStatement, Fails, spot_of}
-use Rattle.scrib_static_checks.specs.Table.{declaration_of, shown, IsKnown, IsPart, AreParts, IsEntry}
+use Rattle.scrib_static_checks.specs.Faults.{here, later, in_choice, in_rec, in_this, in_other, IsRestIn, IsLoose, HasStatement, Fails, spot_of}
+use Rattle.scrib_static_checks.specs.Table.{declaration_of, shown, IsConsistent, IsPart, AreParts, IsEntry}
 
 -- the protocol that a call names
 
@@ -29,7 +29,7 @@ pub called-is : (ms : List ModuleTree) (m : ModuleTree) (path : List (List ℕ))
 called-is ms m path h name ds r e n d f =
     ap (option_and_then (λ x. find_protocol ms x (last_name path))) (sym e) ∙ (λ i. first_where (is_called h (sym n i)) (sym d i)) ∙ f
 
--- a module is there of which a protocol is declared
+-- the module in which a protocol is declared exists
 
 declared_home : (h : List (List ℕ)) (name : List ℕ) (m : ModuleTree) (ps : List ProtocolDeclaration) (rest : List Declaration) (d : Declaration) → first_where (is_called h name) (declared_in m ps ++ rest) ≡ Some d
     → (dotted_eq h m.name ≡ true) ⊎ (first_where (is_called h name) rest ≡ Some d)
@@ -67,10 +67,10 @@ entry_is ds k c d e =
 pub state_is : (states : List State) (k : ℕ) (d s : State) → k < length states → get_or states k d ≡ s → slice_get states k ≡ Some s
 state_is states k d s h e = slice_get-get_or states k d h ∙ ap Some e
 
-pub entry_of : (p : Place) (path : List (List ℕ)) (k : ℕ) (c : Declaration) → IsKnown p → slice_get (shown p.declared.now) k ≡ Some c → called p.modules.now p.at.home.now path ≡ Some c → IsEntry p path k
-entry_of p path k c known at there =
+pub entry_of : (p : CheckContext) (path : List (List ℕ)) (k : ℕ) (c : Declaration) → IsConsistent p → slice_get (shown p.declared.now) k ≡ Some c → called p.modules.now p.at.home.now path ≡ Some c → IsEntry p path k
+entry_of p path k c consistent at there =
     let within = entry_within p.declared.now k c at in
-    record { to = c; at = at; there = there; within = within; stated = omega (arith, known.states, within) }
+    record { to = c; at = at; there = there; within = within; stated = omega (arith, consistent.states, within) }
 
 -- the names of a message
 
@@ -91,13 +91,13 @@ body_more ss i s h e = ap body_of (drop_more ss i s h ∙ ap (λ x. x ∷ drop (
 pub blocks_more : (bs : List Block) (i : ℕ) (b : Block) → i < length bs → b ≡ get_or bs i b → blocks_of (drop i bs) ≡ OrBlock (body_of b.body) b.spot (blocks_of (drop (i + 1) bs))
 blocks_more bs i b h e = ap blocks_of (drop_more bs i b h ∙ ap (λ x. x ∷ drop (i + 1) bs) (sym e))
 
--- what stood before the rest has no exit
+-- what precedes the rest has no exit
 pub record HasNoExit (ms : List ModuleTree) (d : Declaration) (recs : List (List ℕ)) (b : Body) : Type 0 where
   pub before : Statement
-  pub stands : IsPart d recs (Then before b)
+  pub occurs : IsPart d recs (Then before b)
   pub kept : StatementKeeps ms d recs before false
 
--- how far the check of a block has come: what is left, where it stands, and the statement before it
+-- the state of the check of a block: what is left, where it is, and the statement before it
 pub record IsLeft (ms : List ModuleTree) (d : Declaration) (recs : List (List ℕ)) (whole : Body) (e : Bool) (b : Body) : Type 0 where
   pub completes : (f : Bool) → BlockKeeps ms d recs e b f → BlockKeeps ms d recs true whole f
   pub part : IsPart d recs b
@@ -113,7 +113,7 @@ step_left ms d recs whole e f b c s is exits l k =
     record {
       completes = λ g r. l.completes g (subst (λ x. BlockKeeps ms d recs x b g) (sym exits) (subst (λ x. BlockKeeps ms d recs true x g) (sym is) (then_keeps k r)));
       part = λ inner r st. part inner r (later st);
-      none = λ n. record { before = s; stands = part; kept = subst (λ x. StatementKeeps ms d recs s x) n k };
+      none = λ n. record { before = s; occurs = part; kept = subst (λ x. StatementKeeps ms d recs s x) n k };
     }
 
 pub end_left : (ms : List ModuleTree) (d : Declaration) (recs : List (List ℕ)) (whole : Body) (e : Bool) (b : Body) → b ≡ Done → IsLeft ms d recs whole e b → BlockKeeps ms d recs true whole e
@@ -128,16 +128,16 @@ stops_unreachable ms d recs whole e b c s spot is none at l root =
       before = n.before;
       step = s;
       after = c;
-      stands = subst (λ x. IsPart d recs (Then n.before x)) is n.stands recs (Then n.before (Then s c)) here;
+      occurs = subst (λ x. IsPart d recs (Then n.before x)) is n.occurs recs (Then n.before (Then s c)) here;
       there = sym at;
       none = n.kept;
     }
 
--- the statement of a part stands in the protocol
-pub stands_here : (d : Declaration) (recs : List (List ℕ)) (s : Statement) (b : Body) → IsPart d recs (Then s b) → HasStatement d s
-stands_here d recs s b p = record { inner = recs; after = b; stands = p recs (Then s b) here }
+-- the statement of a part is in the protocol
+pub occurs_here : (d : Declaration) (recs : List (List ℕ)) (s : Statement) (b : Body) → IsPart d recs (Then s b) → HasStatement d s
+occurs_here d recs s b p = record { inner = recs; after = b; occurs = p recs (Then s b) here }
 
--- how far the check of branches has come
+-- the state of the check of branches
 
 pub record AreLeft (ms : List ModuleTree) (d : Declaration) (recs : List (List ℕ)) (whole : Blocks) (e : Bool) (bs : Blocks) : Type 0 where
   pub completes : (f g : Bool) → BlocksKeep ms d recs bs f → g ≡ (e || f) → BlocksKeep ms d recs whole g
@@ -180,15 +180,15 @@ or_this e l h = rw h refl
 
 -- the parts of a statement
 
-pub stands_as : (d : Declaration) (recs : List (List ℕ)) (s t : Statement) (b : Body) → IsPart d recs (Then s b) → s ≡ t → HasStatement d t
-stands_as d recs s t b p e = subst (λ x. HasStatement d x) e (stands_here d recs s b p)
+pub occurs_as : (d : Declaration) (recs : List (List ℕ)) (s t : Statement) (b : Body) → IsPart d recs (Then s b) → s ≡ t → HasStatement d t
+occurs_as d recs s t b p e = subst (λ x. HasStatement d x) e (occurs_here d recs s b p)
 
 pub loose_as : (d : Declaration) (recs : List (List ℕ)) (s : Statement) (x : List ℕ) (spot : Spot) (b : Body) → IsPart d recs (Then s b) → s ≡ Continues x spot → has_role x recs ≡ false → IsLoose d spot
 loose_as d recs s x spot b p e out = record {
   name = x;
   inner = recs;
   after = b;
-  stands = subst (λ t. StandsAt d recs (Then t b)) e (p recs (Then s b) here);
+  occurs = subst (λ t. IsRestIn d recs (Then t b)) e (p recs (Then s b) here);
   loose = out;
 }
 

@@ -1,4 +1,4 @@
--- The roles that are given for the roles of a called protocol.
+-- The roles that are passed for the roles of a called protocol.
 use Rattle.std.proofs.Common.{◌≡◌, ◌⊎◌, ℕ, Bool, true, false, not, List, [], ◌∷◌, length, map, refl, sym, ap, ◌∙◌, ⊎_elim, inl, inr, arith}
 use Rattle.std.specs.Str.{bytes_eq}
 use Rattle.std.proofs.lemmas.Bool.{false≢true, both_ways, and_parts, and_from, or_cases, or_left, or_right, not-true, not_from_false}
@@ -28,7 +28,7 @@ pub true_or_false : (t : Bool) → (t ≡ true) ⊎ (t ≡ false)
 true_or_false true = inl refl
 true_or_false false = inr refl
 
--- what is given for a declared role is one of those given
+-- what is passed for a declared role is one of the passed roles
 given_among : (ds gs : List (List ℕ)) (r : List ℕ) → length ds ≡ length gs → has_role r ds ≡ true → has_role (given_for ds gs r) gs ≡ true
 given_among [] gs r l h = absurd (false≢true h)
 given_among (d ∷ ds) [] r l h = absurd (omega arith)
@@ -39,7 +39,7 @@ given_among (d ∷ ds) (g ∷ gs) r l h =
     ap (λ x. has_role x (g ∷ gs)) (given_later r d ds g gs e) ∙ or_right (bytes_eq x g) (has_role x gs) (given_among ds gs r (omega arith) there))
     (true_or_false (bytes_eq r d))
 
--- different roles are given for different ones
+-- different roles are passed for different ones
 given_same : (ds gs : List (List ℕ)) (r s : List ℕ) → length ds ≡ length gs → distinct_roles gs ≡ true → has_role r ds ≡ true → has_role s ds ≡ true → given_for ds gs r ≡ given_for ds gs s → r ≡ s
 given_same [] gs r s l u h k e = absurd (false≢true h)
 given_same (d ∷ ds) [] r s l u h k e = absurd (omega arith)
@@ -56,13 +56,13 @@ given_same (d ∷ ds) (g ∷ gs) r s l u h k e =
     (λ a. ⊎_elim (λ b. absurd (here s r h b a (sym e))) (λ b. given_same ds gs r s (omega arith) parts.1 (more r h a) (more s k b) (sym (given_later r d ds g gs a) ∙ e ∙ given_later s d ds g gs b)) (true_or_false (bytes_eq s d)))
     (true_or_false (bytes_eq r d))
 
--- each role of a protocol is given for itself in it
+-- each role of a protocol is passed for itself in it
 given_itself : (ds : List (List ℕ)) (r : List ℕ) → given_for ds ds r ≡ r
 given_itself [] r = refl
 given_itself (d ∷ ds) r =
     ⊎_elim (λ e. given_first r d ds d ds e ∙ sym (same_role r d e)) (λ e. given_later r d ds d ds e ∙ given_itself ds r) (true_or_false (bytes_eq r d))
 
--- For each role of the protocol one of these roles is given, different ones for different ones.
+-- For each role of the protocol one of these roles is passed, different ones for different ones.
 pub record GivesRoles (roles : List (List ℕ)) (sc : Scope) : Type 0 where
   pub among : (r : List ℕ) → has_role r (roles_of sc.within) ≡ true → has_role (role_in sc r) roles ≡ true
   pub same : (r s : List ℕ) → has_role r (roles_of sc.within) ≡ true → has_role s (roles_of sc.within) ≡ true → role_in sc r ≡ role_in sc s → r ≡ s
@@ -80,7 +80,7 @@ role_among r (s ∷ rs) roles a h =
     let parts = and_parts (has_role s roles) (are_roles rs roles) a in
     ⊎_elim (λ e. ap (λ x. has_role x roles) (same_role r s e) ∙ parts.0) (λ e. role_among r rs roles parts.1 e) (or_cases (bytes_eq r s) (has_role r rs) h)
 
--- what is given for the roles of a list
+-- what is passed for the roles of a list
 
 mapped_among : (f : List ℕ → List ℕ) (rs roles : List (List ℕ)) → ((r : List ℕ) → has_role r rs ≡ true → has_role (f r) roles ≡ true) → (q : List ℕ) → has_role q (map f rs) ≡ true → has_role q roles ≡ true
 mapped_among f [] roles h q k = absurd (false≢true k)

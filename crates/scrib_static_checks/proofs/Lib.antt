@@ -1,16 +1,16 @@
-pub mod Shown
+pub mod TableLemmas
 pub mod GivenRoles
-pub mod RulesKept
-pub mod Shaped
-mod Settled
-pub mod Distinct
+pub mod RuleLemmas
+pub mod CallEffectLemmas
+mod ModuleNameLemmas
+pub mod NameLemmas
 pub mod Places
 pub mod Checks
 pub mod Walks
 pub mod Spots
-mod Capped
-pub mod Grown
-mod Somewhere
-mod Putting
+mod CapLemmas
+pub mod SizeFunctionLemmas
+mod PartLemmas
+mod ModulePlaceLemmas
 pub mod Slots
-mod Filing
+mod ProtocolIndexLemmas

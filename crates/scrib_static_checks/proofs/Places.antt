@@ -1,4 +1,4 @@
--- What a loop over declarations finds at a place.
+-- What a loop over declarations finds at an index.
 use Rattle.std.proofs.Common.{◌≡◌, ℕ, ◌+◌, ◌-◌, ◌<◌, Bool, true, false, List, [], ◌∷◌, ◌++◌, length, map, set, get_or, take, drop, Option, Some, None, option_map, option_and_then, if◌then◌else◌, refl, ap, sym, ◌∙◌, subst, ⊎_elim, inr, arith, append_assoc, append-nil}
 use Rattle.std.proofs.lemmas.Bool.{or_parts}
 use Rattle.std.proofs.lemmas.List.{take-append-drop, drop_more, take_more, map_more, length-take}
@@ -11,7 +11,7 @@ use Rattle.scrib_static_checks.specs.declared.declared.Declaration.{Declaration 
 use Rattle.scrib_static_checks.specs.Names.{Declaration, dotted_eq, has_name, distinct_names, module_names, with_module, first_where, declared_in, declarations, all_but_last, last_name, looked_in, called_home}
 use Rattle.scrib_static_checks.specs.declared.checking.BrokenRule.{BrokenRule}
 use Rattle.scrib_static_checks.specs.Faults.{IsAgain, Fails}
-use Rattle.scrib_static_checks.proofs.Distinct.{distinct_roles-push, distinct_names-push}
+use Rattle.scrib_static_checks.proofs.NameLemmas.{distinct_roles-push, distinct_names-push}
 use Rattle.scrib_static_checks.specs.Table.{declaration_of, shown, IsFound, IsPlace, FailsRoles, FailsNames}
 
 pub split : {X : Type 0} (xs : List X) (i : ℕ) (x : X) → i < length xs → x ≡ get_or xs i x → xs ≡ take i xs ++ x ∷ drop (i + 1) xs
@@ -67,7 +67,7 @@ IsFound-at test ds i d h e same passes =
       first = sym same ∙ first;
     }
 
--- a path is what stands before its last name, and that name
+-- a path is its front and its last name
 
 pub front-of : (a : List ℕ) (path : List (List ℕ)) → take (length path) (a ∷ path) ≡ all_but_last (a ∷ path)
 front-of a [] = refl
@@ -85,7 +85,7 @@ pub last-is : (path : List (List ℕ)) (n : ℕ) (d : List ℕ) → 0 < length p
 last-is [] n d h e = absurd (omega arith)
 last-is (a ∷ path) n d h e = let m : n ≡ length path = omega arith in ap (λ k. get_or (a ∷ path) k d) m ∙ last-of a path d
 
--- the module in which a call looks
+-- the module in which a call looks up its protocol
 
 looked_in-front : (m : ModuleTree) (path names : List (List ℕ)) (h : Option (List (List ℕ))) → names ≡ path → 0 < length path → h ≡ looked_in m (take (length names - 1) names) → h ≡ looked_in m (all_but_last path)
 looked_in-front m path names h same some e =
@@ -113,7 +113,7 @@ pub name_last : (path names : List (List ℕ)) (x : List ℕ) → names ≡ path
 name_last path names x same some e =
     e ∙ last-is names (length names - 1) x (subst (λ (y : List (List ℕ)). 0 < length y) (sym same) some) refl ∙ ap last_name same
 
--- declarations, of which none has the name of one before it; n is i as the range of a slice has it
+-- declarations, none of which has the name of an earlier one; n is i as the range of a slice has it
 
 pub roles-more : {X : Type 0} (f : X → List ℕ) (xs : List X) (i n : ℕ) (x : X) → n ≡ i → i < length xs → x ≡ get_or xs i x → distinct_roles (map f (take i xs)) ≡ true → has_role (f x) (map f (take n xs)) ≡ false → distinct_roles (map f (take (i + 1) xs)) ≡ true
 roles-more f xs i n x same h e d other =
@@ -135,7 +135,7 @@ again-at f has spot_of xs ys i n x whole same h e twice = record {
   twice = ap (λ k. has (f x) (map f (take k ys))) (sym same) ∙ twice;
 }
 
--- a broken rule of a protocol's roles is one of its names
+-- a broken rule about a protocol's roles is one about its names
 pub roles_fail : (d : Declaration) (b : BrokenRule) → FailsRoles d.protocol b → FailsNames d b
 roles_fail d b f modules root =
     ⊎_elim (λ t. subst (λ k. Fails k modules root d b.spot) (sym t.0) (inr (inr t.1))) (λ t. subst (λ k. Fails k modules root d b.spot) (sym t.0) (t.1, t.2, t.3)) f

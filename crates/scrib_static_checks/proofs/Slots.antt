@@ -1,4 +1,4 @@
--- A directory tells the first declared protocol of a name.
+-- An index finds the first declared protocol of a name.
 use Rattle.std.proofs.Common.{◌≡◌, ◌⊎◌, inl, inr, leb, ℕ, zero, suc, ◌+◌, ◌<◌, Bool, true, false, List, [], ◌∷◌, ◌++◌, length, get_or, set, replicate, Option, Some, None, refl, sym, ap, ◌∙◌, subst, ⊎_elim, arith}
 use Rattle.std.specs.List.{slice_get}
 use Rattle.std.specs.Str.{bytes_eq}
@@ -7,17 +7,17 @@ use Rattle.std.proofs.lemmas.List.{length-set, length-append, length-map}
 use Rattle.std.proofs.lemmas.Option.{slice_get_read}
 use Rattle.std.proofs.lemmas.Slice.Eq.{bytes_eq-Decides}
 use Rattle.scrib_static_checks.specs.declared.declared.Declaration.{Declaration as CodeDeclaration}
-use Rattle.scrib_static_checks.specs.Directory.{slot_of, slot_for, IsFirstOf, IsDirectory, IsFilled, IsFiled, IsTaken}
+use Rattle.scrib_static_checks.specs.ProtocolIndex.{slot_of, slot_for, IsFirstOf, IsProtocolIndex, IsFilled, IsIndexed, IsTaken}
 use Rattle.scrib_parser.specs.declared.tree.ModuleTree.{ModuleTree}
 use Rattle.scrib_parser.specs.declared.tree.ProtocolDeclaration.{ProtocolDeclaration}
 use Rattle.scrib_static_checks.specs.Names.{Declaration, declared_in, dotted_eq, first_where, is_called}
 use Rattle.scrib_static_checks.specs.Table.{declaration_of, shown, IsFound, IsNamed}
-use Rattle.scrib_static_checks.proofs.Distinct.{dotted_eq-Decides}
+use Rattle.scrib_static_checks.proofs.NameLemmas.{dotted_eq-Decides}
 use Rattle.scrib_static_checks.proofs.GivenRoles.{true_or_false}
-use Rattle.scrib_static_checks.proofs.Shown.{there_shown}
+use Rattle.scrib_static_checks.proofs.TableLemmas.{there_shown}
 use Rattle.scrib_static_checks.proofs.Walks.{get_set}
 
--- the first that passes a test, by its place
+-- the first that passes a test, by its index
 first_there : {X : Type 0} (test : X → Bool) (xs : List X) (k : ℕ) (x : X) → slice_get xs k ≡ Some x → test x ≡ true → ((j : ℕ) (y : X) → slice_get xs j ≡ Some y → j < k → test y ≡ false) → first_where test xs ≡ Some x
 first_there test [] k x e t f = absurd (cc e)
 first_there test (y ∷ xs) zero x e t f =
@@ -36,7 +36,7 @@ named_slot size c d home name e f t =
     let name_is : d.protocol.name ≡ c.protocol.name = sym ((bytes_eq-Decides name d.protocol.name).0 parts.0) ∙ sym f in
     λ i. slot_of size (home_is i) (name_is i)
 
--- what is found by a slot is the first of its name
+-- what is found through a slot is the first of its name
 pub found_by_slot : (ds : List Declaration) (size s k : ℕ) (home : List (List ℕ)) (name : List ℕ) → IsFirstOf ds size s k → (n : IsNamed ds k home name) → s ≡ slot_for size n.found → IsFound ds (is_called home name) k
 found_by_slot ds size s k home name first n at = record {
   found = n.found;
@@ -46,15 +46,15 @@ found_by_slot ds size s k home name first n at = record {
       (λ j d e l. ⊎_elim (λ t. absurd (first j d e l (named_slot size n.found d home name n.home_is n.name_is t ∙ sym at))) (λ t. t) (true_or_false (is_called home name d)));
 }
 
--- slots, filled one protocol after the other
+-- slots that are filled for one protocol after the other
 
 pub empty_slot : (n s : ℕ) (k : ℕ) → slice_get (replicate n None) s ≡ Some (Some k) → ⊥
 empty_slot zero s k e = cc e
 empty_slot (suc n) zero k e = cc e
 empty_slot (suc n) (suc s) k e = empty_slot n s k e
 
-pub none_filed : (ds : List Declaration) (size : ℕ) (slots : List (Option ℕ)) → length slots ≡ size → slots ≡ replicate size None → IsFilled ds size 0 slots
-none_filed ds size slots long e = record {
+pub none_indexed : (ds : List Declaration) (size : ℕ) (slots : List (Option ℕ)) → length slots ≡ size → slots ≡ replicate size None → IsFilled ds size 0 slots
+none_indexed ds size slots long e = record {
   long = long;
   within = λ s k h. absurd (empty_slot size s k (subst (λ xs. slice_get xs s ≡ Some (Some k)) e h));
   first = λ s k h. absurd (empty_slot size s k (subst (λ xs. slice_get xs s ≡ Some (Some k)) e h));
@@ -82,8 +82,8 @@ last_or_before j n l = case (leb n j) refl
     case false e = inl (leb-false n j e)
 
 -- the slot was free
-one_filed : (ds : List Declaration) (size n s : ℕ) (c : Declaration) (slots : List (Option ℕ)) → slice_get ds n ≡ Some c → s ≡ slot_for size c → slice_get slots s ≡ Some None → IsFilled ds size n slots → IsFilled ds size (n + 1) (set slots s (Some n))
-one_filed ds size n s c slots here at free f = record {
+one_indexed : (ds : List Declaration) (size n s : ℕ) (c : Declaration) (slots : List (Option ℕ)) → slice_get ds n ≡ Some c → s ≡ slot_for size c → slice_get slots s ≡ Some None → IsFilled ds size n slots → IsFilled ds size (n + 1) (set slots s (Some n))
+one_indexed ds size n s c slots here at free f = record {
   long = length-set slots s (Some n) ∙ f.long;
   within = λ p k h. ⊎_elim (λ x. let same : n ≡ k = cc (x.1) in omega (arith, same)) (λ x. omega (arith, f.within p k x.1)) (get_set slots s (Some n) p (Some k) h);
   first = λ p k h. ⊎_elim (λ x. fresh p k x.0 (let same : n ≡ k = cc (x.1) in same)) (λ x. f.first p k x.1) (get_set slots s (Some n) p (Some k) h);
@@ -103,8 +103,8 @@ one_filed ds size n s c slots here at free f = record {
         (n, ap (slice_get (set slots s (Some n))) (sym (at ∙ ap (slot_for size) same)) ∙ set_here slots s n None free)
 
 -- it was taken
-kept_filed : (ds : List Declaration) (size n s k : ℕ) (c : Declaration) (slots : List (Option ℕ)) → slice_get ds n ≡ Some c → s ≡ slot_for size c → slice_get slots s ≡ Some (Some k) → IsFilled ds size n slots → IsFilled ds size (n + 1) slots
-kept_filed ds size n s k c slots here at there f = record {
+kept_indexed : (ds : List Declaration) (size n s k : ℕ) (c : Declaration) (slots : List (Option ℕ)) → slice_get ds n ≡ Some c → s ≡ slot_for size c → slice_get slots s ≡ Some (Some k) → IsFilled ds size n slots → IsFilled ds size (n + 1) slots
+kept_indexed ds size n s k c slots here at there f = record {
   long = f.long;
   within = λ p k h. omega (arith, f.within p k h);
   first = f.first;
@@ -117,36 +117,36 @@ kept_filed ds size n s k c slots here at there f = record {
         let same : c ≡ d = cc (here, both) in
         (k, ap (slice_get slots) (sym (at ∙ ap (slot_for size) same)) ∙ there)
 
--- one protocol more, whether its slot was free or taken
-pub next_filed : (ds : List Declaration) (size n : ℕ) (c : Declaration) (slots new : List (Option ℕ)) → slice_get ds n ≡ Some c → IsTaken slots n (slot_for (length slots) c) new → IsFilled ds size n slots → IsFilled ds size (n + 1) new
-next_filed ds size n c slots new here t f =
+-- one more protocol, whether its slot was free or taken
+pub next_indexed : (ds : List Declaration) (size n : ℕ) (c : Declaration) (slots new : List (Option ℕ)) → slice_get ds n ≡ Some c → IsTaken slots n (slot_for (length slots) c) new → IsFilled ds size n slots → IsFilled ds size (n + 1) new
+next_indexed ds size n c slots new here t f =
     let at = ap (λ z. slot_for z c) f.long in
     let s = slot_for (length slots) c in
-    ⊎_elim (λ x. subst (IsFilled ds size (n + 1)) (sym x.1) (one_filed ds size n s c slots here at x.0 f))
-    (λ x. subst (IsFilled ds size (n + 1)) (sym x.2) (kept_filed ds size n s x.0 c slots here at x.1 f)) t
+    ⊎_elim (λ x. subst (IsFilled ds size (n + 1)) (sym x.1) (one_indexed ds size n s c slots here at x.0 f))
+    (λ x. subst (IsFilled ds size (n + 1)) (sym x.2) (kept_indexed ds size n s x.0 c slots here at x.1 f)) t
 
--- all are filed
-pub all_filed : (ds : List Declaration) (size : ℕ) (n : ℕ) (slots : List (Option ℕ)) → IsFilled ds size n slots → IsDirectory ds slots
-all_filed ds size n slots f s k h = subst (λ z. IsFirstOf ds z s k) (sym f.long) (f.first s k h)
+-- all protocols are in the index
+pub all_indexed : (ds : List Declaration) (size : ℕ) (n : ℕ) (slots : List (Option ℕ)) → IsFilled ds size n slots → IsProtocolIndex ds slots
+all_indexed ds size n slots f s k h = subst (λ z. IsFirstOf ds z s k) (sym f.long) (f.first s k h)
 
--- without slots it tells nothing
-pub filed_directory : (ds : List Declaration) (slots : List (Option ℕ)) (n : ℕ) → IsFiled ds slots n → IsDirectory ds slots
-filed_directory ds slots n h s k e = all_filed ds (length slots) (length ds) slots (h (has_one slots s (Some k) e)).0 s k e
+-- without slots it contains nothing
+pub indexed_all : (ds : List Declaration) (slots : List (Option ℕ)) (n : ℕ) → IsIndexed ds slots n → IsProtocolIndex ds slots
+indexed_all ds slots n h s k e = all_indexed ds (length slots) (length ds) slots (h (has_one slots s (Some k) e)).0 s k e
   where
     has_one : (xs : List (Option ℕ)) (i : ℕ) (o : Option ℕ) → slice_get xs i ≡ Some o → 0 < length xs
     has_one [] i o h = absurd (cc h)
     has_one (x ∷ xs) i o h = omega arith
 
-pub none_kept : (ds : List Declaration) (slots : List (Option ℕ)) (n : ℕ) → slots ≡ [] → IsFiled ds slots n
+pub none_kept : (ds : List Declaration) (slots : List (Option ℕ)) (n : ℕ) → slots ≡ [] → IsIndexed ds slots n
 none_kept ds slots n e l = absurd (omega (arith, l, ap length e))
 
 pub read_at : {X : Type 0} (xs : List X) (i : ℕ) (x : X) → i < length xs → x ≡ get_or xs i x → slice_get xs i ≡ Some x
 read_at xs i x l e = slice_get_read xs (length xs) i x refl l e
 
 pub next_declared : (ds : List CodeDeclaration) (size n : ℕ) (c : CodeDeclaration) (slots new : List (Option ℕ)) → n < length ds → c ≡ get_or ds n c → IsTaken slots n (slot_for (length slots) (declaration_of c)) new → IsFilled (shown ds) size n slots → IsFilled (shown ds) size (n + 1) new
-next_declared ds size n c slots new l e t f = next_filed (shown ds) size n (declaration_of c) slots new (there_shown ds n c (read_at ds n c l e)) t f
+next_declared ds size n c slots new l e t f = next_indexed (shown ds) size n (declaration_of c) slots new (there_shown ds n c (read_at ds n c l e)) t f
 
--- the protocols of one module more
+-- the protocols of one more module
 
 pub get_before : {X : Type 0} (xs ys : List X) (j : ℕ) (x : X) → j < length xs → slice_get (xs ++ ys) j ≡ Some x → slice_get xs j ≡ Some x
 get_before [] ys j x l e = absurd (omega (arith, l))
@@ -161,8 +161,8 @@ get_after (y ∷ xs) ys i x e =
     let same : suc (length xs + i) ≡ suc (length xs) + i = omega arith in
     subst (λ n. slice_get (y ∷ (xs ++ ys)) n ≡ Some x) same (get_after xs ys i x e)
 
-pub filed_before : (ds es : List Declaration) (size : ℕ) (slots : List (Option ℕ)) → IsFilled ds size (length ds) slots → IsFilled (ds ++ es) size (length ds + 0) slots
-filed_before ds es size slots f = record {
+pub indexed_before : (ds es : List Declaration) (size : ℕ) (slots : List (Option ℕ)) → IsFilled ds size (length ds) slots → IsFilled (ds ++ es) size (length ds + 0) slots
+indexed_before ds es size slots f = record {
   long = f.long;
   within = λ s k h. omega (arith, f.within s k h);
   first = λ s k h j d e l. f.first s k h j d (get_before ds es j d (omega (arith, l, f.within s k h)) e) l;
@@ -184,7 +184,7 @@ next_added ds home size i place p slots new l e at t f =
     let here = get_after ds es i d (declared_at home home.protocols i p (read_at home.protocols i p l e)) in
     let taken = subst (λ z. IsTaken slots z (slot_for (length slots) d) new) at t in
     let more : length ds + i + 1 ≡ length ds + (i + 1) = omega arith in
-    subst (λ z. IsFilled (ds ++ es) size z new) more (next_filed (ds ++ es) size (length ds + i) d slots new here taken f)
+    subst (λ z. IsFilled (ds ++ es) size z new) more (next_indexed (ds ++ es) size (length ds + i) d slots new here taken f)
 
 pub added_count : (ds : List Declaration) (home : ModuleTree) → length (ds ++ declared_in home home.protocols) ≡ length ds + length home.protocols
 added_count ds home = length-append ds (declared_in home home.protocols) ∙ ap (λ n. length ds + n) (length-map home.protocols (λ p. record { home = home; protocol = p }))

@@ -1,4 +1,4 @@
--- How a walk over protocols goes on.
+-- The steps of a walk over protocols.
 use Rattle.std.proofs.Common.{◌≡◌, ◌≢◌, ◌⊎◌, ℕ, zero, suc, ◌+◌, ◌<◌, ◌≤◌, true, List, [], ◌∷◌, ◌++◌, length, get_or, set, Some, option_map, refl, sym, ap, ◌∙◌, subst, ⊎_elim, inl, inr, arith}
 use Rattle.std.specs.List.{slice_get, sum_by}
 use Rattle.std.proofs.lemmas.List.{length-append, length-set, length-map}
@@ -17,7 +17,7 @@ use Rattle.scrib_static_checks.specs.declared.fault.ElaborateFault.TheVariants a
 use Rattle.scrib_static_checks.specs.declared.checking.BrokenRule.{BrokenRule}
 use Rattle.scrib_static_checks.specs.declared.checking.CheckError.{CheckError}
 use Rattle.scrib_static_checks.specs.declared.checking.CheckError.TheVariants.{Broken, Call, OutOfMemory}
-use Rattle.scrib_static_checks.specs.declared.checking.Place.{Place}
+use Rattle.scrib_static_checks.specs.declared.checking.CheckContext.{CheckContext}
 use Rattle.scrib_static_checks.specs.declared.checking.Summary.{Summary}
 use Rattle.scrib_static_checks.specs.Table.{declaration_of, shown, IsSummary, StopsAt}
 use Rattle.scrib_static_checks.specs.Walking.{AreUnwalked, IsEntered, EnterFails, IsFaultIn, IsReady, IsNextCall, IsBlockKept, TopKeeps, TopStops, WasWalked, AreSummaries, IsIdle, IsSmall, WalkFails}
@@ -25,10 +25,10 @@ use Rattle.scrib_parser.specs.declared.tree.Statement.{Statement}
 use Rattle.scrib_static_checks.specs.SourceView.{body_of}
 use Rattle.scrib_static_checks.specs.declared.fault.FaultKind.TheVariants as kind
 use Rattle.scrib_static_checks.specs.Sizes.{NodesOf, IsTooLarge}
-use Rattle.scrib_static_checks.specs.Growth.{risen, BlockGrows}
-use Rattle.scrib_static_checks.specs.Shape.{HasShape}
+use Rattle.scrib_static_checks.specs.SizeFunctions.{height_at, BlockHasSize}
+use Rattle.scrib_static_checks.specs.CallEffect.{HasEffect}
 use Rattle.scrib_static_checks.proofs.Checks.{entry_is}
-use Rattle.scrib_static_checks.proofs.RulesKept.{reaches_on}
+use Rattle.scrib_static_checks.proofs.RuleLemmas.{reaches_on}
 
 -- the places of a list
 
@@ -57,7 +57,7 @@ get_set (x ∷ xs) (suc k) v (suc j) w e =
 
 -- the walk
 
--- Where a walk stands: the states of all declared protocols, and those in which it is, the outermost first.
+-- The state of a walk: the states of all declared protocols, and those that it has entered, the outermost first.
 pub record IsWalk (ms : List ModuleTree) (ds : List Declaration) (at : ℕ) (root : Declaration) (states : List State) (stack : List ℕ) : Type 0 where
   pub states_all : length states ≡ length ds
   pub walked : (k : ℕ) (d : Declaration) (s : Summary) → slice_get ds k ≡ Some d → slice_get states k ≡ Some (Walked s) → IsSummary ms d s
@@ -77,7 +77,7 @@ weight (Walked s) = 0
 abbrev pub work : List State → List ℕ → ℕ
 work states stack = sum_by weight states + length stack
 
--- those in which it is lead to the last of them
+-- the entered protocols lead to the last of them
 pub leads_to_last : (ms : List ModuleTree) (ds : List Declaration) (at : ℕ) (root : Declaration) (states : List State) (init : List ℕ) (top : ℕ) (t : Declaration) → slice_get ds top ≡ Some t
     → IsWalk ms ds at root states (init ++ top ∷ []) → (k : ℕ) (d : Declaration) → slice_get ds k ≡ Some d → slice_get states k ≡ Some Walking → Reaches ms d t
 leads_to_last ms ds at root states init top t here w k d there walking =
@@ -127,7 +127,7 @@ enters ms ds at root states init top to t c h call here there names w = record {
     past : (i j l : ℕ) → i ≡ length (init ++ top ∷ []) → i ≤ j → slice_get (init ++ top ∷ []) j ≡ Some l → ⊥
     past i j l e le q = let within = slice_get_within (init ++ top ∷ []) j l q in absurd (omega arith)
 
--- it leaves the last one, which keeps the rules
+-- it leaves the last one, which follows the rules
 
 pub leaves : (ms : List ModuleTree) (ds : List Declaration) (at : ℕ) (root : Declaration) (states : List State) (init : List ℕ) (top : ℕ) (t : Declaration) (e : Summary)
     → slice_get ds top ≡ Some t → IsSummary ms t e → IsWalk ms ds at root states (init ++ top ∷ []) → IsWalk ms ds at root (set states top (Walked e)) init
@@ -196,7 +196,7 @@ one_more n ss ts a e =
     let long : length (ss ++ Unwalked ∷ []) ≡ length ss + 1 = length-append ss (Unwalked ∷ []) in
     subst (AreUnwalked (n + 1)) (sym e) (record { long = omega (arith, long, a.long); fresh = λ k s h. ⊎_elim (λ x. a.fresh k s x) (λ x. sym x.1) (get_either ss Unwalked s k h) })
 
--- the walk, in the words of the table
+-- the walk, in the terms of the table
 
 pub record IsWalkFrom (ms : List ModuleTree) (declared : List CodeDeclaration) (at : ℕ) (states : List State) (stack : List ℕ) : Type 0 where
   pub root : Declaration
@@ -210,7 +210,7 @@ entry_there declared k d h =
 pub states_long : (ms : List ModuleTree) (declared : List CodeDeclaration) (at : ℕ) (states : List State) (stack : List ℕ) → IsWalkFrom ms declared at states stack → length states ≡ length declared
 states_long ms declared at states stack w = w.walk.states_all ∙ length-map declared declaration_of
 
--- what the last one's check knows
+-- what the check of the last one assumes
 pub ready : (ms : List ModuleTree) (declared : List CodeDeclaration) (at : ℕ) (states : List State) (stack init : List ℕ) (top : ℕ) → shown declared ≡ declarations ms → stack ≡ init ++ top ∷ [] → IsWalkFrom ms declared at states stack
     → IsReady ms declared states top
 ready ms declared at states stack init top all is w =
@@ -259,7 +259,7 @@ leaves_from ms declared at states stack init top e is w k =
     record {
       root = w.root;
       there = w.there;
-      walk = leaves ms (shown declared) at w.root states init top t e here (record { kept = protocol_keeps names (k t here).keeps; grows = (k t here).grows; shaped = (k t here).shaped }) walk;
+      walk = leaves ms (shown declared) at w.root states init top t e here (record { kept = protocol_keeps names (k t here).keeps; has_size = (k t here).has_size; has_effect = (k t here).has_effect }) walk;
     }
 
 -- the call at which a check stopped
@@ -299,7 +299,7 @@ enters_from ms declared at states after stack init pushed last top to x is again
     let walk = subst (λ s. IsWalk ms (shown declared) at w.root states s) is w.walk in
     let same = called_entry ms declared states top to x n entry in
     let names = subst HasOwnNames (sym same) e.named in
-    let next = enters ms (shown declared) at w.root states init top to n.from n.call.to n.call.stands n.call.there n.here n.call.at names walk in
+    let next = enters ms (shown declared) at w.root states init top to n.from n.call.to n.call.occurs n.call.there n.here n.call.at names walk in
     let whole : last ≡ (init ++ top ∷ []) ++ to ∷ [] = e.stack ∙ ap (λ s. s ++ to ∷ []) again in
     record {
       root = w.root;
@@ -307,7 +307,7 @@ enters_from ms declared at states after stack init pushed last top to x is again
       walk = subst (λ s. IsWalk ms (shown declared) at w.root after s) (sym whole) (subst (λ ss. IsWalk ms (shown declared) at w.root ss ((init ++ top ∷ []) ++ to ∷ [])) (sym e.states) next);
     }
 
--- the work grows less
+-- the remaining work decreases
 
 pub less_entering : (ms : List ModuleTree) (declared : List CodeDeclaration) (states after : List State) (stack init pushed last : List ℕ) (top to : ℕ) (home : _) (protocol : _) → stack ≡ init ++ top ∷ [] → pushed ≡ init ++ top ∷ []
     → IsNext ms declared states top to → IsEntered home protocol to states after pushed last → work after last < work states stack
@@ -342,20 +342,20 @@ next_fails ms declared at states stack init top to x is entry w n (elaborate.Bro
     let walk = subst (λ s. IsWalk ms (shown declared) at w.root states s) is w.walk in
     let same : w.root ≡ d = cc (w.there, p) in
     let target = called_entry ms declared states top to x n entry in
-    let reach = reaches_on (walk.reached (length init) top n.from (get_last init top) n.here) n.call.stands n.call.there in
+    let reach = reaches_on (walk.reached (length init) top n.from (get_last init top) n.here) n.call.occurs n.call.there in
     (declaration_of x, subst (λ r. Reaches ms r (declaration_of x)) same (subst (Reaches ms w.root) target reach), e.0, e.1 ms d)
 next_fails ms declared at states stack init top to x is entry w n elaborate.OutOfMemory e = tt
 
 pub broken_fails : (ms : List ModuleTree) (declared : List CodeDeclaration) (at : ℕ) (states seen : List State) (stack init : List ℕ) (top : ℕ) (x : CodeDeclaration) (b : BrokenRule) (s : CheckError) → stack ≡ init ++ top ∷ [] → x ≡ get_or declared top x
     → IsWalkFrom ms declared at states stack → s ≡ Broken b → TopStops ms (shown declared) seen top s → (f : ElaborateFault) → IsFaultIn x.home.now b f → WalkFails ms (shown declared) at f
-broken_fails ms declared at states seen stack init top x b s is entry w stop h f told =
+broken_fails ms declared at states seen stack init top x b s is entry w stop h f returned =
     let walk = subst (λ s. IsWalk ms (shown declared) at w.root states s) is w.walk in
     let within = top_within ms declared at states stack init top is w in
     let here : slice_get (shown declared) top ≡ Some (declaration_of x) =
     entry_there declared top x within ∙ ap (λ y. Some (declaration_of y)) (sym entry) in
     let stops = subst (λ y. TopStops ms (shown declared) seen top y) stop h in
     let reach = walk.reached (length init) top (declaration_of x) (get_last init top) here in
-    ⊎_elim (λ e. subst (WalkFails ms (shown declared) at) (sym e) (λ d p. let same : w.root ≡ d = cc (w.there, p) in (declaration_of x, subst (λ r. Reaches ms r (declaration_of x)) same reach, refl, stops d (declaration_of x) here))) (λ e. subst (WalkFails ms (shown declared) at) (sym e) tt) told
+    ⊎_elim (λ e. subst (WalkFails ms (shown declared) at) (sym e) (λ d p. let same : w.root ≡ d = cc (w.there, p) in (declaration_of x, subst (λ r. Reaches ms r (declaration_of x)) same reach, refl, stops d (declaration_of x) here))) (λ e. subst (WalkFails ms (shown declared) at) (sym e) tt) returned
 
 pub ended_from : (ms : List ModuleTree) (declared : List CodeDeclaration) (at : ℕ) (states : List State) (stack : List ℕ) → stack ≡ [] → IsWalkFrom ms declared at states stack → WasWalked ms (shown declared) states at
 ended_from ms declared at states stack none w = λ d p.
@@ -390,7 +390,7 @@ same_top : (declared : List CodeDeclaration) (k : ℕ) (x : CodeDeclaration) (d 
 same_top declared k x d is here = sym (entry_is declared k d x here ∙ ap declaration_of (sym is))
 
 -- what stopped the check of the last one
-pub top_stops : (p : Place) (k : ℕ) (e : CheckError) → p.at ≡ get_or p.declared.now k p.at → StopsAt p e → TopStops p.modules.now (shown p.declared.now) p.states.now k e
+pub top_stops : (p : CheckContext) (k : ℕ) (e : CheckError) → p.at ≡ get_or p.declared.now k p.at → StopsAt p e → TopStops p.modules.now (shown p.declared.now) p.states.now k e
 top_stops p k (Broken b) is stops = λ root d here.
     subst (λ y. Fails b.kind p.modules.now root y b.spot) (same_top p.declared.now k p.at d is here) (stops root)
 top_stops p k (Call to) is stops = λ d here.
@@ -399,7 +399,7 @@ top_stops p k (Call to) is stops = λ d here.
       path = stops.path;
       roles = stops.roles;
       spot = stops.spot;
-      stands = subst (λ y. HasStatement y (Calls stops.path stops.roles stops.spot)) same stops.stands;
+      occurs = subst (λ y. HasStatement y (Calls stops.path stops.roles stops.spot)) same stops.occurs;
       to = stops.to;
       there = subst (λ (y : Declaration). called p.modules.now y.home stops.path ≡ Some stops.to) same stops.there;
       at = stops.at;
@@ -409,25 +409,25 @@ top_stops p k OutOfMemory is stops = tt
 
 -- what the check of the last one found
 pub block_kept : (ms : List ModuleTree) (declared : List CodeDeclaration) (k : ℕ) (x : CodeDeclaration) (d : Declaration) (a b c : List Statement) (s : Summary) → slice_get (shown declared) k ≡ Some d → x ≡ get_or declared k x
-    → a ≡ x.protocol.now.body → b ≡ x.protocol.now.body → c ≡ x.protocol.now.body → BlockKeeps ms (declaration_of x) [] true (body_of a) s.exits → BlockGrows ms (declaration_of x) (body_of b) s.size
-    → HasShape ms (declaration_of x) (body_of c) s.shape → IsBlockKept ms d s
-block_kept ms declared k x d a b c s here is p q r keeps grows shaped =
+    → a ≡ x.protocol.now.body → b ≡ x.protocol.now.body → c ≡ x.protocol.now.body → BlockKeeps ms (declaration_of x) [] true (body_of a) s.exits → BlockHasSize ms (declaration_of x) (body_of b) s.size
+    → HasEffect ms (declaration_of x) (body_of c) s.effect → IsBlockKept ms d s
+block_kept ms declared k x d a b c s here is p q r keeps has_size has_effect =
     let same = same_top declared k x d is here in
     subst (λ y. IsBlockKept ms y s) same (record {
       keeps = subst (λ y. BlockKeeps ms (declaration_of x) [] true (body_of y) s.exits) p keeps;
-      grows = subst (λ y. BlockGrows ms (declaration_of x) (body_of y) s.size) q grows;
-      shaped = subst (λ y. HasShape ms (declaration_of x) (body_of y) s.shape) r shaped;
+      has_size = subst (λ y. BlockHasSize ms (declaration_of x) (body_of y) s.size) q has_size;
+      has_effect = subst (λ y. HasEffect ms (declaration_of x) (body_of y) s.effect) r has_effect;
     })
 
 -- the size of the protocol at which the walk began
 
-pub small_at : (ms : List ModuleTree) (ds : List Declaration) (states : List State) (at : ℕ) (s : Summary) → slice_get states at ≡ Some (Walked s) → (s.size.nodes.base < 65536) × (risen s.size.height 0 < 4096) → WasWalked ms ds states at → IsSmall ms ds at (s.size.nodes.base + 1)
+pub small_at : (ms : List ModuleTree) (ds : List Declaration) (states : List State) (at : ℕ) (s : Summary) → slice_get states at ≡ Some (Walked s) → (s.size.nodes.base < 65536) × (height_at s.size.height 0 < 4096) → WasWalked ms ds states at → IsSmall ms ds at (s.size.nodes.base + 1)
 small_at ms ds states at s walked below w = λ d here.
     let (t, there, kept) = w d here in
     let same : t ≡ s = cc (there, walked) in
     let g = subst (IsSummary ms d) same kept in
-    let (n, counted, agree) = g.grows.nodes 0 in
-    let (m, measured, alike) = g.grows.height 0 in
+    let (n, counted, agree) = g.has_size.nodes 0 in
+    let (m, measured, alike) = g.has_size.height 0 in
     let is : n + 1 ≡ s.size.nodes.base + 1 = omega (arith, agree, below.0) in
     record {
       counted = subst (λ k. NodesOf ms d k) is counted;
@@ -437,10 +437,10 @@ small_at ms ds states at s walked below w = λ d here.
       short = omega (arith, alike, below.1);
     }
 
-pub large_fails : (ms : List ModuleTree) (declared : List CodeDeclaration) (states : List State) (at : ℕ) (x : CodeDeclaration) (s : Summary) → at < length declared → x ≡ get_or declared at x → slice_get states at ≡ Some (Walked s) → (65536 ≤ s.size.nodes.base) ⊎ (4096 ≤ risen s.size.height 0)
+pub large_fails : (ms : List ModuleTree) (declared : List CodeDeclaration) (states : List State) (at : ℕ) (x : CodeDeclaration) (s : Summary) → at < length declared → x ≡ get_or declared at x → slice_get states at ≡ Some (Walked s) → (65536 ≤ s.size.nodes.base) ⊎ (4096 ≤ height_at s.size.height 0)
     → WasWalked ms (shown declared) states at → (f : ElaborateFault) → IsFaultIn x.home.now (record { kind = kind.TooLarge; spot = x.protocol.now.spot }) f → WalkFails ms (shown declared) at f
-large_fails ms declared states at x s h is walked above w f told =
-    ⊎_elim (λ e. subst (WalkFails ms (shown declared) at) (sym e) (λ d p. told_at d p)) (λ e. subst (WalkFails ms (shown declared) at) (sym e) tt) told
+large_fails ms declared states at x s h is walked above w f returned =
+    ⊎_elim (λ e. subst (WalkFails ms (shown declared) at) (sym e) (λ d p. fault_at d p)) (λ e. subst (WalkFails ms (shown declared) at) (sym e) tt) returned
   where
     there : slice_get (shown declared) at ≡ Some (declaration_of x)
     there = entry_there declared at x h ∙ ap (λ y. Some (declaration_of y)) (sym is)
@@ -450,12 +450,12 @@ large_fails ms declared states at x s h is walked above w f told =
         let (t, found, kept) = w (declaration_of x) there in
         let same : t ≡ s = cc (found, walked) in
         let g = subst (IsSummary ms (declaration_of x)) same kept in
-        let (n, counted, agree) = g.grows.nodes 0 in
-        let (m, measured, alike) = g.grows.height 0 in
+        let (n, counted, agree) = g.has_size.nodes 0 in
+        let (m, measured, alike) = g.has_size.height 0 in
         ⊎_elim (λ large. inl (n + 1, counted, omega (arith, agree, large))) (λ high. inr (m + 1, measured, omega (arith, alike, high))) above
 
-    told_at : (d : Declaration) → slice_get (shown declared) at ≡ Some d → (place : Declaration) × Reaches ms d place × (x.home.now.name ≡ place.home.name) × Fails kind.TooLarge ms d place x.protocol.now.spot
-    told_at d p =
+    fault_at : (d : Declaration) → slice_get (shown declared) at ≡ Some d → (place : Declaration) × Reaches ms d place × (x.home.now.name ≡ place.home.name) × Fails kind.TooLarge ms d place x.protocol.now.spot
+    fault_at d p =
         let same : declaration_of x ≡ d = cc (there, p) in
         (declaration_of x, subst (λ r. Reaches ms r (declaration_of x)) same itself, refl, (same, too_large, refl))
 

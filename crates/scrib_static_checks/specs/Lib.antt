@@ -4,11 +4,11 @@ pub mod Names
 pub mod Placed
 pub mod Statements
 pub mod Elaboration
-pub mod Directory
+pub mod ProtocolIndex
 pub mod Sizes
 pub mod Faults
-pub mod Growth
+pub mod SizeFunctions
 pub mod Joining
-pub mod Shape
+pub mod CallEffect
 pub mod Table
 pub mod Walking

@@ -1,4 +1,4 @@
--- Where a module was put, and how that is taken back.
+-- The place of a module that was put, and how the put is undone.
 use Rattle.std.specs.Prelude.{◌≡◌, ℕ, ◌<◌, List, length, take, slice_set, slice_index_or, Option, Some, None}
 use Rattle.scrib_parser.specs.declared.tree.ModuleTree.{ModuleTree}
 use Rattle.scrib_static_checks.specs.declared.modules.Placed.{Placed}
@@ -8,11 +8,11 @@ abbrev pub back_to : ℕ → Option ModuleTree → List ModuleTree → List Modu
 back_to at None modules = take at modules
 back_to at (Some m) modules = slice_set modules at m
 
--- the modules with the one that stood there before, or without the last
+-- the modules with the module that was replaced, or without the last
 abbrev pub undone : Placed → List ModuleTree → List ModuleTree
 undone p modules = back_to p.at p.replaced modules
 
--- the module stands there, in place of the one of its name, or last; taken back, the modules are as before
+-- the module is at this place, instead of the one of its name, or at the end, and undoing that restores the old list
 pub record IsPlaced (m : ModuleTree) (before after : List ModuleTree) (p : Placed) : Type 0 where
   pub put : after ≡ with_module m before
   pub within : p.at < length after

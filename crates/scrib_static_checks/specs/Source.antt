@@ -9,7 +9,7 @@ mutual
     Done : Body
     Then : Statement → Body → Body
 
-  -- a statement, and the place of its first byte
+  -- a statement, and the position of its first byte
   pub data Statement : Type 0 where
     Sends : Message → (sender : List ℕ) → (receivers : List (List ℕ)) → Spot → Statement
     Chooses : (chooser : List ℕ) → Blocks → Spot → Statement
@@ -17,7 +17,7 @@ mutual
     Continues : (name : List ℕ) → Spot → Statement
     Calls : (path : List (List ℕ)) → (roles : List (List ℕ)) → Spot → Statement
 
-  -- the blocks of a choice, and the places of their opening braces
+  -- the blocks of a choice, and the positions of their opening braces
   pub data Blocks : Type 0 where
     NoBlock : Blocks
     OrBlock : Body → Spot → Blocks → Blocks

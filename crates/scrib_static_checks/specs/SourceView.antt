@@ -1,4 +1,4 @@
--- What a statement stands for, as a pure tree.
+-- The pure tree of a parsed statement.
 use Rattle.std.specs.Prelude.{◌≡◌, ℕ, List, [], ◌∷◌, refl}
 use Rattle.std.proofs.Common.{ap}
 use Rattle.scrib_types.specs.declared.message.Message.{Message}
@@ -26,11 +26,12 @@ unfoldable mutual
   blocks_in end_of-Block = NoBlock
   blocks_in (more_of-Block n row s rest) = OrBlock (body_in row) s (blocks_in rest)
 
--- what a list of statements, or of blocks, stands for
+-- the pure tree of a list of statements, or of blocks
 abbrev pub body_of : List ParsedStatement → Body
 body_of [] = Done
 body_of (s ∷ ss) = Then (statement_of s) (body_of ss)
 
+-- the pure trees of a list of blocks
 abbrev pub blocks_of : List Block → Blocks
 blocks_of [] = NoBlock
 blocks_of (b ∷ bs) = OrBlock (body_of b.body) b.spot (blocks_of bs)
@@ -49,18 +50,21 @@ blocks_at (Repeats x b s) = NoBlock
 blocks_at (Continues x s) = NoBlock
 blocks_at (Calls path qs s) = NoBlock
 
-pub rec_of : (x : List ℕ) (ss : List ParsedStatement) (s : Spot) → statement_of (tree.Rec x ss s) ≡ Repeats x (body_of ss) s
+pub rec_of : (x : List ℕ) (ss : List ParsedStatement) (s : Spot)
+    → statement_of (tree.Rec x ss s) ≡ Repeats x (body_of ss) s
 unfolding hidden-the_row-Statement-0 hidden statement_of body_in blocks_in body_at
 rec_of x [] s = refl
 rec_of x (t ∷ ss) s = ap (λ r. Repeats x (Then (statement_of t) (body_at r)) s) (rec_of x ss s)
 
-pub choice_of : (p : List ℕ) (bs : List Block) (s : Spot) → statement_of (tree.Choice p bs s) ≡ Chooses p (blocks_of bs) s
+pub choice_of : (p : List ℕ) (bs : List Block) (s : Spot)
+    → statement_of (tree.Choice p bs s) ≡ Chooses p (blocks_of bs) s
 unfolding hidden-the_row-Block-1 hidden-the_row-Statement-0 hidden statement_of body_in blocks_in body_at blocks_at
 choice_of p [] s = refl
 choice_of p (b ∷ bs) s =
     λ i. Chooses p (OrBlock (body_at (rec_of p b.body s i)) b.spot (blocks_at (choice_of p bs s i))) s
 
-pub message_of : (m : Message) (p : List ℕ) (qs : List (List ℕ)) (s : Spot) → statement_of (tree.Message m p qs s) ≡ Sends m p qs s
+pub message_of : (m : Message) (p : List ℕ) (qs : List (List ℕ)) (s : Spot)
+    → statement_of (tree.Message m p qs s) ≡ Sends m p qs s
 unfolding statement_of
 message_of m p qs s = refl
 
@@ -72,5 +76,5 @@ pub do_of : (path qs : List (List ℕ)) (s : Spot) → statement_of (tree.Do pat
 unfolding statement_of
 do_of path qs s = refl
 
--- the equation at each form of statement
+-- the equation for each form of statement
 pub ruleset statement_views = (message_of, choice_of, rec_of, continue_of, do_of)

@@ -1,53 +1,52 @@
-//! Where a walk over statements stands, and why it stops.
+//! The context of a walk over statements, and the reasons for which it stops.
 
 use crate::declared::Declaration;
-use crate::directory::Directory;
+use crate::effect::CallEffect;
 use crate::fault::FaultKind;
-use crate::growth::Extent;
-use crate::shape::Shape;
+use crate::protocol_index::ProtocolIndex;
+use crate::size_bound::SizeBound;
 use scrib_parser::tree::ModuleTree;
 use scrib_types::name::Name;
 use scrib_types::spot::Spot;
 use std::alloc::{AllocError, AllocFailed};
 
-/// How far the walk is with a protocol.
+/// The state of the walk for one protocol.
 #[derive(Clone, Copy, Drop)]
 pub enum State {
-    /// It wasn't called yet.
+    /// No call of it was found.
     Unwalked,
     /// The walk is in it, or in a protocol that it calls.
     Walking,
-    /// It keeps the rules, and so does each that it calls.
+    /// It follows the rules, and so does each protocol that it calls.
     Walked(Summary),
 }
 
-/// What is kept of a protocol that was walked: whether its block has an exit, how its size grows, and what its
-/// block adds to a type.
+/// The result of the walk over a protocol: whether its block has an exit, its size, and what its block adds to a type.
 #[derive(Clone, Copy, Drop)]
 pub struct Summary {
     pub exits: bool,
-    pub size: Extent,
-    pub shape: Shape,
+    pub size: SizeBound,
+    pub effect: CallEffect,
 }
 
-/// A recursion round a statement.
+/// A recursion around a statement.
 #[derive(Clone, Copy, Drop)]
-pub struct Round<'a> {
+pub struct EnclosingRec<'a> {
     pub name: &'a Name,
 }
 
-/// The protocol whose statements are checked, among all declared protocols of the modules, with their directory and
-/// the states of the walk.
+/// The protocol whose statements are checked, with all declared protocols of the modules, their index and the states of
+/// the walk.
 #[derive(Clone, Copy, Drop)]
-pub struct Place<'a> {
+pub struct CheckContext<'a> {
     pub modules: &'a [ModuleTree],
     pub declared: &'a [Declaration<'a>],
-    pub directory: &'a Directory,
+    pub protocol_index: &'a ProtocolIndex,
     pub states: &'a [State],
     pub at: Declaration<'a>,
 }
 
-/// A rule that is broken, and the place in the module's text.
+/// A rule that is broken, and the position in the module's text.
 #[derive(Clone, Copy, Drop)]
 pub struct BrokenRule {
     pub kind: FaultKind,
@@ -59,7 +58,7 @@ pub struct BrokenRule {
 pub enum CheckError {
     /// A rule is broken.
     Broken(BrokenRule),
-    /// The protocol at this place of the table has to be walked first.
+    /// The protocol at this index of the table must be walked first.
     Call(usize),
     /// Memory was refused.
     OutOfMemory,

@@ -1,10 +1,10 @@
-//! The declared protocols of modules, and which of them a call names.
+//! The declared protocols of modules, and the one that a call names.
 
 ghost use Rattle.std.specs.Prelude.{◌≡◌, ◌++◌, IfOk, OnOk, MatchOption, None};
 ghost use Rattle.std.specs.List.{All};
 ghost use Rattle.std.specs.Option.{option_copied};
-ghost use Rattle.scrib_static_checks.specs.Names.{is_settled, dotted_eq, known_by, imported, looked_in, declarations, declared_in, is_called, first_where};
-ghost use Rattle.scrib_static_checks.specs.Table.{shown, IsSettledSo, IsFound};
+ghost use Rattle.scrib_static_checks.specs.Names.{has_checked_names, dotted_eq, known_by, imported, looked_in, declarations, declared_in, is_called, first_where};
+ghost use Rattle.scrib_static_checks.specs.Table.{shown, HasCheckedNames, IsFound};
 
 use crate::modules::Modules;
 use crate::names::{same_name, same_names};
@@ -12,15 +12,15 @@ use scrib_parser::tree::{Import, ModuleTree, ProtocolDeclaration};
 use scrib_types::name::{Dotted, Name};
 use std::alloc::{AllocError, Global};
 
-/// A declared protocol, its module, and whether that module's names are settled.
+/// A declared protocol, its module, and whether the names of that module are already checked.
 #[derive(Clone, Copy, Drop)]
 pub struct Declaration<'a> {
     pub home: &'a ModuleTree,
     pub protocol: &'a ProtocolDeclaration,
-    pub settled: bool,
+    pub names_checked: bool,
 }
 
-/// All protocols that the modules declare, in order.
+/// Returns all protocols that the modules declare, in order.
 ///
 /// # Errors
 /// `AllocError` where memory was refused.
@@ -29,13 +29,13 @@ pub fn all_declared<'a>(
     modules: &'a Modules,
 ) -> Result<Vec<Declaration<'a>>, AllocError>
     ensures all { IfOk result (λ ds. shown ds.items ≡ declarations modules.now) }
-    ensures settled { IfOk result (λ ds. All IsSettledSo ds.items) }
+    ensures names_checked { IfOk result (λ ds. All HasCheckedNames ds.items) }
 {
-    // The directory knows how many were filed last, mostly as many as there are.
-    let mut all = Vec::with_capacity(alloc, modules.directory().filed)?;
-    let settled = modules.settled();
+    // The index contains as many protocols as there were when it was filled, usually all of them.
+    let mut all = Vec::with_capacity(alloc, modules.protocol_index().indexed)?;
+    let names_checked = modules.names_checked();
     for (i, home) in modules.as_slice().iter().enumerate() {
-        declare(&mut all, home, settled[i])?;
+        declare(&mut all, home, names_checked[i])?;
     }
     Ok(all)
 }
@@ -43,24 +43,24 @@ pub fn all_declared<'a>(
 fn declare<'a>(
     all: &mut Vec<Declaration<'a>>,
     home: &'a ModuleTree,
-    settled: bool,
+    names_checked: bool,
 ) -> Result<(), AllocError>
-    requires so { settled ≡ is_settled home.now }
-    requires others { All IsSettledSo all.old.items }
+    requires so { names_checked ≡ has_checked_names home.now }
+    requires others { All HasCheckedNames all.old.items }
     ensures all { OnOk result (shown all.new.items ≡ shown all.old.items ++ declared_in home.now home.now.protocols) }
-    ensures settled { OnOk result (All IsSettledSo all.new.items) }
+    ensures names_checked { OnOk result (All HasCheckedNames all.new.items) }
 {
     for protocol in home.protocols.as_slice() {
         all.push(Declaration {
             home,
             protocol,
-            settled,
+            names_checked,
         })?;
     }
     Ok(())
 }
 
-/// Where the protocol of this name in the module of this name stands among the declared ones.
+/// Returns the index of the declared protocol with this name, in the module of this name.
 pub fn find(declared: &[Declaration], home: &Dotted, name: &Name) -> Option<usize>
     ensures { MatchOption result
         (first_where (is_called home.now name.now) (shown declared.now) ≡ None)
@@ -74,8 +74,8 @@ pub fn find(declared: &[Declaration], home: &Dotted, name: &Name) -> Option<usiz
     None
 }
 
-/// The name of the module in which a call looks whose path has these names in front of the protocol's: this one's
-/// where there are none, and else that of the import that is known by them.
+/// Returns the name of the module in which a call looks up its protocol. `front` is the call's path without its last
+/// name. If it is empty, that is this module, and otherwise the module of the import known by it.
 pub fn looked_in<'a>(at: &'a ModuleTree, front: &[Name]) -> Option<&'a Dotted>
     ensures { option_copied result ≡ looked_in at.now front.now }
 {

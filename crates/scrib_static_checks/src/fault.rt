@@ -1,37 +1,37 @@
-//! Why a declared protocol means nothing.
+//! The faults of elaboration.
 
 use scrib_types::name::Dotted;
 use scrib_types::spot::Spot;
 use std::alloc::{AllocError, AllocFailed};
 
-/// A rule that a protocol breaks, or one that it calls.
+/// The rule that a protocol, or one that it calls, breaks.
 #[derive(Clone, Copy, Debug, PartialEq, Eq)]
 pub enum FaultKind {
-    /// The part before the last dot of a call is no import, or the module isn't there.
+    /// The part before the last dot of a call is no import, or there is no such module.
     NoModule,
     /// The module has no protocol of this name.
     NoProtocol,
-    /// Two imports of a module are known by one name, or two of its protocols or two roles of a
-    /// protocol have one name. It stands at the second.
+    /// Two imports of a module are known by one name, or two of its protocols or two roles of a protocol have one name.
+    /// The fault is at the second.
     TwiceDeclared,
-    /// A name stands for a role, and the protocol declares no such role.
+    /// A statement names a role that the protocol does not declare.
     NoRole,
-    /// A call gives one role twice.
+    /// A call passes one role twice.
     RepeatedRole,
-    /// A call gives another number of roles than the called protocol has.
+    /// A call passes another number of roles than the called protocol has.
     WrongCount,
     /// A message goes from a role to itself.
     SelfMessage,
-    /// The called protocol leads back to the call.
+    /// The called protocol calls, directly or not, the protocol with the call.
     DoCycle,
-    /// A `continue` names no recursion round it.
+    /// A `continue` names no recursion around it.
     NoRec,
     /// A recursion's body, with what follows, begins with no communication.
     Unguarded,
     /// The statement before this one in its block has no exit.
     Unreachable,
-    /// A branch of a choice, with what follows, has no communication. So has a choice without a branch,
-    /// which no text spells: there it stands at the choice.
+    /// A branch of a choice, with what follows, has no communication. A choice without a branch, which no text
+    /// contains, has this fault at the choice.
     EmptyBranch,
     /// A branch of a choice begins with a `continue`.
     ContinueHead,
@@ -43,15 +43,15 @@ pub enum FaultKind {
     TwoReceivers,
     /// A branch of a choice begins with an operator that an earlier branch begins with.
     SameOperator,
-    /// The protocol has more than 64 roles. It stands at the 65th.
+    /// The protocol has more than 64 roles. The fault is at the 65th.
     TooManyRoles,
-    /// The global type would have more than 65,536 nodes, or more than 4,096 on a path from its root to an end or
-    /// a variable, both counted. It stands at the protocol.
+    /// The global type would have more than 65,536 nodes, or a path of more than 4,096 nodes from its root to an end or
+    /// variable. The fault is at the protocol.
     TooLarge,
 }
 
-/// A broken rule, and where: the module, and the place in its text. Where the protocol that was asked for
-/// isn't there, it is the module that was asked for, with line 0 and column 0.
+/// A broken rule, its module, and the position in its text. If the requested protocol does not exist, it is the
+/// requested module, with line 0 and column 0.
 #[derive(Drop)]
 pub struct Fault {
     pub kind: FaultKind,
@@ -59,7 +59,7 @@ pub struct Fault {
     pub spot: Spot,
 }
 
-/// Why there is no protocol.
+/// The reason for which a protocol has no elaboration.
 #[derive(Drop)]
 pub enum ElaborateFault {
     /// A rule is broken.

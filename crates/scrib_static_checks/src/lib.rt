@@ -1,17 +1,18 @@
-//! Modules, the protocols that they declare, and the first two passes over one: names and statements, and sizes.
+//! The checks before elaboration: the protocols that modules declare, the rules of their statements, and the sizes of
+//! their types.
 #![tactic(auto)]
 
-pub mod block_shapes;
+pub mod block_effects;
 pub mod checking;
 pub mod declared;
-pub mod directory;
+pub mod effect;
 pub mod fault;
-mod filed;
-pub mod growth;
+mod index_entries;
 pub mod modules;
 pub mod names;
 mod own_names;
-pub mod shape;
+pub mod protocol_index;
 pub mod size;
+pub mod size_bound;
 mod statements;
 pub mod walk;

@@ -2,37 +2,37 @@
 
 ghost use Rattle.std.specs.Prelude.{◌≡◌, ◌∷◌, ◌++◌, ◌<◌, [], false, length, map, remove, slice_set, slice_index_or, MatchOption, IfOk, OnOk, OnErr, IsTrue};
 ghost use Rattle.scrib_parser.specs.declared.tree.ModuleTree as parsed;
-ghost use Rattle.scrib_static_checks.specs.Names.{has_name, module_names, protocol_names, declarations, with_module, is_settled};
-ghost use Rattle.scrib_static_checks.specs.Directory.{IsDirectory, IsFiled};
+ghost use Rattle.scrib_static_checks.specs.Names.{has_name, module_names, protocol_names, declarations, with_module, has_checked_names};
+ghost use Rattle.scrib_static_checks.specs.ProtocolIndex.{IsProtocolIndex, IsIndexed};
 ghost use Rattle.scrib_static_checks.specs.Table.{IsPlace};
 ghost use Rattle.scrib_static_checks.specs.Placed.{IsPlaced, undone};
 
 use crate::declared::all_declared;
-use crate::directory::Directory;
 use crate::names::same_name;
-use crate::own_names::is_settled;
+use crate::own_names::has_checked_names;
+use crate::protocol_index::ProtocolIndex;
 use scrib_parser::tree::{ModuleTree, ProtocolDeclaration};
 use scrib_types::name::Dotted;
 use std::alloc::{AllocError, Global};
 use std::marker::Model;
 use std::mem::replace;
 
-/// Where a module was put, and the one that stood there.
+/// The place of a module that was put, and the module that it replaced.
 #[derive(Drop)]
 pub struct Placed {
     pub at: usize,
     pub replaced: Option<ModuleTree>,
 }
 
-/// Modules, of which no two have one name where they were added one by one. Contracts see their list.
+/// An ordered list of modules. Modules that were added one by one have different names. Contracts refer to the list.
 #[derive(Drop)]
 pub struct Modules {
     alloc: Global,
     trees: Vec<ModuleTree>,
-    // Of each whether its names are settled, so that elaboration needn't look at them again.
-    settled: Vec<bool>,
-    // Where their protocols stand among all, which stays while modules declare the same names, and grows by new ones.
-    directory: Directory,
+    // For each module, whether its names are already checked, so that elaboration can skip them.
+    names_checked: Vec<bool>,
+    // The index of their protocols. It is kept while modules declare the same names, and extended by new modules.
+    protocol_index: ProtocolIndex,
 }
 
 impl Model for Modules {
@@ -40,8 +40,8 @@ impl Model for Modules {
     ghost use Rattle.std.specs.Coded.{codes};
     ghost use Rattle.scrib_parser.specs.declared.tree.ModuleTree as parsed;
     ghost use Rattle.scrib_parser.specs.contracts.tree.Statement as statement;
-    ghost use Rattle.scrib_static_checks.specs.Names.{declarations, is_settled};
-    ghost use Rattle.scrib_static_checks.specs.Directory.{IsFiled};
+    ghost use Rattle.scrib_static_checks.specs.Names.{declarations, has_checked_names};
+    ghost use Rattle.scrib_static_checks.specs.ProtocolIndex.{IsIndexed};
 
     ghost Value = { List parsed.ModuleTree };
 
@@ -49,29 +49,30 @@ impl Model for Modules {
 
     ghost view = { λ m. m.trees.items };
 
-    ghost invariant = { λ m. (m.settled.items ≡ map is_settled m.trees.items) × IsFiled (declarations m.trees.items) m.directory.slots.items m.directory.filed };
+    ghost invariant = { λ m. (m.names_checked.items ≡ map has_checked_names m.trees.items)
+        × IsIndexed (declarations m.trees.items) m.protocol_index.slots.items m.protocol_index.indexed };
 }
 
 impl Modules {
-    /// No module.
+    /// Returns an empty list of modules.
     pub fn new(alloc: Global) -> Modules
         ensures { result ≡ [] }
     {
         Modules {
             alloc,
             trees: Vec::new(alloc),
-            settled: Vec::new(alloc),
-            directory: Directory {
+            names_checked: Vec::new(alloc),
+            protocol_index: ProtocolIndex {
                 slots: Vec::new(alloc),
-                filed: 0,
+                indexed: 0,
             },
         }
     }
 
-    /// Puts the module in place of the one of its name, or last.
+    /// Replaces the module of the same name, or adds this one at the end.
     ///
     /// # Errors
-    /// `AllocError` where memory for one more was refused. The modules are the same then.
+    /// `AllocError` where memory for one more was refused. The modules are unchanged then.
     pub fn add(&mut self, tree: ModuleTree) -> Result<(), AllocError>
         ensures ok { OnOk result (self.new ≡ with_module tree self.old) }
         ensures err { OnErr result (self.new ≡ self.old) }
@@ -80,10 +81,10 @@ impl Modules {
         Ok(())
     }
 
-    /// Puts the module in place of the one of its name, or last, and tells where it stands now.
+    /// Replaces the module of the same name, or adds this one at the end, and returns where it is now.
     ///
     /// # Errors
-    /// `AllocError` where memory for one more was refused. The modules are the same then.
+    /// `AllocError` where memory for one more was refused. The modules are unchanged then.
     pub fn put(&mut self, tree: ModuleTree) -> Result<Placed, AllocError>
         ensures ok { IfOk result (IsPlaced tree self.old self.new) }
         ensures err { OnErr result (self.new ≡ self.old) }
@@ -92,11 +93,11 @@ impl Modules {
         self.put_there(place, tree)
     }
 
-    /// Puts the module at this place, where the one of its name stands, or last where there is none, and tells where it
-    /// stands now.
+    /// Replaces the module at this place, which has the same name, or adds this one at the end if there is none.
+    /// Returns where it is now.
     ///
     /// # Errors
-    /// `AllocError` where memory for one more was refused. The modules are the same then.
+    /// `AllocError` where memory for one more was refused. The modules are unchanged then.
     pub fn put_there(
         &mut self,
         place: Option<usize>,
@@ -109,7 +110,7 @@ impl Modules {
         match place {
             Some(at) => {
                 let replaced = self.exchange(at, tree);
-                self.file();
+                self.fill_index();
                 Ok(Placed {
                     at,
                     replaced: Some(replaced),
@@ -118,31 +119,31 @@ impl Modules {
             None => {
                 let at = self.trees.len();
                 self.push(tree)?;
-                self.file();
+                self.fill_index();
                 Ok(Placed { at, replaced: None })
             }
         }
     }
 
-    /// The place of the module of this name.
+    /// Returns the place of the module of this name.
     pub fn place_of(&self, name: &Dotted) -> Option<usize>
         ensures { MatchOption result (has_name name.now (module_names self.now) ≡ false) (IsPlace self.now name.now) }
     {
         place_of(&self.trees, name)
     }
 
-    /// Takes the module there out. The others stay in their order.
+    /// Removes and returns the module at this place. The others keep their order.
     pub fn take_out(&mut self, at: usize) -> ModuleTree
         requires { at < length self.old }
         ensures taken { (d : parsed.ModuleTree) → result ≡ slice_index_or self.old at d }
         ensures out { self.new ≡ remove self.old at }
     {
-        self.directory.slots.clear();
-        self.settled.remove(at);
+        self.protocol_index.slots.clear();
+        self.names_checked.remove(at);
         self.trees.remove(at)
     }
 
-    /// Takes back what was put there last.
+    /// Undoes the last `put`.
     pub fn undo(&mut self, placed: Placed)
         requires { placed.at < length self.old }
         ensures { self.new ≡ undone placed self.old }
@@ -153,83 +154,83 @@ impl Modules {
                 self.exchange(at, tree);
             }
             None => {
-                self.directory.slots.clear();
+                self.protocol_index.slots.clear();
                 self.trees.truncate(at);
-                self.settled.truncate(at);
+                self.names_checked.truncate(at);
             }
         }
     }
 
-    /// The modules, in order.
+    /// Returns the modules, in order.
     pub fn as_slice(&self) -> &[ModuleTree]
         ensures { result.now ≡ self.now }
     {
         self.trees.as_slice()
     }
 
-    /// Of each module, in order, whether its names are settled.
-    pub fn settled(&self) -> &[bool]
-        ensures { result.now ≡ map is_settled self.now }
+    /// Returns for each module, in order, whether its names are already checked.
+    pub fn names_checked(&self) -> &[bool]
+        ensures { result.now ≡ map has_checked_names self.now }
     {
-        self.settled.as_slice()
+        self.names_checked.as_slice()
     }
 
-    /// Where their protocols stand among all, by name.
-    pub fn directory(&self) -> &Directory
-        ensures { IsDirectory (declarations self.now) result.now.slots.items }
+    /// Returns the index of their protocols by name.
+    pub fn protocol_index(&self) -> &ProtocolIndex
+        ensures { IsProtocolIndex (declarations self.now) result.now.slots.items }
     {
-        &self.directory
+        &self.protocol_index
     }
 
-    // Puts the module there, in place of the one that is given back.
+    // Replaces the module at this place, and returns the old one.
     fn exchange(&mut self, at: usize, tree: ModuleTree) -> ModuleTree
         requires { at < length self.old }
         ensures now { self.new ≡ slice_set self.old at tree }
         ensures before { (d : parsed.ModuleTree) → result ≡ slice_index_or self.old at d }
     {
         if !declare_alike(&self.trees[at], &tree) {
-            self.directory.slots.clear();
+            self.protocol_index.slots.clear();
         }
-        self.settled[at] = is_settled(&tree);
+        self.names_checked[at] = has_checked_names(&tree);
         replace(&mut self.trees[at], tree)
     }
 
-    // Puts the module last.
+    // Adds the module at the end.
     fn push(&mut self, tree: ModuleTree) -> Result<(), AllocError>
         ensures ok { OnOk result (self.new ≡ self.old ++ tree ∷ []) }
         ensures err { OnErr result (self.new ≡ self.old) }
     {
-        self.settled.push(is_settled(&tree))?;
-        self.directory.add(&tree);
+        self.names_checked.push(has_checked_names(&tree))?;
+        self.protocol_index.add(&tree);
         if let Err(refused) = self.trees.push(tree) {
-            self.settled.pop();
-            self.directory.slots.clear();
+            self.names_checked.pop();
+            self.protocol_index.slots.clear();
             return Err(AllocError::from(refused));
         }
         Ok(())
     }
 
-    // Fills the directory where it has no slots. It stays so where memory was refused: look-ups do without it.
-    fn file(&mut self)
+    // Fills the index if it has no slots. If memory is refused it stays empty, and look-ups search the list instead.
+    fn fill_index(&mut self)
         ensures { self.new ≡ self.old }
     {
-        if self.directory.slots.is_empty() {
-            if let Ok(directory) = directory_of(self.alloc, self) {
-                self.directory = directory;
+        if self.protocol_index.slots.is_empty() {
+            if let Ok(protocol_index) = protocol_index_of(self.alloc, self) {
+                self.protocol_index = protocol_index;
             }
         }
     }
 }
 
-// The directory of the protocols that the modules declare.
-fn directory_of(alloc: Global, modules: &Modules) -> Result<Directory, AllocError>
-    ensures { IfOk result (λ d. IsFiled (declarations modules.now) d.slots.items d.filed) }
+// Returns the index of the protocols that the modules declare.
+fn protocol_index_of(alloc: Global, modules: &Modules) -> Result<ProtocolIndex, AllocError>
+    ensures { IfOk result (λ d. IsIndexed (declarations modules.now) d.slots.items d.indexed) }
 {
     let declared = all_declared(alloc, modules)?;
-    Directory::new(alloc, &declared)
+    ProtocolIndex::new(alloc, &declared)
 }
 
-// Whether the two modules have one name, and declare protocols of the same names in the same order.
+// Returns whether the two modules have one name, and declare protocols of the same names in the same order.
 fn declare_alike(a: &ModuleTree, b: &ModuleTree) -> bool
     ensures name { IsTrue result → a.now.name ≡ b.now.name }
     ensures protocols { IsTrue result → protocol_names a.now.protocols ≡ protocol_names b.now.protocols }
@@ -251,7 +252,7 @@ fn are_named_alike(a: &[ProtocolDeclaration], b: &[ProtocolDeclaration]) -> bool
     true
 }
 
-// The place of the first module of this name.
+// Returns the place of the first module of this name.
 fn place_of(trees: &[ModuleTree], name: &Dotted) -> Option<usize>
     ensures { MatchOption result (has_name name.now (module_names trees.now) ≡ false) (IsPlace trees.now name.now) }
 {

@@ -1,4 +1,4 @@
-//! Comparing names, and looking for them.
+//! Comparison and look-up of names.
 
 ghost use Rattle.std.specs.Prelude.{◌≡◌};
 ghost use Rattle.scrib_types.specs.WellFormed.{has_role, distinct_roles};
@@ -8,14 +8,14 @@ ghost use Rattle.scrib_static_checks.specs.Statements.{are_roles};
 use scrib_parser::tree::{ModuleTree, RoleDeclaration};
 use scrib_types::name::{Dotted, Name, Role};
 
-/// Whether the two are the same.
+/// Returns whether the two are equal.
 pub fn same_name(a: &Dotted, b: &Dotted) -> bool
     ensures { result ≡ dotted_eq a.now b.now }
 {
     a.equal(b)
 }
 
-/// Whether the names are the same, one by one.
+/// Returns whether the two lists of names are equal.
 pub fn same_names(a: &[Name], b: &[Name]) -> bool
     ensures { result ≡ dotted_eq a.now b.now }
 {
@@ -30,7 +30,7 @@ pub fn same_names(a: &[Name], b: &[Name]) -> bool
     true
 }
 
-/// Whether a module of this name is there.
+/// Returns whether there is a module of this name.
 pub fn has_module(modules: &[ModuleTree], name: &Dotted) -> bool
     ensures { result ≡ has_name name.now (module_names modules.now) }
 {
@@ -42,7 +42,7 @@ pub fn has_module(modules: &[ModuleTree], name: &Dotted) -> bool
     false
 }
 
-/// Whether a role of this name is declared.
+/// Returns whether a role of this name is declared.
 pub fn has_role(roles: &[RoleDeclaration], name: &Role) -> bool
     ensures { result ≡ has_role name.now (role_names roles.now) }
 {
@@ -54,7 +54,7 @@ pub fn has_role(roles: &[RoleDeclaration], name: &Role) -> bool
     false
 }
 
-/// Whether roles of all these names are declared.
+/// Returns whether roles of all these names are declared.
 pub fn are_roles(names: &[Role], roles: &[RoleDeclaration]) -> bool
     ensures { result ≡ are_roles names.now (role_names roles.now) }
 {
@@ -66,7 +66,7 @@ pub fn are_roles(names: &[Role], roles: &[RoleDeclaration]) -> bool
     true
 }
 
-/// Whether the name is one of these.
+/// Returns whether the name is one of these.
 pub fn is_among(names: &[Role], name: &Role) -> bool
     ensures { result ≡ has_role name.now names.now }
 {
@@ -78,7 +78,7 @@ pub fn is_among(names: &[Role], name: &Role) -> bool
     false
 }
 
-/// Whether no name stands there twice.
+/// Returns whether all names are different.
 pub fn are_different(names: &[Role]) -> bool
     ensures { result ≡ distinct_roles names.now }
 {

@@ -3,7 +3,7 @@
 ghost use Rattle.std.specs.Prelude.{◌≡◌, ◌≤◌, true, length, MatchResult};
 ghost use Rattle.scrib_static_checks.specs.declared.fault.FaultKind.TheVariants.{TwiceDeclared};
 ghost use Rattle.scrib_types.specs.WellFormed.{has_role, distinct_roles};
-ghost use Rattle.scrib_static_checks.specs.Names.{HasOwnNames, has_name, distinct_names, is_settled, known_by, import_names, protocol_names, role_names};
+ghost use Rattle.scrib_static_checks.specs.Names.{HasOwnNames, has_name, distinct_names, has_checked_names, known_by, import_names, protocol_names, role_names};
 ghost use Rattle.scrib_static_checks.specs.Table.{IsImportAgain, IsProtocolAgain, FailsRoles, FailsNames};
 
 use crate::checking::BrokenRule;
@@ -13,39 +13,39 @@ use scrib_parser::tree::{Import, ModuleTree, ProtocolDeclaration};
 use scrib_types::name::Name;
 use scrib_types::spot::Spot;
 
-/// The most roles of a protocol.
+/// The largest number of roles of a protocol.
 pub const MAX_ROLES: usize = 64;
 
-/// The most imports, and the most protocols, of a module whose names are compared before it is elaborated.
-pub const MAX_SETTLED: usize = 1024;
+/// The largest number of imports, and of protocols, of a module whose names are compared when it is added.
+pub const MAX_CHECKED: usize = 1024;
 
-/// Whether the module's imports are known by different names, and its protocols have different names. In a
-/// module with many they aren't compared here, so that it costs little to refuse it for another reason.
-pub fn is_settled(home: &ModuleTree) -> bool
-    ensures { result ≡ is_settled home.now }
+/// Returns whether the module's imports are known by different names, and its protocols have different names. A module
+/// with more than `MAX_CHECKED` of either is not compared here, so that refusing it for another reason is cheap.
+pub fn has_checked_names(home: &ModuleTree) -> bool
+    ensures { result ≡ has_checked_names home.now }
 {
-    if home.imports.len() > MAX_SETTLED || home.protocols.len() > MAX_SETTLED {
+    if home.imports.len() > MAX_CHECKED || home.protocols.len() > MAX_CHECKED {
         return false;
     }
     check_imports(home).is_ok() && check_protocols(home).is_ok()
 }
 
-/// Checks the names of the module's imports and protocols and of the protocol's roles, in this order; where the
-/// module's names are settled, only those of the roles.
+/// Checks the names of the module's imports and protocols and of the protocol's roles, in this order. If the module's
+/// names are already checked, it checks only those of the roles.
 ///
 /// # Errors
-/// `TwiceDeclared` at the first name that stands there twice, and `TooManyRoles` at the 65th role.
+/// `TwiceDeclared` at the first name that occurs twice, and `TooManyRoles` at the 65th role.
 pub fn check_own_names(
     home: &ModuleTree,
     protocol: &ProtocolDeclaration,
-    settled: bool,
+    names_checked: bool,
 ) -> Result<(), BrokenRule>
-    requires { settled ≡ is_settled home.now }
+    requires { names_checked ≡ has_checked_names home.now }
     ensures { MatchResult result
         (λ _. HasOwnNames (record { home = home.now; protocol = protocol.now }))
         (FailsNames (record { home = home.now; protocol = protocol.now })) }
 {
-    if settled {
+    if names_checked {
         return check_roles(protocol);
     }
     if let Err(spot) = check_imports(home) {

@@ -1,89 +1,89 @@
-//! How many nodes a protocol's type will have, and how high it will be: the second pass.
+//! The number of nodes and the height of a protocol's type: the second pass.
 
 ghost use Rattle.std.specs.Prelude.{◌≡◌, ◌||◌, MatchResult};
 ghost use Rattle.scrib_static_checks.specs.Source.{Body};
 ghost use Rattle.scrib_static_checks.specs.SourceView.{statement_of, body_of, blocks_of};
 ghost use Rattle.scrib_static_checks.specs.Elaboration.{continues_in, continues_at, continues_some};
-ghost use Rattle.scrib_static_checks.specs.Table.{protocol_at, IsKnown, IsPartSomewhere, IsStatementSomewhere, AreSomewhere, StopsAt};
-ghost use Rattle.scrib_static_checks.specs.Growth.{StatementGrows, BlockGrows, BlocksGrow};
+ghost use Rattle.scrib_static_checks.specs.Table.{protocol_at, IsConsistent, IsPartSomewhere, IsStatementSomewhere, AreSomewhere, StopsAt};
+ghost use Rattle.scrib_static_checks.specs.SizeFunctions.{StatementHasSize, BlockHasSize, BlocksHaveSize};
 
-use crate::checking::{CheckError, Place};
-use crate::growth::Extent;
+use crate::checking::{CheckContext, CheckError};
+use crate::size_bound::SizeBound;
 use crate::statements::check_call;
 use scrib_parser::tree::{Block, Statement};
 use scrib_types::name::Name;
 
-/// The size of a block.
+/// Returns the size of a block.
 ///
 /// # Errors
 /// Those of the check of a call in it.
 #[cycle(sizes)]
-pub fn size_block(place: &Place, body: &[Statement]) -> Result<Extent, CheckError>
-    requires known { IsKnown place.now }
-    requires part { IsPartSomewhere (protocol_at place.now) (body_of body.now) }
+pub fn size_block(context: &CheckContext, body: &[Statement]) -> Result<SizeBound, CheckError>
+    requires consistent { IsConsistent context.now }
+    requires part { IsPartSomewhere (protocol_at context.now) (body_of body.now) }
     ensures { MatchResult result
-        (BlockGrows place.now.modules.now (protocol_at place.now) (body_of body.now))
-        (StopsAt place.now) }
+        (BlockHasSize context.now.modules.now (protocol_at context.now) (body_of body.now))
+        (StopsAt context.now) }
 {
-    let mut size = Extent::row(0);
+    let mut size = SizeBound::row(0);
     for statement in body {
-        let step = size_statement(place, statement)?;
+        let step = size_statement(context, statement)?;
         size = size.compose(step);
     }
     Ok(size)
 }
 
 #[cycle(sizes)]
-fn size_statement(place: &Place, statement: &Statement) -> Result<Extent, CheckError>
-    requires known { IsKnown place.now }
-    requires part { IsStatementSomewhere (protocol_at place.now) (statement_of statement.now) }
+fn size_statement(context: &CheckContext, statement: &Statement) -> Result<SizeBound, CheckError>
+    requires consistent { IsConsistent context.now }
+    requires part { IsStatementSomewhere (protocol_at context.now) (statement_of statement.now) }
     ensures { MatchResult result
-        (StatementGrows place.now.modules.now (protocol_at place.now) (statement_of statement.now))
-        (StopsAt place.now) }
+        (StatementHasSize context.now.modules.now (protocol_at context.now) (statement_of statement.now))
+        (StopsAt context.now) }
 {
     match statement {
-        Statement::Message { to, .. } => Ok(Extent::row(to.len())),
+        Statement::Message { to, .. } => Ok(SizeBound::row(to.len())),
         Statement::Choice { branches, .. } => {
-            let size = size_branches(place, branches.as_slice())?;
+            let size = size_branches(context, branches.as_slice())?;
             Ok(size)
         }
         Statement::Rec { name, body, .. } => {
-            let size = size_block(place, body.as_slice())?;
+            let size = size_block(context, body.as_slice())?;
             if continues_in(name, body.as_slice()) {
-                Ok(Extent::row(1).compose(size))
+                Ok(SizeBound::row(1).compose(size))
             } else {
                 Ok(size)
             }
         }
-        Statement::Continue { .. } => Ok(Extent::end()),
+        Statement::Continue { .. } => Ok(SizeBound::end()),
         Statement::Do {
             protocol,
             roles,
             spot,
         } => {
-            let called = check_call(place, protocol, roles.as_slice(), *spot)?;
+            let called = check_call(context, protocol, roles.as_slice(), *spot)?;
             Ok(called.size)
         }
     }
 }
 
 #[cycle(sizes)]
-fn size_branches(place: &Place, branches: &[Block]) -> Result<Extent, CheckError>
-    requires known { IsKnown place.now }
-    requires part { AreSomewhere (protocol_at place.now) (blocks_of branches.now) }
+fn size_branches(context: &CheckContext, branches: &[Block]) -> Result<SizeBound, CheckError>
+    requires consistent { IsConsistent context.now }
+    requires part { AreSomewhere (protocol_at context.now) (blocks_of branches.now) }
     ensures { MatchResult result
-        (BlocksGrow place.now.modules.now (protocol_at place.now) (blocks_of branches.now))
-        (StopsAt place.now) }
+        (BlocksHaveSize context.now.modules.now (protocol_at context.now) (blocks_of branches.now))
+        (StopsAt context.now) }
 {
-    let mut size = Extent::end();
+    let mut size = SizeBound::end();
     for branch in branches {
-        let more = size_block(place, branch.body.as_slice())?;
+        let more = size_block(context, branch.body.as_slice())?;
         size = size.or(more);
     }
     Ok(size)
 }
 
-/// Whether a `continue` of the recursion of this name stands in the block.
+/// Returns whether the block contains a `continue` of the recursion of this name.
 #[cycle(continues)]
 #[tactic(auto, using(crate::specs::SourceView::statement_views))]
 pub fn continues_in(name: &Name, body: &[Statement]) -> bool

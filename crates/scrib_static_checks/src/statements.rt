@@ -9,9 +9,9 @@ ghost use Rattle.scrib_static_checks.specs.SourceView.{statement_of, body_of, bl
 ghost use Rattle.scrib_static_checks.specs.Names.{Declaration, called};
 ghost use Rattle.scrib_static_checks.specs.Statements.{BlockKeeps, StatementKeeps, BlocksKeep};
 ghost use Rattle.scrib_static_checks.specs.Faults.{HasStatement, spot_of};
-ghost use Rattle.scrib_static_checks.specs.Table.{shown, round_names, protocol_at, IsKnown, IsPart, AreParts, IsEntry, IsCallKept, StopsAt};
+ghost use Rattle.scrib_static_checks.specs.Table.{shown, enclosing_names, protocol_at, IsConsistent, IsPart, AreParts, IsEntry, IsCallKept, StopsAt};
 
-use crate::checking::{BrokenRule, CheckError, Place, Round, State, Summary};
+use crate::checking::{BrokenRule, CheckContext, CheckError, EnclosingRec, State, Summary};
 use crate::declared::looked_in;
 use crate::fault::FaultKind;
 use crate::names::{are_different, are_roles, has_module, has_role, is_among};
@@ -20,30 +20,31 @@ use scrib_types::name::{Dotted, Name, Role};
 use scrib_types::spot::Spot;
 use std::alloc::{AllocError, Global};
 
-/// Checks the statements of a block, and answers whether it has an exit.
+/// Checks the statements of a block, and returns whether it has an exit.
 ///
 /// # Errors
-/// `Broken` with the first rule that is broken, `Call` at the first call of a protocol that wasn't walked yet,
-/// and `OutOfMemory` where memory was refused.
+/// `Broken` with the first rule that is broken. `Call` at the first call of a protocol that was not walked.
+/// `OutOfMemory` where memory was refused.
 #[cycle(statements)]
 pub fn check_block<'a>(
     alloc: Global,
-    place: &Place,
-    recs: &[Round<'a>],
+    context: &CheckContext,
+    recs: &[EnclosingRec<'a>],
     body: &'a [Statement],
 ) -> Result<bool, CheckError>
-    requires known { IsKnown place.now }
-    requires part { IsPart (protocol_at place.now) (round_names recs.now) (body_of body.now) }
+    requires consistent { IsConsistent context.now }
+    requires part { IsPart (protocol_at context.now) (enclosing_names recs.now) (body_of body.now) }
     ensures { MatchResult result
-        (BlockKeeps place.now.modules.now (protocol_at place.now) (round_names recs.now) true (body_of body.now))
-        (StopsAt place.now) }
+        (BlockKeeps context.now.modules.now (protocol_at context.now) (enclosing_names recs.now) true
+        (body_of body.now))
+        (StopsAt context.now) }
 {
     let mut exits = true;
     for statement in body {
         if !exits {
             return Err(broken(FaultKind::Unreachable, spot_of(statement)));
         }
-        exits = check_statement(alloc, place, recs, statement)?;
+        exits = check_statement(alloc, context, recs, statement)?;
     }
     Ok(exits)
 }
@@ -51,35 +52,37 @@ pub fn check_block<'a>(
 #[cycle(statements)]
 fn check_statement<'a>(
     alloc: Global,
-    place: &Place,
-    recs: &[Round<'a>],
+    context: &CheckContext,
+    recs: &[EnclosingRec<'a>],
     statement: &'a Statement,
 ) -> Result<bool, CheckError>
-    requires known { IsKnown place.now }
-    requires part { (rest : Body) × IsPart (protocol_at place.now) (round_names recs.now) (Then (statement_of statement.now) rest) }
+    requires consistent { IsConsistent context.now }
+    requires part { (rest : Body) × IsPart (protocol_at context.now) (enclosing_names recs.now)
+        (Then (statement_of statement.now) rest) }
     ensures { MatchResult result
-        (StatementKeeps place.now.modules.now (protocol_at place.now) (round_names recs.now) (statement_of statement.now))
-        (StopsAt place.now) }
+        (StatementKeeps context.now.modules.now (protocol_at context.now) (enclosing_names recs.now)
+        (statement_of statement.now))
+        (StopsAt context.now) }
 {
     match statement {
         Statement::Message { from, to, spot, .. } => {
-            check_message(place, from, to.as_slice(), *spot)?;
+            check_message(context, from, to.as_slice(), *spot)?;
             Ok(true)
         }
         Statement::Choice { at, branches, spot } => {
-            if !has_role(place.at.protocol.roles.as_slice(), at) {
+            if !has_role(context.at.protocol.roles.as_slice(), at) {
                 return Err(broken(FaultKind::NoRole, *spot));
             }
-            let exits = check_branches(alloc, place, recs, branches.as_slice())?;
+            let exits = check_branches(alloc, context, recs, branches.as_slice())?;
             Ok(exits)
         }
         Statement::Rec { name, body, .. } => {
             let inner = inside(alloc, recs, name)?;
-            let exits = check_block(alloc, place, &inner, body.as_slice())?;
+            let exits = check_block(alloc, context, &inner, body.as_slice())?;
             Ok(exits)
         }
         Statement::Continue { name, spot } => {
-            if !is_round(recs, name) {
+            if !is_enclosing(recs, name) {
                 return Err(broken(FaultKind::NoRec, *spot));
             }
             Ok(false)
@@ -89,7 +92,7 @@ fn check_statement<'a>(
             roles,
             spot,
         } => {
-            let called = check_call(place, protocol, roles.as_slice(), *spot)?;
+            let called = check_call(context, protocol, roles.as_slice(), *spot)?;
             Ok(called.exits)
         }
     }
@@ -98,32 +101,39 @@ fn check_statement<'a>(
 #[cycle(statements)]
 fn check_branches<'a>(
     alloc: Global,
-    place: &Place,
-    recs: &[Round<'a>],
+    context: &CheckContext,
+    recs: &[EnclosingRec<'a>],
     branches: &'a [Block],
 ) -> Result<bool, CheckError>
-    requires known { IsKnown place.now }
-    requires part { AreParts (protocol_at place.now) (round_names recs.now) (blocks_of branches.now) }
+    requires consistent { IsConsistent context.now }
+    requires part { AreParts (protocol_at context.now) (enclosing_names recs.now) (blocks_of branches.now) }
     ensures { MatchResult result
-        (BlocksKeep place.now.modules.now (protocol_at place.now) (round_names recs.now) (blocks_of branches.now))
-        (StopsAt place.now) }
+        (BlocksKeep context.now.modules.now (protocol_at context.now) (enclosing_names recs.now)
+        (blocks_of branches.now))
+        (StopsAt context.now) }
 {
     let mut exits = false;
     for branch in branches {
-        let leaves = check_block(alloc, place, recs, branch.body.as_slice())?;
+        let leaves = check_block(alloc, context, recs, branch.body.as_slice())?;
         exits |= leaves;
     }
     Ok(exits)
 }
 
-// The rules of a message from this role to these.
-fn check_message(place: &Place, from: &Role, to: &[Role], spot: Spot) -> Result<(), CheckError>
-    requires { (m : Message) × HasStatement (protocol_at place.now) (Sends m from.now to.now spot) }
+// Checks the rules of a message from this role to these.
+fn check_message(
+    context: &CheckContext,
+    from: &Role,
+    to: &[Role],
+    spot: Spot,
+) -> Result<(), CheckError>
+    requires { (m : Message) × HasStatement (protocol_at context.now) (Sends m from.now to.now spot) }
     ensures { MatchResult result
-        (λ _. (recs : List (List ℕ)) (m : Message) → StatementKeeps place.now.modules.now (protocol_at place.now) recs (Sends m from.now to.now spot) true)
-        (StopsAt place.now) }
+        (λ _. (recs : List (List ℕ)) (m : Message)
+        → StatementKeeps context.now.modules.now (protocol_at context.now) recs (Sends m from.now to.now spot) true)
+        (StopsAt context.now) }
 {
-    let roles = place.at.protocol.roles.as_slice();
+    let roles = context.at.protocol.roles.as_slice();
     if !has_role(roles, from) {
         return Err(broken(FaultKind::NoRole, spot));
     }
@@ -136,56 +146,64 @@ fn check_message(place: &Place, from: &Role, to: &[Role], spot: Spot) -> Result<
     Ok(())
 }
 
-/// Checks a call of this path with these roles, and answers what is kept of the protocol that it calls.
+/// Checks a call of this path with these roles, and returns the result of the walk over the called protocol.
 ///
 /// # Errors
-/// `Broken` with the first rule that is broken, and `Call` where that protocol wasn't walked yet.
+/// `Broken` with the first rule that is broken, and `Call` where that protocol was not walked.
 pub fn check_call(
-    place: &Place,
+    context: &CheckContext,
     path: &Dotted,
     roles: &[Role],
     spot: Spot,
 ) -> Result<Summary, CheckError>
-    requires known { IsKnown place.now }
-    requires stands { HasStatement (protocol_at place.now) (Calls path.now roles.now spot) }
+    requires consistent { IsConsistent context.now }
+    requires occurs { HasStatement (protocol_at context.now) (Calls path.now roles.now spot) }
     ensures { MatchResult result
-        (IsCallKept place.now path.now roles.now spot)
-        (StopsAt place.now) }
+        (IsCallKept context.now path.now roles.now spot)
+        (StopsAt context.now) }
 {
-    if !are_roles(roles, place.at.protocol.roles.as_slice()) {
+    if !are_roles(roles, context.at.protocol.roles.as_slice()) {
         return Err(broken(FaultKind::NoRole, spot));
     }
     if !are_different(roles) {
         return Err(broken(FaultKind::RepeatedRole, spot));
     }
-    let to = called(place, path, roles, spot)?;
-    let callee = place.declared[to].protocol;
+    let to = called(context, path, roles, spot)?;
+    let callee = context.declared[to].protocol;
     if roles.len() != callee.roles.len() {
         return Err(broken(FaultKind::WrongCount, spot));
     }
-    match place.states[to] {
+    match context.states[to] {
         State::Walked(summary) => Ok(summary),
         State::Walking => Err(broken(FaultKind::DoCycle, spot)),
         State::Unwalked => Err(CheckError::Call(to)),
     }
 }
 
-// Where the protocol that a call names stands in the table.
-fn called(place: &Place, path: &Dotted, roles: &[Role], spot: Spot) -> Result<usize, CheckError>
-    requires known { IsKnown place.now }
-    requires stands { HasStatement (protocol_at place.now) (Calls path.now roles.now spot) }
+// Returns the index in the table of the protocol that a call names.
+fn called(
+    context: &CheckContext,
+    path: &Dotted,
+    roles: &[Role],
+    spot: Spot,
+) -> Result<usize, CheckError>
+    requires consistent { IsConsistent context.now }
+    requires occurs { HasStatement (protocol_at context.now) (Calls path.now roles.now spot) }
     ensures { MatchResult result
-        (IsEntry place.now path.now)
-        (StopsAt place.now) }
+        (IsEntry context.now path.now)
+        (StopsAt context.now) }
 {
     let names = path.as_slice();
     let last = names.len() - 1;
-    let Some(home) = looked_in(place.at.home, &names[..last]) else {
+    let Some(home) = looked_in(context.at.home, &names[..last]) else {
         return Err(broken(FaultKind::NoModule, spot));
     };
-    match place.directory.find(place.declared, home, &names[last]) {
+    match context
+        .protocol_index
+        .find(context.declared, home, &names[last])
+    {
         Some(k) => Ok(k),
-        None if has_module(place.modules, home) => Err(broken(FaultKind::NoProtocol, spot)),
+        None if has_module(context.modules, home) => Err(broken(FaultKind::NoProtocol, spot)),
         None => Err(broken(FaultKind::NoModule, spot)),
     }
 }
@@ -196,7 +214,7 @@ fn broken(kind: FaultKind, spot: Spot) -> CheckError
     CheckError::Broken(BrokenRule { kind, spot })
 }
 
-// The place of the statement's first byte.
+// Returns the position of the statement's first byte.
 #[tactic(auto, using(crate::proofs::Spots::spots_of))]
 fn spot_of(statement: &Statement) -> Spot
     ensures { result ≡ spot_of (statement_of statement.now) }
@@ -210,25 +228,25 @@ fn spot_of(statement: &Statement) -> Spot
     }
 }
 
-// The recursions round a statement of the block of the one of this name.
+// Returns the recursions around a statement in the block of the recursion of this name.
 fn inside<'a>(
     alloc: Global,
-    recs: &[Round<'a>],
+    recs: &[EnclosingRec<'a>],
     name: &'a Name,
-) -> Result<Vec<Round<'a>>, AllocError>
-    ensures { IfOk result (λ inner. round_names inner.items ≡ name.now ∷ round_names recs.now) }
+) -> Result<Vec<EnclosingRec<'a>>, AllocError>
+    ensures { IfOk result (λ inner. enclosing_names inner.items ≡ name.now ∷ enclosing_names recs.now) }
 {
     let mut inner = Vec::new(alloc);
-    inner.push(Round { name })?;
+    inner.push(EnclosingRec { name })?;
     for rec in recs {
         inner.push(*rec)?;
     }
     Ok(inner)
 }
 
-// Whether a recursion of this name is among these.
-fn is_round(recs: &[Round], name: &Name) -> bool
-    ensures { result ≡ has_role name.now (round_names recs.now) }
+// Returns whether a recursion of this name is among these.
+fn is_enclosing(recs: &[EnclosingRec], name: &Name) -> bool
+    ensures { result ≡ has_role name.now (enclosing_names recs.now) }
 {
     for rec in recs {
         if name.equal(rec.name) {

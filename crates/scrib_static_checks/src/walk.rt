@@ -2,72 +2,80 @@
 
 ghost use Rattle.std.specs.Prelude.{◌≡◌, ◌<◌, List, length, IfOk, IfErr, OnOk, MatchResult};
 ghost use Rattle.std.specs.List.{All};
-ghost use Rattle.scrib_static_checks.specs.Directory.{IsDirectory};
+ghost use Rattle.scrib_static_checks.specs.ProtocolIndex.{IsProtocolIndex};
 ghost use Rattle.scrib_static_checks.specs.Names.{declarations};
-ghost use Rattle.scrib_static_checks.specs.Table.{shown, IsSettledSo};
+ghost use Rattle.scrib_static_checks.specs.Table.{shown, HasCheckedNames};
 ghost use Rattle.scrib_static_checks.specs.Walking.{AreUnwalked, IsEntered, EnterFails, IsFaultIn, IsReady, TopKeeps, TopStops, WasWalked, IsIdle, IsSmall, WalkFails};
 ghost use Rattle.scrib_parser.specs.declared.tree.ModuleTree.{ModuleTree};
 
-use crate::block_shapes::shape_block;
-use crate::checking::{BrokenRule, CheckError, Place, State, Summary};
+use crate::block_effects::block_effect;
+use crate::checking::{BrokenRule, CheckContext, CheckError, State, Summary};
 use crate::declared::Declaration;
-use crate::directory::Directory;
 use crate::fault::{ElaborateFault, Fault, FaultKind};
 use crate::own_names::check_own_names;
+use crate::protocol_index::ProtocolIndex;
 use crate::size::size_block;
 use crate::statements::check_block;
 use scrib_parser::tree::ModuleTree;
 use std::alloc::{AllocError, Global};
 
-/// Walks over the protocol at this place of the table and over each that it calls. What earlier walks found is
-/// kept in the states, and so is what this one finds; after a fault none of it is. The places of the protocols that
-/// it walks are put last into `walked`, each after those that it calls.
+/// Walks over the protocol at this index of the table and over each that it calls. `states` keeps the results of
+/// earlier walks, and is extended by those of this one. After a fault it contains none. The indices of the walked
+/// protocols are added to `walked`, each after those that it calls.
 ///
 /// # Errors
-/// `Broken` with the first rule that is broken, the module's name and the place; `OutOfMemory` where memory was
+/// `Broken` with the first rule that is broken, the module's name and the position. `OutOfMemory` where memory was
 /// refused.
 pub fn walk<'a>(
     alloc: Global,
     modules: &'a [ModuleTree],
     declared: &'a [Declaration<'a>],
-    directory: &'a Directory,
+    protocol_index: &'a ProtocolIndex,
     root: usize,
     states: &mut Vec<State>,
     walked: &mut Vec<usize>,
 ) -> Result<(), ElaborateFault>
     requires all { shown declared.now ≡ declarations modules.now }
-    requires filed { IsDirectory (shown declared.now) directory.now.slots.items }
-    requires settled { All IsSettledSo declared.now }
+    requires indexed { IsProtocolIndex (shown declared.now) protocol_index.now.slots.items }
+    requires names_checked { All HasCheckedNames declared.now }
     requires there { root < length declared.now }
     requires idle { IsIdle modules.now (shown declared.now) states.old.items }
     ensures ok { OnOk result (WasWalked modules.now (shown declared.now) states.new.items root) }
     ensures idle { IsIdle modules.now (shown declared.now) states.new.items }
     ensures fault { IfErr result (WalkFails modules.now (shown declared.now) root) }
 {
-    match walk_from(alloc, modules, declared, directory, root, states, walked) {
+    match walk_from(
+        alloc,
+        modules,
+        declared,
+        protocol_index,
+        root,
+        states,
+        walked,
+    ) {
         Ok(()) => Ok(()),
         Err(fault) => {
-            forget(states);
+            reset(states);
             Err(fault)
         }
     }
 }
 
-// The protocols in which the walk is stand on a stack of their own. Where the check of one meets a call of a
-// protocol that wasn't walked yet, the walk enters that one, and then checks the first again from its beginning.
-// So a protocol is checked once more for each other that is first entered from it.
+// `stack` contains the protocols that the walk has entered and not left. Where a protocol calls one that was not
+// walked, the walk enters that one. Then it checks the first again from its beginning. So a protocol is checked once
+// more for each other that is first entered from it.
 fn walk_from<'a>(
     alloc: Global,
     modules: &'a [ModuleTree],
     declared: &'a [Declaration<'a>],
-    directory: &'a Directory,
+    protocol_index: &'a ProtocolIndex,
     root: usize,
     states: &mut Vec<State>,
     walked: &mut Vec<usize>,
 ) -> Result<(), ElaborateFault>
     requires all { shown declared.now ≡ declarations modules.now }
-    requires filed { IsDirectory (shown declared.now) directory.now.slots.items }
-    requires settled { All IsSettledSo declared.now }
+    requires indexed { IsProtocolIndex (shown declared.now) protocol_index.now.slots.items }
+    requires names_checked { All HasCheckedNames declared.now }
     requires there { root < length declared.now }
     requires idle { IsIdle modules.now (shown declared.now) states.old.items }
     ensures ok { OnOk result (WasWalked modules.now (shown declared.now) states.new.items root) }
@@ -79,7 +87,14 @@ fn walk_from<'a>(
     let first = declared[root];
     enter(alloc, first, root, states, &mut stack)?;
     while let Some(top) = stack.pop() {
-        match check(alloc, &*modules, &*declared, &*directory, &*states, top) {
+        match check(
+            alloc,
+            &*modules,
+            &*declared,
+            &*protocol_index,
+            &*states,
+            top,
+        ) {
             Ok(summary) => {
                 walked.push(top)?;
                 states[top] = State::Walked(summary);
@@ -99,8 +114,8 @@ fn walk_from<'a>(
     Ok(())
 }
 
-// No protocol was walked.
-fn forget(states: &mut [State])
+// Resets all states to `Unwalked`.
+fn reset(states: &mut [State])
     ensures { AreUnwalked (length states.old) states.new }
 {
     for state in states.iter_mut() {
@@ -108,11 +123,11 @@ fn forget(states: &mut [State])
     }
 }
 
-/// How many nodes the type of the protocol at this place will have, after a walk over it: at most 65,536, and at most
-/// 4,096 of them on a path.
+/// Returns the number of nodes of the type of the protocol at this index, after a walk over it. It is at most 65,536,
+/// with at most 4,096 nodes on a path.
 ///
 /// # Errors
-/// `Broken` with `TooLarge` and the place of the protocol; `OutOfMemory` where memory was refused.
+/// `Broken` with `TooLarge` and the position of the protocol. `OutOfMemory` where memory was refused.
 pub fn check_size(
     alloc: Global,
     declared: &[Declaration],
@@ -121,8 +136,10 @@ pub fn check_size(
 ) -> Result<usize, ElaborateFault>
     requires there { root < length declared.now }
     requires stated { root < length states.now }
-    ensures ok { (modules : List ModuleTree) → WasWalked modules (shown declared.now) states.now root → IfOk result (IsSmall modules (shown declared.now) root) }
-    ensures fault { (modules : List ModuleTree) → WasWalked modules (shown declared.now) states.now root → IfErr result (WalkFails modules (shown declared.now) root) }
+    ensures ok { (modules : List ModuleTree) → WasWalked modules (shown declared.now) states.now root
+        → IfOk result (IsSmall modules (shown declared.now) root) }
+    ensures fault { (modules : List ModuleTree) → WasWalked modules (shown declared.now) states.now root
+        → IfErr result (WalkFails modules (shown declared.now) root) }
 {
     match states[root] {
         State::Walked(summary) => {
@@ -142,37 +159,41 @@ pub fn check_size(
     }
 }
 
-// Checks the statements of the protocol at this place, and computes its size and its shape.
+// Checks the statements of the protocol at this index, and computes its size and its effect.
 fn check<'a>(
     alloc: Global,
     modules: &'a [ModuleTree],
     declared: &'a [Declaration<'a>],
-    directory: &'a Directory,
+    protocol_index: &'a ProtocolIndex,
     states: &'a [State],
     top: usize,
 ) -> Result<Summary, CheckError>
     requires ready { IsReady modules.now declared.now states.now top }
-    requires filed { IsDirectory (shown declared.now) directory.now.slots.items }
+    requires indexed { IsProtocolIndex (shown declared.now) protocol_index.now.slots.items }
     requires there { top < length declared.now }
     ensures { MatchResult result
         (TopKeeps modules.now (shown declared.now) top)
         (TopStops modules.now (shown declared.now) states.now top) }
 {
     let at = declared[top];
-    let place = Place {
+    let context = CheckContext {
         modules,
         declared,
-        directory,
+        protocol_index,
         states,
         at,
     };
-    let exits = check_block(alloc, &place, &[], at.protocol.body.as_slice())?;
-    let size = size_block(&place, at.protocol.body.as_slice())?;
-    let shape = shape_block(&place, top, at.protocol.body.as_slice())?;
-    Ok(Summary { exits, size, shape })
+    let exits = check_block(alloc, &context, &[], at.protocol.body.as_slice())?;
+    let size = size_block(&context, at.protocol.body.as_slice())?;
+    let effect = block_effect(&context, top, at.protocol.body.as_slice())?;
+    Ok(Summary {
+        exits,
+        size,
+        effect,
+    })
 }
 
-// Enters a protocol, whose names are checked first.
+// Checks the names of a protocol and enters it.
 fn enter(
     alloc: Global,
     declared: Declaration,
@@ -181,17 +202,18 @@ fn enter(
     stack: &mut Vec<usize>,
 ) -> Result<(), ElaborateFault>
     requires within { to < length states.old.items }
-    requires settled { IsSettledSo declared }
+    requires names_checked { HasCheckedNames declared }
     ensures long { length states.new.items ≡ length states.old.items }
-    ensures ok { OnOk result (IsEntered declared.entry.home.now declared.entry.protocol.now to states.old.items states.new.items stack.old.items stack.new.items) }
+    ensures ok { OnOk result (IsEntered declared.entry.home.now declared.entry.protocol.now to states.old.items
+        states.new.items stack.old.items stack.new.items) }
     ensures fault { IfErr result (EnterFails declared.entry.home.now declared.entry.protocol.now) }
 {
     let Declaration {
         home,
         protocol,
-        settled,
+        names_checked,
     } = declared;
-    if let Err(rule) = check_own_names(home, protocol, settled) {
+    if let Err(rule) = check_own_names(home, protocol, names_checked) {
         return Err(fault_in(alloc, home, rule));
     }
     stack.push(to)?;
@@ -199,7 +221,7 @@ fn enter(
     Ok(())
 }
 
-/// The broken rule as a fault of this module, or `OutOfMemory` where memory for a copy of its name is refused.
+/// Returns the broken rule as a fault of this module, or `OutOfMemory` where memory for a copy of its name was refused.
 pub fn fault_in(alloc: Global, home: &ModuleTree, rule: BrokenRule) -> ElaborateFault
     ensures { IsFaultIn home.now rule result }
 {
@@ -213,7 +235,7 @@ pub fn fault_in(alloc: Global, home: &ModuleTree, rule: BrokenRule) -> Elaborate
     }
 }
 
-/// A state of each protocol before any was walked.
+/// Returns `count` states, all `Unwalked`.
 ///
 /// # Errors
 /// `AllocError` where memory was refused.

@@ -1,4 +1,4 @@
--- Branches one after the other.
+-- Lists of branches.
 use Rattle.std.proofs.Common.{◌≡◌, ℕ, ◌+◌, ◌<◌, List, [], ◌∷◌, ◌++◌, length, get_or, take, refl, sym, ap, ◌∙◌}
 use Rattle.std.proofs.lemmas.List.{take_more}
 use Rattle.scrib_types.specs.declared.message.Message.{Message}
@@ -7,22 +7,22 @@ use Rattle.scrib_types.specs.declared.global.GlobalType.{GlobalType}
 use Rattle.scrib_types.specs.GlobalView.{global_of, global_branches, comm_of}
 use Rattle.scrib_types.specs.Trees.{GlobalTree, Comm, GlobalBranches, NoBranch, Branch}
 use Rattle.scrib_static_checks.specs.Elaboration.{and_branches}
-use Rattle.scrib_type_builder.specs.Lifting.{lifted, branches_lifted}
+use Rattle.scrib_type_builder.specs.Shifting.{shifted, branches_shifted}
 use Rattle.scrib_type_builder.specs.Renaming.{renamed, branches_renamed}
 
 pub branches_append : (bs cs : List (Message × GlobalType)) → global_branches (bs ++ cs) ≡ and_branches (global_branches bs) (global_branches cs)
 branches_append [] cs = refl
 branches_append (b ∷ bs) cs = ap (Branch b.0 (global_of b.1)) (branches_append bs cs)
 
-lifted_and : (under : ℕ) (bs cs : GlobalBranches) → branches_lifted under (and_branches bs cs) ≡ and_branches (branches_lifted under bs) (branches_lifted under cs)
-lifted_and under NoBranch cs = refl
-lifted_and under (Branch m g bs) cs = ap (Branch m (lifted under g)) (lifted_and under bs cs)
+shifted_and : (under : ℕ) (bs cs : GlobalBranches) → branches_shifted under (and_branches bs cs) ≡ and_branches (branches_shifted under bs) (branches_shifted under cs)
+shifted_and under NoBranch cs = refl
+shifted_and under (Branch m g bs) cs = ap (Branch m (shifted under g)) (shifted_and under bs cs)
 
 renamed_and : (f : List ℕ → List ℕ) (bs cs : GlobalBranches) → branches_renamed f (and_branches bs cs) ≡ and_branches (branches_renamed f bs) (branches_renamed f cs)
 renamed_and f NoBranch cs = refl
 renamed_and f (Branch m g bs) cs = ap (Branch m (renamed f g)) (renamed_and f bs cs)
 
--- one branch more, where each type is changed
+-- one more branch, where each type is changed
 changed_more : (change : GlobalTree → GlobalTree) (changes : GlobalBranches → GlobalBranches) → ((bs : GlobalBranches) (m : Message) (g : GlobalTree) → changes (and_branches bs (Branch m g NoBranch)) ≡ and_branches (changes bs) (Branch m (change g) NoBranch))
     → (old new all : List (Message × GlobalType)) (i : ℕ) (b : Message × GlobalType) (m : Message) (g : GlobalType) → i < length all → b ≡ get_or all i b → m ≡ b.0 → global_of g ≡ change (global_of b.1)
     → new ≡ old ++ (m, g) ∷ [] → global_branches old ≡ changes (global_branches (take i all)) → global_branches new ≡ changes (global_branches (take (i + 1) all))
@@ -32,9 +32,9 @@ changed_more change changes last old new all i b m g h is same to push so_far =
     ap global_branches push ∙ branches_append old ((m, g) ∷ []) ∙ (λ j. and_branches (so_far j) (Branch (same j) (to j) NoBranch)) in
     left ∙ sym (ap (λ x. changes (global_branches x)) more ∙ ap changes (branches_append (take i all) (b ∷ [])) ∙ last (global_branches (take i all)) b.0 (global_of b.1))
 
-pub lifted_more : (under : ℕ) (old new all : List (Message × GlobalType)) (i : ℕ) (b : Message × GlobalType) (m : Message) (g : GlobalType) → i < length all → b ≡ get_or all i b → m ≡ b.0 → global_of g ≡ lifted under (global_of b.1)
-    → new ≡ old ++ (m, g) ∷ [] → global_branches old ≡ branches_lifted under (global_branches (take i all)) → global_branches new ≡ branches_lifted under (global_branches (take (i + 1) all))
-lifted_more under = changed_more (lifted under) (branches_lifted under) (λ bs m g. lifted_and under bs (Branch m g NoBranch))
+pub shifted_more : (under : ℕ) (old new all : List (Message × GlobalType)) (i : ℕ) (b : Message × GlobalType) (m : Message) (g : GlobalType) → i < length all → b ≡ get_or all i b → m ≡ b.0 → global_of g ≡ shifted under (global_of b.1)
+    → new ≡ old ++ (m, g) ∷ [] → global_branches old ≡ branches_shifted under (global_branches (take i all)) → global_branches new ≡ branches_shifted under (global_branches (take (i + 1) all))
+shifted_more under = changed_more (shifted under) (branches_shifted under) (λ bs m g. shifted_and under bs (Branch m g NoBranch))
 
 pub renamed_more : (f : List ℕ → List ℕ) (old new all : List (Message × GlobalType)) (i : ℕ) (b : Message × GlobalType) (m : Message) (g : GlobalType) → i < length all → b ≡ get_or all i b → m ≡ b.0 → global_of g ≡ renamed f (global_of b.1)
     → new ≡ old ++ (m, g) ∷ [] → global_branches old ≡ branches_renamed f (global_branches (take i all)) → global_branches new ≡ branches_renamed f (global_branches (take (i + 1) all))

@@ -1,4 +1,4 @@
 mod Branches
-mod Chained
-mod Retold
+mod OperatorIndexLemmas
+mod OriginLemmas
 mod Receivers

@@ -1,4 +1,4 @@
--- Another receiver than the first one.
+-- A receiver that differs from the first one.
 use Rattle.std.proofs.Common.{◌≡◌, ◌≢◌, ℕ, List, Option, Some, None, refl}
 use Rattle.scrib_type_builder.specs.Rules.{IsFirst}
 

@@ -1,5 +1,5 @@
-pub mod Lifting
+pub mod Shifting
 pub mod Renaming
 pub mod Operators
-pub mod Typed
+pub mod BuiltType
 pub mod Rules

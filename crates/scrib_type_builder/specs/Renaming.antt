@@ -1,4 +1,4 @@
--- A global type with other names for its roles (this project's own).
+-- A global type with other roles (this project's own).
 use Rattle.std.specs.Prelude.{ℕ, List, map}
 use Rattle.std.specs.Borrow.{Bor}
 use Rattle.scrib_types.specs.Trees.{GlobalTree, GlobalEnd, GlobalVar, GlobalRec, Comm, Flight, GlobalBranches, NoBranch, Branch}
@@ -15,6 +15,6 @@ abbrev mutual
   branches_renamed f NoBranch = NoBranch
   branches_renamed f (Branch m g bs) = Branch m (renamed f g) (branches_renamed f bs)
 
--- names without where they lie in memory
+-- the values of borrowed names
 abbrev pub named : List (Bor (List ℕ)) → List (List ℕ)
 named rs = map (λ (r : Bor (List ℕ)). r.now) rs

@@ -1,19 +1,19 @@
-//! Why the type of a protocol isn't computed.
+//! The errors of building the type of a protocol.
 
 ghost use Rattle.std.specs.Prelude.{◌≡◌, ◌+◌, IfOk};
 ghost use Rattle.scrib_type_builder.specs.declared.build_error.BuildError.TheVariants.{Broken};
 
+use scrib_parser::tree::ModuleTree;
 use scrib_static_checks::checking::BrokenRule;
 use scrib_static_checks::fault::{ElaborateFault, FaultKind};
-use scrib_parser::tree::ModuleTree;
 use scrib_types::spot::Spot;
 use std::alloc::{AllocError, AllocFailed};
 
-/// Memory was refused, or more recursions stand one in the other than 32 bits count.
+/// Memory was refused, or recursions are nested more deeply than a 32-bit number can count.
 #[derive(Drop)]
 pub struct Refused;
 
-/// Why the type isn't made.
+/// The reason for which a type is not built.
 #[derive(Drop)]
 pub enum BuildError<'a> {
     /// A rule is broken in this module.
@@ -78,11 +78,11 @@ impl<'a, T: Drop> From<AllocFailed<T>> for BuildError<'a> {
     }
 }
 
-/// One recursion more.
+/// Returns the depth plus one.
 ///
 /// # Errors
-/// `Refused` where the number doesn't fit.
-pub fn next(depth: u32) -> Result<u32, Refused>
+/// `Refused` where the number does not fit.
+pub fn next_depth(depth: u32) -> Result<u32, Refused>
     ensures { IfOk result (λ more. more ≡ depth + 1) }
 {
     match depth.checked_add(1) {
@@ -91,7 +91,7 @@ pub fn next(depth: u32) -> Result<u32, Refused>
     }
 }
 
-/// The rule of this kind is broken here.
+/// Returns the error that the rule of this kind is broken at this position.
 pub fn broken<'a>(home: &'a ModuleTree, kind: FaultKind, spot: Spot) -> BuildError<'a>
     ensures { result ≡ Broken home.entry (record { kind = kind; spot = spot }) }
 {

@@ -1,25 +1,24 @@
-//! Branches by their operators, so that a choice of many blocks finds an operator again in a few steps.
+//! An index of branches by operator. It lets a choice of many blocks find a repeated operator quickly.
 
 ghost use Rattle.std.specs.Prelude.{◌≡◌, ◌<◌};
 ghost use Rattle.scrib_types.specs.GlobalView.{global_branches};
 ghost use Rattle.scrib_types.specs.WellFormed.{has_operator, same_operator};
 ghost use Rattle.scrib_type_builder.specs.Operators as spec;
 
-use scrib_static_checks::directory::{empty, mixed};
+use scrib_static_checks::protocol_index::{empty, mixed};
 use scrib_types::global::GlobalType;
 use scrib_types::name::Name;
 use scrib_types::shared_message::SharedMessage;
 use std::alloc::{AllocError, Global};
 
-/// Where at most so many are to be compared with others, each is compared with all.
+/// Up to this number of branches, a new branch is compared with all.
 const FEW: usize = 16;
 
-/// The most slots that there are.
+/// The largest number of slots.
 const MAX_SLOTS: usize = 65_536;
 
-/// Where branches stand, by a number that is mixed of their operators' bytes: each slot holds the place of the last
-/// branch that has it, and each branch that of the one before it in its slot. Where there are no slots, nothing is
-/// filed.
+/// A chained hash table of branches by operator. `latest` has for each slot the last branch that hashes to it.
+/// `earlier` has for each branch the one before it in its slot. Without slots the table is empty.
 #[derive(Drop)]
 pub struct Operators {
     pub latest: Vec<Option<usize>>,
@@ -30,14 +29,14 @@ impl Operators {
     ghost use Rattle.std.specs.Prelude.{◌≡◌, ◌<◌, ◌≤◌, [], length, IfOk, OnOk};
     ghost use Rattle.scrib_types.specs.GlobalView.{global_branches};
     ghost use Rattle.scrib_types.specs.WellFormed.{has_operator};
-    ghost use Rattle.scrib_type_builder.specs.Operators.{AreFiled, AreChained};
+    ghost use Rattle.scrib_type_builder.specs.Operators.{AreIndexed, AreChained};
 
-    /// No branch is filed yet, of about so many that are to be compared with others. There are no slots for a few.
+    /// Returns an empty index for about `count` branches. For few branches it has no slots.
     ///
     /// # Errors
     /// `AllocError` where memory was refused.
     pub fn new(alloc: Global, count: usize) -> Result<Operators, AllocError>
-        ensures { IfOk result (λ o. AreFiled [] o.latest.items o.earlier.items) }
+        ensures { IfOk result (λ o. AreIndexed [] o.latest.items o.earlier.items) }
     {
         let earlier = Vec::new(alloc);
         if count <= FEW {
@@ -49,13 +48,14 @@ impl Operators {
         Ok(Operators { latest, earlier })
     }
 
-    /// Files the branches that came after those that are filed.
+    /// Adds the branches that come after those in the index.
     ///
     /// # Errors
     /// `AllocError` where memory was refused.
-    pub fn file(&mut self, branches: &[(SharedMessage, GlobalType)]) -> Result<(), AllocError>
-        requires { 0 < length self.old.latest.items → AreChained branches.now (length self.old.earlier.items) self.old.latest.items self.old.earlier.items }
-        ensures { OnOk result (AreFiled branches.now self.new.latest.items self.new.earlier.items) }
+    pub fn add_new(&mut self, branches: &[(SharedMessage, GlobalType)]) -> Result<(), AllocError>
+        requires { 0 < length self.old.latest.items
+            → AreChained branches.now (length self.old.earlier.items) self.old.latest.items self.old.earlier.items }
+        ensures { OnOk result (AreIndexed branches.now self.new.latest.items self.new.earlier.items) }
     {
         let size = self.latest.len();
         if size == 0 {
@@ -70,9 +70,9 @@ impl Operators {
         Ok(())
     }
 
-    /// Whether one of these branches, which are filed, has this operator.
+    /// Returns whether one of these branches, all of which are in the index, has this operator.
     pub fn has(&self, op: &Option<Name>, branches: &[(SharedMessage, GlobalType)]) -> bool
-        requires { AreFiled branches.now self.now.latest.items self.now.earlier.items }
+        requires { AreIndexed branches.now self.now.latest.items self.now.earlier.items }
         ensures { result ≡ has_operator op.now (global_branches branches.now) }
     {
         let size = self.latest.len();
@@ -92,7 +92,7 @@ impl Operators {
     }
 }
 
-// The slot, of so many, of an operator.
+// Returns the slot, out of `size`, of an operator.
 fn slot_of(size: usize, op: &Option<Name>) -> usize
     requires { 0 < size }
     ensures slot { result ≡ spec.slot_of size op.now }

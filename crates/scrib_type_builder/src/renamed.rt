@@ -1,4 +1,4 @@
-//! Global types with other names for their roles.
+//! Global types with other roles.
 
 ghost use Rattle.std.specs.Prelude.{◌≡◌, IfOk};
 ghost use Rattle.scrib_types.specs.GlobalView.{global_of, global_branches};
@@ -7,13 +7,13 @@ ghost use Rattle.scrib_static_checks.specs.Elaboration.{given_for};
 ghost use Rattle.scrib_type_builder.specs.Renaming.{renamed, branches_renamed, named};
 
 use scrib_parser::tree::RoleDeclaration;
+use scrib_types::containers::{Boxed, Items};
 use scrib_types::global::GlobalType;
 use scrib_types::name::Role;
-use scrib_types::plain::{Boxed, Items};
 use scrib_types::shared_message::SharedMessage;
 use std::alloc::{AllocError, Global};
 
-/// The role that is given for this one, by the place at which it is declared; the role itself where it isn't.
+/// Returns the role that is passed for this declared role, by position, or the role itself if it is not declared.
 pub fn given_for<'a>(declared: &[RoleDeclaration], given: &[&'a Role], role: &'a Role) -> &'a Role
     ensures { result.now ≡ given_for (role_names declared.now) (named given.now) role.now }
 {
@@ -28,7 +28,7 @@ pub fn given_for<'a>(declared: &[RoleDeclaration], given: &[&'a Role], role: &'a
     role
 }
 
-/// The type with the role that is given for each declared one in its place.
+/// Returns the type with each declared role replaced by the role that is passed for it.
 ///
 /// # Errors
 /// `AllocError` where memory was refused.
@@ -40,7 +40,8 @@ pub fn renamed(
     given: &[&Role],
     global: &GlobalType,
 ) -> Result<GlobalType, AllocError>
-    ensures { IfOk result (λ g. global_of g ≡ renamed (given_for (role_names declared.now) (named given.now)) (global_of global.now)) }
+    ensures { IfOk result (λ g. global_of g ≡ renamed (given_for (role_names declared.now) (named given.now))
+        (global_of global.now)) }
 {
     match global {
         GlobalType::End => Ok(GlobalType::End),
@@ -66,7 +67,8 @@ fn renamed_branches(
     given: &[&Role],
     branches: &[(SharedMessage, GlobalType)],
 ) -> Result<Vec<(SharedMessage, GlobalType)>, AllocError>
-    ensures { IfOk result (λ more. global_branches more.items ≡ branches_renamed (given_for (role_names declared.now) (named given.now)) (global_branches branches.now)) }
+    ensures { IfOk result (λ more. global_branches more.items
+        ≡ branches_renamed (given_for (role_names declared.now) (named given.now)) (global_branches branches.now)) }
 {
     let mut more = Vec::with_capacity(alloc, branches.len())?;
     for (message, global) in branches {

@@ -6,8 +6,8 @@ use Rattle.scrib_static_checks.specs.SourceView.{blocks_of}
 use Rattle.scrib_static_checks.specs.Elaboration.{Under}
 use Rattle.scrib_elaborate.specs.Scope.{scope_of}
 use Rattle.scrib_elaborate.specs.Typing.{made_of, StopsAhead}
-use Rattle.scrib_elaborate.proofs.Ahead.{stack_ahead}
-use Rattle.scrib_elaborate.proofs.Joined.{choosing_begins, no_block, next_block, no_item, first_item}
+use Rattle.scrib_elaborate.proofs.FaultPrefixes.{stack_ahead}
+use Rattle.scrib_elaborate.proofs.ChoiceSteps.{choosing_begins, no_block, next_block, no_item, first_item}
 use Rattle.scrib_elaborate.proofs.choices.choose.Goals as goal
 
 pub returns-in_default : goal.returns-in_default

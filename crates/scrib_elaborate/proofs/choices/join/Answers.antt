@@ -2,7 +2,7 @@ use Rattle.std.proofs.Common.{◌≡◌, ◌+◌, ◌-◌, length, Option, Some,
 use Rattle.std.specs.List.{slice_get}
 use Rattle.std.specs.Option.{option_copied}
 use Rattle.std.proofs.lemmas.Option.{slice_get_within}
-use Rattle.scrib_type_builder.specs.declared.built.Typed.{Typed}
+use Rattle.scrib_type_builder.specs.declared.built_type.BuiltType.{BuiltType}
 use Rattle.std.proofs.lemmas.Result.{MatchResult-weaker}
 use Rattle.scrib_elaborate.specs.declared.tasks.Choosing.{Choosing}
 use Rattle.scrib_static_checks.specs.Source.{Then, Chooses}
@@ -10,8 +10,8 @@ use Rattle.scrib_static_checks.specs.SourceView.{blocks_of}
 use Rattle.scrib_static_checks.specs.Elaboration.{Under}
 use Rattle.scrib_elaborate.specs.Scope.{scope_of}
 use Rattle.scrib_elaborate.specs.Typing.{made_of, IsChoosing}
-use Rattle.scrib_elaborate.proofs.Ahead.{stack_ahead, stops_ahead}
-use Rattle.scrib_elaborate.proofs.Joined.{block_typed, next_block, none_left, one_left}
+use Rattle.scrib_elaborate.proofs.FaultPrefixes.{stack_ahead, stops_ahead}
+use Rattle.scrib_elaborate.proofs.ChoiceSteps.{block_typed, next_block, none_left, one_left}
 use Rattle.scrib_elaborate.proofs.choices.join.Goals as goal
 
 pub overflow_sub-left : goal.overflow_sub-left
@@ -50,7 +50,7 @@ returns c = λ modules target s.
     } in
     let x = block_typed modules target (reverse old) choosing types c.args.typed c.in_ok-push.ensures.items s in
     let n = one_left c.at-next.result choosing.follows c.in-Some.next c.in-Some.follows (sym c.zip.ensures ∙ c.in-Some.is) in
-    let P : Option Typed → Type 0 = λ f. IsChoosing modules target (reverse old) (scope_of choosing.scope) choosing.scope.depth choosing.chooser.now branches choosing.spot f types in
+    let P : Option BuiltType → Type 0 = λ f. IsChoosing modules target (reverse old) (scope_of choosing.scope) choosing.scope.depth choosing.chooser.now branches choosing.spot f types in
     let y = subst P n.1 x in
     let long : c.len.result ≡ length types = omega (arith, c.push.new.self.ok.0) in
     let there : slice_get branches (length types) ≡ Some c.in-Some.next.now = ap (slice_get branches) (sym long) ∙ sym c.at-next.ensures ∙ ap option_copied n.0 in

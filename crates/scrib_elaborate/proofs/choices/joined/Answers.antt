@@ -10,23 +10,23 @@ use Rattle.scrib_static_checks.specs.SourceView.{blocks_of}
 use Rattle.scrib_static_checks.specs.Elaboration.{role_in, Under}
 use Rattle.scrib_elaborate.specs.Scope.{scope_of}
 use Rattle.scrib_elaborate.specs.Typing.{TypingFails}
-use Rattle.scrib_elaborate.proofs.Joined.{IsOwnOrigin, AreJoined, next_joined, next_marked, next_fails, joined_put, joined_none}
+use Rattle.scrib_elaborate.proofs.ChoiceSteps.{IsOwnOrigin, AreJoined, next_joined, next_marked, next_fails, joined_put, joined_none}
 use Rattle.scrib_elaborate.specs.Sites.{has_several}
 use Rattle.scrib_elaborate.proofs.Branches.{several_many, several_few}
-use Rattle.scrib_elaborate.proofs.Zipped.{zip_turn, zip_end}
+use Rattle.scrib_elaborate.proofs.ZipLemmas.{zip_turn, zip_end}
 use Rattle.scrib_elaborate.proofs.choices.joined.Goals.{then-several, else-several}
 use Rattle.scrib_elaborate.proofs.choices.joined.Goals as goal
 
-pub returns-in_err-add : goal.returns-in_err-add
-returns-in_err-add c = λ modules target tasks follows x long.
-    let p = err_from_is_err_and c.from_residual-in_err-add.result c.from_residual-in_err-add.ensures.1 in
+pub returns-in_err-add_branch : goal.returns-in_err-add_branch
+returns-in_err-add_branch c = λ modules target tasks follows x long.
+    let p = err_from_is_err_and c.from_residual-in_err-add_branch.result c.from_residual-in_err-add_branch.ensures.1 in
     let scope = c.args.scope.now in
     let begun = c.into_iter-block-iterator.result in
     let same = c.into_iter-block-iterator.ensures.into_iter_gives in
     let first : iter_rest (zip_first begun) ≡ c.args.blocks.now = ap (λ z. iter_rest (zip_first z)) same ∙ ap iter_rest c.zip-block-items.ensures.first ∙ c.iter.ensures.rest in
     let second : into_iter_items (zip_second begun) ≡ c.args.types.items = ap (λ z. into_iter_items (zip_second z)) same ∙ c.zip-block-items.ensures.second.0 in
     let at = zip_turn c.args.blocks.now c.args.types.items c.loop-block.yielded begun c.loop-block.block-iterator c.next.new.self c.next.result (c.in-Some.block, c.in-Some.typed) first second c.loop-block.yielded_by c.in-Some.is c.next.ensures.steps in
-    rw (p.1, p.2) (next_fails modules target tasks (scope_of scope) scope.depth c.args.given.now c.args.blocks.now (length c.loop-block.yielded) c.in-Some.block.now c.args.spot follows c.args.types.items c.in-Some.typed c.role-chooser.result.now c.loop-block.so_far.receiver (global_branches c.loop-block.so_far.branches) x at.0 at.1 c.role-chooser.ensures (c.loop-block.invariant.joined modules target tasks follows x).0 c.in_err-add.field-0.0 c.in_err-add.ensures.fault)
+    rw (p.1, p.2) (next_fails modules target tasks (scope_of scope) scope.depth c.args.given.now c.args.blocks.now (length c.loop-block.yielded) c.in-Some.block.now c.args.spot follows c.args.types.items c.in-Some.typed c.role-chooser.result.now c.loop-block.so_far.receiver (global_branches c.loop-block.so_far.branches) x at.0 at.1 c.role-chooser.ensures (c.loop-block.invariant.joined modules target tasks follows x).0 c.in_err-add_branch.field-0.0 c.in_err-add_branch.ensures.fault)
 
 pub loop-block-preserved : goal.loop-block-preserved
 loop-block-preserved c = record {
@@ -38,8 +38,8 @@ loop-block-preserved c = record {
       let second : into_iter_items (zip_second begun) ≡ c.args.types.items = ap (λ z. into_iter_items (zip_second z)) same ∙ c.zip-block-items.ensures.second.0 in
       let at = zip_turn c.args.blocks.now c.args.types.items c.loop-block.yielded begun c.loop-block.block-iterator c.next.new.self c.next.result (c.in-Some.block, c.in-Some.typed) first second c.loop-block.yielded_by c.in-Some.is c.next.ensures.steps in
       let before = c.loop-block.invariant.joined modules target tasks follows x in
-      (next_joined modules target tasks (scope_of scope) scope.depth c.args.given.now c.args.blocks.now (length c.loop-block.yielded) _ c.in-Some.block.now c.args.spot follows c.args.types.items c.in-Some.typed c.role-chooser.result.now c.loop-block.so_far.receiver c.add.new.so_far.receiver (global_branches c.loop-block.so_far.branches) (global_branches c.add.new.so_far.branches) x (length_push c.loop-block.yielded (c.in-Some.block, c.in-Some.typed)) at.0 at.1 c.role-chooser.ensures before.0 c.in_ok-add.ensures.ok, next_marked modules target tasks (scope_of scope) scope.depth c.args.given.now c.args.blocks.now (length c.loop-block.yielded) c.in-Some.block.now c.args.spot follows c.args.types.items c.in-Some.typed c.role-chooser.result.now c.loop-block.so_far.receiver c.add.new.so_far.receiver (global_branches c.loop-block.so_far.branches) (global_branches c.add.new.so_far.branches) c.loop-block.so_far.origins.items c.add.new.so_far.origins.items x at.0 at.1 c.in_ok-add.ensures.ok c.in_ok-add.ensures.origins before.1);
-  filed = c.in_ok-add.ensures.filed;
+      (next_joined modules target tasks (scope_of scope) scope.depth c.args.given.now c.args.blocks.now (length c.loop-block.yielded) _ c.in-Some.block.now c.args.spot follows c.args.types.items c.in-Some.typed c.role-chooser.result.now c.loop-block.so_far.receiver c.add_branch.new.so_far.receiver (global_branches c.loop-block.so_far.branches) (global_branches c.add_branch.new.so_far.branches) x (length_push c.loop-block.yielded (c.in-Some.block, c.in-Some.typed)) at.0 at.1 c.role-chooser.ensures before.0 c.in_ok-add_branch.ensures.ok, next_marked modules target tasks (scope_of scope) scope.depth c.args.given.now c.args.blocks.now (length c.loop-block.yielded) c.in-Some.block.now c.args.spot follows c.args.types.items c.in-Some.typed c.role-chooser.result.now c.loop-block.so_far.receiver c.add_branch.new.so_far.receiver (global_branches c.loop-block.so_far.branches) (global_branches c.add_branch.new.so_far.branches) c.loop-block.so_far.origins.items c.add_branch.new.so_far.origins.items x at.0 at.1 c.in_ok-add_branch.ensures.ok c.in_ok-add_branch.ensures.origins before.1);
+  indexed = c.in_ok-add_branch.ensures.indexed;
 }
 
 pub returns-in_default : goal.returns-in_default

@@ -1,5 +1,5 @@
 use Rattle.std.proofs.Common.{sym, ◌∙◌}
-use Rattle.scrib_elaborate.proofs.Answered.{absent_fails, no_module, no_protocol}
+use Rattle.scrib_elaborate.proofs.FaultLemmas.{absent_fails, no_module, no_protocol}
 use Rattle.scrib_elaborate.proofs.elaborate.find_root.Goals as goal
 
 pub returns-in-None : goal.returns-in-None

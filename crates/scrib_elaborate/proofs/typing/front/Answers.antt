@@ -9,7 +9,7 @@ use Rattle.scrib_elaborate.proofs.typing.front.Goals as goal
 
 pub returns : goal.returns
 returns c = λ target e kept s.
-    let ms = c.args.program.now.modules.now in
+    let ms = c.args.context.now.modules.now in
     let old = c.args.tasks.now.items in
     let scope = c.args.scope in
     let again = c.in_ok-again.again in
@@ -21,7 +21,7 @@ returns c = λ target e kept s.
 
 pub returns-in_default : goal.returns-in_default
 returns-in_default c = λ target e kept s.
-    let ms = c.args.program.now.modules.now in
+    let ms = c.args.context.now.modules.now in
     let old = reverse c.args.tasks.now.items in
     let statements = c.in_ok-typed.statements in
     front_done ms target old c.args.scope statements (made_of c.in_ok-typed.typed) (nil_from_length statements.now c.in_default.ensures.cases) (c.in_ok-typed.ensures ms target e old kept s)

@@ -1,16 +1,16 @@
 use Rattle.std.proofs.Common.{map, reverse, sym, ap, ◌∙◌, subst}
 use Rattle.scrib_static_checks.specs.Source.{Chooses, Repeats, Calls}
 use Rattle.scrib_static_checks.specs.SourceView.{statement_of, body_of, blocks_of, message_of, choice_of, rec_of, continue_of, do_of}
-use Rattle.scrib_static_checks.specs.Elaboration.{role_in, sent}
+use Rattle.scrib_static_checks.specs.Elaboration.{role_in, prefix_message}
 use Rattle.scrib_elaborate.specs.Scope.{scope_of}
-use Rattle.scrib_type_builder.specs.Typed.{none_told}
+use Rattle.scrib_type_builder.specs.BuiltType.{add_no_origins}
 use Rattle.scrib_elaborate.specs.Typing.{made_of, IsBefore}
-use Rattle.scrib_elaborate.proofs.Steps.{message_put, variable_put, round_found, callee_found}
+use Rattle.scrib_elaborate.proofs.Steps.{message_put, variable_put, enclosing_found, callee_found}
 use Rattle.scrib_elaborate.proofs.typing.prepend.Goals as goal
 
 pub returns-in-Message : goal.returns-in-Message
 returns-in-Message c = λ target e kept b.
-    let ms = c.args.program.now.modules.now in
+    let ms = c.args.context.now.modules.now in
     let ts = reverse c.args.tasks.now.items in
     let sc = scope_of c.args.scope in
     let n = c.args.scope.depth in
@@ -18,11 +18,11 @@ returns-in-Message c = λ target e kept b.
     let m = c.in-Message in
     let same = ap statement_of m.is ∙ message_of m.message m.from m.to m.spot in
     let at = subst (λ s. IsBefore ms target ts sc n s g) same b in
-    message_put ms target ts sc n m.message m.from m.to m.spot g (made_of c.in_ok-sent-in-Message.sent) (c.in_ok-sent-in-Message.ensures.global ∙ ap (λ qs. sent m.message (role_in sc m.from) (map (role_in sc) qs) g.type) c.as_slice.ensures) (c.in_ok-sent-in-Message.ensures.origins ∙ ap (λ qs. none_told (map (role_in sc) qs) g.origins) c.as_slice.ensures) at
+    message_put ms target ts sc n m.message m.from m.to m.spot g (made_of c.in_ok-longer-in-Message.longer) (c.in_ok-longer-in-Message.ensures.global ∙ ap (λ qs. prefix_message m.message (role_in sc m.from) (map (role_in sc) qs) g.type) c.as_slice.ensures) (c.in_ok-longer-in-Message.ensures.origins ∙ ap (λ qs. add_no_origins (map (role_in sc) qs) g.origins) c.as_slice.ensures) at
 
 pub returns-in-Choice : goal.returns-in-Choice
 returns-in-Choice c = λ target e kept b.
-    let ms = c.args.program.now.modules.now in
+    let ms = c.args.context.now.modules.now in
     let ts = reverse c.args.tasks.now.items in
     let sc = scope_of c.args.scope in
     let n = c.args.scope.depth in
@@ -33,7 +33,7 @@ returns-in-Choice c = λ target e kept b.
 
 pub returns-in-Rec : goal.returns-in-Rec
 returns-in-Rec c = λ target e kept b.
-    let ms = c.args.program.now.modules.now in
+    let ms = c.args.context.now.modules.now in
     let ts = reverse c.args.tasks.now.items in
     let sc = scope_of c.args.scope in
     let n = c.args.scope.depth in
@@ -44,7 +44,7 @@ returns-in-Rec c = λ target e kept b.
 
 pub returns-in-Continue : goal.returns-in-Continue
 returns-in-Continue c = λ target e kept b.
-    let ms = c.args.program.now.modules.now in
+    let ms = c.args.context.now.modules.now in
     let ts = reverse c.args.tasks.now.items in
     let sc = scope_of c.args.scope in
     let n = c.args.scope.depth in
@@ -52,13 +52,13 @@ returns-in-Continue c = λ target e kept b.
     let m = c.in-Continue in
     let same = ap statement_of m.is ∙ continue_of m.name m.spot in
     let at = subst (λ s. IsBefore ms target ts sc n s g) same b in
-    let r = round_found ms target ts sc n m.name m.spot g e kept at in
-    let v = c.again.ensures r.level r.there r.low in
-    variable_put ms target ts sc n v.level v.index m.name m.spot g (made_of c.again.result) v.there v.deep v.is v.alone at
+    let r = enclosing_found ms target ts sc n m.name m.spot g e kept at in
+    let v = c.continued_variable.ensures r.level r.there r.low in
+    variable_put ms target ts sc n v.level v.index m.name m.spot g (made_of c.continued_variable.result) v.there v.deep v.is v.alone at
 
 pub returns-in_default : goal.returns-in_default
 returns-in_default c = λ target e kept b.
-    let ms = c.args.program.now.modules.now in
+    let ms = c.args.context.now.modules.now in
     let ts = reverse c.args.tasks.now.items in
     let sc = scope_of c.args.scope in
     let n = c.args.scope.depth in
@@ -69,11 +69,11 @@ returns-in_default c = λ target e kept b.
 
 pub returns : goal.returns
 returns c = λ target e kept b.
-    let ms = c.args.program.now.modules.now in
+    let ms = c.args.context.now.modules.now in
     let ts = reverse c.args.tasks.now.items in
     let sc = scope_of c.args.scope in
     let n = c.args.scope.depth in
     let g = made_of c.args.typed in
     let m = c.in-Do in
     let same = ap statement_of m.is ∙ do_of m.protocol m.roles m.spot ∙ ap (λ qs. Calls m.protocol qs m.spot) (sym c.as_slice-in-Do.ensures) in
-    c.in_ok-entered-in-Do.ensures target e m.protocol m.spot kept c.in-Some.ensures.called c.in-Some.ensures.place c.in-Some.ensures.shape (subst (λ s. IsBefore ms target ts sc n s g) same b)
+    c.in_ok-entered-in-Do.ensures target e m.protocol m.spot kept c.in-Some.ensures.called c.in-Some.ensures.place c.in-Some.ensures.effect (subst (λ s. IsBefore ms target ts sc n s g) same b)

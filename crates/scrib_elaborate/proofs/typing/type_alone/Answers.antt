@@ -4,5 +4,5 @@ use Rattle.scrib_elaborate.proofs.typing.type_alone.Goals as goal
 
 pub returns-in-Ok : goal.returns-in-Ok
 returns-in-Ok c =
-    let program = c.args.program.now in
-    c.in-Ok.ensures (whole_target (declaration_of program.root)) c.requires.kept.0 c.requires.kept.1 (c.in_ok-tasks.ensures program.modules.now)
+    let context = c.args.context.now in
+    c.in-Ok.ensures (whole_target (declaration_of context.root)) c.requires.kept.0 c.requires.kept.1 (c.in_ok-tasks.ensures context.modules.now)

@@ -1,7 +1,7 @@
 use Rattle.std.proofs.Common.{IfErr, subst}
 use Rattle.scrib_elaborate.specs.Meaning.{meaning_of}
 use Rattle.scrib_project.specs.Faults.{IsOfSite}
-use Rattle.scrib_project.proofs.Placing.{fault_placed}
+use Rattle.scrib_project.proofs.PositionLemmas.{fault_placed}
 use Rattle.scrib_project.proofs.project.project.Goals as goal
 
 pub returns-clause-place : goal.returns-clause-place

@@ -5,9 +5,9 @@ use Rattle.scrib_types.specs.Agreement.{Agreement}
 use Rattle.scrib_types.specs.Meaning.{agreement_of}
 use Rattle.scrib_record.specs.Configurations.{IsDue}
 use Rattle.scrib_record.specs.Versions.{meaning_of}
-use Rattle.scrib_record.proofs.Advancing.{place_is, seat_read, at_read, formed}
-use Rattle.scrib_record.proofs.Options.{act_of, allowed_nobody, allowed_absent, allowed_present}
-use Rattle.scrib_record.proofs.Standing.{state_within}
+use Rattle.scrib_record.proofs.AdvanceLemmas.{place_is, role_state_read, at_read, formed}
+use Rattle.scrib_record.proofs.NextActions.{act_of, allowed_nobody, allowed_absent, allowed_present}
+use Rattle.scrib_record.proofs.ConfigurationLemmas.{state_within}
 use Rattle.scrib_record.proofs.choices.choices.Goals as goal
 
 pub returns-in_default : goal.returns-in_default
@@ -16,16 +16,16 @@ returns-in_default c log st p =
     let roles = c.roles-roles.ensures.roles ∙ ap (λ (x : Agreement). x.roles) c.protocol.ensures in
     allowed_nobody a log c.args.role.now c.new.result (place_is c.roles-roles.result.now a.roles c.args.role.now c.place_of.result _ roles c.place_of.ensures c.in_default.is) c.new.ensures
 
-pub returns-then-not-seat : goal.returns-then-not-seat
-returns-then-not-seat c log st p =
+pub returns-then-not-role_state : goal.returns-then-not-role_state
+returns-then-not-role_state c log st p =
     let v = c.args.version.now in
     let a = meaning_of v in
     let conf = c.args.configuration.now in
     let roles = c.roles-roles.ensures.roles ∙ ap (λ (x : Agreement). x.roles) c.protocol.ensures in
     let place = place_is c.roles-roles.result.now a.roles c.args.role.now c.place_of.result _ roles c.place_of.ensures c.in-Some.is in
-    let seat = seat_read a v.machines log conf c.args.role.now c.in-Some.at c.index-seat.result.now st place c.index-seat.ensures in
+    let role_state = role_state_read a v.machines log conf c.args.role.now c.in-Some.at c.index-role_state.result.now st place c.index-role_state.ensures in
     let only : c.push.new.self ≡ Join ∷ [] = c.in_ok-push.ensures.ok ∙ ap (λ (ys : List Action). ys ++ Join ∷ []) c.new-only.ensures in
-    allowed_absent a v.machines log conf c.args.role.now c.in-Some.at c.index-seat.result.now c.push.new.self st place seat c.if-not-seat.true p only
+    allowed_absent a v.machines log conf c.args.role.now c.in-Some.at c.index-role_state.result.now c.push.new.self st place role_state c.if-not-role_state.true p only
 
 pub edges-edges-requires : goal.edges-edges-requires
 edges-edges-requires c =
@@ -35,8 +35,8 @@ edges-edges-requires c =
     let log = c.requires.0 in
     let roles = c.roles-roles.ensures.roles ∙ ap (λ (x : Agreement). x.roles) c.protocol.ensures in
     let place = place_is c.roles-roles.result.now a.roles c.args.role.now c.place_of.result _ roles c.place_of.ensures c.in-Some.is in
-    state_within a v.machines log c.args.role.now c.in-Some.at c.index-seat.result.now c.index-machines-at.result
-    (at_read a v.machines c.machines.result.now log conf c.args.role.now c.in-Some.at c.index-seat.result.now c.index-machines-at.result c.machines.ensures.follow c.requires.1 place c.index-seat.ensures c.machines.ensures.machines c.index-machines-at.is)
+    state_within a v.machines log c.args.role.now c.in-Some.at c.index-role_state.result.now c.index-machines-at.result
+    (at_read a v.machines c.machines.result.now log conf c.args.role.now c.in-Some.at c.index-role_state.result.now c.index-machines-at.result c.machines.ensures.follow c.requires.1 place c.index-role_state.ensures c.machines.ensures.machines c.index-machines-at.is)
 
 pub returns : goal.returns
 returns c log st p =
@@ -45,8 +45,8 @@ returns c log st p =
     let conf = c.args.configuration.now in
     let roles = c.roles-roles.ensures.roles ∙ ap (λ (x : Agreement). x.roles) c.protocol.ensures in
     let place = place_is c.roles-roles.result.now a.roles c.args.role.now c.place_of.result _ roles c.place_of.ensures c.in-Some.is in
-    let at = at_read a v.machines c.machines.result.now log conf c.args.role.now c.in-Some.at c.index-seat.result.now c.index-machines-at.result c.machines.ensures.follow st place c.index-seat.ensures c.machines.ensures.machines c.index-machines-at.is in
+    let at = at_read a v.machines c.machines.result.now log conf c.args.role.now c.in-Some.at c.index-role_state.result.now c.index-machines-at.result c.machines.ensures.follow st place c.index-role_state.ensures c.machines.ensures.machines c.index-machines-at.is in
     let list = c.in_ok-list.list in
     let exact = subst (λ (rs : List _). (act : Action) → Contains list act ↔ (Contains (map act_of c.edges-edges.result.now) act × IsDue rs conf.queues c.in-Some.at act)) roles c.in_ok-list.ensures.exact in
-    allowed_present a v.machines log conf c.args.role.now c.in-Some.at c.index-seat.result.now c.index-machines-at.result c.edges-edges.result.now list st at c.if-not-seat.false c.edges-edges.ensures.here
+    allowed_present a v.machines log conf c.args.role.now c.in-Some.at c.index-role_state.result.now c.index-machines-at.result c.edges-edges.result.now list st at c.if-not-role_state.false c.edges-edges.ensures.here
     (formed (agreement_of c.protocol.result.now) a c.protocol.ensures c.roles-roles.ensures.valid) p c.in_ok-list.ensures.sorted exact

@@ -3,7 +3,7 @@ use Rattle.std.proofs.lemmas.Grind.{common_steps}
 use Rattle.scrib_types.specs.GlobalView.{global_of, global_branches, var_of, rec_of, comm_of}
 use Rattle.scrib_types.specs.Flat.{number_bytes, name_bytes}
 use Rattle.scrib_record.specs.Flat.{global_bytes, branches_bytes}
-use Rattle.scrib_record.proofs.Written.{tagged, tagged_three}
+use Rattle.scrib_record.proofs.ByteLemmas.{tagged, tagged_three}
 use Rattle.scrib_record.proofs.flat.+flat.Goals as goal
 
 pub push_global-returns-in_ok-push_number-in-Var : goal.push_global-returns-in_ok-push_number-in-Var

@@ -3,7 +3,7 @@ use Rattle.scrib_types.specs.declared.event.Action.{Action}
 use Rattle.scrib_types.specs.Judgement.{AreAllowed}
 use Rattle.scrib_types.specs.Logs.{subject_of}
 use Rattle.scrib_record.specs.Versions.{meaning_of}
-use Rattle.scrib_record.proofs.VerdictsKept.{offends_there, throughout_all}
+use Rattle.scrib_record.proofs.VerdictLemmas.{offends_there, throughout_all}
 use Rattle.scrib_record.proofs.judging.offence.Goals as goal
 
 pub returns : goal.returns

@@ -1,6 +1,6 @@
 use Rattle.std.proofs.Common.{arith}
 use Rattle.std.proofs.lemmas.Grind.{common_steps}
-use Rattle.scrib_record.proofs.Compiled.{zip_more}
+use Rattle.scrib_record.proofs.MachineLemmas.{zip_more}
 use Rattle.scrib_record.proofs.machines.compile_all.Goals as goal
 
 pub loop-local-preserved : goal.loop-local-preserved

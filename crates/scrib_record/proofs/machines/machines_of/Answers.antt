@@ -2,7 +2,7 @@ use Rattle.std.proofs.Common.{List, subst, sym}
 use Rattle.scrib_types.specs.Meaning.{agreement_of}
 use Rattle.scrib_machine.specs.declared.machine.Edge.{Edge}
 use Rattle.scrib_record.specs.RoleMachines.{AreMachinesOf}
-use Rattle.scrib_record.proofs.Compiled.{all_compilable, are_machines}
+use Rattle.scrib_record.proofs.MachineLemmas.{all_compilable, are_machines}
 use Rattle.scrib_record.proofs.machines.machines_of.Goals as goal
 
 pub compile_all-requires : goal.compile_all-requires

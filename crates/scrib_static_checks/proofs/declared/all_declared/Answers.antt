@@ -11,7 +11,7 @@ loop-i-preserved c =
     record {
       shown =
           c.in_ok-declare.ensures.all ∙ ap (λ xs. xs ++ declared_in home home.protocols) c.loop-i.invariant.shown ∙ sym (declarations-more c.args.modules.now c.loop-i.i home (subst (λ ms. c.loop-i.i < length ms) same c.loop-i-test.true) (c.home-item.is ∙ ap (λ ms. get_or ms c.loop-i.i home) same));
-      settled = c.in_ok-declare.ensures.settled;
+      names_checked = c.in_ok-declare.ensures.names_checked;
     }
 
 pub declare-requires-clause-so : goal.declare-requires-clause-so

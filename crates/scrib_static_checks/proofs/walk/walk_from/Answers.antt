@@ -1,7 +1,7 @@
 use Rattle.std.proofs.Common.{◌<◌, length, sym, subst, rules, arith}
 use Rattle.std.proofs.lemmas.Grind.{common_steps}
 use Rattle.std.proofs.lemmas.Result.{err_from_is_err_and}
-use Rattle.scrib_static_checks.specs.Table.{IsSettledSo}
+use Rattle.scrib_static_checks.specs.Table.{HasCheckedNames}
 use Rattle.scrib_static_checks.specs.Walking.{IsReady}
 use Rattle.scrib_static_checks.proofs.Walks.{states_long, ready, top_within, begins_from, leaves_from, next_of, enters_from, less_entering, less_leaving, first_fails, next_fails, broken_fails, ended_from, idle_from, no_items}
 use Rattle.scrib_static_checks.proofs.walk.walk_from.Goals as goal
@@ -55,10 +55,10 @@ enter-requires-in-Err-Call-clause-within c =
     let n = next_of c.args.modules.now c.args.declared.now c.args.root c.loop-top.states.items c.deref.result.now c.loop-top.stack.items c.pop.new.self.items c.in-Some.top c.in-Err-Call.to c.in-Err-Call.field-0 c.in-Some.ensures.items c.loop-top.invariant c.deref.ensures.value c.in-Err-Call.field-0-is c.in-Err-Call.ensures in
     n.stated
 
-pub enter-requires-in-Err-Call-clause-settled : goal.enter-requires-in-Err-Call-clause-settled
-enter-requires-in-Err-Call-clause-settled c =
+pub enter-requires-in-Err-Call-clause-names_checked : goal.enter-requires-in-Err-Call-clause-names_checked
+enter-requires-in-Err-Call-clause-names_checked c =
     let n = next_of c.args.modules.now c.args.declared.now c.args.root c.loop-top.states.items c.deref.result.now c.loop-top.stack.items c.pop.new.self.items c.in-Some.top c.in-Err-Call.to c.in-Err-Call.field-0 c.in-Some.ensures.items c.loop-top.invariant c.deref.ensures.value c.in-Err-Call.field-0-is c.in-Err-Call.ensures in
-    subst IsSettledSo (sym c.index-declared-to.is) (c.requires.settled c.in-Err-Call.to c.index-declared-to.result n.within)
+    subst HasCheckedNames (sym c.index-declared-to.is) (c.requires.names_checked c.in-Err-Call.to c.index-declared-to.result n.within)
 
 pub loop-top-smaller : goal.loop-top-smaller
 loop-top-smaller c =

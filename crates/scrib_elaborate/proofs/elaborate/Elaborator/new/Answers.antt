@@ -1,8 +1,8 @@
 use Rattle.std.proofs.Common.{◌≡◌, length, rules, subst, sym}
-use Rattle.scrib_static_checks.specs.Directory.{IsDirectory}
+use Rattle.scrib_static_checks.specs.ProtocolIndex.{IsProtocolIndex}
 use Rattle.scrib_static_checks.specs.Table.{shown}
 use Rattle.scrib_static_checks.specs.Walking.{AreUnwalked}
-use Rattle.scrib_elaborate.proofs.TypesKept.{none_known}
+use Rattle.scrib_elaborate.proofs.MemoLemmas.{empty_is_memo}
 use Rattle.scrib_static_checks.proofs.Walks.{idle_before}
 use Rattle.scrib_elaborate.proofs.elaborate.Elaborator.new.Goals as goal
 
@@ -14,8 +14,8 @@ invariant_of-result c =
     let fresh = subst (λ n. AreUnwalked n c.in_ok-states.states.items) long c.in_ok-states.ensures in
     record {
       all = c.in_ok-declared.ensures.all;
-      filed = subst (λ xs. IsDirectory xs c.directory.result.now.slots.items) (sym c.in_ok-declared.ensures.all) c.directory.ensures;
-      settled = c.in_ok-declared.ensures.settled;
+      indexed = subst (λ xs. IsProtocolIndex xs c.protocol_index.result.now.slots.items) (sym c.in_ok-declared.ensures.all) c.protocol_index.ensures;
+      names_checked = c.in_ok-declared.ensures.names_checked;
       idle = idle_before ms ds c.in_ok-states.states.items fresh;
-      known = none_known ms (shown ds) c.in_ok-known.known.items c.in_ok-known.ensures;
+      memo = empty_is_memo ms (shown ds) c.in_ok-memo.memo.items c.in_ok-memo.ensures;
     }

@@ -1,10 +1,10 @@
 use Rattle.std.proofs.Common.{◌∙◌, refl, subst, sym}
 use Rattle.scrib_types.specs.declared.event.Action.TheVariants.{Receives}
 use Rattle.scrib_queues.specs.Channels.{Channels}
-use Rattle.scrib_record.specs.Configurations.{Stands}
+use Rattle.scrib_record.specs.Configurations.{LeadsTo}
 use Rattle.scrib_record.specs.Versions.{meaning_of}
-use Rattle.scrib_record.proofs.Advancing.{at_read, machine_read, formed, act_nobody, receive_nowhere, receive_early, receive_stuck, receives_on, was_taken, was_left}
-use Rattle.scrib_record.proofs.Standing.{state_within}
+use Rattle.scrib_record.proofs.AdvanceLemmas.{at_read, machine_read, formed, act_nobody, receive_nowhere, receive_early, receive_stuck, receives_on, was_taken, was_left}
+use Rattle.scrib_record.proofs.ConfigurationLemmas.{state_within}
 use Rattle.scrib_record.proofs.configuration.Configuration.receive.Goals as goal
 
 pub returns-in_default : goal.returns-in_default
@@ -47,7 +47,7 @@ returns-then-not-receive c log st =
     let q = sym c.place_of-2.ensures.place ∙ c.in-Some-place_of.is in
     let left = was_left c.args.message.now c.receive.result _ _ c.if-not-receive.true c.receive.ensures.taken in (
       receive_early a v.machines log c.args.self.now c.args.from.now c.args.to.now c.args.message.now c.in-Some.p c.in-Some-place_of.q st p q (λ h. left h.0 h.1),
-      subst (λ (x : Channels). Stands a v.machines log record { seats = c.args.self.now.seats; queues = x }) (sym (c.receive.ensures.same c.if-not-receive.true)) st,
+      subst (λ (x : Channels). LeadsTo a v.machines log record { role_states = c.args.self.now.role_states; queues = x }) (sym (c.receive.ensures.same c.if-not-receive.true)) st,
     )
 
 pub returns : goal.returns

@@ -1,8 +1,8 @@
 use Rattle.std.proofs.Common.{◌∙◌, sym, refl}
 use Rattle.scrib_types.specs.declared.event.Action.TheVariants.{Sends}
 use Rattle.scrib_record.specs.Versions.{meaning_of}
-use Rattle.scrib_record.proofs.Advancing.{at_read, machine_read, formed, act_nobody, send_nowhere, send_stuck, sends_on}
-use Rattle.scrib_record.proofs.Standing.{state_within}
+use Rattle.scrib_record.proofs.AdvanceLemmas.{at_read, machine_read, formed, act_nobody, send_nowhere, send_stuck, sends_on}
+use Rattle.scrib_record.proofs.ConfigurationLemmas.{state_within}
 use Rattle.scrib_record.proofs.configuration.Configuration.send.Goals as goal
 
 pub returns-in_default-clause-ok : goal.returns-in_default-clause-ok

@@ -4,8 +4,8 @@ use Rattle.scrib_types.specs.declared.event.Verdict.{Verdict}
 use Rattle.scrib_record.specs.Configurations.{IsNext}
 use Rattle.scrib_record.specs.Judgings.{Keeps}
 use Rattle.scrib_record.specs.Versions.{meaning_of}
-use Rattle.scrib_record.proofs.VerdictsKept.{kept_whole, keeps_next}
-use Rattle.scrib_record.proofs.Stepping.{on_err, judged_on, kept_again}
+use Rattle.scrib_record.proofs.VerdictLemmas.{kept_whole, keeps_next}
+use Rattle.scrib_record.proofs.JudgingLemmas.{on_err, judged_on, kept_again}
 use Rattle.scrib_record.proofs.judging.Judging.note.Goals as goal
 
 pub returns-then-branch-clause-ok : goal.returns-then-branch-clause-ok
@@ -36,8 +36,8 @@ returns-in_err-verdict-2-clause-kept c =
     let next = subst (λ (b : Bool). IsNext (meaning_of v) v.machines log c.args.event.now c.advance.new.self b) c.if-branch.false (c.in_ok-advance.ensures.ok log w.0) in
     on_err _ _ (kept_again log self _ v c.requires.kept c.requires.whole c.in-Some-Permitted.is-0 c.in-Some-Permitted.is-1 refl refl refl refl next.1)
 
-pub returns-in_err-told-clause-kept : goal.returns-in_err-told-clause-kept
-returns-in_err-told-clause-kept c =
+pub returns-in_err-copied-clause-kept : goal.returns-in_err-copied-clause-kept
+returns-in_err-copied-clause-kept c =
     let v = c.in-Some-Permitted.version in
     let self = c.args.self.now in
     let log = c.args.log.now in
@@ -52,4 +52,4 @@ returns-clause-ok c =
     let log = c.args.log.now in
     let w = kept_whole log self v c.requires.kept c.in-Some-Permitted.is-0 c.in-Some-Permitted.is-1 c.requires.whole in
     let next = subst (λ (b : Bool). IsNext (meaning_of v) v.machines log c.args.event.now c.advance.new.self b) c.if-branch.false (c.in_ok-advance.ensures.ok log w.0) in
-    judged_on log c.args.event.now self _ _ v refl c.in-Some-Permitted.is-0 refl refl (c.in_ok-verdict-2.ensures log next.1 w.1 refl next.0 _) (ap Judged c.in_ok-told.ensures)
+    judged_on log c.args.event.now self _ _ v refl c.in-Some-Permitted.is-0 refl refl (c.in_ok-verdict-2.ensures log next.1 w.1 refl next.0 _) (ap Judged c.in_ok-copied.ensures)

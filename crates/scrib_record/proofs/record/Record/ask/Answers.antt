@@ -2,7 +2,7 @@ use Rattle.std.proofs.Common.{◌∙◌, not, ap, subst}
 use Rattle.std.specs.Option.{option_copied}
 use Rattle.scrib_types.specs.declared.event.Verdict.TheVariants.{Permitted, Offence}
 use Rattle.scrib_record.specs.Stale.{Recorded}
-use Rattle.scrib_record.proofs.Telling.{is_fresh, fresh_at, not_stale, Answers, answered}
+use Rattle.scrib_record.proofs.ResultLemmas.{is_fresh, fresh_at, not_stale, Answers, answered}
 use Rattle.scrib_record.proofs.record.Record.ask.Goals as goal
 
 pub returns-in-Permitted : goal.returns-in-Permitted

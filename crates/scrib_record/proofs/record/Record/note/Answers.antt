@@ -8,10 +8,10 @@ use Rattle.scrib_types.specs.declared.event.Told.TheVariants.{Stale}
 use Rattle.scrib_record.specs.Stale.{Recorded, is_final, is_present}
 use Rattle.scrib_record.specs.Told.{IsNoted}
 use Rattle.scrib_record.specs.Judgings.{IsJudgedOn}
-use Rattle.scrib_record.proofs.Telling.{is_fresh, fresh_at, now_stale, not_stale, noted_stale, noted_fresh, seen}
+use Rattle.scrib_record.proofs.ResultLemmas.{is_fresh, fresh_at, now_stale, not_stale, noted_stale, noted_fresh, seen}
 use Rattle.scrib_record.proofs.record.Record.note.Goals as goal
 
--- what stands before the seam of a log and one event more, and the event behind it
+-- the log before one more event, and that event
 front : (log grown : List Event) (e : Event) (n : ℕ) → grown ≡ log ++ e ∷ [] → n ≡ length log → take n grown ≡ log
 front log grown e n same long = rw (same, long) (take-append_seam log (e ∷ []))
 
@@ -60,7 +60,7 @@ pub returns-in-Ok-clause-ok : goal.returns-in-Ok-clause-ok
 returns-in-Ok-clause-ok c =
     let present = option_copied c.args.present in
     let r = c.self.inside in
-    let told = c.in-Ok.told in
+    let told = c.in-Ok.verdict in
     let items = c.in_ok-reserve.ensures.items in
     let long = c.len-events.ensures ∙ r.log.ok.0 in
     let test = c.is_stale.ensures ∙ ap not (fresh_at present r.log.items r.judging c.len-events.result long) in

@@ -2,7 +2,7 @@ use Rattle.std.proofs.Common.{◌≡◌, ◌∙◌, ap}
 use Rattle.scrib_record.specs.declared.version.Edition.{Edition}
 use Rattle.scrib_record.specs.Flat.{flat_form}
 use Rattle.scrib_record.specs.Versions.{meaning_of}
-use Rattle.scrib_record.proofs.ReadOnce.{same_by_form}
+use Rattle.scrib_record.proofs.FlatFormLemmas.{same_by_form}
 use Rattle.scrib_record.proofs.version.Version.same_meaning.Goals as goal
 
 pub returns : goal.returns

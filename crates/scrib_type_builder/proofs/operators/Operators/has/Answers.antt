@@ -4,7 +4,7 @@ use Rattle.scrib_types.specs.declared.message.Message.{Message}
 use Rattle.scrib_types.specs.WellFormed.{same_operator}
 use Rattle.scrib_type_builder.specs.Operators.{slot_of}
 use Rattle.scrib_static_checks.proofs.Slots.{read_at}
-use Rattle.scrib_type_builder.proofs.Chained.{IsPassed, place_of, has_one, next_within, walk_begins, walk_goes, walk_shrinks, walk_ends}
+use Rattle.scrib_type_builder.proofs.OperatorIndexLemmas.{IsPassed, place_of, has_one, next_within, walk_begins, walk_goes, walk_shrinks, walk_ends}
 use Rattle.scrib_type_builder.proofs.operators.Operators.has.Goals as goal
 
 pub loop-next-init : goal.loop-next-init

@@ -1,5 +1,5 @@
 use Rattle.std.proofs.Common.{length}
-use Rattle.scrib_type_builder.proofs.Chained.{IsPassed, place_of}
+use Rattle.scrib_type_builder.proofs.OperatorIndexLemmas.{IsPassed, place_of}
 use Rattle.scrib_type_builder.proofs.operators.Operators.has.Given as goal
 
 abbrev pub invariant-loop-next : goal.invariant-loop-next

@@ -1,5 +1,0 @@
-use Rattle.scrib_elaborate.proofs.Forgotten.{idle_without}
-use Rattle.scrib_elaborate.proofs.known.forget.Goals as goal
-
-pub returns-then-place-len : goal.returns-then-place-len
-returns-then-place-len c ms ds idle = idle_without ms ds c.args.place c.args.states.now.items idle

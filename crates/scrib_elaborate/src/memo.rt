@@ -1,0 +1,146 @@
+//! The types of protocols in isolation, as if nothing followed them, each of which is built once.
+
+ghost use Rattle.std.specs.Prelude.{◌≡◌, List, Bool, slice_get, Some, IfOk, IfErr, IfSome};
+ghost use Rattle.scrib_parser.specs.declared.tree.ModuleTree.{ModuleTree as ParsedTree};
+ghost use Rattle.scrib_static_checks.specs.Names.{Declaration as PureDeclaration};
+ghost use Rattle.scrib_static_checks.specs.Walking.{IsIdle};
+ghost use Rattle.scrib_static_checks.specs.Statements.{KeepsRules};
+ghost use Rattle.scrib_static_checks.specs.Elaboration.{start_of};
+ghost use Rattle.scrib_static_checks.specs.Table.{shown, declaration_of};
+ghost use Rattle.scrib_elaborate.specs.Typing.{made_of, Makes, IsMemo, IsEmptyMemo, IsAloneAt, IsTable, IsTabled, TypingFails};
+
+use crate::tasks::ElaborationContext;
+use crate::typing::{type_alone, type_of_root};
+use scrib_parser::tree::ModuleTree;
+use scrib_static_checks::checking::State;
+use scrib_static_checks::declared::Declaration;
+use scrib_static_checks::protocol_index::ProtocolIndex;
+use scrib_type_builder::build_error::{BuildError, Refused};
+use scrib_type_builder::built_type::BuiltType;
+use std::alloc::{AllocError, Global};
+
+// The largest number of nodes of a type that is kept. A larger one is built where it is needed, so that the types of
+// protocols that call one another do not fill the memory.
+const MAX_MEMOIZED: usize = 4_096;
+
+/// Returns a memo for `count` protocols, without a type.
+///
+/// # Errors
+/// `AllocError` where memory was refused.
+pub fn empty_memo<'a>(alloc: Global, count: usize) -> Result<Vec<Option<BuiltType<'a>>>, AllocError>
+    ensures { IfOk result (λ memo. IsEmptyMemo memo.items) }
+{
+    let mut memo = Vec::with_capacity(alloc, count)?;
+    for _ in 0..count {
+        memo.push_reserved(None);
+    }
+    Ok(memo)
+}
+
+/// Builds the types of the protocols at these indices in isolation, in this order, each after those that it calls. It
+/// ends at the first one that has no type, or a large one. The fault of such a protocol is reported at a call of it.
+///
+/// # Errors
+/// `Refused` where memory was refused.
+pub fn memoize<'a>(
+    alloc: Global,
+    modules: &'a [ModuleTree],
+    declared: &[Declaration<'a>],
+    protocol_index: &ProtocolIndex,
+    states: &[State],
+    places: &[usize],
+    memo: &mut Vec<Option<BuiltType<'a>>>,
+) -> Result<(), Refused>
+    requires { IsTabled modules.now declared.now protocol_index.now.slots.items states.now memo.old.items }
+    ensures { IsMemo modules.now (shown declared.now) memo.new.items }
+{
+    for place in places {
+        let Some(typed) = alone(
+            alloc,
+            modules,
+            declared,
+            protocol_index,
+            states,
+            &*memo,
+            *place,
+        )?
+        else {
+            return Ok(());
+        };
+        if *place < memo.len() {
+            memo[*place] = Some(typed);
+        }
+    }
+    Ok(())
+}
+
+// Returns the type of the protocol at this index in isolation, if it has one of at most 4,096 nodes.
+fn alone<'a>(
+    alloc: Global,
+    modules: &'a [ModuleTree],
+    declared: &[Declaration<'a>],
+    protocol_index: &ProtocolIndex,
+    states: &[State],
+    memo: &[Option<BuiltType<'a>>],
+    place: usize,
+) -> Result<Option<BuiltType<'a>>, Refused>
+    requires { IsTabled modules.now declared.now protocol_index.now.slots.items states.now memo.now }
+    ensures { IfOk result (λ o. IfSome o (λ t. IsAloneAt modules.now (shown declared.now) place (made_of t))) }
+{
+    let Some(root) = declared.get(place) else {
+        return Ok(None);
+    };
+    let Some(State::Walked(summary)) = states.get(place) else {
+        return Ok(None);
+    };
+    if summary.size.nodes.base >= MAX_MEMOIZED {
+        return Ok(None);
+    }
+    let context = ElaborationContext {
+        modules,
+        declared,
+        protocol_index,
+        states,
+        memo,
+        root: *root,
+    };
+    type_alone(alloc, &context)
+}
+
+/// Removes the walk over the requested protocol, at index `place` and with `nodes` nodes. It does so if its type is
+/// small enough and not in the memo. A protocol that calls it then walks it again, and its type is added to the memo.
+/// If no other protocol calls it, no second type is built. This only saves time: a type that is not in the memo is
+/// built for each protocol that reaches it.
+pub fn remove_walk(states: &mut Vec<State>, memo: &[Option<BuiltType>], place: usize, nodes: usize)
+    ensures { (modules : List ParsedTree) → (ds : List PureDeclaration) → IsIdle modules ds states.old.items
+        → IsIdle modules ds states.new.items }
+{
+    let is_memoized = matches!(memo.get(place), Some(Some(_)));
+    if nodes <= MAX_MEMOIZED && !is_memoized && place < states.len() {
+        states[place] = State::Unwalked;
+    }
+}
+
+/// Returns the type of the requested protocol, at index `place` of the table. It is a copy of the one in the memo, or a
+/// new one.
+///
+/// # Errors
+/// Those of `type_of_root`.
+pub fn memoized_type<'a>(
+    alloc: Global,
+    context: &ElaborationContext<'a, '_>,
+    place: usize,
+) -> Result<BuiltType<'a>, BuildError<'a>>
+    requires table { IsTable context.now }
+    requires there { slice_get (shown context.now.declared.now) place ≡ Some (declaration_of context.now.root) }
+    requires kept { (e : Bool) × KeepsRules context.now.modules.now (declaration_of context.now.root) e }
+    ensures ok { IfOk result (λ t. Makes context.now.modules.now 0 (start_of (declaration_of context.now.root))
+        (made_of t)) }
+    ensures fault { IfErr result (TypingFails context.now.modules.now (declaration_of context.now.root)) }
+{
+    if let Some(Some(typed)) = context.memo.get(place) {
+        let typed = typed.copy(alloc)?;
+        return Ok(typed);
+    }
+    type_of_root(alloc, context)
+}

@@ -1,6 +1,0 @@
-use Rattle.scrib_static_checks.specs.Directory.{IsFilled}
-use Rattle.scrib_static_checks.specs.Table.{shown}
-use Rattle.scrib_static_checks.proofs.directory.Directory.new.Given as goal
-
-abbrev pub invariant-loop-place : goal.invariant-loop-place
-invariant-loop-place l = IsFilled (shown l.declared) l.size l.place l.slots.items

@@ -1,0 +1,109 @@
+//! How an index of declared protocols is filled and searched. Its slots have a file of their own, because
+//! specifications refer to them.
+
+ghost use Rattle.std.specs.Prelude.{◌≡◌, ◌<◌, ◌^◌, length, IsTrue};
+ghost use Rattle.scrib_static_checks.specs.ProtocolIndex as spec;
+ghost use Rattle.scrib_static_checks.specs.Table.{shown, IsNamed};
+
+use crate::declared::{Declaration, find};
+use crate::names::same_name;
+use crate::protocol_index::{ProtocolIndex, empty, slot_of};
+use scrib_parser::tree::ModuleTree;
+use scrib_types::name::{Dotted, Name};
+use std::alloc::{AllocError, Global};
+
+/// The largest number of protocols that an index has slots for.
+const MAX_INDEXED: usize = 65_536;
+
+/// The slots of a new index for each protocol. An index with fewer than half as many is crowded.
+const SLOTS_EACH: usize = 32;
+
+impl ProtocolIndex {
+    ghost use Rattle.std.specs.Prelude.{◌≡◌, ◌++◌, List, None, IfOk, MatchOption};
+    ghost use Rattle.scrib_static_checks.specs.ProtocolIndex as spec;
+    ghost use Rattle.scrib_static_checks.specs.Names.{Declaration as PureDeclaration, declared_in, is_called, first_where};
+    ghost use Rattle.scrib_static_checks.specs.Table.{shown, IsFound};
+
+    /// Returns the index of these protocols.
+    ///
+    /// # Errors
+    /// `AllocError` where memory was refused.
+    pub fn new(alloc: Global, declared: &[Declaration]) -> Result<ProtocolIndex, AllocError>
+        ensures { IfOk result (λ d. spec.IsIndexed (shown declared.now) d.slots.items d.indexed) }
+    {
+        let size = declared.len().min(MAX_INDEXED) * SLOTS_EACH + 1;
+        let mut slots = empty(alloc, size)?;
+        for (place, one) in declared.iter().enumerate() {
+            take_slot(&mut slots, place, &one.home.name, &one.protocol.name);
+        }
+        let indexed = declared.len();
+        Ok(ProtocolIndex { slots, indexed })
+    }
+
+    /// Adds the protocols of one more module after the others. If the slots would be crowded, the index has none
+    /// afterwards.
+    pub fn add(&mut self, home: &ModuleTree)
+        ensures { (ds : List PureDeclaration) → spec.IsIndexed ds self.old.slots.items self.old.indexed
+            → spec.IsIndexed (ds ++ declared_in home.now home.now.protocols) self.new.slots.items self.new.indexed }
+    {
+        let protocols = home.protocols.as_slice();
+        let room = self.slots.len() / (SLOTS_EACH / 2);
+        if room < self.indexed || room - self.indexed < protocols.len() {
+            self.slots.clear();
+            return;
+        }
+        for (i, protocol) in protocols.iter().enumerate() {
+            take_slot(
+                &mut self.slots,
+                self.indexed + i,
+                &home.name,
+                &protocol.name,
+            );
+        }
+        self.indexed += protocols.len();
+    }
+
+    /// Returns the index of the protocol of this name, in the module of this name, among the declared protocols.
+    pub fn find(&self, declared: &[Declaration], home: &Dotted, name: &Name) -> Option<usize>
+        requires { spec.IsProtocolIndex (shown declared.now) self.now.slots.items }
+        ensures { MatchOption result
+            (first_where (is_called home.now name.now) (shown declared.now) ≡ None)
+            (IsFound (shown declared.now) (is_called home.now name.now)) }
+    {
+        let size = self.slots.len();
+        if size == 0 {
+            return find(declared, home, name);
+        }
+        let slot = slot_of(size, home, name);
+        if let Some(place) = self.slots[slot] {
+            if is_named(declared, place, home, name) {
+                return Some(place);
+            }
+        }
+        find(declared, home, name)
+    }
+}
+
+// Writes the index of this protocol to its slot, if the slot is free.
+fn take_slot(slots: &mut Vec<Option<usize>>, place: usize, home: &Dotted, name: &Name)
+    requires some { 0 < length slots.old.items }
+    requires few { length slots.old.items < 2 ^ 48 }
+    ensures long { length slots.new.items ≡ length slots.old.items }
+    ensures taken { spec.IsTaken slots.old.items place (spec.slot_of (length slots.old.items) home.now name.now)
+        slots.new.items }
+{
+    let slot = slot_of(slots.len(), home, name);
+    if slots[slot].is_none() {
+        slots[slot] = Some(place);
+    }
+}
+
+// Returns whether the declared protocol at this index has this name, in the module of this name.
+fn is_named(declared: &[Declaration], place: usize, home: &Dotted, name: &Name) -> bool
+    ensures { IsTrue result → IsNamed (shown declared.now) place home.now name.now }
+{
+    match declared.get(place) {
+        Some(one) => name.equal(&one.protocol.name) && same_name(home, &one.home.name),
+        None => false,
+    }
+}

@@ -1,0 +1,27 @@
+use Rattle.std.proofs.Common.{◌≡◌, ◌+◌, ◌<◌, Some, length, get_or, set, sym, subst, ◌∙◌, arith}
+use Rattle.std.proofs.lemmas.List.{length-set}
+use Rattle.std.proofs.lemmas.Option.{slice_get-get_or}
+use Rattle.scrib_type_builder.specs.Operators.{slot_of, AreChained}
+use Rattle.scrib_static_checks.proofs.Slots.{read_at}
+use Rattle.scrib_type_builder.proofs.OperatorIndexLemmas.{next_chained}
+use Rattle.scrib_type_builder.proofs.operators.Operators.add_new.Goals as goal
+
+pub loop-place-preserved : goal.loop-place-preserved
+loop-place-preserved c =
+    let inv = c.loop-place.invariant in
+    let latest = c.loop-place.self.latest.items in
+    let earlier = c.loop-place.self.earlier.items in
+    let bs = c.args.branches.now in
+    let place = c.loop-place.place in
+    let b = get_or bs place c.index-branches-place.result in
+    let slot = c.slot_of-slot.result in
+    let o = c.index-earlier.result.now in
+    let within : slot < length latest = omega (arith, c.slot_of-slot.ensures.within, inv.long) in
+    let here = slice_get-get_or bs place c.index-branches-place.result c.loop-place-test.true in
+    let there = read_at latest slot o within c.index-earlier.ensures in
+    let at : slot ≡ slot_of (length latest) b.0.op = c.slot_of-slot.ensures.slot ∙ (λ i. slot_of (sym inv.long i) (c.get.ensures i).op) in
+    record {
+      long = length-set latest slot (Some place) ∙ inv.long;
+      some = inv.some;
+      chained = subst (λ es. AreChained bs (place + 1) (set latest slot (Some place)) es) (sym c.in_ok-push.ensures.items) (next_chained bs place slot b o latest earlier here at there inv.chained);
+    }
