@@ -11,12 +11,12 @@ use Rattle.scrib_types.specs.Permitted.{IsPermitted}
 use Rattle.scrib_types.specs.WellFormed.{is_protocol}
 use Rattle.scrib_global.specs.Simulation.{IsJoinedRun}
 use Rattle.scrib_global.proofs.Runs.{simulates}
-use Rattle.scrib_global.proofs.Judged.{permitted_front}
+use Rattle.scrib_global.proofs.JudgementLemmas.{permitted_front}
 use Rattle.scrib_library.specs.Modules.{MeansProtocols}
 use Rattle.scrib_core.specs.World.{World, Conversation}
 use Rattle.scrib_core.specs.Runs.{IsPermittedRun, PermitsRuns}
 
--- a log that offends isn't permitted
+-- a log with an offence is not permitted
 not_offending : (a : Agreement) (log : List Event) (place : ℕ) (role : List ℕ) (allowed : List Action) → IsOffence a log place role allowed → IsPermitted a log → ⊥
 not_offending a log place role allowed h p =
     let front = h.before ++ h.event ∷ [] in

@@ -18,43 +18,44 @@ use Rattle.scrib_core.specs.declared.reply.Refusal.TheVariants.{AlreadyOpen, Unk
 use Rattle.scrib_core.specs.declared.reply.Reply.{Reply}
 use Rattle.scrib_core.specs.declared.reply.Reply.TheVariants as reply
 use Rattle.scrib_core.specs.World.{World, Conversation, conversation, nothing_under, Follows, Refuses, NeedsMemory}
-use Rattle.scrib_core.specs.Marks.{Marks, unmarked, Fresh, IsStale, Remarks}
+use Rattle.scrib_core.specs.Marks.{Marks, unmarked, Fresh, IsStale, UpdatesMarks}
 
--- the world, and which of its conversations are marked
+-- the world, and the mark of each of its conversations
 pub record State : Type 0 where
   pub world : World
   pub marks : Marks
 
--- nothing is there but the profile, and nothing is marked
+-- the state of a new monitor with this profile: no module, no conversation, no mark
 abbrev pub initial_under : Profile → State
 initial_under p = record { world = nothing_under p; marks = unmarked }
 
--- as a new monitor begins
+-- the state of a new monitor with the plain profile
 abbrev pub initial : State
 initial = initial_under Plain
 
--- a fresh verdict: that of judging the conversation's whole log afresh against what its protocol means now
+-- the verdict is that of judging the conversation's whole log against its protocol's present meaning
 abbrev pub IsFresh : List ModuleTree → Conversation → Verdict → Type 0
 IsFresh modules c v = (o : Option Agreement) × IsMeaning modules c.name o × Judges o c.log v
 
--- what is told of a conversation: stale exactly where it is marked, and else a fresh verdict
-abbrev pub IsTold : State → ℕ → Told → Type 0
-IsTold s id tell.Stale = IsStale (s.marks id)
-IsTold s id (tell.Judged v) =
+-- the verdict is reported as stale exactly if the conversation is marked, and is fresh otherwise
+abbrev pub IsReported : State → ℕ → Told → Type 0
+IsReported s id tell.Stale = IsStale (s.marks id)
+IsReported s id (tell.Judged v) =
     (s.marks id ≡ Fresh) × ((c : Conversation) × (conversation s.world id ≡ Some c) × IsFresh s.world.modules c v)
 
--- what is told of a conversation with its name and the number of its events
+-- the reported verdict on a conversation, with its name and the number of its events
 pub record IsJudged (s : State) (id : ℕ) (name : List (List ℕ)) (events : ℕ) (answer : Told) : Type 0 where
   pub of : Conversation
   pub there : conversation s.world id ≡ Some of
   pub name_is : name ≡ of.name
   pub events_are : events ≡ length of.log
-  pub told : IsTold s id answer
+  pub told : IsReported s id answer
 
--- what the reply to an accepted step says of the world before it and of the state after it
+-- the reply to an accepted step, in terms of the world before it and the state after it
 abbrev pub Replies : World → Step → Reply → State → Type 0
 Replies w (Put text) (reply.Edited e changes) s =
-    (e ≡ edit.Put) × ((m : ModuleTree) × Reads text m × (changes.module ≡ m.name)) × IsChanges w.modules s.world.modules changes.list
+    (e ≡ edit.Put) × ((m : ModuleTree) × Reads text m × (changes.module ≡ m.name))
+    × IsChanges w.modules s.world.modules changes.list
 Replies w (Put text) _ s = ⊥
 Replies w (Withdraw name) (reply.Edited e changes) s =
     (e ≡ edit.Withdraw) × (changes.module ≡ name) × IsChanges w.modules s.world.modules changes.list
@@ -64,20 +65,20 @@ Replies w (step.Profile p) _ s = ⊥
 Replies w (Open id name) (reply.Opened i n) s = (i ≡ id) × (n ≡ name)
 Replies w (Open id name) _ s = ⊥
 Replies w (Note id e) (reply.Noted i place told) s =
-    (i ≡ id) × ((c : Conversation) × (conversation s.world id ≡ Some c) × (place ≡ length c.log)) × IsTold s id told
+    (i ≡ id) × ((c : Conversation) × (conversation s.world id ≡ Some c) × (place ≡ length c.log)) × IsReported s id told
 Replies w (Note id e) _ s = ⊥
 Replies w (Turn id) (reply.Judged i name events told) s = (i ≡ id) × IsJudged s id name events told
 Replies w (Turn id) _ s = ⊥
 Replies w (Ask id) (reply.Judged i name events told) s = (i ≡ id) × IsJudged s id name events told
 Replies w (Ask id) _ s = ⊥
 
--- the step is accepted, and its reply tells so
+-- the step is accepted, and this is its reply
 pub record IsAccepted (s : State) (step : Step) (answer : Reply) (t : State) : Type 0 where
   pub follows : Follows s.world step t.world
   pub replies : Replies s.world step answer t
-  pub remarks : Remarks s.world s.marks step t.world t.marks
+  pub remarks : UpdatesMarks s.world s.marks step t.world t.marks
 
--- One step is answered: it is refused and nothing changes, or it is accepted.
+-- The reply to one step: the step is refused and changes nothing, or it is accepted.
 abbrev pub IsAnswered : State → Step → Reply → State → Type 0
 IsAnswered s step (reply.Refused f) t = Refuses s.world step f × (t ≡ s)
 IsAnswered s step (reply.Edited e changes) t = IsAccepted s step (reply.Edited e changes) t
@@ -86,14 +87,14 @@ IsAnswered s step (reply.Opened i n) t = IsAccepted s step (reply.Opened i n) t
 IsAnswered s step (reply.Noted i place told) t = IsAccepted s step (reply.Noted i place told) t
 IsAnswered s step (reply.Judged i n events told) t = IsAccepted s step (reply.Judged i n events told) t
 
--- Answered: there is a state after each step such that each reply answers its step.
+-- Answered: a state follows each step such that each reply is that of its step.
 abbrev pub Answers : State → List Step → List Reply → State → Type 0
 Answers s [] [] t = t ≡ s
 Answers s [] (r ∷ rs) t = ⊥
 Answers s (step ∷ steps) [] t = ⊥
 Answers s (step ∷ steps) (r ∷ rs) t = (u : State) × IsAnswered s step r u × Answers u steps rs t
 
--- memory is refused to a step only where no other refusal is due
+-- `OutOfMemory` is the reply only if no other refusal applies
 abbrev pub IsDue : World → Step → Reply → Type 0
 IsDue w step (reply.Refused OutOfMemory) = NeedsMemory w step
 IsDue w step (reply.Refused AlreadyOpen) = Unit {0}
@@ -108,9 +109,10 @@ IsDue w step (reply.Opened i n) = Unit {0}
 IsDue w step (reply.Noted i place told) = Unit {0}
 IsDue w step (reply.Judged i n events told) = Unit {0}
 
--- Answered, and memory is refused to no step to which another refusal is due.
+-- Answered, and `OutOfMemory` is the reply only if no other refusal applies.
 abbrev pub AnswersAsDue : State → List Step → List Reply → State → Type 0
 AnswersAsDue s [] [] t = t ≡ s
 AnswersAsDue s [] (r ∷ rs) t = ⊥
 AnswersAsDue s (step ∷ steps) [] t = ⊥
-AnswersAsDue s (step ∷ steps) (r ∷ rs) t = (u : State) × IsAnswered s step r u × IsDue s.world step r × AnswersAsDue u steps rs t
+AnswersAsDue s (step ∷ steps) (r ∷ rs) t =
+    (u : State) × IsAnswered s step r u × IsDue s.world step r × AnswersAsDue u steps rs t

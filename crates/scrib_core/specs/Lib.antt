@@ -2,7 +2,7 @@ pub mod World
 pub mod Marks
 pub mod Answers
 pub mod Held
-pub mod Conversing
-pub mod Telling
+pub mod ConversationSteps
+pub mod ReplyValues
 pub mod Runs
 pub mod Turns

@@ -1,5 +1,5 @@
--- That a permitted verdict is a run (this project's own; global types are those of Honda, Yoshida and Carbone, POPL
--- 2008, and their runs are after Deniélou and Yoshida, ICALP 2013).
+-- A permitted verdict is a run (this project's own). Global types are those of Honda, Yoshida and Carbone, POPL 2008.
+-- Their runs follow Deniélou and Yoshida, ICALP 2013.
 use Rattle.std.specs.Prelude.{◌≡◌, ◌↔◌, ℕ, Option, Some}
 use Rattle.scrib_types.specs.declared.event.Verdict.{Verdict}
 use Rattle.scrib_types.specs.declared.event.Verdict.TheVariants.{Permitted}
@@ -9,14 +9,13 @@ use Rattle.scrib_global.specs.Simulation.{IsJoinedRun}
 use Rattle.scrib_library.specs.Modules.{IsMeaning}
 use Rattle.scrib_core.specs.World.{World, Conversation, conversation}
 
--- A fresh verdict on the conversation is that it is permitted exactly where its protocol is in the library, whoever
--- acted joined beforehand, and its sends and receptions are a run of the protocol's global type over
--- first-in-first-out queues.
+-- A fresh verdict is `Permitted` exactly if three conditions hold. The protocol is in the library. Each acting role
+-- joined first. The sends and receptions are a run of the protocol's global type over first-in-first-out queues.
 abbrev pub IsPermittedRun : World → Conversation → Type 0
 IsPermittedRun w c =
     (o : Option Agreement) (v : Verdict) → IsMeaning w.modules c.name o → Judges o c.log v
     → (v ≡ Permitted) ↔ ((a : Agreement) × (o ≡ Some a) × IsJoinedRun a c.log)
 
--- so it is of each conversation
+-- this holds for each conversation
 unfoldable pub PermitsRuns : World → Type 0
 PermitsRuns w = (id : ℕ) (c : Conversation) → conversation w id ≡ Some c → IsPermittedRun w c

@@ -1,5 +1,5 @@
--- The plain world (this project's own): the profile, the accepted modules, how many names the accepted edits have added
--- or replaced, and the conversations. It holds no verdict, no mark, no version and no state.
+-- The plain world (this project's own). It has the profile, the accepted modules, the number of versions that the
+-- accepted edits used, and the conversations. It has no verdict, mark, version or state.
 use Rattle.std.specs.Prelude.{◌≡◌, ℕ, true, ◌+◌, ◌<◌, ◌≤◌, List, [], ◌∷◌, ◌++◌, length, Option, Some, None, nat_eq, IsSome}
 use Rattle.std.specs.Map.{lookup, set_value}
 use Rattle.scrib_types.specs.declared.event.Event.{Event}
@@ -25,13 +25,14 @@ pub record Conversation : Type 0 where
   pub name : List (List ℕ)
   pub log : List Event
 
+-- the plain world: the profile, the modules, the number of used versions, and the conversations
 pub record World : Type 0 where
   pub profile : Profile
   pub modules : List ModuleTree
   pub used : ℕ
   pub conversations : List (ℕ × Conversation)
 
--- the profile, no module and no conversation
+-- a world with this profile, no module and no conversation
 abbrev pub nothing_under : Profile → World
 nothing_under p = record { profile = p; modules = []; used = 0; conversations = [] }
 
@@ -39,15 +40,15 @@ nothing_under p = record { profile = p; modules = []; used = 0; conversations = 
 abbrev pub conversation : World → ℕ → Option Conversation
 conversation w id = lookup (nat_eq id) w.conversations
 
--- a conversation in which nothing has happened
+-- a conversation with an empty log
 abbrev pub opened : List (List ℕ) → Conversation
 opened name = record { name = name; log = [] }
 
--- the conversation with one more event
+-- the conversation with this event appended
 abbrev pub noted : Conversation → Event → Conversation
 noted c e = record { name = c.name; log = c.log ++ e ∷ [] }
 
--- why a note in the conversation is refused
+-- a note in the conversation is refused for this
 abbrev pub NoteFails : Conversation → Refusal → Type 0
 NoteFails c AlreadyOpen = ⊥
 NoteFails c UnknownProtocol = ⊥
@@ -57,46 +58,59 @@ NoteFails c (Edit f) = ⊥
 NoteFails c LogFull = 1048576 ≤ length c.log
 NoteFails c OutOfMemory = length c.log < 1048576
 
--- each name that was added or replaced used a version, of which there are at most 65,536
+-- each added or replaced name used a version, and at most 65,536 are used
 pub record UsesVersions (w v : World) : Type 0 where
   pub list : List Change
   pub changes : IsChanges w.modules v.modules list
   pub count : v.used ≡ w.used + new_versions list
   pub few : v.used ≤ 65536
 
--- What an accepted step makes of the world: a put places the module of its text; a withdrawal takes a module out; a
--- profile takes the place of the one that was there, where all that the modules mean projects under it; an open adds an
--- empty log; a note appends its event; a turn and an ask change nothing.
+-- The world after an accepted step. A put places the module of its text, and a withdrawal removes a module. A change of
+-- the profile requires that each name's meaning projects under the new one. An open adds an empty log, and a note
+-- appends its event. A turn and an ask change nothing.
 abbrev pub Follows : World → Step → World → Type 0
 Follows w (Put text) v =
-    ((m : ModuleTree) × IsPut w.profile w.modules text m v.modules) × UsesVersions w v × (v.profile ≡ w.profile) × (v.conversations ≡ w.conversations)
+    ((m : ModuleTree) × IsPut w.profile w.modules text m v.modules) × UsesVersions w v × (v.profile ≡ w.profile)
+    × (v.conversations ≡ w.conversations)
 Follows w (Withdraw name) v =
-    IsWithdrawal w.profile w.modules name v.modules × (v.used ≡ w.used) × (v.profile ≡ w.profile) × (v.conversations ≡ w.conversations)
+    IsWithdrawal w.profile w.modules name v.modules × (v.used ≡ w.used) × (v.profile ≡ w.profile)
+    × (v.conversations ≡ w.conversations)
 Follows w (step.Profile p) v =
-    AllProject p w.modules × (v ≡ record { profile = p; modules = w.modules; used = w.used; conversations = w.conversations })
+    AllProject p w.modules
+    × (v ≡ record { profile = p; modules = w.modules; used = w.used; conversations = w.conversations })
 Follows w (Open id name) v =
     (conversation w id ≡ None) × ((a : Agreement) × Means w.modules name a) × (length w.conversations < 65536)
-    × (v ≡ record { profile = w.profile; modules = w.modules; used = w.used; conversations = w.conversations ++ (id, opened name) ∷ [] })
+    × (v ≡ record {
+      profile = w.profile;
+      modules = w.modules;
+      used = w.used;
+      conversations = w.conversations ++ (id, opened name) ∷ [];
+    })
 Follows w (Note id e) v =
     (c : Conversation) × (conversation w id ≡ Some c) × (length c.log < 1048576)
-    × (v ≡ record { profile = w.profile; modules = w.modules; used = w.used; conversations = set_value (nat_eq id) w.conversations (noted c e) })
+    × (v ≡ record {
+      profile = w.profile;
+      modules = w.modules;
+      used = w.used;
+      conversations = set_value (nat_eq id) w.conversations (noted c e);
+    })
 Follows w (Turn id) v = IsSome (conversation w id) × (v ≡ w)
 Follows w (Ask id) v = IsSome (conversation w id) × (v ≡ w)
 
--- No other refusal is due, so that the step needs memory. A put needs it to find any refusal but that its text is too
--- long, a withdrawal to name the module that imports its own, and the plain profile, where it is to follow the wider
--- one, to try the protocols.
+-- No other refusal applies, so that the step needs memory. A put needs it to find any refusal except that its text is
+-- too long. A withdrawal needs it to name the importing module. A change to the plain profile from the reception
+-- profile needs it to try the protocols.
 abbrev pub NeedsMemory : World → Step → Type 0
 NeedsMemory w (Put text) = length text ≤ max_text_bytes
 NeedsMemory w (Withdraw name) = has_name name (module_names w.modules) ≡ true
 NeedsMemory w (step.Profile p) = (w.profile ≡ Reception) × (p ≡ Plain)
-NeedsMemory w (Open id name) = (conversation w id ≡ None) × ((a : Agreement) × Means w.modules name a) × (length w.conversations < 65536)
+NeedsMemory w (Open id name) =
+    (conversation w id ≡ None) × ((a : Agreement) × Means w.modules name a) × (length w.conversations < 65536)
 NeedsMemory w (Note id e) = (c : Conversation) × (conversation w id ≡ Some c) × (length c.log < 1048576)
 NeedsMemory w (Turn id) = IsSome (conversation w id)
 NeedsMemory w (Ask id) = IsSome (conversation w id)
 
--- The step is refused for this, and for nothing that comes before it in this list. Memory may be refused to
--- any step.
+-- The step is refused for this, and for nothing before it in this list. Any step may be refused memory.
 abbrev pub Refuses : World → Step → Refusal → Type 0
 Refuses w (Put text) AlreadyOpen = ⊥
 Refuses w (Put text) UnknownProtocol = ⊥
@@ -105,7 +119,8 @@ Refuses w (Put text) NoConversation = ⊥
 Refuses w (Put text) (Edit (edit.Lex f)) = PutFails w.profile w.modules w.used text (edit.Lex f)
 Refuses w (Put text) (Edit (edit.Parse f)) = PutFails w.profile w.modules w.used text (edit.Parse f)
 Refuses w (Put text) (Edit edit.TooManyModules) = PutFails w.profile w.modules w.used text edit.TooManyModules
-Refuses w (Put text) (Edit (edit.ImportMissing name)) = PutFails w.profile w.modules w.used text (edit.ImportMissing name)
+Refuses w (Put text) (Edit (edit.ImportMissing name)) =
+    PutFails w.profile w.modules w.used text (edit.ImportMissing name)
 Refuses w (Put text) (Edit edit.TooManyProtocols) = PutFails w.profile w.modules w.used text edit.TooManyProtocols
 Refuses w (Put text) (Edit (edit.Elaborate f)) = PutFails w.profile w.modules w.used text (edit.Elaborate f)
 Refuses w (Put text) (Edit (edit.Project u)) = PutFails w.profile w.modules w.used text (edit.Project u)
@@ -148,7 +163,8 @@ Refuses w (step.Profile p) (Edit edit.TooManyProtocols) = ⊥
 Refuses w (step.Profile p) (Edit (edit.Elaborate f)) = ⊥
 Refuses w (step.Profile p) (Edit (edit.Project u)) = ⊥
 Refuses w (step.Profile p) (Edit edit.VersionsFull) = ⊥
-Refuses w (step.Profile p) (Edit (edit.NeedsReception name)) = ProfileFails w.profile p w.modules (edit.NeedsReception name)
+Refuses w (step.Profile p) (Edit (edit.NeedsReception name)) =
+    ProfileFails w.profile p w.modules (edit.NeedsReception name)
 Refuses w (step.Profile p) (Edit edit.OutOfMemory) = ⊥
 Refuses w (step.Profile p) LogFull = ⊥
 Refuses w (step.Profile p) OutOfMemory = Unit {0}

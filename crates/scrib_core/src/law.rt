@@ -2,9 +2,9 @@
 
 ghost use Rattle.scrib_core.specs.Turns.{StaysFresh, TurnsSuffice};
 
-/// A law of turns and marks, over any stretch of accepted steps between which refused ones may stand: a verdict that
-/// isn't stale becomes so only where what the conversation's protocol means changes; and after at least one turn, and
-/// so many that 256 events each are the whole log, it isn't stale until that changes.
+/// A law of turns and marks, over any sequence of accepted steps, with any refused steps between them. A fresh verdict
+/// becomes stale only when the meaning of the conversation's protocol changes. Let the turns of the sequence be one or
+/// more, and let 256 events for each cover the whole log. Then the verdict is fresh, until that meaning changes.
 pub fn turns_suffice()
     ensures stays { StaysFresh }
     ensures enough { TurnsSuffice }

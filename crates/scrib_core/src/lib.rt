@@ -1,9 +1,11 @@
-//! The whole monitor on one thread: steps and their replies.
+//! The monitor on one thread: steps and their replies.
 #![tactic(auto)]
 
-pub mod conversing;
+pub mod conversation_steps;
+pub mod ended;
+pub mod format;
 pub mod law;
 pub mod monitor;
 pub mod reply;
 pub mod step;
-mod telling;
+mod verdicts;

@@ -1,4 +1,4 @@
-//! The monitor.
+//! The core: the monitor on one thread.
 
 ghost use Rattle.std.specs.Prelude.{◌≡◌, IfOk, OnErr};
 ghost use Rattle.std.specs.Option.{option_map};
@@ -9,9 +9,9 @@ ghost use Rattle.scrib_core.specs.declared.step.Step.TheVariants as steps;
 ghost use Rattle.scrib_core.specs.Answers.{initial, initial_under, IsAnswered, IsDue, AnswersAsDue};
 ghost use Rattle.scrib_core.specs.Held.{state_of, LeavesRefused, AnswersHeld, IsViewed};
 ghost use Rattle.scrib_core.specs.Runs.{PermitsRuns};
-ghost use Rattle.scrib_core.specs.Telling.{reply_of, profile_reply_of};
+ghost use Rattle.scrib_core.specs.ReplyValues.{reply_of, profile_reply_of};
 
-use crate::conversing::{ask, note, open, turn};
+use crate::conversation_steps::{ask, note, open, turn};
 use crate::reply::{Edit, Refusal, Reply};
 use crate::step::Step;
 use indexmap::IndexMap;
@@ -27,11 +27,11 @@ use scrib_types::shared_event::SharedEvent;
 use std::alloc::{AllocError, Global};
 use std::marker::Model;
 
-/// The most open conversations.
+/// The maximal number of open conversations.
 pub const MAX_CONVERSATIONS: usize = 65_536;
 
-/// The library and the records of the open conversations, in the order in which they were opened. Contracts see what
-/// the library holds and the records, which stand for a world and its marks.
+/// The library and the records of the open conversations, in the order of opening. Contracts see the library's holdings
+/// and the records, which determine a world and its marks.
 #[derive(Drop)]
 pub struct Core {
     alloc: Global,
@@ -55,14 +55,14 @@ impl Model for Core {
 }
 
 impl Core {
-    /// A monitor with no module and no conversation. It accepts protocols by the plain profile.
+    /// Returns a core without modules and conversations. It accepts protocols under the plain profile.
     pub fn new(alloc: Global) -> Core
         ensures { state_of result ≡ initial }
     {
         Core::with_profile(alloc, Profile::Plain)
     }
 
-    /// A monitor with no module and no conversation, which accepts protocols by this profile.
+    /// Returns a core without modules and conversations, which accepts protocols under this profile.
     pub fn with_profile(alloc: Global, profile: Profile) -> Core
         ensures { state_of result ≡ initial_under profile }
     {
@@ -73,9 +73,9 @@ impl Core {
         }
     }
 
-    /// Makes one step and answers it. A refused step leaves what the library holds and every record. What is told of a
-    /// conversation that isn't marked stale is the verdict on its whole log under what its protocol means now; it is
-    /// marked only where that changed since it was judged.
+    /// Makes one step and returns its reply. A refused step changes neither the library nor any record. The verdict on
+    /// a conversation that is not marked stale is that of its whole log under its protocol's present meaning. A
+    /// conversation is marked only if that meaning changed since it was judged.
     #[inline(always)]
     #[tactic(auto, using(crate::proofs::Runs::permits_runs))]
     pub fn apply(&mut self, step: Step) -> Reply
@@ -97,16 +97,17 @@ impl Core {
         reply
     }
 
-    /// Makes the steps one after another and answers each, as `apply` does: a refused one leaves what the library holds
-    /// and every record. After them a fresh verdict on a conversation is that it is permitted exactly where whoever
-    /// acted joined beforehand and its sends and receptions are a run of its protocol's global type over
-    /// first-in-first-out queues.
+    /// Makes the steps one after another and returns their replies, each as `apply` does. A refused step changes
+    /// neither the library nor any record. A fresh verdict after them is `Permitted` exactly if each acting role joined
+    /// first and the sends and receptions are a run. A run is one of the protocol's global type over first-in-first-out
+    /// queues.
     ///
     /// # Errors
-    /// `AllocError` where there is no memory for all replies: then no step was made, and nothing changed.
+    /// `AllocError` if the replies do not fit into memory. Then no step was made and nothing changed.
     #[tactic(auto, using(crate::proofs::Runs::permits_runs))]
     pub fn run(&mut self, steps: &[Step]) -> Result<Vec<Reply>, AllocError>
-        ensures answered { IfOk result (λ replies. AnswersAsDue (state_of self.old) steps.now replies.items (state_of self.new)) }
+        ensures answered { IfOk result (λ replies. AnswersAsDue (state_of self.old) steps.now replies.items
+            (state_of self.new)) }
         ensures held { IfOk result (λ replies. AnswersHeld self.old steps.now replies.items self.new) }
         ensures err { OnErr result (self.new ≡ self.old) }
         ensures runs { PermitsRuns (state_of self.new).world }
@@ -114,14 +115,14 @@ impl Core {
         self.library.means_protocols();
         let mut replies = Vec::with_capacity(self.alloc, steps.len())?;
         for step in steps {
-            let reply = self.apply_lent(step);
+            let reply = self.apply_ref(step);
             replies.push_reserved(reply);
         }
         self.library.means_protocols();
         Ok(replies)
     }
 
-    /// A conversation's protocol, if the library has it, and its log.
+    /// Returns the protocol of a conversation, if the library has it, and the log.
     pub fn view(&self, id: u32) -> Option<(Option<&Protocol>, &[SharedEvent])>
         ensures { IsViewed (state_of self.now).world id result }
     {
@@ -130,8 +131,8 @@ impl Core {
         Some((protocol, record.log()))
     }
 
-    // Makes a step that is lent, of which it copies what is kept.
-    fn apply_lent(&mut self, step: &Step) -> Reply
+    // Makes a step given by reference, copying what is kept.
+    fn apply_ref(&mut self, step: &Step) -> Reply
         ensures answered { IsAnswered (state_of self.old) step.now result (state_of self.new) }
         ensures memory { IsDue (state_of self.old).world step.now result }
         ensures refused { LeavesRefused result self.old self.new }
@@ -141,13 +142,13 @@ impl Core {
             Step::Withdraw { name } => self.withdraw(name),
             Step::Profile { profile } => self.set_profile(*profile),
             Step::Open { id, name } => self.open(*id, name),
-            Step::Note { id, event } => self.note_lent(*id, event),
+            Step::Note { id, event } => self.note_ref(*id, event),
             Step::Turn { id } => self.turn(*id),
             Step::Ask { id } => self.ask(*id),
         }
     }
 
-    fn note_lent(&mut self, id: u32, event: &SharedEvent) -> Reply
+    fn note_ref(&mut self, id: u32, event: &SharedEvent) -> Reply
         ensures answered { IsAnswered (state_of self.old) (Note id event.now) result (state_of self.new) }
         ensures memory { IsDue (state_of self.old).world (Note id event.now) result }
         ensures refused { LeavesRefused result self.old self.new }
@@ -247,7 +248,7 @@ impl Core {
     }
 }
 
-// The protocol that the library has by the name, if it has one.
+// Returns the library's protocol of this name, if there is one.
 fn protocol_of<'a>(library: &'a Library, name: &Dotted) -> Option<&'a Protocol>
     ensures { IsMeaning library.now.modules name.now (option_map (λ p. agreement_of p.now) result) }
 {
@@ -257,7 +258,7 @@ fn protocol_of<'a>(library: &'a Library, name: &Dotted) -> Option<&'a Protocol>
     }
 }
 
-// The reply to an edit.
+// Returns the reply to an edit.
 fn edit_reply(edit: Edit, edited: Result<Changes, EditFault>) -> Reply
     ensures { result ≡ reply_of edit edited }
 {
@@ -268,7 +269,7 @@ fn edit_reply(edit: Edit, edited: Result<Changes, EditFault>) -> Reply
     }
 }
 
-// The reply to a change of the profile.
+// Returns the reply to a change of the profile.
 fn profile_reply(profile: Profile, changed: Result<(), EditFault>) -> Reply
     ensures { result ≡ profile_reply_of profile changed }
 {

@@ -1,4 +1,4 @@
-//! Replies: what the monitor answers.
+//! The replies to steps.
 
 use scrib_library::changes::Changes;
 use scrib_library::fault::EditFault;
@@ -6,17 +6,17 @@ use scrib_types::event::Told;
 use scrib_types::name::Dotted;
 use scrib_types::profile::Profile;
 
-/// Which edit a reply speaks of.
+/// The kind of edit that a reply belongs to.
 #[derive(Clone, Copy, Debug, PartialEq, Eq)]
 pub enum Edit {
     Put,
     Withdraw,
 }
 
-/// Why a step was refused. Nothing changes then.
+/// Why a step was refused. A refused step changes nothing.
 #[derive(Drop)]
 pub enum Refusal {
-    /// A conversation with this id is open.
+    /// A conversation with this id is already open.
     AlreadyOpen,
     /// The library has no protocol of this name.
     UnknownProtocol,
@@ -24,7 +24,7 @@ pub enum Refusal {
     TooManyConversations,
     /// No conversation with this id is open.
     NoConversation,
-    /// The edit, or the change of the profile, has this fault.
+    /// The edit or the change of the profile has this fault.
     Edit(EditFault),
     /// The log has 1,048,576 events.
     LogFull,
@@ -32,15 +32,15 @@ pub enum Refusal {
     OutOfMemory,
 }
 
-/// The answer to a step.
+/// The reply to a step.
 #[derive(Drop)]
 pub enum Reply {
-    /// The library was edited, and these protocols changed.
+    /// The library was edited, with these changes.
     Edited {
         edit: Edit,
         changes: Changes,
     },
-    /// Protocols are accepted by this profile from now on.
+    /// Protocols are now accepted under this profile.
     Profiled {
         profile: Profile,
     },
@@ -49,19 +49,19 @@ pub enum Reply {
         id: u32,
         name: Dotted,
     },
-    /// The event was noted at this place of the log, from 1, and this is told of the conversation.
+    /// The event is in the log at this place, counted from 1, and this is the verdict, or `Stale`.
     Noted {
         id: u32,
         place: usize,
         told: Told,
     },
-    /// This is told of the conversation of this protocol, whose log has so many events.
+    /// The protocol's name, the number of events in the log, and the verdict, or `Stale`.
     Judged {
         id: u32,
         name: Dotted,
         events: usize,
         told: Told,
     },
-    /// The step was refused, and nothing changed.
+    /// The step was refused and nothing changed.
     Refused(Refusal),
 }

@@ -82,7 +82,7 @@ same_at [] k d c lt = absurd (omega (arith, lt))
 same_at (x ∷ xs) zero d c lt = refl
 same_at (x ∷ xs) (suc k) d c lt = same_at xs k d c (omega (arith, lt))
 
--- different elements of a list count no more than all of it
+-- different elements of a list count no more than the whole list
 pub count_within : {X : Type 0} (p : X → Bool) (R : X → X → Type 0) → ((x y : X) → R x y → x ≢ y) → (xs ys : List X) → AllPairs R xs → ((x : X) → Contains xs x → Contains ys x) → count_by p xs ≤ count_by p ys
 count_within p R apart [] ys pairs within = omega arith
 count_within {X} p R apart (x ∷ xs) ys pairs within =

@@ -21,7 +21,7 @@ both_equal Less p e = cc
 both_equal Equal p e = (refl, e)
 both_equal Greater p e = cc
 
--- names that tie are the same
+-- names that compare equal are equal
 pub name_exact : (a b : List (List ℕ)) → name_cmp a b ≡ Equal → a ≡ b
 name_exact [] [] e = refl
 name_exact [] (y ∷ ys) e = cc
@@ -67,7 +67,7 @@ get_or_any [] k d c lt = absurd (omega (arith, lt))
 get_or_any (x ∷ xs) zero d c lt = refl
 get_or_any (x ∷ xs) (suc k) d c lt = get_or_any xs k d c (omega (arith, lt))
 
--- of names in order none stands in two places
+-- in ordered names, no name is at two indices
 pub once : {X : Type 0} (f : X → List (List ℕ)) (xs : List X) → AreInOrder (map f xs) → (x y : X) → Contains xs x → Contains xs y → f x ≡ f y → x ≡ y
 once f xs sorted x y p q e =
     let long : length (map f xs) ≡ length xs = length-map xs f in

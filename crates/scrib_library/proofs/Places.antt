@@ -1,4 +1,4 @@
--- Modules, the protocols that they declare, and what is there.
+-- Modules, their declared protocols and their imports.
 use Rattle.std.proofs.Common.{◌≡◌, ◌≢◌, ℕ, ◌+◌, ◌<◌, ◌≤◌, Bool, true, false, not, ◌||◌, List, [], ◌∷◌, ◌++◌, length, get_or, take, drop, Some, None, ◌⊎◌, inl, inr, refl, sym, ap, ◌∙◌, subst, arith}
 use Rattle.std.specs.List.{Contains}
 use Rattle.std.proofs.lemmas.Bool.{false≢true}
@@ -9,7 +9,7 @@ use Rattle.scrib_parser.specs.declared.tree.ModuleTree.{ModuleTree}
 use Rattle.scrib_parser.specs.declared.tree.Import.{Import}
 use Rattle.scrib_parser.specs.declared.tree.ProtocolDeclaration.{ProtocolDeclaration}
 use Rattle.scrib_static_checks.specs.Names.{Declaration, dotted_eq, has_name, first_where, module_names, with_module, declared_in, declarations}
-use Rattle.scrib_static_checks.proofs.Distinct.{dotted_eq-Decides}
+use Rattle.scrib_static_checks.proofs.NameLemmas.{dotted_eq-Decides}
 use Rattle.scrib_library.specs.Modules.{is_missing, missing_import, protocol_count}
 use Rattle.scrib_library.proofs.Lists.{Contains-nil, Contains-head, Contains-head_at, Contains-tail, Contains-cases, Contains-map, Contains-map_back}
 
@@ -43,7 +43,7 @@ has_name-push n (x ∷ xs) m h e = by (dotted_eq n x.name) h (has_name-push n xs
     by true g rest = absurd (false≢true (sym g))
     by false g rest = rest g e
 
--- one more that isn't of this name
+-- the case of one more module of another name
 pub has_name-more : (n : List (List ℕ)) (ms : List ModuleTree) (i : ℕ) (m : ModuleTree) → i < length ms → m ≡ get_or ms i m → has_name n (module_names (take i ms)) ≡ false → n ≢ m.name → has_name n (module_names (take (i + 1) ms)) ≡ false
 has_name-more n ms i m lt at h other =
     let no : dotted_eq n m.name ≡ false = not_true (dotted_eq n m.name) (λ t. other ((dotted_eq-Decides n m.name).0 t)) in
@@ -107,7 +107,7 @@ still_there m ms i is false e h rest =
     let some : Some i ≡ None = rw t at h in
     absurd (cc)
 
--- so imports that were there stay there
+-- so imports that existed still exist
 pub imports_kept : (m : ModuleTree) (ms : List ModuleTree) (is : List Import) → missing_import ms is ≡ None → missing_import (with_module m ms) is ≡ None
 imports_kept m ms [] h = refl
 imports_kept m ms (i ∷ is) h = still_there m ms i is (has_name i.module (module_names ms)) refl h (imports_kept m ms is)

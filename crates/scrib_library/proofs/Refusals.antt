@@ -1,4 +1,4 @@
--- Why a put is refused.
+-- The reasons why a put is refused.
 use Rattle.std.proofs.Common.{◌≡◌, ℕ, List, Err, sym, subst}
 use Rattle.scrib_types.specs.declared.profile.Profile.{Profile}
 use Rattle.scrib_lexer.specs.declared.fault.LexFault.{LexFault}
@@ -13,10 +13,10 @@ use Rattle.scrib_parser.specs.Grammar.{IsModule, IsFaultOf, ParseGives}
 use Rattle.scrib_static_checks.specs.Names.{with_module}
 use Rattle.scrib_library.specs.declared.fault.EditFault.{EditFault}
 use Rattle.scrib_library.specs.declared.fault.EditFault.TheVariants as edit
-use Rattle.scrib_library.specs.Made.{edit_fault_of_lex, edit_fault_of_parse}
+use Rattle.scrib_library.specs.FaultConversions.{edit_fault_of_lex, edit_fault_of_parse}
 use Rattle.scrib_library.specs.Edits.{Reads, IsUnread, ModuleFails, PutFails}
 
--- why the text has no tokens is why it is refused
+-- the reason why the text has no token sequence is one why it is refused
 pub lex_refused : (text : List ℕ) (f : LexFault) → ((ts : List Lexeme) → IsTokens text ts → LexGives (Err f) ts) → tokens.FailsAt text f
     → (profile : Profile) → (before : List ModuleTree) → (used : ℕ) → PutFails profile before used text (edit_fault_of_lex f)
 lex_refused text lex.OutOfMemory only h profile before used = h
@@ -26,7 +26,7 @@ lex_refused text (lex.OpenComment at) only h profile before used = (λ m r. only
 lex_refused text (lex.OpenString at) only h profile before used = (λ m r. only r.0 r.1, h)
 lex_refused text (lex.LongName at) only h profile before used = (λ m r. only r.0 r.1, h)
 
--- and so is why the only tokens that it has are no module
+-- and so is the reason why its only token sequence forms no module
 module _ (text : List ℕ) (ts : List Lexeme) (t : IsTokens text ts) (one : (us : List Lexeme) → IsTokens text us → ts ≡ us) where
   unread : ((m : ModuleTree) → IsModule ts m → ⊥) → IsUnread text
   unread none m r = none m (subst (λ (l : List Lexeme). IsModule l m) (sym (one r.0 r.1)) r.2)
@@ -39,7 +39,7 @@ module _ (text : List ℕ) (ts : List Lexeme) (t : IsTokens text ts) (one : (us 
   parse_refused (parse.LeftOut word at) only h profile before used = (unread only, (ts, t, h))
   parse_refused (parse.TooDeep at) only h profile before used = (unread only, (ts, t, h))
 
--- why the module fails is why the put does
+-- the reason why the module fails is one why the put does
 pub put_refused : (profile : Profile) (before : List ModuleTree) (used : ℕ) (text : List ℕ) (m : ModuleTree) (after : List ModuleTree) (f : EditFault) → Reads text m → after ≡ with_module m before → ModuleFails profile before used m after f → PutFails profile before used text f
 put_refused profile before used text m after f read same h = told f (subst (λ l. ModuleFails profile before used m l f) same h)
   where

@@ -14,12 +14,12 @@ use Rattle.scrib_library.specs.Listed.{name_cmp}
 use Rattle.scrib_library.specs.Stored.{AreNames}
 use Rattle.scrib_library.proofs.Lists.{Contains-head, Contains-tail}
 
--- a full name's parts
+-- the parts of a full name
 pub are_names_of : (home : List (List ℕ)) (name : List ℕ) → AreNames home → is_name name ≡ true → AreNames (home ++ name ∷ [])
 are_names_of home name h e n p =
     elim (Contains-push_cases home name n p) [ inl q ↦ h n q | inr same ↦ ap is_name (sym same) ∙ e ]
 
--- the bytes come after the dot
+-- these bytes are greater than the dot
 abbrev AreLater : List ℕ → Type 0
 AreLater [] = Unit {0}
 AreLater (b ∷ bs) = (46 < b) × AreLater bs
@@ -41,7 +41,7 @@ later_name (b ∷ bs) h =
     let q = and_parts (is_letter b) (all_word bs) p.0 in
     (later_letter b q.0, later_all bs q.1)
 
--- what follows a name: nothing, or a dot
+-- the rest after a name: empty, or beginning with a dot
 abbrev IsTail : List ℕ → Type 0
 IsTail s = (s ≡ []) ⊎ ((r : List ℕ) × (s ≡ 46 ∷ r))
 
@@ -64,7 +64,7 @@ tail_greater : (s : List ℕ) → IsTail s → (b : ℕ) (bs : List ℕ) → 46 
 tail_greater s (inl e) b bs lt = ap (slice_cmp nat_cmp (b ∷ bs)) e
 tail_greater s (inr h) b bs lt = ap (slice_cmp nat_cmp (b ∷ bs)) h.1 ∙ ap (λ o. ordering_then o (slice_cmp nat_cmp bs h.0)) (dot_greater b lt)
 
--- a name and what follows it
+-- a name and the rest after it
 name_first : (x y s t : List ℕ) → AreLater x → AreLater y → IsTail s → IsTail t → slice_cmp nat_cmp (x ++ s) (y ++ t) ≡ ordering_then (slice_cmp nat_cmp x y) (slice_cmp nat_cmp s t)
 name_first [] [] s t lx ly hs ht = refl
 name_first [] (b ∷ y) s t lx ly hs ht = tail_less s hs b (y ++ t) ly.0

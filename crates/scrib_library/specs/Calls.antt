@@ -9,7 +9,7 @@ use Rattle.scrib_library.specs.declared.declared.Entry.{Entry}
 use Rattle.scrib_library.specs.Listed.{AreInOrder}
 use Rattle.scrib_library.specs.Entries.{entry_names}
 
--- the path of each call in the statements is such a one
+-- the path of each call in the statements has the property
 abbrev mutual
   pub EachCall : (List (List ℕ) → Type 0) → Body → Type 0
   EachCall P Done = Unit {0}
@@ -26,32 +26,32 @@ abbrev mutual
   EachCallOf P NoBlock = Unit {0}
   EachCallOf P (OrBlock b s bs) = EachCall P b × EachCallOf P bs
 
--- a call of this path in the module isn't of the protocol of this name in the module of this name
+-- a call of this path in the module `m` refers to another protocol than `name` of `home`
 abbrev pub IsOther : ModuleTree → (home : List (List ℕ)) (name : List ℕ) → (path : List (List ℕ)) → Type 0
 IsOther m home name path = looked_in m (all_but_last path) ≡ Some home → last_name path ≡ name → ⊥
 
--- the entry's protocol doesn't call that of the other
+-- the first entry's protocol does not call the second's
 abbrev pub DoesNotCall : Entry → Entry → Type 0
 DoesNotCall e r = EachCall (IsOther e.home.now r.home.now.name r.protocol.now.name) (body_of e.protocol.now.body)
 
--- the entry's module is another than the one of this name, and its protocol calls none of these
+-- the entry is of another module than the edited one, and its protocol calls none of these
 pub record IsBeside (edited : List (List ℕ)) (rs : List Entry) (e : Entry) : Type 0 where
   pub other : e.home.now.name ≢ edited
   pub calls : (r : Entry) → Contains rs r → DoesNotCall e r
 
--- each entry is one of those that were reached so far, or waits; those that wait call none of the first n of the others
-pub record AreSifted (edited : List (List ℕ)) (es reached waiting firsts : List Entry) : Type 0 where
+-- Each entry is reached or waits. No waiting entry calls one of the first reached entries.
+pub record IsWorklist (edited : List (List ℕ)) (es reached waiting firsts : List Entry) : Type 0 where
   pub sound : (e : Entry) → Contains reached e → Contains es e
   pub each : (e : Entry) → Contains es e → Contains reached e ⊎ Contains waiting e
   pub beside : (e : Entry) → Contains waiting e → Contains es e × IsBeside edited firsts e
 
--- the second are those of the first in the order of names, one of each name
+-- the second list has the entries of the first in the order of names, one of each name
 pub record AreGathered (es rs : List Entry) : Type 0 where
   pub sorted : AreInOrder (entry_names rs)
   pub sound : (e : Entry) → Contains rs e → Contains es e
   pub each : (e : Entry) → Contains es e → Contains (entry_names rs) e.name
 
--- those of the entries, in order, that are of the module of this name, or reach one of them by calls
+-- the entries, in order, of the edited module and those that reach one of these by calls
 pub record AreReaching (edited : List (List ℕ)) (es rs : List Entry) : Type 0 where
   pub sorted : AreInOrder (entry_names rs)
   pub sound : (e : Entry) → Contains rs e → Contains es e

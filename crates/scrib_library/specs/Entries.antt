@@ -8,60 +8,70 @@ use Rattle.scrib_library.specs.declared.declared.Entry.{Entry}
 use Rattle.scrib_library.specs.Modules.{full_name, name_of}
 use Rattle.scrib_library.specs.Listed.{AreInOrder}
 
+-- the full names of the entries
 abbrev pub entry_names : List Entry → List (List (List ℕ))
 entry_names es = map (λ (e : Entry). e.name) es
 
--- the entry is that of the declared protocol
+-- the entry of the declared protocol
 pub record IsEntryOf (d : Declaration) (e : Entry) : Type 0 where
   pub home : e.home.now ≡ d.home
   pub protocol : e.protocol.now ≡ d.protocol
   pub named : e.name ≡ name_of d
 
--- one of the modules declares its protocol
+-- one of the modules declares the entry's protocol
 pub record IsDeclaredIn (modules : List ModuleTree) (e : Entry) : Type 0 where
   pub declaration : Declaration
   pub there : Contains (declarations modules) declaration
   pub entry : IsEntryOf declaration e
 
--- the entries that are said to stand do
-abbrev pub AreStanding : List ModuleTree → List Entry → Type 0
-AreStanding modules es = (e : Entry) → Contains es e → e.stands ≡ true → IsDeclaredIn modules e
+-- the entries marked as declared are declared
+abbrev pub AreDeclared : List ModuleTree → List Entry → Type 0
+AreDeclared modules es = (e : Entry) → Contains es e → e.is_declared ≡ true → IsDeclaredIn modules e
 
--- an entry of one of these protocols of the module, whose name isn't among the earlier ones
-pub record IsNewEntry (m : ModuleTree) (stands : Bool) (before : List Entry) (ps : List ProtocolDeclaration) (e : Entry) : Type 0 where
+-- an entry of one of these protocols of the module, with a name that no earlier entry has
+pub record IsNewEntry (m : ModuleTree) (is_declared : Bool) (before : List Entry) (ps : List ProtocolDeclaration)
+    (e : Entry) : Type 0 where
   pub protocol : ProtocolDeclaration
   pub there : Contains ps protocol
   pub entry : IsEntryOf (record { home = m; protocol = protocol }) e
-  pub stood : e.stands ≡ stands
+  pub stood : e.is_declared ≡ is_declared
   pub new : Contains (entry_names before) e.name → ⊥
 
--- the entries are now in order, with an entry for each name of these protocols of the module, and else as they were
-pub record AreEntered (m : ModuleTree) (stands : Bool) (before : List Entry) (ps : List ProtocolDeclaration) (after : List Entry) : Type 0 where
+-- the entries in order, extended by one for each new name among these protocols of the module
+pub record AreEntered (m : ModuleTree) (is_declared : Bool) (before : List Entry) (ps : List ProtocolDeclaration)
+    (after : List Entry) : Type 0 where
   pub sorted : AreInOrder (entry_names after)
   pub kept : (n : List (List ℕ)) → Contains (entry_names before) n → Contains (entry_names after) n
   pub entered : (p : ProtocolDeclaration) → Contains ps p → Contains (entry_names after) (full_name m.name p.name)
-  pub sound : (e : Entry) → Contains after e → Contains before e ⊎ IsNewEntry m stands before ps e
+  pub sound : (e : Entry) → Contains after e → Contains before e ⊎ IsNewEntry m is_declared before ps e
 
 -- an entry for each name that a module of these names declares
 pub record AreEntries (modules : List ModuleTree) (names : List (List (List ℕ))) (es : List Entry) : Type 0 where
   pub sorted : AreInOrder (entry_names es)
-  pub complete : (d : Declaration) → Contains (declarations modules) d → Contains names d.home.name → Contains (entry_names es) (name_of d)
-  pub stand : (e : Entry) → Contains es e → e.stands ≡ true
+  pub complete : (d : Declaration) → Contains (declarations modules) d → Contains names d.home.name
+      → Contains (entry_names es) (name_of d)
+  pub stand : (e : Entry) → Contains es e → e.is_declared ≡ true
   pub within : (e : Entry) → Contains es e → Contains names e.home.now.name
-  pub sound : AreStanding modules es
+  pub sound : AreDeclared modules es
 
--- an entry of a protocol that isn't declared any more
-pub record IsDropped (gone : ModuleTree) (modules : List ModuleTree) (names : List (List (List ℕ))) (e : Entry) : Type 0 where
+-- an entry of a protocol that is no longer declared
+pub record IsWithdrawnEntry (gone : ModuleTree) (modules : List ModuleTree) (names : List (List (List ℕ)))
+    (e : Entry) : Type 0 where
   pub protocol : ProtocolDeclaration
   pub named : e.name ≡ full_name gone.name protocol.name
-  pub undeclared : (d : Declaration) → Contains (declarations modules) d → Contains names d.home.name → e.name ≢ name_of d
+  pub undeclared : (d : Declaration) → Contains (declarations modules) d → Contains names d.home.name
+      → e.name ≢ name_of d
 
--- The same, and one for each other name that the module which is gone declared.
-pub record AreTouched (modules : List ModuleTree) (names : List (List (List ℕ))) (gone : Option ModuleTree) (es : List Entry) : Type 0 where
+-- these entries, and one for each other name that the replaced module declared
+pub record AreAffectedEntries (modules : List ModuleTree) (names : List (List (List ℕ))) (gone : Option ModuleTree)
+    (es : List Entry) : Type 0 where
   pub sorted : AreInOrder (entry_names es)
-  pub complete : (d : Declaration) → Contains (declarations modules) d → Contains names d.home.name → Contains (entry_names es) (name_of d)
+  pub complete : (d : Declaration) → Contains (declarations modules) d → Contains names d.home.name
+      → Contains (entry_names es) (name_of d)
   pub named : (e : Entry) → Contains es e → e.name ≡ full_name e.home.now.name e.protocol.now.name
-  pub dropped : (m : ModuleTree) (p : ProtocolDeclaration) → gone ≡ Some m → Contains m.protocols p → Contains (entry_names es) (full_name m.name p.name)
-  pub sound : AreStanding modules es
-  pub within : (e : Entry) → Contains es e → e.stands ≡ true → Contains names e.home.now.name
-  pub fallen : (e : Entry) → Contains es e → e.stands ≡ false → (m : ModuleTree) × (gone ≡ Some m) × IsDropped m modules names e
+  pub withdrawn : (m : ModuleTree) (p : ProtocolDeclaration) → gone ≡ Some m → Contains m.protocols p
+      → Contains (entry_names es) (full_name m.name p.name)
+  pub sound : AreDeclared modules es
+  pub within : (e : Entry) → Contains es e → e.is_declared ≡ true → Contains names e.home.now.name
+  pub fallen : (e : Entry) → Contains es e → e.is_declared ≡ false
+      → (m : ModuleTree) × (gone ≡ Some m) × IsWithdrawnEntry m modules names e

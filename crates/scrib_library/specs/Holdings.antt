@@ -7,27 +7,27 @@ use Rattle.scrib_parser.specs.declared.tree.ModuleTree.{ModuleTree}
 use Rattle.scrib_static_checks.specs.Names.{distinct_names, module_names}
 use Rattle.scrib_library.specs.Modules.{Means, AreWellFormed, MeansOnce, AreFew}
 
--- a full name, and the number of the version that it has
+-- a full name, and the number of its version
 pub record Stamp : Type 0 where
   pub name : List (List ℕ)
   pub number : ℕ
 
--- the profile, the accepted modules, a stamp for each name that means something, in the order of names, and how many
--- versions were ever used
+-- the profile, the accepted modules, a stamp for each name with a meaning, in order, and the count of used versions
 pub record Holdings : Type 0 where
   pub profile : Profile
   pub modules : List ModuleTree
   pub stamps : List Stamp
   pub used : ℕ
 
--- a new library: the profile, and nothing else
+-- a new library with this profile
 abbrev pub no_holdings_under : Profile → Holdings
 no_holdings_under profile = record { profile = profile; modules = []; stamps = []; used = 0 }
 
--- it is plain where nothing else is said
+-- a new library with the plain profile
 abbrev pub no_holdings : Holdings
 no_holdings = no_holdings_under Plain
 
+-- the name has a version of this number
 abbrev pub HasNumber : Holdings → List (List ℕ) → ℕ → Type 0
 HasNumber h name k = Contains h.stamps (record { name = name; number = k })
 
@@ -36,17 +36,17 @@ abbrev pub IsNumber : Holdings → List (List ℕ) → Option ℕ → Type 0
 IsNumber h name None = (k : ℕ) → HasNumber h name k → ⊥
 IsNumber h name (Some k) = HasNumber h name k
 
--- the name means this, and this is the number of its version
+-- the meaning of the name, and the number of its version
 pub record HasStamp (h : Holdings) (name : List (List ℕ)) (a : Agreement) (k : ℕ) : Type 0 where
   pub meaning : Means h.modules name a
   pub number : HasNumber h name k
 
--- a name means this, and this is the number of its version
+-- some name has this meaning and a version of this number
 abbrev pub IsStamp : Holdings → Agreement → ℕ → Type 0
 IsStamp h a k = (name : List (List ℕ)) × HasStamp h name a k
 
--- Exactly the names that mean something have numbers, each one. No two names have the same, and each number is below
--- the count of used versions, which is at most 65,536.
+-- Exactly the names with a meaning have numbers, one each. No two names share a number. Each number is below the count
+-- of used versions, which is at most 65,536.
 pub record AreNumbered (h : Holdings) : Type 0 where
   pub numbered : (name : List (List ℕ)) (a : Agreement) → Means h.modules name a → (k : ℕ) × HasNumber h name k
   pub meant : (name : List (List ℕ)) (k : ℕ) → HasNumber h name k → (a : Agreement) × Means h.modules name a
@@ -55,8 +55,8 @@ pub record AreNumbered (h : Holdings) : Type 0 where
   pub below : (name : List (List ℕ)) (k : ℕ) → HasNumber h name k → k < h.used
   pub few : h.used ≤ 65536
 
--- What a library can hold: few modules, of different names, well formed under the profile, of which each name means one
--- thing, and numbers of the versions, of which at most 65,536 were ever used.
+-- What a library can hold: few modules, of different names, well formed under the profile. Each name has at most one
+-- meaning, and the versions are numbered.
 pub record IsAccepting (h : Holdings) : Type 0 where
   pub few : AreFew h.modules
   pub distinct : distinct_names (module_names h.modules) ≡ true
@@ -64,7 +64,9 @@ pub record IsAccepting (h : Holdings) : Type 0 where
   pub once : MeansOnce h.modules
   pub numbered : AreNumbered h
 
--- A name that means the same before and after an edit keeps its number, and each other number was never used before.
+-- A name whose meaning an edit leaves alone keeps its number. Each other number was never used.
 pub record IsStamped (before after : Holdings) : Type 0 where
-  pub kept : (name : List (List ℕ)) (a : Agreement) (k : ℕ) → HasStamp before name a k → Means after.modules name a → HasNumber after name k
-  pub fresh : (name : List (List ℕ)) (a : Agreement) (k : ℕ) → HasStamp after name a k → HasStamp before name a k ⊎ (before.used ≤ k)
+  pub kept : (name : List (List ℕ)) (a : Agreement) (k : ℕ) → HasStamp before name a k → Means after.modules name a
+      → HasNumber after name k
+  pub fresh : (name : List (List ℕ)) (a : Agreement) (k : ℕ) → HasStamp after name a k
+      → HasStamp before name a k ⊎ (before.used ≤ k)

@@ -11,27 +11,29 @@ use Rattle.scrib_library.specs.declared.fault.EditFault.{EditFault}
 use Rattle.scrib_library.specs.declared.fault.EditFault.TheVariants as edit
 use Rattle.scrib_library.specs.Listed.{name_cmp}
 
--- what the version means projects on each of its roles under the profile
+-- the version's type projects on each of its roles under the profile
 abbrev pub version_projects : Profile → NamedVersion → Bool
 version_projects profile v = projects profile (meaning_of v.version).global (meaning_of v.version).roles
 
+-- each version projects on each of its roles under the profile
 abbrev pub AllVersionsProject : Profile → List NamedVersion → Type 0
 AllVersionsProject profile versions = (v : NamedVersion) → Contains versions v → version_projects profile v ≡ true
 
--- the name of a version that doesn't, and no name of such a one comes before it in the order of names
+-- the first name, in the order of names, of a version that does not project
 pub record IsFirstLacking (profile : Profile) (versions : List NamedVersion) (name : List (List ℕ)) : Type 0 where
   pub lacking : NamedVersion
   pub there : Contains versions lacking
   pub named : lacking.name ≡ name
   pub lacks : version_projects profile lacking ≡ false
-  pub first : (v : NamedVersion) → Contains versions v → version_projects profile v ≡ false → name_cmp name v.name ≢ Greater
+  pub first : (v : NamedVersion) → Contains versions v → version_projects profile v ≡ false
+      → name_cmp name v.name ≢ Greater
 
--- that name, or there is none
+-- the first such name, or none if no name is such
 abbrev pub IsFirstOrNone : Profile → List NamedVersion → Option (List (List ℕ)) → Type 0
 IsFirstOrNone profile versions None = AllVersionsProject profile versions
 IsFirstOrNone profile versions (Some name) = IsFirstLacking profile versions name
 
--- why the wanted profile can't follow the one that is held
+-- why the wanted profile cannot replace the held one
 abbrev pub StopsChange : (held wanted : Profile) → List NamedVersion → EditFault → Type 0
 StopsChange held wanted versions (edit.NeedsReception name) = IsFirstLacking wanted versions name
 StopsChange held wanted versions edit.OutOfMemory = (held ≡ Reception) × (wanted ≡ Plain)

@@ -1,10 +1,10 @@
-pub mod Made
+pub mod FaultConversions
 pub mod Modules
 pub mod Holdings
 pub mod Edits
 pub mod Listed
-pub mod Sieve
-pub mod Outlines
+pub mod NameFilter
+pub mod Summaries
 pub mod Affected
 pub mod Entries
 pub mod Calls

@@ -13,17 +13,20 @@ use Rattle.scrib_library.specs.declared.fault.EditFault.{EditFault}
 use Rattle.scrib_library.specs.declared.fault.EditFault.TheVariants as edit
 use Rattle.scrib_library.specs.Modules.{Means}
 
--- what the modules mean by the name has no projection on some role of it under the profile
+-- the meaning of the name does not project on some role under the profile
 abbrev pub LacksProjection : Profile → List ModuleTree → List (List ℕ) → Type 0
-LacksProjection profile modules name = (a : Agreement) × Means modules name a × (projects profile a.global a.roles ≡ false)
+LacksProjection profile modules name =
+    (a : Agreement) × Means modules name a × (projects profile a.global a.roles ≡ false)
 
--- such a name, and none comes before it in the order of bytes
+-- the least such name in byte order
 pub record IsLeastLacking (profile : Profile) (modules : List ModuleTree) (name : List (List ℕ)) : Type 0 where
   pub lacks : LacksProjection profile modules name
-  pub least : (other : List (List ℕ)) → LacksProjection profile modules other → slice_cmp nat_cmp (dotted_text name) (dotted_text other) ≢ Greater
+  pub least : (other : List (List ℕ)) → LacksProjection profile modules other
+      → slice_cmp nat_cmp (dotted_text name) (dotted_text other) ≢ Greater
 
--- The change from the one profile to the other is refused for this: the wanted one doesn't project what this name
--- means, and it is the least such name. Memory can lack only where the plain profile is to follow the wider one.
+-- The change from the held profile to the wanted one is refused. Either the wanted one does not project this name's
+-- meaning, and the name is the least such. Or memory was refused, which needs the plain profile to replace the
+-- reception profile.
 abbrev pub ProfileFails : (held wanted : Profile) → List ModuleTree → EditFault → Type 0
 ProfileFails held wanted modules (edit.NeedsReception name) = IsLeastLacking wanted modules name
 ProfileFails held wanted modules edit.OutOfMemory = (held ≡ Reception) × (wanted ≡ Plain)

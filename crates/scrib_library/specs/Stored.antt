@@ -1,4 +1,4 @@
--- What is stored of the accepted modules.
+-- What a library stores of the accepted modules.
 use Rattle.std.specs.Prelude.{◌≡◌, ℕ, ◌<◌, ◌≤◌, true, IsTrue, List, map, Option, Some, None, Contains}
 use Rattle.scrib_types.specs.Names.{is_name}
 use Rattle.scrib_types.specs.declared.profile.Profile.{Profile}
@@ -12,9 +12,11 @@ use Rattle.scrib_library.specs.Modules.{Means, AreFew, AreImportsThere, AllProje
 use Rattle.scrib_library.specs.Holdings.{Stamp}
 use Rattle.scrib_library.specs.Listed.{AreDeclaredNames}
 
+-- the full names of the versions
 abbrev pub version_names : List NamedVersion → List (List (List ℕ))
 version_names vs = map (λ (v : NamedVersion). v.name) vs
 
+-- the name and the number of each version
 abbrev pub stamps_of : List NamedVersion → List Stamp
 stamps_of vs = map (λ (v : NamedVersion). record { name = v.name; number = number_of v.version }) vs
 
@@ -22,7 +24,7 @@ stamps_of vs = map (λ (v : NamedVersion). record { name = v.name; number = numb
 abbrev pub HasVersion : List NamedVersion → List (List ℕ) → Version → Type 0
 HasVersion vs name w = Contains vs (record { name = name; version = w })
 
--- the version is a name's
+-- some name has the version
 abbrev pub IsStored : List NamedVersion → Version → Type 0
 IsStored vs w = (name : List (List ℕ)) × HasVersion vs name w
 
@@ -36,23 +38,26 @@ pub record AreVersions (modules : List ModuleTree) (versions : List NamedVersion
   pub listed : AreDeclaredNames modules (version_names versions)
   pub sound : (v : NamedVersion) → Contains versions v → Means modules v.name (meaning_of v.version)
 
+-- each part of the dotted name is an identifier
 abbrev pub AreNames : List (List ℕ) → Type 0
 AreNames names = (n : List ℕ) → Contains names n → IsTrue (is_name n)
 
--- the parts of the module's name, and the names of its protocols, are names
+-- the parts of the module's name and the names of its protocols are identifiers
 pub record IsSpelled (m : ModuleTree) : Type 0 where
   pub home : AreNames m.name
   pub protocols : (p : ProtocolDeclaration) → Contains m.protocols p → IsTrue (is_name p.name)
 
--- no two have one number, and each is below the count of used versions
+-- no two versions share a number, and each number is below the count of used versions
 pub record AreCounted (versions : List NamedVersion) (used : ℕ) : Type 0 where
   pub below : (v : NamedVersion) → Contains versions v → number_of v.version < used
-  pub once : (v w : NamedVersion) → Contains versions v → Contains versions w → number_of v.version ≡ number_of w.version → v.name ≡ w.name
+  pub once : (v w : NamedVersion) → Contains versions v → Contains versions w
+      → number_of v.version ≡ number_of w.version → v.name ≡ w.name
   pub few : used ≤ 65536
 
--- few modules, of different names, whose imports are there, with a version of each protocol, and all these project
--- under the profile
-pub record IsLibrary (profile : Profile) (modules : List ModuleTree) (versions : List NamedVersion) (used : ℕ) : Type 0 where
+-- few modules, of different names, whose imports exist, with a version of each protocol, all projecting under the
+-- profile
+pub record IsLibrary (profile : Profile) (modules : List ModuleTree) (versions : List NamedVersion)
+    (used : ℕ) : Type 0 where
   pub few : AreFew modules
   pub distinct : distinct_names (module_names modules) ≡ true
   pub imports : AreImportsThere modules

@@ -17,52 +17,53 @@ use Rattle.scrib_library.specs.Entries.{entry_names}
 use Rattle.scrib_library.specs.Elaborated.{meant, meaning_names}
 use Rattle.scrib_library.specs.Plans.{IsPlanFor}
 
--- the module has another name than this, and imports the module of this name
+-- the module has another name than this one, and imports it
 abbrev pub Imports : ModuleTree → List (List ℕ) → Type 0
 Imports m name = (m.name ≢ name) × ImportsSome (name ∷ []) m
 
--- the first module of this name stands there, and no other imports it
+-- the index of the first module of this name, which no other module imports
 pub record IsFreePlace (modules : List ModuleTree) (name : List (List ℕ)) (at : ℕ) : Type 0 where
   pub place : IsPlace modules name at
   pub free : (m : ModuleTree) → IsImporter modules name m → ⊥
 
--- the name of another module that imports the one of the first name, and none such comes before it in the order of names
+-- the first, in the order of names, of the other modules that import `name`
 pub record IsFirstImporter (modules : List ModuleTree) (name by : List (List ℕ)) : Type 0 where
   pub importer : ModuleTree
   pub imports : IsImporter modules name importer
   pub named : importer.name ≡ by
   pub first : (m : ModuleTree) → IsImporter modules name m → name_cmp by m.name ≢ Greater
 
--- that name, or there is none
+-- the first such name, or none if no name is such
 abbrev pub IsFirstOrNone : List ModuleTree → List (List ℕ) → Option (List (List ℕ)) → Type 0
 IsFirstOrNone modules name None = (m : ModuleTree) → IsImporter modules name m → ⊥
 IsFirstOrNone modules name (Some by) = IsFirstImporter modules name by
 
--- the first of these names, or the only one
+-- the lesser of the two names, or the second if the first is missing
 abbrev pub IsFirstOf : Option (List (List ℕ)) → (second first : List (List ℕ)) → Type 0
 IsFirstOf None b c = c ≡ b
 IsFirstOf (Some a) b c = ((c ≡ a) ⊎ (c ≡ b)) × (name_cmp c a ≢ Greater) × (name_cmp c b ≢ Greater)
 
--- the name is that of a protocol of the module, and means nothing
-pub record IsDroppedOf (gone : ModuleTree) (y : NamedMeaning) : Type 0 where
+-- the name of a protocol of the module, without a meaning
+pub record IsWithdrawnMeaning (gone : ModuleTree) (y : NamedMeaning) : Type 0 where
   pub nothing : meant y ≡ None
   pub protocol : ProtocolDeclaration
   pub there : Contains gone.protocols protocol
   pub named : y.name ≡ full_name gone.name protocol.name
 
--- the entries' names, and that they mean nothing
+-- the entries' names, each without a meaning
 pub record AreNothing (es : List Entry) (ys : List NamedMeaning) : Type 0 where
   pub names : meaning_names ys ≡ entry_names es
   pub nothing : (y : NamedMeaning) → Contains ys y → meant y ≡ None
 
--- the name of each protocol of the module, in order, and that it means nothing
-pub record AreDropped (gone : ModuleTree) (ys : List NamedMeaning) : Type 0 where
+-- the name of each protocol of the module, in order, each without a meaning
+pub record AreWithdrawnMeanings (gone : ModuleTree) (ys : List NamedMeaning) : Type 0 where
   pub sorted : AreInOrder (meaning_names ys)
-  pub complete : (p : ProtocolDeclaration) → Contains gone.protocols p → Contains (meaning_names ys) (full_name gone.name p.name)
-  pub sound : (y : NamedMeaning) → Contains ys y → IsDroppedOf gone y
+  pub complete : (p : ProtocolDeclaration) → Contains gone.protocols p
+      → Contains (meaning_names ys) (full_name gone.name p.name)
+  pub sound : (y : NamedMeaning) → Contains ys y → IsWithdrawnMeaning gone y
 
--- the plan is for names of the module that mean nothing
+-- the plan is for the module's names, each without a meaning
 pub record IsRemovalPlan (gone : ModuleTree) (versions : List NamedVersion) (used : ℕ) (p : Plan) : Type 0 where
   pub meanings : List NamedMeaning
-  pub dropped : AreDropped gone meanings
+  pub withdrawn_meanings : AreWithdrawnMeanings gone meanings
   pub planned : IsPlanFor versions meanings used gone.name p

@@ -2,34 +2,34 @@
 
 ghost use Rattle.std.specs.Prelude.{◌≡◌, ◌<◌, length, MatchOption, IfOk, IsTrue, Contains, ◌↔◌};
 ghost use Rattle.scrib_parser.specs.declared.tree.ModuleTree as parsed;
-ghost use Rattle.scrib_library.specs.Outlines.{outlines_of};
+ghost use Rattle.scrib_library.specs.Summaries.{summaries_of};
 ghost use Rattle.scrib_library.specs.Affected.{names_now, waiting_trees, ImportsSome, AreAffected};
 
+use crate::name_filter::{FilteredModule, filter_of_names, may_overlap};
 use crate::names::same;
-use crate::outlines::Outline;
-use crate::sieve::{Sieved, may_meet, sieve_of_names};
+use crate::summaries::ModuleSummary;
 use scrib_parser::tree::ModuleTree;
 use scrib_types::name::Dotted;
 use std::alloc::{AllocError, Global};
 
-/// The name of the edited module, and the names of the modules that reach it by imports.
+/// Returns the name of the edited module and the names of the modules that reach it by imports.
 ///
 /// # Errors
-/// `AllocError` where memory was refused.
+/// `AllocError` if memory was refused.
 pub fn affected<'a>(
     alloc: Global,
     modules: &'a [ModuleTree],
-    outlines: &[Outline],
+    summaries: &[ModuleSummary],
     edited: &'a Dotted,
 ) -> Result<Vec<&'a Dotted>, AllocError>
-    requires { outlines.now ≡ outlines_of modules.now }
+    requires { summaries.now ≡ summaries_of modules.now }
     ensures { IfOk result (λ names. AreAffected modules.now edited.now (names_now names.items)) }
 {
-    let mut waiting = sieved(alloc, modules, outlines)?;
+    let mut waiting = filtered(alloc, modules, summaries)?;
     let mut names = Vec::new(alloc);
     names.push(edited)?;
-    // The names from `at` on are compared with the imports of those that wait, all at once, and no more once none of
-    // those imports one of them.
+    // The names from `at` on are compared, all at once, with the imports of the waiting modules. The loop ends once no
+    // waiting module imports one of them.
     let mut at = 0;
     while at < names.len() {
         match place_of_importer(&waiting, &names[at..]) {
@@ -43,34 +43,34 @@ pub fn affected<'a>(
     Ok(names)
 }
 
-/// The modules, with their sieves.
-fn sieved<'a>(
+// Pairs each module with its name filter.
+fn filtered<'a>(
     alloc: Global,
     modules: &'a [ModuleTree],
-    outlines: &[Outline],
-) -> Result<Vec<Sieved<'a>>, AllocError>
-    requires { outlines.now ≡ outlines_of modules.now }
+    summaries: &[ModuleSummary],
+) -> Result<Vec<FilteredModule<'a>>, AllocError>
+    requires { summaries.now ≡ summaries_of modules.now }
     ensures { IfOk result (λ all. waiting_trees all.items ≡ modules.now) }
 {
     let mut all = Vec::with_capacity(alloc, modules.len())?;
     for (at, tree) in modules.iter().enumerate() {
-        let sieve = outlines[at].sieve;
-        all.push(Sieved { tree, sieve })?;
+        let name_filter = summaries[at].name_filter;
+        all.push(FilteredModule { tree, name_filter })?;
     }
     Ok(all)
 }
 
-/// The place of the first of the modules that imports one of these names. The sieves spare most comparisons. It stands
-/// apart, so that its loop, through which each edit goes most often, keeps its few values in registers.
+// Returns the index of the first module that imports one of these names. The filters avoid most comparisons. Not
+// inlined: this loop, the hottest of an edit, then keeps its few values in registers.
 #[inline(never)]
-fn place_of_importer(waiting: &[Sieved], names: &[&Dotted]) -> Option<usize>
+fn place_of_importer(waiting: &[FilteredModule], names: &[&Dotted]) -> Option<usize>
     ensures { MatchOption result
         ((m : parsed.ModuleTree) → Contains (waiting_trees waiting.now) m → ImportsSome (names_now names.now) m → ⊥)
         (λ at. at < length waiting.now) }
 {
-    let sieve = sieve_of_names(names);
+    let name_filter = filter_of_names(names);
     for (at, one) in waiting.iter().enumerate() {
-        if may_meet(one.sieve, sieve) && imports_some(one.tree, names) {
+        if may_overlap(one.name_filter, name_filter) && imports_some(one.tree, names) {
             return Some(at);
         }
     }

@@ -9,8 +9,7 @@ ghost use Rattle.scrib_library.specs.Calls.{EachCall, EachCallAt, EachCallOf, Is
 use scrib_parser::tree::{Block, Import, ModuleTree, Statement};
 use scrib_types::name::{Dotted, Name};
 
-/// Whether a call in the statements, which stand in this module, is of the protocol of this name in the module of
-/// this name.
+/// Whether some call in these statements of the module `at` calls the protocol `name` of the module `home`.
 #[cycle(calls)]
 pub fn calls_in(at: &ModuleTree, body: &[Statement], home: &Dotted, name: &Name) -> bool
     ensures { result ≡ false → EachCall (IsOther at.now home.now name.now) (body_of body.now) }
@@ -49,8 +48,7 @@ fn calls_at(at: &ModuleTree, statement: &Statement, home: &Dotted, name: &Name) 
     }
 }
 
-/// Whether a call of this path, which stands in this module, is of the protocol of this name in the module of this
-/// name.
+// Whether a call of this path in the module `at` calls the protocol `name` of the module `home`.
 fn is_of(at: &ModuleTree, path: &Dotted, home: &Dotted, name: &Name) -> bool
     ensures { result ≡ false → IsOther at.now home.now name.now path.now }
 {
@@ -65,7 +63,7 @@ fn is_of(at: &ModuleTree, path: &Dotted, home: &Dotted, name: &Name) -> bool
     }
 }
 
-/// The name of the module in which a call looks whose path has these names in front of the protocol's.
+// Returns the name of the module that a call refers to, given the part of its path before the protocol's name.
 fn looked_in<'a>(at: &'a ModuleTree, front: &[Name]) -> Option<&'a Dotted>
     ensures { option_copied result ≡ looked_in at.now front.now }
 {

@@ -1,7 +1,7 @@
 //! What an edit changes.
 
+use scrib_types::containers::Items;
 use scrib_types::name::Dotted;
-use scrib_types::plain::Items;
 
 /// What an edit did to a protocol.
 #[derive(Clone, Copy, Debug, PartialEq, Eq)]
@@ -18,7 +18,7 @@ pub struct Change {
     pub name: Dotted,
 }
 
-/// What an edit of a module changed, by name.
+/// What an edit of a module changed, in the order of names.
 #[derive(Drop)]
 pub struct Changes {
     pub module: Dotted,

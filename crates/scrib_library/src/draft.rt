@@ -1,4 +1,4 @@
-//! Which versions an edit makes anew.
+//! Which versions an edit creates.
 
 ghost use Rattle.std.specs.Prelude.{◌≡◌, ◌+◌, ◌≤◌, ◌<◌, cond, is_some, IfOk, IfErr, Some};
 ghost use Rattle.std.specs.Option.{option_copied};
@@ -6,33 +6,33 @@ ghost use Rattle.scrib_record.specs.declared.version.Version as version;
 ghost use Rattle.scrib_library.specs.Listed.{AreInOrder};
 ghost use Rattle.scrib_library.specs.Stored.{version_names};
 ghost use Rattle.scrib_library.specs.Elaborated.{meaning_names};
-ghost use Rattle.scrib_library.specs.Drafts.{shown, IsMadeAnew, IsEdit, LacksVersion, LacksNumber, IsDraft, StopsDraft};
+ghost use Rattle.scrib_library.specs.Drafts.{shown, IsNewVersionEdit, IsEdit, LacksVersion, LacksNumber, IsDraft, StopsDraft};
 
 use crate::changes::{Change, ChangeKind};
 use crate::fault::EditFault;
 use crate::hints::Hints;
 use crate::library::MAX_VERSIONS;
 use crate::meanings::NamedMeaning;
-use crate::versions::{NamedVersion, VersionEdit, version_near};
+use crate::versions::{NamedVersion, VersionEdit, version_at_hint};
 use scrib_record::compilation::Compiled;
 use scrib_record::version::Version;
+use scrib_types::containers::Items;
 use scrib_types::name::Dotted;
-use scrib_types::plain::Items;
 use scrib_types::protocol::Protocol;
 use std::alloc::{AllocError, Global};
 
-/// The edits of the versions, and how many versions were ever used then.
+/// The edits of the versions, and the number of versions ever used after them.
 #[derive(Drop)]
 pub struct Draft {
     pub edits: Vec<VersionEdit>,
     pub used: u32,
 }
 
-/// The edits of the versions that give each name a version of what it means, in the same order. A name whose version
-/// means that keeps it. The new versions have the numbers from `used` on.
+/// Returns the edits that give each name a version of its meaning, in the same order. A name keeps its version if the
+/// meaning is unchanged. New versions are numbered from `used` on.
 ///
 /// # Errors
-/// `VersionsFull` where there aren't numbers enough; `OutOfMemory` where memory was refused.
+/// `VersionsFull` if the numbers run out; `OutOfMemory` if memory was refused.
 pub fn draft_of(
     alloc: Global,
     versions: &[NamedVersion],
@@ -49,8 +49,8 @@ pub fn draft_of(
     let mut edits = Vec::new(alloc);
     let mut next = used;
     for named in meanings {
-        let near = hints.place_of(&named.name);
-        let before = version_near(versions, near, &named.name);
+        let hint = hints.place_of(&named.name);
+        let before = version_at_hint(versions, hint, &named.name);
         if let Some(edit) = edit_of(alloc, before, named, next)? {
             next = used_after(&edit, next);
             edits.push(edit)?;
@@ -59,7 +59,7 @@ pub fn draft_of(
     Ok(Draft { edits, used: next })
 }
 
-/// How many versions were used, with that of the edit if it has one.
+// Returns the number of used versions, counting the new version of the edit if it has one.
 fn used_after(edit: &VersionEdit, used: u32) -> u32
     requires { (v : version.Version) → edit.now.version ≡ Some v → used < 65536 }
     ensures { result ≡ used + cond (is_some edit.now.version) 1 0 }
@@ -71,10 +71,10 @@ fn used_after(edit: &VersionEdit, used: u32) -> u32
     }
 }
 
-/// The changes that the edits are.
+/// Returns the edits as changes to report.
 ///
 /// # Errors
-/// `AllocError` where memory was refused.
+/// `AllocError` if memory was refused.
 pub fn changes_in(alloc: Global, edits: &[VersionEdit]) -> Result<Items<Change>, AllocError>
     ensures { IfOk result (λ changes. changes ≡ shown edits.now) }
 {
@@ -89,7 +89,7 @@ pub fn changes_in(alloc: Global, edits: &[VersionEdit]) -> Result<Items<Change>,
     Ok(Items::from_vec(changes))
 }
 
-/// The edit of a name that has this version, if any, or nothing where the version means the same.
+// Returns the edit of a name whose version is `before`, or `None` if the meaning is unchanged.
 fn edit_of(
     alloc: Global,
     before: Option<&Version>,
@@ -108,28 +108,28 @@ fn edit_of(
             version: None,
         })),
         (None, Some(compiled)) => {
-            let edit = anew(alloc, ChangeKind::Added, name, compiled, used)?;
+            let edit = new_version_edit(alloc, ChangeKind::Added, name, compiled, used)?;
             Ok(Some(edit))
         }
         (Some(before), Some(compiled)) => {
             if Protocol::same_meaning(before.protocol(), compiled.protocol()) {
                 return Ok(None);
             }
-            let edit = anew(alloc, ChangeKind::Replaced, name, compiled, used)?;
+            let edit = new_version_edit(alloc, ChangeKind::Replaced, name, compiled, used)?;
             Ok(Some(edit))
         }
     }
 }
 
-/// The edit that gives the name a new version of this number.
-fn anew(
+// Returns the edit that gives the name a new version with this number.
+fn new_version_edit(
     alloc: Global,
     kind: ChangeKind,
     name: Dotted,
     compiled: Compiled,
     number: u32,
 ) -> Result<VersionEdit, EditFault>
-    ensures ok { IfOk result (IsMadeAnew kind name compiled number) }
+    ensures ok { IfOk result (IsNewVersionEdit kind name compiled number) }
     ensures fault { IfErr result (LacksNumber number) }
 {
     if number >= MAX_VERSIONS {

@@ -1,37 +1,37 @@
 //! Why an edit was refused.
 
 use scrib_lexer::fault::LexFault;
-use scrib_static_checks::fault::{ElaborateFault, Fault};
 use scrib_parser::fault::ParseFault;
 use scrib_project::fault::{ProjectFault, Unmergeable};
+use scrib_static_checks::fault::{ElaborateFault, Fault};
 use scrib_types::name::Dotted;
 use std::alloc::{AllocError, AllocFailed};
 
-/// Why an edit was refused. Nothing changes then.
+/// Why an edit was refused. A refused edit changes nothing.
 #[derive(Drop)]
 pub enum EditFault {
-    /// The text has no tokens.
+    /// The text has no token sequence.
     Lex(LexFault),
-    /// The tokens are no module.
+    /// The tokens do not form a module.
     Parse(ParseFault),
-    /// There is no module of the name.
+    /// No module has this name.
     UnknownModule,
-    /// There would be more than 256 modules.
+    /// The edit would make more than 256 modules.
     TooManyModules,
-    /// Another module imports this one: the first that does, by name, in the order of bytes.
+    /// Another module imports this one: the first such module by name, in byte order.
     StillImported { by: Dotted },
-    /// The module imports this one, which isn't there. It is the first such import.
+    /// The module imports this one, which does not exist. It is the first such import.
     ImportMissing { module: Dotted },
-    /// There would be more than 1,024 protocols.
+    /// The edit would make more than 1,024 protocols.
     TooManyProtocols,
-    /// A declared protocol means nothing: the first by name, in the order of bytes.
+    /// A declared protocol has no meaning: the first such protocol by name, in byte order.
     Elaborate(Fault),
-    /// What a declared protocol means has no projection on a role under the profile that is held: the first such
-    /// protocol by name, in the order of bytes.
+    /// The type of a declared protocol does not project on some role under the library's profile. It is the first such
+    /// protocol by name, in byte order.
     Project(Unmergeable),
-    /// More than 65,536 versions would have been used.
+    /// The edit would use more than 65,536 versions.
     VersionsFull,
-    /// The plain profile doesn't project what this name means: the first such name, in the order of bytes.
+    /// The plain profile does not project this protocol: the first such name, in byte order.
     NeedsReception { name: Dotted },
     /// Memory was refused.
     OutOfMemory,
@@ -39,7 +39,7 @@ pub enum EditFault {
 
 impl From<LexFault> for EditFault {
     ghost use Rattle.std.specs.Prelude.{◌≡◌};
-    ghost use Rattle.scrib_library.specs.Made.{edit_fault_of_lex};
+    ghost use Rattle.scrib_library.specs.FaultConversions.{edit_fault_of_lex};
 
     ghost from_gives = { λ f e. e ≡ edit_fault_of_lex f };
 
@@ -53,7 +53,7 @@ impl From<LexFault> for EditFault {
 
 impl From<ParseFault> for EditFault {
     ghost use Rattle.std.specs.Prelude.{◌≡◌};
-    ghost use Rattle.scrib_library.specs.Made.{edit_fault_of_parse};
+    ghost use Rattle.scrib_library.specs.FaultConversions.{edit_fault_of_parse};
 
     ghost from_gives = { λ f e. e ≡ edit_fault_of_parse f };
 
@@ -67,7 +67,7 @@ impl From<ParseFault> for EditFault {
 
 impl From<ElaborateFault> for EditFault {
     ghost use Rattle.std.specs.Prelude.{◌≡◌};
-    ghost use Rattle.scrib_library.specs.Made.{edit_fault_of_elaborate};
+    ghost use Rattle.scrib_library.specs.FaultConversions.{edit_fault_of_elaborate};
 
     ghost from_gives = { λ f e. e ≡ edit_fault_of_elaborate f };
 
@@ -81,7 +81,7 @@ impl From<ElaborateFault> for EditFault {
 
 impl From<ProjectFault> for EditFault {
     ghost use Rattle.std.specs.Prelude.{◌≡◌};
-    ghost use Rattle.scrib_library.specs.Made.{edit_fault_of_project};
+    ghost use Rattle.scrib_library.specs.FaultConversions.{edit_fault_of_project};
 
     ghost from_gives = { λ f e. e ≡ edit_fault_of_project f };
 

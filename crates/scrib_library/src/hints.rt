@@ -1,5 +1,5 @@
-//! Hints where versions stand, by a number that is mixed of their names. Nothing rests on them: whoever takes a hint
-//! compares the name that stands there.
+//! Hints for the indices of versions, by a hash of their names. Correctness does not depend on them: the user of a hint
+//! compares the name found there.
 
 ghost use Rattle.std.specs.Prelude.{◌<◌};
 
@@ -7,19 +7,19 @@ use crate::versions::NamedVersion;
 use scrib_types::name::Dotted;
 use std::alloc::{AllocError, Global};
 
-/// How many places are remembered: a power of two, by which a remainder costs little.
+// The number of hint slots: a power of two, so that a remainder is cheap.
 const SLOTS: usize = 4096;
 
-/// For each mixed number a place among the versions, if memory for them was taken yet.
+/// For each hash an index into the versions. The slots are allocated on first use.
 #[derive(Drop)]
 pub struct Hints {
     places: Vec<u16>,
-    // How many versions there were when the places were noted.
+    // The number of versions when the slots were last filled.
     count: usize,
 }
 
 impl Hints {
-    /// No hints, and no memory for any.
+    /// Returns an empty table, without allocating.
     pub fn new(alloc: Global) -> Hints {
         Hints {
             places: Vec::new(alloc),
@@ -27,10 +27,10 @@ impl Hints {
         }
     }
 
-    /// Takes memory for hints, once.
+    /// Allocates the slots, once.
     ///
     /// # Errors
-    /// `AllocError` where memory was refused.
+    /// `AllocError` if memory was refused.
     pub fn make_room(&mut self, alloc: Global) -> Result<(), AllocError> {
         if self.places.is_empty() {
             let mut places = Vec::with_capacity(alloc, SLOTS)?;
@@ -42,41 +42,41 @@ impl Hints {
         Ok(())
     }
 
-    /// Remembers where these versions stand; of two with one number the last. Where there are as many as before, most
-    /// stand where they stood, and the hints stay.
+    /// Records the indices of these versions; names with equal hashes share a slot, which keeps the last. If the number
+    /// of versions is unchanged, most indices are too, and the hints stay as they are.
     pub fn renew(&mut self, versions: &[NamedVersion]) {
         if versions.len() == self.count {
             return;
         }
         self.count = versions.len();
         for (place, named) in (0..=u16::MAX).zip(versions) {
-            if let Some(noted) = self.places.get_mut(mixed(&named.name)) {
+            if let Some(noted) = self.places.get_mut(slot_of(&named.name)) {
                 *noted = place;
             }
         }
     }
 
-    /// Where the version of this name may stand.
+    /// Returns the likely index of the version of this name.
     pub fn place_of(&self, name: &Dotted) -> usize {
-        match self.places.get(mixed(name)) {
+        match self.places.get(slot_of(name)) {
             Some(place) => usize::from(*place),
             None => 0,
         }
     }
 }
 
-/// The number of the name, mixed of its last two parts: those before are mostly alike among a library's protocols.
-fn mixed(name: &Dotted) -> usize {
+// Hashes the last two parts of the name to a slot. The parts in front are mostly alike among a library's protocols.
+fn slot_of(name: &Dotted) -> usize {
     let parts = name.as_slice();
     let mut number = 0;
     for part in &parts[parts.len().saturating_sub(2)..] {
-        number = mixed_bytes(number, part.as_bytes());
+        number = hash_bytes(number, part.as_bytes());
     }
     number
 }
 
-/// The bytes, mixed into the number.
-fn mixed_bytes(so_far: usize, bytes: &[u8]) -> usize
+// Adds the bytes to the hash.
+fn hash_bytes(so_far: usize, bytes: &[u8]) -> usize
     requires { so_far < 4096 }
     ensures { result < 4096 }
 {

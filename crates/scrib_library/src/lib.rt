@@ -1,4 +1,4 @@
-//! The library: accepted modules, and the protocols that they mean.
+//! The library: the accepted modules and the protocols that they define.
 #![tactic(auto)]
 
 mod affected;
@@ -10,8 +10,9 @@ pub mod fault;
 mod hints;
 pub mod library;
 mod meanings;
+mod module_store;
+mod name_filter;
 mod names;
-mod outlines;
 mod plan;
 mod profiles;
 mod reaching;
@@ -19,6 +20,5 @@ mod read;
 mod removal;
 mod room;
 mod same;
-mod shelf;
-mod sieve;
+mod summaries;
 mod versions;

@@ -12,42 +12,42 @@ ghost use Rattle.scrib_library.specs.Profiles.{ProfileFails};
 use crate::changes::Changes;
 use crate::fault::EditFault;
 use crate::hints::Hints;
+use crate::module_store::ModuleStore;
 use crate::plan::{Plan, plan_put, plan_withdrawal};
 use crate::profiles::check_change;
 use crate::read::read;
 use crate::removal::free_place;
-use crate::shelf::Shelf;
-use crate::versions::{NamedVersion, found_near, make_all, numbered_at, version_near};
-use scrib_parser::recent::Recent;
+use crate::versions::{NamedVersion, apply_edits, found_at_hint, numbered_at, version_at_hint};
+use scrib_parser::interner::Interner;
 use scrib_record::version::Version;
 use scrib_types::name::Dotted;
 use scrib_types::profile::Profile;
 use std::alloc::Global;
 use std::marker::Model;
 
-/// The most modules.
+/// The maximal number of modules.
 pub const MAX_MODULES: usize = 256;
 
-/// The most protocols of all modules together.
+/// The maximal number of protocols of all modules together.
 pub const MAX_PROTOCOLS: usize = 1024;
 
-/// The most versions that are ever used.
+/// The maximal number of versions over the library's life.
 pub const MAX_VERSIONS: u32 = 65_536;
 
-/// The accepted modules, with a version of each protocol that they declare, in the order of the protocols' full
-/// names, the profile under which all these project, and how many versions were ever used. Contracts see the profile,
-/// the modules, the numbers of the versions, and the count.
+/// The accepted modules, and a version of each protocol that they declare, in the order of full names. It also holds
+/// the profile under which all these protocols project, and the number of versions ever used. Contracts see the
+/// profile, the modules, the version numbers and the count.
 #[derive(Drop)]
 pub struct Library {
     alloc: Global,
     profile: Profile,
-    modules: Shelf,
+    modules: ModuleStore,
     versions: Vec<NamedVersion>,
     used: u32,
-    // Where versions are looked for first.
+    // Where the index of a version is looked up first.
     hints: Hints,
-    // Names and messages of the texts before, which those of the next one share. Nothing rests on them.
-    recent: Recent,
+    // Names and messages of recent texts, which the next text shares. Correctness does not depend on them.
+    interner: Interner,
 }
 
 impl Model for Library {
@@ -60,50 +60,55 @@ impl Model for Library {
 
     ghost coded = { Prim.hlevel (codes, statement.the_row.coded) };
 
-    ghost view = { λ l. record { profile = l.profile; modules = l.modules; stamps = stamps_of l.versions.items; used = l.used } };
+    ghost view = { λ l. record {
+      profile = l.profile;
+      modules = l.modules;
+      stamps = stamps_of l.versions.items;
+      used = l.used;
+    } };
 
     ghost invariant = { λ l. IsLibrary l.profile l.modules l.versions.items l.used };
 }
 
 impl Library {
-    /// A library of the plain profile without modules, of which no version was used.
+    /// Returns a library of the plain profile, without modules and used versions.
     pub fn new(alloc: Global) -> Library
         ensures { result ≡ no_holdings }
     {
         Library::with_profile(alloc, Profile::Plain)
     }
 
-    /// A library of this profile without modules, of which no version was used.
+    /// Returns a library of this profile, without modules and used versions.
     pub fn with_profile(alloc: Global, profile: Profile) -> Library
         ensures { result ≡ no_holdings_under profile }
     {
         Library {
             alloc,
             profile,
-            modules: Shelf::new(alloc),
+            modules: ModuleStore::new(alloc),
             versions: Vec::new(alloc),
             used: 0,
             hints: Hints::new(alloc),
-            recent: Recent::new(),
+            interner: Interner::new(),
         }
     }
 
-    /// Puts the module that the text is, in place of the one of its name if there is one, and answers what
-    /// changed. Each protocol that is declared then projects under the profile that is held. A refused put changes
-    /// nothing.
+    /// Parses the text and puts its module into the library, replacing a module of the same name. Returns the changes.
+    /// Each declared protocol then projects under the library's profile. A refused put changes nothing.
     ///
     /// # Errors
-    /// The first of these that the put has: `Lex`, `Parse`, `TooManyModules`, `ImportMissing`, `TooManyProtocols`,
-    /// `Elaborate`, `Project`, `VersionsFull`. `OutOfMemory` where memory was refused.
+    /// The first of these that applies: `Lex`, `Parse`, `TooManyModules`, `ImportMissing`, `TooManyProtocols`,
+    /// `Elaborate`, `Project`, `VersionsFull`. `OutOfMemory` if memory was refused.
     pub fn put(&mut self, text: &[u8]) -> Result<Changes, EditFault>
-        ensures ok { IfOk result (λ changes. (m : parsed.ModuleTree) × IsPut self.old.profile self.old.modules text.now m self.new.modules
+        ensures ok { IfOk result (λ changes. (m : parsed.ModuleTree)
+            × IsPut self.old.profile self.old.modules text.now m self.new.modules
             × (changes.module ≡ m.name) × IsChanges self.old.modules self.new.modules changes.list) }
         ensures versions { IfOk result (λ changes. AreVersionsUsed self.old self.new changes.list) }
         ensures fault { IfErr result (PutFails self.old.profile self.old.modules self.old.used text.now) }
         ensures err { OnErr result (self.new ≡ self.old) }
         ensures profile { self.new.profile ≡ self.old.profile }
     {
-        let tree = read(self.alloc, text, &mut self.recent)?;
+        let tree = read(self.alloc, text, &mut self.interner)?;
         self.hints.make_room(self.alloc)?;
         let placed = self.modules.put(tree)?;
         let new = &self.modules.as_slice()[placed.at];
@@ -124,7 +129,7 @@ impl Library {
                     used,
                     changes,
                 } = plan;
-                make_all(&mut self.versions, &self.hints, edits);
+                apply_edits(&mut self.versions, &self.hints, edits);
                 self.hints.renew(&self.versions);
                 self.used = used;
                 Ok(changes)
@@ -136,12 +141,12 @@ impl Library {
         }
     }
 
-    /// Takes the module of this name out, and answers what changed: the names of its protocols, which mean nothing
-    /// any more. A module that imports itself alone can be withdrawn. A refused withdrawal changes nothing.
+    /// Withdraws the module of this name and returns the changes: its protocols, which then have no meaning. A module
+    /// that is imported by itself alone can be withdrawn. A refused withdrawal changes nothing.
     ///
     /// # Errors
-    /// `UnknownModule` where there is no module of the name, else `StillImported` where another module imports it;
-    /// `OutOfMemory` where memory was refused.
+    /// `UnknownModule` if no module has the name, else `StillImported` if another module imports it. `OutOfMemory` if
+    /// memory was refused.
     pub fn withdraw(&mut self, name: &Dotted) -> Result<Changes, EditFault>
         ensures ok { IfOk result (λ changes. IsWithdrawal self.old.profile self.old.modules name.now self.new.modules
             × (changes.module ≡ name.now) × IsChanges self.old.modules self.new.modules changes.list
@@ -156,28 +161,33 @@ impl Library {
         let gone = &self.modules.as_slice()[at];
         let plan = plan_withdrawal(self.alloc, gone, &mut self.versions, &self.hints, self.used)?;
         let Plan { edits, changes, .. } = plan;
-        make_all(&mut self.versions, &self.hints, edits);
+        apply_edits(&mut self.versions, &self.hints, edits);
         self.hints.renew(&self.versions);
         self.modules.take_out(at);
         Ok(changes)
     }
 
-    /// The profile that is held: under it each protocol that is declared projects.
+    /// Returns the library's profile. Each declared protocol projects under it.
     pub fn profile(&self) -> Profile
         ensures { result ≡ self.now.profile }
     {
         self.profile
     }
 
-    /// Changes the profile that is held. The modules, the versions and their count stay. The change to the profile that
-    /// is held already, and that to the wider one, are always accepted; that to the plain one is where each name means
-    /// what projects under it. A refused change changes nothing.
+    /// Changes the library's profile; the modules, the versions and their count stay. A change to the same or to the
+    /// reception profile is always accepted. A change to the plain profile is accepted if every declared protocol
+    /// projects under it. A refused change changes nothing.
     ///
     /// # Errors
-    /// `NeedsReception` where the plain profile is wanted and some name means what it doesn't project, with the first
-    /// such name; `OutOfMemory` where the plain profile is to follow the wider one and memory was refused.
+    /// `NeedsReception` with the first name that the plain profile does not project, if that profile is wanted.
+    /// `OutOfMemory` if memory was refused while the plain profile replaces the reception profile.
     pub fn set_profile(&mut self, profile: Profile) -> Result<(), EditFault>
-        ensures ok { OnOk result (self.new ≡ record { profile = profile; modules = self.old.modules; stamps = self.old.stamps; used = self.old.used }) }
+        ensures ok { OnOk result (self.new ≡ record {
+          profile = profile;
+          modules = self.old.modules;
+          stamps = self.old.stamps;
+          used = self.old.used;
+        }) }
         ensures projected { OnOk result (AllProject profile self.old.modules) }
         ensures fault { IfErr result (ProfileFails self.old.profile profile self.old.modules) }
         ensures err { OnErr result (self.new ≡ self.old) }
@@ -187,26 +197,25 @@ impl Library {
         Ok(())
     }
 
-    /// The version of a protocol that is there, by its full name.
+    /// Returns the present version of a protocol, by its full name.
     pub fn present(&self, name: &Dotted) -> Option<&Version>
         ensures meaning { IsMeaning self.now.modules name.now (option_map (λ v. meaning_of v.now) result) }
         ensures number { IsNumber self.now name.now (option_map (λ v. number_of v.now) result) }
     {
-        version_near(&self.versions, self.hints.place_of(name), name)
+        version_at_hint(&self.versions, self.hints.place_of(name), name)
     }
 
-    /// The version of a protocol that is there, by its full name, behind the place where it stands or would stand. It
-    /// is looked for first at the place that is given, which may be any: who asks often for one name gives the place
-    /// that was told last.
-    pub fn present_near(&self, near: usize, name: &Dotted) -> (usize, Option<&Version>)
+    /// Returns the present version of a protocol, by its full name, and the index at which it is or would be. `hint`
+    /// may be any index and is tried first: a caller that often asks for one name passes the index that it got last.
+    pub fn present_at_hint(&self, hint: usize, name: &Dotted) -> (usize, Option<&Version>)
         ensures meaning { IsMeaning self.now.modules name.now (option_map (λ v. meaning_of v.now) result.1) }
         ensures number { IsNumber self.now name.now (option_map (λ v. number_of v.now) result.1) }
     {
-        found_near(&self.versions, near, name)
+        found_at_hint(&self.versions, hint, name)
     }
 
-    /// The version that stands at this place, where it has this number. It is that of a name's protocol, which isn't
-    /// compared: who knows whose number it is needn't look the name up.
+    /// Returns the version at this index if it has this number. The name is not compared: a caller that knows whose
+    /// number it is avoids a look-up.
     pub fn numbered_at(&self, place: usize, number: u32) -> Option<&Version>
         ensures numbered { IfSome result (λ version. number_of version.now ≡ number) }
         ensures stamp { IfSome result (λ version. IsStamp self.now (meaning_of version.now) (number_of version.now)) }
@@ -214,8 +223,8 @@ impl Library {
         numbered_at(&self.versions, place, number)
     }
 
-    /// The name, in the library's own copy where it declares a protocol of this name, so that all who keep it share
-    /// one.
+    /// Returns the library's own copy of the name, if it declares a protocol of this name, so that all holders share
+    /// one copy.
     pub fn shared_name<'a>(&'a self, name: &'a Dotted) -> &'a Dotted
         ensures { result.now ≡ name.now }
     {
@@ -225,21 +234,21 @@ impl Library {
         }
     }
 
-    /// How many versions were ever used.
+    /// Returns the number of versions ever used.
     pub fn used(&self) -> usize
         ensures { result ≡ self.now.used }
     {
         self.used as usize
     }
 
-    /// A law: what the modules mean by a name is a protocol.
+    /// A law: the meaning of each name is a protocol.
     pub fn means_protocols(&self)
         ensures { MeansProtocols self.now.modules }
     {
         let _versions = self.versions.as_slice();
     }
 
-    /// A law: a name means one thing, and each that means something has a number of its own, below the count of used
+    /// A law: a name has at most one meaning. Each name with a meaning has a number of its own, below the count of used
     /// versions.
     pub fn are_numbered(&self)
         ensures once { MeansOnce self.now.modules }
@@ -248,8 +257,8 @@ impl Library {
         let _versions = self.versions.as_slice();
     }
 
-    /// A law: the modules have different names and are well formed under the profile that is held, a name means one
-    /// thing, and the versions are numbered.
+    /// A law: the modules have different names and are well formed under the library's profile. A name has at most one
+    /// meaning, and the versions are numbered.
     pub fn is_accepting(&self)
         ensures { IsAccepting self.now }
     {

@@ -1,46 +1,45 @@
-//! What protocols mean, with their projections.
+//! The meanings of protocols, with their projections.
 
 ghost use Rattle.std.specs.Prelude.{◌≡◌, IfOk, IfErr};
 ghost use Rattle.scrib_types.specs.declared.profile.Profile as held;
 ghost use Rattle.scrib_types.specs.Meaning.{agreement_of};
 ghost use Rattle.scrib_library.specs.Listed.{AreInOrder};
-ghost use Rattle.scrib_library.specs.Entries.{entry_names, AreStanding};
+ghost use Rattle.scrib_library.specs.Entries.{entry_names, AreDeclared};
 ghost use Rattle.scrib_library.specs.Elaborated.{IsFoundFor, IsBrokenEntry, AreElaborated, AreMeanings, IsProjected, StopsNamed, AreProjected, IsRefusal, StopsProjection};
-ghost use Rattle.scrib_library.specs.Withdrawals.{AreNothing, AreDropped};
+ghost use Rattle.scrib_library.specs.Withdrawals.{AreNothing, AreWithdrawnMeanings};
 
 use crate::declared::{Entry, enter};
 use crate::fault::EditFault;
 use scrib_elaborate::elaborate::Elaborator;
 use scrib_elaborate::elaborated::Elaborated;
-use scrib_static_checks::modules::Modules;
 use scrib_parser::tree::ModuleTree;
 use scrib_project::projected::ProjectedProtocol;
 use scrib_project::protocol::protocol_with_projections;
 use scrib_record::compilation::Compiled;
+use scrib_static_checks::modules::Modules;
 use scrib_types::name::Dotted;
 use scrib_types::profile::Profile;
 use std::alloc::{AllocError, Global};
 
-/// What a name means, if anything, as it was elaborated.
+/// The elaborated type of a name, if it has a meaning.
 #[derive(Drop)]
 pub struct NamedElaborated {
     pub name: Dotted,
     pub elaborated: Option<Elaborated>,
 }
 
-/// What a name means, if anything, with its projections, compiled.
+/// The compiled type of a name with its projections, if it has a meaning.
 #[derive(Drop)]
 pub struct NamedMeaning {
     pub name: Dotted,
     pub compiled: Option<Compiled>,
 }
 
-/// What the protocol of each entry means, in the same order; nothing where it isn't declared any more.
+/// Returns the meaning of the protocol of each entry, in the same order; `None` if it is no longer declared.
 ///
 /// # Errors
-/// `Elaborate` with a fault of the first protocol, in that order, that means nothing; if there is none `Project`
-/// with that of the first that has no projection on one of its roles under the profile; `OutOfMemory` where memory was
-/// refused.
+/// `Elaborate` with a fault of the first protocol, in that order, that has no meaning. Else `Project` with the fault of
+/// the first that does not project on some role under the profile. `OutOfMemory` if memory was refused.
 pub fn meanings_of(
     alloc: Global,
     profile: Profile,
@@ -48,7 +47,7 @@ pub fn meanings_of(
     entries: Vec<Entry>,
 ) -> Result<Vec<NamedMeaning>, EditFault>
     requires sorted { AreInOrder (entry_names entries.items) }
-    requires stand { AreStanding modules.now entries.items }
+    requires stand { AreDeclared modules.now entries.items }
     ensures ok { IfOk result (λ meanings. AreMeanings profile modules.now entries.entry.items meanings.items) }
     ensures fault { IfErr result (IsRefusal profile modules.now entries.entry.items) }
 {
@@ -57,21 +56,21 @@ pub fn meanings_of(
     Ok(meanings)
 }
 
-/// That the names of the module's protocols mean nothing, in the order of their full names. A name that is declared
-/// twice stands there once.
+/// Returns the names of the module's protocols, each without a meaning, in the order of full names. A name that is
+/// declared twice is listed once.
 ///
 /// # Errors
-/// `AllocError` where memory was refused.
-pub fn dropped(alloc: Global, gone: &ModuleTree) -> Result<Vec<NamedMeaning>, AllocError>
-    ensures { IfOk result (λ meanings. AreDropped gone.now meanings.items) }
+/// `AllocError` if memory was refused.
+pub fn withdrawn_meanings(alloc: Global, gone: &ModuleTree) -> Result<Vec<NamedMeaning>, AllocError>
+    ensures { IfOk result (λ meanings. AreWithdrawnMeanings gone.now meanings.items) }
 {
     let mut entries = Vec::new(alloc);
     enter(alloc, &mut entries, gone, false)?;
-    nothing_of(alloc, entries)
+    without_meanings(alloc, entries)
 }
 
-/// That the entries' names mean nothing, in the same order.
-fn nothing_of(alloc: Global, entries: Vec<Entry>) -> Result<Vec<NamedMeaning>, AllocError>
+// Returns the entries' names, each without a meaning, in the same order.
+fn without_meanings(alloc: Global, entries: Vec<Entry>) -> Result<Vec<NamedMeaning>, AllocError>
     ensures { IfOk result (λ meanings. AreNothing entries.entry.items meanings.items) }
 {
     let mut meanings = Vec::with_capacity(alloc, entries.len())?;
@@ -90,7 +89,7 @@ fn elaborate_all(
     modules: &Modules,
     entries: Vec<Entry>,
 ) -> Result<Vec<NamedElaborated>, EditFault>
-    requires { AreStanding modules.now entries.items }
+    requires { AreDeclared modules.now entries.items }
     ensures ok { IfOk result (λ all. AreElaborated modules.now entries.entry.items all.items) }
     ensures fault { IfErr result (λ f. (profile : held.Profile) → IsRefusal profile modules.now entries.entry.items f) }
 {
@@ -112,16 +111,16 @@ fn elaborate_entry(elaborator: &mut Elaborator, entry: Entry) -> Result<NamedEla
         home,
         protocol,
         name,
-        stands,
+        is_declared,
     } = entry;
     let mut elaborated = None;
-    if stands {
+    if is_declared {
         elaborated = Some(elaborator.elaborate(&home.name, &protocol.name)?);
     }
     Ok(NamedElaborated { name, elaborated })
 }
 
-/// The projections of each under the profile, in the same order.
+// Returns the projections of each under the profile, in the same order.
 fn project_all(
     alloc: Global,
     profile: Profile,
@@ -157,8 +156,8 @@ fn project_named(
     Ok(NamedMeaning { name, compiled })
 }
 
-/// The protocol, compiled. It is so as soon as it is projected, since its projections, which take much memory, are near
-/// the processor then, and aren't kept.
+// Compiles the protocol. This follows its projection at once: the projections, which are large, are still in the cache
+// and need not be kept.
 fn compiled_of(alloc: Global, projected: ProjectedProtocol) -> Result<Compiled, AllocError>
     ensures { IfOk result (λ c. agreement_of c.protocol ≡ agreement_of projected.protocol) }
 {

@@ -10,15 +10,15 @@ use scrib_types::name::{Dotted, Name};
 use std::alloc::{AllocError, Global};
 use std::cmp::Ordering;
 
-/// The order of the two by their names, from the first. It is that of the bytes of their printed texts, since
-/// the dot comes before each byte of a name.
+/// Compares two names part by part. The order is that of their printed bytes, since the dot precedes each byte of a
+/// name.
 pub fn compare(a: &Dotted, b: &Dotted) -> Ordering
     ensures { result ≡ name_cmp a.now b.now }
 {
     compare_all(a.as_slice(), b.as_slice())
 }
 
-/// Whether the two are the same. Their last names are compared first, since names of modules often begin alike.
+/// Whether two names are equal. The last parts are compared first, since module names often begin alike.
 pub fn same(a: &Dotted, b: &Dotted) -> bool
     ensures { IsTrue result ↔ (a.now ≡ b.now) }
 {
@@ -27,10 +27,10 @@ pub fn same(a: &Dotted, b: &Dotted) -> bool
     x[x.len() - 1].equal(&y[y.len() - 1]) && a.equal(b)
 }
 
-/// The name of the protocol behind that of its module.
+/// Returns the protocol's name appended to that of its module.
 ///
 /// # Errors
-/// `AllocError` where memory was refused.
+/// `AllocError` if memory was refused.
 pub fn full_name(alloc: Global, home: &Dotted, protocol: &Name) -> Result<Dotted, AllocError>
     ensures { IfOk result (λ full. full ≡ spec.full_name home.now protocol.now) }
 {

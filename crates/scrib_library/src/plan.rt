@@ -1,4 +1,4 @@
-//! What an edit of a module does.
+//! Plans an edit of a module.
 
 ghost use Rattle.std.specs.Prelude.{◌≡◌, ◌+◌, ◌≤◌, Some, IsTrue, IfOk, IfErr, vec_len, vec_capacity};
 ghost use Rattle.std.specs.Option.{option_copied};
@@ -13,22 +13,22 @@ ghost use Rattle.scrib_library.specs.declared.fault.EditFault.TheVariants.{OutOf
 
 use crate::affected::affected;
 use crate::changes::Changes;
-use crate::declared::touched;
+use crate::declared::affected_entries;
 use crate::draft::{Draft, changes_in, draft_of};
 use crate::fault::EditFault;
 use crate::hints::Hints;
-use crate::meanings::{NamedMeaning, dropped, meanings_of};
+use crate::meanings::{NamedMeaning, meanings_of, withdrawn_meanings};
+use crate::module_store::ModuleStore;
 use crate::reaching::reaching;
 use crate::room::check_room;
 use crate::same::same_module;
-use crate::shelf::Shelf;
 use crate::versions::{NamedVersion, VersionEdit};
 use scrib_parser::tree::ModuleTree;
 use scrib_types::name::Dotted;
 use scrib_types::profile::Profile;
 use std::alloc::Global;
 
-/// An edit that is accepted: what it does to the versions, how many were ever used then, and what changes.
+/// An accepted edit: the edits of the versions, the number of versions ever used after it, and the changes.
 #[derive(Drop)]
 pub struct Plan {
     pub edits: Vec<VersionEdit>,
@@ -36,17 +36,17 @@ pub struct Plan {
     pub changes: Changes,
 }
 
-/// What it does that the new module was put among these modules, in place of the one that is gone, where the versions
-/// are those before. Only the protocols of this module and of those that reach it by imports are looked at. They have
-/// to project under the profile. There is room for the new versions then.
+/// Plans the put of the module `new`, which is already among `modules`, in place of `gone`. `versions` are those of the
+/// library before the put. Only the protocols of this module and of those that reach it by imports are checked. They
+/// must project under the profile. On success `versions` has room for the new versions.
 ///
 /// # Errors
-/// The first fault of `EditFault`'s list, from `TooManyModules` on, that the put has; `OutOfMemory` where memory
-/// was refused.
+/// The first fault of the list of `EditFault`, from `TooManyModules` on, that applies; `OutOfMemory` if memory was
+/// refused.
 pub fn plan_put(
     alloc: Global,
     profile: Profile,
-    modules: &Shelf,
+    modules: &ModuleStore,
     new: &ModuleTree,
     gone: Option<&ModuleTree>,
     versions: &mut Vec<NamedVersion>,
@@ -56,24 +56,23 @@ pub fn plan_put(
     requires sorted { AreInOrder (version_names versions.old.items) }
     requires few { used ≤ 65536 }
     ensures ok { IfOk result (IsPlan profile new.now modules.now (option_copied gone.entry) versions.old.items used) }
-    ensures fault { IfErr result (StopsPut profile new.now modules.now (option_copied gone.entry) versions.old.items used) }
+    ensures fault { IfErr result (StopsPut profile new.now modules.now (option_copied gone.entry) versions.old.items
+        used) }
     ensures room { IfOk result (λ p. vec_len versions.new + vec_len p.edits ≤ vec_capacity versions.new) }
     ensures kept { versions.new.items ≡ versions.old.items }
 {
-    check_room(alloc, modules.as_slice(), modules.outlines(), new)?;
+    check_room(alloc, modules.as_slice(), modules.summaries(), new)?;
     let meanings = meanings_after(alloc, profile, modules, new, gone)?;
     plan_edits(alloc, &new.name, versions, hints, meanings, used)
 }
 
-/// What the names mean, in order, that the put of the new module in place of the one that is gone can have changed:
-/// none where the two are the same.
-///
-/// # Errors
-/// `Elaborate` or `Project`, the first that the put has; `OutOfMemory` where memory was refused.
+// Returns the meanings, in the order of names, that putting `new` in place of `gone` can have changed. There are none
+// if the two modules are equal. Errors: `Elaborate` or `Project`, the first that applies; `OutOfMemory` if memory was
+// refused.
 fn meanings_after(
     alloc: Global,
     profile: Profile,
-    modules: &Shelf,
+    modules: &ModuleStore,
     new: &ModuleTree,
     gone: Option<&ModuleTree>,
 ) -> Result<Vec<NamedMeaning>, EditFault>
@@ -86,14 +85,14 @@ fn meanings_after(
         return Ok(Vec::new(alloc));
     }
     let trees = modules.as_slice();
-    let outlines = modules.outlines();
-    let affected = affected(alloc, trees, outlines, &new.name)?;
-    let entries = touched(alloc, trees, outlines, &affected, gone)?;
+    let summaries = modules.summaries();
+    let affected = affected(alloc, trees, summaries, &new.name)?;
+    let entries = affected_entries(alloc, trees, summaries, &affected, gone)?;
     let reached = reaching(alloc, &new.name, entries)?;
     meanings_of(alloc, profile, modules.as_modules(), reached)
 }
 
-/// Whether the module that is gone is this one.
+// Whether the replaced module equals the new one.
 fn is_same(new: &ModuleTree, gone: Option<&ModuleTree>) -> bool
     ensures { IsTrue result → option_copied gone.entry ≡ Some new.now }
 {
@@ -103,10 +102,10 @@ fn is_same(new: &ModuleTree, gone: Option<&ModuleTree>) -> bool
     }
 }
 
-/// What it does that the module is taken out, where the versions are those before.
+/// Plans the withdrawal of the module. `versions` are those of the library before it.
 ///
 /// # Errors
-/// `OutOfMemory` where memory was refused.
+/// `OutOfMemory` if memory was refused.
 pub fn plan_withdrawal(
     alloc: Global,
     gone: &ModuleTree,
@@ -121,12 +120,12 @@ pub fn plan_withdrawal(
     ensures room { IfOk result (λ p. vec_len versions.new + vec_len p.edits ≤ vec_capacity versions.new) }
     ensures kept { versions.new.items ≡ versions.old.items }
 {
-    let meanings = dropped(alloc, gone)?;
+    let meanings = withdrawn_meanings(alloc, gone)?;
     plan_edits(alloc, &gone.name, versions, hints, meanings, used)
 }
 
-/// What it does that names have these meanings now, where the edited module has this name. There is room for the new
-/// versions then.
+// Plans the edits that give the names these meanings, where `name` is that of the edited module. On success `versions`
+// has room for the new versions.
 fn plan_edits(
     alloc: Global,
     name: &Dotted,

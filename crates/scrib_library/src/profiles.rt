@@ -1,4 +1,4 @@
-//! Whether the stored versions project under a profile that is to follow another.
+//! Whether the stored versions project under a new profile.
 
 ghost use Rattle.std.specs.Prelude.{◌≡◌, IfOk, IfErr, OnOk};
 ghost use Rattle.std.specs.Option.{option_copied};
@@ -16,12 +16,12 @@ use scrib_types::profile::Profile;
 use scrib_types::protocol::Protocol;
 use std::alloc::{AllocError, Global};
 
-/// That the versions project under the wanted profile, where they do under the one that is held. Only where the plain
-/// profile is to follow the wider one they are tried, in the order of their names.
+/// Checks that the versions project under the wanted profile, given that they do under the held one. Only a change from
+/// the reception profile to the plain one tries them, in the order of names.
 ///
 /// # Errors
-/// `NeedsReception` with the first name whose version lacks a projection on one of its roles; `OutOfMemory` where
-/// memory was refused.
+/// `NeedsReception` with the first name whose version does not project on some role; `OutOfMemory` if memory was
+/// refused.
 pub fn check_change(
     alloc: Global,
     versions: &[NamedVersion],
@@ -42,10 +42,8 @@ pub fn check_change(
     Ok(())
 }
 
-/// The first name whose version lacks a projection on one of its roles under the profile.
-///
-/// # Errors
-/// `AllocError` where memory was refused.
+// Returns the first name whose version does not project on some role under the profile. Errors: `AllocError` if memory
+// was refused.
 fn first_lacking<'a>(
     alloc: Global,
     versions: &'a [NamedVersion],
@@ -63,12 +61,10 @@ fn first_lacking<'a>(
     Ok(None)
 }
 
-/// Whether the protocol has a projection on each of its roles under the profile.
-///
-/// # Errors
-/// `AllocError` where memory was refused.
+// Whether the protocol projects on each of its roles under the profile. Errors: `AllocError` if memory was refused.
 fn has_projections(alloc: Global, protocol: &Protocol, profile: Profile) -> Result<bool, AllocError>
-    ensures { IfOk result (λ all. all ≡ projects profile (agreement_of protocol.now).global (agreement_of protocol.now).roles) }
+    ensures { IfOk result (λ all. all ≡ projects profile (agreement_of protocol.now).global
+        (agreement_of protocol.now).roles) }
 {
     for role in protocol.roles() {
         let local = project_type(alloc, protocol.global(), role, profile)?;

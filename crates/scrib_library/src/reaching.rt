@@ -1,25 +1,25 @@
-//! The protocols that an edit of a module can change: its own, and those that reach one of them by calls.
+//! The protocols that an edit of a module can change: its own, and those that reach one of these by calls.
 
 ghost use Rattle.std.specs.Prelude.{◌≡◌, ◌<◌, ◌⊎◌, [], length, IfOk, MatchOption, Contains};
 ghost use Rattle.scrib_library.specs.declared.declared.Entry as listed;
-ghost use Rattle.scrib_library.specs.Calls.{DoesNotCall, AreSifted, AreGathered, AreReaching};
+ghost use Rattle.scrib_library.specs.Calls.{DoesNotCall, IsWorklist, AreGathered, AreReaching};
 
 use crate::calls::calls_in;
 use crate::declared::{Entry, place_of};
 use scrib_types::name::Dotted;
 use std::alloc::{AllocError, Global};
 
-/// Entries of protocols that an edit reaches, and others of which it isn't known.
+// The protocols that the edit is known to reach, and the others, which are still to be checked.
 #[derive(Drop)]
-struct Sifted<'a> {
+struct Worklist<'a> {
     reached: Vec<Entry<'a>>,
     waiting: Vec<Entry<'a>>,
 }
 
-/// Those of the entries, in the order of names, that are of the module of this name, or reach one of them by calls.
+/// Returns the entries of the module `edited` and those that reach one of these by calls, in the order of names.
 ///
 /// # Errors
-/// `AllocError` where memory was refused.
+/// `AllocError` if memory was refused.
 pub fn reaching<'a>(
     alloc: Global,
     edited: &Dotted,
@@ -27,10 +27,10 @@ pub fn reaching<'a>(
 ) -> Result<Vec<Entry<'a>>, AllocError>
     ensures { IfOk result (λ rs. AreReaching edited.now entries.entry.items rs.items) }
 {
-    let Sifted {
+    let Worklist {
         mut reached,
         mut waiting,
-    } = sift(alloc, edited, entries)?;
+    } = start_worklist(alloc, edited, entries)?;
     let mut at = 0;
     while at < reached.len() {
         match place_of_caller(&waiting, &reached[at]) {
@@ -44,13 +44,13 @@ pub fn reaching<'a>(
     in_order(alloc, reached)
 }
 
-/// The entries of the module of this name, and the others.
-fn sift<'a>(
+// Splits the entries into those of the edited module and the others.
+fn start_worklist<'a>(
     alloc: Global,
     edited: &Dotted,
     entries: Vec<Entry<'a>>,
-) -> Result<Sifted<'a>, AllocError>
-    ensures { IfOk result (λ s. AreSifted edited.now entries.entry.items s.reached.items s.waiting.items []) }
+) -> Result<Worklist<'a>, AllocError>
+    ensures { IfOk result (λ s. IsWorklist edited.now entries.entry.items s.reached.items s.waiting.items []) }
 {
     let mut reached = Vec::new(alloc);
     let mut waiting = Vec::new(alloc);
@@ -61,10 +61,10 @@ fn sift<'a>(
             waiting.push(entry)?;
         }
     }
-    Ok(Sifted { reached, waiting })
+    Ok(Worklist { reached, waiting })
 }
 
-/// The place of the first of the entries that calls the other.
+// Returns the index of the first entry that calls `called`.
 fn place_of_caller(waiting: &[Entry], called: &Entry) -> Option<usize>
     ensures { MatchOption result
         ((e : listed.Entry) → Contains waiting.now e → DoesNotCall e called.now)
@@ -79,10 +79,7 @@ fn place_of_caller(waiting: &[Entry], called: &Entry) -> Option<usize>
     None
 }
 
-/// The entries in the order of their names, one of each name.
-///
-/// # Errors
-/// `AllocError` where memory was refused.
+// Sorts the entries by name and keeps one of each name. Errors: `AllocError` if memory was refused.
 fn in_order<'a>(alloc: Global, entries: Vec<Entry<'a>>) -> Result<Vec<Entry<'a>>, AllocError>
     ensures { IfOk result (λ rs. AreGathered entries.entry.items rs.items) }
 {

@@ -1,4 +1,4 @@
-//! Whether a module can be taken out.
+//! Whether a module can be withdrawn.
 
 ghost use Rattle.std.specs.Prelude.{◌≡◌, ◌↔◌, IfOk, IfErr, IsTrue, Contains};
 ghost use Rattle.std.specs.Option.{option_copied};
@@ -9,18 +9,18 @@ ghost use Rattle.scrib_library.specs.Withdrawals.{Imports, IsFreePlace, IsFirstO
 
 use crate::affected::imports_some;
 use crate::fault::EditFault;
+use crate::module_store::ModuleStore;
 use crate::names::compare;
-use crate::shelf::Shelf;
 use scrib_parser::tree::ModuleTree;
 use scrib_types::name::Dotted;
 use std::cmp::Ordering;
 
-/// The place of the module of this name, which no other imports.
+/// Returns the index of the module of this name, if no other module imports it.
 ///
 /// # Errors
-/// `UnknownModule` where there is none; else `StillImported` where another module imports it, with the first such
-/// name; `OutOfMemory` where no copy of that name can be made.
-pub fn free_place(modules: &Shelf, name: &Dotted) -> Result<usize, EditFault>
+/// `UnknownModule` if no module has the name; else `StillImported` with the first module by name that imports it.
+/// `OutOfMemory` if that name could not be copied.
+pub fn free_place(modules: &ModuleStore, name: &Dotted) -> Result<usize, EditFault>
     requires { (m : parsed.ModuleTree) → Contains modules.now m → IsSpelled m }
     ensures ok { IfOk result (IsFreePlace modules.now name.now) }
     ensures fault { IfErr result (WithdrawFails modules.now name.now) }
@@ -35,7 +35,7 @@ pub fn free_place(modules: &Shelf, name: &Dotted) -> Result<usize, EditFault>
     Ok(at)
 }
 
-/// The first, in the order of names, of the names of other modules that import the one of this name.
+// Returns the first, in the order of names, of the other modules that import the one of this name.
 fn first_importer<'a>(modules: &'a [ModuleTree], name: &Dotted) -> Option<&'a Dotted>
     ensures { IsFirstOrNone modules.now name.now (option_copied result) }
 {
@@ -48,14 +48,14 @@ fn first_importer<'a>(modules: &'a [ModuleTree], name: &Dotted) -> Option<&'a Do
     first
 }
 
-/// Whether the module is another than the one of this name, and imports it.
+// Whether the module has another name than this one and imports it.
 fn is_importer(tree: &ModuleTree, name: &Dotted) -> bool
     ensures { IsTrue result ↔ Imports tree.now name.now }
 {
     !name.equal(&tree.name) && imports_some(tree, &[name])
 }
 
-/// The first of these names in their order; the second where there is no other.
+// Returns the lesser of two names; the second if the first is missing.
 fn first_of<'a>(name: Option<&'a Dotted>, second: &'a Dotted) -> &'a Dotted
     ensures { IsFirstOf (option_copied name.entry) second.entry.now result.now }
 {

@@ -1,5 +1,5 @@
-//! Whether two modules are the same, with the places in their texts. The contracts say that what is told to be the
-//! same is: nothing rests on an answer that it isn't.
+//! Whether two modules are equal, their positions in the text included. The contracts promise only that modules
+//! reported equal are equal.
 
 ghost use Rattle.std.specs.Prelude.{◌≡◌, IsTrue};
 
@@ -9,7 +9,7 @@ use scrib_parser::tree::{
 use scrib_types::message::operators_equal;
 use scrib_types::name::names_equal;
 
-/// Whether the two modules are the same.
+/// Whether the two modules are equal.
 pub fn same_module(a: &ModuleTree, b: &ModuleTree) -> bool
     ensures { IsTrue result → a.now ≡ b.now }
 {

@@ -1,11 +1,11 @@
-//! The stored versions, by full name, and edits of them.
+//! The stored versions, by full name, and their edits.
 
 ghost use Rattle.std.specs.Prelude.{◌≡◌, ◌+◌, ◌<◌, ◌≤◌, IfOk, IfErr, IfSome, vec_len, vec_capacity};
 ghost use Rattle.std.specs.Option.{option_copied};
 ghost use Rattle.scrib_library.specs.Listed.{AreInOrder, IsAt, IsGap};
 ghost use Rattle.scrib_record.specs.Versions.{number_of};
 ghost use Rattle.scrib_library.specs.Stored.{version_names, IsVersion, IsStored};
-ghost use Rattle.scrib_library.specs.Drafts.{edit_names, IsMade, AreMade};
+ghost use Rattle.scrib_library.specs.Drafts.{edit_names, IsApplied, AreApplied};
 
 use crate::changes::ChangeKind;
 use crate::hints::Hints;
@@ -21,7 +21,7 @@ pub struct NamedVersion {
     pub version: Version,
 }
 
-/// What is to be done to a name: its new version, or none where it has none any more.
+/// The edit of a name: its new version, or `None` if the name loses its version.
 #[derive(Drop)]
 pub struct VersionEdit {
     pub kind: ChangeKind,
@@ -29,36 +29,36 @@ pub struct VersionEdit {
     pub version: Option<Version>,
 }
 
-/// The version of the protocol of this name, which is looked for at this place first.
-pub fn version_near<'a>(
+/// Returns the version of the protocol of this name. The index `hint` is tried first.
+pub fn version_at_hint<'a>(
     versions: &'a [NamedVersion],
-    near: usize,
+    hint: usize,
     name: &Dotted,
 ) -> Option<&'a Version>
     requires { AreInOrder (version_names versions.now) }
     ensures { IsVersion versions.now name.now (option_copied result) }
 {
-    let (_, version) = found_near(versions, near, name);
+    let (_, version) = found_at_hint(versions, hint, name);
     version
 }
 
-/// The version of the protocol of this name, which is looked for at this place first, behind the place where it stands
-/// or would stand.
-pub fn found_near<'a>(
+/// Returns the version of the protocol of this name, and the index at which it is or would be. The index `hint` is
+/// tried first.
+pub fn found_at_hint<'a>(
     versions: &'a [NamedVersion],
-    near: usize,
+    hint: usize,
     name: &Dotted,
 ) -> (usize, Option<&'a Version>)
     requires { AreInOrder (version_names versions.now) }
     ensures { IsVersion versions.now name.now (option_copied result.1) }
 {
-    match place_near(versions, near, name) {
+    match place_at_hint(versions, hint, name) {
         Ok(at) => (at, Some(&versions[at].version)),
         Err(at) => (at, None),
     }
 }
 
-/// The version at this place, where it has this number.
+/// Returns the version at this index, if it has this number.
 pub fn numbered_at(versions: &[NamedVersion], place: usize, number: u32) -> Option<&Version>
     ensures numbered { IfSome result (λ version. number_of version.now ≡ number) }
     ensures stored { IfSome result (λ version. IsStored versions.now version.now) }
@@ -71,29 +71,29 @@ pub fn numbered_at(versions: &[NamedVersion], place: usize, number: u32) -> Opti
     }
 }
 
-/// Makes the edits, which are of different names, where there is room for them.
-pub fn make_all(versions: &mut Vec<NamedVersion>, hints: &Hints, edits: Vec<VersionEdit>)
+/// Applies the edits, which are of different names. There must be room for the new versions.
+pub fn apply_edits(versions: &mut Vec<NamedVersion>, hints: &Hints, edits: Vec<VersionEdit>)
     requires versions { AreInOrder (version_names versions.old.items) }
     requires edits { AreInOrder (edit_names edits.items) }
     requires room { vec_len versions.old + vec_len edits ≤ vec_capacity versions.old }
-    ensures { AreMade versions.old.items edits.items versions.new.items }
+    ensures { AreApplied versions.old.items edits.items versions.new.items }
 {
     for edit in edits {
-        let near = hints.place_of(&edit.name);
-        make(versions, near, edit);
+        let hint = hints.place_of(&edit.name);
+        apply_edit(versions, hint, edit);
     }
 }
 
-/// Makes the edit, where there is room for one version more. The version of its name is looked for at this place first.
-fn make(versions: &mut Vec<NamedVersion>, near: usize, edit: VersionEdit)
+// Applies the edit. There must be room for one more version. The index `hint` is tried first.
+fn apply_edit(versions: &mut Vec<NamedVersion>, hint: usize, edit: VersionEdit)
     requires versions { AreInOrder (version_names versions.old.items) }
     requires room { vec_len versions.old < vec_capacity versions.old }
-    ensures made { IsMade versions.old.items edit versions.new.items }
+    ensures made { IsApplied versions.old.items edit versions.new.items }
     ensures length { vec_len versions.new ≤ vec_len versions.old + 1 }
     ensures room { vec_capacity versions.new ≡ vec_capacity versions.old }
 {
     let VersionEdit { name, version, .. } = edit;
-    match (place_near(versions, near, &name), version) {
+    match (place_at_hint(versions, hint, &name), version) {
         (Ok(at), Some(version)) => {
             let _before = replace(&mut versions[at], NamedVersion { name, version });
         }
@@ -107,19 +107,19 @@ fn make(versions: &mut Vec<NamedVersion>, near: usize, edit: VersionEdit)
     }
 }
 
-/// The place of the version of this name, which is looked for at this one first, or the place for it.
-fn place_near(versions: &[NamedVersion], near: usize, name: &Dotted) -> Result<usize, usize>
+// Returns the index of the version of this name, or the index at which to insert it. The index `hint` is tried first.
+fn place_at_hint(versions: &[NamedVersion], hint: usize, name: &Dotted) -> Result<usize, usize>
     requires { AreInOrder (version_names versions.now) }
     ensures found { IfOk result (IsAt (version_names versions.now) name.now) }
     ensures gap { IfErr result (IsGap (version_names versions.now) name.now) }
 {
-    match versions.get(near) {
-        Some(named) if named.name.equal(name) => Ok(near),
+    match versions.get(hint) {
+        Some(named) if named.name.equal(name) => Ok(hint),
         _ => place_of(versions, name),
     }
 }
 
-/// The place of the version of this name, or the place for it.
+// Returns the index of the version of this name, or the index at which to insert it.
 fn place_of(versions: &[NamedVersion], name: &Dotted) -> Result<usize, usize>
     requires { AreInOrder (version_names versions.now) }
     ensures found { IfOk result (IsAt (version_names versions.now) name.now) }

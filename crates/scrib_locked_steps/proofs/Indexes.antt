@@ -1,4 +1,4 @@
--- The place of an entry, by its key.
+-- The index of an entry, by its key.
 use Rattle.std.proofs.Common.{◌≡◌, ◌<◌, ◌∙◌, ℕ, List, Option, Some, None, length, slice_get, get_or, position, is_some, nat_eq, option_map, refl, sym, ap, eqb-true, eq-eqb, true≢false, arith}
 use Rattle.std.specs.List.{IsDistinct}
 use Rattle.std.specs.Map.{keys_of, lookup}
@@ -11,7 +11,7 @@ use Rattle.std.proofs.lemmas.Map.Keys.{apart_from_distinct}
 pub key_at : {X : Type 0} (es : List (ℕ × X)) (i id : ℕ) (x : X) → slice_get es i ≡ Some (id, x) → slice_get (keys_of es) i ≡ Some id
 key_at {X} es i id x h = slice_get-map (λ (e : ℕ × X). e.0) es i ∙ ap (option_map (λ (e : ℕ × X). e.0)) h
 
--- what stands at a key's position
+-- the entry at a key's position
 pub found_at : {X : Type 0} (es : List (ℕ × X)) (id i : ℕ) → position (nat_eq id) (keys_of es) ≡ Some i → (x : X) × (slice_get es i ≡ Some (id, x))
 found_at {X} es id i h =
     let p = position-Some (nat_eq id) (keys_of es) i 0 h in
@@ -22,7 +22,7 @@ found_at {X} es id i h =
     by None e k = absurd (none-some id k)
     by (Some (key, x)) e k = let same : key ≡ id = same_Some key id k in (x, e ∙ ap (λ (n : ℕ). let o : Option (ℕ × X) = Some (n, x) in o) same)
 
--- keys that differ stand at one place each
+-- distinct keys occur at one index each
 pub one_place : {X : Type 0} (es : List (ℕ × X)) (id i j : ℕ) (x y : X) → IsDistinct nat_eq (keys_of es) → slice_get es i ≡ Some (id, x) → slice_get es j ≡ Some (id, y) → i ≡ j
 one_place es id i j x y distinct p q =
     let at_i : get_or (keys_of es) i 0 ≡ id = get_or_from_slice_get (keys_of es) i id 0 (key_at es i id x p) in
@@ -36,7 +36,7 @@ one_place es id i j x y distinct p q =
 pub same_entry : {X : Type 0} (es : List (ℕ × X)) (i id j : ℕ) (x y : X) → slice_get es i ≡ Some (id, x) → slice_get es i ≡ Some (j, y) → (id ≡ j) × (x ≡ y)
 same_entry {X} es i id j x y e f = let both : ◌≡◌ {A = Option (ℕ × X)} (Some (id, x)) (Some (j, y)) = sym e ∙ f in some_pair_parts id j x y both
 
--- the position that a search answers is the only one
+-- the position that a search returns is the only one
 pub only_at : {X : Type 0} (es : List (ℕ × X)) (id i : ℕ) (x : X) (o : Option ℕ) → IsDistinct nat_eq (keys_of es) → o ≡ position (nat_eq id) (keys_of es) → is_some o ≡ is_some (lookup (nat_eq id) es) → slice_get es i ≡ Some (id, x) → o ≡ Some i
 only_at es id i x None distinct index found at =
     absurd (true≢false (sym (found ∙ ap is_some (lookup_from_place nat_eq_equiv es i id x distinct at))))

@@ -1,4 +1,4 @@
--- One thing more.
+-- The case of one more element.
 use Rattle.std.proofs.Common.{List, [], ◌∷◌, ◌++◌, refl, subst}
 use Rattle.scrib_locked_steps.specs.OneByOne.{OneByOne}
 

@@ -1,5 +1,4 @@
--- The record that stands at a place in the order of opening: its id finds it, and what is written at the place is
--- written under the id.
+-- The record at an index in the order of opening: its id finds it, and a write at the index is one under the id.
 use Rattle.std.proofs.Common.{◌≡◌, ◌<◌, ◌∙◌, ℕ, zero, suc, Bool, true, false, [], ◌∷◌, Option, Some, None, length, slice_get, get_or, position, nat_eq, option_map, IfSome, refl, sym, ap, eqb-true, eq-eqb, true≢false, arith}
 use Rattle.std.specs.List.{IsDistinct}
 use Rattle.std.specs.Map.{keys_of, values_of, set_value}
@@ -10,19 +9,19 @@ use Rattle.std.proofs.lemmas.Map.Keys.{apart_from_distinct}
 use Rattle.indexmap.specs.IndexMap.{set_value_at}
 use Rattle.scrib_record.specs.Stale.{Recorded}
 use Rattle.scrib_core.specs.Held.{Records, record_at}
-use Rattle.scrib_locked_steps.specs.Noting.{StandsAt}
+use Rattle.scrib_locked_steps.specs.Noting.{IsRecordAt}
 use Rattle.scrib_locked_steps.proofs.Indexes.{key_at, found_at}
 
--- ---- where a record is looked for
+-- ---- the index of a look-up
 
--- the place that was given, where the id was read there
-pub stands_read : (rs : Records) (at key id : ℕ) (r : Recorded) → Some (key, r) ≡ slice_get rs at → key ≡ id → StandsAt rs at id
-stands_read rs at key id r read same = (r, sym read ∙ ap (λ (n : ℕ). let o : Option (ℕ × Recorded) = Some (n, r) in o) same)
+-- the given index, if the id is there
+pub is_record_read : (rs : Records) (at key id : ℕ) (r : Recorded) → Some (key, r) ≡ slice_get rs at → key ≡ id → IsRecordAt rs at id
+is_record_read rs at key id r read same = (r, sym read ∙ ap (λ (n : ℕ). let o : Option (ℕ × Recorded) = Some (n, r) in o) same)
 
--- the place that a search answers
-pub stands_found : (rs : Records) (id : ℕ) (o : Option ℕ) → o ≡ position (nat_eq id) (keys_of rs) → IfSome o (λ at. StandsAt rs at id)
-stands_found rs id None index = tt
-stands_found rs id (Some at) index = found_at rs id at (sym index)
+-- the index that a search returns
+pub found_in_records : (rs : Records) (id : ℕ) (o : Option ℕ) → o ≡ position (nat_eq id) (keys_of rs) → IfSome o (λ at. IsRecordAt rs at id)
+found_in_records rs id None index = tt
+found_in_records rs id (Some at) index = found_at rs id at (sym index)
 
 -- ---- the record at the place of its id
 
@@ -33,7 +32,7 @@ apart a b differ = by (nat_eq b a) refl
     by true e = absurd (true≢false (sym (eq-eqb a b (sym (eqb-true b a e))) ∙ differ))
     by false e = e
 
--- what is written where the key stands first is written under the key
+-- a write at the first index of the key is one under the key
 first_set : (rs : Records) (at id : ℕ) (w : Recorded) → nat_eq id (get_or (keys_of rs) at 0) ≡ true → ((k : ℕ) → k < at → nat_eq id (get_or (keys_of rs) k 0) ≡ false)
     → set_value_at rs at w ≡ set_value (nat_eq id) rs w
 first_set [] at id w here before = refl
@@ -41,15 +40,15 @@ first_set (e ∷ rs) zero id w here before = rw here refl
 first_set (e ∷ rs) (suc at) id w here before =
     rw (before 0 (omega arith)) (ap (λ (l : Records). e ∷ l) (first_set rs at id w here (λ k below. before (suc k) (omega arith))))
 
-pub set_there : (rs : Records) (at id : ℕ) (w : Recorded) → IsDistinct nat_eq (keys_of rs) → StandsAt rs at id → set_value_at rs at w ≡ set_value (nat_eq id) rs w
-set_there rs at id w distinct stands =
-    let key : slice_get (keys_of rs) at ≡ Some id = key_at rs at id stands.0 stands.1 in
+pub set_there : (rs : Records) (at id : ℕ) (w : Recorded) → IsDistinct nat_eq (keys_of rs) → IsRecordAt rs at id → set_value_at rs at w ≡ set_value (nat_eq id) rs w
+set_there rs at id w distinct is_there =
+    let key : slice_get (keys_of rs) at ≡ Some id = key_at rs at id is_there.0 is_there.1 in
     let here : get_or (keys_of rs) at 0 ≡ id = get_or_from_slice_get (keys_of rs) at id 0 key in
     let within : at < length (keys_of rs) = slice_get_within (keys_of rs) at id key in
     first_set rs at id w (eq-eqb id (get_or (keys_of rs) at 0) (sym here))
     (λ k below. apart (get_or (keys_of rs) k 0) id (ap (nat_eq (get_or (keys_of rs) k 0)) (sym here) ∙ apart_from_distinct nat_eq (keys_of rs) k at 0 distinct below within))
 
-pub there_at : (rs : Records) (at id : ℕ) (r : Recorded) → IsDistinct nat_eq (keys_of rs) → StandsAt rs at id → slice_get (values_of rs) at ≡ Some r → record_at rs id ≡ Some r
-there_at rs at id r distinct stands value =
-    let held : slice_get (values_of rs) at ≡ Some stands.0 = slice_get-map (λ (e : ℕ × Recorded). e.1) rs at ∙ ap (option_map (λ (e : ℕ × Recorded). e.1)) stands.1 in
-    lookup_from_place nat_eq_equiv rs at id stands.0 distinct stands.1 ∙ ap Some (same_Some stands.0 r (sym held ∙ value))
+pub there_at : (rs : Records) (at id : ℕ) (r : Recorded) → IsDistinct nat_eq (keys_of rs) → IsRecordAt rs at id → slice_get (values_of rs) at ≡ Some r → record_at rs id ≡ Some r
+there_at rs at id r distinct is_there value =
+    let held : slice_get (values_of rs) at ≡ Some is_there.0 = slice_get-map (λ (e : ℕ × Recorded). e.1) rs at ∙ ap (option_map (λ (e : ℕ × Recorded). e.1)) is_there.1 in
+    lookup_from_place nat_eq_equiv rs at id is_there.0 distinct is_there.1 ∙ ap Some (same_Some is_there.0 r (sym held ∙ value))

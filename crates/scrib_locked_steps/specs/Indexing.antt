@@ -1,4 +1,4 @@
--- The index of a shard, from the names of protocols to conversations (this project's own).
+-- The index of a shard, from protocol names to conversations (this project's own).
 use Rattle.std.specs.Prelude.{◌≡◌, ℕ, true, List, [], ◌∷◌, cond, Option, Some, None, Vec, refl}
 use Rattle.std.specs.declared.alloc.Global.{Global}
 use Rattle.std.specs.Bool.{Decides}
@@ -10,26 +10,28 @@ use Rattle.scrib_static_checks.specs.Names.{dotted_eq}
 use Rattle.scrib_core.specs.Held.{Records}
 use Rattle.scrib_locked_steps.specs.declared.index.ProtocolName.{ProtocolName}
 
+-- the name of a key
 abbrev pub name_of : ProtocolName → List (List ℕ)
 name_of k = k.name
 
--- what an index holds: ids, under names
+-- the contents of an index: lists of ids, by name
 abbrev pub Listing : Type 0
 Listing = List (ProtocolName × Vec ℕ Global)
 
--- the ids that are found under a name
+-- the ids found under a name
 abbrev pub ids_in : Option (Vec ℕ Global) → List ℕ
 ids_in None = []
 ids_in (Some ids) = ids.items
 
+-- the ids that the index lists under the name
 abbrev pub listed : List (List ℕ) → Listing → List ℕ
 listed name es = ids_in (lookup (λ k. dotted_eq name k.name) es)
 
--- the id alone, where the names are the same; else none
+-- the id alone if the names are equal, else none
 abbrev pub only_under : List (List ℕ) → List (List ℕ) → ℕ → List ℕ
 only_under name n id = cond (dotted_eq n name) (id ∷ []) []
 
--- the conversations of the protocol, by their ids, in the order in which they were opened
+-- the ids of the protocol's conversations, in the order of opening
 abbrev pub ids_of : List (List ℕ) → Records → List ℕ
 ids_of name rs = keys_of (filter (λ e. dotted_eq name e.1.name) rs)
 
@@ -40,6 +42,7 @@ IsIndex es rs = (name : List (List ℕ)) → listed name es ≡ ids_of name rs
 pub dotted_eq-Decides : (a b : List (List ℕ)) → Decides (dotted_eq a b) (a ≡ b)
 dotted_eq-Decides a b = slice_eq-Decides bytes_eq-Decides a b (dotted_eq a b) refl
 
--- names that are the same are hashed alike
-pub same_named : (a b : ProtocolName) → dotted_eq a.name b.name ≡ true → flat_map (fed.slice fed.u8) a.name ≡ flat_map (fed.slice fed.u8) b.name
+-- equal names have equal hashes
+pub same_named : (a b : ProtocolName) → dotted_eq a.name b.name ≡ true
+    → flat_map (fed.slice fed.u8) a.name ≡ flat_map (fed.slice fed.u8) b.name
 same_named a b t i = flat_map (fed.slice fed.u8) ((dotted_eq-Decides a.name b.name).0 t i)

@@ -1,4 +1,4 @@
--- Notes in a record that is found by its place (this project's own).
+-- Notes in a record that is found by its index (this project's own).
 -- Only contracts of private functions cite this file.
 use Rattle.std.specs.Prelude.{◌≡◌, ℕ, ◌<◌, length, Option, Some, slice_get, Result, Ok, Err, All}
 use Rattle.scrib_types.specs.declared.event.Event.{Event}
@@ -10,35 +10,39 @@ use Rattle.scrib_record.specs.Told.{IsNoted, NoteFails}
 use Rattle.scrib_core.specs.declared.reply.Refusal.{Refusal}
 use Rattle.scrib_core.specs.declared.reply.Refusal.TheVariants.{LogFull, OutOfMemory}
 use Rattle.scrib_core.specs.Held.{Records}
-use Rattle.scrib_locked_steps.specs.declared.stepping.Noted.{Noted}
-use Rattle.scrib_locked_steps.specs.declared.passing.PassRefusal.{PassRefusal}
-use Rattle.scrib_locked_steps.specs.declared.passing.PassRefusal.TheVariants.{Mismatch, Step}
-use Rattle.scrib_locked_steps.specs.Receipts.{StandsIn, IsLeastStray}
+use Rattle.scrib_locked_steps.specs.declared.step_results.Noted.{Noted}
+use Rattle.scrib_locked_steps.specs.declared.pass_calls.PassRefusal.{PassRefusal}
+use Rattle.scrib_locked_steps.specs.declared.pass_calls.PassRefusal.TheVariants.{Mismatch, Step}
+use Rattle.scrib_locked_steps.specs.Receipts.{AgreesWith, IsFirstMismatch}
 use Rattle.scrib_locked_steps.specs.Passes.{PassHeld, IsReceipted, newest_of}
 
--- a record of the id stands at the place, from 0, in the order of opening
-abbrev pub StandsAt : Records → (at id : ℕ) → Type 0
-StandsAt rs at id = (r : Recorded) × (slice_get rs at ≡ Some (id, r))
+-- the record at the index, from 0 in the order of opening, has the id
+abbrev pub IsRecordAt : Records → (at id : ℕ) → Type 0
+IsRecordAt rs at id = (r : Recorded) × (slice_get rs at ≡ Some (id, r))
 
--- the record took a note of the event, at this place of its log, and this is told of it, where this is the present
--- version of its protocol or none is there
-pub record IsNotedIn (present : Option Version) (before : Recorded) (e : Event) (n : Noted) (after : Recorded) : Type 0 where
+-- the event is appended to the record, at this place and with this verdict, where `present` is the present version if
+-- any
+pub record IsNotedIn (present : Option Version) (before : Recorded) (e : Event) (n : Noted)
+    (after : Recorded) : Type 0 where
   pub room : length before.log < 1048576
   pub noted : IsNoted present before e after n.told
   pub lawful : IsLawful after
   pub place_is : n.place ≡ length after.log
 
--- the refusal of a step whose note has the fault
+-- the refusal of a step whose note has this fault
 abbrev pub refusal_of : NoteFault → Refusal
 refusal_of fault.LogFull = LogFull
 refusal_of fault.OutOfMemory = OutOfMemory
 
--- why a note by the pass is refused in the record: its newest receipt doesn't stand, or else the record refuses it
+-- a note by the pass is refused in the record: its newest receipt differs, or else the record refuses it
 abbrev pub FailsIn : Recorded → PassHeld → PassRefusal → Type 0
-FailsIn r p (Mismatch id place) = (id ≡ p.conversation) × IsLeastStray r.log (newest_of p.receipts) (Some place)
-FailsIn r p (Step f) = All (StandsIn r.log) (newest_of p.receipts) × ((g : NoteFault) × (f ≡ refusal_of g) × NoteFails r g)
+FailsIn r p (Mismatch id place) = (id ≡ p.conversation) × IsFirstMismatch r.log (newest_of p.receipts) (Some place)
+FailsIn r p (Step f) =
+    All (AgreesWith r.log) (newest_of p.receipts) × ((g : NoteFault) × (f ≡ refusal_of g) × NoteFails r g)
 
--- what is answered to a note by the pass in the record, and what the two are then
-abbrev pub AnswersIn : Option Version → Recorded × PassHeld → Event → Result Noted PassRefusal → Recorded × PassHeld → Type 0
-AnswersIn present s e (Ok n) t = All (StandsIn s.0.log) (newest_of s.1.receipts) × IsNotedIn present s.0 e n t.0 × IsReceipted s.1 e n t.1
+-- the reply to a note by the pass in the record, and the record and the pass after it
+abbrev pub AnswersIn : Option Version → Recorded × PassHeld → Event → Result Noted PassRefusal → Recorded × PassHeld
+    → Type 0
+AnswersIn present s e (Ok n) t =
+    All (AgreesWith s.0.log) (newest_of s.1.receipts) × IsNotedIn present s.0 e n t.0 × IsReceipted s.1 e n t.1
 AnswersIn present s e (Err f) t = FailsIn s.0 s.1 f × (t ≡ s)

@@ -1,7 +1,7 @@
--- What is done for one thing after another (this project's own).
+-- Steps made one after another for the elements of a list (this project's own).
 use Rattle.std.specs.Prelude.{◌≡◌, List, [], ◌∷◌}
 
--- each of these takes a step from where the one before it led, and has the answer at the same place of the other list
+-- each step starts where the one before it ended, and has the reply at the same index of the second list
 abbrev pub OneByOne : {S A B : Type 0} → (S → A → B → S → Type 0) → S → List A → List B → S → Type 0
 OneByOne {S} {A} {B} Step s [] [] t = t ≡ s
 OneByOne {S} {A} {B} Step s [] (b ∷ bs) t = ⊥

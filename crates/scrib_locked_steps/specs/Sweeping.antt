@@ -1,4 +1,4 @@
--- Conversations whose verdict is out of date, and sweeps, after which none is (this project's own).
+-- Conversations with stale verdicts, and sweeps, which leave none (this project's own).
 use Rattle.std.specs.Prelude.{◌≡◌, ◌⊎◌, ℕ, zero, suc, Bool, true, false, List, length, Option, Some, None, All, Contains}
 use Rattle.std.specs.List.{filter}
 use Rattle.std.specs.List.Sorted.{IsStrictlyIncreasing}
@@ -8,65 +8,66 @@ use Rattle.scrib_record.specs.declared.version.Version.{Version}
 use Rattle.scrib_record.specs.Stale.{Recorded, is_stale}
 use Rattle.scrib_library.specs.Holdings.{Holdings}
 use Rattle.scrib_core.specs.Held.{Records, record_at}
-use Rattle.scrib_core.specs.Conversing.{IsPresent}
+use Rattle.scrib_core.specs.ConversationSteps.{IsPresent}
 use Rattle.scrib_locked_steps.specs.Locked.{IsTurnedFor}
 
--- whether the record is stale under the version that its name has now, or none
+-- the record is stale under the present version of its name, if there is one
 abbrev pub IsStaleNow : Holdings → Recorded → Type 0
 IsStaleNow h r = (present : Option Version) × IsPresent h r.name present × (is_stale present r ≡ true)
 
+-- the record is fresh under the present version of its name, if there is one
 abbrev pub IsFreshNow : Holdings → Recorded → Type 0
 IsFreshNow h r = (present : Option Version) × IsPresent h r.name present × (is_stale present r ≡ false)
 
--- there is a record, and it is stale under this version, or none
-abbrev pub is_touched_of : Option Version → Option Recorded → Bool
-is_touched_of present None = false
-is_touched_of present (Some r) = is_stale present r
+-- the record exists and is stale under this version, or under none
+abbrev pub is_stale_of : Option Version → Option Recorded → Bool
+is_stale_of present None = false
+is_stale_of present (Some r) = is_stale present r
 
--- those of the ids whose record is stale under this version, or none
-abbrev pub touched_of : Option Version → Records → List ℕ → List ℕ
-touched_of present rs ids = filter (λ id. is_touched_of present (record_at rs id)) ids
+-- the ids whose record is stale under this version, or under none
+abbrev pub stale_ids_of : Option Version → Records → List ℕ → List ℕ
+stale_ids_of present rs ids = filter (λ id. is_stale_of present (record_at rs id)) ids
 
--- the record under the id is stale
+-- the record of the id is stale
 abbrev pub IsStaleAt : Holdings → Records → ℕ → Type 0
 IsStaleAt h rs id = (r : Recorded) × (record_at rs id ≡ Some r) × IsStaleNow h r
 
--- exactly the ids of the records that are stale, rising
-pub record AreTouched (h : Holdings) (rs : Records) (ids : List ℕ) : Type 0 where
+-- the ids of exactly the stale records, rising
+pub record AreStaleIds (h : Holdings) (rs : Records) (ids : List ℕ) : Type 0 where
   pub rise : IsStrictlyIncreasing ids
   pub stale : All (IsStaleAt h rs) ids
   pub others : (id : ℕ) (r : Recorded) → record_at rs id ≡ Some r → Contains ids id ⊎ IsFreshNow h r
 
 -- how many records are stale
 abbrev pub IsStaleCount : Holdings → Records → ℕ → Type 0
-IsStaleCount h rs n = (ids : List ℕ) × AreTouched h rs ids × (n ≡ length ids)
+IsStaleCount h rs n = (ids : List ℕ) × AreStaleIds h rs ids × (n ≡ length ids)
 
--- the record under the id isn't stale
+-- the record of the id is fresh
 abbrev pub IsFreshAt : Holdings → Records → ℕ → Type 0
 IsFreshAt h rs id = (r : Recorded) → record_at rs id ≡ Some r → IsFreshNow h r
 
--- the record is of the same name and log as the one that stood under the id
+-- the record has the name and the log of the one under the id
 abbrev pub IsSameAt : Records → ℕ → Recorded → Type 0
 IsSameAt old id r = (q : Recorded) × (record_at old id ≡ Some q) × (r.name ≡ q.name) × (r.log ≡ q.log)
 
--- the same conversations, in the same order, of the same names and logs
+-- the same conversations, in the same order, with the same names and logs
 pub record AreSame (old new : Records) : Type 0 where
   pub ids : keys_of new ≡ keys_of old
   pub each : (id : ℕ) (r : Recorded) → record_at new id ≡ Some r → IsSameAt old id r
 
--- and each record but that of this id is as it was
+-- the same, and each record other than that of this id is unchanged
 pub record AreSameBut (id : ℕ) (old new : Records) : Type 0 where
   pub same : AreSame old new
   pub others : (j : ℕ) → (id ≡ j → ⊥) → record_at new j ≡ record_at old j
 
--- the record of some id, which was stale, took a turn
+-- the stale record of some id made a turn
 pub record IsStaleTurn (h : Holdings) (old new : Records) : Type 0 where
   pub id : ℕ
   pub answer : Told
   pub turned : IsTurnedFor h old id answer new
   pub stale : is_stale turned.2.present turned.2.before ≡ true
 
--- so many turns, one after another, each of a record that was stale
+-- so many turns, one after another, each of a stale record
 abbrev pub AreTurns : Holdings → ℕ → Records → Records → Type 0
 AreTurns h zero old new = new ≡ old
 AreTurns h (suc n) old new = (between : Records) × AreTurns h n old between × IsStaleTurn h between new

@@ -53,17 +53,18 @@ impl Hash for ProtocolName {
     }
 }
 
-/// Lists the id under the name, last.
+/// Adds the id to the list of the name, last.
 ///
 /// # Errors
-/// `AllocError` where memory was refused. What is listed stays.
+/// `AllocError` if memory was refused. The lists are unchanged then.
 pub(crate) fn list(
     index: &mut IndexMap<ProtocolName, Vec<u32>>,
     alloc: Global,
     name: &Dotted,
     id: u32,
 ) -> Result<(), AllocError>
-    ensures ok { OnOk result ((n : List (List ℕ)) → listed n index.new.entries ≡ listed n index.old.entries ++ only_under name.now n id) }
+    ensures ok { OnOk result ((n : List (List ℕ))
+        → listed n index.new.entries ≡ listed n index.old.entries ++ only_under name.now n id) }
     ensures err { OnErr result ((n : List (List ℕ)) → listed n index.new.entries ≡ listed n index.old.entries) }
 {
     let key = ProtocolName { name: name.copy()? };

@@ -1,13 +1,13 @@
-//! What the calls of a service do while they hold its locks: on a library, the value of one shard, and passes.
+//! The steps of a service's calls while they hold its locks: on a library, the value of one shard, and passes.
 #![tactic(auto)]
 
+pub mod batch_notes;
 pub mod index;
-pub mod locked;
-pub mod noting;
+pub mod locked_calls;
 pub mod pass;
-pub mod passing;
-pub mod several;
+pub mod pass_calls;
+pub mod receipt_check;
+pub mod record_notes;
 pub mod shard;
-pub mod standing;
-pub mod stepping;
+pub mod step_results;
 pub mod sweep;

@@ -1,4 +1,4 @@
-//! Passes, and the receipts of what was noted by them.
+//! Passes, and the receipts of the events noted by them.
 
 ghost use Rattle.std.specs.Prelude.{◌≡◌, ◌-◌, [], true, drop, length};
 ghost use Rattle.scrib_locked_steps.specs.Passes.{newest_of, rises};
@@ -7,21 +7,21 @@ use scrib_types::shared_event::SharedEvent;
 use std::alloc::Global;
 use std::marker::Model;
 
-/// That an event was noted: the event, and its place in the log of its conversation, from 1.
+/// A receipt of a noted event: the event, and its place in the log of its conversation, from 1.
 #[derive(Drop)]
 pub struct Receipt {
     pub place: usize,
     pub event: SharedEvent,
 }
 
-/// The right to note events of one conversation. A pass has a receipt of each event that was noted by it, oldest
-/// first, so that their places rise. It can't be cloned. Contracts see the conversation and the receipts.
+/// The right to note events of one conversation. A pass holds a receipt of each event noted by it, oldest first, with
+/// rising places. It cannot be cloned. Contracts see the conversation and the receipts.
 #[derive(Drop)]
 pub struct Pass {
     pub(crate) conversation: u32,
     pub(crate) receipts: Vec<Receipt>,
-    // Where the record of the conversation stood last. Nothing rests on it.
-    pub(crate) near: usize,
+    // The index of the conversation's record at the last look-up. Correctness does not depend on it.
+    pub(crate) hint: usize,
 }
 
 impl Model for Pass {
@@ -36,25 +36,25 @@ impl Model for Pass {
 }
 
 impl Pass {
-    /// A pass to the conversation, by which nothing was noted.
+    /// Returns a pass to the conversation, without receipts.
     pub(crate) fn new(alloc: Global, conversation: u32) -> Pass
         ensures { result ≡ record { conversation = conversation; receipts = [] } }
     {
         Pass {
             conversation,
             receipts: Vec::new(alloc),
-            near: 0,
+            hint: 0,
         }
     }
 
-    /// The id of the conversation.
+    /// Returns the id of the conversation.
     pub fn conversation(&self) -> u32
         ensures { result ≡ self.now.conversation }
     {
         self.conversation
     }
 
-    /// The receipts, oldest first. Their number is the share of the pass.
+    /// Returns the receipts, oldest first. Their number is the share of the pass.
     pub fn receipts(&self) -> &[Receipt]
         ensures all { result.now ≡ self.now.receipts }
         ensures rise { rises 0 self.now.receipts ≡ true }
@@ -62,20 +62,19 @@ impl Pass {
         self.receipts.as_slice()
     }
 
-    /// The place that was kept last, or 0: a hint for who looks the record of the conversation up, on which nothing
-    /// rests.
-    pub(crate) fn near(&self) -> usize {
-        self.near
+    /// Returns the index set last, or 0: a hint for finding the conversation's record.
+    pub(crate) fn hint(&self) -> usize {
+        self.hint
     }
 
-    /// Keeps a place where the record of the conversation may be found the next time.
-    pub(crate) fn keep_near(&mut self, near: usize)
+    /// Sets the index at which the conversation's record is looked up first the next time.
+    pub(crate) fn set_hint(&mut self, hint: usize)
         ensures { self.new ≡ self.old }
     {
-        self.near = near;
+        self.hint = hint;
     }
 
-    /// The newest receipt, alone, or none.
+    /// Returns the newest receipt, as a slice of length 1 or 0.
     #[inline(always)]
     pub fn newest(&self) -> &[Receipt]
         ensures { result.now ≡ newest_of self.now.receipts }

@@ -1,4 +1,4 @@
-//! Shards: the conversations of which one lock is held at a time.
+//! Shards: conversations that share one lock.
 
 ghost use Rattle.std.specs.Prelude.{◌≡◌, ◌<◌, ◌≤◌, ◌^◌, [], ℕ, IfSome, Some, length, slice_get};
 ghost use Rattle.std.specs.Option.{option_copied};
@@ -12,13 +12,12 @@ use scrib_record::record::Record;
 use std::alloc::Global;
 use std::marker::Model;
 
-/// The records of some conversations, in the order in which they were opened, of which there is a limit of the shard's
-/// own, an index that lists them by protocol, and a book, which is how many events their logs have. Contracts see the
-/// limit and the records.
+/// The records of some conversations, in the order of opening, up to a limit of the shard's own. An index lists their
+/// ids by protocol, and a book counts the events of all logs. Contracts see the limit and the records.
 #[derive(Drop)]
 pub struct Shard {
     pub(crate) alloc: Global,
-    pub(crate) most: usize,
+    pub(crate) capacity: usize,
     pub(crate) records: IndexMap<u32, Record>,
     pub(crate) index: IndexMap<ProtocolName, Vec<u32>>,
     pub(crate) book: u64,
@@ -33,27 +32,27 @@ impl Model for Shard {
 
     ghost coded = { Prim.hlevel (codes, version.the_row.coded) };
 
-    ghost view = { λ s. record { most = s.most; records = s.records.entries } };
+    ghost view = { λ s. record { capacity = s.capacity; records = s.records.entries } };
 
-    ghost invariant = { λ s. IsStored s.most s.records.entries s.index.entries s.book };
+    ghost invariant = { λ s. IsStored s.capacity s.records.entries s.index.entries s.book };
 }
 
 impl Shard {
-    /// A shard without conversations, which may have so many of them, at most 65,536.
-    pub fn new(alloc: Global, most: usize) -> Shard
-        requires { most ≤ 65536 }
-        ensures { result ≡ record { most = most; records = [] } }
+    /// Returns a shard without conversations, for at most `capacity` of them. `capacity` is at most 65,536.
+    pub fn new(alloc: Global, capacity: usize) -> Shard
+        requires { capacity ≤ 65536 }
+        ensures { result ≡ record { capacity = capacity; records = [] } }
     {
         Shard {
             alloc,
-            most,
+            capacity,
             records: IndexMap::new(alloc),
             index: IndexMap::new(alloc),
             book: 0,
         }
     }
 
-    /// The book: how many events all logs have.
+    /// Returns the book: the number of events in all logs.
     pub fn book(&self) -> u64
         ensures is { result ≡ book_of self.now.records }
         ensures small { result < 2 ^ 63 }
@@ -61,7 +60,7 @@ impl Shard {
         self.book
     }
 
-    /// How many conversations there are.
+    /// Returns the number of conversations.
     pub fn len(&self) -> usize
         ensures len { result ≡ length self.now.records }
         ensures kept { IsKept self.now }
@@ -69,7 +68,7 @@ impl Shard {
         self.records.len()
     }
 
-    /// The id and the record of a conversation, by its place in the order of opening, from 0.
+    /// Returns the id and the record of a conversation, by its index in the order of opening, from 0.
     pub fn at(&self, index: usize) -> (u32, &Record)
         requires { index < length self.now.records }
         ensures { slice_get self.now.records index ≡ Some (result.0, result.1.now) }
@@ -80,7 +79,7 @@ impl Shard {
         }
     }
 
-    /// The place of a conversation in the order of opening, from 0.
+    /// Returns the index of a conversation in the order of opening, from 0.
     pub fn index_of(&self, id: u32) -> Option<usize>
         ensures within { IfSome result (λ i. i < length self.now.records) }
         ensures found { IfSome result (λ i. (r : Recorded) × (slice_get self.now.records i ≡ Some (id, r))) }
@@ -89,7 +88,7 @@ impl Shard {
         self.records.get_index_of(&id)
     }
 
-    /// The record of a conversation.
+    /// Returns the record of a conversation.
     pub fn record(&self, id: u32) -> Option<&Record>
         ensures { option_copied result ≡ record_at self.now.records id }
     {

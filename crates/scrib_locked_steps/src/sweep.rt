@@ -1,11 +1,11 @@
-//! Conversations whose verdict is out of date, and sweeps, after which none is.
+//! Conversations with stale verdicts, and sweeps, which leave none.
 
 ghost use Rattle.std.specs.Prelude.{◌≡◌, ◌≤◌, ◌*◌, ◌++◌, IfOk, OnOk, OnErr};
 ghost use Rattle.std.specs.Option.{option_copied};
-ghost use Rattle.scrib_locked_steps.specs.Sweeping.{is_touched_of, touched_of, IsStaleAt, IsFreshAt, AreTouched, IsStaleCount, AreSame, AreSameBut, AreTurns, AreSomeTurns, AreSwept};
+ghost use Rattle.scrib_locked_steps.specs.Sweeping.{is_stale_of, stale_ids_of, IsStaleAt, IsFreshAt, AreStaleIds, IsStaleCount, AreSame, AreSameBut, AreTurns, AreSomeTurns, AreSwept};
 
 use crate::shard::Shard;
-use crate::stepping::turn_step;
+use crate::step_results::turn_step;
 use scrib_library::library::Library;
 use scrib_record::answer::Answer;
 use scrib_record::comparison::Comparison;
@@ -14,67 +14,69 @@ use scrib_record::version::Version;
 use scrib_types::event::Told;
 use std::alloc::AllocError;
 
-/// The most turns of a conversation in one sweep. As each judges 256 events, they are enough for the longest log.
+/// The maximal number of turns of a conversation in one sweep. Each judges 256 events, so they suffice for the longest
+/// log.
 pub const MAX_TURNS: u64 = 4_096;
 
-/// How many turns were made, and of how many conversations the verdict was brought up to date by them.
+/// The number of turns that a sweep made, and of conversations whose stale verdict it renewed.
 #[derive(Clone, Copy, Debug, PartialEq, Eq)]
 pub struct Swept {
     pub turns: u64,
     pub judged: u64,
 }
 
-/// The conversations whose verdict is out of date, by rising id.
+/// Returns the ids of the conversations with stale verdicts, rising.
 ///
 /// # Errors
-/// `AllocError` where memory was refused.
+/// `AllocError` if memory was refused.
 pub fn touched_locked(library: &Library, shard: &Shard) -> Result<Vec<u32>, AllocError>
-    ensures { IfOk result (λ ids. AreTouched library.now shard.now.records ids.items) }
+    ensures { IfOk result (λ ids. AreStaleIds library.now shard.now.records ids.items) }
 {
     let _conversations = shard.len();
     let mut ids = Vec::new(shard.alloc);
     for place in 0..shard.index.len() {
         if let Some((key, listed)) = shard.index.get_index(place) {
-            push_touched(library.present(&key.name), shard, listed, &mut ids)?;
+            push_stale(library.present(&key.name), shard, listed, &mut ids)?;
         }
     }
     ids.sort_unstable();
     Ok(ids)
 }
 
-// Pushes those of the conversations whose verdict is out of date, where this is the present version of their protocol,
-// or none is there.
-fn push_touched(
+// Appends those of the listed conversations whose verdict is stale. `present` is the present version of their protocol,
+// if it has one.
+fn push_stale(
     present: Option<&Version>,
     shard: &Shard,
     listed: &[u32],
     ids: &mut Vec<u32>,
 ) -> Result<(), AllocError>
-    ensures { OnOk result (ids.new.items ≡ ids.old.items ++ touched_of (option_copied present.entry) shard.now.records listed.now) }
+    ensures { OnOk result (ids.new.items ≡ ids.old.items ++ stale_ids_of (option_copied present.entry)
+        shard.now.records listed.now) }
 {
     for id in listed {
-        if is_touched(present, shard.record(*id)) {
+        if is_stale_record(present, shard.record(*id)) {
             ids.push(*id)?;
         }
     }
     Ok(())
 }
 
-/// Brings the verdict of each conversation of the shard up to date, with at most 4,096 turns of each.
+/// Renews every stale verdict of the shard, with at most 4,096 turns for each conversation.
 ///
 /// # Errors
-/// `AllocError` where memory was refused. Each turn that was made before stays.
+/// `AllocError` if memory was refused. The turns made so far remain.
 pub fn sweep_shard(library: &Library, shard: &mut Shard) -> Result<Swept, AllocError>
     ensures swept { OnOk result (AreSwept library.now shard.old.records shard.new.records) }
     ensures turned { IfOk result (λ s. AreTurns library.now s.turns shard.old.records shard.new.records) }
     ensures judged { IfOk result (λ s. IsStaleCount library.now shard.old.records s.judged) }
     ensures err { OnErr result (AreSomeTurns library.now shard.old.records shard.new.records) }
     ensures same { AreSame shard.old.records shard.new.records }
-    ensures limit { shard.new.most ≡ shard.old.most }
+    ensures limit { shard.new.capacity ≡ shard.old.capacity }
     ensures turns { IfOk result (λ s. s.judged ≤ s.turns) }
     ensures few { IfOk result (λ s. s.turns ≤ 4096 * s.judged) }
 {
-    // The number of conversations bounds that of the turns.
+    // The contract of `len` bounds the number of conversations, and so of turns.
     let _conversations = shard.len();
     let touched = touched_locked(library, shard)?;
     let mut swept = Swept {
@@ -89,26 +91,26 @@ pub fn sweep_shard(library: &Library, shard: &mut Shard) -> Result<Swept, AllocE
     Ok(swept)
 }
 
-// Gives the conversation, whose verdict is out of date, turns until it is up to date; how many.
+// Gives the conversation, whose verdict is stale, turns until it is fresh. Returns their number.
 fn sweep_conversation(library: &Library, shard: &mut Shard, id: u32) -> Result<u64, AllocError>
     requires { IsStaleAt library.now shard.old.records id }
     ensures fresh { OnOk result (IsFreshAt library.now shard.new.records id) }
     ensures turned { IfOk result (λ n. AreTurns library.now n shard.old.records shard.new.records) }
     ensures err { OnErr result (AreSomeTurns library.now shard.old.records shard.new.records) }
     ensures same { AreSameBut id shard.old.records shard.new.records }
-    ensures limit { shard.new.most ≡ shard.old.most }
+    ensures limit { shard.new.capacity ≡ shard.old.capacity }
     ensures some { IfOk result (λ n. 1 ≤ n) }
     ensures few { IfOk result (λ n. n ≤ 4096) }
 {
     library.are_numbered();
     let _conversations = shard.len();
     for turn in 0..MAX_TURNS {
-        let told = match turn_step(library, shard, id) {
-            Ok(told) => told,
-            // the conversation is there, so that memory was refused
+        let verdict = match turn_step(library, shard, id) {
+            Ok(verdict) => verdict,
+            // The conversation exists, so memory was refused.
             Err(_) => return Err(AllocError),
         };
-        match told {
+        match verdict {
             Told::Stale => {}
             Told::Judged(_) => return Ok(turn + 1),
         }
@@ -116,10 +118,9 @@ fn sweep_conversation(library: &Library, shard: &mut Shard, id: u32) -> Result<u
     unreachable!()
 }
 
-// Whether there is a record whose verdict is out of date, where this is the present version of its protocol, or none is
-// there.
-fn is_touched(present: Option<&Version>, conversation: Option<&Record>) -> bool
-    ensures { result ≡ is_touched_of (option_copied present.entry) (option_copied conversation.entry) }
+// Whether the record exists and its verdict is stale. `present` is the present version of its protocol, if it has one.
+fn is_stale_record(present: Option<&Version>, conversation: Option<&Record>) -> bool
+    ensures { result ≡ is_stale_of (option_copied present.entry) (option_copied conversation.entry) }
 {
     let Some(record) = conversation else {
         return false;

@@ -1,2 +1,2 @@
-mod Crossing
-mod Sharing
+mod ThreadSharingLemmas
+mod WorkerShardLemmas

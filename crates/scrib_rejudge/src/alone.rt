@@ -6,11 +6,11 @@ use scrib_locked_steps::sweep::Swept;
 use scrib_shards::service::Service;
 use std::alloc::AllocError;
 
-/// Brings every verdict up to date, and reports how many turns were made, and of how many conversations. It waits for no
-/// lock: it has the service alone, so that the library's lock, of which it takes a guard, is free.
+/// Renews every stale verdict, and returns the numbers of turns made and of conversations renewed. It waits for no
+/// lock: the caller has the service alone, so the library's lock is free.
 ///
 /// # Errors
-/// `AllocError` where memory was refused. Each turn that was made before stays, and conversations may be out of date.
+/// `AllocError` if memory was refused. The turns made so far remain, and conversations may be stale.
 pub fn sweep_alone(service: &mut Service) -> Result<Swept, AllocError>
     ensures turns { IfOk result (λ s. s.judged ≤ s.turns) }
     ensures few { IfOk result (λ s. s.turns ≤ 4096 * s.judged) }

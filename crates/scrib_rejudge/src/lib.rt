@@ -1,5 +1,4 @@
-//! Sweeps, by which verdicts that are out of date are brought up to date: by workers, by one thread that has the
-//! service alone, and where notices ask for them.
+//! Sweeps, which renew stale verdicts: by workers, by one thread that has the service alone, and on notices.
 #![tactic(auto)]
 
 pub mod alone;

@@ -1,7 +1,7 @@
-//! Turns of the conversations of some shards whose verdict is out of date.
+//! Turns of the stale conversations of a shard.
 
 ghost use Rattle.std.specs.Prelude.{◌≡◌, ◌<◌, ◌+◌, ◌-◌, ◌^◌, min, IfOk, vec_len};
-ghost use Rattle.scrib_rejudge.specs.Sweeps.{IsRound, IsShardSwept};
+ghost use Rattle.scrib_rejudge.specs.Sweeps.{IsConversationSwept, IsShardSwept};
 
 use scrib_locked_steps::sweep::{MAX_TURNS, Swept};
 use scrib_shards::gate::Gate;
@@ -10,14 +10,14 @@ use scrib_types::event::Told;
 use std::alloc::AllocError;
 use std::sync::Wait;
 
-/// No turn.
-pub(crate) const NOTHING: Swept = Swept {
+/// The totals of no sweep.
+pub(crate) const NO_TURNS: Swept = Swept {
     turns: 0,
     judged: 0,
 };
 
-/// What two sweeps made in all; counts stay at the greatest value.
-pub(crate) fn both(one: Swept, other: Swept) -> Swept
+/// Returns the totals of two sweeps. Sums saturate.
+pub(crate) fn sum_swept(one: Swept, other: Swept) -> Swept
     ensures turns { result.turns ≡ min (one.turns + other.turns) (2 ^ 64 - 1) }
     ensures judged { result.judged ≡ min (one.judged + other.judged) (2 ^ 64 - 1) }
 {
@@ -27,15 +27,15 @@ pub(crate) fn both(one: Swept, other: Swept) -> Swept
     }
 }
 
-// Gives the conversation turns, at most 4,096, until its verdict is up to date. One that was open stays open, so that
-// only memory can be refused.
+// Gives the conversation turns, at most 4,096, until its verdict is fresh. An open conversation stays open, so only
+// memory can be refused.
 fn sweep_conversation<G: Gate>(
     rt: &impl Wait,
     service: &Service,
     id: u32,
     gate: &G,
 ) -> Result<Swept, AllocError>
-    ensures { IfOk result (IsRound id) }
+    ensures { IfOk result (IsConversationSwept id) }
 {
     for before in 0..MAX_TURNS {
         match service.turn(rt, id, gate) {
@@ -55,10 +55,10 @@ fn sweep_conversation<G: Gate>(
     })
 }
 
-/// Gives each conversation of the shard whose verdict is out of date turns, at most 4,096, until it is up to date.
+/// Gives each stale conversation of the shard turns, at most 4,096, until its verdict is fresh.
 ///
 /// # Errors
-/// `AllocError` where memory was refused. Each turn that was made before stays.
+/// `AllocError` if memory was refused. The turns made so far remain.
 pub(crate) fn sweep_shard<G: Gate>(
     rt: &impl Wait,
     service: &Service,
@@ -69,9 +69,9 @@ pub(crate) fn sweep_shard<G: Gate>(
     ensures { IfOk result IsShardSwept }
 {
     let ids = service.touched(rt, shard)?;
-    let mut swept = NOTHING;
+    let mut swept = NO_TURNS;
     for id in &ids {
-        swept = both(swept, sweep_conversation(rt, service, *id, gate)?);
+        swept = sum_swept(swept, sweep_conversation(rt, service, *id, gate)?);
     }
     Ok(swept)
 }

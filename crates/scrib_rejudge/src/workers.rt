@@ -1,9 +1,9 @@
-//! Sweeps by workers, each a thread of its own that has some of the shards.
+//! Sweeps by workers: threads that divide the shards among them.
 
 ghost use Rattle.std.specs.Prelude.{◌≡◌, ◌⊎◌, ◌↔◌, ◌<◌, ◌≤◌, IfOk, IsErrOf, All};
 ghost use Rattle.scrib_rejudge.specs.Sweeps.{shards_of, IsCounted};
 
-use crate::turns::{NOTHING, both, sweep_shard};
+use crate::turns::{NO_TURNS, sum_swept, sweep_shard};
 use scrib_locked_steps::sweep::Swept;
 use scrib_shards::gate::Gate;
 use scrib_shards::service::Service;
@@ -12,24 +12,24 @@ use std::sync::Wait;
 use std::thread;
 use std::thread::Threads;
 
-/// The most workers of a sweep.
+/// The maximal number of workers of a sweep.
 pub const MAX_WORKERS: usize = 16;
 
-/// Why a sweep wasn't made, or not to its end.
+/// Why a sweep was not made, or not completed.
 #[derive(Drop)]
 pub enum SweepFault {
-    /// There are to be no workers, or more than 16.
+    /// The number of workers is 0 or greater than 16.
     BadWorkers,
     /// Memory was refused.
     OutOfMemory,
 }
 
-/// The numbers of the shards that a worker takes, rising: those that leave its own number when they are divided by the
-/// number of workers. Workers and shards are numbered from 0.
+/// Returns the numbers of the worker's shards, rising: those that equal its own number modulo the number of workers.
+/// Workers and shards are numbered from 0.
 ///
 /// # Errors
-/// `AllocError` where memory was refused.
-#[tactic(auto, using(crate::proofs::Sharing::all_below))]
+/// `AllocError` if memory was refused.
+#[tactic(auto, using(crate::proofs::WorkerShardLemmas::all_below))]
 pub fn shards_of(
     alloc: Global,
     worker: usize,
@@ -46,7 +46,7 @@ pub fn shards_of(
 }
 
 // Sweeps the worker's shards, one after the other.
-fn work<G: Gate>(
+fn run_worker<G: Gate>(
     rt: &impl Wait,
     alloc: Global,
     service: &Service,
@@ -57,15 +57,15 @@ fn work<G: Gate>(
     requires { 0 < workers }
     ensures { IsCounted result }
 {
-    let mut swept = NOTHING;
+    let mut swept = NO_TURNS;
     for shard in &shards_of(alloc, worker, workers, service.shards())? {
-        swept = both(swept, sweep_shard(rt, service, *shard, gate)?);
+        swept = sum_swept(swept, sweep_shard(rt, service, *shard, gate)?);
     }
     Ok(swept)
 }
 
-// Runs the workers, and gives what each made.
-fn run_all<R: Threads + Wait + Sync, G: Gate + Sync>(
+// Runs the workers and returns the result of each.
+fn run_workers<R: Threads + Wait + Sync, G: Gate + Sync>(
     rt: &R,
     alloc: Global,
     service: &Service,
@@ -79,17 +79,17 @@ fn run_all<R: Threads + Wait + Sync, G: Gate + Sync>(
         rt,
         alloc,
         workers,
-        &|worker| work(rt, alloc, service, gate, worker, workers),
+        &|worker| run_worker(rt, alloc, service, gate, worker, workers),
     )
 }
 
-/// Gives each conversation whose verdict is out of date turns, at most 4,096, until it is up to date, by so many
-/// workers beside each other. Tells how many turns were made, and of how many conversations the verdict was brought up
-/// to date. The gate is called in each turn. Where no thread can be started, the calling one does a worker's part.
+/// Gives each stale conversation turns, at most 4,096, until its verdict is fresh. `workers` threads divide the shards
+/// among them. Returns the numbers of turns made and of conversations renewed. The gate is called in each turn. If a
+/// thread cannot be started, the calling thread does its part.
 ///
 /// # Errors
-/// `BadWorkers` exactly where there are to be no workers or more than 16; `OutOfMemory` where memory was refused. The
-/// workers have ended then. Each turn that was made stays, and conversations may be out of date.
+/// `BadWorkers` exactly if the number of workers is 0 or greater than 16; `OutOfMemory` if memory was refused. All
+/// workers have ended then. The turns made remain, and conversations may be stale.
 pub fn sweep<R: Threads + Wait + Sync, G: Gate + Sync>(
     rt: &R,
     alloc: Global,
@@ -103,13 +103,13 @@ pub fn sweep<R: Threads + Wait + Sync, G: Gate + Sync>(
     if workers == 0 || workers > MAX_WORKERS {
         return Err(SweepFault::BadWorkers);
     }
-    let Ok(all) = run_all(rt, alloc, service, gate, workers) else {
+    let Ok(all) = run_workers(rt, alloc, service, gate, workers) else {
         return Err(SweepFault::OutOfMemory);
     };
-    let mut swept = NOTHING;
+    let mut swept = NO_TURNS;
     for own in &all {
         match own {
-            Ok(own) => swept = both(swept, *own),
+            Ok(own) => swept = sum_swept(swept, *own),
             Err(_) => return Err(SweepFault::OutOfMemory),
         }
     }

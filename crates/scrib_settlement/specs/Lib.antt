@@ -1,4 +1,4 @@
 pub mod Shares
-pub mod Places
+pub mod Mismatches
 pub mod Settled
 pub mod Tallies

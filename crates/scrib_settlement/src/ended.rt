@@ -1,4 +1,4 @@
-//! Conversations at their end.
+//! The conversations of a settled service.
 
 ghost use Rattle.std.specs.Prelude.{◌≡◌, IfOk, OnOk, IsPermutation, IsSome, All, map, flat_map};
 ghost use Rattle.std.specs.List.Sorted.{IsNonDecreasingBy};
@@ -6,34 +6,24 @@ ghost use Rattle.std.specs.Map.{keys_of};
 ghost use Rattle.scrib_core.specs.Held.{record_at};
 ghost use Rattle.scrib_settlement.specs.Settled.{IsEndedIn, IsEndedOf, AreEnded};
 
+pub use scrib_core::ended::Ended;
 use scrib_core::reply::Reply;
 use scrib_library::library::Library;
-use scrib_locked_steps::locked::ask_locked;
+use scrib_locked_steps::locked_calls::ask_locked;
 use scrib_locked_steps::shard::Shard;
-use scrib_types::event::Told;
-use scrib_types::name::Dotted;
 use std::alloc::{AllocError, Global};
 
-/// A conversation that is settled: its id, the full name of its protocol, how many events its log has, and what is told
-/// of it.
-#[derive(Drop)]
-pub struct Ended {
-    pub id: u32,
-    pub name: Dotted,
-    pub events: usize,
-    pub told: Told,
-}
-
-/// Every conversation of the shards, by id.
+/// Returns every conversation of the shards, by rising id.
 ///
 /// # Errors
-/// `AllocError` where memory was refused.
+/// `AllocError` if memory was refused.
 pub fn ended_by_id(
     alloc: Global,
     library: &Library,
     shards: &[Shard],
 ) -> Result<Vec<Ended>, AllocError>
-    ensures ids { IfOk result (λ list. IsPermutation (flat_map (λ s. keys_of s.records) shards.now) (map (λ e. e.id) list.items)) }
+    ensures ids { IfOk result (λ list. IsPermutation (flat_map (λ s. keys_of s.records) shards.now)
+        (map (λ e. e.id) list.items)) }
     ensures each { IfOk result (λ list. All (IsEndedOf library.now shards.now) list.items) }
     ensures order { IfOk result (λ list. IsNonDecreasingBy (λ e. e.id) list.items) }
 {
@@ -45,7 +35,7 @@ pub fn ended_by_id(
     Ok(list)
 }
 
-// Adds the conversations of a shard.
+// Appends the conversations of a shard.
 fn push_ended(library: &Library, shard: &Shard, list: &mut Vec<Ended>) -> Result<(), AllocError>
     ensures { OnOk result (AreEnded library.now shard.now.records list.old.items list.new.items) }
 {
@@ -57,7 +47,7 @@ fn push_ended(library: &Library, shard: &Shard, list: &mut Vec<Ended>) -> Result
     Ok(())
 }
 
-// A conversation of the shard at its end.
+// Returns the final state of a conversation of the shard.
 fn ended_of(library: &Library, shard: &Shard, id: u32) -> Result<Ended, AllocError>
     requires { IsSome (record_at shard.now.records id) }
     ensures id { IfOk result (λ e. e.id ≡ id) }

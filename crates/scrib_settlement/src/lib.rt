@@ -1,11 +1,11 @@
-//! The end of a service: what its passes were told against what its shards hold.
+//! The end of a service: the receipts of its passes are compared with the logs of its shards.
 #![tactic(auto)]
 
-pub mod differing;
 pub mod ended;
 pub mod fault;
-pub mod firsts;
-mod places;
+pub mod mismatch_place;
 pub mod settle;
+pub mod shard_mismatches;
+mod shard_tallies;
 pub mod shares;
 mod tally;

@@ -1,28 +1,28 @@
 //! Settling.
 
 ghost use Rattle.std.specs.Prelude.{◌≡◌, ◌<◌, ◌≤◌, ℕ, Err, IfOk, IfErr, IsErrAnd, OnOk, IsSome, Some, length};
-ghost use Rattle.scrib_settlement.specs.Places.{AreFound, IsLeast, IsThere, Stands, conversation_of};
+ghost use Rattle.scrib_settlement.specs.Mismatches.{AreFound, IsLeast, IsThere, PlaceAgrees, conversation_of};
 ghost use Rattle.scrib_settlement.specs.Settled.{IsFault, IsSettled, Names};
-ghost use Rattle.scrib_settlement.specs.declared.differing.Differing.{Differing};
-ghost use Rattle.scrib_settlement.specs.Shares.{AllAddUp, AreDistinct, IsLeastShort};
+ghost use Rattle.scrib_settlement.specs.declared.mismatch_place.MismatchPlace.{MismatchPlace};
+ghost use Rattle.scrib_settlement.specs.Shares.{AllAddUp, AreDistinct, IsFirstIncomplete};
 
-use crate::differing::{Differing, earlier};
 use crate::ended::{Ended, ended_by_id};
 use crate::fault::SettleFault;
-use crate::firsts::{Found, found_in_each};
-use crate::shares::first_short;
+use crate::mismatch_place::{MismatchPlace, earlier};
+use crate::shard_mismatches::{Found, found_in_each};
+use crate::shares::first_incomplete;
 use scrib_library::library::Library;
 use scrib_locked_steps::pass::Pass;
 use scrib_locked_steps::shard::Shard;
 use std::alloc::{AllocError, Global};
 
-/// Decides a settling of 1 to 64 shards: every conversation of them, by rising id, where all passes are there and every
-/// place of every log has exactly one receipt, which is equal to its entry. Takes as long as there are events and
-/// receipts, and what sorting the list takes.
+/// Settles 1 to 64 shards and returns every conversation of them, by rising id. This requires that all passes are
+/// given, and that every place of every log has exactly one receipt, equal to its entry. The time is linear in the
+/// events and receipts, apart from sorting the list.
 ///
 /// # Errors
-/// `PassesMissing` for the least shard whose passes have other than its number of receipts; else `Mismatch` for the
-/// least conversation and its least place that differs; or else `OutOfMemory`, which may also come in place of
+/// `PassesMissing` with the least shard whose passes have more or fewer receipts than its logs have events. Else
+/// `Mismatch` with the first mismatch of the least such conversation. Else `OutOfMemory`, which may also replace
 /// `Mismatch`.
 pub fn settle_parts(
     alloc: Global,
@@ -34,15 +34,16 @@ pub fn settle_parts(
     requires most { length shards.now ≤ 64 }
     ensures settled { IfOk result (λ list. IsSettled library.now shards.now passes.now list.items) }
     ensures fault { IfErr result (IsFault shards.now passes.now) }
-    ensures missing { (k : ℕ) → IsLeastShort shards.now passes.now k → result ≡ Err (SettleFault.PassesMissing k) }
-    ensures mismatch { (d : Differing) → AllAddUp shards.now passes.now → IsLeast (Stands shards.now passes.now) (Some d) → IsErrAnd result (Names d) }
+    ensures missing { (k : ℕ) → IsFirstIncomplete shards.now passes.now k → result ≡ Err (SettleFault.PassesMissing k) }
+    ensures mismatch { (d : MismatchPlace) → AllAddUp shards.now passes.now
+        → IsLeast (PlaceAgrees shards.now passes.now) (Some d) → IsErrAnd result (Names d) }
 {
     let found = found_in_each(alloc, shards, passes);
     settle_found(alloc, library, shards, passes, found)
 }
 
-/// Decides a settling of 1 to 64 shards as `settle_parts` does, by what was found in each of them, or by that there was
-/// no memory for the list.
+/// Settles 1 to 64 shards as `settle_parts` does, given the result for each of them, or `AllocError` if the list did
+/// not fit into memory.
 ///
 /// # Errors
 /// Those of `settle_parts`.
@@ -58,20 +59,21 @@ pub fn settle_found(
     requires found { IfOk found (λ all. AreFound shards.now passes.now all.items) }
     ensures settled { IfOk result (λ list. IsSettled library.now shards.now passes.now list.items) }
     ensures fault { IfErr result (IsFault shards.now passes.now) }
-    ensures missing { (k : ℕ) → IsLeastShort shards.now passes.now k → result ≡ Err (SettleFault.PassesMissing k) }
-    ensures mismatch { (d : Differing) → AllAddUp shards.now passes.now → IsLeast (Stands shards.now passes.now) (Some d) → IsErrAnd result (Names d) }
+    ensures missing { (k : ℕ) → IsFirstIncomplete shards.now passes.now k → result ≡ Err (SettleFault.PassesMissing k) }
+    ensures mismatch { (d : MismatchPlace) → AllAddUp shards.now passes.now
+        → IsLeast (PlaceAgrees shards.now passes.now) (Some d) → IsErrAnd result (Names d) }
 {
-    if let Some(shard) = first_short(shards, passes) {
+    if let Some(shard) = first_incomplete(shards, passes) {
         return Err(SettleFault::PassesMissing { shard });
     }
     let Ok(found) = found else {
         return Err(SettleFault::OutOfMemory);
     };
-    match first_differing(shards, passes, found.as_slice()) {
+    match first_mismatch(shards, passes, found.as_slice()) {
         Err(_) => Err(SettleFault::OutOfMemory),
-        Ok(Some(differing)) => Err(SettleFault::Mismatch {
-            conversation: differing.conversation,
-            place: differing.place,
+        Ok(Some(mismatch_place)) => Err(SettleFault::Mismatch {
+            conversation: mismatch_place.conversation,
+            place: mismatch_place.place,
         }),
         Ok(None) => match ended_by_id(alloc, library, shards) {
             Ok(list) => Ok(list),
@@ -80,20 +82,20 @@ pub fn settle_found(
     }
 }
 
-// The least place that differs, by what was found in each shard.
-fn first_differing(
+// Returns the first mismatch, given the result for each shard.
+fn first_mismatch(
     shards: &[Shard],
     passes: &[Pass],
     found: &[Found],
-) -> Result<Option<Differing>, AllocError>
+) -> Result<Option<MismatchPlace>, AllocError>
     requires some { 0 < length shards.now }
     requires found { AreFound shards.now passes.now found.now }
-    ensures least { IfOk result (IsLeast (Stands shards.now passes.now)) }
+    ensures least { IfOk result (IsLeast (PlaceAgrees shards.now passes.now)) }
     ensures distinct { OnOk result (AreDistinct shards.now) }
 {
-    let mut least = first_stray(shards, passes);
+    let mut least = first_missing_conversation(shards, passes);
     for (at, shard) in shards.iter().enumerate() {
-        // The number of a shard's conversations comes with the fact that no id stands twice in it.
+        // The contract of `len` provides that the shard's ids are distinct.
         let _conversations = shard.len();
         let own = found[at]?;
         least = earlier(least, own);
@@ -101,27 +103,28 @@ fn first_differing(
     Ok(least)
 }
 
-// The least conversation of a pass that its own shard doesn't have, at its place 1.
-fn first_stray(shards: &[Shard], passes: &[Pass]) -> Option<Differing>
+// Returns the least conversation of a pass that its own shard does not have, at place 1.
+fn first_missing_conversation(shards: &[Shard], passes: &[Pass]) -> Option<MismatchPlace>
     requires { 0 < length shards.now }
     ensures { IsLeast (IsThere shards.now passes.now) result }
 {
     let mut least = None;
     for pass in passes {
-        least = earlier(least, stray(shards, pass));
+        least = earlier(least, missing_conversation(shards, pass));
     }
     least
 }
 
-// Place 1 of the pass's conversation, if its own shard doesn't have it.
-fn stray(shards: &[Shard], pass: &Pass) -> Option<Differing>
+// Returns place 1 of the pass's conversation if its own shard does not have it.
+fn missing_conversation(shards: &[Shard], pass: &Pass) -> Option<MismatchPlace>
     requires { 0 < length shards.now }
-    ensures { IsLeast (λ id place. place ≡ 1 → pass.now.conversation ≡ id → IsSome (conversation_of shards.now id)) result }
+    ensures { IsLeast (λ id place. place ≡ 1 → pass.now.conversation ≡ id
+        → IsSome (conversation_of shards.now id)) result }
 {
     let id = pass.conversation();
     match shards[id as usize % shards.len()].record(id) {
         Some(_) => None,
-        None => Some(Differing {
+        None => Some(MismatchPlace {
             conversation: id,
             place: 1,
         }),

@@ -1,19 +1,19 @@
-//! Books of shards against shares of passes.
+//! The books of shards and the shares of passes.
 
 ghost use Rattle.std.specs.Prelude.{◌≡◌, ◌<◌, ◌≤◌, ◌-◌, ◌^◌, ℕ, min, length, slice_index, MatchOption};
-ghost use Rattle.scrib_settlement.specs.Shares.{shares_in, AllAddUp, IsLeastShort};
+ghost use Rattle.scrib_settlement.specs.Shares.{shares_in, AllAddUp, IsFirstIncomplete};
 
 use scrib_locked_steps::pass::Pass;
 use scrib_locked_steps::shard::Shard;
 
-/// The most shards.
+/// The maximal number of shards.
 pub const MAX_SHARDS: usize = 64;
 
-/// The least shard whose passes' shares don't add up to its book.
-pub fn first_short(shards: &[Shard], passes: &[Pass]) -> Option<usize>
+/// Returns the least shard whose book differs from the sum of its passes' shares.
+pub fn first_incomplete(shards: &[Shard], passes: &[Pass]) -> Option<usize>
     requires some { 0 < length shards.now }
     requires most { length shards.now ≤ 64 }
-    ensures { MatchOption result (AllAddUp shards.now passes.now) (IsLeastShort shards.now passes.now) }
+    ensures { MatchOption result (AllAddUp shards.now passes.now) (IsFirstIncomplete shards.now passes.now) }
 {
     let shares = shares_of(shards.len(), passes);
     for (at, shard) in shards.iter().enumerate() {
@@ -24,7 +24,7 @@ pub fn first_short(shards: &[Shard], passes: &[Pass]) -> Option<usize>
     None
 }
 
-// The shares of the passes in each of so many shards, or a number that no book has.
+// Returns the sum of the passes' shares for each of `count` shards. Sums saturate at a number that no book has.
 fn shares_of(count: usize, passes: &[Pass]) -> [u64; MAX_SHARDS]
     requires some { 0 < count }
     requires most { count ≤ 64 }

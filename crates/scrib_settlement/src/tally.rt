@@ -1,28 +1,28 @@
-//! Receipts counted into the places of a log.
+//! The receipts for the places of one log.
 
 ghost use Rattle.std.specs.Prelude.{◌≡◌, ◌++◌, ◌∷◌, ◌<◌, [], IfOk, IsTrue, List, length};
 ghost use Rattle.scrib_types.specs.declared.event.Event.{Event};
 ghost use Rattle.scrib_locked_steps.specs.declared.pass.Receipt.{Receipt};
-ghost use Rattle.scrib_settlement.specs.Tallies.{Counts, IsFirstDiffering, IsFirstDue, is_due};
+ghost use Rattle.scrib_settlement.specs.Tallies.{Counts, IsFirstDifference, IsFirstDue, is_due};
 
 use scrib_locked_steps::pass::Receipt;
-use scrib_locked_steps::standing::{is_entry, or_less};
+use scrib_locked_steps::receipt_check::{is_entry, min_place};
 use scrib_types::shared_event::SharedEvent;
 use std::alloc::{AllocError, Global};
 
-/// Which entries of a log are still to be told, and the least place of which too much was told, or the wrong thing.
+/// The places of a log that still need a receipt, and the least place with a superfluous or wrong receipt.
 #[derive(Drop)]
 pub struct Tally {
-    // by place: none is due at place 0
+    // Indexed by place; place 0 is never due.
     due: Vec<bool>,
     wrong: Option<usize>,
 }
 
 impl Tally {
-    /// The tally of no receipt.
+    /// Returns a tally without receipts.
     ///
     /// # Errors
-    /// `AllocError` where memory was refused.
+    /// `AllocError` if memory was refused.
     pub fn new(alloc: Global, log: &[SharedEvent]) -> Result<Tally, AllocError>
         ensures { IfOk result (λ t. Counts log.now [] t.due.items t.wrong) }
     {
@@ -33,34 +33,35 @@ impl Tally {
 
     /// Counts one more receipt.
     pub fn count(&mut self, log: &[SharedEvent], receipt: &Receipt)
-        ensures { (told : List Receipt) → Counts log.now told self.old.due.items self.old.wrong
-            → Counts log.now (told ++ receipt.now ∷ []) self.new.due.items self.new.wrong }
+        ensures { (seen : List Receipt) → Counts log.now seen self.old.due.items self.old.wrong
+            → Counts log.now (seen ++ receipt.now ∷ []) self.new.due.items self.new.wrong }
     {
         let place = receipt.place;
         if self.is_due(place) && is_entry(log, place, &receipt.event) {
             self.due[place] = false;
         } else {
-            self.wrong = Some(or_less(place, self.wrong));
+            self.wrong = Some(min_place(place, self.wrong));
         }
     }
 
-    /// Counts more receipts.
+    /// Counts several more receipts.
     pub fn count_all(&mut self, log: &[SharedEvent], receipts: &[Receipt])
-        ensures { (told : List Receipt) → Counts log.now told self.old.due.items self.old.wrong
-            → Counts log.now (told ++ receipts.now) self.new.due.items self.new.wrong }
+        ensures { (seen : List Receipt) → Counts log.now seen self.old.due.items self.old.wrong
+            → Counts log.now (seen ++ receipts.now) self.new.due.items self.new.wrong }
     {
         for receipt in receipts {
             self.count(log, receipt);
         }
     }
 
-    /// The least place that differs from the log.
+    /// Returns the least place at which the receipts differ from the log.
     pub fn first(&self) -> Option<usize>
-        ensures { (log : List Event) (told : List Receipt) → Counts log told self.now.due.items self.now.wrong → IsFirstDiffering log told result }
+        ensures { (log : List Event) (seen : List Receipt) → Counts log seen self.now.due.items self.now.wrong
+            → IsFirstDifference log seen result }
     {
         match (self.wrong, self.first_due()) {
-            (None, untold) => untold,
-            (Some(wrong), untold) => Some(or_less(wrong, untold)),
+            (None, unmatched) => unmatched,
+            (Some(wrong), unmatched) => Some(min_place(wrong, unmatched)),
         }
     }
 

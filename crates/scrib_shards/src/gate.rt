@@ -1,7 +1,7 @@
-//! Gates, by which a test sees a call while it holds its locks.
+//! Gates: with them a test observes a call while it holds its locks.
 
-/// What each call of `note`, `note_all` and `turn` does once while it holds its locks, before it returns. That is what
-/// their bodies do: no clause says it.
+/// A hook that each call of `note`, `note_all` and `turn` runs once, while it holds its locks and just before it
+/// returns. No contract states this.
 pub trait Gate {
     /// The call holds the lock of the shard of this number, from 0.
     fn hold(&self, shard: usize);

@@ -1,5 +1,5 @@
-//! The service: one library, and conversations in shards, of which each has a lock of its own. Calls may come from many
-//! threads; each is one step of the monitor.
+//! The service: one library, and conversations in shards, each behind a lock of its own. Many threads may call it. Each
+//! call is one step of the monitor.
 #![tactic(auto)]
 
 pub mod gate;
@@ -7,5 +7,5 @@ pub mod service;
 pub mod settled;
 pub mod sweeping;
 
-pub use scrib_locked_steps::{locked, pass, passing, shard, stepping, sweep};
+pub use scrib_locked_steps::{locked_calls, pass, pass_calls, shard, step_results, sweep};
 pub use scrib_settlement::{ended, fault, settle};

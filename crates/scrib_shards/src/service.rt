@@ -2,7 +2,7 @@
 
 ghost use Rattle.std.specs.Prelude.{◌≡◌, ◌⊎◌, ◌↔◌, ◌<◌, ◌≤◌, [], IfOk, IfErr, OnOk, OnErr, IsErrOf, vec_len, vec_capacity};
 ghost use Rattle.scrib_locked_steps.specs.Passes.{IsReceipted, IsAnsweredOn};
-ghost use Rattle.scrib_shards.specs.Called.{IsPutSome, PutFailsSome, IsWithdrawnSome, WithdrawFailsSome, IsProfiledSome, ProfileFailsSome, IsOpenedSome, OpenFailsSome, IsConnectedSome, ConnectFailsSome, IsNotedSome, NoteFailsSome, AreAnsweredSome, IsTurnedSome, TellFailsSome, IsAskedSome, AskFailsSome};
+ghost use Rattle.scrib_shards.specs.Called.{IsPutSome, PutFailsSome, IsWithdrawnSome, WithdrawFailsSome, IsProfiledSome, ProfileFailsSome, IsOpenedSome, OpenFailsSome, IsConnectedSome, ConnectFailsSome, IsNotedSome, NoteFailsSome, AreAnsweredSome, IsTurnedSome, TurnFailsSome, IsAskedSome, AskFailsSome};
 
 use crate::gate::Gate;
 use crossbeam_utils::CachePadded;
@@ -12,12 +12,12 @@ use scrib_core::reply::Refusal;
 use scrib_library::changes::Changes;
 use scrib_library::fault::EditFault;
 use scrib_library::library::Library;
-use scrib_locked_steps::locked::connect_locked;
+use scrib_locked_steps::batch_notes::note_all_by_pass;
+use scrib_locked_steps::locked_calls::connect_locked;
 use scrib_locked_steps::pass::Pass;
-use scrib_locked_steps::passing::{PassAnswer, PassRefusal, ask_by_pass, note_by_pass};
-use scrib_locked_steps::several::note_all_by_pass;
+use scrib_locked_steps::pass_calls::{PassRefusal, PassReply, ask_by_pass, note_by_pass};
 use scrib_locked_steps::shard::Shard;
-use scrib_locked_steps::stepping::{Noted, open_step, turn_step};
+use scrib_locked_steps::step_results::{Noted, open_step, turn_step};
 use scrib_settlement::shares::MAX_SHARDS;
 use scrib_types::event::Told;
 use scrib_types::name::Dotted;
@@ -26,28 +26,28 @@ use scrib_types::shared_event::SharedEvent;
 use std::alloc::Global;
 use std::sync::{Mutex, Wait};
 
-/// Why a service isn't made.
+/// Why a service was not created.
 #[derive(Drop)]
 pub enum ServiceFault {
-    /// There are to be none, or more than 64 shards.
+    /// The number of shards is 0 or greater than 64.
     BadShards,
     /// Memory was refused.
     OutOfMemory,
 }
 
-/// The lock of a shard. No other is on its cache lines.
+/// The lock of a shard, alone on its cache lines.
 pub(crate) type ShardLock = CachePadded<Mutex<Shard>>;
 
 /// A library behind a lock for reading and writing, and 1 to 64 shards, each behind a lock of its own. An edit takes
-/// the library's lock for writing; each other call takes it for reading, where it needs the library, and then the lock
-/// of its conversation's shard, whose number is the id modulo the number of shards. Who reads the library takes that
-/// part of its lock that the shard's number picks, so that threads on different shards write different words.
+/// the library's lock for writing. Other calls take it for reading, if they need the library, and then the lock of
+/// their conversation's shard. The number of that shard is the id modulo the number of shards. The library's lock has
+/// parts. A reader takes the part of its shard's number, so that threads on different shards write different words.
 #[derive(Drop)]
 pub struct Service {
     pub(crate) alloc: Global,
     pub(crate) library: ShardedLock<Library>,
     pub(crate) shards: Vec<ShardLock>,
-    // room for the values of all shards, so that settling needs none
+    // Room for the values of all shards, so that settling needs no memory for them.
     pub(crate) spare: Vec<Shard>,
     pub ghost some: { 0 < vec_len shards },
     pub ghost few: { vec_len shards ≤ 64 },
@@ -56,11 +56,11 @@ pub struct Service {
 }
 
 impl Service {
-    /// A service of so many shards, without modules and conversations. All shards together may have 65,536
-    /// conversations, each the same number.
+    /// Returns a service with this number of shards, without modules and conversations. All shards together hold at
+    /// most 65,536 conversations, each the same number.
     ///
     /// # Errors
-    /// `BadShards` exactly where there are to be none or more than 64; `OutOfMemory` where memory was refused.
+    /// `BadShards` exactly if the number is 0 or greater than 64; `OutOfMemory` if memory was refused.
     pub fn new(alloc: Global, shards: usize) -> Result<Service, ServiceFault>
         ensures made { IfOk result (λ s. vec_len s.shards ≡ shards) }
         ensures bad { IsErrOf result ServiceFault.BadShards ↔ ((shards ≡ 0) ⊎ (64 < shards)) }
@@ -68,7 +68,7 @@ impl Service {
         if shards == 0 || shards > MAX_SHARDS {
             return Err(ServiceFault::BadShards);
         }
-        let most = MAX_CONVERSATIONS / shards;
+        let capacity = MAX_CONVERSATIONS / shards;
         let (Ok(mut locks), Ok(spare)) = (
             Vec::with_capacity(alloc, shards),
             Vec::with_capacity(alloc, shards),
@@ -76,15 +76,15 @@ impl Service {
             return Err(ServiceFault::OutOfMemory);
         };
         for _ in 0..shards {
-            locks.push_reserved(shard_lock(Shard::new(alloc, most)));
+            locks.push_reserved(shard_lock(Shard::new(alloc, capacity)));
         }
         match ShardedLock::new(alloc, Library::new(alloc)) {
-            Ok(library) => Ok(made(alloc, library, locks, spare)),
+            Ok(library) => Ok(service_of(alloc, library, locks, spare)),
             Err(_) => Err(ServiceFault::OutOfMemory),
         }
     }
 
-    /// How many shards there are.
+    /// Returns the number of shards.
     pub fn shards(&self) -> usize
         ensures is { result ≡ vec_len self.now.shards }
         ensures some { 0 < result }
@@ -93,7 +93,7 @@ impl Service {
         self.shards.len()
     }
 
-    // The shard of a conversation.
+    // Returns the shard of a conversation.
     #[inline(always)]
     fn shard_of(&self, id: u32) -> usize
         ensures { result < vec_len self.now.shards }
@@ -101,10 +101,11 @@ impl Service {
         id as usize % self.shards.len()
     }
 
-    /// Puts the module that the text is, in place of the one of its name if there is one, and answers what changed.
+    /// Parses the text and puts its module into the library, replacing a module of the same name. Returns the changes.
     ///
     /// # Errors
-    /// The first fault of `EditFault`'s list that the put has; `OutOfMemory` where memory was refused. Nothing changes.
+    /// The first fault of the list of `EditFault` that applies; `OutOfMemory` if memory was refused. Nothing changes
+    /// then.
     pub fn put(&self, rt: &impl Wait, text: &[u8]) -> Result<Changes, EditFault>
         ensures ok { IfOk result (IsPutSome text.now) }
         ensures fault { IfErr result (PutFailsSome text.now) }
@@ -117,11 +118,11 @@ impl Service {
         Ok(changes)
     }
 
-    /// Takes the module of this name out, and answers what changed.
+    /// Withdraws the module of this name and returns the changes.
     ///
     /// # Errors
-    /// `UnknownModule` where there is no module of the name, else `StillImported` where another module imports it;
-    /// `OutOfMemory` where memory was refused. Nothing changes.
+    /// `UnknownModule` if no module has the name, else `StillImported` if another module imports it; `OutOfMemory` if
+    /// memory was refused. Nothing changes then.
     pub fn withdraw(&self, rt: &impl Wait, name: &Dotted) -> Result<Changes, EditFault>
         ensures ok { IfOk result (IsWithdrawnSome name.now) }
         ensures fault { IfErr result (WithdrawFailsSome name.now) }
@@ -134,12 +135,12 @@ impl Service {
         Ok(changes)
     }
 
-    /// Accepts protocols by this profile from now on.
+    /// Accepts protocols under this profile from now on.
     ///
     /// # Errors
-    /// `NeedsReception` where the plain profile is wanted and doesn't project what some name means, with the first such
-    /// name in the order of bytes; `OutOfMemory` where memory was refused, which comes only where the plain profile is
-    /// to follow the wider one. Nothing changes.
+    /// `NeedsReception` with the first name, in byte order, that the plain profile does not project, if that profile is
+    /// wanted. `OutOfMemory` if memory was refused, which can happen only if the plain profile replaces the reception
+    /// profile. Nothing changes then.
     pub fn profile(&self, rt: &impl Wait, profile: Profile) -> Result<(), EditFault>
         ensures ok { OnOk result (IsProfiledSome profile) }
         ensures fault { IfErr result (ProfileFailsSome profile) }
@@ -155,8 +156,8 @@ impl Service {
     /// Opens a conversation of the protocol.
     ///
     /// # Errors
-    /// `AlreadyOpen`, `UnknownProtocol`, `TooManyConversations` where its shard is full, or `OutOfMemory`, the first
-    /// that is due. Nothing changes.
+    /// `AlreadyOpen`, `UnknownProtocol`, `TooManyConversations` if its shard is full, or `OutOfMemory`, whichever
+    /// applies first. Nothing changes then.
     pub fn open(&self, rt: &impl Wait, id: u32, name: &Dotted) -> Result<(), Refusal>
         ensures ok { OnOk result (IsOpenedSome id name.now) }
         ensures fault { IfErr result (OpenFailsSome id name.now) }
@@ -170,10 +171,10 @@ impl Service {
         open_step(library, &mut shard, id, name)
     }
 
-    /// A pass to a conversation, by which nothing was noted.
+    /// Returns a pass to a conversation, without receipts.
     ///
     /// # Errors
-    /// `NoConversation` where none is open under the id.
+    /// `NoConversation` if no conversation of the id is open.
     pub fn connect(&self, rt: &impl Wait, id: u32) -> Result<Pass, Refusal>
         ensures ok { IfOk result (IsConnectedSome id) }
         ensures new { IfOk result (λ p. p ≡ record { conversation = id; receipts = [] }) }
@@ -183,14 +184,13 @@ impl Service {
         connect_locked(&shard, id)
     }
 
-    /// Notes the event in the pass's conversation, of which the pass then has the receipt. Where a verdict is told, it
-    /// is that on a log of as many events as the place says, which ends with the event and has the newest earlier
-    /// receipt at its place.
+    /// Appends the event to the log of the pass's conversation. The pass receives its receipt. A verdict other than
+    /// `Stale` is that on a log with as many events as the place says. This log ends with the event and has the
+    /// previous receipt at its place.
     ///
     /// # Errors
-    /// `Mismatch` where the newest receipt doesn't stand at its place, else `NoConversation`, `LogFull` or
-    /// `OutOfMemory`, the first that is due. Nothing changes, nor does the pass.
-    // Its answer is made where the caller wants it: moved, it would wait until the event is in memory.
+    /// `Mismatch` if the newest receipt differs from the log, else `NoConversation`, `LogFull` or `OutOfMemory`,
+    /// whichever applies first. Nothing changes then, and the pass is unchanged.
     #[inline(always)]
     pub fn note<G: Gate>(
         &self,
@@ -215,18 +215,18 @@ impl Service {
         noted
     }
 
-    /// Notes the events one after another in the pass's conversation, as so many calls of `note` do between which
-    /// nobody else is heard: the locks are taken once, so who notes many events takes a few of them at a time. Gives
-    /// what is answered to each, in their order, in the list that has room for it. A refused event changes nothing, nor
-    /// does the pass.
+    /// Appends the events one after another to the log of the pass's conversation, as calls of `note` would without
+    /// other calls between them. The locks are taken once, so a caller with many events should pass a few at a time.
+    /// Returns the reply to each, in order, in the list `room`, which has capacity for them. A refused event changes
+    /// neither the service nor the pass.
     pub fn note_all<G: Gate>(
         &self,
         rt: &impl Wait,
         pass: &mut Pass,
         events: Vec<SharedEvent>,
-        room: Vec<PassAnswer>,
+        room: Vec<PassReply>,
         gate: &G,
-    ) -> Vec<PassAnswer>
+    ) -> Vec<PassReply>
         requires empty { room.items ≡ [] }
         requires room { vec_len events ≤ vec_capacity room }
         ensures { AreAnsweredSome pass.old events.items result.items pass.new }
@@ -241,13 +241,13 @@ impl Service {
         answers
     }
 
-    /// Judges up to 256 further events of a conversation whose verdict is out of date, and tells what is told then.
+    /// Judges up to 256 further events of a conversation with a stale verdict, and returns the verdict, or `Stale`.
     ///
     /// # Errors
-    /// `NoConversation` or `OutOfMemory`. Nothing changes.
+    /// `NoConversation` or `OutOfMemory`. Nothing changes then.
     pub fn turn<G: Gate>(&self, rt: &impl Wait, id: u32, gate: &G) -> Result<Told, Refusal>
         ensures ok { IfOk result (IsTurnedSome id) }
-        ensures fault { IfErr result (TellFailsSome id) }
+        ensures fault { IfErr result (TurnFailsSome id) }
     {
         let at = self.shard_of(id);
         let guard = self.library.read(rt, at);
@@ -259,10 +259,10 @@ impl Service {
         turned
     }
 
-    /// What is told of the pass's conversation, whose log has all its receipts.
+    /// Returns the verdict on the pass's conversation, whose log has all its receipts, or `Stale`.
     ///
     /// # Errors
-    /// `Mismatch` with the least place where a receipt doesn't stand, else `NoConversation` or `OutOfMemory`.
+    /// `Mismatch` with the least place where a receipt differs from the log, else `NoConversation` or `OutOfMemory`.
     pub fn ask(&self, rt: &impl Wait, pass: &Pass) -> Result<Told, PassRefusal>
         ensures ok { IfOk result (IsAskedSome pass.now) }
         ensures answered { IfOk result (IsAnsweredOn pass.now.receipts) }
@@ -277,13 +277,13 @@ impl Service {
     }
 }
 
-// A lock of the shard.
+// Puts the shard behind a lock.
 pub(crate) fn shard_lock(shard: Shard) -> ShardLock {
     CachePadded::new(Mutex::new(shard))
 }
 
-// A service of these parts, with room for the values of its shards.
-pub(crate) fn made(
+// Returns a service of these parts, with room for the values of its shards.
+pub(crate) fn service_of(
     alloc: Global,
     library: ShardedLock<Library>,
     shards: Vec<ShardLock>,

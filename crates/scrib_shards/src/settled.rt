@@ -5,27 +5,27 @@ ghost use Rattle.std.specs.Option.{option_map};
 ghost use Rattle.scrib_record.specs.Versions.{meaning_of, number_of};
 ghost use Rattle.scrib_library.specs.Holdings.{IsNumber};
 ghost use Rattle.scrib_library.specs.Modules.{IsMeaning};
-ghost use Rattle.scrib_settlement.specs.Places.{AreFound};
+ghost use Rattle.scrib_settlement.specs.Mismatches.{AreFound};
 ghost use Rattle.scrib_settlement.specs.Settled.{IsFault, IsSettled};
 ghost use Rattle.scrib_shards.specs.Settling.{IsSettledSome, IsFaultSome};
 
-use crate::service::{Service, ShardLock, made, shard_lock};
+use crate::service::{Service, ShardLock, service_of, shard_lock};
 use crossbeam_utils::sync::ShardedLock;
+use scrib_core::ended::Ended;
 use scrib_library::library::Library;
 use scrib_locked_steps::pass::Pass;
 use scrib_locked_steps::shard::Shard;
 use scrib_record::version::Version;
-use scrib_settlement::ended::Ended;
 use scrib_settlement::fault::SettleFault;
-use scrib_settlement::firsts::{Found, found_in, found_in_each};
 use scrib_settlement::settle::settle_found;
+use scrib_settlement::shard_mismatches::{Found, found_in, found_in_each};
 use scrib_types::name::Dotted;
 use std::alloc::{AllocError, Global};
 use std::thread::Threads;
 use std::{mem, thread};
 
-/// A service at its end: the library, and every conversation by rising id; and what was settled, the shards with their
-/// logs and the passes with their receipts.
+/// A settled service: the library, and every conversation by rising id. It also holds what was settled: the shards with
+/// their logs, and the passes with their receipts.
 #[derive(Drop)]
 pub struct Settled {
     pub library: Library,
@@ -35,7 +35,7 @@ pub struct Settled {
 }
 
 impl Settled {
-    /// The version of a protocol that is there at the end, by its full name.
+    /// Returns the final version of a protocol, by its full name.
     pub fn present(&self, name: &Dotted) -> Option<&Version>
         ensures meaning { IsMeaning self.now.library.modules name.now (option_map (λ v. meaning_of v.now) result) }
         ensures number { IsNumber self.now.library name.now (option_map (λ v. number_of v.now) result) }
@@ -45,15 +45,16 @@ impl Settled {
 }
 
 impl Service {
-    /// Ends the service: every conversation, where the passes have exactly one receipt for each place of each log,
-    /// which is equal to the entry there, and none besides.
+    /// Ends the service and returns every conversation. This requires that the passes have exactly one receipt for each
+    /// place of each log, equal to the entry there, and no others.
     ///
     /// # Errors
-    /// `PassesMissing` for the least shard whose passes have other than its number of receipts; else `Mismatch` for the
-    /// least conversation and its least place that differs; or else `OutOfMemory`, which may also come in place of
-    /// `Mismatch`. The service and the passes come back, with as many shards.
+    /// `PassesMissing` with the least shard whose passes have more or fewer receipts than its logs have events. Else
+    /// `Mismatch` with the first mismatch of the least such conversation. Else `OutOfMemory`, which may also replace
+    /// `Mismatch`. The service and the passes are returned, with the same number of shards.
     pub fn settle(self, passes: Vec<Pass>) -> Result<Settled, (SettleFault, Service, Vec<Pass>)>
-        ensures settled { IfOk result (λ s. IsSettledSome (vec_len self.shards) s.library s.shards.items s.passes.items s.list.items) }
+        ensures settled { IfOk result (λ s. IsSettledSome (vec_len self.shards) s.library s.shards.items s.passes.items
+            s.list.items) }
         ensures given { IfOk result (λ s. s.passes ≡ passes) }
         ensures fault { IfErr result (λ e. IsFaultSome (vec_len self.shards) passes.items e.0) }
         ensures shards { IfErr result (λ e. vec_len e.1.shards ≡ vec_len self.shards) }
@@ -70,8 +71,8 @@ impl Service {
         settle_unlocked(alloc, library, values, locks, passes, found)
     }
 
-    /// Ends the service as `settle` does. The logs of each shard are compared with the receipts on a thread of its own;
-    /// where none can be started, on one that there is.
+    /// Ends the service as `settle` does. The logs of each shard are compared with the receipts on a thread of its own.
+    /// If no thread can be started, an existing one does the work.
     ///
     /// # Errors
     /// Those of `settle`.
@@ -80,7 +81,8 @@ impl Service {
         rt: &R,
         passes: Vec<Pass>,
     ) -> Result<Settled, (SettleFault, Service, Vec<Pass>)>
-        ensures settled { IfOk result (λ s. IsSettledSome (vec_len self.shards) s.library s.shards.items s.passes.items s.list.items) }
+        ensures settled { IfOk result (λ s. IsSettledSome (vec_len self.shards) s.library s.shards.items s.passes.items
+            s.list.items) }
         ensures given { IfOk result (λ s. s.passes ≡ passes) }
         ensures fault { IfErr result (λ e. IsFaultSome (vec_len self.shards) passes.items e.0) }
         ensures shards { IfErr result (λ e. vec_len e.1.shards ≡ vec_len self.shards) }
@@ -98,7 +100,7 @@ impl Service {
     }
 }
 
-// What is found in each shard, on a thread of its own.
+// Returns the result for each shard, computed on a thread of its own.
 fn found_on_threads<R: Threads + Sync>(
     rt: &R,
     alloc: Global,
@@ -115,7 +117,7 @@ fn found_on_threads<R: Threads + Sync>(
     )
 }
 
-// Settles the shards by what was found in each. On a fault they are put behind locks again, for which there is room.
+// Settles the shards by the result for each. After a fault they are put behind locks again, for which room exists.
 fn settle_unlocked(
     alloc: Global,
     library: ShardedLock<Library>,
@@ -130,7 +132,8 @@ fn settle_unlocked(
     requires empty { vec_len locks ≡ 0 }
     requires room { vec_len shards ≤ vec_capacity locks }
     requires found { IfOk found (λ all. AreFound shards.items passes.items all.items) }
-    ensures settled { IfOk result (λ s. IsSettledSome (vec_len shards) s.library s.shards.items s.passes.items s.list.items) }
+    ensures settled { IfOk result (λ s. IsSettledSome (vec_len shards) s.library s.shards.items s.passes.items
+        s.list.items) }
     ensures given { IfOk result (λ s. s.passes ≡ passes) }
     ensures fault { IfErr result (λ e. IsFaultSome (vec_len shards) passes.items e.0) }
     ensures shards { IfErr result (λ e. vec_len e.1.shards ≡ vec_len shards) }
@@ -145,14 +148,14 @@ fn settle_unlocked(
         }),
         Err(fault) => {
             let (locks, spare) = lock_all(locks, shards);
-            let service = made(alloc, library, locks, spare);
+            let service = service_of(alloc, library, locks, spare);
             Err((fault, service, passes))
         }
     }
 }
 
-// Settles the shards under the library behind the lock, by what was found in each, and takes the library out where they
-// settle. On a fault it stays.
+// Settles the shards under the library behind the lock, by the result for each. On success it takes the library out;
+// after a fault the library stays.
 fn settle_values(
     alloc: Global,
     lock: &ShardedLock<Library>,
@@ -167,8 +170,8 @@ fn settle_values(
     ensures fault { IfErr result (IsFault shards.now passes.now) }
 {
     let Some(mut library) = lock.try_write() else {
-        // Not reached: who settles has the service alone, and no call of this crate forgets a guard. A fault that
-        // needs no library is told first.
+        // Not reached: the caller owns the service, and no call of this crate forgets a guard. A fault that needs no
+        // library comes first.
         settle_found(alloc, &Library::new(alloc), shards, passes, found)?;
         return Err(SettleFault::OutOfMemory);
     };
@@ -177,7 +180,7 @@ fn settle_values(
     Ok((library, list))
 }
 
-// The values behind the locks, in order, for which there is room, and the emptied list of locks.
+// Returns the values behind the locks, in order, and the emptied list of locks. `values` has room for them.
 fn unlock_all(mut locks: Vec<ShardLock>, mut values: Vec<Shard>) -> (Vec<Shard>, Vec<ShardLock>)
     requires empty { vec_len values ≡ 0 }
     requires room { vec_len locks ≤ vec_capacity values }
@@ -193,7 +196,7 @@ fn unlock_all(mut locks: Vec<ShardLock>, mut values: Vec<Shard>) -> (Vec<Shard>,
     (values, locks)
 }
 
-// Locks of the values, in order, for which there is room, and the emptied list of values.
+// Returns locks of the values, in order, and the emptied list of values. `locks` has room for them.
 fn lock_all(mut locks: Vec<ShardLock>, mut values: Vec<Shard>) -> (Vec<ShardLock>, Vec<Shard>)
     requires empty { vec_len locks ≡ 0 }
     requires room { vec_len values ≤ vec_capacity locks }

@@ -1,7 +1,7 @@
-//! What is out of date in a service, and a sweep of all its shards.
+//! The stale conversations of a service, and a sweep of all its shards.
 
 ghost use Rattle.std.specs.Prelude.{◌<◌, ◌≤◌, ◌*◌, IfOk, vec_len};
-ghost use Rattle.scrib_shards.specs.Called.{IsTouchedSome};
+ghost use Rattle.scrib_shards.specs.Called.{AreStaleSome};
 
 use crate::service::Service;
 use scrib_locked_steps::sweep::{Swept, sweep_shard, touched_locked};
@@ -9,13 +9,13 @@ use std::alloc::AllocError;
 use std::sync::Wait;
 
 impl Service {
-    /// The conversations of the shard of this number whose verdict is out of date, by rising id.
+    /// Returns the ids of the shard's conversations with stale verdicts, rising.
     ///
     /// # Errors
-    /// `AllocError` where memory was refused.
+    /// `AllocError` if memory was refused.
     pub fn touched(&self, rt: &impl Wait, shard: usize) -> Result<Vec<u32>, AllocError>
         requires { shard < vec_len self.now.shards }
-        ensures { IfOk result (λ ids. IsTouchedSome ids.items) }
+        ensures { IfOk result (λ ids. AreStaleSome ids.items) }
     {
         let guard = self.library.read(rt, shard);
         let library = &*guard;
@@ -24,18 +24,17 @@ impl Service {
         touched_locked(library, &shard)
     }
 
-    /// Brings the verdict of each conversation up to date, shard after shard, with at most 4,096 turns of each
-    /// conversation. It waits for no lock: it has the service alone, so that the library's lock, of which it takes a
-    /// guard, is free.
+    /// Renews every stale verdict, shard after shard, with at most 4,096 turns for each conversation. It waits for no
+    /// lock: the caller has the service alone, so the library's lock is free.
     ///
     /// # Errors
-    /// `AllocError` where memory was refused. Each turn that was made before stays.
+    /// `AllocError` if memory was refused. The turns made so far remain.
     pub fn sweep_shards(&mut self) -> Result<Swept, AllocError>
         ensures turns { IfOk result (λ s. s.judged ≤ s.turns) }
         ensures few { IfOk result (λ s. s.turns ≤ 4096 * s.judged) }
     {
         let Some(library) = self.library.try_read(0) else {
-            // Not reached: who sweeps has the service alone, and no call of this crate forgets a guard.
+            // Not reached: the caller has the service alone, and no call of this crate forgets a guard.
             return Err(AllocError);
         };
         let mut swept = Swept {

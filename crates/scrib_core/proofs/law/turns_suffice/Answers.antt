@@ -1,4 +1,4 @@
-use Rattle.scrib_core.proofs.Turning.{stays_fresh, turns_suffice}
+use Rattle.scrib_core.proofs.TurnLemmas.{stays_fresh, turns_suffice}
 use Rattle.scrib_core.proofs.law.turns_suffice.Goals as goal
 
 pub returns : goal.returns

@@ -3,7 +3,7 @@ use Rattle.std.specs.List.{Contains}
 use Rattle.scrib_parser.specs.declared.tree.ModuleTree.{ModuleTree}
 use Rattle.scrib_library.specs.Affected.{names_now, waiting_trees}
 use Rattle.scrib_library.proofs.Lists.{Contains-nil}
-use Rattle.scrib_library.proofs.Affecting.{sorted_first, sorted_moved, sorted_all, none_removed, none_rest, none_taken, none_all, within_more}
+use Rattle.scrib_library.proofs.AffectedLemmas.{sorted_first, sorted_moved, sorted_all, none_removed, none_rest, none_taken, none_all, within_more}
 use Rattle.scrib_library.proofs.affected.affected.Goals as goal
 
 pub loop-at-init : goal.loop-at-init

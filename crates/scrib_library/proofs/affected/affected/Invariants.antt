@@ -1,6 +1,6 @@
 use Rattle.std.proofs.Common.{◌+◌, ◌-◌, ◌≤◌, length, take}
 use Rattle.scrib_library.specs.Affected.{names_now, waiting_trees}
-use Rattle.scrib_library.proofs.Affecting.{AreSorted, ImportNone}
+use Rattle.scrib_library.proofs.AffectedLemmas.{AreSorted, ImportNone}
 use Rattle.scrib_library.proofs.affected.affected.Given as goal
 
 abbrev pub invariant-loop-at : goal.invariant-loop-at

@@ -1,6 +1,6 @@
 use Rattle.std.proofs.lemmas.Bool.{false≢true}
 use Rattle.scrib_library.specs.Affected.{names_now}
-use Rattle.scrib_library.proofs.Affecting.{none_more, none_imported}
+use Rattle.scrib_library.proofs.AffectedLemmas.{none_more, none_imported}
 use Rattle.scrib_library.proofs.affected.imports_some.Goals as goal
 
 pub loop-import-preserved : goal.loop-import-preserved

@@ -2,7 +2,7 @@ use Rattle.std.proofs.Common.{List, subst}
 use Rattle.scrib_parser.specs.declared.tree.Statement.{Statement}
 use Rattle.scrib_static_checks.specs.SourceView.{body_of}
 use Rattle.scrib_library.specs.Calls.{EachCall, IsOther}
-use Rattle.scrib_library.proofs.Calling.{each_more, each_of_more}
+use Rattle.scrib_library.proofs.CallLemmas.{each_more, each_of_more}
 use Rattle.scrib_library.proofs.calls.+calls.Goals as goal
 
 pub calls_in-loop-statement-preserved : goal.calls_in-loop-statement-preserved

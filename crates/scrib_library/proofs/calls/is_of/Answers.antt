@@ -1,6 +1,6 @@
 use Rattle.std.proofs.Common.{◌≡◌, Some, None, sym, ◌∙◌}
 use Rattle.std.proofs.lemmas.Bool.{false≢true}
-use Rattle.scrib_library.proofs.Calling.{last_at, looked_at}
+use Rattle.scrib_library.proofs.CallLemmas.{last_at, looked_at}
 use Rattle.scrib_library.proofs.calls.is_of.Goals as goal
 
 pub returns-then-not-equal : goal.returns-then-not-equal

@@ -4,10 +4,10 @@ use Rattle.std.proofs.lemmas.Grind.{common_steps}
 use Rattle.scrib_library.specs.declared.declared.Entry.{Entry}
 use Rattle.scrib_library.specs.Affected.{names_now}
 use Rattle.scrib_library.specs.Entries.{AreEntries}
-use Rattle.scrib_library.specs.declared.outlines.Outline.{Outline}
-use Rattle.scrib_library.proofs.Outlining.{outlined_at}
-use Rattle.scrib_library.proofs.Sieving.{bit_small}
-use Rattle.scrib_library.proofs.Entering.{entries_same, entries_more}
+use Rattle.scrib_library.specs.declared.summaries.ModuleSummary.{ModuleSummary}
+use Rattle.scrib_library.proofs.SummaryLemmas.{summary_at}
+use Rattle.scrib_library.proofs.NameFilterLemmas.{bit_small}
+use Rattle.scrib_library.proofs.EntryLemmas.{entries_same, entries_more}
 use Rattle.scrib_library.proofs.declared.entries_of.Goals as goal
 use Rattle.scrib_library.proofs.declared.entries_of.Goals.{then-is_among+in_ok-enter, else-is_among}
 
@@ -26,13 +26,13 @@ loop-at-preserved c =
 
 pub is_among-requires-clause-bit : goal.is_among-requires-clause-bit
 is_among-requires-clause-bit c =
-    ap (λ (o : Outline). o.bit) (outlined_at c.args.modules.now c.args.outlines.now c.requires c.loop-at.at c.index-modules-at.result _ c.loop-at-test.true c.index-modules-at.is)
+    ap (λ (o : ModuleSummary). o.bit) (summary_at c.args.modules.now c.args.summaries.now c.requires c.loop-at.at c.index-modules-at.result _ c.loop-at-test.true c.index-modules-at.is)
 
 pub is_among-requires-clause-within : goal.is_among-requires-clause-within
 is_among-requires-clause-within c =
     let t = c.index-modules-at.result in
-    let P : Outline → Type 0 = λ o. o.bit < 64 in
-    subst P (sym (outlined_at c.args.modules.now c.args.outlines.now c.requires c.loop-at.at t _ c.loop-at-test.true c.index-modules-at.is)) (bit_small t.name)
+    let P : ModuleSummary → Type 0 = λ o. o.bit < 64 in
+    subst P (sym (summary_at c.args.modules.now c.args.summaries.now c.requires c.loop-at.at t _ c.loop-at-test.true c.index-modules-at.is)) (bit_small t.name)
 
 pub returns : goal.returns
 returns c = grind (arith, common_steps)

@@ -2,7 +2,7 @@ use Rattle.std.proofs.Common.{rules, of_calls}
 use Rattle.std.proofs.lemmas.Fn.{always_returns_same}
 use Rattle.scrib_library.specs.declared.declared.Entry.{Entry}
 use Rattle.scrib_library.specs.Listed.{name_cmp}
-use Rattle.scrib_library.proofs.Searching.{searched}
+use Rattle.scrib_library.proofs.SearchLemmas.{searched}
 use Rattle.scrib_library.proofs.declared.place_of.Goals as goal
 
 pub returns : goal.returns

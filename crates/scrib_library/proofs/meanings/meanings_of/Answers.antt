@@ -1,5 +1,5 @@
 use Rattle.std.proofs.lemmas.Result.{err_from_is_err_and}
-use Rattle.scrib_library.proofs.Elaborating.{meanings_made, no_meanings}
+use Rattle.scrib_library.proofs.ElaborationLemmas.{meanings_made, no_meanings}
 use Rattle.scrib_library.proofs.meanings.meanings_of.Goals as goal
 
 pub returns-in_err-elaborated-clause-fault : goal.returns-in_err-elaborated-clause-fault

@@ -3,7 +3,7 @@ use Rattle.std.specs.List.{Contains}
 use Rattle.std.proofs.lemmas.Iterator.Adapters.{YieldsList-from_vec}
 use Rattle.std.proofs.lemmas.Iterator.Consumers.{YieldsList-turn}
 use Rattle.std.proofs.lemmas.Result.{err_from_is_err_and}
-use Rattle.scrib_library.proofs.Elaborating.{projected_more, not_projected}
+use Rattle.scrib_library.proofs.ElaborationLemmas.{projected_more, not_projected}
 use Rattle.scrib_library.proofs.meanings.project_all.Goals as goal
 
 pub returns-in_err-meaning-clause-fault : goal.returns-in_err-meaning-clause-fault

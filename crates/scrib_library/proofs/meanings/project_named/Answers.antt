@@ -1,5 +1,5 @@
 use Rattle.std.proofs.lemmas.Result.{err_from_is_err_and}
-use Rattle.scrib_library.proofs.Elaborating.{projected_named, nothing_named, unprojected_named}
+use Rattle.scrib_library.proofs.ElaborationLemmas.{projected_named, nothing_named, unprojected_named}
 use Rattle.scrib_library.proofs.meanings.project_named.Goals.{in-Some+in_ok-projected-in-Some+in_ok-compiled_of-in-Some, in-None}
 use Rattle.scrib_library.proofs.meanings.project_named.Goals as goal
 

@@ -4,11 +4,11 @@ use Rattle.std.proofs.lemmas.Result.{IfOk-weaker, IfErr-weaker}
 use Rattle.scrib_parser.specs.declared.tree.ModuleTree.{ModuleTree}
 use Rattle.scrib_library.specs.declared.meanings.NamedMeaning.{NamedMeaning}
 use Rattle.scrib_library.specs.Affected.{names_now, AreAffected}
-use Rattle.scrib_library.specs.Entries.{IsDeclaredIn, AreTouched}
+use Rattle.scrib_library.specs.Entries.{IsDeclaredIn, AreAffectedEntries}
 use Rattle.scrib_library.specs.Listed.{AreInOrder}
 use Rattle.scrib_library.specs.Elaborated.{meaning_names, AreMeanings, IsRefusal}
 use Rattle.scrib_library.specs.Plans.{Covers, StopsMeanings}
-use Rattle.scrib_library.proofs.Planning.{covering, covering_nothing, stopped_meanings}
+use Rattle.scrib_library.proofs.PlanLemmas.{covering, covering_nothing, stopped_meanings}
 use Rattle.scrib_library.proofs.plan.meanings_after.Goals as goal
 
 pub returns-then-is_same-clause-ok : goal.returns-then-is_same-clause-ok
@@ -24,7 +24,7 @@ returns-clause-sorted c =
     let rs = c.in_ok-reached.reached.items in
     let names = names_now c.in_ok-affected.affected.items in
     let Q : List ModuleTree → Type 0 = λ ms. AreAffected ms m.name names in
-    let R : List ModuleTree → Type 0 = λ ms. AreTouched ms names gone es in
+    let R : List ModuleTree → Type 0 = λ ms. AreAffectedEntries ms names gone es in
     let named = rw c.deref.ensures.value at c.in_ok-entries.ensures in
     let all = covering c.args.profile m c.args.modules.now gone names (subst Q c.as_slice-trees.ensures c.in_ok-affected.ensures) es (subst R c.as_slice-trees.ensures named) rs c.in_ok-reached.ensures in
     IfOk-weaker c.meanings_of.result (λ ys. AreMeanings c.args.profile c.args.modules.now rs ys.items) (λ ys. AreInOrder (meaning_names ys.items)) (λ ys h. (all ys.items h).0) (rw c.as_modules.ensures at c.meanings_of.ensures.ok)
@@ -37,7 +37,7 @@ returns-clause-ok c =
     let rs = c.in_ok-reached.reached.items in
     let names = names_now c.in_ok-affected.affected.items in
     let Q : List ModuleTree → Type 0 = λ ms. AreAffected ms m.name names in
-    let R : List ModuleTree → Type 0 = λ ms. AreTouched ms names gone es in
+    let R : List ModuleTree → Type 0 = λ ms. AreAffectedEntries ms names gone es in
     let named = rw c.deref.ensures.value at c.in_ok-entries.ensures in
     let all = covering c.args.profile m c.args.modules.now gone names (subst Q c.as_slice-trees.ensures c.in_ok-affected.ensures) es (subst R c.as_slice-trees.ensures named) rs c.in_ok-reached.ensures in
     IfOk-weaker c.meanings_of.result (λ ys. AreMeanings c.args.profile c.args.modules.now rs ys.items) (λ ys. Covers c.args.profile m c.args.modules.now gone ys.items) (λ ys h. (all ys.items h).1) (rw c.as_modules.ensures at c.meanings_of.ensures.ok)
@@ -50,7 +50,7 @@ returns-clause-fault c =
     let rs = c.in_ok-reached.reached.items in
     let names = names_now c.in_ok-affected.affected.items in
     let Q : List ModuleTree → Type 0 = λ ms. AreAffected ms m.name names in
-    let R : List ModuleTree → Type 0 = λ ms. AreTouched ms names gone es in
+    let R : List ModuleTree → Type 0 = λ ms. AreAffectedEntries ms names gone es in
     let named = rw c.deref.ensures.value at c.in_ok-entries.ensures in
     IfErr-weaker c.meanings_of.result (IsRefusal c.args.profile c.args.modules.now rs) (StopsMeanings c.args.profile m c.args.modules.now gone)
     (stopped_meanings c.args.profile m c.args.modules.now gone names (subst Q c.as_slice-trees.ensures c.in_ok-affected.ensures) es (subst R c.as_slice-trees.ensures named) rs c.in_ok-reached.ensures c.requires)

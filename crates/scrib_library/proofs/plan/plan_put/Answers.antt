@@ -5,7 +5,7 @@ use Rattle.scrib_parser.specs.declared.tree.ModuleTree.{ModuleTree}
 use Rattle.scrib_library.specs.Edits.{HasRoom, ModuleFails}
 use Rattle.scrib_library.specs.Plans.{StopsPut}
 use Rattle.scrib_library.specs.Drafts.{StopsDraft}
-use Rattle.scrib_library.proofs.Planning.{stopped, stopped_draft}
+use Rattle.scrib_library.proofs.PlanLemmas.{stopped, stopped_draft}
 use Rattle.scrib_library.proofs.plan.plan_put.Goals as goal
 
 pub returns-in_err-check_room-clause-fault : goal.returns-in_err-check_room-clause-fault

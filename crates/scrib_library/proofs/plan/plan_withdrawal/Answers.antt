@@ -2,7 +2,7 @@ use Rattle.std.proofs.Common.{◌≡◌}
 use Rattle.std.proofs.lemmas.Result.{IfErr-weaker}
 use Rattle.scrib_library.specs.declared.fault.EditFault.TheVariants.{OutOfMemory}
 use Rattle.scrib_library.specs.Drafts.{StopsDraft}
-use Rattle.scrib_library.proofs.Withdrawing.{only_memory}
+use Rattle.scrib_library.proofs.WithdrawalLemmas.{only_memory}
 use Rattle.scrib_library.proofs.plan.plan_withdrawal.Goals as goal
 
 pub returns-clause-fault : goal.returns-clause-fault

@@ -1,7 +1,7 @@
 use Rattle.std.proofs.Common.{rules, subst}
 use Rattle.scrib_types.specs.declared.profile.Profile.{Profile}
 use Rattle.scrib_library.specs.Lacking.{AllVersionsProject}
-use Rattle.scrib_library.proofs.Projecting.{all_wanted}
+use Rattle.scrib_library.proofs.ProjectionLemmas.{all_wanted}
 use Rattle.scrib_library.proofs.profiles.check_change.Goals.{then-eq-via-then-eq, then-eq-via-else-eq+then-eq-2}
 use Rattle.scrib_library.proofs.profiles.check_change.Goals as goal
 

@@ -2,7 +2,7 @@ use Rattle.std.proofs.Common.{◌≡◌, Bool, false, rules, sym, ap, ◌∙◌}
 use Rattle.scrib_types.specs.Agreement.{Agreement}
 use Rattle.scrib_types.specs.WellFormed.{projects}
 use Rattle.scrib_library.specs.Lacking.{version_projects}
-use Rattle.scrib_library.proofs.Projecting.{first_here, all_of}
+use Rattle.scrib_library.proofs.ProjectionLemmas.{first_here, all_of}
 use Rattle.scrib_library.proofs.profiles.first_lacking.Goals as goal
 
 pub returns-then-not-projected : goal.returns-then-not-projected

@@ -5,7 +5,7 @@ use Rattle.scrib_types.specs.Meaning.{agreement_of}
 use Rattle.scrib_types.specs.LocalView.{local_of}
 use Rattle.scrib_types.specs.Projection.{projection}
 use Rattle.scrib_types.specs.WellFormed.{projects}
-use Rattle.scrib_library.proofs.Projecting.{is_some-local, projects_more, projects_not}
+use Rattle.scrib_library.proofs.ProjectionLemmas.{is_some-local, projects_more, projects_not}
 use Rattle.scrib_library.proofs.profiles.has_projections.Goals as goal
 
 pub loop-role-preserved : goal.loop-role-preserved

@@ -1,4 +1,4 @@
-use Rattle.scrib_library.proofs.Sifting.{gathered_none, gathered_new, gathered_found}
+use Rattle.scrib_library.proofs.ReachabilityLemmas.{gathered_none, gathered_new, gathered_found}
 use Rattle.scrib_library.proofs.reaching.in_order.Goals as goal
 
 pub loop-entry-init : goal.loop-entry-init

@@ -2,7 +2,7 @@ use Rattle.std.proofs.Common.{[], ◌∷◌, arith}
 use Rattle.std.proofs.Math.ListN.{length-append}
 use Rattle.std.proofs.lemmas.Result.{IfOk-weaker}
 use Rattle.scrib_library.specs.Calls.{AreGathered, AreReaching}
-use Rattle.scrib_library.proofs.Sifting.{sifted_caller, sifted_next, reaching_all}
+use Rattle.scrib_library.proofs.ReachabilityLemmas.{sifted_caller, sifted_next, reaching_all}
 use Rattle.scrib_library.proofs.reaching.reaching.Goals as goal
 
 pub loop-at-preserved-in-Continue-branch-2 : goal.loop-at-preserved-in-Continue-branch-2

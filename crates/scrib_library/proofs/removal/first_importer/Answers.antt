@@ -2,7 +2,7 @@ use Rattle.std.proofs.Common.{List, ℕ, ◌+◌, Option, take, sym, ap, ◌∙�
 use Rattle.std.specs.Option.{option_copied}
 use Rattle.std.proofs.lemmas.Bool.{false≢true}
 use Rattle.scrib_library.specs.Withdrawals.{IsFirstOrNone}
-use Rattle.scrib_library.proofs.Importing.{first_more, first_same, first_all}
+use Rattle.scrib_library.proofs.ImporterLemmas.{first_more, first_same, first_all}
 use Rattle.scrib_library.proofs.removal.first_importer.Goals as goal
 use Rattle.scrib_library.proofs.removal.first_importer.Goals.{then-is_importer, else-is_importer}
 

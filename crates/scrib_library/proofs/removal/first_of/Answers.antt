@@ -1,7 +1,7 @@
 use Rattle.std.proofs.Common.{List, ℕ, Option, sym, ap, ◌∙◌, subst}
 use Rattle.std.specs.Option.{option_copied}
 use Rattle.scrib_library.specs.Withdrawals.{IsFirstOf}
-use Rattle.scrib_library.proofs.Importing.{is_greater, not_greater, first_kept, first_second}
+use Rattle.scrib_library.proofs.ImporterLemmas.{is_greater, not_greater, first_kept, first_second}
 use Rattle.scrib_library.proofs.removal.first_of.Goals as goal
 
 pub returns-then-eq : goal.returns-then-eq

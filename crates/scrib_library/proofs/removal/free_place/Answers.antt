@@ -2,8 +2,8 @@ use Rattle.std.proofs.Common.{List, ℕ, sym, subst}
 use Rattle.scrib_parser.specs.declared.tree.ModuleTree.{ModuleTree}
 use Rattle.scrib_library.specs.Edits.{IsImporter, IsLeastImporter}
 use Rattle.scrib_library.specs.Withdrawals.{IsFirstImporter}
-use Rattle.scrib_library.proofs.Naming.{place_has}
-use Rattle.scrib_library.proofs.Importing.{least_by_text}
+use Rattle.scrib_library.proofs.ModuleNameLemmas.{place_has}
+use Rattle.scrib_library.proofs.ImporterLemmas.{least_by_text}
 use Rattle.scrib_library.proofs.removal.free_place.Goals as goal
 
 pub returns-in-Some-first_importer-clause-fault : goal.returns-in-Some-first_importer-clause-fault

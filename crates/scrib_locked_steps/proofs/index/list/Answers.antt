@@ -4,7 +4,7 @@ use Rattle.std.specs.Option.{option_copied_mut}
 use Rattle.std.specs.Map.{lookup}
 use Rattle.scrib_static_checks.specs.Names.{dotted_eq}
 use Rattle.scrib_locked_steps.specs.Indexing.{ids_in}
-use Rattle.scrib_locked_steps.proofs.Listed.{listed_kept, listed_more}
+use Rattle.scrib_locked_steps.proofs.NameIndexLemmas.{listed_kept, listed_more}
 use Rattle.scrib_locked_steps.proofs.index.list.Goals as goal
 
 on_err : {X E : Type 0} {P : Type 0} (r : Result X E) → P → OnErr r P

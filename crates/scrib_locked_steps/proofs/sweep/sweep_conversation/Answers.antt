@@ -2,7 +2,7 @@ use Rattle.std.proofs.Common.{◌≡◌, ◌∙◌, ℕ, subst, arith}
 use Rattle.scrib_types.specs.declared.event.Told.{Told}
 use Rattle.scrib_types.specs.declared.event.Told.TheVariants.{Judged}
 use Rattle.scrib_locked_steps.specs.Locked.{IsTurnedFor}
-use Rattle.scrib_locked_steps.proofs.Sweeping.{IsSwept, swept_stale, swept_turn, swept_fresh, no_more}
+use Rattle.scrib_locked_steps.proofs.SweepLemmas.{IsSwept, swept_stale, swept_turn, swept_fresh, no_more}
 use Rattle.scrib_locked_steps.proofs.sweep.sweep_conversation.Goals as goal
 
 pub returns-in-Judged-clause-fresh : goal.returns-in-Judged-clause-fresh

@@ -1,7 +1,7 @@
 use Rattle.std.proofs.Common.{◌≡◌, ◌+◌, ◌<◌, ◌≤◌, ◌∙◌, ℕ, Result, Ok, Err, OnErr, length, get_or, refl, sym, subst, arith}
 use Rattle.std.proofs.lemmas.List.{get_or_default}
-use Rattle.scrib_locked_steps.specs.Sweeping.{AreTouched, AreTurns, AreSomeTurns}
-use Rattle.scrib_locked_steps.proofs.Sweeping.{sweep_none, sweep_more, turns_both, few_touched}
+use Rattle.scrib_locked_steps.specs.Sweeping.{AreStaleIds, AreTurns, AreSomeTurns}
+use Rattle.scrib_locked_steps.proofs.SweepLemmas.{sweep_none, sweep_more, turns_both, few_touched}
 use Rattle.scrib_locked_steps.proofs.sweep.sweep_shard.Goals as goal
 
 pub loop-id-init : goal.loop-id-init
@@ -9,7 +9,7 @@ loop-id-init c =
     let ids = c.deref-id-items.result.now in
     let old = c.args.shard.now.records in
     record {
-      swept = sweep_none c.args.library.now old ids (subst (AreTouched c.args.library.now old) (sym c.deref-id-items.ensures.value) c.in_ok-touched.ensures);
+      swept = sweep_none c.args.library.now old ids (subst (AreStaleIds c.args.library.now old) (sym c.deref-id-items.ensures.value) c.in_ok-touched.ensures);
       limit = refl;
       turned = refl;
       judged = refl;
@@ -28,7 +28,7 @@ loop-id-preserved c =
     let i = c.loop-id.id-index in
     let within : i < length ids = omega arith in
     let old = c.args.shard.now.records in
-    let touched = subst (AreTouched c.args.library.now old) (sym c.deref-id-items.ensures.value) c.in_ok-touched.ensures in
+    let touched = subst (AreStaleIds c.args.library.now old) (sym c.deref-id-items.ensures.value) c.in_ok-touched.ensures in
     let few : length ids ≤ 65536 = omega (arith, few_touched c.args.library.now old ids touched, c.len-conversations.ensures.kept.limited, c.len-conversations.ensures.kept.few) in
     let all : c.loop-id.swept.turns + c.in_ok-turns.turns ≡ c.saturating_add.result =
     omega (arith, c.saturating_add.ensures, c.in_ok-turns.ensures.few, c.loop-id.invariant.few, few, within) in

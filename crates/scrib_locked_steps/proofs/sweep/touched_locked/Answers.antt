@@ -8,14 +8,14 @@ use Rattle.scrib_record.specs.declared.version.Version.{Version}
 use Rattle.scrib_record.specs.Versions.{meaning_of, number_of}
 use Rattle.scrib_library.specs.Holdings.{Holdings, IsNumber}
 use Rattle.scrib_library.specs.Modules.{IsMeaning}
-use Rattle.scrib_core.specs.Conversing.{IsPresent}
+use Rattle.scrib_core.specs.ConversationSteps.{IsPresent}
 use Rattle.scrib_locked_steps.specs.Indexing.{IsIndex}
 use Rattle.scrib_locked_steps.specs.Shards.{ShardHeld}
-use Rattle.scrib_locked_steps.proofs.Touching.{AreTouchedUnder, touched_none, touched_more, touched_all}
+use Rattle.scrib_locked_steps.proofs.StaleListLemmas.{AreTouchedUnder, touched_none, touched_more, touched_all}
 use Rattle.scrib_locked_steps.proofs.sweep.touched_locked.Goals as goal
-use Rattle.scrib_locked_steps.proofs.sweep.touched_locked.Goals.{in-Some+in_ok-push_touched, in_default}
+use Rattle.scrib_locked_steps.proofs.sweep.touched_locked.Goals.{in-Some+in_ok-push_stale, in_default}
 
--- what the library answers is the present version
+-- the library returns the present version
 present_here : (h : Holdings) (name : List (List ℕ)) (o : Option (Bor Version)) → IsMeaning h.modules name (option_map (λ v. meaning_of v.now) o) → IsNumber h name (option_map (λ v. number_of v.now) o)
     → IsPresent h name (option_copied o)
 present_here h name None m n = record { meaning = m; number = n }
@@ -33,9 +33,9 @@ loop-place-preserved c =
     let es = c.shard.inside.index.entries in
     let index : IsIndex es rs = subst (λ (s : ShardHeld). IsIndex es s.records) c.shard.view_is c.shard.invariant.indexed in
     elim c.match-get_index.branch [
-      | in-Some+in_ok-push_touched w ↦
+      | in-Some+in_ok-push_stale w ↦
           (let at : slice_get es c.loop-place.place ≡ Some (w.in-Some.key.now, w.in-Some.listed.now) = sym c.get_index.ensures.entry ∙ ap (option_map deref_pair) w.in-Some.is in
-          let all = rw w.deref.ensures.value at w.in_ok-push_touched.ensures in
+          let all = rw w.deref.ensures.value at w.in_ok-push_stale.ensures in
           subst (AreTouchedUnder h rs es (c.loop-place.place + 1)) (sym (ap (λ (v : Vec ℕ Global). v.items) w.ids-is ∙ all))
           (touched_more h rs es c.loop-place.place w.in-Some.key.now w.in-Some.listed.now (option_copied w.present.result) c.loop-place.ids.items c.len-conversations.ensures.kept.distinct
           c.len-place-end.ensures.unique index at (present_here h w.in-Some.key.now.name w.present.result w.present.ensures.meaning w.present.ensures.number) c.loop-place.invariant))

@@ -1,4 +1,4 @@
-use Rattle.scrib_locked_steps.proofs.Touching.{AreTouchedUnder}
+use Rattle.scrib_locked_steps.proofs.StaleListLemmas.{AreTouchedUnder}
 use Rattle.scrib_locked_steps.proofs.sweep.touched_locked.Given as goal
 
 abbrev pub invariant-loop-place : goal.invariant-loop-place

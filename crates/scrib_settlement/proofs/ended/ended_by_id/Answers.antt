@@ -1,9 +1,9 @@
 use Rattle.std.proofs.Common.{◌<◌, ◌≤◌, length, rules, arith}
 use Rattle.std.proofs.lemmas.List.Sorted.{IsNonDecreasingBy-from_sort_by_key, All-permutation}
 use Rattle.scrib_settlement.specs.Settled.{IsEndedOf}
-use Rattle.scrib_settlement.specs.declared.ended.Ended.{Ended}
-use Rattle.scrib_settlement.proofs.Listing.{shards_more, ids_sorted}
-use Rattle.scrib_settlement.proofs.Standing.{records_read}
+use Rattle.scrib_core.specs.declared.ended.Ended.{Ended}
+use Rattle.scrib_settlement.proofs.EndedListLemmas.{shards_more, ids_sorted}
+use Rattle.scrib_settlement.proofs.MismatchLemmas.{records_read}
 use Rattle.scrib_settlement.proofs.ended.ended_by_id.Goals as goal
 
 pub loop-shard-preserved : goal.loop-shard-preserved

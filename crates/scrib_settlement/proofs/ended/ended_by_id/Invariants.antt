@@ -1,4 +1,4 @@
-use Rattle.scrib_settlement.proofs.Listing.{AreEndedUpTo}
+use Rattle.scrib_settlement.proofs.EndedListLemmas.{AreEndedUpTo}
 use Rattle.scrib_settlement.proofs.ended.ended_by_id.Given as goal
 
 abbrev pub invariant-loop-shard : goal.invariant-loop-shard

@@ -1,4 +1,4 @@
-use Rattle.scrib_settlement.proofs.Listing.{some_at, ended_more}
+use Rattle.scrib_settlement.proofs.EndedListLemmas.{some_at, ended_more}
 use Rattle.scrib_settlement.proofs.ended.push_ended.Goals as goal
 
 pub ended_of-requires : goal.ended_of-requires

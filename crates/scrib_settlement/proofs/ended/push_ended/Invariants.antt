@@ -1,4 +1,4 @@
-use Rattle.scrib_settlement.proofs.Listing.{AreEndedBelow}
+use Rattle.scrib_settlement.proofs.EndedListLemmas.{AreEndedBelow}
 use Rattle.scrib_settlement.proofs.ended.push_ended.Given as goal
 
 abbrev pub invariant-loop-index : goal.invariant-loop-index

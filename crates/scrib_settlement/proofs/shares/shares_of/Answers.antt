@@ -1,6 +1,6 @@
 use Rattle.std.proofs.Common.{◌≡◌, ◌<◌, ◌-◌, ◌+◌, ◌%◌, ◌^◌, ◌∙◌, min, length, get_or, refl, arith}
 use Rattle.std.proofs.lemmas.List.{get_or-replicate, length-set}
-use Rattle.scrib_settlement.proofs.Sharing.{share_counted}
+use Rattle.scrib_settlement.proofs.ShareLemmas.{share_counted}
 use Rattle.scrib_settlement.proofs.shares.shares_of.Goals as goal
 
 pub loop-pass-init : goal.loop-pass-init

@@ -1,6 +1,6 @@
 use denote.Exit.{no}
 use denote.Param.Send.{param_sync, arg_sync}
-use Rattle.scrib_shards.proofs.Crossing.{finding_sync}
+use Rattle.scrib_shards.proofs.ThreadSharingLemmas.{finding_sync}
 use Rattle.scrib_shards.proofs.settled.found_on_threads.Goals as goal
 
 pub map_indices-requires-sync-F : goal.map_indices-requires-sync-F

@@ -1,5 +1,5 @@
 use Rattle.std.proofs.Common.{sym}
-use Rattle.scrib_core.proofs.Conversed.{ask_answered}
+use Rattle.scrib_core.proofs.ConversationLemmas.{ask_answered}
 use Rattle.scrib_core.proofs.monitor.Core.ask.Goals as goal
 
 pub returns-clause-answered : goal.returns-clause-answered

@@ -1,5 +1,5 @@
 use Rattle.std.proofs.Common.{sym}
-use Rattle.scrib_core.proofs.Conversed.{note_answered}
+use Rattle.scrib_core.proofs.ConversationLemmas.{note_answered}
 use Rattle.scrib_core.proofs.monitor.Core.note.Goals as goal
 
 pub invariant_of-self : goal.invariant_of-self

@@ -1,5 +1,5 @@
 use Rattle.std.proofs.Common.{sym}
-use Rattle.scrib_core.proofs.Conversed.{open_answered}
+use Rattle.scrib_core.proofs.ConversationLemmas.{open_answered}
 use Rattle.scrib_core.proofs.monitor.Core.open.Goals as goal
 
 pub invariant_of-self : goal.invariant_of-self

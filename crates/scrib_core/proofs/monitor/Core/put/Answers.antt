@@ -1,5 +1,5 @@
 use Rattle.std.proofs.Common.{sym}
-use Rattle.scrib_core.proofs.Editing.{put_answered}
+use Rattle.scrib_core.proofs.EditLemmas.{put_answered}
 use Rattle.scrib_core.proofs.monitor.Core.put.Goals as goal
 
 pub invariant_of-self : goal.invariant_of-self

@@ -14,10 +14,10 @@ loop-step-preserved c =
     let within : c.loop-step.step-index < length c.args.steps.now = omega arith in
     let taken : take (c.loop-step.step-index + 1) c.args.steps.now ≡ take c.loop-step.step-index c.args.steps.now ++ c.step-item.result ∷ [] =
     take_more steps i c.step-item.result within ∙ ap (λ (s : Step). take i steps ++ s ∷ []) (sym c.step-item.is) in
-    let more = answers_push (take i steps) c.loop-step.replies.items (state_of c.args.self.now) (state_of c.loop-step.self) (state_of c.apply_lent-reply.new.self) c.step-item.result c.apply_lent-reply.result
-    c.loop-step.invariant.answered c.apply_lent-reply.ensures.answered c.apply_lent-reply.ensures.memory in
-    let kept = held_push (take i steps) c.loop-step.replies.items c.args.self.now c.loop-step.self c.apply_lent-reply.new.self c.step-item.result c.apply_lent-reply.result
-    c.loop-step.invariant.held c.apply_lent-reply.ensures.answered c.apply_lent-reply.ensures.memory c.apply_lent-reply.ensures.refused in
+    let more = answers_push (take i steps) c.loop-step.replies.items (state_of c.args.self.now) (state_of c.loop-step.self) (state_of c.apply_ref-reply.new.self) c.step-item.result c.apply_ref-reply.result
+    c.loop-step.invariant.answered c.apply_ref-reply.ensures.answered c.apply_ref-reply.ensures.memory in
+    let kept = held_push (take i steps) c.loop-step.replies.items c.args.self.now c.loop-step.self c.apply_ref-reply.new.self c.step-item.result c.apply_ref-reply.result
+    c.loop-step.invariant.held c.apply_ref-reply.ensures.answered c.apply_ref-reply.ensures.memory c.apply_ref-reply.ensures.refused in
     record {
       answered = rw (taken, c.push_reserved.ensures.items) more;
       held = rw (taken, c.push_reserved.ensures.items) kept;

@@ -1,5 +1,5 @@
 use Rattle.std.proofs.Common.{sym}
-use Rattle.scrib_core.proofs.Editing.{profile_answered}
+use Rattle.scrib_core.proofs.EditLemmas.{profile_answered}
 use Rattle.scrib_core.proofs.monitor.Core.set_profile.Goals as goal
 
 pub invariant_of-self : goal.invariant_of-self

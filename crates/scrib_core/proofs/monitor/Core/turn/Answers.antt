@@ -1,5 +1,5 @@
 use Rattle.std.proofs.Common.{sym}
-use Rattle.scrib_core.proofs.Conversed.{turn_answered}
+use Rattle.scrib_core.proofs.ConversationLemmas.{turn_answered}
 use Rattle.scrib_core.proofs.monitor.Core.turn.Goals as goal
 
 pub invariant_of-self : goal.invariant_of-self

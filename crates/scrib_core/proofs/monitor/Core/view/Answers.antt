@@ -1,7 +1,7 @@
 use Rattle.std.proofs.Common.{◌≡◌, Some, None, sym, ap, ◌∙◌}
 use Rattle.std.specs.Option.{option_copied}
 use Rattle.scrib_core.specs.Held.{record_at, conversation_of}
-use Rattle.scrib_core.proofs.Conversed.{seen}
+use Rattle.scrib_core.proofs.ConversationLemmas.{seen}
 use Rattle.scrib_core.proofs.monitor.Core.view.Goals as goal
 
 pub returns-in_err-record : goal.returns-in_err-record

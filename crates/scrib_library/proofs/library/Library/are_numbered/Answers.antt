@@ -1,7 +1,7 @@
 use Rattle.std.proofs.Common.{subst}
 use Rattle.scrib_library.specs.Modules.{MeansOnce}
 use Rattle.scrib_library.specs.Holdings.{Holdings, AreNumbered}
-use Rattle.scrib_library.proofs.Meant.{are_numbered, means_once}
+use Rattle.scrib_library.proofs.MeaningLemmas.{are_numbered, means_once}
 use Rattle.scrib_library.proofs.library.Library.are_numbered.Goals as goal
 
 pub returns-clause-once : goal.returns-clause-once

@@ -1,6 +1,6 @@
 use Rattle.std.proofs.Common.{subst}
 use Rattle.scrib_library.specs.Holdings.{Holdings, IsAccepting}
-use Rattle.scrib_library.proofs.Meant.{is_accepting}
+use Rattle.scrib_library.proofs.MeaningLemmas.{is_accepting}
 use Rattle.scrib_library.proofs.library.Library.is_accepting.Goals as goal
 
 pub returns : goal.returns

@@ -1,7 +1,7 @@
 use Rattle.std.proofs.Common.{subst}
 use Rattle.scrib_library.specs.Modules.{MeansProtocols}
 use Rattle.scrib_library.specs.Holdings.{Holdings}
-use Rattle.scrib_library.proofs.Meant.{protocols}
+use Rattle.scrib_library.proofs.MeaningLemmas.{protocols}
 use Rattle.scrib_library.proofs.library.Library.means_protocols.Goals as goal
 
 pub returns : goal.returns

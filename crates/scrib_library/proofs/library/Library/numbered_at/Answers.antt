@@ -4,7 +4,7 @@ use Rattle.scrib_record.specs.Versions.{meaning_of, number_of}
 use Rattle.scrib_library.specs.declared.versions.NamedVersion.{NamedVersion}
 use Rattle.scrib_library.specs.Holdings.{Holdings, IsStamp}
 use Rattle.scrib_library.specs.Stored.{IsStored}
-use Rattle.scrib_library.proofs.Meant.{stamp_now}
+use Rattle.scrib_library.proofs.MeaningLemmas.{stamp_now}
 use Rattle.scrib_library.proofs.library.Library.numbered_at.Goals as goal
 
 pub returns-clause-stamp : goal.returns-clause-stamp

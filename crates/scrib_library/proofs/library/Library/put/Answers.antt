@@ -4,10 +4,10 @@ use Rattle.scrib_parser.specs.declared.tree.ModuleTree.{ModuleTree}
 use Rattle.scrib_library.specs.declared.versions.NamedVersion.{NamedVersion}
 use Rattle.scrib_library.specs.Holdings.{Holdings}
 use Rattle.scrib_library.specs.Edits.{IsPut, IsChanges, AreVersionsUsed, PutFails}
-use Rattle.scrib_library.specs.Drafts.{AreMade}
+use Rattle.scrib_library.specs.Drafts.{AreApplied}
 use Rattle.scrib_library.specs.Plans.{IsPlan, StopsPut}
-use Rattle.scrib_library.proofs.Meant.{holdings}
-use Rattle.scrib_library.proofs.Planning.{library_then, put_then, changes_then, used_then, fails_then, stood}
+use Rattle.scrib_library.proofs.MeaningLemmas.{holdings}
+use Rattle.scrib_library.proofs.PlanLemmas.{library_then, put_then, changes_then, used_then, fails_then, stood}
 use Rattle.scrib_library.proofs.library.Library.put.Goals as goal
 use Rattle.scrib_library.proofs.library.Library.put.Goals.{in-Some-1, in-None-1}
 
@@ -34,9 +34,9 @@ invariant_of-self-in-Ok c =
     let P : Option ModuleTree → Type 0 = λ o. IsPlan profile n after o versions used plan in
     let Q : ModuleTree → Type 0 = λ x. IsPlan profile x after p.replaced versions used plan in
     let planned = subst Q same (subst P c.as_ref-gone.ensures.value c.in-Ok.ensures.ok) in
-    let news = c.make_all.new.versions.items in
-    let R : List NamedVersion → Type 0 = λ l. AreMade l plan.edits.items news in
-    let made = subst R c.in-Ok.ensures.kept c.make_all.ensures in
+    let news = c.apply_edits.new.versions.items in
+    let R : List NamedVersion → Type 0 = λ l. AreApplied l plan.edits.items news in
+    let made = subst R c.in-Ok.ensures.kept c.apply_edits.ensures in
     library_then profile m before after p h versions used c.self.invariant text c.in_ok-tree.ensures.ok plan planned news made
 
 pub invariant_of-self-in-Ok-2 : goal.invariant_of-self-in-Ok-2
@@ -57,9 +57,9 @@ invariant_of-self-in-Ok-2 c =
     let P : Option ModuleTree → Type 0 = λ o. IsPlan profile n after o versions used plan in
     let Q : ModuleTree → Type 0 = λ x. IsPlan profile x after p.replaced versions used plan in
     let planned = subst Q same (subst P c.as_ref-gone.ensures.value c.in-Ok.ensures.ok) in
-    let news = c.make_all.new.versions.items in
-    let R : List NamedVersion → Type 0 = λ l. AreMade l plan.edits.items news in
-    let made = subst R c.in-Ok.ensures.kept c.make_all.ensures in
+    let news = c.apply_edits.new.versions.items in
+    let R : List NamedVersion → Type 0 = λ l. AreApplied l plan.edits.items news in
+    let made = subst R c.in-Ok.ensures.kept c.apply_edits.ensures in
     library_then profile m before after p h versions used c.self.invariant text c.in_ok-tree.ensures.ok plan planned news made
 
 pub returns-in-Ok-clause-ok : goal.returns-in-Ok-clause-ok
@@ -103,9 +103,9 @@ returns-in-Ok-clause-versions c =
     let P : Option ModuleTree → Type 0 = λ o. IsPlan profile n after o versions used plan in
     let Q : ModuleTree → Type 0 = λ x. IsPlan profile x after p.replaced versions used plan in
     let planned = subst Q same (subst P c.as_ref-gone.ensures.value c.in-Ok.ensures.ok) in
-    let news = c.make_all.new.versions.items in
-    let R : List NamedVersion → Type 0 = λ l. AreMade l plan.edits.items news in
-    let made = subst R c.in-Ok.ensures.kept c.make_all.ensures in
+    let news = c.apply_edits.new.versions.items in
+    let R : List NamedVersion → Type 0 = λ l. AreApplied l plan.edits.items news in
+    let made = subst R c.in-Ok.ensures.kept c.apply_edits.ensures in
     let done = used_then profile m before after p h versions used c.self.invariant text c.in_ok-tree.ensures.ok plan planned news made in
     let S : Holdings → Type 0 = λ k. AreVersionsUsed k (holdings profile after news plan.used) plan.changes.list in
     let T : Holdings → Type 0 = λ k. AreVersionsUsed c.args.self.now k plan.changes.list in

@@ -5,7 +5,7 @@ use Rattle.scrib_library.specs.Modules.{AllProject}
 use Rattle.scrib_library.specs.Holdings.{Holdings}
 use Rattle.scrib_library.specs.Lacking.{AllVersionsProject, StopsChange}
 use Rattle.scrib_library.specs.Profiles.{ProfileFails}
-use Rattle.scrib_library.proofs.Projecting.{change_refused, follows}
+use Rattle.scrib_library.proofs.ProjectionLemmas.{change_refused, follows}
 use Rattle.scrib_library.proofs.library.Library.set_profile.Goals as goal
 
 pub returns-in_err-check_change-clause-fault : goal.returns-in_err-check_change-clause-fault

@@ -4,11 +4,11 @@ use Rattle.scrib_library.specs.declared.versions.NamedVersion.{NamedVersion}
 use Rattle.scrib_library.specs.Holdings.{Holdings}
 use Rattle.scrib_library.specs.Edits.{IsWithdrawal, IsChanges, AreWithdrawn, AreVersionsUsed}
 use Rattle.scrib_library.specs.Stored.{IsLibrary}
-use Rattle.scrib_library.specs.Drafts.{AreMade}
+use Rattle.scrib_library.specs.Drafts.{AreApplied}
 use Rattle.scrib_library.specs.Withdrawals.{IsRemovalPlan}
-use Rattle.scrib_library.proofs.Meant.{holdings}
-use Rattle.scrib_library.proofs.Naming.{place_is, place_removed}
-use Rattle.scrib_library.proofs.Withdrawing.{withdrawn_then, named_then, changes_then, withdrawal_then, library_then, used_then}
+use Rattle.scrib_library.proofs.MeaningLemmas.{holdings}
+use Rattle.scrib_library.proofs.ModuleNameLemmas.{place_is, place_removed}
+use Rattle.scrib_library.proofs.WithdrawalLemmas.{withdrawn_then, named_then, changes_then, withdrawal_then, library_then, used_then}
 use Rattle.scrib_library.proofs.library.Library.withdraw.Goals as goal
 
 pub invariant_of-self-2 : goal.invariant_of-self-2
@@ -25,9 +25,9 @@ invariant_of-self-2 c =
     let plan = c.in_ok-plan.plan in
     let P : ModuleTree → Type 0 = λ m. IsRemovalPlan m versions used plan in
     let planned = subst P here c.in_ok-plan.ensures.ok in
-    let news = c.make_all.new.versions.items in
-    let R : List NamedVersion → Type 0 = λ l. AreMade l plan.edits.items news in
-    let made = subst R c.in_ok-plan.ensures.kept c.make_all.ensures in
+    let news = c.apply_edits.new.versions.items in
+    let R : List NamedVersion → Type 0 = λ l. AreApplied l plan.edits.items news in
+    let made = subst R c.in_ok-plan.ensures.kept c.apply_edits.ensures in
     let after = c.take_out.ensures.out ∙ place_removed before name at free.place in
     let Q : List ModuleTree → Type 0 = λ l. IsLibrary profile l news used in
     subst Q (sym after) (library_then profile name before at free.place free.free versions used c.self.invariant plan planned news made)
@@ -70,9 +70,9 @@ returns-clause-versions c =
     let plan = c.in_ok-plan.plan in
     let P : ModuleTree → Type 0 = λ m. IsRemovalPlan m versions used plan in
     let planned = subst P here c.in_ok-plan.ensures.ok in
-    let news = c.make_all.new.versions.items in
-    let R : List NamedVersion → Type 0 = λ l. AreMade l plan.edits.items news in
-    let made = subst R c.in_ok-plan.ensures.kept c.make_all.ensures in
+    let news = c.apply_edits.new.versions.items in
+    let R : List NamedVersion → Type 0 = λ l. AreApplied l plan.edits.items news in
+    let made = subst R c.in_ok-plan.ensures.kept c.apply_edits.ensures in
     let after = c.take_out.ensures.out ∙ place_removed before name at free.place in
     let Q : List ModuleTree → Type 0 = λ l. AreVersionsUsed (holdings profile before versions used) (holdings profile l news used) plan.changes.list in
     let S : Holdings → Type 0 = λ k. AreVersionsUsed k (holdings profile c.take_out.new.self news used) plan.changes.list in (

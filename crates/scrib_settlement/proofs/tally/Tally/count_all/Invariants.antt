@@ -4,5 +4,5 @@ use Rattle.scrib_settlement.specs.Tallies.{Counts}
 use Rattle.scrib_settlement.proofs.tally.Tally.count_all.Given as goal
 
 abbrev pub invariant-loop-receipt : goal.invariant-loop-receipt
-invariant-loop-receipt l = (told : List Receipt) → Counts l.log told l.initial.self.due.items l.initial.self.wrong
-    → Counts l.log (told ++ take l.receipt-index l.receipts) l.self.due.items l.self.wrong
+invariant-loop-receipt l = (seen : List Receipt) → Counts l.log seen l.initial.self.due.items l.initial.self.wrong
+    → Counts l.log (seen ++ take l.receipt-index l.receipts) l.self.due.items l.self.wrong

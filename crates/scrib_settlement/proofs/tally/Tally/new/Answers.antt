@@ -1,4 +1,4 @@
-use Rattle.scrib_settlement.proofs.Tallying.{counted_none}
+use Rattle.scrib_settlement.proofs.TallyLemmas.{counted_none}
 use Rattle.scrib_settlement.proofs.tally.Tally.new.Goals as goal
 
 pub returns : goal.returns

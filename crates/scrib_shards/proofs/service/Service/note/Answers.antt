@@ -1,8 +1,8 @@
 use Rattle.std.proofs.Common.{Result, Ok, Err, IfOk, ◌∙◌, sym, subst}
 use Rattle.scrib_types.specs.declared.event.Event.{Event}
 use Rattle.scrib_library.specs.Holdings.{Holdings, IsAccepting}
-use Rattle.scrib_locked_steps.specs.declared.passing.PassRefusal.{PassRefusal}
-use Rattle.scrib_locked_steps.specs.declared.stepping.Noted.{Noted}
+use Rattle.scrib_locked_steps.specs.declared.pass_calls.PassRefusal.{PassRefusal}
+use Rattle.scrib_locked_steps.specs.declared.step_results.Noted.{Noted}
 use Rattle.scrib_locked_steps.specs.Passes.{PassHeld}
 use Rattle.scrib_locked_steps.specs.Passing.{IsNotedBy}
 use Rattle.scrib_locked_steps.specs.Shards.{ShardHeld, IsKept}

@@ -1,0 +1,29 @@
+use Rattle.std.proofs.Common.{◌≡◌, Some, sym, ap, subst, ◌∙◌}
+use Rattle.std.specs.Option.{option_copied, option_copied_mut}
+use Rattle.scrib_record.specs.Told.{NoteFails}
+use Rattle.scrib_core.specs.Held.{record_at}
+use Rattle.scrib_core.proofs.ComparisonLemmas.{serves_for, serves_record}
+use Rattle.scrib_core.proofs.LentRecordLemmas.{kept}
+use Rattle.scrib_core.proofs.conversation_steps.note.Goals as goal
+
+pub present_of-hint-requires : goal.present_of-hint-requires
+present_of-hint-requires c =
+    let there : record_at c.args.records.now.entries c.args.id ≡ Some c.in-Some.record.now = sym c.get_mut.ensures.value ∙ ap option_copied_mut c.in-Some.is in
+    serves_record c.args.comparison c.args.library.now c.args.records.now.entries c.args.id c.in-Some.record.now c.requires there
+
+pub note-requires : goal.note-requires
+note-requires c =
+    let there : record_at c.args.records.now.entries c.args.id ≡ Some c.in-Some.record.now = sym c.get_mut.ensures.value ∙ ap option_copied_mut c.in-Some.is in
+    serves_for c.args.comparison c.args.library.now c.args.records.now.entries c.args.id c.in-Some.record.now (option_copied c.present_of-hint.result.1) c.requires there c.present_of-hint.ensures
+
+pub returns-in-Err-LogFull : goal.returns-in-Err-LogFull
+returns-in-Err-LogFull c =
+    let there : record_at c.args.records.now.entries c.args.id ≡ Some c.in-Some.record.now = sym c.get_mut.ensures.value ∙ ap option_copied_mut c.in-Some.is in
+    let all = kept c.args.records.now.entries _ c.args.id c.in-Some.record.now c.note.new.self there (c.get_mut.follows.holds c.note.new.self).0 c.in-Err-LogFull.ensures.err in
+    ((c.in-Some.record.now, there, subst (NoteFails c.in-Some.record.now) c.in-Err-LogFull.field-0-is c.in-Err-LogFull.ensures.fault), all)
+
+pub returns-in-Err-OutOfMemory : goal.returns-in-Err-OutOfMemory
+returns-in-Err-OutOfMemory c =
+    let there : record_at c.args.records.now.entries c.args.id ≡ Some c.in-Some.record.now = sym c.get_mut.ensures.value ∙ ap option_copied_mut c.in-Some.is in
+    let all = kept c.args.records.now.entries _ c.args.id c.in-Some.record.now c.note.new.self there (c.get_mut.follows.holds c.note.new.self).0 c.in-Err-OutOfMemory.ensures.err in
+    ((c.in-Some.record.now, there, subst (NoteFails c.in-Some.record.now) c.in-Err-OutOfMemory.field-0-is c.in-Err-OutOfMemory.ensures.fault), all)

@@ -1,0 +1,25 @@
+use Rattle.std.proofs.Common.{◌≡◌, ℕ, List, Some, sym, ap, subst, refl, ◌∙◌}
+use Rattle.std.specs.Option.{option_copied, option_copied_mut}
+use Rattle.scrib_core.specs.Held.{record_at}
+use Rattle.scrib_core.specs.ConversationSteps.{IsPresent}
+use Rattle.scrib_core.proofs.ComparisonLemmas.{serves_for}
+use Rattle.scrib_core.proofs.LentRecordLemmas.{kept, some_there}
+use Rattle.scrib_core.proofs.VerdictLemmas.{present_copied}
+use Rattle.scrib_core.proofs.conversation_steps.turn.Goals as goal
+
+pub turn-requires : goal.turn-requires
+turn-requires c =
+    let there : record_at c.args.records.now.entries c.args.id ≡ Some c.in-Some.record.now = sym c.get_mut.ensures.value ∙ ap option_copied_mut c.in-Some.is in
+    let name : c.in-Ok.name ≡ c.in-Some.record.now.name = c.in-Ok.ensures ∙ c.name.ensures in
+    let here = subst (λ (n : List (List ℕ)). IsPresent c.args.library.now n (option_copied c.present-present.result)) name (present_copied c.args.library.now c.in-Ok.name c.present-present.result c.present-present.ensures.meaning c.present-present.ensures.number) in
+    serves_for c.args.comparison c.args.library.now c.args.records.now.entries c.args.id c.in-Some.record.now (option_copied c.present-present.result) c.requires there here
+
+pub returns-in_default-copy : goal.returns-in_default-copy
+returns-in_default-copy c =
+    let there : record_at c.args.records.now.entries c.args.id ≡ Some c.in-Some.record.now = sym c.get_mut.ensures.value ∙ ap option_copied_mut c.in-Some.is in
+    (some_there c.args.records.now.entries c.args.id c.in-Some.record.now there, kept c.args.records.now.entries _ c.args.id c.in-Some.record.now c.in-Some.record.now there (c.get_mut.follows.holds c.in-Some.record.now).0 refl)
+
+pub returns-in-Err : goal.returns-in-Err
+returns-in-Err c =
+    let there : record_at c.args.records.now.entries c.args.id ≡ Some c.in-Some.record.now = sym c.get_mut.ensures.value ∙ ap option_copied_mut c.in-Some.is in
+    (some_there c.args.records.now.entries c.args.id c.in-Some.record.now there, kept c.args.records.now.entries _ c.args.id c.in-Some.record.now c.turn.new.self there (c.get_mut.follows.holds c.turn.new.self).0 c.in-Err.ensures.err)

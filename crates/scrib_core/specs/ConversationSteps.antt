@@ -1,0 +1,156 @@
+-- The effect of open, note, turn and ask on the records beside a library (this project's own). Each changes at most the
+-- record of its id.
+use Rattle.std.specs.Prelude.{◌≡◌, ℕ, ◌<◌, ◌≤◌, List, [], ◌∷◌, ◌++◌, length, Option, Some, None, nat_eq, IsSome}
+use Rattle.std.specs.Map.{set_value}
+use Rattle.std.specs.Option.{option_map}
+use Rattle.scrib_types.specs.declared.event.Event.{Event}
+use Rattle.scrib_types.specs.declared.event.Told.{Told}
+use Rattle.scrib_types.specs.Agreement.{Agreement}
+use Rattle.scrib_record.specs.declared.comparison.Comparison.{Comparison}
+use Rattle.scrib_record.specs.declared.comparison.Comparison.TheVariants.{Whole, Numbers}
+use Rattle.scrib_record.specs.declared.version.Version.{Version}
+use Rattle.scrib_record.specs.Stale.{Recorded, IsLawful}
+use Rattle.scrib_record.specs.Told.{IsNoted, IsTurned, IsReported}
+use Rattle.scrib_record.specs.Turns.{new_record}
+use Rattle.scrib_record.specs.Versions.{meaning_of, number_of}
+use Rattle.scrib_library.specs.Holdings.{Holdings, IsNumber}
+use Rattle.scrib_library.specs.Modules.{Means, IsMeaning, MeansOnce}
+use Rattle.scrib_core.specs.declared.reply.Refusal.{Refusal}
+use Rattle.scrib_core.specs.declared.reply.Refusal.TheVariants.{AlreadyOpen, UnknownProtocol, TooManyConversations, NoConversation, Edit, LogFull, OutOfMemory}
+use Rattle.scrib_core.specs.declared.reply.Reply.{Reply}
+use Rattle.scrib_core.specs.declared.reply.Reply.TheVariants as reply
+use Rattle.scrib_core.specs.Held.{Records, record_at, IsKnown, AreKnown}
+
+-- the library's version of the name, or none
+pub record IsPresent (h : Holdings) (name : List (List ℕ)) (present : Option Version) : Type 0 where
+  pub meaning : IsMeaning h.modules name (option_map meaning_of present)
+  pub number : IsNumber h name (option_map number_of present)
+
+-- The comparison of versions is sound for the library and the records. Comparing by number alone is so if each held
+-- version is the one that its number was given to.
+abbrev pub IsSoundComparison : Comparison → Holdings → Records → Type 0
+IsSoundComparison Whole h rs = Unit {0}
+IsSoundComparison Numbers h rs = AreKnown h rs × MeansOnce h.modules
+
+-- the comparison is sound for the version of this record
+abbrev pub IsSoundForRecord : Comparison → Holdings → Recorded → Type 0
+IsSoundForRecord Whole h r = Unit {0}
+IsSoundForRecord Numbers h r = IsKnown h r
+
+-- The library has the protocol, the id is free, and fewer than `limit` conversations are open. One record is added.
+pub record IsOpened (limit : ℕ) (h : Holdings) (old : Records) (id : ℕ) (name : List (List ℕ))
+    (new : Records) : Type 0 where
+  pub absent : record_at old id ≡ None
+  pub version : Version
+  pub present : IsPresent h name (Some version)
+  pub room : length old < limit
+  pub added : new ≡ old ++ (id, new_record name version) ∷ []
+
+-- the opening is refused for this, and for nothing before it in this list
+abbrev pub OpenFails : (limit : ℕ) → Holdings → Records → ℕ → List (List ℕ) → Refusal → Type 0
+OpenFails limit h old id name AlreadyOpen = IsSome (record_at old id)
+OpenFails limit h old id name UnknownProtocol =
+    (record_at old id ≡ None) × ((a : Agreement) → Means h.modules name a → ⊥)
+OpenFails limit h old id name TooManyConversations =
+    (record_at old id ≡ None) × ((a : Agreement) × Means h.modules name a) × (limit ≤ length old)
+OpenFails limit h old id name NoConversation = ⊥
+OpenFails limit h old id name (Edit f) = ⊥
+OpenFails limit h old id name LogFull = ⊥
+OpenFails limit h old id name OutOfMemory =
+    (record_at old id ≡ None) × ((a : Agreement) × Means h.modules name a) × (length old < limit)
+
+-- the event is appended to the record of the id
+pub record IsNotedAt (h : Holdings) (old : Records) (id : ℕ) (e : Event) (place : ℕ) (answer : Told)
+    (new : Records) : Type 0 where
+  pub before : Recorded
+  pub there : record_at old id ≡ Some before
+  pub room : length before.log < 1048576
+  pub present : Option Version
+  pub is_present : IsPresent h before.name present
+  pub after : Recorded
+  pub noted : IsNoted present before e after answer
+  pub lawful : IsLawful after
+  pub put : new ≡ set_value (nat_eq id) old after
+  pub place_is : place ≡ length after.log
+
+-- a note is refused: the record is missing, its log is full, or memory was refused
+abbrev pub NoteFails : Records → ℕ → Refusal → Type 0
+NoteFails old id AlreadyOpen = ⊥
+NoteFails old id UnknownProtocol = ⊥
+NoteFails old id TooManyConversations = ⊥
+NoteFails old id NoConversation = record_at old id ≡ None
+NoteFails old id (Edit f) = ⊥
+NoteFails old id LogFull = (r : Recorded) × (record_at old id ≡ Some r) × (1048576 ≤ length r.log)
+NoteFails old id OutOfMemory = (r : Recorded) × (record_at old id ≡ Some r) × (length r.log < 1048576)
+
+-- the record of the id makes a turn
+pub record IsTurnedAt (h : Holdings) (old : Records) (id : ℕ) (name : List (List ℕ)) (events : ℕ) (answer : Told)
+    (new : Records) : Type 0 where
+  pub before : Recorded
+  pub there : record_at old id ≡ Some before
+  pub present : Option Version
+  pub is_present : IsPresent h before.name present
+  pub after : Recorded
+  pub turned : IsTurned present before after answer
+  pub lawful : IsLawful after
+  pub put : new ≡ set_value (nat_eq id) old after
+  pub name_is : name ≡ after.name
+  pub events_are : events ≡ length after.log
+
+-- the verdict of the record of the id
+pub record IsAskedAt (h : Holdings) (rs : Records) (id : ℕ) (name : List (List ℕ)) (events : ℕ)
+    (answer : Told) : Type 0 where
+  pub of : Recorded
+  pub there : record_at rs id ≡ Some of
+  pub present : Option Version
+  pub is_present : IsPresent h of.name present
+  pub told : IsReported present of answer
+  pub lawful : IsLawful of
+  pub name_is : name ≡ of.name
+  pub events_are : events ≡ length of.log
+
+-- a turn or a question is refused: the record is missing, or memory was refused
+abbrev pub VerdictFails : Records → ℕ → Refusal → Type 0
+VerdictFails rs id AlreadyOpen = ⊥
+VerdictFails rs id UnknownProtocol = ⊥
+VerdictFails rs id TooManyConversations = ⊥
+VerdictFails rs id NoConversation = record_at rs id ≡ None
+VerdictFails rs id (Edit f) = ⊥
+VerdictFails rs id LogFull = ⊥
+VerdictFails rs id OutOfMemory = IsSome (record_at rs id)
+
+-- the reply to an opening, and the records after it; a refusal leaves them unchanged
+abbrev pub AnswersOpen : (limit : ℕ) → Holdings → Records → ℕ → List (List ℕ) → Reply → Records → Type 0
+AnswersOpen limit h old id name (reply.Opened i n) new = (i ≡ id) × (n ≡ name) × IsOpened limit h old id name new
+AnswersOpen limit h old id name (reply.Refused f) new = OpenFails limit h old id name f × (new ≡ old)
+AnswersOpen limit h old id name (reply.Edited e changes) new = ⊥
+AnswersOpen limit h old id name (reply.Profiled p) new = ⊥
+AnswersOpen limit h old id name (reply.Noted i place told) new = ⊥
+AnswersOpen limit h old id name (reply.Judged i n events told) new = ⊥
+
+-- the reply to a note, and the records after it
+abbrev pub AnswersNote : Holdings → Records → ℕ → Event → Reply → Records → Type 0
+AnswersNote h old id e (reply.Noted i place told) new = (i ≡ id) × IsNotedAt h old id e place told new
+AnswersNote h old id e (reply.Refused f) new = NoteFails old id f × (new ≡ old)
+AnswersNote h old id e (reply.Edited x changes) new = ⊥
+AnswersNote h old id e (reply.Profiled p) new = ⊥
+AnswersNote h old id e (reply.Opened i n) new = ⊥
+AnswersNote h old id e (reply.Judged i n events told) new = ⊥
+
+-- the reply to a turn, and the records after it
+abbrev pub AnswersTurn : Holdings → Records → ℕ → Reply → Records → Type 0
+AnswersTurn h old id (reply.Judged i name events told) new = (i ≡ id) × IsTurnedAt h old id name events told new
+AnswersTurn h old id (reply.Refused f) new = VerdictFails old id f × (new ≡ old)
+AnswersTurn h old id (reply.Edited e changes) new = ⊥
+AnswersTurn h old id (reply.Profiled p) new = ⊥
+AnswersTurn h old id (reply.Opened i n) new = ⊥
+AnswersTurn h old id (reply.Noted i place told) new = ⊥
+
+-- the reply to a question
+abbrev pub AnswersAsk : Holdings → Records → ℕ → Reply → Type 0
+AnswersAsk h rs id (reply.Judged i name events told) = (i ≡ id) × IsAskedAt h rs id name events told
+AnswersAsk h rs id (reply.Refused f) = VerdictFails rs id f
+AnswersAsk h rs id (reply.Edited e changes) = ⊥
+AnswersAsk h rs id (reply.Profiled p) = ⊥
+AnswersAsk h rs id (reply.Opened i n) = ⊥
+AnswersAsk h rs id (reply.Noted i place told) = ⊥

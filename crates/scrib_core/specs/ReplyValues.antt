@@ -1,0 +1,53 @@
+-- Conversions into replies: a record's answer, the result of an edit, and that of a change of the profile.
+-- Only contracts of private functions cite this file.
+use Rattle.std.specs.Prelude.{◌≡◌, Ok, Err, Result}
+use Rattle.scrib_types.specs.declared.profile.Profile.{Profile}
+use Rattle.scrib_types.specs.declared.event.Told.{Told}
+use Rattle.scrib_types.specs.declared.event.Told.TheVariants.{Stale, Judged}
+use Rattle.scrib_types.specs.declared.event.Verdict.TheVariants.{Permitted, Offence, Withdrawn}
+use Rattle.scrib_record.specs.declared.answer.Answer.{Answer}
+use Rattle.scrib_record.specs.declared.answer.Answer.TheVariants as answer
+use Rattle.scrib_library.specs.declared.changes.Changes.{Changes}
+use Rattle.scrib_library.specs.declared.fault.EditFault.{EditFault}
+use Rattle.scrib_library.specs.declared.fault.EditFault.TheVariants as fault
+use Rattle.scrib_core.specs.declared.reply.Edit.{Edit}
+use Rattle.scrib_core.specs.declared.reply.Refusal.{Refusal}
+use Rattle.scrib_core.specs.declared.reply.Refusal.TheVariants as refusal
+use Rattle.scrib_core.specs.declared.reply.Reply.{Reply}
+use Rattle.scrib_core.specs.declared.reply.Reply.TheVariants as reply
+
+-- the answer of a record as a `Told`
+abbrev pub verdict_of : Answer → Told
+verdict_of answer.Stale = Stale
+verdict_of answer.Permitted = Judged Permitted
+verdict_of (answer.Offence place role allowed) = Judged (Offence place role.now allowed.now)
+verdict_of answer.Withdrawn = Judged Withdrawn
+
+-- the `Told` of a record's answer
+abbrev pub IsVerdictOf : Answer → Told → Type 0
+IsVerdictOf a t = t ≡ verdict_of a
+
+-- an edit's fault as a refusal of its step; `OutOfMemory` is the step's own refusal
+abbrev pub refusal_of : EditFault → Refusal
+refusal_of (fault.Lex f) = refusal.Edit (fault.Lex f)
+refusal_of (fault.Parse f) = refusal.Edit (fault.Parse f)
+refusal_of fault.UnknownModule = refusal.Edit fault.UnknownModule
+refusal_of fault.TooManyModules = refusal.Edit fault.TooManyModules
+refusal_of (fault.StillImported by) = refusal.Edit (fault.StillImported by)
+refusal_of (fault.ImportMissing m) = refusal.Edit (fault.ImportMissing m)
+refusal_of fault.TooManyProtocols = refusal.Edit fault.TooManyProtocols
+refusal_of (fault.Elaborate f) = refusal.Edit (fault.Elaborate f)
+refusal_of (fault.Project u) = refusal.Edit (fault.Project u)
+refusal_of fault.VersionsFull = refusal.Edit fault.VersionsFull
+refusal_of (fault.NeedsReception name) = refusal.Edit (fault.NeedsReception name)
+refusal_of fault.OutOfMemory = refusal.OutOfMemory
+
+-- the reply to an edit
+abbrev pub reply_of : Edit → Result Changes EditFault → Reply
+reply_of e (Ok changes) = reply.Edited e changes
+reply_of e (Err f) = reply.Refused (refusal_of f)
+
+-- the reply to a change of the profile
+abbrev pub profile_reply_of : Profile → Result (Unit {0}) EditFault → Reply
+profile_reply_of p (Ok done) = reply.Profiled p
+profile_reply_of p (Err f) = reply.Refused (refusal_of f)

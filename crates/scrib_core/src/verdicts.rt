@@ -1,0 +1,35 @@
+//! Converts a record's answer into a value that owns its parts.
+
+ghost use Rattle.std.specs.Prelude.{◌≡◌, IfOk};
+ghost use Rattle.scrib_core.specs.ReplyValues.{IsVerdictOf};
+
+use scrib_record::answer::Answer;
+use scrib_types::event::{Told, Verdict};
+use std::alloc::AllocError;
+
+/// Converts the answer of a record.
+///
+/// # Errors
+/// `AllocError` if the reference count of a shared name or list cannot rise.
+pub(crate) fn verdict_of(answer: Answer<'_>) -> Result<Told, AllocError>
+    ensures { IfOk result (IsVerdictOf answer.entry) }
+{
+    match answer {
+        Answer::Stale => Ok(Told::Stale),
+        Answer::Permitted => Ok(Told::Judged(Verdict::Permitted)),
+        Answer::Offence {
+            place,
+            role,
+            allowed,
+        } => {
+            let role = role.copy()?;
+            let allowed = allowed.copy()?;
+            Ok(Told::Judged(Verdict::Offence {
+                place,
+                role,
+                allowed,
+            }))
+        }
+        Answer::Withdrawn => Ok(Told::Judged(Verdict::Withdrawn)),
+    }
+}

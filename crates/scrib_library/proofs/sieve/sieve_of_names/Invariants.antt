@@ -1,6 +1,0 @@
-use Rattle.std.proofs.Common.{take}
-use Rattle.scrib_library.proofs.Sieving.{HasEach}
-use Rattle.scrib_library.proofs.sieve.sieve_of_names.Given as goal
-
-abbrev pub invariant-loop-name : goal.invariant-loop-name
-invariant-loop-name l = HasEach (take l.name-index l.names) l.sieve

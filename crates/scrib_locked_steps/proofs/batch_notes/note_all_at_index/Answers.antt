@@ -1,0 +1,25 @@
+use Rattle.std.proofs.Common.{◌≡◌, ◌∙◌, Some, refl, sym, ap, subst}
+use Rattle.std.specs.Option.{option_copied, option_copied_mut}
+use Rattle.scrib_record.specs.Stale.{Recorded}
+use Rattle.scrib_core.specs.ConversationSteps.{IsPresent}
+use Rattle.scrib_core.specs.Held.{Records, record_at}
+use Rattle.scrib_locked_steps.specs.OneByOne.{OneByOne}
+use Rattle.scrib_locked_steps.specs.Passing.{AnswersBy}
+use Rattle.scrib_locked_steps.proofs.NoteAllLemmas.{all_answered_there}
+use Rattle.scrib_locked_steps.proofs.Places.{set_there, there_at}
+use Rattle.scrib_locked_steps.proofs.batch_notes.note_all_at_index.Goals as goal
+
+pub returns : goal.returns
+returns c =
+    let rs = c.args.records.now.entries in
+    let p = c.args.pass.now in
+    let r = c.in-Some.conversation.now in
+    let u = c.present_of-present.new.conversation in
+    let after = c.note_all_in_record.new.conversation in
+    let q = c.note_all_in_record.new.pass in
+    let there = there_at rs c.args.at p.conversation r c.get_index_mut.ensures.unique c.requires.there (sym c.get_index_mut.ensures.value ∙ ap option_copied_mut c.in-Some.is) in
+    let u_there : record_at rs p.conversation ≡ Some u = there ∙ ap Some (sym c.present_of-present.ensures.same) in
+    let is : IsPresent c.args.library.now u.name (option_copied c.present_of-present.result) =
+    subst (λ (w : Recorded). IsPresent c.args.library.now w.name (option_copied c.present_of-present.result)) (sym c.present_of-present.ensures.same) c.present_of-present.ensures.present in
+    subst (λ (l : Records). OneByOne (AnswersBy c.args.library.now) (rs, p) c.args.events.items c.note_all_in_record.result.items (l, q)) (sym (set_there rs c.args.at p.conversation after c.get_index_mut.ensures.unique c.requires.there))
+    (all_answered_there c.args.library.now (option_copied c.present_of-present.result) rs p.conversation (u, p) (after, q) c.args.events.items c.note_all_in_record.result.items refl u_there is c.note_all_in_record.ensures)

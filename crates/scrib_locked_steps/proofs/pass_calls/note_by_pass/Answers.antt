@@ -1,0 +1,46 @@
+use Rattle.std.proofs.Common.{IfOk, IfErr, refl, subst, arith}
+use Rattle.scrib_locked_steps.specs.declared.step_results.Noted.{Noted}
+use Rattle.scrib_locked_steps.specs.Passing.{IsNotedBy, PassNoteFails}
+use Rattle.scrib_locked_steps.specs.Shards.{ShardHeld}
+use Rattle.scrib_locked_steps.proofs.NoteAllLemmas.{one_keeps}
+use Rattle.scrib_locked_steps.proofs.ShardLemmas.{book_small, notes_few}
+use Rattle.scrib_locked_steps.proofs.Notes.{noted_by, receipted_by, fails_by, shard_left_by, pass_left_by}
+use Rattle.scrib_locked_steps.proofs.pass_calls.note_by_pass.Goals as goal
+
+pub overflow_add-shard : goal.overflow_add-shard
+overflow_add-shard c = omega (arith, book_small c.shard.inside.capacity c.shard.inside.records.entries c.shard.inside.index.entries c.shard.inside.book c.shard.invariant, notes_few c.note_in_records-noted.result, c.notes_of.ensures)
+
+pub invariant_of-shard : goal.invariant_of-shard
+invariant_of-shard c =
+    let noted = c.note_in_records-noted in
+    rw c.notes_of.ensures (one_keeps c.shard.inside.capacity c.args.library.now (c.shard.inside.records.entries, c.args.pass.now) (noted.new.records.entries, noted.new.pass) c.args.event noted.result
+    c.shard.inside.index.entries c.shard.inside.book noted.ensures c.shard.invariant)
+
+pub returns-clause-noted : goal.returns-clause-noted
+returns-clause-noted c =
+    let noted = c.note_in_records-noted in
+    let old : ShardHeld = record { capacity = c.shard.inside.capacity; records = c.shard.inside.records.entries } in
+    let new : ShardHeld = record { capacity = c.shard.inside.capacity; records = noted.new.records.entries } in
+    subst (λ (s : ShardHeld). IfOk noted.result (λ (n : Noted). IsNotedBy c.args.library.now s c.args.pass.now c.args.event n new)) c.shard.view_is
+    (noted_by c.args.library.now old new c.args.pass.now noted.new.pass c.args.event noted.result refl noted.ensures)
+
+pub returns-clause-receipted : goal.returns-clause-receipted
+returns-clause-receipted c =
+    let noted = c.note_in_records-noted in
+    receipted_by c.args.library.now (c.shard.inside.records.entries, c.args.pass.now) (noted.new.records.entries, noted.new.pass) c.args.event noted.result noted.ensures
+
+pub returns-clause-fault : goal.returns-clause-fault
+returns-clause-fault c =
+    let noted = c.note_in_records-noted in
+    subst (λ (s : ShardHeld). IfErr noted.result (PassNoteFails s.records c.args.pass.now)) c.shard.view_is
+    (fails_by c.args.library.now (c.shard.inside.records.entries, c.args.pass.now) (noted.new.records.entries, noted.new.pass) c.args.event noted.result noted.ensures)
+
+pub returns-clause-shard : goal.returns-clause-shard
+returns-clause-shard c =
+    let noted = c.note_in_records-noted in
+    shard_left_by c.shard.inside.capacity c.args.shard.now c.args.library.now (c.shard.inside.records.entries, c.args.pass.now) (noted.new.records.entries, noted.new.pass) c.args.event noted.result noted.ensures c.shard.view_is
+
+pub returns-clause-pass : goal.returns-clause-pass
+returns-clause-pass c =
+    let noted = c.note_in_records-noted in
+    pass_left_by c.args.library.now (c.shard.inside.records.entries, c.args.pass.now) (noted.new.records.entries, noted.new.pass) c.args.event noted.result noted.ensures

@@ -1,7 +1,0 @@
-use Rattle.std.proofs.Common.{◌≡◌, ◌++◌, take}
-use Rattle.std.specs.Option.{option_copied}
-use Rattle.scrib_locked_steps.specs.Sweeping.{touched_of}
-use Rattle.scrib_locked_steps.proofs.sweep.push_touched.Given as goal
-
-abbrev pub invariant-loop-id : goal.invariant-loop-id
-invariant-loop-id l = l.ids.items ≡ l.initial.ids.items ++ touched_of (option_copied l.present) l.shard.records (take l.id-index l.listed)

@@ -1,0 +1,144 @@
+//! Several notes by a pass under one holding of the locks.
+
+ghost use Rattle.std.specs.Prelude.{◌≡◌, ◌<◌, ◌≤◌, ◌^◌, [], None, vec_len, vec_capacity};
+ghost use Rattle.std.specs.List.{sum_by};
+ghost use Rattle.std.specs.Option.{option_copied};
+ghost use Rattle.scrib_library.specs.Holdings.{Holdings};
+ghost use Rattle.scrib_core.specs.Held.{Records, record_at};
+ghost use Rattle.scrib_locked_steps.specs.Noting.{AnswersIn, IsRecordAt};
+ghost use Rattle.scrib_locked_steps.specs.OneByOne.{OneByOne};
+ghost use Rattle.scrib_locked_steps.specs.Passing.{AnswersBy, notes_of};
+
+use crate::pass::Pass;
+use crate::pass_calls::{PassReply, notes_of, unopened_refusal};
+use crate::receipt_check::first_mismatch;
+use crate::record_notes::{note_unless_mismatch, place_at_hint, present_of};
+use crate::shard::Shard;
+use indexmap::IndexMap;
+use scrib_library::library::Library;
+use scrib_record::record::Record;
+use scrib_record::version::Version;
+use scrib_types::shared_event::SharedEvent;
+
+/// Appends the events one after another to the log of the pass's conversation, as calls of `note_by_pass` would without
+/// other calls between them. Returns the reply to each, in order, in the list `room`, which has capacity for them. The
+/// record and the version are looked up once, and the newest receipt is compared once.
+pub fn note_all_by_pass(
+    library: &Library,
+    shard: &mut Shard,
+    pass: &mut Pass,
+    events: Vec<SharedEvent>,
+    room: Vec<PassReply>,
+) -> Vec<PassReply>
+    requires empty { room.items ≡ [] }
+    requires room { vec_len events ≤ vec_capacity room }
+    ensures answered { OneByOne (AnswersBy library.now) (shard.old.records, pass.old) events.items result.items
+        (shard.new.records, pass.new) }
+    ensures limit { shard.new.capacity ≡ shard.old.capacity }
+{
+    let answers = note_all_in_records(library, &mut shard.records, pass, events, room);
+    shard.book += notes_in(&answers);
+    answers
+}
+
+// Looks up the record of the pass's conversation, first where it was last, and appends the events.
+fn note_all_in_records(
+    library: &Library,
+    records: &mut IndexMap<u32, Record>,
+    pass: &mut Pass,
+    events: Vec<SharedEvent>,
+    room: Vec<PassReply>,
+) -> Vec<PassReply>
+    requires empty { room.items ≡ [] }
+    requires room { vec_len events ≤ vec_capacity room }
+    ensures { OneByOne (AnswersBy library.now) (records.old.entries, pass.old) events.items result.items
+        (records.new.entries, pass.new) }
+{
+    match place_at_hint(records, pass.hint(), pass.conversation()) {
+        Some(at) => {
+            pass.set_hint(at);
+            note_all_at_index(library, records, at, pass, events, room)
+        }
+        None => refuse_all(pass, events, room),
+    }
+}
+
+// Appends the events to the log of the record at this index.
+fn note_all_at_index(
+    library: &Library,
+    records: &mut IndexMap<u32, Record>,
+    at: usize,
+    pass: &mut Pass,
+    events: Vec<SharedEvent>,
+    room: Vec<PassReply>,
+) -> Vec<PassReply>
+    requires there { IsRecordAt records.old.entries at pass.old.conversation }
+    requires empty { room.items ≡ [] }
+    requires room { vec_len events ≤ vec_capacity room }
+    ensures { OneByOne (AnswersBy library.now) (records.old.entries, pass.old) events.items result.items
+        (records.new.entries, pass.new) }
+{
+    let Some(conversation) = records.get_index_mut(at) else {
+        unreachable!()
+    };
+    let present = present_of(library, conversation);
+    note_all_in_record(present, conversation, pass, events, room)
+}
+
+// Appends the events to the log of the pass's conversation. `present` is the present version of its protocol, if it has
+// one.
+fn note_all_in_record(
+    present: Option<&Version>,
+    conversation: &mut Record,
+    pass: &mut Pass,
+    events: Vec<SharedEvent>,
+    room: Vec<PassReply>,
+) -> Vec<PassReply>
+    requires empty { room.items ≡ [] }
+    requires room { vec_len events ≤ vec_capacity room }
+    ensures { OneByOne (AnswersIn (option_copied present.entry)) (conversation.old, pass.old) events.items result.items
+        (conversation.new, pass.new) }
+{
+    let mismatch = first_mismatch(conversation.log(), pass.newest());
+    let mut answers = room;
+    for event in events {
+        let answer = note_unless_mismatch(mismatch, present, conversation, pass, event);
+        answers.push_reserved(answer);
+    }
+    answers
+}
+
+// Refuses each event, since no conversation is open for the pass.
+fn refuse_all(pass: &Pass, events: Vec<SharedEvent>, room: Vec<PassReply>) -> Vec<PassReply>
+    requires empty { room.items ≡ [] }
+    requires room { vec_len events ≤ vec_capacity room }
+    ensures { (h : Holdings) (rs : Records) → record_at rs pass.now.conversation ≡ None
+        → OneByOne (AnswersBy h) (rs, pass.now) events.items result.items (rs, pass.now) }
+{
+    let mut answers = room;
+    for event in events {
+        let answer = refuse(pass, event);
+        answers.push_reserved(answer);
+    }
+    answers
+}
+
+// Refuses the event, since no conversation is open for the pass.
+fn refuse(pass: &Pass, _event: SharedEvent) -> PassReply
+    ensures { (h : Holdings) (rs : Records) → record_at rs pass.now.conversation ≡ None
+        → AnswersBy h (rs, pass.now) _event result (rs, pass.now) }
+{
+    Err(unopened_refusal(pass.conversation(), pass.newest()))
+}
+
+// Returns the number of entries that the notes added to a log.
+fn notes_in(answers: &[PassReply]) -> u64
+    requires { sum_by notes_of answers.now < 2 ^ 64 }
+    ensures { result ≡ sum_by notes_of answers.now }
+{
+    let mut notes = 0;
+    for answer in answers {
+        notes += notes_of(answer);
+    }
+    notes
+}

@@ -1,0 +1,141 @@
+//! Notes and questions by passes, whose receipts are compared with the log first.
+
+ghost use Rattle.std.specs.Prelude.{◌≡◌, None, IfOk, IfErr, OnErr};
+ghost use Rattle.scrib_core.specs.Held.{Records, record_at};
+ghost use Rattle.scrib_locked_steps.specs.Noting.{IsRecordAt};
+ghost use Rattle.scrib_locked_steps.specs.Passes.{PassHeld, IsReceipted, IsAnsweredOn, newest_of};
+ghost use Rattle.scrib_locked_steps.specs.Passing.{AnswersBy, IsNotedBy, PassNoteFails, IsAskedBy, PassAskFails, notes_of};
+
+use crate::locked_calls::stands_locked;
+use crate::pass::{Pass, Receipt};
+use crate::receipt_check::first_mismatch;
+use crate::record_notes::{note_unless_mismatch, place_at_hint, present_of};
+use crate::shard::Shard;
+use crate::step_results::{Noted, ask_step};
+use indexmap::IndexMap;
+use scrib_core::reply::Refusal;
+use scrib_library::library::Library;
+use scrib_record::record::Record;
+use scrib_types::event::Told;
+use scrib_types::shared_event::SharedEvent;
+
+/// Why a call by a pass was refused. A refused call changes nothing.
+#[derive(Drop)]
+pub enum PassRefusal {
+    /// A receipt of the pass differs from the conversation's log at this place.
+    Mismatch { conversation: u32, place: usize },
+    /// The receipts agree with the log, but the step is refused.
+    Step(Refusal),
+}
+
+/// The reply to a note by a pass.
+pub type PassReply = Result<Noted, PassRefusal>;
+
+/// Appends the event to the log of the pass's conversation. The pass receives its receipt.
+///
+/// # Errors
+/// `Mismatch` if the newest receipt differs from the log, else `NoConversation`, `LogFull` or `OutOfMemory`, whichever
+/// applies first. The shard and the pass are unchanged then.
+#[inline(always)]
+pub fn note_by_pass(
+    library: &Library,
+    shard: &mut Shard,
+    pass: &mut Pass,
+    event: SharedEvent,
+) -> PassReply
+    ensures noted { IfOk result (λ n. IsNotedBy library.now shard.old pass.old event n shard.new) }
+    ensures receipted { IfOk result (λ n. IsReceipted pass.old event n pass.new) }
+    ensures fault { IfErr result (PassNoteFails shard.old.records pass.old) }
+    ensures shard { OnErr result (shard.new ≡ shard.old) }
+    ensures pass { OnErr result (pass.new ≡ pass.old) }
+{
+    let noted = note_in_records(library, &mut shard.records, pass, event);
+    shard.book += notes_of(&noted);
+    noted
+}
+
+/// Returns the verdict on the pass's conversation, whose log has all its receipts, or `Stale`.
+///
+/// # Errors
+/// `Mismatch` with the least place where a receipt differs from the log, else `NoConversation` or `OutOfMemory`.
+pub fn ask_by_pass(library: &Library, shard: &Shard, pass: &Pass) -> Result<Told, PassRefusal>
+    ensures asked { IfOk result (IsAskedBy library.now shard.now.records pass.now) }
+    ensures answered { IfOk result (IsAnsweredOn pass.now.receipts) }
+    ensures fault { IfErr result (PassAskFails shard.now.records pass.now) }
+{
+    let id = pass.conversation();
+    if let Some(place) = stands_locked(shard, id, pass.receipts()) {
+        return Err(PassRefusal::Mismatch {
+            conversation: id,
+            place,
+        });
+    }
+    match ask_step(library, shard, id) {
+        Ok(verdict) => Ok(verdict),
+        Err(refusal) => Err(PassRefusal::Step(refusal)),
+    }
+}
+
+// Looks up the record of the pass's conversation, first where it was last, and appends the event.
+#[inline(always)]
+fn note_in_records(
+    library: &Library,
+    records: &mut IndexMap<u32, Record>,
+    pass: &mut Pass,
+    event: SharedEvent,
+) -> PassReply
+    ensures { AnswersBy library.now (records.old.entries, pass.old) event result (records.new.entries, pass.new) }
+{
+    let id = pass.conversation();
+    match place_at_hint(records, pass.hint(), id) {
+        Some(at) => {
+            pass.set_hint(at);
+            note_at_index(library, records, at, pass, event)
+        }
+        None => Err(unopened_refusal(id, pass.newest())),
+    }
+}
+
+// Appends the event to the log of the record at this index, unless the pass's newest receipt differs from it.
+#[inline(always)]
+fn note_at_index(
+    library: &Library,
+    records: &mut IndexMap<u32, Record>,
+    at: usize,
+    pass: &mut Pass,
+    event: SharedEvent,
+) -> PassReply
+    requires { IsRecordAt records.old.entries at pass.old.conversation }
+    ensures { AnswersBy library.now (records.old.entries, pass.old) event result (records.new.entries, pass.new) }
+{
+    let Some(conversation) = records.get_index_mut(at) else {
+        unreachable!()
+    };
+    let mismatch = first_mismatch(conversation.log(), pass.newest());
+    let present = present_of(library, conversation);
+    note_unless_mismatch(mismatch, present, conversation, pass, event)
+}
+
+/// Returns the refusal of a note if no conversation of the id is open.
+pub(crate) fn unopened_refusal(id: u32, newest: &[Receipt]) -> PassRefusal
+    ensures { (rs : Records) (p : PassHeld) → record_at rs id ≡ None → p.conversation ≡ id
+        → newest.now ≡ newest_of p.receipts → PassNoteFails rs p result }
+{
+    match first_mismatch(&[], newest) {
+        Some(place) => PassRefusal::Mismatch {
+            conversation: id,
+            place,
+        },
+        None => PassRefusal::Step(Refusal::NoConversation),
+    }
+}
+
+/// Returns the number of entries that the note added to a log.
+pub(crate) fn notes_of(noted: &PassReply) -> u64
+    ensures { result ≡ notes_of noted.now }
+{
+    match noted {
+        Ok(_) => 1,
+        Err(_) => 0,
+    }
+}

@@ -1,0 +1,144 @@
+//! Notes in the records of a shard.
+
+ghost use Rattle.std.specs.Prelude.{◌≡◌, None, IfOk, IfErr, IfSome, OnErr, All};
+ghost use Rattle.std.specs.Option.{option_copied};
+ghost use Rattle.scrib_record.specs.Told as record_spec;
+ghost use Rattle.scrib_core.specs.Held.{record_at};
+ghost use Rattle.scrib_core.specs.ConversationSteps.{IsPresent};
+ghost use Rattle.scrib_locked_steps.specs.Noting.{AnswersIn, IsNotedIn, IsRecordAt, refusal_of};
+ghost use Rattle.scrib_locked_steps.specs.Passes.{newest_of};
+ghost use Rattle.scrib_locked_steps.specs.Receipts.{IsFirstMismatch, AgreesWith};
+
+use crate::pass::{Pass, Receipt};
+use crate::pass_calls::{PassRefusal, PassReply};
+use crate::step_results::Noted;
+use indexmap::IndexMap;
+use scrib_core::reply::Refusal;
+use scrib_library::library::Library;
+use scrib_record::comparison::Comparison;
+use scrib_record::fault::NoteFault;
+use scrib_record::record::{MAX_EVENTS, Record};
+use scrib_record::version::Version;
+use scrib_types::shared_event::SharedEvent;
+
+/// Returns the index of the conversation's record in the order of opening, from 0. `hint` may be any index and is tried
+/// first: a caller that often asks for one conversation passes the index that it got last.
+#[inline(always)]
+pub(crate) fn place_at_hint(records: &IndexMap<u32, Record>, hint: usize, id: u32) -> Option<usize>
+    ensures found { IfSome result (λ at. IsRecordAt records.now.entries at id) }
+    ensures absent { result ≡ None → record_at records.now.entries id ≡ None }
+{
+    match records.get_index(hint) {
+        Some((key, _)) if *key == id => Some(hint),
+        _ => records.get_index_of(&id),
+    }
+}
+
+// Appends the event to the record's log. `present` is the present version of its protocol, if it has one. Returns the
+// place in the log, from 1, and the verdict.
+#[inline(always)]
+fn note_in_record(
+    present: Option<&Version>,
+    conversation: &mut Record,
+    event: SharedEvent,
+) -> Result<Noted, NoteFault>
+    ensures ok { IfOk result (λ n. IsNotedIn (option_copied present.entry) conversation.old event n conversation.new) }
+    ensures fault { IfErr result (record_spec.NoteFails conversation.old) }
+    ensures err { OnErr result (conversation.new ≡ conversation.old) }
+{
+    let told = conversation.note(present, Comparison::Whole, event)?;
+    Ok(Noted {
+        place: conversation.log().len(),
+        told,
+    })
+}
+
+/// Returns the library's version of the conversation's protocol, if there is one. The index of the last look-up is
+/// tried first.
+#[inline(always)]
+pub(crate) fn present_of<'a>(library: &'a Library, conversation: &mut Record) -> Option<&'a Version>
+    ensures present { IsPresent library.now conversation.old.name (option_copied result) }
+    ensures same { conversation.new ≡ conversation.old }
+{
+    let (hint, present) = library.present_at_hint(conversation.hint(), conversation.name());
+    conversation.set_hint(hint);
+    present
+}
+
+/// Appends the event to the log of the pass's conversation, unless the newest receipt differs from it at the place
+/// `mismatch`. `present` is the present version of the protocol, if it has one.
+///
+/// # Errors
+/// `Mismatch` with that place, if it is given; else `LogFull` or `OutOfMemory`, whichever applies first, as a `Step`.
+/// The record and the pass are unchanged then.
+#[inline(always)]
+pub(crate) fn note_unless_mismatch(
+    mismatch: Option<usize>,
+    present: Option<&Version>,
+    conversation: &mut Record,
+    pass: &mut Pass,
+    event: SharedEvent,
+) -> PassReply
+    requires { IsFirstMismatch conversation.old.log (newest_of pass.old.receipts) mismatch }
+    ensures answered { AnswersIn (option_copied present.entry) (conversation.old, pass.old) event result
+        (conversation.new, pass.new) }
+    ensures mismatch { IsFirstMismatch conversation.new.log (newest_of pass.new.receipts) mismatch }
+{
+    match mismatch {
+        Some(place) => Err(PassRefusal::Mismatch {
+            conversation: pass.conversation(),
+            place,
+        }),
+        None => note_with_receipt(present, conversation, pass, event),
+    }
+}
+
+// Appends the event to the log of the pass's conversation, which has the newest receipt. The pass receives the new
+// receipt.
+#[inline(always)]
+fn note_with_receipt(
+    present: Option<&Version>,
+    conversation: &mut Record,
+    pass: &mut Pass,
+    event: SharedEvent,
+) -> PassReply
+    requires { All (AgreesWith conversation.old.log) (newest_of pass.old.receipts) }
+    ensures answered { AnswersIn (option_copied present.entry) (conversation.old, pass.old) event result
+        (conversation.new, pass.new) }
+    ensures agrees { All (AgreesWith conversation.new.log) (newest_of pass.new.receipts) }
+{
+    let (Ok(kept), Ok(())) = (event.copy(), pass.receipts.reserve(1)) else {
+        return Err(PassRefusal::Step(refusal_of(memory_fault(conversation))));
+    };
+    match note_in_record(present, conversation, event) {
+        Ok(noted) => {
+            pass.receipts.push_reserved(Receipt {
+                place: noted.place,
+                event: kept,
+            });
+            Ok(noted)
+        }
+        Err(fault) => Err(PassRefusal::Step(refusal_of(fault))),
+    }
+}
+
+// Returns the fault of a note without memory: `LogFull` precedes `OutOfMemory`.
+fn memory_fault(conversation: &Record) -> NoteFault
+    ensures { record_spec.NoteFails conversation.now result }
+{
+    if conversation.log().len() >= MAX_EVENTS {
+        NoteFault::LogFull
+    } else {
+        NoteFault::OutOfMemory
+    }
+}
+
+// Returns the refusal of a step whose note has this fault.
+fn refusal_of(fault: NoteFault) -> Refusal
+    ensures { result ≡ refusal_of fault }
+{
+    match fault {
+        NoteFault::LogFull => Refusal::LogFull,
+        NoteFault::OutOfMemory => Refusal::OutOfMemory,
+    }
+}

@@ -1,5 +1,0 @@
-use Rattle.scrib_settlement.proofs.Tallied.{AreNew}
-use Rattle.scrib_settlement.proofs.places.new_tallies.Given as goal
-
-abbrev pub invariant-loop-index : goal.invariant-loop-index
-invariant-loop-index l = AreNew l.index l.shard.records l.tallies.items
