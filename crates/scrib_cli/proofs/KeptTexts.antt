@@ -1,12 +1,12 @@
--- What is kept of a module text while it is read.
+-- The kept part of a module text while it is read.
 use Rattle.std.proofs.Common.{◌≡◌, ◌≤◌, ◌∙◌, ℕ, List, [], ◌++◌, Option, Some, None, take, length, Vec, Global, vec_len, rules, sym, ap, subst, arith}
 use Rattle.std.specs.Prelude.{IfSome}
 use Rattle.std.specs.Io.KnownBytes.{Consumes, Keeps, IsAtEnd}
 use Rattle.std.proofs.lemmas.List.{append-nil, length-take}
 use Rattle.scrib_script_reader.proofs.Bytes.{take_kept, take_of_none}
-use Rattle.scrib_cli.proofs.Writes.{consumes_none, consumes_more, consumes_kept}
+use Rattle.scrib_script_io.proofs.WriterLemmas.{consumes_none, consumes_more, consumes_kept}
 
--- so much was read, and this is kept of it
+-- these bytes were read, and this part of them is kept
 abbrev pub HasRead : (was now : Option (List ℕ)) → List ℕ → Type 0
 HasRead was now text = (seen : List ℕ) × Consumes was now seen × (text ≡ take 1048577 seen)
 

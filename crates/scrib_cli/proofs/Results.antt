@@ -1,4 +1,4 @@
--- What holds whatever a result is.
+-- Properties that hold for both kinds of result.
 use Rattle.std.proofs.Common.{Result, Ok, Err}
 use Rattle.std.specs.Prelude.{OnOk, OnErr}
 

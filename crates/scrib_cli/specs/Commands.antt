@@ -1,94 +1,106 @@
--- What the commands do with their files, and what the program ends with (this project's own). `text` is what is known
--- of files, from their paths.
+-- What the commands do with their files, and the exit status (this project's own). `text` maps a path to the contents
+-- of its file, where they are known.
 use Rattle.std.specs.Prelude.{◌≡◌, ◌⊎◌, ⊤, ℕ, Bool, true, false, ◌&&◌, List, [], ◌∷◌, take, Option, Some, None, Result, Ok, Err, IfSome, codes}
 use Rattle.std.specs.Borrow.{Bor}
 use Rattle.std.specs.Io.KnownBytes.{Appends}
 use Rattle.scrib_types.specs.declared.profile.Profile.{Profile}
-use Rattle.scrib_script_reader.specs.declared.format.Format.{Format}
+use Rattle.scrib_core.specs.declared.format.Format.{Format}
 use Rattle.scrib_core.specs.Answers.{State}
 use Rattle.scrib_cli.specs.Checks.{IsChecked, IsPartChecked}
 use Rattle.scrib_cli.specs.Explanations.{IsExplanation}
 use Rattle.scrib_cli.specs.Projections.{IsAnswer}
-use Rattle.scrib_cli.specs.Scripts.{IsOutput, AppendsPart}
+use Rattle.scrib_script_io.specs.Writes.{AppendsPart}
+use Rattle.scrib_cli.specs.Scripts.{IsOutput}
 use Rattle.scrib_cli.specs.declared.form.Form.{Form}
-use Rattle.scrib_cli.specs.declared.explaining.Explained.{Explained}
-use Rattle.scrib_cli.specs.declared.explaining.Explained.TheVariants.{Flights, Refused}
-use Rattle.scrib_cli.specs.declared.fault.ScriptFault.{ScriptFault}
-use Rattle.scrib_cli.specs.declared.fault.ScriptFault.TheVariants as fault
+use Rattle.scrib_cli.specs.declared.explanation.Explained.{Explained}
+use Rattle.scrib_cli.specs.declared.explanation.Explained.TheVariants.{Flights, Refused}
+use Rattle.scrib_script_io.specs.declared.fault.ScriptFault.{ScriptFault}
+use Rattle.scrib_script_io.specs.declared.fault.ScriptFault.TheVariants as fault
 use Rattle.scrib_cli.specs.declared.commands.fault.CommandFault.{CommandFault}
 
--- The module texts of these files were put in order, each into the world after those before it, and their lines
--- written one after the other; and whether all of them were accepted.
-abbrev pub AreChecked : (text : List ℕ → Option (List ℕ)) → (paths : List (Bor (List ℕ))) → State → Bool → State → (was now : Option (List ℕ)) → Type 0
+-- the module texts of these files were put one after the other, their lines were written, and the flag says whether all
+-- were accepted
+abbrev pub AreChecked : (text : List ℕ → Option (List ℕ)) → (paths : List (Bor (List ℕ)))
+    → State → Bool → State → (was now : Option (List ℕ)) → Type 0
 AreChecked text [] w accepted after was now = (accepted ≡ true) × (after ≡ w) × Appends was now []
 AreChecked text (p ∷ ps) w accepted after was now =
     (first : Bool) × (others : Bool) × (v : State) × (mid : Option (List ℕ)) × (accepted ≡ (first && others))
-    × IfSome (text p.now) (λ input. IsChecked input w first v was mid) × AreChecked text ps v others after mid now
+    × IfSome (text p.now) (λ input. IsChecked input w first v was mid)
+    × AreChecked text ps v others after mid now
 
--- Some of the files, from the first on, were checked so, and of the next nothing was written or a beginning of its
--- line.
-abbrev pub ArePartChecked : (text : List ℕ → Option (List ℕ)) → (paths : List (Bor (List ℕ))) → State → (was now : Option (List ℕ)) → Type 0
+-- some of the files, from the first on, were checked so, and for the next one nothing or a prefix of its line was
+-- written
+abbrev pub ArePartChecked : (text : List ℕ → Option (List ℕ)) → (paths : List (Bor (List ℕ)))
+    → State → (was now : Option (List ℕ)) → Type 0
 ArePartChecked text [] w was now = Appends was now []
 ArePartChecked text (p ∷ ps) w was now =
     Appends was now [] ⊎ IfSome (text p.now) (λ input. (after : State) × IsPartChecked input w after was now)
-    ⊎ ((first : Bool) × (v : State) × (mid : Option (List ℕ)) × IfSome (text p.now) (λ input. IsChecked input w first v was mid)
+    ⊎ ((first : Bool) × (v : State) × (mid : Option (List ℕ))
+    × IfSome (text p.now) (λ input. IsChecked input w first v was mid)
     × ArePartChecked text ps v mid now)
 
--- the module texts of these files, of each its first 1,048,577 bytes, up to the first that can't be opened or read, for
--- which `None` stands
-abbrev pub AreRead : (text : List ℕ → Option (List ℕ)) → (paths : List (Bor (List ℕ))) → List (Option (List ℕ)) → Type 0
+-- the first 1,048,577 bytes of each of these files, up to the first that can't be opened or read, which is `None`
+abbrev pub AreRead : (text : List ℕ → Option (List ℕ)) → (paths : List (Bor (List ℕ)))
+    → List (Option (List ℕ)) → Type 0
 AreRead text [] [] = ⊤
 AreRead text [] (t ∷ ts) = ⊥
 AreRead text (p ∷ ps) [] = ⊥
 AreRead text (p ∷ ps) (None ∷ ts) = ts ≡ []
 AreRead text (p ∷ ps) (Some t ∷ ts) = IfSome (text p.now) (λ input. t ≡ take 1_048_577 input) × AreRead text ps ts
 
--- what is asked for of a role was written, or a refusal, over the module texts of these files
-abbrev pub IsAnswered : Form → Profile → (text : List ℕ → Option (List ℕ)) → (paths : List (Bor (List ℕ))) → (protocol role : List ℕ) → Bool → (was now : Option (List ℕ)) → Type 0
-IsAnswered form profile text paths protocol role does_so was now =
+-- the output of `project` or `machine` over the module texts of these files was written
+abbrev pub IsAnswered : Form → Profile → (text : List ℕ → Option (List ℕ)) → (paths : List (Bor (List ℕ)))
+    → (protocol role : List ℕ) → Bool → (was now : Option (List ℕ)) → Type 0
+IsAnswered form profile text paths protocol role has_projection was now =
     (texts : List (Option (List ℕ))) × AreRead text paths texts
-    × ((written : List ℕ) × IsAnswer form profile texts protocol role does_so written × Appends was now written)
+    × ((written : List ℕ) × IsAnswer form profile texts protocol role has_projection written × Appends was now written)
 
--- nothing of it was written, or a beginning
-abbrev pub IsPartAnswered : Form → Profile → (text : List ℕ → Option (List ℕ)) → (paths : List (Bor (List ℕ))) → (protocol role : List ℕ) → (was now : Option (List ℕ)) → Type 0
+-- nothing or a prefix of that output was written
+abbrev pub IsPartAnswered : Form → Profile → (text : List ℕ → Option (List ℕ)) → (paths : List (Bor (List ℕ)))
+    → (protocol role : List ℕ) → (was now : Option (List ℕ)) → Type 0
 IsPartAnswered form profile text paths protocol role was now =
     Appends was now []
     ⊎ ((texts : List (Option (List ℕ))) × AreRead text paths texts
-    × ((does_so : Bool) × (written : List ℕ) × IsAnswer form profile texts protocol role does_so written × AppendsPart was now written))
+    × ((has_projection : Bool) × (written : List ℕ)
+    × IsAnswer form profile texts protocol role has_projection written × AppendsPart was now written))
 
--- what is known of a script: it is in the file of this path, or the input where no path is named
-abbrev pub source : (text : List ℕ → Option (List ℕ)) → (path : Option (List ℕ)) → (input : Option (List ℕ)) → Option (List ℕ)
+-- the script, where it is known: the file of this path, or the input where no path is given
+abbrev pub source : (text : List ℕ → Option (List ℕ)) → (path : Option (List ℕ)) → (input : Option (List ℕ))
+    → Option (List ℕ)
 source text None input = input
 source text (Some p) input = text p
 
--- an output of this script, if it is known, was written
+-- an output of this script, where it is known, was written
 abbrev pub IsWatched : Format → (script : Option (List ℕ)) → (was now : Option (List ℕ)) → Type 0
-IsWatched format script was now = IfSome script (λ input. (output : List ℕ) × IsOutput format input output × Appends was now output)
+IsWatched format script was now =
+    IfSome script (λ input. (output : List ℕ) × IsOutput format input output × Appends was now output)
 
--- nothing was written, or a beginning of an output of this script, if it is known
+-- nothing was written, or a prefix of an output of this script, where it is known
 abbrev pub IsPartWatched : Format → (script : Option (List ℕ)) → (was now : Option (List ℕ)) → Type 0
 IsPartWatched format script was now =
     Appends was now []
     ⊎ IfSome script (λ input. (output : List ℕ) × IsOutput format input output × AppendsPart was now output)
 
--- whether an explanation is what is in flight
+-- whether an explanation lists messages in flight
 abbrev pub is_flights : Explained → Bool
 is_flights Flights = true
 is_flights Refused = false
 
--- the conversation of this script, if it is known, was explained, and whether that is what is in flight
-abbrev pub IsToldOf : (id : ℕ) → (script : Option (List ℕ)) → Bool → (was now : Option (List ℕ)) → Type 0
-IsToldOf id script flights was now =
+-- an explanation of the conversation in this script, where it is known, was written; the flag says whether it lists
+-- messages in flight
+abbrev pub IsScriptExplained : (id : ℕ) → (script : Option (List ℕ)) → Bool → (was now : Option (List ℕ)) → Type 0
+IsScriptExplained id script flights was now =
     IfSome script (λ input. (explained : Explained) × (output : List ℕ) × (flights ≡ is_flights explained)
     × IsExplanation input id explained output × Appends was now output)
 
--- nothing was written, or a beginning of what explains it
-abbrev pub IsPartToldOf : (id : ℕ) → (script : Option (List ℕ)) → (was now : Option (List ℕ)) → Type 0
-IsPartToldOf id script was now =
+-- nothing or a prefix of an explanation was written
+abbrev pub IsScriptPartExplained : (id : ℕ) → (script : Option (List ℕ)) → (was now : Option (List ℕ)) → Type 0
+IsScriptPartExplained id script was now =
     Appends was now []
-    ⊎ IfSome script (λ input. (explained : Explained) × (output : List ℕ) × IsExplanation input id explained output × AppendsPart was now output)
+    ⊎ IfSome script (λ input. (explained : Explained) × (output : List ℕ)
+    × IsExplanation input id explained output × AppendsPart was now output)
 
--- the exit status of a command: 0 where it did all that it was to do, 1 where it printed a refusal or failed
+-- the exit status of a command: 0 where it succeeded, 1 where it printed a refusal or failed
 abbrev pub status_of : Result Bool CommandFault → ℕ
 status_of (Ok true) = 0
 status_of (Ok false) = 1

@@ -1,4 +1,4 @@
--- What is printed of the messages in flight in a conversation (this project's own).
+-- Explanations of conversations: their messages in flight, or a refusal (this project's own).
 use Rattle.std.specs.Prelude.{◌≡◌, ◌≢◌, ℕ, ◌+◌, List, [], ◌∷◌, ◌++◌, Some, None, All, codes}
 use Rattle.std.specs.Fmt.{decimal}
 use Rattle.scrib_types.specs.Agreement.{Agreement}
@@ -12,8 +12,8 @@ use Rattle.scrib_global.specs.declared.explain.Flight.{Flight}
 use Rattle.scrib_global.specs.Offences.{Offends}
 use Rattle.scrib_global.specs.Explained.{IsExplained}
 use Rattle.scrib_report.specs.Lines.{flight_text}
-use Rattle.scrib_cli.specs.declared.explaining.Explained.{Explained}
-use Rattle.scrib_cli.specs.declared.explaining.Explained.TheVariants.{Flights, Refused}
+use Rattle.scrib_cli.specs.declared.explanation.Explained.{Explained}
+use Rattle.scrib_cli.specs.declared.explanation.Explained.TheVariants.{Flights, Refused}
 use Rattle.scrib_script_reader.specs.declared.item.Item.{Item}
 use Rattle.scrib_script_reader.specs.Scripts.{Spells, lines, steps_of}
 
@@ -22,21 +22,24 @@ abbrev pub flight_lines : List Flight → List ℕ
 flight_lines [] = []
 flight_lines (f ∷ fs) = flight_text f ++ 10 ∷ flight_lines fs
 
--- a refusal line
+-- the refusal line of a word
 abbrev pub refusal_line : List ℕ → List ℕ
 refusal_line word = codes "refused " ++ word ++ 10 ∷ []
 
--- The explanation of the conversation of this id in a world, and whether it is a refusal: there is no such
--- conversation; its protocol means nothing in the library; the place of the first offence of its log, from 1; or
--- what the log, a run, has in flight, by sender and then receiver in declared order, the oldest first.
+-- The kind and the text of the explanation of a conversation in a world. A refusal: no such conversation, no such
+-- protocol, or the place of the first offence, from 1. Else the log is a run, and the text lists its messages in
+-- flight, by sender and then receiver in declared order, the oldest first.
 pub data Explanation (w : World) (id : ℕ) : Explained → List ℕ → Type 0 where
   absent : conversation w id ≡ None → Explanation w id Refused (refusal_line (codes "NoConversation"))
-  unknown : (c : Conversation) → conversation w id ≡ Some c → IsMeaning w.modules c.name None → Explanation w id Refused (refusal_line (codes "UnknownProtocol"))
-  offends : (c : Conversation) (a : Agreement) (i : ℕ) → conversation w id ≡ Some c → Means w.modules c.name a → Offends a c.log i → Explanation w id Refused (refusal_line (codes "NotPermitted " ++ decimal (i + 1)))
-  flies : (c : Conversation) (a : Agreement) (found : List Flight) → conversation w id ≡ Some c → Means w.modules c.name a → IsExplained a c.log found → Explanation w id Flights (flight_lines found)
+  unknown : (c : Conversation) → conversation w id ≡ Some c → IsMeaning w.modules c.name None
+      → Explanation w id Refused (refusal_line (codes "UnknownProtocol"))
+  offends : (c : Conversation) (a : Agreement) (i : ℕ) → conversation w id ≡ Some c → Means w.modules c.name a
+      → Offends a c.log i → Explanation w id Refused (refusal_line (codes "NotPermitted " ++ decimal (i + 1)))
+  flies : (c : Conversation) (a : Agreement) (found : List Flight) → conversation w id ≡ Some c
+      → Means w.modules c.name a → IsExplained a c.log found → Explanation w id Flights (flight_lines found)
 
--- An explanation of a conversation of a script: its steps are made over a new monitor, memory is refused to none of
--- them, and the conversation is explained in the world after them.
+-- An explanation of a conversation of a script, whose steps are made over a new monitor and are not refused memory. The
+-- conversation is explained in the world after them.
 abbrev pub IsExplanation : List ℕ → ℕ → Explained → List ℕ → Type 0
 IsExplanation input id e output =
     (items : List Item) × (replies : List Reply) × (s : State)

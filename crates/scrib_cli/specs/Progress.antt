@@ -1,4 +1,4 @@
--- How far a run has come: what its functions promise one another.
+-- The progress of a run: what its functions promise one another (this project's own).
 -- Only contracts of private functions cite this file.
 use Rattle.std.specs.Prelude.{◌≡◌, ◌≢◌, ◌⊎◌, ℕ, List, [], ◌∷◌, ◌++◌, Option, None, All, IfSome}
 use Rattle.std.specs.Io.KnownBytes.{Appends}
@@ -8,144 +8,156 @@ use Rattle.scrib_core.specs.declared.reply.Refusal.TheVariants.{OutOfMemory}
 use Rattle.scrib_core.specs.declared.step.Step.{Step}
 use Rattle.scrib_core.specs.Answers.{State, initial, IsAnswered, Answers}
 use Rattle.scrib_core.specs.Held.{state_of}
-use Rattle.scrib_script_reader.specs.declared.format.Format.{Format}
-use Rattle.scrib_script_reader.specs.declared.format.Format.TheVariants as format
+use Rattle.scrib_core.specs.declared.format.Format.{Format}
+use Rattle.scrib_core.specs.declared.format.Format.TheVariants as format
 use Rattle.scrib_script_reader.specs.declared.item.Item.{Item}
 use Rattle.scrib_script_reader.specs.declared.item.Item.TheVariants as item
 use Rattle.scrib_script_reader.specs.Scripts.{Spells, lines, steps_of}
 use Rattle.scrib_script_reader.specs.Limits.{of_scripts, IsWithin, IsPast}
-use Rattle.scrib_script_reader.specs.Standing.{Read}
-use Rattle.scrib_cli.specs.declared.run.Run.{Run}
-use Rattle.scrib_cli.specs.declared.telling.Telling.{Telling}
-use Rattle.scrib_cli.specs.declared.telling.Telling.TheVariants.{Printed, Silent}
-use Rattle.scrib_cli.specs.Scripts.{written, bad_line, end_of_text, reply_format, reply_text, AppendsPart}
+use Rattle.scrib_script_reader.specs.Positions.{Read}
+use Rattle.scrib_cli.specs.declared.run.ScriptRun.{ScriptRun}
+use Rattle.scrib_cli.specs.declared.output_mode.OutputMode.{OutputMode}
+use Rattle.scrib_cli.specs.declared.output_mode.OutputMode.TheVariants.{Printed, Silent}
+use Rattle.scrib_report.specs.ReplyTexts.{bad_line, end_of_text, reply_format, reply_text}
+use Rattle.scrib_script_io.specs.Writes.{AppendsPart}
+use Rattle.scrib_cli.specs.Scripts.{written}
 
--- what is told of these bytes: in silence nothing
-abbrev pub said : Telling → List ℕ → List ℕ
-said (Printed o) bytes = bytes
-said Silent bytes = []
+-- the bytes that are written for these: in silent mode none
+abbrev pub shown : OutputMode → List ℕ → List ℕ
+shown (Printed o) bytes = bytes
+shown Silent bytes = []
 
--- the format of the output; in silence any would do
-abbrev pub output_format : Telling → Format
+-- the format of the output; in silent mode it does not matter
+abbrev pub output_format : OutputMode → Format
 output_format (Printed o) = o
 output_format Silent = format.Line
 
--- what is told of a reply whose line asks for this format
-abbrev pub told_reply : Telling → Format → Reply → List ℕ
-told_reply t f r = said t (reply_text (reply_format (output_format t) f) r)
+-- what is written for a reply whose line asks for this format
+abbrev pub reply_shown : OutputMode → Format → Reply → List ℕ
+reply_shown t f r = shown t (reply_text (reply_format (output_format t) f) r)
 
--- what is told of a line that says nothing
-abbrev pub told_bad_line : Telling → ℕ → List ℕ
-told_bad_line t n = said t (bad_line (output_format t) n)
+-- what is written for a bad line
+abbrev pub bad_line_shown : OutputMode → ℕ → List ℕ
+bad_line_shown t n = shown t (bad_line (output_format t) n)
 
--- what is told of an end inside a module text
-abbrev pub told_end : Telling → List ℕ
-told_end t = said t (end_of_text (output_format t))
+-- what is written for an end inside a module text
+abbrev pub end_shown : OutputMode → List ℕ
+end_shown t = shown t (end_of_text (output_format t))
 
--- what is told of these items, whose steps have these replies
-abbrev pub told : Telling → List Item → List Reply → List ℕ
-told t items replies = said t (written (output_format t) items replies)
+-- what is written for these items, whose steps have these replies
+abbrev pub items_shown : OutputMode → List Item → List Reply → List ℕ
+items_shown t items replies = shown t (written (output_format t) items replies)
 
--- a run goes on after this reply: in silence, unless memory was refused to its step
-abbrev pub GoesOn : Telling → Reply → Type 0
+-- a run continues after this reply; in silent mode it does not where the step was refused memory
+abbrev pub GoesOn : OutputMode → Reply → Type 0
 GoesOn (Printed o) r = Unit {0}
 GoesOn Silent r = r ≢ Refused OutOfMemory
 
--- the output of a script, and the world after it
-pub record Whole (t : Telling) (input : List ℕ) (after : State) (output : List ℕ) : Type 0 where
+-- the whole output of a script, and the state after it
+pub record IsWholeOutput (t : OutputMode) (input : List ℕ) (after : State) (output : List ℕ) : Type 0 where
   pub items : List Item
   pub replies : List Reply
   pub spelled : Spells 1 None (lines input) items
   pub answered : Answers initial (steps_of items) replies after
   pub goes_on : All (GoesOn t) replies
-  pub is : output ≡ told t items replies
+  pub is : output ≡ items_shown t items replies
 
--- an output of the script in this format begins so
-pub record Begins (o : Format) (input part : List ℕ) : Type 0 where
+-- the part is a prefix of an output of the script in this format
+pub record IsOutputPrefix (o : Format) (input part : List ℕ) : Type 0 where
   pub after : State
   pub output : List ℕ
   pub rest : List ℕ
-  pub whole : Whole (Printed o) input after output
+  pub whole : IsWholeOutput (Printed o) input after output
   pub is : output ≡ part ++ rest
 
--- this much was written where a run failed: a beginning of an output, and in silence nothing
-abbrev pub Short : Telling → List ℕ → List ℕ → Type 0
-Short (Printed o) input part = Begins o input part
-Short Silent input part = part ≡ []
+-- the part may be written by a run that fails: a prefix of an output, and in silent mode nothing
+abbrev pub IsPartOutput : OutputMode → List ℕ → List ℕ → Type 0
+IsPartOutput (Printed o) input part = IsOutputPrefix o input part
+IsPartOutput Silent input part = part ≡ []
 
--- a run of the script failed
-abbrev pub FailedOn : Telling → List ℕ → Option (List ℕ) → Option (List ℕ) → Type 0
-FailedOn t input was now = (part : List ℕ) × Short t input part × Appends was now part
+-- a run of the script failed, and wrote such a part
+abbrev pub RunFailsOn : OutputMode → List ℕ → Option (List ℕ) → Option (List ℕ) → Type 0
+RunFailsOn t input was now = (part : List ℕ) × IsPartOutput t input part × Appends was now part
 
--- a whole script, which is within the limits, was run, and the world after it
-abbrev pub Ran : Telling → Option (List ℕ) → State → Option (List ℕ) → Option (List ℕ) → Type 0
-Ran t r after was now = IfSome r (λ input. (output : List ℕ) × Whole t input after output × Appends was now output × IsWithin of_scripts input)
+-- a whole script, which is within the limits, was run to this state
+abbrev pub RunSucceeds : OutputMode → Option (List ℕ) → State → Option (List ℕ) → Option (List ℕ) → Type 0
+RunSucceeds t r after was now =
+    IfSome r (λ input. (output : List ℕ)
+    × IsWholeOutput t input after output × Appends was now output × IsWithin of_scripts input)
 
--- a script failed to be run
-abbrev pub RanShort : Telling → Option (List ℕ) → Option (List ℕ) → Option (List ℕ) → Type 0
-RanShort t r was now = IfSome r (λ input. FailedOn t input was now)
+-- a run of the script, where it is known, failed
+abbrev pub RunFails : OutputMode → Option (List ℕ) → Option (List ℕ) → Option (List ℕ) → Type 0
+RunFails t r was now = IfSome r (λ input. RunFailsOn t input was now)
 
--- A run that tells so took in these bytes of its script, and told what they spell.
-pub record Came (t : Telling) (run : Run) (seen : List ℕ) (was now : Option (List ℕ)) : Type 0 where
-  pub telling : run.telling ≡ t
+-- a run in this mode consumed these bytes of its script, and wrote the output of their items
+pub record HasProgressed (t : OutputMode) (run : ScriptRun) (seen : List ℕ) (was now : Option (List ℕ)) : Type 0 where
+  pub output_mode : run.output_mode ≡ t
   pub items : List Item
   pub replies : List Reply
   pub read : Read of_scripts run.script seen items
   pub answered : Answers initial (steps_of items) replies (state_of run.core)
   pub goes_on : All (GoesOn t) replies
-  pub appends : Appends was now (told t items replies)
+  pub appends : Appends was now (items_shown t items replies)
 
 -- a run before its first byte
-pub record IsNew (t : Telling) (run : Run) : Type 0 where
-  pub came : (w : Option (List ℕ)) → Came t run [] w w
+pub record IsNew (t : OutputMode) (run : ScriptRun) : Type 0 where
+  pub progress : (w : Option (List ℕ)) → HasProgressed t run [] w w
 
--- the run took the bytes in, and told what they spell
-pub record Went (old new : Run) (bytes : List ℕ) (was now : Option (List ℕ)) : Type 0 where
-  pub goes : (t : Telling) (seen : List ℕ) (w : Option (List ℕ)) → Came t old seen w was → Came t new (seen ++ bytes) w now
+-- the run consumed the bytes, and wrote the output of their items
+pub record Advances (old new : ScriptRun) (bytes : List ℕ) (was now : Option (List ℕ)) : Type 0 where
+  pub goes : (t : OutputMode) (seen : List ℕ) (w : Option (List ℕ)) → HasProgressed t old seen w was
+      → HasProgressed t new (seen ++ bytes) w now
 
 -- the run failed within these bytes
-pub record Stopped (old : Run) (bytes : List ℕ) (was now : Option (List ℕ)) : Type 0 where
-  pub so : (t : Telling) (seen : List ℕ) (w : Option (List ℕ)) → Came t old seen w was → (more : List ℕ) → FailedOn t (seen ++ (bytes ++ more)) w now
+pub record PieceFails (old : ScriptRun) (bytes : List ℕ) (was now : Option (List ℕ)) : Type 0 where
+  pub so : (t : OutputMode) (seen : List ℕ) (w : Option (List ℕ)) → HasProgressed t old seen w was
+      → (more : List ℕ) → RunFailsOn t (seen ++ (bytes ++ more)) w now
 
--- The run stopped at the first line of the bytes with which the script is past the limits. What the bytes before that
--- line spell was told, and nothing more.
-pub record StoppedPast (old : Run) (bytes : List ℕ) (was now : Option (List ℕ)) : Type 0 where
-  pub so : (t : Telling) (seen : List ℕ) (w : Option (List ℕ)) → Came t old seen w was
-      → (mid : Run) × (front : List ℕ) × (line : List ℕ) × (rest : List ℕ)
+-- The run stopped at the first line with which the script is past the limits. Exactly the output of the items before
+-- that line was written.
+pub record PassesLimitIn (old : ScriptRun) (bytes : List ℕ) (was now : Option (List ℕ)) : Type 0 where
+  pub so : (t : OutputMode) (seen : List ℕ) (w : Option (List ℕ)) → HasProgressed t old seen w was
+      → (mid : ScriptRun) × (front : List ℕ) × (line : List ℕ) × (rest : List ℕ)
       × (bytes ≡ front ++ (line ++ rest)) × (lines (line ++ rest) ≡ line ∷ lines rest)
-      × Came t mid (seen ++ front) w now × IsPast of_scripts (seen ++ front ++ line)
+      × HasProgressed t mid (seen ++ front) w now × IsPast of_scripts (seen ++ front ++ line)
 
--- the run wrote all of its output, the script is within the limits, and this is the world after it
-pub record Ended (old : Run) (after : State) (was now : Option (List ℕ)) : Type 0 where
-  pub so : (t : Telling) (seen : List ℕ) (w : Option (List ℕ)) → Came t old seen w was → (output : List ℕ) × Whole t seen after output × Appends w now output × IsWithin of_scripts seen
+-- the run wrote all of its output, the script is within the limits, and this is the state after it
+pub record EndSucceeds (old : ScriptRun) (after : State) (was now : Option (List ℕ)) : Type 0 where
+  pub so : (t : OutputMode) (seen : List ℕ) (w : Option (List ℕ)) → HasProgressed t old seen w was
+      → (output : List ℕ) × IsWholeOutput t seen after output × Appends w now output × IsWithin of_scripts seen
 
 -- the run failed at its end
-pub record Failed (old : Run) (was now : Option (List ℕ)) : Type 0 where
-  pub so : (t : Telling) (seen : List ℕ) (w : Option (List ℕ)) → Came t old seen w was → FailedOn t seen w now
+pub record EndFails (old : ScriptRun) (was now : Option (List ℕ)) : Type 0 where
+  pub so : (t : OutputMode) (seen : List ℕ) (w : Option (List ℕ)) → HasProgressed t old seen w was
+      → RunFailsOn t seen w now
 
--- What an item does to the world, the reply to its step, if it is one, and what is told of it.
-abbrev pub Does : Telling → Item → State → List Reply → State → List ℕ → Type 0
-Does t (item.Step f s) w replies v out = (r : Reply) × (replies ≡ r ∷ []) × IsAnswered w s r v × GoesOn t r × (out ≡ told_reply t f r)
-Does t (item.BadLine n) w replies v out = (replies ≡ []) × (v ≡ w) × (out ≡ told_bad_line t n)
-Does t item.EndOfText w replies v out = (replies ≡ []) × (v ≡ w) × (out ≡ told_end t)
+-- what an item does: the state after it, the reply to its step, if it is one, and what is written for it
+abbrev pub ItemDoes : OutputMode → Item → State → List Reply → State → List ℕ → Type 0
+ItemDoes t (item.Step f s) w replies v out =
+    (r : Reply) × (replies ≡ r ∷ []) × IsAnswered w s r v × GoesOn t r × (out ≡ reply_shown t f r)
+ItemDoes t (item.BadLine n) w replies v out = (replies ≡ []) × (v ≡ w) × (out ≡ bad_line_shown t n)
+ItemDoes t item.EndOfText w replies v out = (replies ≡ []) × (v ≡ w) × (out ≡ end_shown t)
 
--- the item was told
-abbrev pub IsTold : Telling → Item → State → State → Option (List ℕ) → Option (List ℕ) → Type 0
-IsTold t i w v was now = (replies : List Reply) × (out : List ℕ) × Does t i w replies v out × Appends was now out
+-- the item was carried out, and its output was written
+abbrev pub IsCarriedOut : OutputMode → Item → State → State → Option (List ℕ) → Option (List ℕ) → Type 0
+IsCarriedOut t i w v was now =
+    (replies : List Reply) × (out : List ℕ) × ItemDoes t i w replies v out × Appends was now out
 
--- the item failed to be told: nothing was written, or a beginning of what is written for it
-abbrev pub IsPartTold : Telling → Item → State → Option (List ℕ) → Option (List ℕ) → Type 0
-IsPartTold t i w was now =
-    Appends was now [] ⊎ ((replies : List Reply) × (v : State) × (out : List ℕ) × Does t i w replies v out × AppendsPart was now out)
+-- carrying out the item failed: nothing or a prefix of its output was written
+abbrev pub IsPartCarriedOut : OutputMode → Item → State → Option (List ℕ) → Option (List ℕ) → Type 0
+IsPartCarriedOut t i w was now =
+    Appends was now []
+    ⊎ ((replies : List Reply) × (v : State) × (out : List ℕ) × ItemDoes t i w replies v out × AppendsPart was now out)
 
--- the step was answered, and its reply was told to a line that asks for this format
-abbrev pub Answered : Telling → Format → State → Step → State → Option (List ℕ) → Option (List ℕ) → Type 0
-Answered t f w s v was now = (r : Reply) × IsAnswered w s r v × GoesOn t r × Appends was now (told_reply t f r)
+-- the step was made, and its reply to a line that asks for this format was written
+abbrev pub StepSucceeds : OutputMode → Format → State → Step → State → Option (List ℕ) → Option (List ℕ) → Type 0
+StepSucceeds t f w s v was now = (r : Reply) × IsAnswered w s r v × GoesOn t r × Appends was now (reply_shown t f r)
 
--- the step was answered, and a beginning of what is told of its reply was written
-abbrev pub PartAnswered : Telling → Format → State → Step → State → Option (List ℕ) → Option (List ℕ) → Type 0
-PartAnswered t f w s v was now = (r : Reply) × IsAnswered w s r v × GoesOn t r × AppendsPart was now (told_reply t f r)
+-- the step was made, and a prefix of its reply was written
+abbrev pub StepPartWritten : OutputMode → Format → State → Step → State → Option (List ℕ) → Option (List ℕ) → Type 0
+StepPartWritten t f w s v was now =
+    (r : Reply) × IsAnswered w s r v × GoesOn t r × AppendsPart was now (reply_shown t f r)
 
--- the step failed: nothing was written, or a beginning of its reply
-abbrev pub PartMade : Telling → Format → State → Step → State → Option (List ℕ) → Option (List ℕ) → Type 0
-PartMade t f w s v was now = Appends was now [] ⊎ PartAnswered t f w s v was now
+-- the step failed: nothing or a prefix of its reply was written
+abbrev pub StepFails : OutputMode → Format → State → Step → State → Option (List ℕ) → Option (List ℕ) → Type 0
+StepFails t f w s v was now = Appends was now [] ⊎ StepPartWritten t f w s v was now

@@ -1,4 +1,4 @@
--- What the steps of `project` and `machine` promise one another.
+-- What the functions behind `project` and `machine` promise one another (this project's own).
 -- Only contracts of private functions cite this file.
 use Rattle.std.specs.Prelude.{◌≡◌, ◌⊎◌, ⊤, ℕ, true, false, List, Option, Some, None}
 use Rattle.scrib_types.specs.Agreement.{Agreement}
@@ -13,8 +13,8 @@ use Rattle.scrib_project.specs.Faults.{IsUnmergeable, IsPlaced}
 use Rattle.scrib_library.specs.declared.fault.EditFault.{EditFault}
 use Rattle.scrib_library.specs.declared.fault.EditFault.TheVariants as edit
 use Rattle.scrib_script_reader.specs.Fields.{IsDottedText}
-use Rattle.scrib_cli.specs.declared.fault.ScriptFault.{ScriptFault}
-use Rattle.scrib_cli.specs.declared.fault.ScriptFault.TheVariants as fault
+use Rattle.scrib_script_io.specs.declared.fault.ScriptFault.{ScriptFault}
+use Rattle.scrib_script_io.specs.declared.fault.ScriptFault.TheVariants as fault
 use Rattle.scrib_cli.specs.declared.full_name.FullName.{FullName}
 use Rattle.scrib_cli.specs.declared.projection.Projection.{Projection}
 use Rattle.scrib_cli.specs.declared.projection.Projection.TheVariants.{Projects, NoProtocol, NoRole, Refused}
@@ -30,7 +30,8 @@ abbrev pub IsUnreadOrRefused : List ℕ → EditFault → Type 0
 IsUnreadOrRefused t f = (f ≡ edit.OutOfMemory) ⊎ IsNoModule t f
 
 -- all texts were added, or one of them is no module for this reason
-abbrev pub AreAddedOrFail : (before : List ModuleTree) → List (Option (List ℕ)) → (after : List ModuleTree) → Option EditFault → Type 0
+abbrev pub AreAddedOrFail : (before : List ModuleTree) → List (Option (List ℕ)) → (after : List ModuleTree)
+    → Option EditFault → Type 0
 AreAddedOrFail before texts after None = AreAdded before texts after
 AreAddedOrFail before texts after (Some f) = FailsAmong texts f
 
@@ -52,12 +53,14 @@ StopsReading texts protocol fault.OutOfMemory = ⊤
 abbrev pub IsDeclared : List (List ℕ) → (name role : List ℕ) → Type 0
 IsDeclared roles name role = (role ≡ name) × (has_role name roles ≡ true)
 
--- what the role does in what the protocol means, under the profile
+-- the projection on the role of a protocol with this meaning, under the profile
 abbrev pub IsRoleProjection : Profile → Agreement → List ℕ → Projection → Type 0
-IsRoleProjection profile a role (Projects l) = (has_role role a.roles ≡ true) × (projection profile role a.global ≡ Some (local_of l))
+IsRoleProjection profile a role (Projects l) =
+    (has_role role a.roles ≡ true) × (projection profile role a.global ≡ Some (local_of l))
 IsRoleProjection profile a role NoProtocol = ⊥
 IsRoleProjection profile a role NoRole = has_role role a.roles ≡ false
-IsRoleProjection profile a role (Refused (edit.Project u)) = (has_role role a.roles ≡ true) × IsUnmergeable profile a.global role u
+IsRoleProjection profile a role (Refused (edit.Project u)) =
+    (has_role role a.roles ≡ true) × IsUnmergeable profile a.global role u
 IsRoleProjection profile a role (Refused edit.UnknownModule) = ⊥
 IsRoleProjection profile a role (Refused edit.TooManyModules) = ⊥
 IsRoleProjection profile a role (Refused (edit.StillImported name)) = ⊥
@@ -70,13 +73,13 @@ IsRoleProjection profile a role (Refused (edit.Parse f)) = ⊥
 IsRoleProjection profile a role (Refused (edit.NeedsReception name)) = ⊥
 IsRoleProjection profile a role (Refused edit.OutOfMemory) = ⊥
 
--- where the protocol of this name, in the module of this name, has no projection, the place is that of a choice
--- without one
-abbrev pub IsRefusalPlaced : Profile → List ModuleTree → (home : List (List ℕ)) (name : List ℕ) → GlobalTree → Projection → Type 0
+-- where the protocol, in the module `home`, has no projection, the refusal's place is that of a choice without one
+abbrev pub IsRefusalPlaced : Profile → List ModuleTree → (home : List (List ℕ)) (name : List ℕ) → GlobalTree
+    → Projection → Type 0
 IsRefusalPlaced profile modules home name g (Refused (edit.Project u)) = IsPlaced profile modules home name g u
 IsRefusalPlaced profile modules home name g other = Unit {0}
 
--- what the role does has a machine
+-- the projection, if there is one, can be compiled to a machine
 abbrev pub HasMachine : Projection → Type 0
 HasMachine (Projects l) = IsCompilable (local_of l)
 HasMachine NoProtocol = ⊤

@@ -1,4 +1,4 @@
-//! What is printed of a role of a protocol of some modules.
+//! Writes the projection of a protocol on a role: its local type, or the graph of its machine.
 
 ghost use Rattle.std.specs.Prelude.{◌≡◌, ◌⊎◌, ◌++◌, ◌∷◌, [], ℕ, List, Bool, IfOk, IfErr, OnErr};
 ghost use Rattle.std.specs.Io.KnownBytes.{Appends};
@@ -7,36 +7,38 @@ ghost use Rattle.scrib_projection.specs.Text.{local_text};
 ghost use Rattle.scrib_machine.specs.Compilable.{IsCompilable};
 ghost use Rattle.scrib_core.specs.declared.reply.Reply.TheVariants.{Refused};
 ghost use Rattle.scrib_core.specs.declared.reply.Refusal.TheVariants.{Edit};
-ghost use Rattle.scrib_cli.specs.Scripts.{AppendsPart, reply_line};
-ghost use Rattle.scrib_cli.specs.Projections.{IsAnswer, FaultTells, IsTextOf, IsPrinted, IsGraphOf, projects};
+ghost use Rattle.scrib_report.specs.ReplyTexts.{reply_line};
+ghost use Rattle.scrib_script_io.specs.Writes.{AppendsPart};
+ghost use Rattle.scrib_cli.specs.Projections.{IsAnswer, FaultImplies, IsTextOf, IsPrinted, IsGraphOf, projects};
 ghost use Rattle.scrib_cli.specs.ProjectionSteps.{HasMachine};
 
-use crate::explaining::refusal;
-use crate::fault::ScriptFault;
+use crate::explanation::refusal;
 use crate::form::Form;
-use crate::printing::push_reply;
 use crate::projection::{Projection, projection_of};
-use crate::writing::{flush_out, write_out};
+use scrib_core::format::Format;
 use scrib_core::reply::{Refusal, Reply};
 use scrib_library::fault::EditFault;
-use scrib_projection::text::text;
 use scrib_machine::compile::compile;
 use scrib_machine::graph::graph_text;
-use scrib_script_reader::format::Format;
+use scrib_projection::text::text;
+use scrib_report::printing::push_reply;
+use scrib_script_io::fault::ScriptFault;
+use scrib_script_io::writing::{flush_out, write_out};
+use scrib_types::containers::Items;
 use scrib_types::local::Local;
-use scrib_types::plain::Items;
 use scrib_types::profile::Profile;
 use std::alloc::{AllocError, Global};
 use std::io::Write;
 
-/// Writes what the role does under the profile in the protocol of this full name, in this form, or a refusal line, and
-/// flushes the writer. Returns whether it wrote what the role does.
+/// Writes the projection of the protocol on the role under the profile, in this form, or a refusal line.
+///
+/// `protocol` is a full name, as `demo.Hello`. Flushes the writer. Returns whether it wrote a projection.
 ///
 /// # Errors
-/// Nothing was written by then, or a beginning of what was to be written.
+/// After an error, nothing or a prefix of the output is written.
 /// - `Read` where the protocol has a full name and the first text that is no module can't be read.
 /// - `Write` where the writer fails.
-/// - `OutOfMemory` where memory was refused.
+/// - `OutOfMemory` where memory is refused.
 pub fn answer<W: Write>(
     alloc: Global,
     form: Form,
@@ -46,22 +48,28 @@ pub fn answer<W: Write>(
     texts: &[Option<Items<u8>>],
     writer: &mut W,
 ) -> Result<bool, ScriptFault>
-    ensures ok { IfOk result (λ does_so. (written : List ℕ) × IsAnswer form profile texts.now protocol.now role.now does_so written
+    ensures ok { IfOk result (λ has_projection. (written : List ℕ)
+        × IsAnswer form profile texts.now protocol.now role.now has_projection written
         × Appends (W.contents writer.old) (W.contents writer.new) written) }
     ensures err { OnErr result (Appends (W.contents writer.old) (W.contents writer.new) []
-        ⊎ ((does_so : Bool) × (written : List ℕ) × IsAnswer form profile texts.now protocol.now role.now does_so written
+        ⊎ ((has_projection : Bool) × (written : List ℕ)
+        × IsAnswer form profile texts.now protocol.now role.now has_projection written
         × AppendsPart (W.contents writer.old) (W.contents writer.new) written)) }
-    ensures fault { IfErr result (FaultTells form profile texts.now protocol.now role.now) }
+    ensures fault { IfErr result (FaultImplies form profile texts.now protocol.now role.now) }
 {
     let projection = projection_of(alloc, profile, protocol, role, texts)?;
-    let (does_so, written) = told(alloc, form, projection)?;
+    let (has_projection, written) = projection_output(alloc, form, projection)?;
     write_out(writer, written.as_slice())?;
     flush_out(writer)?;
-    Ok(does_so)
+    Ok(has_projection)
 }
 
-/// Whether the answer is what the role does, and its text.
-fn told(alloc: Global, form: Form, projection: Projection) -> Result<(bool, Vec<u8>), AllocError>
+// Whether the role has a projection, and the text of it or of the refusal.
+fn projection_output(
+    alloc: Global,
+    form: Form,
+    projection: Projection,
+) -> Result<(bool, Vec<u8>), AllocError>
     requires { HasMachine projection }
     ensures { IfOk result (λ r. (r.0 ≡ projects projection) × IsTextOf form projection r.1.items) }
 {
@@ -73,7 +81,7 @@ fn told(alloc: Global, form: Form, projection: Projection) -> Result<(bool, Vec<
     }
 }
 
-/// What a role does, in this form.
+// The text of a local type, in this form.
 fn printed(alloc: Global, form: Form, local: &Local) -> Result<Vec<u8>, AllocError>
     requires { IsCompilable (local_of local.now) }
     ensures { IfOk result (λ text. IsPrinted form local.now text.items) }
@@ -84,7 +92,7 @@ fn printed(alloc: Global, form: Form, local: &Local) -> Result<Vec<u8>, AllocErr
     }
 }
 
-/// The line of a local type.
+// The line of a local type.
 fn local_line(alloc: Global, local: &Local) -> Result<Vec<u8>, AllocError>
     ensures { IfOk result (λ line. line.items ≡ local_text 0 (local_of local.now) ++ 10 ∷ []) }
 {
@@ -93,7 +101,7 @@ fn local_line(alloc: Global, local: &Local) -> Result<Vec<u8>, AllocError>
     Ok(line)
 }
 
-/// The graph of a local type's machine.
+// The graph of a local type's machine.
 fn local_graph(alloc: Global, local: &Local) -> Result<Vec<u8>, AllocError>
     requires { IsCompilable (local_of local.now) }
     ensures { IfOk result (λ text. IsGraphOf (local_of local.now) text.items) }
@@ -102,7 +110,7 @@ fn local_graph(alloc: Global, local: &Local) -> Result<Vec<u8>, AllocError>
     graph_text(alloc, &machine)
 }
 
-/// The refusal line of a fault.
+// The refusal line of a fault.
 fn fault_line(alloc: Global, fault: EditFault) -> Result<Vec<u8>, AllocError>
     ensures { IfOk result (λ line. line.items ≡ reply_line (Refused (Edit fault))) }
 {

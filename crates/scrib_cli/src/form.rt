@@ -1,10 +1,10 @@
-//! The forms in which what a role does is printed.
+//! The forms in which a projection is printed.
 
-/// In which form what a role does is printed.
+/// The form in which a projection is printed.
 #[derive(Clone, Copy)]
 pub enum Form {
-    /// Its local type, in one line.
+    /// The local type, in one line.
     Text,
-    /// Its machine, as a graph in the DOT language.
+    /// The machine, as a graph in the DOT language.
     Graph,
 }

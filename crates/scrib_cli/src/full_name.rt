@@ -8,14 +8,17 @@ ghost use Rattle.scrib_cli.specs.ProjectionSteps.{AreNamesOf};
 use scrib_types::name::{Dotted, Name};
 use std::alloc::{AllocError, Global};
 
-/// The name of a protocol's module and its own.
+/// The full name of a protocol: the name of its module and its own.
 #[derive(Drop)]
 pub struct FullName {
     pub home: Dotted,
     pub protocol: Name,
 }
 
-/// The full name that the word is, as `demo.Hello`. `None` where it isn't two or more names joined by dots.
+/// Parses a full name, as `demo.Hello`. Returns `None` where the word isn't two or more names joined by dots.
+///
+/// # Errors
+/// `AllocError` where memory for the name is refused.
 pub fn full_name_of(alloc: Global, word: &str) -> Result<Option<FullName>, AllocError>
     ensures { IfOk result (Finds (IsFullName word.now)) }
 {
@@ -32,7 +35,7 @@ pub fn full_name_of(alloc: Global, word: &str) -> Result<Option<FullName>, Alloc
     Ok(Some(FullName { home, protocol }))
 }
 
-/// The names that the bytes join by dots, if they do.
+// The names that the bytes join by dots, if they do.
 fn names_of(alloc: Global, bytes: &[u8]) -> Result<Option<Vec<Name>>, AllocError>
     ensures { IfOk result (λ names. AreNamesOf bytes.now (option_map (λ v. v.items) names)) }
 {

@@ -5,8 +5,7 @@ ghost use Rattle.scrib_script_reader.specs.Fields.{Finds, IsNumber};
 // The most digits of an id.
 const MAX_DIGITS: usize = 10;
 
-/// The conversation's id that the word says: 1 to 10 decimal digits, at most 4,294,967,295. `None` where the word is
-/// anything else.
+/// Parses the id of a conversation: 1 to 10 decimal digits, at most 4,294,967,295. Returns `None` for other words.
 pub fn id_of(word: &str) -> Option<u32>
     ensures { Finds (IsNumber word.now) result }
 {
@@ -14,7 +13,7 @@ pub fn id_of(word: &str) -> Option<u32>
     if bytes.is_empty() || bytes.len() > MAX_DIGITS {
         return None;
     }
-    // `parse` would take the plus.
+    // `parse` accepts a plus.
     if bytes[0] == b'+' {
         return None;
     }

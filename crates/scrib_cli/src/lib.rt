@@ -1,23 +1,21 @@
-//! Scripts, and the commands of the program.
+//! Runs scripts over one monitor, and the commands of the program.
 #![tactic(auto)]
 
 mod answer;
-mod carrying;
 pub mod check;
 pub mod commands;
 pub mod explain_script;
-mod explaining;
-pub mod fault;
+mod explanation;
 mod form;
 mod full_name;
 pub mod id;
+mod item_output;
 pub mod machine;
 mod modules;
+pub mod output_mode;
 pub mod printing;
 pub mod project;
 mod projection;
 pub mod reading;
 mod run;
 pub mod run_script;
-pub mod telling;
-pub mod writing;

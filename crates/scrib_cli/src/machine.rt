@@ -1,30 +1,29 @@
-//! The machine of a role of a protocol of some modules.
+//! Writes the machine of a role in a protocol.
 
 ghost use Rattle.std.specs.Prelude.{◌⊎◌, [], ℕ, List, Bool, IfOk, IfErr, OnErr};
 ghost use Rattle.std.specs.Io.KnownBytes.{Appends};
-ghost use Rattle.scrib_cli.specs.Scripts.{AppendsPart};
-ghost use Rattle.scrib_cli.specs.Projections.{IsAnswer, FaultTells};
+ghost use Rattle.scrib_script_io.specs.Writes.{AppendsPart};
+ghost use Rattle.scrib_cli.specs.Projections.{IsAnswer, FaultImplies};
 ghost use Rattle.scrib_cli.specs.declared.form.Form.TheVariants as form;
 
 use crate::answer::answer;
-pub use crate::fault::ScriptFault;
 use crate::form::Form;
-use scrib_types::plain::Items;
+pub use scrib_script_io::fault::ScriptFault;
+use scrib_types::containers::Items;
 use scrib_types::profile::Profile;
 use std::alloc::Global;
 use std::io::Write;
 
-/// Writes the machine of the role under the profile in the protocol of this full name, among the modules that the
-/// texts are, as a graph in the DOT language; or a refusal line, which is the one that `project_text` writes. The
-/// texts are as there.
+/// Writes the machine of the role in the protocol under the profile, as a graph in the DOT language, or a refusal line.
 ///
-/// Returns whether it wrote a machine. At the end the writer is flushed.
+/// The parameters and the refusal line are those of `project_text`. Flushes the writer. Returns whether it wrote a
+/// machine.
 ///
 /// # Errors
-/// Nothing was written by then, or a beginning of what was to be written.
+/// After an error, nothing or a prefix of the output is written.
 /// - `Read` where the protocol has a full name and the first text that is no module can't be read.
 /// - `Write` where the writer fails.
-/// - `OutOfMemory` where memory was refused.
+/// - `OutOfMemory` where memory is refused.
 pub fn machine_text<W: Write>(
     alloc: Global,
     profile: Profile,
@@ -33,12 +32,14 @@ pub fn machine_text<W: Write>(
     texts: &[Option<Items<u8>>],
     writer: &mut W,
 ) -> Result<bool, ScriptFault>
-    ensures ok { IfOk result (λ does_so. (written : List ℕ) × IsAnswer form.Graph profile texts.now protocol.now role.now does_so written
+    ensures ok { IfOk result (λ has_projection. (written : List ℕ)
+        × IsAnswer form.Graph profile texts.now protocol.now role.now has_projection written
         × Appends (W.contents writer.old) (W.contents writer.new) written) }
     ensures err { OnErr result (Appends (W.contents writer.old) (W.contents writer.new) []
-        ⊎ ((does_so : Bool) × (written : List ℕ) × IsAnswer form.Graph profile texts.now protocol.now role.now does_so written
+        ⊎ ((has_projection : Bool) × (written : List ℕ)
+        × IsAnswer form.Graph profile texts.now protocol.now role.now has_projection written
         × AppendsPart (W.contents writer.old) (W.contents writer.new) written)) }
-    ensures fault { IfErr result (FaultTells form.Graph profile texts.now protocol.now role.now) }
+    ensures fault { IfErr result (FaultImplies form.Graph profile texts.now protocol.now role.now) }
 {
     answer(alloc, Form::Graph, profile, protocol, role, texts, writer)
 }

@@ -1,25 +1,26 @@
-//! The modules of some texts.
+//! Parses module texts.
 
 ghost use Rattle.std.specs.Prelude.{IfOk, IfErr};
 ghost use Rattle.scrib_library.specs.Edits.{Reads};
 ghost use Rattle.scrib_cli.specs.ProjectionSteps.{IsUnreadOrRefused, AreAddedOrFail, StopsAmong};
 
-use crate::fault::ScriptFault;
 use scrib_lexer::lex::lex;
 use scrib_library::fault::EditFault;
-use scrib_static_checks::modules::Modules;
+use scrib_parser::interner::Interner;
 use scrib_parser::parse::parse;
-use scrib_parser::recent::Recent;
 use scrib_parser::tree::ModuleTree;
-use scrib_types::plain::Items;
+use scrib_script_io::fault::ScriptFault;
+use scrib_static_checks::modules::Modules;
+use scrib_types::containers::Items;
 use std::alloc::Global;
 
-/// Adds the modules that the texts are, in order. `None` stands for a text that can't be read. Returns why a text is
-/// no module: the first that is none.
+/// Adds the modules of the texts, in order. A text that can't be read is given as `None`.
+///
+/// Stops at the first text that is no module and returns why it is none.
 ///
 /// # Errors
 /// - `Read` where the first text that is no module can't be read.
-/// - `OutOfMemory` where memory was refused.
+/// - `OutOfMemory` where memory is refused.
 pub fn add_texts(
     alloc: Global,
     modules: &mut Modules,
@@ -41,12 +42,12 @@ pub fn add_texts(
     Ok(None)
 }
 
-/// The module that the text is.
+// Parses a module text.
 fn module_of(alloc: Global, text: &[u8]) -> Result<ModuleTree, EditFault>
     ensures ok { IfOk result (Reads text.now) }
     ensures fault { IfErr result (IsUnreadOrRefused text.now) }
 {
     let tokens = lex(alloc, text)?;
-    let tree = parse(alloc, tokens.as_slice(), &mut Recent::new())?;
+    let tree = parse(alloc, tokens.as_slice(), &mut Interner::new())?;
     Ok(tree)
 }

@@ -1,4 +1,4 @@
-//! From module texts to what a role does in a protocol.
+//! Projects a protocol of module texts on a role.
 
 ghost use Rattle.std.specs.Prelude.{◌≡◌, ◌≤◌, ℕ, false, List, IfOk, IfErr, MatchOption};
 ghost use Rattle.scrib_types.specs.WellFormed.{has_role};
@@ -6,45 +6,46 @@ ghost use Rattle.scrib_parser.specs.declared.tree.ModuleTree.{ModuleTree};
 ghost use Rattle.scrib_static_checks.specs.Elaboration.{nodes};
 ghost use Rattle.scrib_elaborate.specs.Meaning.{meaning_of};
 ghost use Rattle.scrib_elaborate.specs.Sites.{AreSites};
-ghost use Rattle.scrib_cli.specs.declared.fault.ScriptFault.TheVariants.{OutOfMemory};
+ghost use Rattle.scrib_script_io.specs.declared.fault.ScriptFault.TheVariants.{OutOfMemory};
 ghost use Rattle.scrib_cli.specs.Projections.{IsProjection};
 ghost use Rattle.scrib_cli.specs.ProjectionSteps.{IsRoleProjection, IsRefusalPlaced, IsDeclared, HasMachine, StopsReading};
 
-use crate::fault::ScriptFault;
 use crate::full_name::full_name_of;
 use crate::modules::add_texts;
 use scrib_elaborate::elaborate::elaborate;
 use scrib_elaborate::elaborated::Elaborated;
 use scrib_library::fault::EditFault;
-use scrib_static_checks::fault::ElaborateFault;
-use scrib_static_checks::modules::Modules;
 use scrib_project::fault::ProjectFault;
 use scrib_project::project::project;
+use scrib_script_io::fault::ScriptFault;
+use scrib_static_checks::fault::ElaborateFault;
+use scrib_static_checks::modules::Modules;
+use scrib_types::containers::Items;
 use scrib_types::local::Local;
 use scrib_types::name::Role;
-use scrib_types::plain::Items;
 use scrib_types::profile::Profile;
 use std::alloc::Global;
 
-/// What a role does in a protocol, or why there is no answer.
+/// The projection of a protocol on a role, or why it has none.
 #[derive(Drop)]
 pub enum Projection {
-    /// The role does this.
+    /// The projection.
     Projects(Local),
     /// The protocol's name isn't two or more names joined by dots.
     NoProtocol,
     /// The protocol declares no such role.
     NoRole,
-    /// A text is no module, the protocol means nothing, or it has no projection on the role.
+    /// A text is no module, the protocol has no meaning, or it has no projection on the role.
     Refused(EditFault),
 }
 
-/// What the role does under the profile in the protocol of this full name, among the modules that the texts are.
-/// `None` stands for a text that can't be read.
+/// Returns the projection of the protocol on the role under the profile, or the first refusal.
+///
+/// `protocol` is a full name, and `texts` are module texts. A text that can't be read is given as `None`.
 ///
 /// # Errors
 /// - `Read` where the protocol has a full name and the first text that is no module can't be read.
-/// - `OutOfMemory` where memory was refused.
+/// - `OutOfMemory` where memory is refused.
 pub fn projection_of(
     alloc: Global,
     profile: Profile,
@@ -70,7 +71,7 @@ pub fn projection_of(
     }
 }
 
-/// What the role does in the protocol under the profile.
+// The projection of the elaborated protocol on the role under the profile.
 fn projection_on(
     alloc: Global,
     profile: Profile,
@@ -95,9 +96,11 @@ fn projection_on(
     }
 }
 
-/// The role of this name.
+// The role of this name, if it is declared.
 fn declared_role<'a>(roles: &'a [Role], name: &[u8]) -> Option<&'a Role>
-    ensures { MatchOption result (has_role name.now roles.now ≡ false) (λ role. IsDeclared roles.now name.now role.now) }
+    ensures { MatchOption result
+        (has_role name.now roles.now ≡ false)
+        (λ role. IsDeclared roles.now name.now role.now) }
 {
     for role in roles {
         if role.as_bytes() == name {

@@ -1,21 +1,21 @@
-//! Reading module texts.
+//! Reads module texts.
 
 ghost use Rattle.std.specs.Prelude.{◌≡◌, ◌<◌, true, IfOk, IfErr, IfSome, length, take};
-ghost use Rattle.scrib_cli.specs.Faults.{of_script};
+ghost use Rattle.scrib_script_io.specs.Faults.{of_script};
 
-use crate::fault::ScriptFault;
-use scrib_script_reader::keeping::{KEPT_TEXT_BYTES, keep};
-pub use scrib_types::plain::Items;
+use scrib_script_io::fault::ScriptFault;
+use scrib_script_reader::kept_bytes::{KEPT_TEXT_BYTES, append_up_to};
+pub use scrib_types::containers::Items;
 use std::alloc::Global;
 use std::io::{ErrorKind, Read};
 
-/// How many bytes are read at once.
+// The number of bytes that one read asks for.
 const PIECE_BYTES: usize = 8192;
 
-/// Reads a module text to its end, and returns its first 1,048,577 bytes: a longer one is refused whatever it holds.
+/// Reads a module text to its end. Returns its first 1,048,577 bytes: a put refuses a text that has so many.
 ///
 /// # Errors
-/// `Read` where the reader fails, and `OutOfMemory` where memory was refused.
+/// `Read` where the reader fails, and `OutOfMemory` where memory is refused.
 pub fn read_text<R: Read>(alloc: Global, reader: &mut R) -> Result<Items<u8>, ScriptFault>
     ensures text { IfOk result (λ text. IfSome (R.remaining reader.old) (λ input. text ≡ take 1_048_577 input)) }
     ensures fault { IfErr result (λ e. of_script e ≡ true) }
@@ -25,7 +25,7 @@ pub fn read_text<R: Read>(alloc: Global, reader: &mut R) -> Result<Items<u8>, Sc
     Ok(Items::from_vec(text))
 }
 
-/// Reads to the end by pieces into this buffer.
+// Reads to the end by pieces, with `piece` as the buffer.
 fn read_by_pieces<R: Read>(
     alloc: Global,
     reader: &mut R,
@@ -49,7 +49,7 @@ fn read_by_pieces<R: Read>(
         if n == 0 {
             return Ok(text);
         }
-        keep(&mut text, &piece[..n], KEPT_TEXT_BYTES)?;
+        append_up_to(&mut text, &piece[..n], KEPT_TEXT_BYTES)?;
     }
     Err(ScriptFault::Read)
 }

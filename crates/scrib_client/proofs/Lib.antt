@@ -1,2 +1,2 @@
-pub mod Keeping
-pub mod Standing
+pub mod PassLemmas
+pub mod IndexLemmas

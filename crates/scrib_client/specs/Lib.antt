@@ -1,3 +1,3 @@
-pub mod Answers
-pub mod Kept
+pub mod ServiceReplies
+pub mod ConnectionPasses
 pub mod Steps

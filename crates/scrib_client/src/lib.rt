@@ -1,7 +1,7 @@
-//! What a connection to a service keeps: its passes, of which it has one for each conversation that it uses, the steps
-//! that it makes by them, and what it is answered.
+//! A connection to a service: its passes, one for each conversation that it uses, the steps that it makes by them, and
+//! the service's replies.
 #![tactic(auto)]
 
-pub mod answer;
 pub mod passes;
+pub mod service_reply;
 pub mod steps;

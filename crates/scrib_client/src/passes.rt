@@ -1,24 +1,24 @@
 //! The passes of a connection.
 
-ghost use Rattle.scrib_client.specs.Kept.{AreOwn};
+ghost use Rattle.scrib_client.specs.ConnectionPasses.{AreOwn};
 
 use indexmap::IndexMap;
 use scrib_core::reply::Refusal;
 use scrib_shards::gate::OpenGate;
 use scrib_shards::pass::Pass;
-use scrib_shards::passing::{PassAnswer, PassRefusal};
+use scrib_shards::pass_calls::{PassRefusal, PassReply};
 use scrib_shards::service::Service;
 use scrib_types::event::Told;
 use scrib_types::shared_event::SharedEvent;
 use std::alloc::{AllocError, Global};
 use std::sync::Wait;
 
-/// The passes of a connection, one for each conversation that it used. Each is kept under its own conversation's id.
+/// The passes of a connection, one for each conversation that it used. Each is stored under its own conversation's id.
 #[derive(Drop)]
 pub struct Passes {
     by_id: IndexMap<u32, Pass>,
-    // Where the pass stands that was used last. Nothing rests on it.
-    near: usize,
+    // The index of the pass that was used last, as a hint.
+    hint: usize,
     pub ghost own: { AreOwn by_id.entries },
 }
 
@@ -28,36 +28,37 @@ impl Passes {
     ghost use Rattle.indexmap.specs.IndexMap.{index_map_len, keys, values};
     ghost use Rattle.scrib_locked_steps.specs.Passes.{PassHeld, IsReceipted, IsAnsweredOn};
     ghost use Rattle.scrib_shards.specs.Called.{IsNotedSome, AreAnsweredSome, IsAskedSome};
-    ghost use Rattle.scrib_client.specs.Kept.{pass_of};
+    ghost use Rattle.scrib_client.specs.ConnectionPasses.{pass_of};
 
-    /// None. Takes no memory.
+    /// Returns no passes. Does not allocate.
     pub fn new(alloc: Global) -> Passes
         ensures none { result.by_id.entries ≡ [] }
     {
         Passes {
             by_id: IndexMap::new(alloc),
-            near: 0,
+            hint: 0,
         }
     }
 
-    /// All of them, in the order in which they were made.
+    /// Returns all passes, in the order in which they were made.
     ///
     /// # Errors
-    /// `AllocError` where memory was refused.
+    /// `AllocError` where memory is refused. The passes are then lost.
     pub fn into_vec(self, alloc: Global) -> Result<Vec<Pass>, AllocError>
         ensures { IfOk result (λ all. all.items ≡ values self.by_id) }
     {
         self.by_id.into_values().collect(alloc)
     }
 
-    /// Notes the event by the pass to the conversation, to which it connects where there is none. The pass holds the
-    /// receipt then.
+    /// Notes the event by the pass of the conversation. Connects first where there is no pass.
+    ///
+    /// The pass then holds the receipt.
     ///
     /// # Errors
-    /// Nothing is noted, and the pass holds the receipts that it held.
+    /// After an error, nothing is noted and the pass has the same receipts.
     /// - `Step` with `NoConversation` where the conversation isn't open, and with `OutOfMemory` where memory for a pass
-    ///   was refused.
-    /// - Else what `Service::note` returns.
+    ///   is refused.
+    /// - Else the errors of `Service::note`.
     #[inline(always)]
     pub fn note(
         &mut self,
@@ -65,13 +66,14 @@ impl Passes {
         service: &Service,
         id: u32,
         event: SharedEvent,
-    ) -> PassAnswer
+    ) -> PassReply
         ensures own { (pass_of self.old.by_id.entries id).conversation ≡ id }
         ensures noted { IfOk result (IsNotedSome (pass_of self.old.by_id.entries id) event) }
-        ensures receipted { IfOk result (λ n. IsReceipted (pass_of self.old.by_id.entries id) event n (pass_of self.new.by_id.entries id)) }
+        ensures receipted { IfOk result (λ n.
+            IsReceipted (pass_of self.old.by_id.entries id) event n (pass_of self.new.by_id.entries id)) }
         ensures kept { OnErr result (pass_of self.new.by_id.entries id ≡ pass_of self.old.by_id.entries id) }
     {
-        let at = match self.place_to(rt, service, id) {
+        let at = match self.find_or_connect(rt, service, id) {
             Ok(at) => at,
             Err(refusal) => return Err(PassRefusal::Step(refusal)),
         };
@@ -81,27 +83,30 @@ impl Passes {
         }
     }
 
-    /// Notes the events one after another by the pass to the conversation, to which it connects where there is none.
-    /// Returns the service's answer to each, in the list that has room for it.
+    /// Notes the events one after another by the pass of the conversation. Connects first where there is no pass.
+    ///
+    /// Returns the service's reply to each, in `room`, which must be empty and have capacity for them.
     ///
     /// # Errors
-    /// The events, where the conversation isn't open and where memory for a pass was refused.
+    /// Returns the events where the conversation isn't open, and where memory for a pass is refused.
     pub fn note_all(
         &mut self,
         rt: &impl Wait,
         service: &Service,
         id: u32,
         events: Vec<SharedEvent>,
-        room: Vec<PassAnswer>,
-    ) -> Result<Vec<PassAnswer>, Vec<SharedEvent>>
+        room: Vec<PassReply>,
+    ) -> Result<Vec<PassReply>, Vec<SharedEvent>>
         requires empty { room.items ≡ [] }
         requires room { vec_len events ≤ vec_capacity room }
         ensures own { (pass_of self.old.by_id.entries id).conversation ≡ id }
-        ensures answered { IfOk result (λ answers. AreAnsweredSome (pass_of self.old.by_id.entries id) events.items answers.items (pass_of self.new.by_id.entries id)) }
+        ensures answered { IfOk result (λ answers.
+            AreAnsweredSome (pass_of self.old.by_id.entries id) events.items answers.items
+            (pass_of self.new.by_id.entries id)) }
         ensures each { IfOk result (λ answers. vec_len answers ≡ vec_len events) }
         ensures back { IfErr result (λ back. back ≡ events) }
     {
-        let Ok(at) = self.place_to(rt, service, id) else {
+        let Ok(at) = self.find_or_connect(rt, service, id) else {
             return Err(events);
         };
         let Some(pass) = self.by_id.get_index_mut(at) else {
@@ -110,20 +115,21 @@ impl Passes {
         Ok(service.note_all(rt, pass, events, room, &OpenGate))
     }
 
-    /// Asks for the verdict on the conversation by the pass to it, to which it connects where there is none. Each
-    /// receipt of the pass is in the log of which the verdict is.
+    /// Asks for the verdict on the conversation by its pass. Connects first where there is no pass.
+    ///
+    /// The verdict is on a log that has each receipt of the pass.
     ///
     /// # Errors
     /// - `Step` with `NoConversation` where the conversation isn't open, and with `OutOfMemory` where memory for a pass
-    ///   was refused.
-    /// - Else what `Service::ask` returns.
+    ///   is refused.
+    /// - Else the errors of `Service::ask`.
     pub fn ask(&mut self, rt: &impl Wait, service: &Service, id: u32) -> Result<Told, PassRefusal>
         ensures own { (pass_of self.old.by_id.entries id).conversation ≡ id }
         ensures asked { IfOk result (IsAskedSome (pass_of self.old.by_id.entries id)) }
         ensures answered { IfOk result (IsAnsweredOn (pass_of self.old.by_id.entries id).receipts) }
         ensures kept { pass_of self.new.by_id.entries id ≡ pass_of self.old.by_id.entries id }
     {
-        let at = match self.place_to(rt, service, id) {
+        let at = match self.find_or_connect(rt, service, id) {
             Ok(at) => at,
             Err(refusal) => return Err(PassRefusal::Step(refusal)),
         };
@@ -133,40 +139,46 @@ impl Passes {
         }
     }
 
-    // The place of the pass to the conversation, to which it connects where there is none. It makes no second one.
+    // The index of the pass of the conversation. Connects where there is no pass, and makes no second one.
     #[inline(always)]
-    fn place_to(&mut self, rt: &impl Wait, service: &Service, id: u32) -> Result<usize, Refusal>
+    fn find_or_connect(
+        &mut self,
+        rt: &impl Wait,
+        service: &Service,
+        id: u32,
+    ) -> Result<usize, Refusal>
         ensures once { IsSome (lookup (nat_eq id) self.old.by_id.entries) → self.new.by_id ≡ self.old.by_id }
         ensures within { IfOk result (λ at. at < index_map_len self.new.by_id) }
         ensures found { IfOk result (λ at. slice_get (keys self.new.by_id) at ≡ Some id) }
         ensures kept { pass_of self.new.by_id.entries id ≡ pass_of self.old.by_id.entries id }
         ensures fault { OnErr result (self.new.by_id.entries ≡ self.old.by_id.entries) }
     {
-        let at = match self.place_near(id) {
+        let at = match self.index_at_hint(id) {
             Some(at) => at,
             None => self.connect(rt, service, id)?,
         };
-        self.near = at;
+        self.hint = at;
         Ok(at)
     }
 
-    // The place of the pass to the conversation, if there is one. It is looked for first where the last one stood.
+    // The index of the pass of the conversation, if there is one. The hint is tried first.
     #[inline(always)]
-    fn place_near(&self, id: u32) -> Option<usize>
+    fn index_at_hint(&self, id: u32) -> Option<usize>
         ensures found { IfSome result (λ at. slice_get (keys self.now.by_id) at ≡ Some id) }
         ensures absent { result ≡ None → lookup (nat_eq id) self.now.by_id.entries ≡ None }
     {
-        match self.by_id.get_index(self.near) {
-            Some((key, _)) if *key == id => Some(self.near),
+        match self.by_id.get_index(self.hint) {
+            Some((key, _)) if *key == id => Some(self.hint),
             _ => self.by_id.get_index_of(&id),
         }
     }
 
-    // Connects to the conversation, to which there is no pass. Gives the place of the pass.
+    // Connects to a conversation that has no pass yet. Returns the index of the new pass.
     fn connect(&mut self, rt: &impl Wait, service: &Service, id: u32) -> Result<usize, Refusal>
         requires absent { lookup (nat_eq id) self.old.by_id.entries ≡ None }
         ensures found { IfOk result (λ at. slice_get (keys self.new.by_id) at ≡ Some id) }
-        ensures kept { IfOk result (λ at. pass_of self.new.by_id.entries id ≡ record { conversation = id; receipts = [] }) }
+        ensures kept { IfOk result (λ at.
+            pass_of self.new.by_id.entries id ≡ record { conversation = id; receipts = [] }) }
         ensures fault { OnErr result (self.new.by_id.entries ≡ self.old.by_id.entries) }
     {
         let pass = service.connect(rt, id)?;

@@ -1,18 +1,19 @@
-//! The steps that a connection makes.
+//! Makes the steps of a connection.
 
 ghost use Rattle.scrib_client.specs.Steps.{IsMadeSome};
 
-use crate::answer::{Answer, asked, edited, judged, noted, profiled, refused};
 use crate::passes::Passes;
+use crate::service_reply::{ServiceReply, asked, edited, judged, noted, profiled, refused};
 use scrib_core::reply::{Edit, Reply};
 use scrib_core::step::Step;
 use scrib_shards::gate::OpenGate;
 use scrib_shards::service::Service;
 use std::sync::Wait;
 
-/// Makes the step over the service: a note and a question by the pass to their conversation, to which it connects where
-/// there is none. Gives what is answered.
-pub fn make_step(rt: &impl Wait, service: &Service, passes: &mut Passes, step: Step) -> Answer
+/// Makes the step over the service, and returns its reply.
+///
+/// A note and a question are made by the pass of their conversation. Connects first where there is no pass.
+pub fn make_step(rt: &impl Wait, service: &Service, passes: &mut Passes, step: Step) -> ServiceReply
     ensures { IsMadeSome passes.old.by_id.entries step result }
 {
     match step {
@@ -20,7 +21,7 @@ pub fn make_step(rt: &impl Wait, service: &Service, passes: &mut Passes, step: S
         Step::Withdraw { name } => edited(Edit::Withdraw, service.withdraw(rt, &name)),
         Step::Profile { profile } => profiled(profile, service.profile(rt, profile)),
         Step::Open { id, name } => match service.open(rt, id, &name) {
-            Ok(()) => Answer::Reply(Reply::Opened { id, name }),
+            Ok(()) => ServiceReply::Reply(Reply::Opened { id, name }),
             Err(refusal) => refused(refusal),
         },
         Step::Note { id, event } => noted(id, passes.note(rt, service, id, event)),

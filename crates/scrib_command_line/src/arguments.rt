@@ -1,4 +1,4 @@
-//! The words that the command line takes.
+//! The commands and options of the command line.
 
 use crate::help;
 use clap::{Arg, ArgAction, Command};
@@ -8,12 +8,12 @@ fn file_arg<'a>(alloc: Global) -> Arg<'a> {
     Arg::new(alloc, "FILE").help("The script; standard input where none is named, or -")
 }
 
-// A word that is required.
+// A required word.
 fn value_arg<'a>(alloc: Global, name: &'a str, help: &'a str) -> Arg<'a> {
     Arg::new(alloc, name).help(help).required(true)
 }
 
-// A word that is required, once or more.
+// A word that is required once or more.
 fn values_arg<'a>(alloc: Global, name: &'a str, help: &'a str) -> Arg<'a> {
     value_arg(alloc, name, help)
         .num_args(1..)
@@ -25,7 +25,7 @@ fn files_arg<'a>(alloc: Global) -> Arg<'a> {
     values_arg(alloc, "FILE", help)
 }
 
-// A word that is given or left out.
+// An option without a value.
 fn flag_arg<'a>(alloc: Global, name: &'a str, help: &'a str) -> Arg<'a> {
     Arg::new(alloc, name)
         .long(name)
@@ -57,12 +57,12 @@ fn progress_arg<'a>(alloc: Global) -> Arg<'a> {
     )
 }
 
-fn count_arg<'a>(alloc: Global, name: &'a str, help: &'a str, usual: &'a str) -> Arg<'a> {
+fn count_arg<'a>(alloc: Global, name: &'a str, help: &'a str, default_count: &'a str) -> Arg<'a> {
     Arg::new(alloc, name)
         .long(name)
         .value_name("N")
         .help(help)
-        .default_value(usual)
+        .default_value(default_count)
 }
 
 fn shards_arg<'a>(alloc: Global) -> Arg<'a> {
@@ -96,7 +96,7 @@ fn check_command<'a>(alloc: Global) -> Result<Command<'a>, AllocError> {
         .arg(files_arg(alloc))
 }
 
-// A command on what a role does in a protocol of some modules.
+// A command on a role of a protocol of some modules.
 fn role_command<'a>(
     alloc: Global,
     name: &'a str,
@@ -138,7 +138,7 @@ fn explain_command<'a>(alloc: Global) -> Result<Command<'a>, AllocError> {
         .arg(file_arg(alloc))
 }
 
-// Each argument is made where it is taken: the time of a proof grows with what is alive at each `?`.
+// Each argument is made where it is used: the time of a proof grows with the values that are alive at each `?`.
 fn run_command<'a>(alloc: Global) -> Result<Command<'a>, AllocError> {
     Command::new(alloc, "run")
         .about(
@@ -153,32 +153,29 @@ fn run_command<'a>(alloc: Global) -> Result<Command<'a>, AllocError> {
         .arg(connections_arg(alloc))
 }
 
-// With one command more, where it could be made.
-fn with_one<'a>(
+// Adds a command, or returns the error of making it.
+fn with_command<'a>(
     line: Command<'a>,
     command: Result<Command<'a>, AllocError>,
 ) -> Result<Command<'a>, AllocError> {
     line.subcommand(command?)
 }
 
-// With the commands that read modules.
-fn with_modules<'a>(alloc: Global, line: Command<'a>) -> Result<Command<'a>, AllocError> {
-    let line = with_one(line, check_command(alloc))?;
-    let line = with_one(line, project_command(alloc))?;
-    with_one(line, machine_command(alloc))
+// Adds the commands that read modules.
+fn with_module_commands<'a>(alloc: Global, line: Command<'a>) -> Result<Command<'a>, AllocError> {
+    let line = with_command(line, check_command(alloc))?;
+    let line = with_command(line, project_command(alloc))?;
+    with_command(line, machine_command(alloc))
 }
 
-// With the commands that read a script.
-fn with_scripts<'a>(alloc: Global, line: Command<'a>) -> Result<Command<'a>, AllocError> {
-    let line = with_one(line, watch_command(alloc))?;
-    let line = with_one(line, explain_command(alloc))?;
-    with_one(line, run_command(alloc))
+// Adds the commands that read a script.
+fn with_script_commands<'a>(alloc: Global, line: Command<'a>) -> Result<Command<'a>, AllocError> {
+    let line = with_command(line, watch_command(alloc))?;
+    let line = with_command(line, explain_command(alloc))?;
+    with_command(line, run_command(alloc))
 }
 
-/// The words that the program takes.
-///
-/// # Errors
-/// `AllocError` where memory was refused.
+// The command line of the program. Fails where memory is refused.
 pub(crate) fn command<'a>(alloc: Global) -> Result<Command<'a>, AllocError> {
     let line = Command::new(alloc, "scribmon")
         .version("0.1.0")
@@ -186,6 +183,6 @@ pub(crate) fn command<'a>(alloc: Global) -> Result<Command<'a>, AllocError> {
         .after_help(help::PROGRAM)
         .subcommand_required(true)
         .arg_required_else_help(true);
-    let line = with_modules(alloc, line)?;
-    with_scripts(alloc, line)
+    let line = with_module_commands(alloc, line)?;
+    with_script_commands(alloc, line)
 }

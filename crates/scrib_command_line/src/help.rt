@@ -1,6 +1,6 @@
-//! What `--help` prints behind the words of a command.
+//! The text that `--help` prints after the options of a command.
 
-/// Behind the list of commands.
+// After the list of commands.
 pub(crate) const PROGRAM: &str = "\
 `scribmon COMMAND --help` shows the lines that a command reads and an example.
 A FILE may be - for standard input.
@@ -12,7 +12,7 @@ Exit status:
      failed; memory ran out (a line on standard error names the cause)
   2  the command line was refused\n";
 
-/// Behind the words of `check`.
+// After the options of `check`.
 pub(crate) const CHECK: &str = "\
 Prints for each file what the put changed or why it was refused:
   put demo: +demo.Hello
@@ -28,7 +28,7 @@ Exit status:
   1  one was refused; a file could not be read; memory ran out
   2  the command line was refused\n";
 
-/// Behind the words of `project`.
+// After the options of `project`.
 pub(crate) const PROJECT: &str = "\
 Prints one line, the local type of the role:
   A!m(T)       sends m(T) to A, and then what follows the dot
@@ -46,7 +46,7 @@ Exit status:
   1  a refusal was printed; a file could not be read; memory ran out
   2  the command line was refused\n";
 
-/// Behind the words of `machine`.
+// After the options of `machine`.
 pub(crate) const MACHINE: &str = "\
 Prints a graph: states by numbers, an arrow into the start, double circles for
 ends, and on each edge the action that leads to the next state.
@@ -60,7 +60,7 @@ Exit status:
   1  a refusal was printed; a file could not be read; memory ran out
   2  the command line was refused\n";
 
-/// Behind the words of `watch`.
+// After the options of `watch`.
 pub(crate) const WATCH: &str = "\
 Lines of a script:
   put                      puts the module text of the lines that follow, up to
@@ -85,7 +85,7 @@ Exit status:
   1  a read or write failed; memory ran out
   2  the command line was refused\n";
 
-/// Behind the words of `explain`.
+// After the options of `explain`.
 pub(crate) const EXPLAIN: &str = "\
 Prints a line for each message in flight, by sender and then receiver in the
 order in which the roles are declared, the oldest first:
@@ -101,7 +101,7 @@ Exit status:
   1  a refusal was printed; a read or write failed; memory ran out
   2  the command line was refused\n";
 
-/// Behind the words of `run`.
+// After the options of `run`.
 pub(crate) const RUN: &str = "\
 SETUP puts the modules and opens the conversations; the CONNECTION scripts then
 report their events. The lines of a script are those of `scribmon watch --help`.

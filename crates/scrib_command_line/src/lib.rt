@@ -1,9 +1,10 @@
-//! The command line of the program: its words, its help, and what they ask for.
+//! The command line of the program: its commands and options, its help, and how they are run.
 #![tactic(auto)]
 
 mod arguments;
-mod carrying_out;
-mod endings;
 mod help;
+mod outcomes;
 mod request;
 pub mod run_command_line;
+mod run_files;
+mod subcommands;

@@ -1,12 +1,12 @@
-//! What the words of a command line say.
+//! Reads the options of a command line.
 
 use clap::ArgMatches;
 use scrib_cli::id::id_of;
+use scrib_core::format::Format;
 use scrib_run_service::shape::{Shape, ShapeFault};
-use scrib_script_reader::format::Format;
 use scrib_types::profile::Profile;
 
-/// The format of what a script doesn't ask for by itself.
+// The format of the output: JSON with `--json`, else lines of text.
 pub(crate) fn format_of(matches: &ArgMatches) -> Format {
     if matches.get_flag("json") {
         Format::Json
@@ -15,7 +15,7 @@ pub(crate) fn format_of(matches: &ArgMatches) -> Format {
     }
 }
 
-/// The profile by which protocols are accepted.
+// The profile under which protocols are accepted: `Reception` with `--reception`, else `Plain`.
 pub(crate) fn profile_of(matches: &ArgMatches) -> Profile {
     if matches.get_flag("reception") {
         Profile::Reception
@@ -24,10 +24,7 @@ pub(crate) fn profile_of(matches: &ArgMatches) -> Profile {
     }
 }
 
-/// The shape of the service that `run` is to have.
-///
-/// # Errors
-/// The message for the user where a number is none that it may be.
+// The numbers of shards and of workers for `run`. Fails with the message for the user where one is out of range.
 pub(crate) fn shape_of(matches: &ArgMatches) -> Result<Shape, &'static str> {
     let shards = matches.get_str("shards").and_then(id_of);
     let workers = matches.get_str("workers").and_then(id_of);

@@ -1,8 +1,8 @@
-//! Running a command line.
+//! Runs a command line.
 
 use crate::arguments::command;
-use crate::carrying_out::{carry_out, explain_by_id, run_over_service};
-use crate::endings::{REFUSED_STATUS, print_answer, print_ending, print_usage};
+use crate::outcomes::{REFUSED_STATUS, flush_and_print_fault, print_fault, print_usage};
+use crate::subcommands::{explain_by_id, run_over_service, run_simple_command};
 use clap::ArgMatches;
 use scrib_cli::commands::fault::CommandFault;
 use scrib_cli::commands::status::fault_text;
@@ -13,8 +13,7 @@ use std::rt::Files;
 use std::sync::Wait;
 use std::thread::Threads;
 
-/// The streams of a process: standard input, the writer of what a command prints, and where help, refused command lines
-/// and faults are printed.
+/// The streams of a process: standard input, the writer of the output, and the printer of help and of faults.
 #[derive(Drop)]
 pub struct Streams<'a, I, W, E> {
     pub input: &'a I,
@@ -22,9 +21,10 @@ pub struct Streams<'a, I, W, E> {
     pub messages: &'a E,
 }
 
-/// Does what these words ask for, of which the first is the program's name, and returns the exit status: that of
-/// `status_of`, 2 where the command line is refused, and 0 where it asks for help or the version. A fault is printed to
-/// standard error as its fixed line, and behind it a line with the file and the cause.
+/// Runs the command line of these words, and returns the exit status. The first word is the program's name.
+///
+/// The status is that of `status_of`, 2 where the command line is refused, and 0 where it asks for help or the version.
+/// A fault is printed to standard error as its fixed line, followed by a line with the file and the cause.
 pub fn run_command_line<
     R: Files + Threads + Wait + AllocGlobal + Sync,
     I: Input + Sync,
@@ -36,16 +36,16 @@ where
     I::Reader: Send,
 {
     let Ok(line) = command(system.alloc()) else {
-        return print_ending(streams, &Err(CommandFault::OutOfMemory));
+        return print_fault(streams, &Err(CommandFault::OutOfMemory));
     };
     match line.try_get_matches_from(words) {
-        Ok(matches) => obey(system, streams, &matches),
+        Ok(matches) => dispatch(system, streams, &matches),
         Err(error) => print_usage(streams, &error),
     }
 }
 
-// Does what the words ask for, and returns the exit status.
-fn obey<
+// Runs the command, and returns the exit status.
+fn dispatch<
     R: Files + Threads + Wait + AllocGlobal + Sync,
     I: Input + Sync,
     W: Write,
@@ -59,15 +59,16 @@ where
         Some(("explain", matches)) => explain_by_id(system, streams, matches),
         Some(("run", matches)) => run_over_service(system, streams, matches),
         Some((name, matches)) => {
-            let answer = carry_out(system, streams, name, matches);
-            print_answer(streams, &answer)
+            let outcome = run_simple_command(system, streams, name, matches);
+            flush_and_print_fault(streams, &outcome)
         }
         None => REFUSED_STATUS,
     }
 }
 
-/// Prints why the words of the command line or the output could not be prepared, and returns the exit status: 1 for want
-/// of memory, and 2 for a word that is no text.
+/// Prints why the command line or the output could not be prepared, and returns the exit status.
+///
+/// The status is 1 where memory is refused, and 2 where a word is not UTF-8.
 pub fn print_start_fault<E: Eprint>(messages: &E, kind: io::ErrorKind) -> u8 {
     if kind == io::ErrorKind::OutOfMemory {
         let _ = messages.eprintln(fault_text(&CommandFault::OutOfMemory));

@@ -1,3 +1,3 @@
-mod Laid
+mod PermittedLine
 mod Members
 mod Totals

@@ -1,4 +1,4 @@
--- The last line of a table, piece by piece, as text and as JSON.
+-- The last line of a table, appended piece by piece, as text and as JSON.
 use Rattle.std.proofs.Common.{◌≡◌, ℕ, List, ◌++◌, append_assoc, codes}
 use Rattle.std.specs.Fmt.{decimal}
 use Rattle.scrib_report.specs.Table.{total_text}

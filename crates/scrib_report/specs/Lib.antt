@@ -2,3 +2,4 @@ pub mod Json
 pub mod Lines
 pub mod Table
 pub mod Services
+pub mod ReplyTexts

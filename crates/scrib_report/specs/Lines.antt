@@ -1,5 +1,5 @@
--- The printed text of replies: verdicts, changes, refusals, and the line of a reply, without its end; and that of a
--- message in flight (this project's own).
+-- The printed text of replies, without a line's end: verdicts, changes and refusals. Also that of a message in flight
+-- (this project's own).
 use Rattle.std.specs.Prelude.{ℕ, List, [], ◌∷◌, ◌++◌, codes}
 use Rattle.std.specs.Fmt.{decimal}
 use Rattle.scrib_types.specs.declared.event.Verdict.{Verdict}
@@ -30,37 +30,39 @@ use Rattle.scrib_core.specs.declared.reply.Refusal.TheVariants as refusal
 use Rattle.scrib_core.specs.declared.reply.Reply.{Reply}
 use Rattle.scrib_core.specs.declared.reply.Reply.TheVariants as reply
 
--- ` 3:14`, the line and the column
+-- a place in a module text, as ` 3:14`: the line and the column
 unfoldable pub spot_text : Spot → List ℕ
 spot_text s = codes " " ++ decimal s.line ++ codes ":" ++ decimal s.column
 
--- `offence at 3 by A`
+-- an offence's place in the log and its role, as `offence at 3 by A`
 unfoldable pub offence_text : ℕ → List ℕ → List ℕ
 offence_text place role = codes "offence at " ++ decimal place ++ codes " by " ++ role
 
--- `permitted`, `withdrawn`, or `offence at 3 by A, allowed: B!hello(), B!x()`
+-- a verdict: `permitted`, `withdrawn`, or `offence at 3 by A, allowed: B!hello(), B!x()`
 unfoldable pub verdict_text : Verdict → List ℕ
 verdict_text Permitted = codes "permitted"
 verdict_text Withdrawn = codes "withdrawn"
 verdict_text (Offence place role allowed) = offence_text place role ++ codes ", allowed: " ++ allowed_text allowed
 
+-- `stale`, or the verdict
 unfoldable pub told_text : Told → List ℕ
 told_text Stale = codes "stale"
 told_text (Judged v) = verdict_text v
 
--- what is told in one word: `permitted`, `offence`, `withdrawn` or `stale`
-abbrev pub told_word : Told → List ℕ
-told_word Stale = codes "stale"
-told_word (Judged Permitted) = codes "permitted"
-told_word (Judged Withdrawn) = codes "withdrawn"
-told_word (Judged (Offence place role allowed)) = codes "offence"
+-- the verdict in one word: `permitted`, `offence`, `withdrawn` or `stale`
+abbrev pub verdict_word : Told → List ℕ
+verdict_word Stale = codes "stale"
+verdict_word (Judged Permitted) = codes "permitted"
+verdict_word (Judged Withdrawn) = codes "withdrawn"
+verdict_word (Judged (Offence place role allowed)) = codes "offence"
 
+-- `+` for added, `-` for withdrawn, `~` for replaced
 abbrev pub sign_of : ChangeKind → List ℕ
 sign_of change.Added = codes "+"
 sign_of change.Withdrawn = codes "-"
 sign_of change.Replaced = codes "~"
 
--- `+demo.A`: added, `-demo.B`: withdrawn, `~demo.C`: replaced
+-- a change: its sign and the protocol's full name, as `+demo.A`
 abbrev pub change_text : Change → List ℕ
 change_text c = sign_of c.kind ++ dotted_text c.name
 
@@ -69,10 +71,12 @@ abbrev pub change_texts : List Change → List ℕ
 change_texts [] = []
 change_texts (c ∷ cs) = codes " " ++ change_text c ++ change_texts cs
 
+-- the changes of an edit, or ` no change`
 abbrev pub changes_text : List Change → List ℕ
 changes_text [] = codes " no change"
 changes_text (c ∷ cs) = change_texts (c ∷ cs)
 
+-- a fault of lexing: its name, and where it has one its place
 unfoldable pub lex_fault_text : LexFault → List ℕ
 lex_fault_text lex.TextTooLong = codes "TextTooLong"
 lex_fault_text (lex.BadByte at) = codes "BadByte" ++ spot_text at
@@ -81,6 +85,7 @@ lex_fault_text (lex.OpenString at) = codes "OpenString" ++ spot_text at
 lex_fault_text (lex.LongName at) = codes "LongName" ++ spot_text at
 lex_fault_text lex.OutOfMemory = codes "OutOfMemory"
 
+-- a fault of parsing: its name, and where it has one its place
 unfoldable pub parse_fault_text : ParseFault → List ℕ
 parse_fault_text (parse.Unexpected at) = codes "Unexpected" ++ spot_text at
 parse_fault_text parse.EndOfText = codes "EndOfText"
@@ -88,6 +93,7 @@ parse_fault_text (parse.LeftOut word at) = codes "LeftOut " ++ spelling word ++ 
 parse_fault_text (parse.TooDeep at) = codes "TooDeep" ++ spot_text at
 parse_fault_text parse.OutOfMemory = codes "OutOfMemory"
 
+-- the name of a kind of fault of elaboration
 abbrev pub kind_text : FaultKind → List ℕ
 kind_text kind.NoModule = codes "NoModule"
 kind_text kind.NoProtocol = codes "NoProtocol"
@@ -109,14 +115,15 @@ kind_text kind.SameOperator = codes "SameOperator"
 kind_text kind.TooManyRoles = codes "TooManyRoles"
 kind_text kind.TooLarge = codes "TooLarge"
 
--- `NoRole demo 3:14`, with the module and the place
+-- a fault of elaboration, as `NoRole demo 3:14`: its kind, the module and the place
 unfoldable pub fault_text : Fault → List ℕ
 fault_text f = kind_text f.kind ++ codes " " ++ dotted_text f.module ++ spot_text f.spot
 
--- `Unmergeable C demo 3:14`, with the role, the module and the place
+-- a missing projection, as `Unmergeable C demo 3:14`: the role, the module and the place
 unfoldable pub unmergeable_text : Unmergeable → List ℕ
 unmergeable_text u = codes "Unmergeable " ++ u.role ++ codes " " ++ dotted_text u.module ++ spot_text u.spot
 
+-- why an edit was refused
 unfoldable pub edit_fault_text : EditFault → List ℕ
 edit_fault_text (edit.Lex f) = lex_fault_text f
 edit_fault_text (edit.Parse f) = parse_fault_text f
@@ -131,6 +138,7 @@ edit_fault_text edit.VersionsFull = codes "VersionsFull"
 edit_fault_text (edit.NeedsReception name) = codes "NeedsReception " ++ dotted_text name
 edit_fault_text edit.OutOfMemory = codes "OutOfMemory"
 
+-- why a step was refused
 unfoldable pub refusal_text : Refusal → List ℕ
 refusal_text refusal.AlreadyOpen = codes "AlreadyOpen"
 refusal_text refusal.UnknownProtocol = codes "UnknownProtocol"
@@ -140,20 +148,22 @@ refusal_text (refusal.Edit f) = edit_fault_text f
 refusal_text refusal.LogFull = codes "LogFull"
 refusal_text refusal.OutOfMemory = codes "OutOfMemory"
 
+-- `put` or `withdraw`
 abbrev pub edit_word : Edit → List ℕ
 edit_word which.Put = codes "put"
 edit_word which.Withdraw = codes "withdraw"
 
--- `put demo: +demo.Hello`, `profile plain`, `open 1: demo.Hello`, `1.3 permitted`, `1 permitted`,
--- `refused NoConversation`
+-- the line of a reply: `put demo: +demo.Hello`, `profile plain`, `open 1: demo.Hello`, `1.3 permitted`, `1 permitted`
+-- or `refused NoConversation`
 unfoldable pub line_of : Reply → List ℕ
-line_of (reply.Edited e changes) = edit_word e ++ codes " " ++ dotted_text changes.module ++ codes ":" ++ changes_text changes.list
+line_of (reply.Edited e changes) =
+    edit_word e ++ codes " " ++ dotted_text changes.module ++ codes ":" ++ changes_text changes.list
 line_of (reply.Profiled p) = codes "profile " ++ profile_word p
 line_of (reply.Opened id name) = codes "open " ++ decimal id ++ codes ": " ++ dotted_text name
-line_of (reply.Noted id place told) = decimal id ++ codes "." ++ decimal place ++ codes " " ++ told_text told
-line_of (reply.Judged id name events told) = decimal id ++ codes " " ++ told_text told
+line_of (reply.Noted id place verdict) = decimal id ++ codes "." ++ decimal place ++ codes " " ++ told_text verdict
+line_of (reply.Judged id name events verdict) = decimal id ++ codes " " ++ told_text verdict
 line_of (reply.Refused f) = codes "refused " ++ refusal_text f
 
--- `A B hello()`: the sender, the receiver and the message
+-- a message in flight, as `A B hello()`: the sender, the receiver and the message
 unfoldable pub flight_text : Flight → List ℕ
 flight_text f = f.from ++ codes " " ++ f.to ++ codes " " ++ message_text f.message

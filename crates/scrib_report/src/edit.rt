@@ -1,4 +1,4 @@
-//! The text of edits and of what they change.
+//! The text of edits and of their changes.
 
 ghost use Rattle.std.specs.Prelude.{◌≡◌, ◌++◌, OnOk};
 ghost use Rattle.scrib_report.specs.Lines as lines;
@@ -8,7 +8,7 @@ use scrib_library::changes::{Change, ChangeKind};
 use scrib_types::text::{push_bytes, push_dotted};
 use std::alloc::AllocError;
 
-/// The edit's word: `put` or `withdraw`.
+// The edit's word: `put` or `withdraw`.
 pub(crate) fn edit_word(edit: Edit) -> &'static str
     ensures { result.now ≡ lines.edit_word edit }
 {
@@ -28,7 +28,7 @@ fn sign(kind: ChangeKind) -> &'static str
     }
 }
 
-/// Adds the change, as `+demo.A`.
+// Appends the change, as `+demo.A`.
 pub(crate) fn push_change(out: &mut Vec<u8>, change: &Change) -> Result<(), AllocError>
     ensures { OnOk result (out.new.items ≡ out.old.items ++ lines.change_text change.now) }
 {

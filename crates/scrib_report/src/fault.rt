@@ -8,9 +8,9 @@ ghost use Rattle.scrib_report.specs.Lines as lines;
 use scrib_core::reply::Refusal;
 use scrib_lexer::fault::LexFault;
 use scrib_library::fault::EditFault;
-use scrib_static_checks::fault::{Fault, FaultKind};
 use scrib_parser::fault::{LeftOutWord, ParseFault};
 use scrib_project::fault::Unmergeable;
+use scrib_static_checks::fault::{Fault, FaultKind};
 use scrib_types::name::Dotted;
 use scrib_types::spot::Spot;
 use scrib_types::text::{push_bytes, push_dotted, push_number};
@@ -26,8 +26,8 @@ fn push_spot(out: &mut Vec<u8>, spot: &Spot) -> Result<(), AllocError>
     push_number(out, u64::from(spot.column))
 }
 
-// Adds the word and the place.
-fn push_placed(out: &mut Vec<u8>, word: &[u8], spot: &Spot) -> Result<(), AllocError>
+// Appends the word and the place.
+fn push_with_spot(out: &mut Vec<u8>, word: &[u8], spot: &Spot) -> Result<(), AllocError>
     ensures { OnOk result (out.new.items ≡ out.old.items ++ (word.now ++ lines.spot_text spot.now)) }
 {
     push_bytes(out, word)?;
@@ -40,19 +40,20 @@ fn push_lex_fault(out: &mut Vec<u8>, fault: &LexFault) -> Result<(), AllocError>
 {
     match fault {
         LexFault::TextTooLong => push_bytes(out, b"TextTooLong"),
-        LexFault::BadByte { at } => push_placed(out, b"BadByte", at),
-        LexFault::OpenComment { at } => push_placed(out, b"OpenComment", at),
-        LexFault::OpenString { at } => push_placed(out, b"OpenString", at),
-        LexFault::LongName { at } => push_placed(out, b"LongName", at),
+        LexFault::BadByte { at } => push_with_spot(out, b"BadByte", at),
+        LexFault::OpenComment { at } => push_with_spot(out, b"OpenComment", at),
+        LexFault::OpenString { at } => push_with_spot(out, b"OpenString", at),
+        LexFault::LongName { at } => push_with_spot(out, b"LongName", at),
         LexFault::OutOfMemory => push_bytes(out, b"OutOfMemory"),
     }
 }
 
 fn push_left_out(out: &mut Vec<u8>, word: LeftOutWord, spot: &Spot) -> Result<(), AllocError>
-    ensures { OnOk result (out.new.items ≡ out.old.items ++ (codes "LeftOut " ++ spelling word ++ lines.spot_text spot.now)) }
+    ensures { OnOk result (out.new.items
+        ≡ out.old.items ++ (codes "LeftOut " ++ spelling word ++ lines.spot_text spot.now)) }
 {
     push_bytes(out, b"LeftOut ")?;
-    push_placed(out, word.text().as_bytes(), spot)
+    push_with_spot(out, word.text().as_bytes(), spot)
 }
 
 #[tactic(auto, unfolding(crate::specs::Lines::parse_fault_text))]
@@ -60,10 +61,10 @@ fn push_parse_fault(out: &mut Vec<u8>, fault: &ParseFault) -> Result<(), AllocEr
     ensures { OnOk result (out.new.items ≡ out.old.items ++ lines.parse_fault_text fault.now) }
 {
     match fault {
-        ParseFault::Unexpected { at } => push_placed(out, b"Unexpected", at),
+        ParseFault::Unexpected { at } => push_with_spot(out, b"Unexpected", at),
         ParseFault::EndOfText => push_bytes(out, b"EndOfText"),
         ParseFault::LeftOut { word, at } => push_left_out(out, *word, at),
-        ParseFault::TooDeep { at } => push_placed(out, b"TooDeep", at),
+        ParseFault::TooDeep { at } => push_with_spot(out, b"TooDeep", at),
         ParseFault::OutOfMemory => push_bytes(out, b"OutOfMemory"),
     }
 }
@@ -115,7 +116,7 @@ fn push_unmergeable(out: &mut Vec<u8>, fault: &Unmergeable) -> Result<(), AllocE
     push_spot(out, &fault.spot)
 }
 
-fn push_named(out: &mut Vec<u8>, word: &[u8], name: &Dotted) -> Result<(), AllocError>
+fn push_with_name(out: &mut Vec<u8>, word: &[u8], name: &Dotted) -> Result<(), AllocError>
     ensures { OnOk result (out.new.items ≡ out.old.items ++ (word.now ++ dotted_text name.now)) }
 {
     push_bytes(out, word)?;
@@ -131,18 +132,18 @@ fn push_edit_fault(out: &mut Vec<u8>, fault: &EditFault) -> Result<(), AllocErro
         EditFault::Parse(fault) => push_parse_fault(out, fault),
         EditFault::UnknownModule => push_bytes(out, b"UnknownModule"),
         EditFault::TooManyModules => push_bytes(out, b"TooManyModules"),
-        EditFault::StillImported { by } => push_named(out, b"StillImported ", by),
-        EditFault::ImportMissing { module } => push_named(out, b"ImportMissing ", module),
+        EditFault::StillImported { by } => push_with_name(out, b"StillImported ", by),
+        EditFault::ImportMissing { module } => push_with_name(out, b"ImportMissing ", module),
         EditFault::TooManyProtocols => push_bytes(out, b"TooManyProtocols"),
         EditFault::Elaborate(fault) => push_fault(out, fault),
         EditFault::Project(fault) => push_unmergeable(out, fault),
         EditFault::VersionsFull => push_bytes(out, b"VersionsFull"),
-        EditFault::NeedsReception { name } => push_named(out, b"NeedsReception ", name),
+        EditFault::NeedsReception { name } => push_with_name(out, b"NeedsReception ", name),
         EditFault::OutOfMemory => push_bytes(out, b"OutOfMemory"),
     }
 }
 
-/// Adds why a step was refused.
+// Appends why a step was refused.
 #[tactic(auto, unfolding(crate::specs::Lines::refusal_text))]
 pub(crate) fn push_refusal(out: &mut Vec<u8>, refusal: &Refusal) -> Result<(), AllocError>
     ensures { OnOk result (out.new.items ≡ out.old.items ++ lines.refusal_text refusal.now) }

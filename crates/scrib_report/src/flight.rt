@@ -7,10 +7,10 @@ use scrib_global::explain::Flight;
 use scrib_types::text::{push_bytes, push_message};
 use std::alloc::AllocError;
 
-/// Adds the message in flight, as `A B hello()`: its sender, its receiver and the message.
+/// Appends the message in flight, as `A B hello()`: its sender, its receiver and the message.
 ///
 /// # Errors
-/// `AllocError` where memory for the longer text was refused.
+/// `AllocError` where memory for the longer text is refused.
 #[tactic(auto, unfolding(crate::specs::Lines::flight_text))]
 pub fn push_flight(out: &mut Vec<u8>, flight: &Flight) -> Result<(), AllocError>
     ensures { OnOk result (out.new.items ≡ out.old.items ++ lines.flight_text flight.now) }

@@ -1,4 +1,4 @@
-//! The JSON of replies, and of what a service alone answers.
+//! The JSON of replies, among them those that only a service returns.
 
 ghost use Rattle.std.specs.Prelude.{◌≡◌, IfOk};
 ghost use Rattle.serde_json.specs.Data.{string};
@@ -10,18 +10,18 @@ ghost use Rattle.scrib_report.specs.Json as objects;
 
 use crate::edit::{edit_word, push_change};
 use crate::fault::push_refusal;
-use crate::verdict::told_word;
+use crate::verdict::verdict_word;
+use scrib_core::ended::Ended;
 use scrib_core::reply::{Edit, Refusal, Reply};
 use scrib_library::changes::{Change, Changes};
-use scrib_settlement::ended::Ended;
 use scrib_types::event::{Action, Told, Verdict};
 use scrib_types::name::{Dotted, Role};
 use scrib_types::text::{push_action, push_dotted};
 use serde_json::{Map, Value, json, put};
 use std::alloc::{AllocError, Global};
 
-// A text as JSON. Names are ASCII, and so is each text here; since no contract of a name says so, it is
-// tested that the text is UTF-8.
+// A text as a JSON string. Each text here is ASCII, since names are. No contract of a name has that fact, so the text
+// is checked to be UTF-8.
 fn text_value(text: Vec<u8>) -> Result<Value, AllocError>
     ensures { IfOk result (λ value. view value ≡ string text.items) }
 {
@@ -89,10 +89,10 @@ fn actions_value(alloc: Global, actions: &[Action]) -> Result<Value, AllocError>
     Ok(Value::Array(values))
 }
 
-// The members that say what is told.
-fn told_members(alloc: Global, told: &Told) -> Result<Map<String, Value>, AllocError>
+// The members of a verdict, and of an offence its place, its role and the allowed actions.
+fn verdict_members(alloc: Global, verdict: &Told) -> Result<Map<String, Value>, AllocError>
     ensures { IfOk result (λ members. members_view members.entries
-        ≡ objects.offence_then told.now (objects.verdict_member told.now)) }
+        ≡ objects.offence_then verdict.now (objects.verdict_member verdict.now)) }
 {
     let mut members = Map::new(alloc);
     if let Told::Judged(
@@ -101,23 +101,23 @@ fn told_members(alloc: Global, told: &Told) -> Result<Map<String, Value>, AllocE
             role,
             allowed,
         },
-    ) = told
+    ) = verdict
     {
         let allowed = actions_value(alloc, allowed.as_slice())?;
         put(&mut members, alloc, "allowed", allowed)?;
         put(&mut members, alloc, "at", Value::from(*place))?;
         put(&mut members, alloc, "by", role_value(alloc, role)?)?;
     }
-    let word = Value::try_from_str(alloc, told_word(told))?;
+    let word = Value::try_from_str(alloc, verdict_word(verdict))?;
     put(&mut members, alloc, "verdict", word)?;
     Ok(members)
 }
 
 #[tactic(auto, using(crate::proofs::Members::noted_in_order))]
-fn noted_value(alloc: Global, id: u32, place: usize, told: &Told) -> Result<Value, AllocError>
-    ensures { IfOk result (λ value. view value ≡ objects.noted_object id place told.now) }
+fn noted_value(alloc: Global, id: u32, place: usize, verdict: &Told) -> Result<Value, AllocError>
+    ensures { IfOk result (λ value. view value ≡ objects.noted_object id place verdict.now) }
 {
-    let mut members = told_members(alloc, told)?;
+    let mut members = verdict_members(alloc, verdict)?;
     put(&mut members, alloc, "conversation", Value::from(id))?;
     put(&mut members, alloc, "place", Value::from(place))?;
     Ok(Value::Object(members))
@@ -129,22 +129,22 @@ fn judged_value(
     id: u32,
     name: &Dotted,
     events: usize,
-    told: &Told,
+    verdict: &Told,
 ) -> Result<Value, AllocError>
-    ensures { IfOk result (λ value. view value ≡ objects.judged_object id name.now events told.now) }
+    ensures { IfOk result (λ value. view value ≡ objects.judged_object id name.now events verdict.now) }
 {
-    let mut members = told_members(alloc, told)?;
+    let mut members = verdict_members(alloc, verdict)?;
     put(&mut members, alloc, "conversation", Value::from(id))?;
     put(&mut members, alloc, "events", Value::from(events))?;
     put(&mut members, alloc, "protocol", dotted_value(alloc, name)?)?;
     Ok(Value::Object(members))
 }
 
-#[tactic(auto, using(crate::proofs::Members::told_in_order))]
-fn told_value(alloc: Global, id: u32, told: &Told) -> Result<Value, AllocError>
-    ensures { IfOk result (λ value. view value ≡ objects.told_object id told.now) }
+#[tactic(auto, using(crate::proofs::Members::verdict_in_order))]
+fn verdict_value(alloc: Global, id: u32, verdict: &Told) -> Result<Value, AllocError>
+    ensures { IfOk result (λ value. view value ≡ objects.verdict_object id verdict.now) }
 {
-    let mut members = told_members(alloc, told)?;
+    let mut members = verdict_members(alloc, verdict)?;
     put(&mut members, alloc, "conversation", Value::from(id))?;
     Ok(Value::Object(members))
 }
@@ -200,11 +200,11 @@ fn reply_value(alloc: Global, reply: &Reply) -> Result<Value, AllocError>
     }
 }
 
-/// The reply as one compact JSON object, its keys in the order of their bytes, in ASCII bytes, without a line
-/// feed.
+/// Returns the reply as one compact JSON object in ASCII bytes, without a line feed. The keys are in the order of
+/// their bytes.
 ///
 /// # Errors
-/// `AllocError` where memory for the text was refused.
+/// `AllocError` where memory for the text is refused.
 #[tactic(auto, using(crate::proofs::Members::json_has_no_float))]
 pub fn json(alloc: Global, reply: &Reply) -> Result<Vec<u8>, AllocError>
     ensures { IfOk result (λ text. text.items ≡ objects.json_text reply.now) }
@@ -212,23 +212,23 @@ pub fn json(alloc: Global, reply: &Reply) -> Result<Vec<u8>, AllocError>
     reply_value(alloc, reply)?.to_vec(alloc)
 }
 
-/// What is told of the conversation of this id after a turn or a question to a service, as `json` gives a reply:
+/// Returns a service's reply to a turn or a question about the conversation `id`, in the form of [`json`]:
 /// `{"conversation":3,"verdict":"permitted"}`.
 ///
 /// # Errors
-/// `AllocError` where memory for the text was refused.
-#[tactic(auto, using(crate::proofs::Members::told_object_has_no_float))]
-pub fn told_json(alloc: Global, id: u32, told: &Told) -> Result<Vec<u8>, AllocError>
-    ensures { IfOk result (λ text. text.items ≡ objects.told_json id told.now) }
+/// `AllocError` where memory for the text is refused.
+#[tactic(auto, using(crate::proofs::Members::verdict_object_has_no_float))]
+pub fn judged_json(alloc: Global, id: u32, verdict: &Told) -> Result<Vec<u8>, AllocError>
+    ensures { IfOk result (λ text. text.items ≡ objects.judged_json id verdict.now) }
 {
-    told_value(alloc, id, told)?.to_vec(alloc)
+    verdict_value(alloc, id, verdict)?.to_vec(alloc)
 }
 
-/// The refusal because a receipt of a pass doesn't stand at this place of its conversation, as `json` gives a reply:
-/// `{"conversation":1,"place":3,"refused":"Mismatch"}`.
+/// Returns the refusal of a pass whose receipt differs from the log of `conversation` at `place`, in the form of
+/// [`json`]: `{"conversation":1,"place":3,"refused":"Mismatch"}`.
 ///
 /// # Errors
-/// `AllocError` where memory for the text was refused.
+/// `AllocError` where memory for the text is refused.
 #[tactic(auto, using(crate::proofs::Members::mismatch_has_no_float))]
 pub fn mismatch_json(alloc: Global, conversation: u32, place: usize) -> Result<Vec<u8>, AllocError>
     ensures { IfOk result (λ text. text.items ≡ objects.mismatch_json conversation place) }
@@ -236,11 +236,8 @@ pub fn mismatch_json(alloc: Global, conversation: u32, place: usize) -> Result<V
     mismatch_value(alloc, conversation, place)?.to_vec(alloc)
 }
 
-/// The settled conversation, as `json` gives the reply to a question about it:
-/// `{"conversation":1,"events":2,"protocol":"demo.Hello","verdict":"permitted"}`.
-///
-/// # Errors
-/// `AllocError` where memory for the text was refused.
+// The settled conversation, in the form that `json` has for the reply to a question about it:
+// `{"conversation":1,"events":2,"protocol":"demo.Hello","verdict":"permitted"}`.
 #[tactic(auto, using(crate::proofs::Members::ended_has_no_float))]
 pub(crate) fn ended_json(alloc: Global, ended: &Ended) -> Result<Vec<u8>, AllocError>
     ensures { IfOk result (λ text. text.items ≡ objects.ended_json ended.now) }

@@ -1,4 +1,4 @@
-//! The printed text of replies, of verdicts and of messages in flight, and the JSON of replies.
+//! The printed text of replies, verdicts, messages in flight and settled conversations, as lines and as JSON.
 #![tactic(auto)]
 
 mod edit;
@@ -6,6 +6,7 @@ mod fault;
 pub mod flight;
 pub mod json;
 pub mod line;
+pub mod printing;
 pub mod service;
 pub mod table;
 pub mod verdict;

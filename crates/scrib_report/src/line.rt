@@ -14,14 +14,13 @@ use scrib_types::event::{Told, Verdict};
 use scrib_types::text::{push_bytes, push_dotted, push_number};
 use std::alloc::{AllocError, Global};
 
-// Room for the line of a permitted event, and for the line feed behind it, so that the text is made in one piece.
+// Room, in bytes, for the line of a permitted event and its line feed: one allocation then holds the text.
 const USUAL_BYTES: usize = 64;
 
-// The end of the line of a permitted event, behind room for the digits of a conversation and of a place, and the dot
-// between them.
+// The end of the line of a permitted event. The blanks before it are room for an id, a dot and a place.
 const PERMITTED: [u8; 48] = *b"                                      permitted\n";
 
-// Where the digits of the place end in it.
+// The offset in `PERMITTED` at which the digits of the place end.
 const DIGITS_END: usize = 37;
 
 fn push_each_change(out: &mut Vec<u8>, changes: &[Change]) -> Result<(), AllocError>
@@ -43,10 +42,10 @@ fn push_changes(out: &mut Vec<u8>, changes: &[Change]) -> Result<(), AllocError>
     push_each_change(out, changes)
 }
 
-/// Adds the line that tells the reply, in ASCII bytes, without a line feed.
+/// Appends the line of the reply, in ASCII bytes, without a line feed.
 ///
 /// # Errors
-/// `AllocError` where memory for the longer text was refused.
+/// `AllocError` where memory for the longer text is refused.
 #[tactic(auto, unfolding(crate::specs::Lines::line_of))]
 pub fn push_line(out: &mut Vec<u8>, reply: &Reply) -> Result<(), AllocError>
     ensures { OnOk result (out.new.items ≡ out.old.items ++ lines.line_of reply.now) }
@@ -88,11 +87,11 @@ pub fn push_line(out: &mut Vec<u8>, reply: &Reply) -> Result<(), AllocError>
     }
 }
 
-/// Adds the line of a permitted event, with the line feed behind it. It is laid from its end, so that it is added in one
-/// piece.
+// Appends the line of a permitted event and a line feed. The line is written from its end, so one append suffices.
 #[inline(always)]
 fn push_permitted(out: &mut Vec<u8>, id: u32, place: u64) -> Result<(), AllocError>
-    ensures { OnOk result (out.new.items ≡ out.old.items ++ decimal id ++ codes "." ++ decimal place ++ codes " permitted\n") }
+    ensures { OnOk result (out.new.items
+        ≡ out.old.items ++ decimal id ++ codes "." ++ decimal place ++ codes " permitted\n") }
 {
     let mut line = PERMITTED;
     let place_at = write_digits(place, &mut line, DIGITS_END);
@@ -101,11 +100,11 @@ fn push_permitted(out: &mut Vec<u8>, id: u32, place: u64) -> Result<(), AllocErr
     out.extend_from_slice(&line[id_at..])
 }
 
-/// Adds the line that tells the reply, in ASCII bytes, with the line feed behind it.
+/// Appends the line of the reply, in ASCII bytes, and a line feed.
 ///
 /// # Errors
-/// `AllocError` where memory for the longer text was refused.
-#[tactic(auto, using(crate::proofs::Laid::line_and_end))]
+/// `AllocError` where memory for the longer text is refused.
+#[tactic(auto, using(crate::proofs::PermittedLine::line_and_end))]
 pub fn push_whole_line(out: &mut Vec<u8>, reply: &Reply) -> Result<(), AllocError>
     ensures { OnOk result (out.new.items ≡ out.old.items ++ lines.line_of reply.now ++ 10 ∷ []) }
 {
@@ -123,10 +122,10 @@ pub fn push_whole_line(out: &mut Vec<u8>, reply: &Reply) -> Result<(), AllocErro
     }
 }
 
-/// The line that tells the reply, in ASCII bytes, without a line feed.
+/// Returns the line of the reply, in ASCII bytes, without a line feed.
 ///
 /// # Errors
-/// `AllocError` where memory for the text was refused.
+/// `AllocError` where memory for the text is refused.
 pub fn line(alloc: Global, reply: &Reply) -> Result<Vec<u8>, AllocError>
     ensures { IfOk result (λ text. text.items ≡ lines.line_of reply.now) }
 {

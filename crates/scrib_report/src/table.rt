@@ -6,19 +6,19 @@ ghost use Rattle.scrib_report.specs.Json as objects;
 ghost use Rattle.scrib_report.specs.Table as rows;
 
 use crate::json::ended_json;
-use crate::verdict::told_word;
-use scrib_settlement::ended::Ended;
+use crate::verdict::verdict_word;
+use scrib_core::ended::Ended;
 use scrib_types::text::{push_bytes, push_dotted};
 use std::alloc::{AllocError, Global};
 
-// How many places the columns have.
-const ID_PLACES: usize = 10;
+// The widths of the columns, in bytes.
+const ID_WIDTH: usize = 10;
 
-const EVENTS_PLACES: usize = 8;
+const EVENTS_WIDTH: usize = 8;
 
-const VERDICT_PLACES: usize = 9;
+const VERDICT_WIDTH: usize = 9;
 
-// Adds so many blanks.
+// Appends `count` blanks.
 fn push_blanks(out: &mut Vec<u8>, count: usize) -> Result<(), AllocError>
     ensures { OnOk result (out.new.items ≡ out.old.items ++ replicate count 32) }
 {
@@ -28,32 +28,32 @@ fn push_blanks(out: &mut Vec<u8>, count: usize) -> Result<(), AllocError>
     Ok(())
 }
 
-// Adds the number, at the right of so many places.
-fn push_right(out: &mut Vec<u8>, places: usize, number: u64) -> Result<(), AllocError>
-    ensures { OnOk result (out.new.items ≡ out.old.items ++ rows.right_in places number) }
+// Appends the number, filled up with blanks on its left to `width` bytes.
+fn push_right_aligned(out: &mut Vec<u8>, width: usize, number: u64) -> Result<(), AllocError>
+    ensures { OnOk result (out.new.items ≡ out.old.items ++ rows.right_aligned width number) }
 {
     let digits = number.to_string(*out.allocator())?;
-    push_blanks(out, places.saturating_sub(digits.len()))?;
+    push_blanks(out, width.saturating_sub(digits.len()))?;
     push_bytes(out, digits.as_bytes())
 }
 
-// Adds the text, at the left of so many places.
-fn push_left(out: &mut Vec<u8>, places: usize, text: &[u8]) -> Result<(), AllocError>
-    ensures { OnOk result (out.new.items ≡ out.old.items ++ rows.left_in places text.now) }
+// Appends the text, filled up with blanks on its right to `width` bytes.
+fn push_left_aligned(out: &mut Vec<u8>, width: usize, text: &[u8]) -> Result<(), AllocError>
+    ensures { OnOk result (out.new.items ≡ out.old.items ++ rows.left_aligned width text.now) }
 {
     push_bytes(out, text)?;
-    push_blanks(out, places.saturating_sub(text.len()))
+    push_blanks(out, width.saturating_sub(text.len()))
 }
 
 #[tactic(auto, unfolding(crate::specs::Table::row_text))]
 fn push_row(out: &mut Vec<u8>, ended: &Ended) -> Result<(), AllocError>
     ensures { OnOk result (out.new.items ≡ out.old.items ++ rows.row_text ended.now) }
 {
-    push_right(out, ID_PLACES, u64::from(ended.id))?;
+    push_right_aligned(out, ID_WIDTH, u64::from(ended.id))?;
     push_bytes(out, b" ")?;
-    push_right(out, EVENTS_PLACES, ended.events as u64)?;
+    push_right_aligned(out, EVENTS_WIDTH, ended.events as u64)?;
     push_bytes(out, b" ")?;
-    push_left(out, VERDICT_PLACES, told_word(&ended.told).as_bytes())?;
+    push_left_aligned(out, VERDICT_WIDTH, verdict_word(&ended.told).as_bytes())?;
     push_bytes(out, b" ")?;
     push_dotted(out, &ended.name)?;
     push_bytes(out, b"\n")
@@ -68,7 +68,7 @@ fn push_rows(out: &mut Vec<u8>, list: &[Ended]) -> Result<(), AllocError>
     Ok(())
 }
 
-// How many events all logs have.
+// The number of events of all logs together.
 fn events_of(list: &[Ended]) -> u128
     ensures { result ≡ rows.events_of list.now }
 {
@@ -79,7 +79,7 @@ fn events_of(list: &[Ended]) -> u128
     events
 }
 
-// Adds the number, and what is counted by it.
+// Appends the number and the text after it.
 fn push_count(out: &mut Vec<u8>, count: u128, what: &[u8]) -> Result<(), AllocError>
     ensures { OnOk result (out.new.items ≡ out.old.items ++ (decimal count ++ what.now)) }
 {
@@ -96,12 +96,13 @@ fn push_total(out: &mut Vec<u8>, conversations: usize, events: u128) -> Result<(
     push_count(out, events, b" events\n")
 }
 
-/// The table of settled conversations, in ASCII bytes: a line for each, in the order of the list, with its id, how many
-/// events its log has, what is told of it in one word, and the full name of its protocol; and last a line with the
-/// number of conversations and that of all their events. Each line is ended by a line feed.
+/// Returns the table of settled conversations, in ASCII bytes, with a line for each in the order of the list.
+///
+/// A line has the id, the number of events, the verdict in one word, and the full name of the protocol. The last line
+/// has the number of conversations and that of all their events. Each line ends with a line feed.
 ///
 /// # Errors
-/// `AllocError` where memory for the text was refused.
+/// `AllocError` where memory for the text is refused.
 pub fn table(alloc: Global, list: &[Ended]) -> Result<Vec<u8>, AllocError>
     ensures { IfOk result (λ text. text.items ≡ rows.table_text list.now) }
 {
@@ -130,12 +131,13 @@ fn push_json_total(out: &mut Vec<u8>, conversations: usize, events: u128) -> Res
     push_count(out, events, b"}\n")
 }
 
-/// The table of settled conversations as lines of JSON: for each conversation, in the order of the list, what `json`
-/// gives as the reply to a question about it, and last `{"conversations":2,"events":2000}`. Each line is ended by a
-/// line feed.
+/// Returns the table of settled conversations as lines of JSON, each with a line feed.
+///
+/// For each conversation, in the order of the list, the line is that of `json` for the reply to a question about it.
+/// The last line is as `{"conversations":2,"events":2000}`.
 ///
 /// # Errors
-/// `AllocError` where memory for the text was refused.
+/// `AllocError` where memory for the text is refused.
 pub fn table_json(alloc: Global, list: &[Ended]) -> Result<Vec<u8>, AllocError>
     ensures { IfOk result (λ text. text.items ≡ objects.table_json list.now) }
 {

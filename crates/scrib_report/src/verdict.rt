@@ -1,4 +1,4 @@
-//! The text of what is told of a conversation.
+//! The text of verdicts.
 
 ghost use Rattle.std.specs.Prelude.{◌≡◌, ◌++◌, IfOk, OnOk};
 ghost use Rattle.scrib_report.specs.Lines as lines;
@@ -37,7 +37,7 @@ fn push_verdict(out: &mut Vec<u8>, verdict: &Verdict) -> Result<(), AllocError>
     }
 }
 
-/// Adds what is told: `stale`, or the verdict.
+// Appends `stale`, or the verdict.
 #[tactic(auto, unfolding(crate::specs::Lines::told_text))]
 pub(crate) fn push_told(out: &mut Vec<u8>, told: &Told) -> Result<(), AllocError>
     ensures { OnOk result (out.new.items ≡ out.old.items ++ lines.told_text told.now) }
@@ -48,11 +48,11 @@ pub(crate) fn push_told(out: &mut Vec<u8>, told: &Told) -> Result<(), AllocError
     }
 }
 
-/// What is told in one word: `permitted`, `offence`, `withdrawn` or `stale`.
-pub(crate) fn told_word(told: &Told) -> &'static str
-    ensures { result.now ≡ lines.told_word told.now }
+// The verdict in one word: `permitted`, `offence`, `withdrawn` or `stale`.
+pub(crate) fn verdict_word(verdict: &Told) -> &'static str
+    ensures { result.now ≡ lines.verdict_word verdict.now }
 {
-    match told {
+    match verdict {
         Told::Stale => "stale",
         Told::Judged(Verdict::Permitted) => "permitted",
         Told::Judged(Verdict::Offence { .. }) => "offence",
@@ -60,15 +60,15 @@ pub(crate) fn told_word(told: &Told) -> &'static str
     }
 }
 
-/// What is told, as `stale`, `permitted`, `withdrawn` or `offence at 3 by A, allowed: B!hello(), B!x()`, in
-/// ASCII bytes, without a line feed.
+/// Returns the text of the verdict: `stale`, `permitted`, `withdrawn` or
+/// `offence at 3 by A, allowed: B!hello(), B!x()`. It is in ASCII bytes, without a line feed.
 ///
 /// # Errors
-/// `AllocError` where memory for the text was refused.
-pub fn verdict(alloc: Global, told: &Told) -> Result<Vec<u8>, AllocError>
-    ensures { IfOk result (λ text. text.items ≡ lines.told_text told.now) }
+/// `AllocError` where memory for the text is refused.
+pub fn verdict(alloc: Global, verdict: &Told) -> Result<Vec<u8>, AllocError>
+    ensures { IfOk result (λ text. text.items ≡ lines.told_text verdict.now) }
 {
     let mut out = Vec::new(alloc);
-    push_told(&mut out, told)?;
+    push_told(&mut out, verdict)?;
     Ok(out)
 }

@@ -1,4 +1,4 @@
--- Lines, their ends, and what is kept of them.
+-- Lines, their ends, and the kept part of them.
 use Rattle.std.proofs.Common.{◌≡◌, ◌≢◌, ◌≤◌, ◌+◌, ◌-◌, ◌⊎◌, ◌&&◌, inl, inr, min, Result, Ok, Err, ℕ, zero, suc, Bool, true, false, cond, eqb, List, [], ◌∷◌, ◌++◌, ◌∙◌, take, length, get_or, refl, sym, ap, subst, arith}
 use Rattle.std.specs.Prelude.{OnOk, is_ok, if◌then◌else◌}
 use Rattle.std.proofs.lemmas.Bool.{cases_lt, ne_eqb}
@@ -18,7 +18,7 @@ lines_last b [] h = rw (ne_eqb b 10 (All-head (λ x. x ≢ 10) b [] h)) refl
 lines_last b (c ∷ k) h =
     rw (ne_eqb b 10 (All-head (λ x. x ≢ 10) b (c ∷ k) h)) (ap (joined b) (lines_last c k (All-tail (λ x. x ≢ 10) b (c ∷ k) h)))
 
--- three bytes and more are no end
+-- three or more bytes are no line end
 long_is_no_end : (b c d : ℕ) (xs ys : List ℕ) → is_end (b ∷ c ∷ (xs ++ d ∷ ys)) ≡ false
 long_is_no_end b c d [] ys = refl
 long_is_no_end b c d (x ∷ xs) ys = refl
@@ -28,7 +28,7 @@ bare_cr [] = refl
 bare_cr (b ∷ []) = refl
 bare_cr (b ∷ c ∷ k) = rw (long_is_no_end b c 13 k (10 ∷ [])) (ap (λ (t : List ℕ). b ∷ t) (bare_cr (c ∷ k)))
 
--- the last byte isn't this one
+-- a list whose last byte is another
 abbrev pub EndsOther : ℕ → List ℕ → Type 0
 EndsOther b k = (front : List ℕ) → k ≡ front ++ b ∷ [] → ⊥
 
@@ -58,7 +58,7 @@ length_one : (q : Bool) (b : ℕ) → suc zero ≤ length (cond q [] (b ∷ []))
 length_one true b = omega arith
 length_one false b = omega arith
 
--- a line without its end is at most one byte shorter than what stands before its LF
+-- a line without its end is at most one byte shorter than the bytes before its LF
 pub length-bare : (k : List ℕ) → length k ≤ length (bare (k ++ 10 ∷ [])) + 1
 length-bare [] = omega arith
 length-bare (b ∷ []) = length_one (eqb b 13 && true) b
@@ -66,7 +66,7 @@ length-bare (b ∷ c ∷ k) =
     let more = length-bare (c ∷ k) in
     rw (long_is_no_end b c 10 k []) (omega (arith, more))
 
--- what is kept of bytes is all of them, or as many as may be kept
+-- the kept part is all of the bytes, or as many as may be kept
 pub all_or_most : (m : ℕ) (k : List ℕ) → (take m k ≡ k) ⊎ ((length (take m k) ≡ m) × (m ≤ length k))
 all_or_most m k = elim (cases_lt m (length k)) [
   | inl h ↦ inr (omega (arith, length-take m k), omega arith)
@@ -84,7 +84,7 @@ take_middle m n [] b c h = take_front m n b c h
 take_middle zero n (x ∷ a) b c h = refl
 take_middle (suc m) n (x ∷ a) b c h = ap (λ (t : List ℕ). x ∷ t) (take_middle m n a b c (omega arith))
 
--- what is kept after more came
+-- the kept part after more bytes
 pub take_kept : (m : ℕ) (a b : List ℕ) → take m (take m a ++ b) ≡ take m (a ++ b)
 take_kept m a b = take_front m m a b (omega arith)
 
@@ -95,7 +95,7 @@ pub take_of_none : (m : ℕ) → take {A = ℕ} m [] ≡ []
 take_of_none zero = refl
 take_of_none (suc m) = refl
 
--- what is kept of a line ends a text where the line does
+-- the kept part of a line ends a text exactly where the line does
 pub end_of_kept : (m : ℕ) (k : List ℕ) → 4 ≤ m → bare (take m k ++ 10 ∷ []) ≡ text_end → bare (k ++ 10 ∷ []) ≡ text_end
 end_of_kept m k h e = elim (all_or_most m k) [
   | inl all ↦ subst (λ (t : List ℕ). bare (t ++ 10 ∷ []) ≡ text_end) all e
@@ -135,7 +135,7 @@ take_past (suc m) (x ∷ a) b h =
     let e : m - length a ≡ suc m - suc (length a) = omega arith in
     ap (λ (t : List ℕ). x ∷ t) (take_past m a b (omega arith) ∙ ap (λ (i : ℕ). a ++ take i b) e)
 
--- as many more bytes are kept as may be
+-- appending up to the capacity keeps a prefix
 pub kept_more : {T E : Type 0} (r : Result T E) (m k : ℕ) (old new bytes : List ℕ)
     → new ≡ (if is_ok r then old ++ take k bytes else old) → k ≡ min (length bytes) (m - length old)
     → OnOk r (length old ≤ m → new ≡ take m (old ++ bytes))

@@ -1,4 +1,4 @@
--- What fields and lines say, found in their bytes.
+-- The meaning of fields and lines is decided by their bytes.
 use Rattle.std.proofs.Common.{◌≡◌, ◌⊎◌, inl, inr, ℕ, suc, ◌<◌, ◌≤◌, ◌^◌, Bool, true, false, ◌&&◌, ◌==◌, List, [], ◌∷◌, ◌++◌, length, Option, Some, None, codes, refl, sym, ap, ◌∙◌, subst, arith}
 use Rattle.std.specs.Char.{digit_value}
 use Rattle.std.specs.List.{list_all}
@@ -17,8 +17,8 @@ use Rattle.scrib_types.specs.declared.profile.Profile.TheVariants.{Plain, Recept
 use Rattle.scrib_types.specs.Texts.{joined_by, dotted_text, dotted_texts, operator_text, profile_word}
 use Rattle.scrib_core.specs.declared.step.Step.{Step}
 use Rattle.scrib_core.specs.declared.step.Step.TheVariants as step
-use Rattle.scrib_script_reader.specs.declared.format.Format.{Format}
-use Rattle.scrib_script_reader.specs.declared.format.Format.TheVariants as format
+use Rattle.scrib_core.specs.declared.format.Format.{Format}
+use Rattle.scrib_core.specs.declared.format.Format.TheVariants as format
 use Rattle.scrib_script_reader.specs.declared.line.Line.{Line}
 use Rattle.scrib_script_reader.specs.declared.line.Line.TheVariants as line
 use Rattle.scrib_script_reader.specs.Fields.{fields, Finds, IsNumber, is_dotted, IsDottedText, IsMessageText, IsOperatorText, IsPayloadText, IsCut}
@@ -26,14 +26,14 @@ use Rattle.scrib_script_reader.specs.Steps.{IsExchange, Makes, Edits, MakesStep}
 use Rattle.scrib_script_reader.specs.Says.{Says, IsSkipped, IsPutLine, Asks}
 use Rattle.scrib_script_reader.proofs.Pieces.{pieces, dotted-pieces, dotted-read, payload-pieces, payload-read}
 use Rattle.scrib_script_reader.proofs.Formats.{no_put, no_step}
-use Rattle.scrib_script_reader.proofs.Printed.{message-cut, cut-message, cut-once}
+use Rattle.scrib_script_reader.proofs.MessageTexts.{message-cut, cut-message, cut-once}
 use Rattle.scrib_script_reader.proofs.Steps.{no-open, no-join, no-send, no-recv, no-turn, no-ask, no-word, no-short, no-withdraw, no-profile, no-number, found-edit, found-step}
 
--- it holds or it doesn't
+-- a property holds or does not hold
 abbrev pub Decided : Type 0 → Type 0
 Decided P = P ⊎ (P → ⊥)
 
--- a value that has the property, or none, and then nothing has it
+-- a value that has the property, or the fact that no value has it
 abbrev pub Found : {A : Type 0} → (A → Type 0) → Type 0
 Found {A} P = (o : Option A) × Finds P o
 
@@ -193,7 +193,7 @@ parts_more : (b : ℕ) (bs : List ℕ) → (b == 40) ≡ false → (o : Option (
 parts_more b bs f None none = (None, λ p h. let q = parts_tail b bs p.0 p.1 f h in none (q.0, p.1) q.1)
 parts_more b bs f (Some p) k = (Some (b ∷ p.0, p.1), (ap (λ (t : List ℕ). b ∷ t) k.0, All-cons (λ y. (y == 40) ≡ false) b p.0 f k.1))
 
--- what stands before a text's parentheses, and between them
+-- the text before the parentheses, and between them
 parts_found : (bytes : List ℕ) → Found (Parts bytes)
 parts_found [] = (None, λ p h. omega (arith, ap length h.0, length-append (p.0 ++ 40 ∷ p.1) (41 ∷ [])))
 parts_found (b ∷ bs) = elim (cases_Bool (b == 40)) [
@@ -221,13 +221,13 @@ message_found : (bytes : List ℕ) → Found (IsMessageText bytes)
 message_found bytes = let parts = parts_found bytes in message_from bytes parts.0 parts.1
 
 -- the fields are the sender, the receiver and the message
-abbrev Exchanges : List (List ℕ) → List ℕ × List ℕ × Message → Type 0
-Exchanges fs e = IsExchange fs e.0 e.1 e.2
+abbrev EventCache : List (List ℕ) → List ℕ × List ℕ × Message → Type 0
+EventCache fs e = IsExchange fs e.0 e.1 e.2
 
-no_exchange : (fs : List (List ℕ)) → (length fs ≡ 3 → ⊥) → Found (Exchanges fs)
+no_exchange : (fs : List (List ℕ)) → (length fs ≡ 3 → ⊥) → Found (EventCache fs)
 no_exchange fs n = (None, λ e h. n (ap length h.1))
 
-exchange_at : (from to text : List ℕ) → Decided ((is_name from ≡ true) × (is_name to ≡ true)) → (o : Option Message) → Finds (IsMessageText text) o → Found (Exchanges (from ∷ to ∷ text ∷ []))
+exchange_at : (from to text : List ℕ) → Decided ((is_name from ≡ true) × (is_name to ≡ true)) → (o : Option Message) → Finds (IsMessageText text) o → Found (EventCache (from ∷ to ∷ text ∷ []))
 exchange_at from to text (inr n) o k = (
   None,
   λ e h.
@@ -245,7 +245,7 @@ exchange_at from to text (inl names) None none = (
 )
 exchange_at from to text (inl names) (Some m) k = (Some (from, to, m), (text, refl, names.0, names.1, k))
 
-exchange_found : (fs : List (List ℕ)) → Found (Exchanges fs)
+exchange_found : (fs : List (List ℕ)) → Found (EventCache fs)
 exchange_found [] = no_exchange [] (λ e. omega (arith, e))
 exchange_found (a ∷ []) = no_exchange (a ∷ []) (λ e. omega (arith, e))
 exchange_found (a ∷ b ∷ []) = no_exchange (a ∷ b ∷ []) (λ e. omega (arith, e))
@@ -300,11 +300,11 @@ module _ (id : ℕ) (fs : List (List ℕ)) where
   join_step None none = (None, no-join id fs none)
   join_step (Some role) h = (Some (step.Note id (event.Join role)), (refl, refl, h.0, h.1))
 
-  send_step : (o : Option (List ℕ × List ℕ × Message)) → Finds (Exchanges fs) o → Found (Makes (codes "send") id fs)
+  send_step : (o : Option (List ℕ × List ℕ × Message)) → Finds (EventCache fs) o → Found (Makes (codes "send") id fs)
   send_step None none = (None, no-send id fs (λ from to m h. none (from, to, m) h))
   send_step (Some e) h = (Some (step.Note id (event.Sent e.0 e.1 e.2)), (refl, refl, h))
 
-  recv_step : (o : Option (List ℕ × List ℕ × Message)) → Finds (Exchanges fs) o → Found (Makes (codes "recv") id fs)
+  recv_step : (o : Option (List ℕ × List ℕ × Message)) → Finds (EventCache fs) o → Found (Makes (codes "recv") id fs)
   recv_step None none = (None, no-recv id fs (λ from to m h. none (from, to, m) h))
   recv_step (Some e) h = (Some (step.Note id (event.Received e.0 e.1 e.2)), (refl, refl, h))
 
@@ -316,11 +316,11 @@ ask_step : (id : ℕ) (fs : List (List ℕ)) → Found (Makes (codes "ask") id f
 ask_step id [] = (Some (step.Ask id), (refl, refl, refl))
 ask_step id (f ∷ fs) = (None, no-ask id (f ∷ fs) (λ e. cc))
 
--- the step behind the word that it has
+-- the step of a word that equals the known one
 worded : (word known : List ℕ) (id : ℕ) (fs : List (List ℕ)) → word ≡ known → Found (Makes known id fs) → Found (Makes word id fs)
 worded word known id fs e found = (found.0, subst (λ (w : List ℕ). Finds (Makes w id fs) found.0) (sym e) found.1)
 
--- the step that a word makes with an id and the fields behind them
+-- the step that a word makes with an id and the fields after them
 word_step : (word : List ℕ) (id : ℕ) (fs : List (List ℕ)) → Found (Makes word id fs)
 word_step word id fs = elim (same_bytes word (codes "open")) [
   | inl e ↦ let opens = opens_found fs in worded word (codes "open") id fs e (open_step id fs opens.0 opens.1)
@@ -433,19 +433,19 @@ asked (word ∷ fs) = elim (same_bytes word (codes "json")) [
   | inr n ↦ (format.Line, word ∷ fs, (refl, λ more e. n (let h : word ∷ fs ≡ codes "json" ∷ more = e in cc)))
 ]
 
-said_within : (bytes : List ℕ) → length bytes ≤ 131072 → Decided (IsSkipped (fields bytes)) → (a : Asked (fields bytes)) → Decided (IsPutLine a.1) → (o : Option Step) → Finds (MakesStep a.1) o → (said : Line) × Says bytes said
-said_within bytes fits (inl s) a p o k = (line.Skipped, (fits, s))
-said_within bytes fits (inr ns) a (inl p) o k = (line.Put a.0, (fits, (a.1, a.2, p)))
-said_within bytes fits (inr ns) a (inr np) None none =
+decided_within : (bytes : List ℕ) → length bytes ≤ 131072 → Decided (IsSkipped (fields bytes)) → (a : Asked (fields bytes)) → Decided (IsPutLine a.1) → (o : Option Step) → Finds (MakesStep a.1) o → (meaning : Line) × Says bytes meaning
+decided_within bytes fits (inl s) a p o k = (line.Skipped, (fits, s))
+decided_within bytes fits (inr ns) a (inl p) o k = (line.Put a.0, (fits, (a.1, a.2, p)))
+decided_within bytes fits (inr ns) a (inr np) None none =
     (line.Bad, inr (ns, no_put (fields bytes) a.1 a.0 a.2 np, no_step (fields bytes) a.1 a.0 a.2 none))
-said_within bytes fits (inr ns) a (inr np) (Some s) k = (line.Step a.0 s, (fits, (a.1, a.2, k)))
+decided_within bytes fits (inr ns) a (inr np) (Some s) k = (line.Step a.0 s, (fits, (a.1, a.2, k)))
 
--- what a line says
-pub line_said : (bytes : List ℕ) → (said : Line) × Says bytes said
-line_said bytes = elim (cases_lt 131072 (length bytes)) [
+-- the meaning of a line
+pub line_decided : (bytes : List ℕ) → (meaning : Line) × Says bytes meaning
+line_decided bytes = elim (cases_lt 131072 (length bytes)) [
   | inl long ↦ (line.Bad, inl long)
   | inr fits ↦
       let a = asked (fields bytes) in
       let made = step_found a.1 in
-      said_within bytes fits (is_skipped (fields bytes)) a (is_put a.1) made.0 made.1
+      decided_within bytes fits (is_skipped (fields bytes)) a (is_put a.1) made.0 made.1
 ]

@@ -1,12 +1,12 @@
 -- The format that the fields of a line ask for.
 use Rattle.std.proofs.Common.{◌≡◌, ◌∷◌, ℕ, List, sym, ◌∙◌, subst, codes}
 use Rattle.scrib_core.specs.declared.step.Step.{Step}
-use Rattle.scrib_script_reader.specs.declared.format.Format.{Format}
-use Rattle.scrib_script_reader.specs.declared.format.Format.TheVariants as format
+use Rattle.scrib_core.specs.declared.format.Format.{Format}
+use Rattle.scrib_core.specs.declared.format.Format.TheVariants as format
 use Rattle.scrib_script_reader.specs.Steps.{MakesStep}
 use Rattle.scrib_script_reader.specs.Says.{Asks, IsPutLine, Puts, MakesIn}
 
--- only these fields stand behind the format
+-- the fields after the format are determined
 asks_once : (fs a b : List (List ℕ)) (f g : Format) → Asks fs f a → Asks fs g b → a ≡ b
 asks_once fs a b format.Line format.Line h k = h.0 ∙ sym k.0
 asks_once fs a b format.Line format.Json h k = absurd (h.1 b k)

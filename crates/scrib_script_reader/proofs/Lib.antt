@@ -2,11 +2,11 @@ pub mod Heads
 pub mod Bytes
 pub mod Decisions
 pub mod Digits
-pub mod Feeds
+pub mod FirstLineFeed
 pub mod Formats
 pub mod Pieces
-pub mod Places
-pub mod Printed
-pub mod Counting
-pub mod Reading
+pub mod PositionLemmas
+pub mod MessageTexts
+pub mod LimitLemmas
+pub mod ScriptLemmas
 pub mod Steps

@@ -1,4 +1,4 @@
--- Texts that are joined by a byte, and the pieces into which a split at that byte cuts them.
+-- Texts joined by a byte, and the pieces into which a split at that byte cuts them.
 use Rattle.std.proofs.Common.{◌≡◌, ℕ, zero, suc, ◌<◌, Bool, true, false, ◌&&◌, ◌||◌, ◌==◌, nat_lt, List, [], ◌∷◌, ◌++◌, length, get_or, Some, None, refl, sym, ap, ◌∙◌, arith, if◌then◌else◌}
 use Rattle.std.specs.List.{All, list_all, slice_split, onto_first}
 use Rattle.std.proofs.lemmas.List.{append-nil}
@@ -26,7 +26,7 @@ after-some c (t ∷ ts) h = refl
 pub some-pieces : (c : ℕ) (bytes : List ℕ) → 0 < length (pieces c bytes)
 some-pieces c bytes = omega (arith, length-slice_split (λ b. b == c) bytes)
 
--- the pieces, joined again
+-- the pieces joined again are the text
 pub joined-pieces : (c : ℕ) (bytes : List ℕ) → joined_by c (pieces c bytes) ≡ bytes
 joined-pieces c [] = refl
 joined-pieces c (x ∷ xs) =
@@ -38,7 +38,7 @@ joined-pieces c (x ∷ xs) =
     ] in
     here (x == c) refl
 
--- no byte of the text is c
+-- the text does not contain the byte c
 abbrev pub Lacks : ℕ → List ℕ → Type 0
 Lacks c bytes = All (λ b. (b == c) ≡ false) bytes
 
@@ -46,14 +46,14 @@ abbrev pub EachLacks : ℕ → List (List ℕ) → Type 0
 EachLacks c [] = Unit {0}
 EachLacks c (t ∷ ts) = Lacks c t × EachLacks c ts
 
--- texts without the byte, joined by it and cut again
+-- texts without the byte, joined by it and split again, are the same texts
 pub pieces-joined : (c : ℕ) (ts : List (List ℕ)) → 0 < length ts → EachLacks c ts → pieces c (joined_by c ts) ≡ ts
 pieces-joined c [] s h = absurd (omega arith)
 pieces-joined c (t ∷ []) s h = ap (pieces c) (append-nil t) ∙ slice_split_none (λ b. b == c) t h.0
 pieces-joined c (t ∷ u ∷ us) s h =
     slice_split_at (λ b. b == c) t c (joined_by c (u ∷ us)) h.0 ((Decides-eqb c c).1 refl) ∙ ap (λ ts. t ∷ ts) (pieces-joined c (u ∷ us) (omega arith) h.1)
 
--- a byte of a word is none that isn't
+-- a byte of names differs from every byte that is none
 word-apart : (b c : ℕ) → is_word_byte b ≡ true → is_word_byte c ≡ false → (b == c) ≡ false
 word-apart b c h k = false_from_ne_true (b == c) (λ e. let same : b ≡ c = (Decides-eqb b c).0 e in cc)
 
@@ -92,13 +92,13 @@ names-dotted : (names : List (List ℕ)) → 0 < length names → list_all is_na
 names-dotted [] s h = absurd (omega arith)
 names-dotted (n ∷ ns) s h = h
 
--- a dotted text is cut into its names
+-- a dotted text is split into its names
 pub dotted-pieces : (bytes : List ℕ) (names : List (List ℕ)) → IsDottedText bytes names → (pieces 46 bytes ≡ names) × (list_all is_name names ≡ true)
 dotted-pieces bytes names h =
     let p = dotted-names names h.1 in
     (ap (pieces 46) h.0 ∙ pieces-joined 46 names p.0 (names-lack 46 names refl p.1), p.1)
 
--- a piece that is no name
+-- a text with a piece that is no name is no dotted text
 pub no-dotted : (bytes piece : List ℕ) (n : ℕ) → n < length (pieces 46 bytes) → piece ≡ get_or (pieces 46 bytes) n piece → is_name piece ≡ false → (names : List (List ℕ)) → IsDottedText bytes names → ⊥
 no-dotted bytes piece n l e f names h =
     let p = dotted-pieces bytes names h in
@@ -106,7 +106,7 @@ no-dotted bytes piece n l e f names h =
     let all : list_all is_name (pieces 46 bytes) ≡ true = ap (list_all is_name) p.0 ∙ p.1 in
     cc
 
--- the pieces, where each is a name
+-- a text whose pieces are names is their dotted text
 pub dotted-read : (bytes : List ℕ) (names : List (List ℕ)) → names ≡ pieces 46 bytes → list_all is_name names ≡ true → IsDottedText bytes names
 dotted-read bytes names e h =
     let some : 0 < length names = omega (arith, some-pieces 46 bytes, ap length e) in
@@ -123,7 +123,7 @@ length-dotted_texts : (payload : List (List (List ℕ))) → length (dotted_text
 length-dotted_texts [] = refl
 length-dotted_texts (names ∷ more) = ap suc (length-dotted_texts more)
 
--- a payload's text is cut into the texts of its types
+-- a payload's text is split into the texts of its types
 pub payload-pieces : (bytes : List ℕ) (payload : List (List (List ℕ))) → 0 < length bytes → IsPayloadText bytes payload → (pieces 44 bytes ≡ dotted_texts payload) × (list_all is_dotted payload ≡ true)
 payload-pieces bytes [] s h = absurd (omega (arith, ap length h.0))
 payload-pieces bytes (names ∷ more) s h =
@@ -134,14 +134,14 @@ dotted-at [] n text l e h = absurd (omega arith)
 dotted-at (names ∷ more) zero text l e h = (names, (e, (and_parts (is_dotted names) (list_all is_dotted more) h).0))
 dotted-at (names ∷ more) (suc n) text l e h = dotted-at more n text (omega arith) e (and_parts (is_dotted names) (list_all is_dotted more) h).1
 
--- a piece that is no dotted text
+-- a text with a piece that is no dotted text is no payload's
 pub no-payload : (bytes piece : List ℕ) (n : ℕ) → 0 < length bytes → n < length (pieces 44 bytes) → piece ≡ get_or (pieces 44 bytes) n piece → ((names : List (List ℕ)) → IsDottedText piece names → ⊥) → (payload : List (List (List ℕ))) → IsPayloadText bytes payload → ⊥
 no-payload bytes piece n s l e none payload h =
     let p = payload-pieces bytes payload s h in
     let found = dotted-at payload n piece (omega (arith, ap length p.0)) (e ∙ ap (λ ts. get_or ts n piece) p.0) p.1 in
     none found.0 found.1
 
--- the pieces, where each is a dotted text
+-- a text whose pieces are dotted texts is a payload's
 pub payload-read : (bytes : List ℕ) (payload : List (List (List ℕ))) → dotted_texts payload ≡ pieces 44 bytes → list_all is_dotted payload ≡ true → IsPayloadText bytes payload
 payload-read bytes payload e h = (sym (ap (joined_by 44) e ∙ joined-pieces 44 bytes), h)
 
@@ -159,6 +159,6 @@ pub payload-more : (payload : List (List (List ℕ))) (names : List (List ℕ)) 
 payload-more payload names piece read e h d =
     (dotted_texts-push payload names ∙ (λ i. e i ++ sym d.0 i ∷ []), list_all-push is_dotted payload names h d.1)
 
--- what `Name::from_bytes` says of bytes that are no name
+-- where `Name::from_bytes` returns none, the bytes are no name
 pub none-named : (bytes : List ℕ) → None ≡ (if is_name bytes then Some bytes else None) → is_name bytes ≡ false
 none-named bytes h = false_from_ne_true (is_name bytes) (λ e. let k : None ≡ Some bytes = rw e at h in cc)

@@ -16,7 +16,7 @@ use Rattle.scrib_script_reader.proofs.Digits.{same_number}
 apart : (xs ys : List ℕ) → bytes_eq xs ys ≡ false → xs ≡ ys → ⊥
 apart xs ys f e = false≢true (sym f ∙ (bytes_eq-Decides xs ys).1 e)
 
--- no exchange, no send
+-- fields that are no exchange make no send and no reception
 pub no-send : (id : ℕ) (fs : List (List ℕ)) → ((from to : List ℕ) (m : Message) → IsExchange fs from to m → ⊥) → (s : Step) → Makes (codes "send") id fs s → ⊥
 no-send id fs none (step.Put text) h = h
 no-send id fs none (step.Withdraw name) h = h
@@ -39,7 +39,7 @@ no-recv id fs none (step.Note i (event.Received from to m)) h = none from to m h
 no-recv id fs none (step.Turn i) h = apart (codes "recv") (codes "turn") refl h.0
 no-recv id fs none (step.Ask i) h = apart (codes "recv") (codes "ask") refl h.0
 
--- no dotted text, no opening
+-- a field that is no dotted text makes no opening
 pub no-open : (id : ℕ) (fs : List (List ℕ)) → ((name : List (List ℕ)) → (text : List ℕ) × (fs ≡ text ∷ []) × IsDottedText text name → ⊥) → (s : Step) → Makes (codes "open") id fs s → ⊥
 no-open id fs none (step.Put text) h = h
 no-open id fs none (step.Withdraw name) h = h
@@ -123,14 +123,14 @@ front f (x ∷ y ∷ xs) d l = refl
 pub two-fields : {A B : Type 0} (f : A → B) (xs : List A) (d : A) → 2 ≤ length xs → map f xs ≡ f (get_or xs 0 d) ∷ f (get_or xs 1 d) ∷ map f (take (length xs - 2) (drop 2 xs))
 two-fields f xs d l = front f xs d l ∙ ap (λ ys. f (get_or xs 0 d) ∷ f (get_or xs 1 d) ∷ map f ys) (sym (take_rest xs 2))
 
--- a word that edits makes no step with a number
+-- `withdraw` and `profile` make no step with a number
 pub no-withdraw : (id : ℕ) (fs : List (List ℕ)) (s : Step) → Makes (codes "withdraw") id fs s → ⊥
 no-withdraw id fs = no-word (codes "withdraw") id fs (apart (codes "withdraw") (codes "open") refl) (apart (codes "withdraw") (codes "join") refl) (apart (codes "withdraw") (codes "send") refl) (apart (codes "withdraw") (codes "recv") refl) (apart (codes "withdraw") (codes "turn") refl) (apart (codes "withdraw") (codes "ask") refl)
 
 pub no-profile : (id : ℕ) (fs : List (List ℕ)) (s : Step) → Makes (codes "profile") id fs s → ⊥
 no-profile id fs = no-word (codes "profile") id fs (apart (codes "profile") (codes "open") refl) (apart (codes "profile") (codes "join") refl) (apart (codes "profile") (codes "send") refl) (apart (codes "profile") (codes "recv") refl) (apart (codes "profile") (codes "turn") refl) (apart (codes "profile") (codes "ask") refl)
 
--- the step of a word that edits
+-- the step of `withdraw` or `profile`
 pub found-edit : (known word first : List ℕ) (fs : List (List ℕ)) → ((id : ℕ) (gs : List (List ℕ)) (s : Step) → Makes known id gs s → ⊥) → word ≡ known → (o : Option Step) → Finds (Edits known first fs) o → Finds (MakesStep (word ∷ first ∷ fs)) o
 found-edit known word first fs numberless e None none = λ s h. elim h [
   | inl w ↦ none s (subst (λ (x : List ℕ). Edits x first fs s) e w)
@@ -155,7 +155,7 @@ no-number word first fs withdraws profiles none s h = elim h [
   | inr k ↦ none k.0 k.1
 ]
 
--- the step behind another word and a number
+-- the step of another word and a number
 pub found-step : (word number : List ℕ) (fs : List (List ℕ)) (id : ℕ) → (word ≡ codes "withdraw" → ⊥) → (word ≡ codes "profile" → ⊥) → IsNumber number id → (o : Option Step) → Finds (Makes word id fs) o → Finds (MakesStep (word ∷ number ∷ fs)) o
 found-step word number fs id withdraws profiles n None none = λ s h. elim h [
   | inl w ↦ no-edit word number fs withdraws profiles s w

@@ -4,4 +4,4 @@ pub mod Says
 pub mod Heads
 pub mod Limits
 pub mod Scripts
-pub mod Standing
+pub mod Positions

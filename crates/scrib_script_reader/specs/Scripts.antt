@@ -1,28 +1,28 @@
--- What a script spells (this project's own).
+-- The items that a script spells (this project's own).
 use Rattle.std.specs.Prelude.{◌≡◌, ◌≢◌, ℕ, ◌+◌, Bool, false, ◌&&◌, ◌==◌, if◌then◌else◌, List, [], ◌∷◌, ◌++◌, take, Option, Some, None, All, codes}
 use Rattle.scrib_core.specs.declared.step.Step.{Step}
 use Rattle.scrib_core.specs.declared.step.Step.TheVariants.{Put}
 use Rattle.scrib_script_reader.specs.Says.{Says}
-use Rattle.scrib_script_reader.specs.declared.format.Format.{Format}
+use Rattle.scrib_core.specs.declared.format.Format.{Format}
 use Rattle.scrib_script_reader.specs.declared.line.Line.TheVariants as line
 use Rattle.scrib_script_reader.specs.declared.item.Item.{Item}
 use Rattle.scrib_script_reader.specs.declared.item.Item.TheVariants as item
 
--- no byte of these is an LF
+-- none of the bytes is an LF
 abbrev pub NoLf : List ℕ → Type 0
 NoLf bytes = All (λ b. b ≢ 10) bytes
 
--- the item, if there is one
+-- the list of the item, if there is one
 abbrev pub listed : Option Item → List Item
 listed None = []
 listed (Some i) = i ∷ []
 
--- a byte before some lines: the first byte of the first of them
+-- the lines, with the byte in front of the first one
 abbrev pub joined : ℕ → List (List ℕ) → List (List ℕ)
 joined b [] = (b ∷ []) ∷ []
 joined b (l ∷ ls) = (b ∷ l) ∷ ls
 
--- the lines of some bytes, each with its LF, which the last may lack
+-- the lines of the bytes, each with its LF, which the last may lack
 abbrev pub lines : List ℕ → List (List ℕ)
 lines [] = []
 lines (b ∷ bs) = if b == 10 then (b ∷ []) ∷ lines bs else joined b (lines bs)
@@ -43,7 +43,7 @@ bare (b ∷ bs) = if is_end (b ∷ bs) then [] else b ∷ bare bs
 abbrev pub text_end : List ℕ
 text_end = codes "%%"
 
--- a module text as far as it came, and the format of the reply to its put
+-- a module text so far, and the format of the reply to its put
 pub record Text : Type 0 where
   pub bytes : List ℕ
   pub format : Format
@@ -56,16 +56,23 @@ empty_text f = record { bytes = []; format = f }
 abbrev pub with_line : Text → List ℕ → Text
 with_line text l = record { bytes = text.bytes ++ l; format = text.format }
 
--- What lines spell, the first of which is line n of its script. It stands outside module texts, or inside one of
--- which so much came before it. Of a text the first 1,048,577 bytes are put.
+-- The lines spell these items. The first is line n of its script, outside module texts or after this much of one. Only
+-- the first 1,048,577 bytes of a module text are put.
 pub data Spells : ℕ → Option Text → List (List ℕ) → List Item → Type 0 where
   ends : (n : ℕ) → Spells n None [] []
-  skips : (n : ℕ) (l : List ℕ) (ls : List (List ℕ)) (items : List Item) → Says (bare l) line.Skipped → Spells (n + 1) None ls items → Spells n None (l ∷ ls) items
-  makes : (n : ℕ) (l : List ℕ) (ls : List (List ℕ)) (items : List Item) (f : Format) (s : Step) → Says (bare l) (line.Step f s) → Spells (n + 1) None ls items → Spells n None (l ∷ ls) (item.Step f s ∷ items)
-  is_bad : (n : ℕ) (l : List ℕ) (ls : List (List ℕ)) (items : List Item) → Says (bare l) line.Bad → Spells (n + 1) None ls items → Spells n None (l ∷ ls) (item.BadLine n ∷ items)
-  begins : (n : ℕ) (l : List ℕ) (ls : List (List ℕ)) (items : List Item) (f : Format) → Says (bare l) (line.Put f) → Spells (n + 1) (Some (empty_text f)) ls items → Spells n None (l ∷ ls) items
-  goes_on : (n : ℕ) (text : Text) (l : List ℕ) (ls : List (List ℕ)) (items : List Item) → bare l ≢ text_end → Spells (n + 1) (Some (with_line text l)) ls items → Spells n (Some text) (l ∷ ls) items
-  puts : (n : ℕ) (text : Text) (l : List ℕ) (ls : List (List ℕ)) (items : List Item) → bare l ≡ text_end → Spells (n + 1) None ls items → Spells n (Some text) (l ∷ ls) (item.Step text.format (Put (take 1_048_577 text.bytes)) ∷ items)
+  skips : (n : ℕ) (l : List ℕ) (ls : List (List ℕ)) (items : List Item)
+      → Says (bare l) line.Skipped → Spells (n + 1) None ls items → Spells n None (l ∷ ls) items
+  makes : (n : ℕ) (l : List ℕ) (ls : List (List ℕ)) (items : List Item) (f : Format) (s : Step)
+      → Says (bare l) (line.Step f s) → Spells (n + 1) None ls items → Spells n None (l ∷ ls) (item.Step f s ∷ items)
+  is_bad : (n : ℕ) (l : List ℕ) (ls : List (List ℕ)) (items : List Item)
+      → Says (bare l) line.Bad → Spells (n + 1) None ls items → Spells n None (l ∷ ls) (item.BadLine n ∷ items)
+  begins : (n : ℕ) (l : List ℕ) (ls : List (List ℕ)) (items : List Item) (f : Format)
+      → Says (bare l) (line.Put f) → Spells (n + 1) (Some (empty_text f)) ls items → Spells n None (l ∷ ls) items
+  goes_on : (n : ℕ) (text : Text) (l : List ℕ) (ls : List (List ℕ)) (items : List Item)
+      → bare l ≢ text_end → Spells (n + 1) (Some (with_line text l)) ls items → Spells n (Some text) (l ∷ ls) items
+  puts : (n : ℕ) (text : Text) (l : List ℕ) (ls : List (List ℕ)) (items : List Item)
+      → bare l ≡ text_end → Spells (n + 1) None ls items
+      → Spells n (Some text) (l ∷ ls) (item.Step text.format (Put (take 1_048_577 text.bytes)) ∷ items)
   stops : (n : ℕ) (text : Text) → Spells n (Some text) [] (item.EndOfText ∷ [])
 
 -- the steps among what is spelled

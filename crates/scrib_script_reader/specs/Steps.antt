@@ -13,7 +13,7 @@ abbrev pub IsExchange : List (List ℕ) → (from to : List ℕ) → Message →
 IsExchange fs from to m =
     (text : List ℕ) × (fs ≡ from ∷ to ∷ text ∷ []) × IsTrue (is_name from) × IsTrue (is_name to) × IsMessageText text m
 
--- the word, the id and the fields behind them make the step
+-- the word, the id and the fields after them make the step
 abbrev pub Makes : List ℕ → ℕ → List (List ℕ) → Step → Type 0
 Makes word id fs (step.Put text) = ⊥
 Makes word id fs (step.Withdraw name) = ⊥
@@ -28,8 +28,8 @@ Makes word id fs (step.Note i (event.Received from to m)) =
 Makes word id fs (step.Turn i) = (word ≡ codes "turn") × (i ≡ id) × (fs ≡ [])
 Makes word id fs (step.Ask i) = (word ≡ codes "ask") × (i ≡ id) × (fs ≡ [])
 
--- the word and the field behind it, which no field follows, make the step: `withdraw` and a module's name, or `profile`
--- and a profile's word
+-- the word and the last field, after which no field comes, make the step: `withdraw` and a module's name, or
+-- `profile` and a profile's word
 abbrev pub Edits : (word text : List ℕ) → List (List ℕ) → Step → Type 0
 Edits word text fs (step.Withdraw name) = (word ≡ codes "withdraw") × (fs ≡ []) × IsDottedText text name
 Edits word text fs (step.Profile p) = (word ≡ codes "profile") × (fs ≡ []) × (text ≡ profile_word p)
@@ -39,7 +39,7 @@ Edits word text fs (step.Note i e) = ⊥
 Edits word text fs (step.Turn i) = ⊥
 Edits word text fs (step.Ask i) = ⊥
 
--- the fields make the step: a word that edits and one field, or a word, an id in digits, and further fields
+-- the fields make the step: `withdraw` or `profile` and one field, or a word, an id in digits, and further fields
 abbrev pub MakesStep : List (List ℕ) → Step → Type 0
 MakesStep [] s = ⊥
 MakesStep (word ∷ []) s = ⊥

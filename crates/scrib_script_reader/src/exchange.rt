@@ -1,4 +1,4 @@
-//! Who sends what to whom, as the fields of a line say it.
+//! Parses a sender, a receiver and a message from the fields of a line.
 
 ghost use Rattle.std.specs.Prelude.{◌≡◌, ◌&&◌, if◌then◌else◌, IfOk, Some, None, map};
 ghost use Rattle.scrib_types.specs.Names.{is_name};
@@ -10,7 +10,7 @@ use scrib_types::name::{Name, Role};
 use scrib_types::shared_message::SharedMessage;
 use std::alloc::{AllocError, Global};
 
-/// Who sends what to whom.
+// A message with its sender and its receiver.
 #[derive(Drop)]
 pub(crate) struct Exchange {
     pub from: Role,
@@ -18,7 +18,7 @@ pub(crate) struct Exchange {
     pub message: SharedMessage,
 }
 
-/// The sender, the receiver and the message that the fields are, if they are these.
+// The exchange that the fields spell, if they spell one.
 pub(crate) fn exchange_of(alloc: Global, fields: &[&[u8]]) -> Result<Option<Exchange>, AllocError>
     ensures { IfOk result (Finds (λ e. IsExchange (map (λ field. field.now) fields.now) e.from e.to e.message)) }
 {
@@ -36,7 +36,8 @@ pub(crate) fn exchange_of(alloc: Global, fields: &[&[u8]]) -> Result<Option<Exch
 
 // Both names, if the fields are names.
 fn names_of(alloc: Global, from: &[u8], to: &[u8]) -> Result<Option<(Role, Role)>, AllocError>
-    ensures { IfOk result (λ roles. roles ≡ (if is_name from.now && is_name to.now then Some (from.now, to.now) else None)) }
+    ensures { IfOk result (λ roles.
+        roles ≡ (if is_name from.now && is_name to.now then Some (from.now, to.now) else None)) }
 {
     let Some(from) = Name::from_bytes(alloc, from)? else {
         return Ok(None);

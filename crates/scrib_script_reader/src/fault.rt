@@ -1,13 +1,13 @@
-//! Why a script isn't read further.
+//! Why reading a script ended early.
 
 use std::alloc::AllocError;
 
-/// Why a script isn't read further.
+/// Why reading a script ended early.
 #[derive(Debug, Drop, PartialEq, Eq)]
 pub enum SpellFault {
-    /// It is longer than a script may be.
+    /// The script passes its limits.
     TooLong,
-    /// Memory for a line, a text or a step was refused.
+    /// Memory for a line, a text or a step is refused.
     OutOfMemory,
 }
 

@@ -1,15 +1,15 @@
-//! What a script spells.
+//! The items that a script spells.
 
-use crate::format::Format;
+use scrib_core::format::Format;
 use scrib_core::step::Step;
 
-/// A thing that a script spells.
+/// An item of a script.
 #[derive(Drop)]
 pub enum Item {
-    /// A step, and how its reply is printed.
+    /// A step, and the format of its reply.
     Step(Format, Step),
-    /// A line that says nothing: its number, from 1.
+    /// A line that is no step, no comment and not empty: its number, from 1.
     BadLine(u32),
-    /// An end inside a module text.
+    /// The script ends inside a module text.
     EndOfText,
 }

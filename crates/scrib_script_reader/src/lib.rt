@@ -1,14 +1,13 @@
-//! What a script spells.
+//! Reads scripts: the step of a line, and the items of a script that arrives in pieces of any size.
 #![tactic(auto)]
 
-mod act;
+mod direction;
+mod event_cache;
 mod exchange;
-mod exchanges;
 pub mod fault;
 mod fields;
-pub mod format;
 pub mod item;
-pub mod keeping;
+pub mod kept_bytes;
 pub mod limits;
 pub mod line;
 mod reader;

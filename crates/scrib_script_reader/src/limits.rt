@@ -1,4 +1,4 @@
-//! How long a script may be.
+//! The limits of a script.
 
 /// The most bytes of a script.
 pub const MAX_SCRIPT_BYTES: u64 = 1_099_511_627_776;
@@ -6,12 +6,12 @@ pub const MAX_SCRIPT_BYTES: u64 = 1_099_511_627_776;
 /// The most lines of a script.
 pub const MAX_SCRIPT_LINES: u32 = 16_777_216;
 
-/// How long a script may be.
+/// The limits of a script.
 #[derive(Clone, Copy, Debug, PartialEq, Eq)]
 pub struct Limits {
-    /// Its most lines. The last counts too where no LF ends it.
+    /// The most lines. The last line counts too where no LF ends it.
     pub lines: u32,
-    /// Its most bytes.
+    /// The most bytes.
     pub bytes: u64,
 }
 
@@ -19,7 +19,7 @@ impl Limits {
     ghost use Rattle.std.specs.Prelude.{◌≡◌};
     ghost use Rattle.scrib_script_reader.specs.Limits.{of_scripts};
 
-    /// The limits of the scripts that the program reads.
+    /// Returns the limits of the scripts that the program reads.
     pub fn of_scripts() -> Limits
         ensures { result ≡ of_scripts }
     {

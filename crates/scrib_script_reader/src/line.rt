@@ -1,39 +1,39 @@
-//! Lines of a script.
+//! Parses single lines of a script.
 
 ghost use Rattle.std.specs.Prelude.{◌≡◌, ◌↔◌, ◌∷◌, ◌++◌, IfOk, IfSome, IsTrue, map, codes};
 ghost use Rattle.scrib_core.specs.declared.step.Step.TheVariants.{Ask, Turn};
 ghost use Rattle.scrib_script_reader.specs.Fields.{fields};
 ghost use Rattle.scrib_script_reader.specs.Says.{Says, IsSkipped, IsPutLine, Asks};
-ghost use Rattle.scrib_script_reader.specs.declared.format.Format.TheVariants as format;
+ghost use Rattle.scrib_core.specs.declared.format.Format.TheVariants as format;
 ghost use Rattle.scrib_script_reader.specs.declared.line.Line.TheVariants as line;
 
 use crate::fields::fields_of;
-use crate::format::Format;
 use crate::step::step_of;
 use crate::text::number_of;
+use scrib_core::format::Format;
 use scrib_core::step::Step;
 use std::alloc::{AllocError, Global};
 
 /// The most bytes of a line outside module texts, without its end.
 pub const MAX_LINE_BYTES: usize = 131_072;
 
-/// What a line outside module texts says.
+/// The meaning of a line outside module texts.
 #[derive(Drop)]
 pub enum Line {
     /// A line without fields, or a comment.
     Skipped,
-    /// The text of a module follows, and the reply to its put is printed so.
+    /// The text of a module follows; the reply to its put is printed in this format.
     Put(Format),
-    /// A step, and how its reply is printed.
+    /// A step, and the format of its reply.
     Step(Format, Step),
     /// None of these.
     Bad,
 }
 
-/// What the line of these bytes, without their end, says.
+/// Returns the meaning of a line, given without its end. A line of more than [`MAX_LINE_BYTES`] bytes is `Bad`.
 ///
 /// # Errors
-/// `AllocError` where memory for the fields or for the step was refused.
+/// `AllocError` where memory for the fields or for the step is refused.
 pub fn line_of(alloc: Global, bytes: &[u8]) -> Result<Line, AllocError>
     ensures { IfOk result (Says bytes.now) }
 {
@@ -64,7 +64,7 @@ pub fn line_of(alloc: Global, bytes: &[u8]) -> Result<Line, AllocError>
     }
 }
 
-// What stands behind the `#` of a comment.
+// The bytes after the `#` of a comment.
 fn comment_of(bytes: &[u8]) -> Option<&[u8]>
     ensures { IfSome result (λ rest. bytes.now ≡ 35 ∷ rest.now) }
 {
@@ -74,7 +74,7 @@ fn comment_of(bytes: &[u8]) -> Option<&[u8]>
     }
 }
 
-// Whether the line begins with `#`, so that its first field does.
+// Whether the line begins with `#`, and so does its first field.
 fn is_comment(bytes: &[u8]) -> bool
     ensures { IsTrue result → IsSkipped (fields bytes.now) }
 {
@@ -84,7 +84,7 @@ fn is_comment(bytes: &[u8]) -> bool
     }
 }
 
-// What stands behind `ask` and a single blank.
+// The bytes after `ask` and a single blank.
 fn after_ask(bytes: &[u8]) -> Option<&[u8]>
     ensures { IfSome result (λ rest. bytes.now ≡ codes "ask" ++ 32 ∷ rest.now) }
 {
@@ -94,7 +94,7 @@ fn after_ask(bytes: &[u8]) -> Option<&[u8]>
     }
 }
 
-// The id of a line that asks, where it is spelled with a single blank.
+// The id of an `ask` line that is spelled with a single blank.
 #[tactic(auto, using(crate::proofs::Heads::ask_says))]
 fn ask_of(bytes: &[u8]) -> Option<u32>
     ensures { IfSome result (λ id. Says bytes.now (line.Step format.Line (Ask id))) }
@@ -104,7 +104,7 @@ fn ask_of(bytes: &[u8]) -> Option<u32>
     Some(id)
 }
 
-// What stands behind `turn` and a single blank.
+// The bytes after `turn` and a single blank.
 fn after_turn(bytes: &[u8]) -> Option<&[u8]>
     ensures { IfSome result (λ rest. bytes.now ≡ codes "turn" ++ 32 ∷ rest.now) }
 {
@@ -114,7 +114,7 @@ fn after_turn(bytes: &[u8]) -> Option<&[u8]>
     }
 }
 
-// The id of a line that turns, where it is spelled with a single blank.
+// The id of a `turn` line that is spelled with a single blank.
 #[tactic(auto, using(crate::proofs::Heads::turn_says))]
 fn turn_of(bytes: &[u8]) -> Option<u32>
     ensures { IfSome result (λ id. Says bytes.now (line.Step format.Line (Turn id))) }
@@ -134,7 +134,7 @@ fn is_skipped(fields: &[&[u8]]) -> bool
     }
 }
 
-// The format that the fields ask for, and the fields behind that.
+// The format that the fields ask for, and the fields after it.
 fn format_of<'a, 'b>(fields: &'a [&'b [u8]]) -> (Format, &'a [&'b [u8]])
     ensures { Asks (map (λ field. field.now) fields.now) result.0 (map (λ field. field.now) result.1.now) }
 {

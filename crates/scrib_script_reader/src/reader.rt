@@ -1,47 +1,47 @@
-//! Reading the lines of a script, one after another.
+//! Parses the lines of a script one after another, with a cache of events.
 
 ghost use Rattle.std.specs.Prelude.{◌≡◌, ◌<◌, ◌++◌, ◌∷◌, ℕ, List, IfOk, IfSome, MatchOption, length, slice_index};
 ghost use Rattle.scrib_script_reader.specs.Fields.{IsNumber};
 ghost use Rattle.scrib_script_reader.specs.Says.{Says};
-ghost use Rattle.scrib_script_reader.specs.Heads.{IsHead, act_word};
+ghost use Rattle.scrib_script_reader.specs.Heads.{IsHead, direction_word};
 
-use crate::act::Act;
-use crate::exchanges::Exchanges;
-use crate::format::Format;
+use crate::direction::Direction;
+use crate::event_cache::EventCache;
 use crate::line::{Line, MAX_LINE_BYTES, line_of};
 use crate::text::number_of;
+use scrib_core::format::Format;
 use scrib_core::step::Step;
 use std::alloc::{AllocError, Global};
 
-/// A line of an exchange before its names are read.
+// A line of an exchange, parsed up to its id.
 #[derive(Clone, Copy)]
 struct Head<'a> {
-    act: Act,
+    direction: Direction,
     id: u32,
-    // What stands behind the id.
+    // The bytes after the id and a blank.
     text: &'a [u8],
 }
 
-/// Reads the lines of a script. What was once read of an exchange is found again by its text.
+/// Parses the lines of a script. The events of an exchange are parsed once and found again by its text.
 #[derive(Drop)]
 pub struct Reader {
     alloc: Global,
-    exchanges: Exchanges,
+    event_cache: EventCache,
 }
 
 impl Reader {
-    /// A reader before the first line.
+    /// Returns a reader with an empty cache.
     pub fn new(alloc: Global) -> Reader {
         Reader {
             alloc,
-            exchanges: Exchanges::new(alloc),
+            event_cache: EventCache::new(alloc),
         }
     }
 
-    /// What the line of these bytes, without their end, says.
+    /// Returns the meaning of a line, given without its end.
     ///
     /// # Errors
-    /// `AllocError` where memory for the fields or for the step was refused.
+    /// `AllocError` where memory for the fields or for the step is refused.
     #[inline(always)]
     pub fn line(&mut self, bytes: &[u8]) -> Result<Line, AllocError>
         ensures { IfOk result (Says bytes.now) }
@@ -49,42 +49,42 @@ impl Reader {
         let Some(head) = head_of(bytes) else {
             return line_of(self.alloc, bytes);
         };
-        let Some(event) = self.exchanges.read(head.act, head.text)? else {
+        let Some(event) = self.event_cache.read(head.direction, head.text)? else {
             return line_of(self.alloc, bytes);
         };
         Ok(Line::Step(Format::Line, Step::Note { id: head.id, event }))
     }
 }
 
-/// The act and the id that a line begins with, where it is spelled with single blanks.
+// The direction and the id that a line begins with, where it is spelled with single blanks.
 fn head_of(bytes: &[u8]) -> Option<Head<'_>>
-    ensures { IfSome result (λ head. IsHead bytes.now head.act head.id head.text.now) }
+    ensures { IfSome result (λ head. IsHead bytes.now head.direction head.id head.text.now) }
 {
     if bytes.len() > MAX_LINE_BYTES {
         return None;
     }
-    let (act, rest) = act_of(bytes)?;
+    let (direction, rest) = direction_of(bytes)?;
     let at = first_blank(rest)?;
     let id = number_of(&rest[..at])?;
     Some(Head {
-        act,
+        direction,
         id,
         text: &rest[at + 1..],
     })
 }
 
-/// The act that a line begins with, and what stands behind the blank after it.
-fn act_of(bytes: &[u8]) -> Option<(Act, &[u8])>
-    ensures { IfSome result (λ cut. bytes.now ≡ act_word cut.0 ++ 32 ∷ cut.1.now) }
+// The direction that a line begins with, and the bytes after the blank.
+fn direction_of(bytes: &[u8]) -> Option<(Direction, &[u8])>
+    ensures { IfSome result (λ cut. bytes.now ≡ direction_word cut.0 ++ 32 ∷ cut.1.now) }
 {
     match bytes {
-        [b's', b'e', b'n', b'd', b' ', rest @ ..] => Some((Act::Send, rest)),
-        [b'r', b'e', b'c', b'v', b' ', rest @ ..] => Some((Act::Receive, rest)),
+        [b's', b'e', b'n', b'd', b' ', rest @ ..] => Some((Direction::Send, rest)),
+        [b'r', b'e', b'c', b'v', b' ', rest @ ..] => Some((Direction::Receive, rest)),
         _ => None,
     }
 }
 
-/// The place of the first blank.
+// The offset of the first blank.
 fn first_blank(bytes: &[u8]) -> Option<usize>
     ensures within { IfSome result (λ at. at < length bytes.now) }
     ensures blank { IfSome result (λ at. slice_index bytes.now at ≡ 32) }

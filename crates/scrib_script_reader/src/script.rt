@@ -1,32 +1,33 @@
-//! A script as it is read, item after item, from pieces of any size.
+//! Reads a script item by item, from pieces of any size.
 
 ghost use Rattle.std.specs.Prelude.{◌≤◌};
 
 use crate::fault::SpellFault;
 use crate::item::Item;
-use crate::keeping::{KEPT_TEXT_BYTES, KeptText, before_end, keep, next_lf};
+use crate::kept_bytes::{KEPT_TEXT_BYTES, KeptText, append_up_to, next_lf, without_cr};
 use crate::limits::Limits;
 use crate::reader::Reader;
-use crate::spelling::{Spelled, carry_text, is_text_end, put_of, spelling_of};
+use crate::spelling::{Spelled, is_text_end, put_of, spell_text_line, spelling_of};
 use std::alloc::{AllocError, Global};
 
-// What is kept of a line outside module texts: one byte more than it may have, and a CR.
+// The bytes that are kept of a line outside module texts: its limit, one byte to see that it is longer, and a CR.
 const KEPT_LINE_BYTES: usize = 131_074;
 
-/// A script as it is read. What it needs of the bytes so far is kept: the line that they end in, and the module text
-/// that they end in, as far as it may be put.
+/// The state of reading a script.
+///
+/// It keeps the line and the module text in which the bytes so far end, up to one byte past what they may have.
 #[derive(Drop)]
 pub struct Script {
     alloc: Global,
     reader: Reader,
     limits: Limits,
-    // The module text so far, inside one.
+    // The module text so far, or none outside module texts.
     text: Option<KeptText>,
     // The line so far.
     line: Vec<u8>,
-    // How many lines ended.
+    // The number of lines that have ended.
     lines: u32,
-    // How many bytes were taken in.
+    // The number of bytes that were consumed.
     bytes: u64,
     ghost few: { limits.lines ≤ 16777216 },
     ghost numbered: { lines ≤ limits.lines },
@@ -37,10 +38,10 @@ impl Script {
     ghost use Rattle.std.specs.Prelude.{◌≡◌, ◌<◌, ◌+◌, ◌⊎◌, ◌∷◌, ◌++◌, [], ℕ, List, Option, None, IfOk, IfErr, OnOk, OnErr, length, option_map};
     ghost use Rattle.scrib_script_reader.specs.Scripts.{NoLf, listed};
     ghost use Rattle.scrib_script_reader.specs.Limits.{of_scripts};
-    ghost use Rattle.scrib_script_reader.specs.Standing.{as_text, Holds, Takes, TakesFront, IsOneLine, IsPastWith, PassesLimits, EndsIn, LineEnded};
+    ghost use Rattle.scrib_script_reader.specs.Positions.{as_text, Holds, Takes, TakesFront, IsOneLine, IsPastWith, PassesLimits, EndsIn, LineEnded};
     ghost use Rattle.scrib_script_reader.specs.declared.fault.SpellFault.TheVariants as fault;
 
-    /// A script before its first byte, of at most 16,777,216 lines and 1,099,511,627,776 bytes.
+    /// Returns the state before the first byte of a script of at most 16,777,216 lines and 1,099,511,627,776 bytes.
     pub fn new(alloc: Global) -> Script
         ensures holds { Holds result None [] }
         ensures lines { result.lines ≡ 0 }
@@ -50,7 +51,7 @@ impl Script {
         Script::with_limits(alloc, Limits::of_scripts())
     }
 
-    /// A script of these limits before its first byte.
+    /// Returns the state before the first byte of a script of these limits.
     pub fn with_limits(alloc: Global, limits: Limits) -> Script
         requires { limits.lines ≤ 16777216 }
         ensures holds { Holds result None [] }
@@ -69,7 +70,7 @@ impl Script {
         }
     }
 
-    /// How many lines ended so far.
+    /// Returns how many lines have ended so far.
     pub fn lines(&self) -> u32
         ensures is { result ≡ self.now.lines }
         ensures few { result ≤ 16777216 }
@@ -77,14 +78,15 @@ impl Script {
         self.lines
     }
 
-    /// Takes the next bytes of the script in up to the end of the first line that ends an item, or all of them where no
-    /// line does. Returns that item, if there is one, and the bytes that are left.
+    /// Consumes the next bytes of the script, up to the end of the first line that ends an item.
+    ///
+    /// Consumes all bytes where no line ends an item. Returns that item, if any, and the bytes that are left.
     ///
     /// # Errors
-    /// The script is then at no place from which it can be read further.
-    /// - `TooLong` in the line of the first byte past the limits, before that line ends an item. They are 16,777,216
-    ///   lines and 1,099,511,627,776 bytes unless the script was made with others.
-    /// - `OutOfMemory` where memory for a line, a text or a step was refused.
+    /// The script must not be read further after an error.
+    /// - `TooLong` in the line of the first byte past the limits, before that line ends an item. The limits are
+    ///   16,777,216 lines and 1,099,511,627,776 bytes unless `with_limits` set others.
+    /// - `OutOfMemory` where memory for a line, a text or a step is refused.
     pub fn next_item<'a>(&mut self, piece: &'a [u8]) -> Result<(Option<Item>, &'a [u8]), SpellFault>
         ensures taken { IfOk result (λ r. TakesFront self.old self.new piece.now r.1.now (listed r.0)) }
         ensures shorter { IfOk result (λ r. 0 < length piece.now → length r.1.now < length piece.now) }
@@ -102,10 +104,12 @@ impl Script {
         Ok((None, &[]))
     }
 
-    /// What the last line spells, which no LF ended, where all bytes were taken in; or the end inside a module text.
+    /// Returns the item of the last line, which no LF ended, or `EndOfText` inside a module text.
+    ///
+    /// The whole script must have been consumed.
     ///
     /// # Errors
-    /// `OutOfMemory` where memory for the step was refused.
+    /// `OutOfMemory` where memory for the step is refused.
     pub fn last_item(&mut self) -> Result<Option<Item>, SpellFault>
         ensures ends { IfOk result (λ item. EndsIn self.old (listed item)) }
         ensures limit { IfErr result (λ e. e ≡ fault.OutOfMemory) }
@@ -127,7 +131,7 @@ impl Script {
         Ok(Some(Item::EndOfText))
     }
 
-    // Takes the last bytes of a line and its LF in. Returns what the line spells.
+    // Consumes the last bytes of a line and its LF. Returns the item that the line spells.
     fn take_line(&mut self, part: &[u8]) -> Result<Option<Item>, SpellFault>
         requires { NoLf part.now }
         ensures taken { IfOk result (λ item. Takes self.old self.new (part.now ++ 10 ∷ []) (listed item)) }
@@ -140,7 +144,7 @@ impl Script {
         self.end_line()
     }
 
-    // Takes a line that lies whole in its piece in, so that no copy of it is kept.
+    // Consumes a line that is whole in its piece, without copying it. Returns the item that the line spells.
     fn pass_line(&mut self, line: &[u8]) -> Result<Option<Item>, SpellFault>
         requires text { self.old.text ≡ None }
         requires line { self.old.line.items ≡ [] }
@@ -149,14 +153,14 @@ impl Script {
         ensures limit { IfErr result (λ e. e ≡ fault.TooLong → IsPastWith self.old (line.now ++ 10 ∷ [])) }
     {
         self.bytes = self.counted(line.len() + 1)?;
-        let said = self.reader.line(before_end(line))?;
-        let (item, text) = spelling_of(said, self.lines + 1).parts(self.alloc);
+        let meaning = self.reader.line(without_cr(line))?;
+        let (item, text) = spelling_of(meaning, self.lines + 1).parts(self.alloc);
         self.text = text;
         self.lines += 1;
         Ok(item)
     }
 
-    // Takes bytes of a line in.
+    // Consumes bytes of a line, without its LF.
     fn take_part(&mut self, part: &[u8]) -> Result<(), SpellFault>
         requires { NoLf part.now }
         ensures taken { OnOk result (Takes self.old self.new part.now []) }
@@ -166,22 +170,22 @@ impl Script {
             return Ok(());
         }
         self.bytes = self.counted(part.len())?;
-        let most = if self.text.is_some() {
+        let capacity = if self.text.is_some() {
             KEPT_TEXT_BYTES
         } else {
             KEPT_LINE_BYTES
         };
-        keep(&mut self.line, part, most)?;
+        append_up_to(&mut self.line, part, capacity)?;
         Ok(())
     }
 
-    // Takes an LF in. Returns what the line spells that it ends.
+    // Consumes an LF. Returns the item that the line before it spells.
     fn end_line(&mut self) -> Result<Option<Item>, SpellFault>
         ensures taken { IfOk result (λ item. Takes self.old self.new (10 ∷ []) (listed item)) }
         ensures limit { IfErr result (λ e. e ≡ fault.TooLong → IsPastWith self.old (10 ∷ [])) }
     {
         let bytes = self.counted(1)?;
-        let (item, text) = self.carry_line()?;
+        let (item, text) = self.spell_line()?;
         self.bytes = bytes;
         self.text = text;
         self.lines += 1;
@@ -189,8 +193,8 @@ impl Script {
         Ok(item)
     }
 
-    // What the line spells that an LF ended, and what is kept of the module text that goes on after it, if one does.
-    fn carry_line(&mut self) -> Result<(Option<Item>, Option<KeptText>), AllocError>
+    // The item that the ended line spells, and the module text that continues after it, if one does.
+    fn spell_line(&mut self) -> Result<(Option<Item>, Option<KeptText>), AllocError>
         requires { self.old.lines < self.old.limits.lines }
         ensures ended { IfOk result (λ r. LineEnded self.old (option_map as_text r.1) (listed r.0)) }
         ensures lines { OnOk result (self.new.lines ≡ self.old.lines) }
@@ -198,20 +202,21 @@ impl Script {
         ensures limits { OnOk result (self.new.limits ≡ self.old.limits) }
     {
         match self.text.take() {
-            Some(text) => carry_text(text, self.line.as_slice()),
+            Some(text) => spell_text_line(text, self.line.as_slice()),
             None => {
-                let line = self.reader.line(before_end(self.line.as_slice()))?;
+                let line = self.reader.line(without_cr(self.line.as_slice()))?;
                 Ok(spelling_of(line, self.lines + 1).parts(self.alloc))
             }
         }
     }
 
-    // How many bytes are taken in with so many more of one line, where the script may have them.
+    // The number of consumed bytes with `more` of one line. Fails where the script would pass its limits.
     fn counted(&self, more: usize) -> Result<u64, SpellFault>
         ensures bytes { IfOk result (λ bytes. bytes ≡ self.now.bytes + more) }
         ensures few_bytes { IfOk result (λ bytes. bytes ≤ self.now.limits.bytes) }
         ensures few_lines { OnOk result (self.now.lines < self.now.limits.lines) }
-        ensures limit { OnErr result ((self.now.limits.bytes < self.now.bytes + more) ⊎ (self.now.limits.lines ≤ self.now.lines)) }
+        ensures limit { OnErr result
+            ((self.now.limits.bytes < self.now.bytes + more) ⊎ (self.now.limits.lines ≤ self.now.lines)) }
     {
         if self.lines >= self.limits.lines {
             return Err(SpellFault::TooLong);

@@ -1,32 +1,32 @@
-//! What single lines spell.
+//! The items that single lines spell.
 
 ghost use Rattle.std.specs.Prelude.{◌≡◌, ◌↔◌, ◌∷◌, [], IsTrue, IfOk, option_map};
 ghost use Rattle.scrib_core.specs.declared.step.Step.TheVariants.{Put};
 ghost use Rattle.scrib_script_reader.specs.Scripts.{text_end, listed};
-ghost use Rattle.scrib_script_reader.specs.Standing.{as_text, begun, items_of, spelled_of, TextGives};
+ghost use Rattle.scrib_script_reader.specs.Positions.{as_text, begun_text, items_of, spelled_of, TextGives};
 ghost use Rattle.scrib_script_reader.specs.declared.item.Item.TheVariants as item;
 
-use crate::format::Format;
 use crate::item::Item;
-use crate::keeping::{KEPT_TEXT_BYTES, KeptText, before_end, keep};
+use crate::kept_bytes::{KEPT_TEXT_BYTES, KeptText, append_up_to, without_cr};
 use crate::line::Line;
+use scrib_core::format::Format;
 use scrib_core::step::Step;
-use scrib_types::plain::Items;
+use scrib_types::containers::Items;
 use std::alloc::{AllocError, Global};
 
-/// What a line outside module texts spells.
+// What a line outside module texts spells.
 #[derive(Drop)]
 pub(crate) enum Spelled {
     Nothing,
-    /// A module text begins after it, and the reply to its put is printed so.
+    // A module text begins after the line; the reply to its put is printed in this format.
     Text(Format),
     Item(Item),
 }
 
 impl Spelled {
-    /// The item, and what is kept of the text that begins: nothing yet.
+    // The item, and the module text that begins, which is still empty.
     pub(crate) fn parts(self, alloc: Global) -> (Option<Item>, Option<KeptText>)
-        ensures text { option_map as_text result.1 ≡ begun self }
+        ensures text { option_map as_text result.1 ≡ begun_text self }
         ensures item { listed result.0 ≡ items_of self }
     {
         match self {
@@ -40,7 +40,7 @@ impl Spelled {
     }
 }
 
-/// What the line of this number spells that says this.
+// What a line of this meaning and number spells.
 pub(crate) fn spelling_of(line: Line, number: u32) -> Spelled
     ensures { result ≡ spelled_of number line }
 {
@@ -52,14 +52,14 @@ pub(crate) fn spelling_of(line: Line, number: u32) -> Spelled
     }
 }
 
-/// Whether this is the line that ends a module text.
+// Whether this line, without its end, ends a module text.
 pub(crate) fn is_text_end(bytes: &[u8]) -> bool
     ensures { IsTrue result ↔ (bytes.now ≡ text_end) }
 {
     bytes == b"%%".as_slice()
 }
 
-/// The put of the module text that is kept.
+// The put of the module text.
 pub(crate) fn put_of(text: KeptText) -> Item
     ensures { result ≡ item.Step text.format (Put text.bytes.items) }
 {
@@ -68,18 +68,17 @@ pub(crate) fn put_of(text: KeptText) -> Item
     Item::Step(format, Step::Put { text })
 }
 
-/// The put of the module text that is kept so far, where the line, which an LF ended, is its end; or the text with the
-/// line.
-pub(crate) fn carry_text(
+// The put of the module text where the line, which an LF ended, is `%%`; else the text with the line appended.
+pub(crate) fn spell_text_line(
     mut text: KeptText,
     line: &[u8],
 ) -> Result<(Option<Item>, Option<KeptText>), AllocError>
     ensures { IfOk result (λ r. TextGives (as_text text) line.now (option_map as_text r.1) (listed r.0)) }
 {
-    if is_text_end(before_end(line)) {
+    if is_text_end(without_cr(line)) {
         return Ok((Some(put_of(text)), None));
     }
-    keep(&mut text.bytes, line, KEPT_TEXT_BYTES)?;
-    keep(&mut text.bytes, b"\n", KEPT_TEXT_BYTES)?;
+    append_up_to(&mut text.bytes, line, KEPT_TEXT_BYTES)?;
+    append_up_to(&mut text.bytes, b"\n", KEPT_TEXT_BYTES)?;
     Ok((None, Some(text)))
 }

@@ -1,4 +1,4 @@
-//! The step that a line's fields make.
+//! Parses the fields of a line into a step.
 
 ghost use Rattle.std.specs.Prelude.{◌≡◌, IfOk, map, codes};
 ghost use Rattle.scrib_types.specs.Texts.{profile_word};
@@ -14,7 +14,7 @@ use scrib_types::profile::Profile;
 use scrib_types::shared_event::SharedEvent;
 use std::alloc::{AllocError, Global};
 
-// The step that the fields make, if they make one.
+// The step that the fields spell, if they spell one.
 pub(crate) fn step_of(alloc: Global, fields: &[&[u8]]) -> Result<Option<Step>, AllocError>
     ensures { IfOk result (Finds (MakesStep (map (λ field. field.now) fields.now))) }
 {
@@ -33,7 +33,7 @@ pub(crate) fn step_of(alloc: Global, fields: &[&[u8]]) -> Result<Option<Step>, A
     step_with(alloc, word, id, rest)
 }
 
-// The step that the word, the id and the fields behind them make, if they make one.
+// The step that the word, the id and the fields after them spell, if they spell one.
 fn step_with(
     alloc: Global,
     word: &[u8],
@@ -87,7 +87,7 @@ fn profile_of(text: &[u8], fields: &[&[u8]]) -> Option<Step>
     Some(Step::Profile { profile })
 }
 
-// The profile of this word, if it is one's.
+// The profile that has this word, if one does.
 fn profile_named(text: &[u8]) -> Option<Profile>
     ensures { Finds (λ profile. text.now ≡ profile_word profile) result }
 {

@@ -1,4 +1,4 @@
-//! What a field says: a number, a dotted name or a message.
+//! Parses single fields: numbers, dotted names and messages.
 
 ghost use Rattle.std.specs.Prelude.{ℕ, List, IfOk, MatchOption};
 ghost use Rattle.scrib_script_reader.specs.Fields.{Finds, IsNumber, IsDottedText, IsOperatorText, IsPayloadText, IsMessageText, IsCut};
@@ -11,7 +11,7 @@ use std::alloc::{AllocError, Global};
 // The most digits of a number.
 const MAX_DIGITS: usize = 10;
 
-// The number that the digits are, if they are one of 32 bits.
+// The number of 1 to 10 decimal digits, if the bytes are such and it fits in 32 bits.
 pub(crate) fn number_of(bytes: &[u8]) -> Option<u32>
     ensures { Finds (IsNumber bytes.now) result }
 {
@@ -28,7 +28,7 @@ pub(crate) fn number_of(bytes: &[u8]) -> Option<u32>
     u32::try_from(value).ok()
 }
 
-// The names that the text joins by dots, if it does.
+// The dotted name that the text is, if it is one.
 pub(crate) fn dotted_of(alloc: Global, bytes: &[u8]) -> Result<Option<Dotted>, AllocError>
     ensures { IfOk result (Finds (IsDottedText bytes.now)) }
 {
@@ -42,7 +42,7 @@ pub(crate) fn dotted_of(alloc: Global, bytes: &[u8]) -> Result<Option<Dotted>, A
     Ok(Some(Dotted::from_vec(alloc, names)?))
 }
 
-// The operator, or none, that the text before a message's parenthesis is.
+// The operator that the text before a message's parenthesis is; an empty text is no operator.
 fn operator_of(alloc: Global, bytes: &[u8]) -> Result<Option<Option<Name>>, AllocError>
     ensures { IfOk result (Finds (IsOperatorText bytes.now)) }
 {
@@ -69,9 +69,11 @@ fn payload_of(alloc: Global, bytes: &[u8]) -> Result<Option<Payload>, AllocError
     Ok(Some(Payload::from_vec(sorts)))
 }
 
-// The text before a message's parentheses, and the text between them.
+// The text before the parentheses of a message, and the text between them.
 fn parts_of(bytes: &[u8]) -> Option<(&[u8], &[u8])>
-    ensures { MatchOption result ((before between : List ℕ) → IsCut bytes.now before between → ⊥) (λ parts. IsCut bytes.now parts.0.now parts.1.now) }
+    ensures { MatchOption result
+        ((before between : List ℕ) → IsCut bytes.now before between → ⊥)
+        (λ parts. IsCut bytes.now parts.0.now parts.1.now) }
 {
     let front = bytes.strip_suffix(b")")?;
     let open = front.iter().position(|byte| *byte == b'(')?;

@@ -10,9 +10,10 @@ use std::sync::Wait;
 use std::thread::Threads;
 use std::{env, io};
 
-// How many bytes of the output are written at once at most where nobody waits for them: as many as a pipe takes.
+// The size of the output buffer, in bytes: as many as a pipe takes. Commands flush it where a reader may be waiting.
 const OUTPUT_BYTES: usize = 65_536;
 
+// The words of the command line.
 fn words(rt: &(impl Env + AllocGlobal)) -> io::Result<Vec<String>> {
     let mut words = Vec::new(rt.alloc());
     for word in env::args(rt)? {

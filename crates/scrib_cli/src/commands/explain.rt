@@ -1,9 +1,10 @@
-//! Explaining a conversation of a script of standard input or of a file.
+//! The command `explain`: explains a conversation of a script.
 
 ghost use Rattle.std.specs.Prelude.{◌≡◌, true, IfOk, IfErr, IfSome, OnOk, OnErr};
 ghost use Rattle.std.specs.Option.{option_copied};
-ghost use Rattle.scrib_cli.specs.Commands.{source, IsToldOf, IsPartToldOf};
-ghost use Rattle.scrib_cli.specs.Faults.{of_script, script_fault};
+ghost use Rattle.scrib_cli.specs.Commands.{source, IsScriptExplained, IsScriptPartExplained};
+ghost use Rattle.scrib_script_io.specs.Faults.{of_script};
+ghost use Rattle.scrib_cli.specs.Faults.{script_fault};
 ghost use Rattle.scrib_script_reader.specs.Limits.{of_scripts, IsWithin};
 
 use crate::commands::fault::CommandFault;
@@ -14,11 +15,13 @@ use crate::explain_script::{Explained, explain_script};
 use std::alloc::Global;
 use std::io::{Read, Write};
 
-/// Explains a conversation of the script of the file of this path as `explain_script` does, or of the script that the
-/// reader gives where no path is named. Returns whether it wrote what is in flight, and no refusal line.
+/// Explains a conversation of a script as `explain_script` does.
+///
+/// The script is the file of `path`, or where no path is given what the reader reads. Returns whether it wrote the
+/// messages in flight, and not a refusal line.
 ///
 /// # Errors
-/// Nothing was written by then, or a beginning of what was to be written.
+/// After an error, nothing or a prefix of the output is written.
 /// - `Unopened` where the file can't be opened.
 /// - `Unread` and `TooLong` where `explain_script` returns `Read`.
 /// - `Unwritten` and `OutOfMemory` where `explain_script` returns `Write` and `OutOfMemory`.
@@ -30,10 +33,16 @@ pub fn explain<'a, F: Folder, R: Read, W: Write>(
     reader: &mut R,
     writer: &mut W,
 ) -> Result<bool, CommandFault<'a>>
-    ensures ok { IfOk result (λ flights. IsToldOf id (source (F.text folder.now) (option_copied path.entry) (R.remaining reader.old)) flights (W.contents writer.old) (W.contents writer.new)) }
-    ensures err { OnErr result (IsPartToldOf id (source (F.text folder.now) (option_copied path.entry) (R.remaining reader.old)) (W.contents writer.old) (W.contents writer.new)) }
+    ensures ok { IfOk result (λ flights.
+        IsScriptExplained id (source (F.text folder.now) (option_copied path.entry) (R.remaining reader.old)) flights
+        (W.contents writer.old) (W.contents writer.new)) }
+    ensures err { OnErr result
+        (IsScriptPartExplained id (source (F.text folder.now) (option_copied path.entry) (R.remaining reader.old))
+        (W.contents writer.old) (W.contents writer.new)) }
     ensures fault { IfErr result (λ e. of_script (script_fault e) ≡ true) }
-    ensures within { OnOk result (IfSome (source (F.text folder.now) (option_copied path.entry) (R.remaining reader.old)) (λ input. IsWithin of_scripts input)) }
+    ensures within { OnOk result
+        (IfSome (source (F.text folder.now) (option_copied path.entry) (R.remaining reader.old))
+        (λ input. IsWithin of_scripts input)) }
 {
     match path {
         None => explain_source(alloc, id, Source::StandardInput, reader, writer),
@@ -44,7 +53,7 @@ pub fn explain<'a, F: Folder, R: Read, W: Write>(
     }
 }
 
-// The same of this source, which this reader reads.
+// The same with this source, which this reader reads.
 fn explain_source<'a, R: Read + Drop, W: Write>(
     alloc: Global,
     id: u32,
@@ -52,8 +61,10 @@ fn explain_source<'a, R: Read + Drop, W: Write>(
     reader: R,
     writer: &mut W,
 ) -> Result<bool, CommandFault<'a>>
-    ensures ok { IfOk result (λ flights. IsToldOf id (R.remaining reader) flights (W.contents writer.old) (W.contents writer.new)) }
-    ensures err { OnErr result (IsPartToldOf id (R.remaining reader) (W.contents writer.old) (W.contents writer.new)) }
+    ensures ok { IfOk result (λ flights.
+        IsScriptExplained id (R.remaining reader) flights (W.contents writer.old) (W.contents writer.new)) }
+    ensures err { OnErr result
+        (IsScriptPartExplained id (R.remaining reader) (W.contents writer.old) (W.contents writer.new)) }
     ensures fault { IfErr result (λ e. of_script (script_fault e) ≡ true) }
     ensures within { OnOk result (IfSome (R.remaining reader) (λ input. IsWithin of_scripts input)) }
 {

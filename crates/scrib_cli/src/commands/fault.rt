@@ -1,11 +1,11 @@
-//! Why a command ended early, and over what it was reading.
+//! Why a command ended early, with the source that it was reading.
 
 use crate::commands::source::Source;
-use crate::fault::ScriptFault;
+use scrib_script_io::fault::ScriptFault;
 use std::fmt;
 use std::fmt::{Display, Formatter};
 
-/// Why a command ended early. It prints as the cause, with the file that it was found in.
+/// Why a command ended early. Prints as the cause, with the file if there is one.
 #[derive(Clone, Copy, Debug, PartialEq, Eq)]
 pub enum CommandFault<'a> {
     /// The source could not be opened.
@@ -18,17 +18,17 @@ pub enum CommandFault<'a> {
     Unwritten,
     /// The passes of a service's connections did not account for each event of its logs.
     Unsettled,
-    /// Memory was refused.
+    /// Memory is refused.
     OutOfMemory,
 }
 
 impl<'a> CommandFault<'a> {
     ghost use Rattle.std.specs.Prelude.{◌≡◌, true, false};
     ghost use Rattle.scrib_cli.specs.Faults.{script_fault};
-    ghost use Rattle.scrib_cli.specs.declared.fault.ScriptFault.TheVariants as script;
+    ghost use Rattle.scrib_script_io.specs.declared.fault.ScriptFault.TheVariants as script;
     ghost use Rattle.scrib_cli.specs.declared.commands.fault.CommandFault.TheVariants as command;
 
-    /// The fault of what was run over the source. A read fault of a reader that did not fail is a script past its limits.
+    /// Returns the fault of a script over the source. A read fault without a failed read is a script past its limits.
     pub fn over(source: Source<'a>, fault: &ScriptFault, read_failed: bool) -> CommandFault<'a>
         ensures fault { script_fault result ≡ fault.now }
         ensures limit { fault.now ≡ script.Read → read_failed ≡ false → result ≡ command.TooLong source.entry }
@@ -49,7 +49,7 @@ impl<'a> CommandFault<'a> {
     }
 }
 
-/// The cause in a line, as `orders.scr: cannot be opened`.
+/// The cause in one line, as `orders.scr: cannot be opened`.
 impl Display for CommandFault<'_> {
     fn fmt<W: fmt::Write>(&self, f: &mut Formatter<W>) -> fmt::Result {
         match *self {

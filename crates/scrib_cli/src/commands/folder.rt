@@ -1,8 +1,8 @@
-//! The files that the commands read.
+//! Opens the files that the commands read.
 
 ghost use Rattle.std.specs.Prelude.{◌≡◌, ℕ, List, Option, Some, None, IfOk, IfErr, IfSome};
 ghost use Rattle.scrib_cli.specs.Faults.{script_fault};
-ghost use Rattle.scrib_cli.specs.declared.fault.ScriptFault.TheVariants as fault;
+ghost use Rattle.scrib_script_io.specs.declared.fault.ScriptFault.TheVariants as fault;
 
 use crate::commands::fault::CommandFault;
 use crate::commands::source::Source;
@@ -12,10 +12,10 @@ use std::{fs, io};
 
 /// Opens files by their paths.
 pub trait Folder {
-    /// A file that is read from its beginning on.
+    /// A file that is read from its beginning.
     type File: Read + Drop;
 
-    // What the file of this path holds, where it is known.
+    // The contents of the file of this path, where they are known.
     ghost text: { Self → List ℕ → Option (List ℕ) } = { λ _ _. None };
 
     /// Opens the file of this path.
@@ -23,18 +23,19 @@ pub trait Folder {
     /// # Errors
     /// `Unopened`, a read fault, where the file can't be opened.
     fn open<'a>(&self, path: &'a str) -> Result<Self::File, CommandFault<'a>>
-        ensures text { IfOk result (λ file. IfSome (text self.now path.now) (λ bytes. Self.File.remaining file ≡ Some bytes)) }
+        ensures text { IfOk result (λ file.
+            IfSome (text self.now path.now) (λ bytes. Self.File.remaining file ≡ Some bytes)) }
         ensures fault { IfErr result (λ e. script_fault e ≡ fault.Read) };
 }
 
-/// The files of the system, and its standard input under the path `-`.
+/// The files of the system, with standard input under the path `-`.
 #[derive(Clone, Copy)]
 pub struct SystemFiles<'a, R, I> {
     pub files: &'a R,
     pub input: &'a I,
 }
 
-/// A file of the system that is read, or standard input.
+/// An opened file of the system, or standard input.
 #[derive(Drop)]
 pub enum SystemFile<F, I> {
     File(F),

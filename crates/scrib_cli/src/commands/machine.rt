@@ -1,4 +1,4 @@
-//! Printing the machine of a role in a protocol of the modules of some files.
+//! The command `machine`: prints the machine of a role in a protocol of some files.
 
 ghost use Rattle.std.specs.Prelude.{IfOk, OnErr};
 ghost use Rattle.scrib_cli.specs.Commands.{IsAnswered, IsPartAnswered};
@@ -15,11 +15,11 @@ use std::io::Write;
 /// Does what `machine_text` does, over the module texts of these files. Returns whether it wrote a machine.
 ///
 /// # Errors
-/// Nothing was written by then, or a beginning of what was to be written.
+/// After an error, nothing or a prefix of the output is written.
 /// - `Unopened` and `Unread` where the protocol has a full name and the first file that is no module can't be opened
 ///   or read.
 /// - `Unwritten` where the writer fails.
-/// - `OutOfMemory` where memory was refused.
+/// - `OutOfMemory` where memory is refused.
 pub fn machine_files<'a, F: Folder, W: Write>(
     alloc: Global,
     profile: Profile,
@@ -29,8 +29,12 @@ pub fn machine_files<'a, F: Folder, W: Write>(
     paths: &[&'a str],
     writer: &mut W,
 ) -> Result<bool, CommandFault<'a>>
-    ensures ok { IfOk result (λ does_so. IsAnswered form.Graph profile (F.text folder.now) paths.now protocol.now role.now does_so (W.contents writer.old) (W.contents writer.new)) }
-    ensures err { OnErr result (IsPartAnswered form.Graph profile (F.text folder.now) paths.now protocol.now role.now (W.contents writer.old) (W.contents writer.new)) }
+    ensures ok { IfOk result (λ has_projection.
+        IsAnswered form.Graph profile (F.text folder.now) paths.now protocol.now role.now has_projection
+        (W.contents writer.old) (W.contents writer.new)) }
+    ensures err { OnErr result
+        (IsPartAnswered form.Graph profile (F.text folder.now) paths.now protocol.now role.now
+        (W.contents writer.old) (W.contents writer.new)) }
 {
     let Ok(read) = read_files(alloc, folder, paths) else {
         return Err(CommandFault::OutOfMemory);
@@ -43,7 +47,7 @@ pub fn machine_files<'a, F: Folder, W: Write>(
         read.texts.as_slice(),
         writer,
     ) {
-        Ok(does_so) => Ok(does_so),
+        Ok(has_projection) => Ok(has_projection),
         Err(fault) => Err(read.fault_of(&fault)),
     }
 }

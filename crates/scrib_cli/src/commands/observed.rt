@@ -3,8 +3,7 @@
 use std::io;
 use std::io::{ErrorKind, Read};
 
-/// A reader that remembers whether a read of it failed, so that a read fault can be put down to the reader or to the
-/// limits of a script.
+/// A reader that remembers whether a read failed. A read fault then comes from the reader, else from a script's limits.
 #[derive(Drop)]
 pub struct Observed<R> {
     reader: R,
@@ -14,7 +13,7 @@ pub struct Observed<R> {
 impl<R: Read> Observed<R> {
     ghost use Rattle.std.specs.Prelude.{◌≡◌};
 
-    /// A reader of which no read failed yet.
+    /// Wraps a reader. No read has failed yet.
     pub fn new(reader: R) -> Observed<R>
         ensures { result.reader ≡ reader }
     {
@@ -24,7 +23,7 @@ impl<R: Read> Observed<R> {
         }
     }
 
-    /// Whether a read failed for another reason than an interruption.
+    /// Returns whether a read failed for another reason than an interruption.
     pub fn has_failed(&self) -> bool {
         self.failed
     }

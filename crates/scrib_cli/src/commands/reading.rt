@@ -1,4 +1,4 @@
-//! Reading the module texts of files.
+//! Reads the module texts of files.
 
 ghost use Rattle.std.specs.Prelude.{◌≡◌, IfOk, IfSome, take};
 ghost use Rattle.scrib_cli.specs.Commands.{AreRead};
@@ -6,11 +6,11 @@ ghost use Rattle.scrib_cli.specs.Commands.{AreRead};
 use crate::commands::fault::CommandFault;
 use crate::commands::folder::Folder;
 use crate::commands::source::Source;
-use crate::fault::ScriptFault;
 use crate::reading::{Items, read_text};
+use scrib_script_io::fault::ScriptFault;
 use std::alloc::{AllocError, Global};
 
-/// Module texts in order, up to the first that can't be opened or read, for which `None` stands and whose fault is kept.
+// Module texts in order, up to the first that can't be opened or read. That one is `None`, and its fault is kept.
 #[derive(Drop)]
 pub(crate) struct ModuleTexts<'a> {
     pub(crate) texts: Vec<Option<Items<u8>>>,
@@ -18,7 +18,7 @@ pub(crate) struct ModuleTexts<'a> {
 }
 
 impl<'a> ModuleTexts<'a> {
-    /// The fault of what was done with these texts: a read fault is that of the text that is missing.
+    // The command's fault for a fault over these texts: a read fault is that of the missing text.
     pub(crate) fn fault_of(&self, fault: &ScriptFault) -> CommandFault<'a> {
         match (fault, self.unread) {
             (ScriptFault::Read, Some(unread)) => unread,
@@ -27,7 +27,7 @@ impl<'a> ModuleTexts<'a> {
     }
 }
 
-/// The module texts of these files.
+// The module texts of these files.
 pub(crate) fn read_files<'a, F: Folder>(
     alloc: Global,
     folder: &F,
@@ -55,7 +55,7 @@ pub(crate) fn read_files<'a, F: Folder>(
     })
 }
 
-/// The module text of the file of this path.
+// The module text of the file of this path.
 fn read_file<'a, F: Folder>(
     alloc: Global,
     folder: &F,

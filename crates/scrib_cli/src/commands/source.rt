@@ -1,9 +1,9 @@
-//! Where the commands read from.
+//! The sources that the commands read.
 
 use std::fmt;
 use std::fmt::{Display, Formatter};
 
-/// Where a command reads from: a file, or the standard input of the process.
+/// The source that a command reads.
 #[derive(Clone, Copy, Debug, PartialEq, Eq)]
 pub enum Source<'a> {
     /// The file of this path.
@@ -12,7 +12,7 @@ pub enum Source<'a> {
     StandardInput,
 }
 
-/// The path and `standard input`.
+/// The path, or `standard input`.
 impl Display for Source<'_> {
     fn fmt<W: fmt::Write>(&self, f: &mut Formatter<W>) -> fmt::Result {
         match *self {
@@ -23,7 +23,7 @@ impl Display for Source<'_> {
 }
 
 impl<'a> Source<'a> {
-    /// The source that a word of the command line names: standard input for `-`, else the file of this path.
+    /// Returns the source that a word of the command line names: standard input for `-`, else the file of this path.
     pub fn named(word: &'a str) -> Source<'a> {
         if word == "-" {
             Source::StandardInput

@@ -1,4 +1,4 @@
-//! What the program ends with.
+//! The exit status of the program and the fixed line of a fault.
 
 ghost use Rattle.std.specs.Prelude.{◌≡◌};
 ghost use Rattle.scrib_cli.specs.Commands.{status_of, fault_text};
@@ -6,8 +6,7 @@ ghost use Rattle.scrib_cli.specs.Faults.{script_fault};
 
 use crate::commands::fault::CommandFault;
 
-/// The exit status of what a command answered: 0 where it did all that it was to do, and 1 where it printed a refusal
-/// or failed.
+/// Returns the exit status for the result of a command: 0 where it succeeded, 1 where it printed a refusal or failed.
 pub fn status_of(answer: &Result<bool, CommandFault<'_>>) -> u8
     ensures { result ≡ status_of answer.now }
 {
@@ -17,7 +16,7 @@ pub fn status_of(answer: &Result<bool, CommandFault<'_>>) -> u8
     }
 }
 
-/// The fixed line that standard error gets for a fault. The line behind it is the fault's own text, which names its
+/// Returns the fixed line that standard error gets for a fault. The line after it is the fault's own text with its
 /// cause.
 pub fn fault_text(fault: &CommandFault<'_>) -> &'static str
     ensures { result.now ≡ fault_text (script_fault fault.now) }

@@ -1,9 +1,10 @@
-//! Watching a script of standard input or of a file.
+//! The command `watch`: runs a script over one monitor.
 
 ghost use Rattle.std.specs.Prelude.{◌≡◌, true, IfOk, IfErr, IfSome, OnOk, OnErr};
 ghost use Rattle.std.specs.Option.{option_copied};
 ghost use Rattle.scrib_cli.specs.Commands.{source, IsWatched, IsPartWatched};
-ghost use Rattle.scrib_cli.specs.Faults.{of_script, script_fault};
+ghost use Rattle.scrib_script_io.specs.Faults.{of_script};
+ghost use Rattle.scrib_cli.specs.Faults.{script_fault};
 ghost use Rattle.scrib_script_reader.specs.Limits.{of_scripts, IsWithin};
 
 use crate::commands::fault::CommandFault;
@@ -11,15 +12,17 @@ use crate::commands::folder::Folder;
 use crate::commands::observed::Observed;
 use crate::commands::source::Source;
 use crate::run_script::run_script;
-use scrib_script_reader::format::Format;
+use scrib_core::format::Format;
 use std::alloc::Global;
 use std::io::{Read, Write};
 
-/// Runs the script of the file of this path as `run_script` does, or the script that the reader gives where no path is
-/// named. Returns true: its refusals are replies to steps.
+/// Runs a script as `run_script` does.
+///
+/// The script is the file of `path`, or where no path is given what the reader reads. Returns true: its refusals are
+/// replies to steps.
 ///
 /// # Errors
-/// What was written by then is a beginning of the script's output.
+/// After an error, a prefix of the script's output is written.
 /// - `Unopened` where the file can't be opened.
 /// - `Unread` and `TooLong` where `run_script` returns `Read`.
 /// - `Unwritten` and `OutOfMemory` where `run_script` returns `Write` and `OutOfMemory`.
@@ -32,10 +35,16 @@ pub fn watch<'a, F: Folder, R: Read, W: Write>(
     writer: &mut W,
 ) -> Result<bool, CommandFault<'a>>
     ensures done { IfOk result (λ done. done ≡ true) }
-    ensures ok { OnOk result (IsWatched format (source (F.text folder.now) (option_copied path.entry) (R.remaining reader.old)) (W.contents writer.old) (W.contents writer.new)) }
-    ensures err { OnErr result (IsPartWatched format (source (F.text folder.now) (option_copied path.entry) (R.remaining reader.old)) (W.contents writer.old) (W.contents writer.new)) }
+    ensures ok { OnOk result
+        (IsWatched format (source (F.text folder.now) (option_copied path.entry) (R.remaining reader.old))
+        (W.contents writer.old) (W.contents writer.new)) }
+    ensures err { OnErr result
+        (IsPartWatched format (source (F.text folder.now) (option_copied path.entry) (R.remaining reader.old))
+        (W.contents writer.old) (W.contents writer.new)) }
     ensures fault { IfErr result (λ e. of_script (script_fault e) ≡ true) }
-    ensures within { OnOk result (IfSome (source (F.text folder.now) (option_copied path.entry) (R.remaining reader.old)) (λ input. IsWithin of_scripts input)) }
+    ensures within { OnOk result
+        (IfSome (source (F.text folder.now) (option_copied path.entry) (R.remaining reader.old))
+        (λ input. IsWithin of_scripts input)) }
 {
     match path {
         None => watch_source(alloc, format, Source::StandardInput, reader, writer),
@@ -46,7 +55,7 @@ pub fn watch<'a, F: Folder, R: Read, W: Write>(
     }
 }
 
-// The same of this source, which this reader reads.
+// The same with this source, which this reader reads.
 fn watch_source<'a, R: Read + Drop, W: Write>(
     alloc: Global,
     format: Format,
@@ -56,7 +65,8 @@ fn watch_source<'a, R: Read + Drop, W: Write>(
 ) -> Result<bool, CommandFault<'a>>
     ensures done { IfOk result (λ done. done ≡ true) }
     ensures ok { OnOk result (IsWatched format (R.remaining reader) (W.contents writer.old) (W.contents writer.new)) }
-    ensures err { OnErr result (IsPartWatched format (R.remaining reader) (W.contents writer.old) (W.contents writer.new)) }
+    ensures err { OnErr result
+        (IsPartWatched format (R.remaining reader) (W.contents writer.old) (W.contents writer.new)) }
     ensures fault { IfErr result (λ e. of_script (script_fault e) ≡ true) }
     ensures within { OnOk result (IfSome (R.remaining reader) (λ input. IsWithin of_scripts input)) }
 {

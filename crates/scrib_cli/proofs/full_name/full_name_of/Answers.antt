@@ -1,7 +1,7 @@
 use Rattle.std.proofs.Common.{◌≡◌, ◌∙◌, length, sym, ◌∷◌, [], ◌++◌, vec_len}
 use Rattle.std.proofs.lemmas.Bool.{eqb-true}
 use Rattle.scrib_script_reader.specs.Fields.{IsDottedText}
-use Rattle.scrib_cli.proofs.Projected.{alone}
+use Rattle.scrib_cli.proofs.ProjectionLemmas.{alone}
 use Rattle.scrib_cli.proofs.full_name.full_name_of.Goals as goal
 
 pub returns-then-is_empty : goal.returns-then-is_empty

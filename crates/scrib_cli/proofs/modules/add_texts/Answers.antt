@@ -2,7 +2,7 @@ use Rattle.std.proofs.Common.{◌+◌, List, drop, sym, subst, inr}
 use Rattle.scrib_parser.specs.declared.tree.ModuleTree.{ModuleTree}
 use Rattle.scrib_library.specs.Edits.{Reads}
 use Rattle.scrib_cli.specs.Projections.{AreAdded, FailsAmong, StopsUnread}
-use Rattle.scrib_cli.proofs.Projected.{front_is}
+use Rattle.scrib_cli.proofs.ProjectionLemmas.{front_is}
 use Rattle.scrib_cli.proofs.modules.add_texts.Goals as goal
 
 pub loop-text-preserved : goal.loop-text-preserved

@@ -1,7 +1,7 @@
 use Rattle.std.proofs.lemmas.Result.{err_from_is_err_and}
 use Rattle.scrib_lexer.specs.Lexeme.{lexemes_of}
 use Rattle.scrib_lexer.specs.Tokens.{IsTokens}
-use Rattle.scrib_cli.proofs.Projected.{lex_refused, parse_refused}
+use Rattle.scrib_cli.proofs.ProjectionLemmas.{lex_refused, parse_refused}
 use Rattle.scrib_cli.proofs.modules.module_of.Goals as goal
 
 pub returns-in_err-tree-clause-fault : goal.returns-in_err-tree-clause-fault

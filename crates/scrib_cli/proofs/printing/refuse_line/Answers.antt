@@ -1,8 +1,8 @@
 use Rattle.std.proofs.Common.{◌≡◌, ◌∙◌, sym}
 use Rattle.std.proofs.lemmas.Result.{err_from_is_err_and, on_err_weaker}
-use Rattle.scrib_cli.specs.Scripts.{bad_line}
-use Rattle.scrib_cli.proofs.Faults.{written_of_output, memory_of_output}
-use Rattle.scrib_cli.proofs.Writes.{part_none}
+use Rattle.scrib_report.specs.ReplyTexts.{bad_line}
+use Rattle.scrib_script_io.proofs.FaultLemmas.{written_of_output, memory_of_output}
+use Rattle.scrib_script_io.proofs.WriterLemmas.{part_none}
 use Rattle.scrib_cli.proofs.printing.refuse_line.Goals as goal
 
 pub returns-in_err-text-clause-err : goal.returns-in_err-text-clause-err

@@ -1,5 +1,5 @@
 use Rattle.std.proofs.lemmas.Result.{err_from_is_err_and}
-use Rattle.scrib_cli.proofs.Faults.{written_of_output, memory_of_output}
+use Rattle.scrib_script_io.proofs.FaultLemmas.{written_of_output, memory_of_output}
 use Rattle.scrib_cli.proofs.printing.write_reply.Goals as goal
 
 pub returns-in_err-push_reply-clause-fault : goal.returns-in_err-push_reply-clause-fault

@@ -1,7 +1,7 @@
 use Rattle.std.proofs.Common.{◌≡◌, sym, ◌∙◌, ◌<◌, length, arith}
 use Rattle.std.proofs.lemmas.Bool.{false≢true}
 use Rattle.std.proofs.lemmas.Slice.Eq.{bytes_eq-Decides}
-use Rattle.scrib_cli.proofs.Projected.{declared_here, declared_later}
+use Rattle.scrib_cli.proofs.ProjectionLemmas.{declared_here, declared_later}
 use Rattle.scrib_cli.proofs.projection.declared_role.Goals as goal
 
 pub returns-then-eq : goal.returns-then-eq

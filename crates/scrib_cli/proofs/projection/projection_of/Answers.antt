@@ -7,7 +7,7 @@ use Rattle.scrib_elaborate.specs.Sites.{AreSites}
 use Rattle.scrib_library.specs.declared.fault.EditFault.TheVariants as edit
 use Rattle.scrib_cli.specs.declared.projection.Projection.TheVariants.{Refused}
 use Rattle.scrib_cli.specs.Projections.{IsFullName, AreAdded, IsProjection, FailsAmong, unnamed, unread, meaningless}
-use Rattle.scrib_cli.proofs.Projected.{ok_role}
+use Rattle.scrib_cli.proofs.ProjectionLemmas.{ok_role}
 use Rattle.scrib_cli.proofs.projection.projection_of.Goals as goal
 
 pub returns-in_default-clause-ok : goal.returns-in_default-clause-ok

@@ -1,7 +1,7 @@
 use Rattle.scrib_types.specs.LocalView.{local_of}
 use Rattle.scrib_elaborate.specs.Meaning.{meaning_of}
 use Rattle.scrib_project.specs.Faults.{IsPlaced}
-use Rattle.scrib_cli.proofs.Projected.{has_machine}
+use Rattle.scrib_cli.proofs.ProjectionLemmas.{has_machine}
 use Rattle.scrib_cli.proofs.projection.projection_on.Goals as goal
 
 pub returns-in-Ok-clause-machine : goal.returns-in-Ok-clause-machine

@@ -13,5 +13,5 @@ returns-then-n-eq0-clause-text g c =
 pub loop-preserved : goal.loop-preserved
 loop-preserved g c =
     let few = has_read_few (g.R.Read.remaining c.args.reader.now) (g.R.Read.remaining c.loop.reader) c.loop.text c.loop.invariant in
-    has_read_more (g.R.Read.remaining c.args.reader.now) (g.R.Read.remaining c.loop.reader) (g.R.Read.remaining c.read.new.self) c.loop.text.items c.keep.new.kept.items (take c.in-Ok.n c.read.new.buf)
-    c.loop.invariant c.in-Ok.ensures.bytes.0 (c.in_ok-keep.ensures few)
+    has_read_more (g.R.Read.remaining c.args.reader.now) (g.R.Read.remaining c.loop.reader) (g.R.Read.remaining c.read.new.self) c.loop.text.items c.append_up_to.new.kept.items (take c.in-Ok.n c.read.new.buf)
+    c.loop.invariant c.in-Ok.ensures.bytes.0 (c.in_ok-append_up_to.ensures few)

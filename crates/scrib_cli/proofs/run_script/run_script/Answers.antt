@@ -1,7 +1,7 @@
 use Rattle.scrib_core.specs.Held.{state_of}
-use Rattle.scrib_cli.specs.declared.telling.Telling.TheVariants.{Printed}
+use Rattle.scrib_cli.specs.declared.output_mode.OutputMode.TheVariants.{Printed}
 use Rattle.scrib_cli.proofs.Results.{on_ok_any, on_err_any}
-use Rattle.scrib_cli.proofs.Reaching.{flushed, flush_failed, ran_within}
+use Rattle.scrib_cli.proofs.InputLemmas.{flushed, flush_failed, ran_within}
 use Rattle.scrib_cli.proofs.run_script.run_script.Goals as goal
 
 pub returns-clause-ok : goal.returns-clause-ok

@@ -1,6 +1,6 @@
 use Rattle.std.proofs.Common.{ℕ, List, Option}
 use Rattle.scrib_script_reader.specs.Fields.{IsOperatorText, IsPayloadText, IsCut}
-use Rattle.scrib_script_reader.proofs.Printed.{message-cut, cut-message, cut-once}
+use Rattle.scrib_script_reader.proofs.MessageTexts.{message-cut, cut-message, cut-once}
 use Rattle.scrib_script_reader.proofs.text.message_of.Goals as goal
 
 pub returns-in_default : goal.returns-in_default

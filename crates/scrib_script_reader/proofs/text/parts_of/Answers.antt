@@ -5,7 +5,7 @@ use Rattle.std.proofs.lemmas.Slice.Eq.{strip_suffix_is}
 use Rattle.std.specs.List.{position_or_len}
 use Rattle.std.proofs.lemmas.Iterator.{YieldsList-from_slice}
 use Rattle.std.proofs.lemmas.Iterator.Search.{position_from_yields_List}
-use Rattle.scrib_script_reader.proofs.Printed.{is_open, no-cut-unopened, cut-read}
+use Rattle.scrib_script_reader.proofs.MessageTexts.{is_open, no-cut-unopened, cut-read}
 use Rattle.scrib_script_reader.proofs.text.parts_of.Goals as goal
 
 pub returns-in_err-open : goal.returns-in_err-open

@@ -5,7 +5,7 @@ use Rattle.scrib_core.specs.Held.{state_of}
 use Rattle.scrib_cli.specs.Checks.{IsChecked, IsPartChecked}
 use Rattle.scrib_cli.specs.Commands.{AreChecked}
 use Rattle.scrib_cli.proofs.Results.{on_err_any}
-use Rattle.scrib_cli.proofs.Filed.{known, and_true, agree_refused, agree_accepted, then_checked, then_part, none_checked, part_checked_next, end_checked}
+use Rattle.scrib_cli.proofs.FileLemmas.{known, and_true, agree_refused, agree_accepted, then_checked, then_part, none_checked, part_checked_next, end_checked}
 use Rattle.scrib_cli.proofs.commands.check.check_each.Goals.{then-not-branch, else-not-branch}
 use Rattle.scrib_cli.proofs.commands.check.check_each.Goals as goal
 

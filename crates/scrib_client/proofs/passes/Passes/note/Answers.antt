@@ -1,18 +1,18 @@
 use Rattle.std.proofs.Common.{◌≡◌, ◌∙◌, Some, slice_get, sym, ap}
 use Rattle.std.specs.Option.{option_copied_mut}
 use Rattle.std.specs.Map.{values_of}
-use Rattle.scrib_client.specs.Kept.{pass_of}
-use Rattle.scrib_client.proofs.Keeping.{conversation_kept, own_pass, own_set, own_there, pass_there, pass_set}
+use Rattle.scrib_client.specs.ConnectionPasses.{pass_of}
+use Rattle.scrib_client.proofs.PassLemmas.{conversation_kept, own_pass, own_set, own_there, pass_there, pass_set}
 use Rattle.scrib_client.proofs.passes.Passes.note.Goals as goal
 
 pub invariant_of-self : goal.invariant_of-self
 invariant_of-self g c =
-    let kept = c.place_to.new.self.by_id.entries in
+    let kept = c.find_or_connect.new.self.by_id.entries in
     let p = c.in-Some.pass.now in
     let value : slice_get (values_of kept) c.in-Ok.at ≡ Some p = sym c.get_index_mut.ensures.value ∙ ap option_copied_mut c.in-Some.is in
     record {
-      own = own_set c.args.id kept c.in-Ok.at c.note.new.pass c.place_to.new.self.own c.in-Ok.ensures.found
-          (conversation_kept p c.note.new.pass c.args.event c.note.result c.note.ensures.receipted c.note.ensures.err ∙ own_there c.args.id kept c.in-Ok.at p c.place_to.new.self.own c.in-Ok.ensures.found value);
+      own = own_set c.args.id kept c.in-Ok.at c.note.new.pass c.find_or_connect.new.self.own c.in-Ok.ensures.found
+          (conversation_kept p c.note.new.pass c.args.event c.note.result c.note.ensures.receipted c.note.ensures.err ∙ own_there c.args.id kept c.in-Ok.at p c.find_or_connect.new.self.own c.in-Ok.ensures.found value);
     }
 
 pub returns-in-Err-clause-own : goal.returns-in-Err-clause-own
@@ -20,7 +20,7 @@ returns-in-Err-clause-own g c = own_pass c.args.id c.args.self.now.by_id.entries
 
 pub returns : goal.returns
 returns g c =
-    let kept = c.place_to.new.self.by_id.entries in
+    let kept = c.find_or_connect.new.self.by_id.entries in
     let p = c.in-Some.pass.now in
     let q = c.note.new.pass in
     let value : slice_get (values_of kept) c.in-Ok.at ≡ Some p = sym c.get_index_mut.ensures.value ∙ ap option_copied_mut c.in-Some.is in

@@ -2,9 +2,9 @@ use Rattle.std.proofs.Common.{◌+◌, ◌∷◌, [], ℕ, refl, ap}
 use Rattle.std.specs.Prelude.{option_map}
 use Rattle.std.proofs.lemmas.Result.{err_from_is_err_and}
 use Rattle.scrib_script_reader.specs.Scripts.{listed}
-use Rattle.scrib_script_reader.specs.Standing.{as_text}
-use Rattle.scrib_script_reader.proofs.Counting.{memory_is_other, past_with}
-use Rattle.scrib_script_reader.proofs.Reading.{takes_line}
+use Rattle.scrib_script_reader.specs.Positions.{as_text}
+use Rattle.scrib_script_reader.proofs.LimitLemmas.{memory_is_other, past_with}
+use Rattle.scrib_script_reader.proofs.ScriptLemmas.{takes_line}
 use Rattle.scrib_script_reader.proofs.script.Script.end_line.Goals as goal
 
 pub returns-in_err-bytes-clause-limit : goal.returns-in_err-bytes-clause-limit

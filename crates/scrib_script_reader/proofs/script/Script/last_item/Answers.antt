@@ -3,8 +3,8 @@ use Rattle.std.proofs.lemmas.Bool.{false≢true}
 use Rattle.std.proofs.lemmas.Result.{err_from_is_err_and}
 use Rattle.scrib_script_reader.specs.declared.item.Item.{Item}
 use Rattle.scrib_script_reader.specs.Scripts.{listed, text_end}
-use Rattle.scrib_script_reader.specs.Standing.{as_text, text_of, EndsIn}
-use Rattle.scrib_script_reader.proofs.Reading.{tail, text_inside, text_outside, line_is_empty, line_is_some, ends_empty, ends_inside, ends_put, last_line}
+use Rattle.scrib_script_reader.specs.Positions.{as_text, text_of, EndsIn}
+use Rattle.scrib_script_reader.proofs.ScriptLemmas.{tail, text_inside, text_outside, line_is_empty, line_is_some, ends_empty, ends_inside, ends_put, last_line}
 use Rattle.scrib_script_reader.proofs.script.Script.last_item.Goals as goal
 use Rattle.scrib_script_reader.proofs.script.Script.last_item.Goals.{in-Nothing, in-Text, in-Item}
 

@@ -2,9 +2,9 @@ use Rattle.std.proofs.Common.{◌∙◌, ◌+◌, ℕ, List, [], drop, length, s
 use Rattle.std.proofs.lemmas.List.{length-drop}
 use Rattle.scrib_script_reader.specs.declared.item.Item.{Item}
 use Rattle.scrib_script_reader.specs.Scripts.{listed}
-use Rattle.scrib_script_reader.specs.Standing.{TakesFront}
+use Rattle.scrib_script_reader.specs.Positions.{TakesFront}
 use Rattle.std.proofs.lemmas.Result.{err_from_is_err_and}
-use Rattle.scrib_script_reader.proofs.Reading.{passes_line, passes_part, front_line, front_all, slice_rest, listed_none}
+use Rattle.scrib_script_reader.proofs.ScriptLemmas.{passes_line, passes_part, front_line, front_all, slice_rest, listed_none}
 use Rattle.scrib_script_reader.proofs.script.Script.next_item.Goals as goal
 
 pub returns-then-is_some-clause-taken : goal.returns-then-is_some-clause-taken

@@ -1,5 +1,5 @@
 use Rattle.std.proofs.Common.{[], ◌≤◌, length}
-use Rattle.scrib_script_reader.specs.Standing.{TakesFront}
+use Rattle.scrib_script_reader.specs.Positions.{TakesFront}
 use Rattle.scrib_script_reader.proofs.script.Script.next_item.Given as goal
 
 abbrev pub invariant-loop-at : goal.invariant-loop-at

@@ -1,7 +1,7 @@
 use Rattle.std.proofs.Common.{◌∙◌, ◌∷◌, [], sym}
 use Rattle.std.proofs.lemmas.Result.{err_from_is_err_and}
-use Rattle.scrib_script_reader.proofs.Counting.{past_longer, limit_later}
-use Rattle.scrib_script_reader.proofs.Reading.{taken_then}
+use Rattle.scrib_script_reader.proofs.LimitLemmas.{past_longer, limit_later}
+use Rattle.scrib_script_reader.proofs.ScriptLemmas.{taken_then}
 use Rattle.scrib_script_reader.proofs.script.Script.take_line.Goals as goal
 
 pub returns-in_err-take_part-clause-limit : goal.returns-in_err-take_part-clause-limit

@@ -1,6 +1,0 @@
-use Rattle.std.proofs.Common.{refl}
-use Rattle.scrib_cli.proofs.Running.{is_new}
-use Rattle.scrib_cli.proofs.run.Run.new.Goals as goal
-
-pub returns : goal.returns
-returns c = is_new c.args.telling _ refl c.new.ensures.holds c.new.ensures.lines c.new.ensures.bytes c.new.ensures.limits c.new-2.ensures

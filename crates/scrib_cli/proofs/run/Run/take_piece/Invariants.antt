@@ -1,9 +1,0 @@
-use Rattle.std.proofs.Common.{length}
-use Rattle.scrib_cli.proofs.Running.{Took}
-use Rattle.scrib_cli.proofs.run.Run.take_piece.Given as goal
-
-abbrev pub invariant-loop-rest : goal.invariant-loop-rest
-invariant-loop-rest g l = Took l.fn.self l.self l.piece l.rest (g.W.Write.contents l.fn.writer) (g.W.Write.contents l.writer)
-
-abbrev pub decreases-loop-rest : goal.decreases-loop-rest
-decreases-loop-rest g l = length l.rest

@@ -1,0 +1,141 @@
+-- The passes of a connection: each is stored under the id of its own conversation.
+use Rattle.std.proofs.Common.{◌≡◌, ◌∙◌, ℕ, zero, suc, Bool, true, false, cond, if◌then◌else◌, List, [], ◌∷◌, length, Option, Some, Result, Ok, Err, IfOk, OnOk, OnErr, slice_get, nat_eq, map, option_map, unwrap_or, refl, sym, ap, subst, eqb-true}
+use Rattle.std.specs.List.{IsDistinct}
+use Rattle.std.specs.Map.{keys_of, values_of, lookup}
+use Rattle.std.specs.Cmp.{nat_eq_equiv}
+use Rattle.std.proofs.lemmas.Option.{none-some, same_Some, slice_get-map}
+use Rattle.std.proofs.lemmas.Map.Entries.{lookup_from_place}
+use Rattle.indexmap.specs.IndexMap.{IndexMap, IsUnchanged, insert_entry, set_value_at}
+use Rattle.scrib_types.specs.declared.event.Event.{Event}
+use Rattle.scrib_library.specs.Holdings.{Holdings}
+use Rattle.scrib_core.specs.Held.{Records}
+use Rattle.scrib_locked_steps.specs.declared.pass_calls.PassRefusal.{PassRefusal}
+use Rattle.scrib_locked_steps.specs.declared.step_results.Noted.{Noted}
+use Rattle.scrib_locked_steps.specs.OneByOne.{OneByOne}
+use Rattle.scrib_locked_steps.specs.Passes.{PassHeld, IsReceipted}
+use Rattle.scrib_locked_steps.specs.Passing.{AnswersBy}
+use Rattle.scrib_shards.specs.Called.{AreAnsweredSome}
+use Rattle.scrib_client.specs.ConnectionPasses.{AreOwn, conversation_of, pass_of}
+
+abbrev held_to : PassHeld → ℕ
+held_to p = p.conversation
+
+module _ (id : ℕ) where
+  -- inserting a pass under the id of its conversation keeps `AreOwn`
+  pub own_inserted : (kept : List (ℕ × PassHeld)) (p : PassHeld) → AreOwn kept → p.conversation ≡ id → AreOwn (insert_entry nat_eq kept id p)
+  own_inserted [] p own is = ap (λ (n : ℕ). n ∷ []) is
+  own_inserted (e ∷ es) p own is = by (nat_eq id e.0) refl (own_inserted es p (cc own) is)
+    where
+      by : (t : Bool) → nat_eq id e.0 ≡ t → AreOwn (insert_entry nat_eq es id p) → AreOwn (if t then (e.0, p) ∷ es else e ∷ insert_entry nat_eq es id p)
+      by true same rest =
+          let here : p.conversation ≡ e.0 = is ∙ eqb-true id e.0 same in
+          let others : map conversation_of es ≡ keys_of es = cc own in
+          cc (here, others)
+      by false other rest =
+          let first : e.1.conversation ≡ e.0 = cc own in
+          cc (first, rest)
+
+  -- the pass of an id has the conversation of this id
+  pub own_pass : (kept : List (ℕ × PassHeld)) → AreOwn kept → (pass_of kept id).conversation ≡ id
+  own_pass [] own = refl
+  own_pass (e ∷ es) own = by (nat_eq id e.0) refl (own_pass es (cc own))
+    where
+      by : (t : Bool) → nat_eq id e.0 ≡ t → (pass_of es id).conversation ≡ id → (unwrap_or (cond t (Some e.1) (lookup (nat_eq id) es)) (record { conversation = id; receipts = [] })).conversation ≡ id
+      by true same rest =
+          let first : e.1.conversation ≡ e.0 = cc own in
+          first ∙ sym (eqb-true id e.0 same)
+      by false other rest = rest
+
+  -- the entry at a place, from its key and its value
+  entry_at : (kept : List (ℕ × PassHeld)) (at : ℕ) (p : PassHeld) → slice_get (keys_of kept) at ≡ Some id → slice_get (values_of kept) at ≡ Some p → slice_get kept at ≡ Some (id, p)
+  entry_at [] at p key value = absurd (none-some id key)
+  entry_at (e ∷ es) zero p key value =
+      let k : e.0 ≡ id = cc key in
+      let v : e.1 ≡ p = cc value in
+      λ j. Some (k j, v j)
+  entry_at (e ∷ es) (suc at) p key value = entry_at es at p key value
+
+  -- the pass at the index of an id is the pass of the id
+  pub pass_there : (kept : List (ℕ × PassHeld)) (at : ℕ) (p : PassHeld) → IsDistinct nat_eq (keys_of kept) → slice_get (keys_of kept) at ≡ Some id → slice_get (values_of kept) at ≡ Some p → pass_of kept id ≡ p
+  pass_there kept at p distinct key value =
+      ap (λ (o : Option PassHeld). unwrap_or o (record { conversation = id; receipts = [] })) (lookup_from_place nat_eq_equiv kept at id p distinct (entry_at kept at p key value))
+
+  -- the conversation of the pass at the index of an id is that id
+  pub own_there : (kept : List (ℕ × PassHeld)) (at : ℕ) (p : PassHeld) → AreOwn kept → slice_get (keys_of kept) at ≡ Some id → slice_get (values_of kept) at ≡ Some p → p.conversation ≡ id
+  own_there [] at p own key value = absurd (none-some id key)
+  own_there (e ∷ es) zero p own key value =
+      let first : e.1.conversation ≡ e.0 = cc own in
+      let is : e.1 ≡ p = cc value in
+      sym (ap held_to is) ∙ first ∙ cc key
+  own_there (e ∷ es) (suc at) p own key value =
+      let rest : map conversation_of es ≡ keys_of es = cc own in
+      own_there es at p rest key value
+
+  -- the pass of an entry that was read at the index of an id is the pass of the id
+  pub pass_read : (kept : List (ℕ × PassHeld)) (at key : ℕ) (p : PassHeld) → Some (key, p) ≡ slice_get kept at → lookup (nat_eq key) kept ≡ Some p → slice_get (keys_of kept) at ≡ Some id → pass_of kept id ≡ p
+  pass_read kept at key p read found there =
+      let read_key : slice_get (keys_of kept) at ≡ Some key = slice_get-map (λ (e : ℕ × PassHeld). e.0) kept at ∙ ap (option_map (λ (e : ℕ × PassHeld). e.0)) (sym read) in
+      let same : key ≡ id = same_Some key id (sym read_key ∙ there) in
+      ap (λ (o : Option PassHeld). unwrap_or o (record { conversation = id; receipts = [] })) (subst (λ (n : ℕ). lookup (nat_eq n) kept ≡ Some p) same found)
+
+  keys_set : (kept : List (ℕ × PassHeld)) (at : ℕ) (w : PassHeld) → keys_of (set_value_at kept at w) ≡ keys_of kept
+  keys_set [] at w = refl
+  keys_set (e ∷ es) zero w = refl
+  keys_set (e ∷ es) (suc at) w = ap (λ (l : List ℕ). e.0 ∷ l) (keys_set es at w)
+
+  value_set : (kept : List (ℕ × PassHeld)) (at : ℕ) (w : PassHeld) → slice_get (keys_of kept) at ≡ Some id → slice_get (values_of (set_value_at kept at w)) at ≡ Some w
+  value_set [] at w key = absurd (none-some id key)
+  value_set (e ∷ es) zero w key = refl
+  value_set (e ∷ es) (suc at) w key = value_set es at w key
+
+  -- a pass that was written at the index of an id is the pass of the id
+  pub pass_set : (kept : List (ℕ × PassHeld)) (at : ℕ) (w : PassHeld) → IsDistinct nat_eq (keys_of kept) → slice_get (keys_of kept) at ≡ Some id → pass_of (set_value_at kept at w) id ≡ w
+  pass_set kept at w distinct key =
+      pass_there (set_value_at kept at w) at w (subst (IsDistinct nat_eq) (sym (keys_set kept at w)) distinct) (ap (λ (l : List ℕ). slice_get l at) (keys_set kept at w) ∙ key) (value_set kept at w key)
+
+  -- writing a pass of the conversation at the index of its id keeps `AreOwn`
+  pub own_set : (kept : List (ℕ × PassHeld)) (at : ℕ) (w : PassHeld) → AreOwn kept → slice_get (keys_of kept) at ≡ Some id → w.conversation ≡ id → AreOwn (set_value_at kept at w)
+  own_set [] at w own key is = refl
+  own_set (e ∷ es) zero w own key is =
+      let here : w.conversation ≡ e.0 = cc in
+      let rest : map conversation_of es ≡ keys_of es = cc own in
+      cc (here, rest)
+  own_set (e ∷ es) (suc at) w own key is =
+      let first : e.1.conversation ≡ e.0 = cc own in
+      let rest : map conversation_of es ≡ keys_of es = cc own in
+      cc (first, own_set es at w rest key is)
+
+  -- inserting a new pass keeps `AreOwn`, whether it succeeds or fails
+  pub own_after_insert : {S X E : Type 0} (old new : IndexMap ℕ PassHeld S) (r : Result X E) (p : PassHeld) → OnOk r (new.entries ≡ insert_entry nat_eq old.entries id p) → OnErr r (IsUnchanged old new)
+      → p ≡ record { conversation = id; receipts = [] } → AreOwn old.entries → AreOwn new.entries
+  own_after_insert old new (Ok x) p inserted same is own = subst AreOwn (sym inserted) (own_inserted old.entries p own (ap held_to is))
+  own_after_insert old new (Err e) p inserted same is own = subst AreOwn (sym same) own
+
+-- a note leaves the conversation of its pass
+pub conversation_kept : (p q : PassHeld) (e : Event) (r : Result Noted PassRefusal) → IfOk r (λ n. IsReceipted p e n q) → OnErr r (q ≡ p) → q.conversation ≡ p.conversation
+conversation_kept p q e (Ok n) receipted same = ap held_to receipted.added
+conversation_kept p q e (Err f) receipted same = ap held_to same
+
+answer_keeps : (h : Holdings) (s t : Records × PassHeld) (e : Event) (r : Result Noted PassRefusal) → AnswersBy h s e r t → t.1.conversation ≡ s.1.conversation
+answer_keeps h s t e (Ok n) x = ap held_to x.2.added
+answer_keeps h s t e (Err f) x = ap (λ (u : Records × PassHeld). u.1.conversation) x.1
+
+all_keep : (h : Holdings) (s t : Records × PassHeld) (es : List Event) (rs : List (Result Noted PassRefusal)) → OneByOne (AnswersBy h) s es rs t → t.1.conversation ≡ s.1.conversation
+all_keep h s t [] [] x = ap (λ (u : Records × PassHeld). u.1.conversation) x
+all_keep h s t [] (r ∷ rs) x = absurd x
+all_keep h s t (e ∷ es) [] x = absurd x
+all_keep h s t (e ∷ es) (r ∷ rs) x = all_keep h x.0 t es rs x.2 ∙ answer_keeps h s x.0 e r x.1
+
+-- many notes leave the conversation of their pass
+pub conversation_kept_by_all : (p q : PassHeld) (es : List Event) (rs : List (Result Noted PassRefusal)) → AreAnsweredSome p es rs q → q.conversation ≡ p.conversation
+conversation_kept_by_all p q es rs x = all_keep x.0 (x.1, p) (x.2, q) es rs x.4
+
+one_by_one_length : {S A B : Type 0} (Step : S → A → B → S → Type 0) (s t : S) (aa : List A) (bs : List B) → OneByOne Step s aa bs t → length bs ≡ length aa
+one_by_one_length Step s t [] [] x = refl
+one_by_one_length Step s t [] (b ∷ bs) x = absurd x
+one_by_one_length Step s t (a ∷ aa) [] x = absurd x
+one_by_one_length Step s t (a ∷ aa) (b ∷ bs) x = ap suc (one_by_one_length Step x.0 t aa bs x.2)
+
+-- each note has a reply
+pub replies_each : (p q : PassHeld) (es : List Event) (rs : List (Result Noted PassRefusal)) → AreAnsweredSome p es rs q → length rs ≡ length es
+replies_each p q es rs x = one_by_one_length (AnswersBy x.0) (x.1, p) (x.2, q) es rs x.4

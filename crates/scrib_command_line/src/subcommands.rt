@@ -1,0 +1,128 @@
+//! Runs the commands of the program.
+
+use crate::outcomes::{flush_and_print_fault, refuse_value};
+use crate::request::{format_of, profile_of, shape_of};
+use crate::run_command_line::Streams;
+use crate::run_files::run_files;
+use clap::ArgMatches;
+use scrib_cli::commands::check::check_files;
+use scrib_cli::commands::explain::explain;
+use scrib_cli::commands::fault::CommandFault;
+use scrib_cli::commands::folder::SystemFiles;
+use scrib_cli::commands::machine::machine_files;
+use scrib_cli::commands::project::project_files;
+use scrib_cli::commands::watch::watch;
+use scrib_cli::id::id_of;
+use scrib_run_service::options::Options;
+use scrib_run_service::progress::StandardError;
+use std::io::{Input, Write};
+use std::marker::Send;
+use std::rt::Files;
+use std::sync::Wait;
+use std::thread::Threads;
+
+// Runs `check`, `project`, `machine` or `watch`, whose words need no checks. Returns whether no refusal was printed.
+pub(crate) fn run_simple_command<'a, R: Files + AllocGlobal, I: Input, W: Write, E>(
+    system: &R,
+    streams: &mut Streams<'_, I, W, E>,
+    name: &str,
+    matches: &ArgMatches<'a>,
+) -> Result<bool, CommandFault<'a>> {
+    let alloc = system.alloc();
+    let files = SystemFiles {
+        files: system,
+        input: streams.input,
+    };
+    let paths = matches.get_strs("FILE").unwrap_or(&[]);
+    let protocol = matches.get_str("PROTOCOL").unwrap_or("");
+    let role = matches.get_str("ROLE").unwrap_or("");
+    let profile = profile_of(matches);
+    match name {
+        "check" => check_files(alloc, profile, &files, paths, streams.output),
+        "project" => project_files(
+            alloc,
+            profile,
+            protocol,
+            role,
+            &files,
+            paths,
+            streams.output,
+        ),
+        "machine" => machine_files(
+            alloc,
+            profile,
+            protocol,
+            role,
+            &files,
+            paths,
+            streams.output,
+        ),
+        _ => {
+            let path = matches.get_str("FILE");
+            let format = format_of(matches);
+            let mut reader = streams.input.reader();
+            watch(alloc, format, &files, path, &mut reader, streams.output)
+        }
+    }
+}
+
+// Runs `explain`, and returns the exit status.
+pub(crate) fn explain_by_id<R: Files + AllocGlobal, I: Input, W: Write, E: Print + Eprint>(
+    system: &R,
+    streams: &mut Streams<'_, I, W, E>,
+    matches: &ArgMatches<'_>,
+) -> u8 {
+    let alloc = system.alloc();
+    let Some(id) = id_of(matches.get_str("ID").unwrap_or("")) else {
+        let message = "the ID is 1 to 10 decimal digits, at most 4294967295";
+        return refuse_value(alloc, streams, message);
+    };
+    let files = SystemFiles {
+        files: system,
+        input: streams.input,
+    };
+    let path = matches.get_str("FILE");
+    let mut reader = streams.input.reader();
+    let explained = explain(alloc, id, &files, path, &mut reader, streams.output);
+    flush_and_print_fault(streams, &explained)
+}
+
+// Runs `run`, and returns the exit status.
+pub(crate) fn run_over_service<
+    R: Files + Threads + Wait + AllocGlobal + Sync,
+    I: Input + Sync,
+    W: Write,
+    E: Print + Eprint + Sync,
+>(system: &R, streams: &mut Streams<'_, I, W, E>, matches: &ArgMatches<'_>) -> u8
+where
+    R::File: Send,
+    I::Reader: Send,
+{
+    let alloc = system.alloc();
+    let shape = match shape_of(matches) {
+        Ok(shape) => shape,
+        Err(message) => return refuse_value(alloc, streams, message),
+    };
+    let has_progress = matches.get_flag("progress");
+    let options = Options {
+        shape,
+        format: format_of(matches),
+        progress: has_progress.then_some(StandardError(streams.messages)),
+    };
+    let files = SystemFiles {
+        files: system,
+        input: streams.input,
+    };
+    let setup = matches.get_str("SETUP").unwrap_or("");
+    let connections = matches.get_strs("CONNECTION").unwrap_or(&[]);
+    let ran = run_files(
+        system,
+        alloc,
+        &options,
+        &files,
+        setup,
+        connections,
+        streams.output,
+    );
+    flush_and_print_fault(streams, &ran)
+}

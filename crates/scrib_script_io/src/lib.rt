@@ -1,0 +1,5 @@
+//! What reading scripts and writing outputs share: the faults that end a script, and writes of whole byte strings.
+#![tactic(auto)]
+
+pub mod fault;
+pub mod writing;

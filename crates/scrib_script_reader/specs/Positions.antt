@@ -1,0 +1,146 @@
+-- Positions in a script that is read by pieces, and what its bytes spell between them (this project's own).
+use Rattle.std.specs.Prelude.{◌≡◌, ◌≢◌, ◌⊎◌, ℕ, ◌+◌, ◌≤◌, ◌<◌, List, [], ◌∷◌, ◌++◌, length, take, Option, Some, None, option_map}
+use Rattle.scrib_core.specs.declared.step.Step.TheVariants.{Put}
+use Rattle.scrib_script_reader.specs.declared.line.Line.{Line}
+use Rattle.scrib_script_reader.specs.declared.line.Line.TheVariants as line
+use Rattle.scrib_script_reader.specs.declared.item.Item.{Item}
+use Rattle.scrib_script_reader.specs.declared.item.Item.TheVariants as item
+use Rattle.scrib_script_reader.specs.declared.kept_bytes.KeptText.{KeptText}
+use Rattle.scrib_script_reader.specs.declared.spelling.Spelled.{Spelled}
+use Rattle.scrib_script_reader.specs.declared.spelling.Spelled.TheVariants as spelled
+use Rattle.scrib_script_reader.specs.declared.script.Script.{Script}
+use Rattle.scrib_script_reader.specs.declared.limits.Limits.{Limits}
+use Rattle.scrib_script_reader.specs.Scripts.{NoLf, Text, empty_text, with_line, Spells, lines, bare, text_end}
+use Rattle.scrib_script_reader.specs.Limits.{IsWithin, line_feeds}
+
+-- A position in a script: the number of the current line, the module text so far, if inside one, and the current line
+-- so far.
+pub record Position : Type 0 where
+  pub number : ℕ
+  pub text : Option Text
+  pub line : List ℕ
+
+-- the position before the first byte
+abbrev pub start : Position
+start = record { number = 1; text = None; line = [] }
+
+-- where only these bytes are left from the position on, they spell these items
+abbrev pub SpellsFrom : Position → List ℕ → List Item → Type 0
+SpellsFrom p bytes items = Spells p.number p.text (lines (p.line ++ bytes)) items
+
+-- the bytes lead from position p to position q, and spell these items on the way
+abbrev pub Leads : Position → List ℕ → List Item → Position → Type 0
+Leads p bytes items q =
+    (more : List ℕ) (rest : List Item) → SpellsFrom q more rest → SpellsFrom p (bytes ++ more) (items ++ rest)
+
+-- the most bytes of a line that are kept: outside module texts its limit, one byte more, and a CR
+abbrev pub capacity : Option Text → ℕ
+capacity None = 131074
+capacity (Some text) = 1048577
+
+-- the kept part of a module text: its first 1,048,577 bytes
+abbrev pub cut : Text → Text
+cut text = record { bytes = take 1048577 text.bytes; format = text.format }
+
+-- the module text of the code's value
+abbrev pub as_text : KeptText → Text
+as_text kept = record { bytes = kept.bytes.items; format = kept.format }
+
+-- the module text that the reader keeps
+abbrev pub text_of : Script → Option Text
+text_of s = option_map as_text s.text
+
+-- the reader keeps the needed part of this text and of this line
+pub record Holds (s : Script) (text : Option Text) (line : List ℕ) : Type 0 where
+  pub kept_text : text_of s ≡ option_map cut text
+  pub kept_line : s.line.items ≡ take (capacity text) line
+  pub no_lf : NoLf line
+
+-- the position of the reader, where this is the text and this the line so far
+abbrev pub position : Script → Option Text → List ℕ → Position
+position s text line = record { number = s.lines + 1; text = text; line = line }
+
+-- the bytes were consumed and counted, and with them the script is within its limits
+pub record Counts (old new : Script) (part : List ℕ) : Type 0 where
+  pub limits : new.limits ≡ old.limits
+  pub bytes : new.bytes ≡ old.bytes + length part
+  pub ended : new.lines ≡ old.lines + line_feeds part
+  pub few_bytes : old.bytes + length part ≤ old.limits.bytes
+  pub few_lines : old.lines + length (lines part) ≤ old.limits.lines
+
+-- the bytes were consumed, and spell these items
+pub record Takes (old new : Script) (bytes : List ℕ) (items : List Item) : Type 0 where
+  pub counts : Counts old new bytes
+  pub goes : (text : Option Text) (line : List ℕ) → Holds old text line
+      → (new_text : Option Text) × (new_line : List ℕ) × Holds new new_text new_line
+      × Leads (position old text line) bytes items (position new new_text new_line)
+
+-- all of the piece but the rest was consumed, and spells these items
+abbrev pub TakesFront : (old new : Script) → List ℕ → List ℕ → List Item → Type 0
+TakesFront old new piece rest items = (front : List ℕ) × (piece ≡ front ++ rest) × Takes old new front items
+
+-- the bytes are one line, or a part of one
+abbrev pub IsOneLine : List ℕ → Type 0
+IsOneLine part = lines part ≡ part ∷ []
+
+-- with these bytes of one line, one at least, the script is past its limits
+abbrev pub IsPastWith : Script → List ℕ → Type 0
+IsPastWith s part = (s.limits.bytes < s.bytes + length part) ⊎ (s.limits.lines ≤ s.lines)
+
+-- Some line of the piece is past the script's limits. The lines before it were consumed, and spell no item.
+pub record PassesLimits (old : Script) (piece : List ℕ) : Type 0 where
+  pub mid : Script
+  pub line : List ℕ
+  pub rest : List ℕ
+  pub before : TakesFront old mid piece (line ++ rest) []
+  pub first : lines (line ++ rest) ≡ line ∷ lines rest
+  pub past : IsPastWith mid line
+
+-- where the whole script was consumed, its end spells these items
+pub record EndsIn (s : Script) (items : List Item) : Type 0 where
+  pub ends : (text : Option Text) (line : List ℕ) → Holds s text line → SpellsFrom (position s text line) [] items
+
+-- the bytes seen so far were consumed, spell these items and are within the limits
+pub record Read (m : Limits) (s : Script) (seen : List ℕ) (items : List Item) : Type 0 where
+  pub limits : s.limits ≡ m
+  pub bytes : s.bytes ≡ length seen
+  pub ended : s.lines ≡ line_feeds seen
+  pub within : IsWithin m seen
+  pub text : Option Text
+  pub line : List ℕ
+  pub holds : Holds s text line
+  pub leads : Leads start seen items (position s text line)
+
+-- the line that an LF ended spells these items, and this is kept of the module text after it
+pub record LineEnded (old : Script) (after : Option Text) (items : List Item) : Type 0 where
+  pub goes : (text : Option Text) (line : List ℕ) → Holds old text line
+      → (next : Option Text) × (after ≡ option_map cut next)
+      × Leads (position old text line) (10 ∷ []) items (record { number = old.lines + 1 + 1; text = next; line = [] })
+
+-- what a line of this number and meaning spells
+abbrev pub spelled_of : ℕ → Line → Spelled
+spelled_of n line.Skipped = spelled.Nothing
+spelled_of n (line.Put f) = spelled.Text f
+spelled_of n (line.Step f s) = spelled.Item (item.Step f s)
+spelled_of n line.Bad = spelled.Item (item.BadLine n)
+
+-- the module text that begins after the line, if one does
+abbrev pub begun_text : Spelled → Option Text
+begun_text spelled.Nothing = None
+begun_text (spelled.Text f) = Some (empty_text f)
+begun_text (spelled.Item i) = None
+
+-- the items of what a line spells: one, or none
+abbrev pub items_of : Spelled → List Item
+items_of spelled.Nothing = []
+items_of (spelled.Text f) = []
+items_of (spelled.Item i) = i ∷ []
+
+-- After a line inside a module text, of which this much is kept: the line ends the text, which is put, or the text
+-- continues with the line and its LF.
+abbrev pub TextGives : Text → List ℕ → Option Text → List Item → Type 0
+TextGives kept l None items = (bare (l ++ 10 ∷ []) ≡ text_end) × (items ≡ item.Step kept.format (Put kept.bytes) ∷ [])
+TextGives kept l (Some after) items =
+    (bare (l ++ 10 ∷ []) ≢ text_end)
+    × (length kept.bytes ≤ 1048577 → after ≡ cut (with_line kept (l ++ 10 ∷ [])))
+    × (items ≡ [])
