@@ -1,1 +1,9 @@
-pub mod Crossing
+pub mod ResultLemmas
+pub mod PartialWriteLemmas
+pub mod OutputLemmas
+pub mod ConnectionLemmas
+pub mod ScriptLemmas
+pub mod RunLemmas
+pub mod RangeLemmas
+pub mod ThreadResultLemmas
+pub mod ThreadSharingLemmas

@@ -1,12 +1,11 @@
 //! What the connections of a run share.
 
 use crate::progress::Tally;
-use scrib_script_reader::format::Format;
+use scrib_core::format::Format;
 use scrib_shards::service::Service;
 use std::alloc::Global;
 
-/// What the connections of a run share: the service, the format of what they are answered, and the count of the events
-/// that they note.
+/// What the connections of a run share: the service, the format of the replies, and the count of noted events.
 #[derive(Drop)]
 pub(crate) struct Common<'a, P> {
     pub(crate) alloc: Global,

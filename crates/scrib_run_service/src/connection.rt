@@ -1,18 +1,19 @@
 //! A connection to a service.
 
 use crate::common::Common;
+use crate::notices::name_shards;
 use crossbeam_channel::Sender;
-use scrib_cli::fault::ScriptFault;
-use scrib_cli::printing::{bad_line, end_of_text, reply_format};
-use scrib_client::answer::{Answer, is_change, is_noted, noted, push_answer};
 use scrib_client::passes::Passes;
+use scrib_client::service_reply::{ServiceReply, is_change, is_noted, noted, push_service_reply};
 use scrib_client::steps::make_step;
+use scrib_core::format::Format;
 use scrib_core::step::Step;
 use scrib_rejudge::notices::Notice;
-use scrib_script_reader::format::Format;
+use scrib_report::printing::{bad_line, end_of_text, reply_format};
+use scrib_script_io::fault::ScriptFault;
 use scrib_script_reader::item::Item;
 use scrib_shards::pass::Pass;
-use scrib_shards::passing::PassAnswer;
+use scrib_shards::pass_calls::PassReply;
 use scrib_shards::service::Service;
 use scrib_types::shared_event::SharedEvent;
 use scrib_types::text::push_bytes;
@@ -20,27 +21,27 @@ use std::alloc::{AllocError, Global};
 use std::mem::replace;
 use std::sync::Wait;
 
-/// How many events of a conversation are put off at most, and so noted while the locks are held once.
+// The most events of a conversation that are buffered, and so noted by one call.
 const MAX_PENDING: usize = 64;
 
-/// A connection to a service: its pass to each conversation that it used, and the lines of what it was answered.
+/// A connection to a service: its pass to each conversation that it used, and the lines of its replies.
 #[derive(Drop)]
 pub(crate) struct Connection<'a> {
     alloc: Global,
     service: &'a Service,
-    // Where the shards are named whose verdicts an edit may put out of date.
+    // Receives a notice for each shard after an edit, which may leave verdicts there stale.
     outbox: Option<&'a Sender<Notice>>,
     format: Format,
     passes: Passes,
     lines: Vec<u8>,
-    // Events that are still to be noted, all of the conversation of this id.
+    // Events that are not yet noted, all of the conversation `pending_id`.
     pending: Vec<SharedEvent>,
     pending_id: u32,
-    // How many events it noted that weren't counted yet.
+    // How many events were noted since the last `take_noted`.
     noted: u64,
 }
 
-/// A connection at its end: its passes, and its lines.
+/// What is left of a connection at its end: its passes and its lines.
 #[derive(Drop)]
 pub(crate) struct Closed {
     pub(crate) passes: Vec<Pass>,
@@ -48,13 +49,26 @@ pub(crate) struct Closed {
 }
 
 impl<'a> Connection<'a> {
-    ghost use Rattle.std.specs.Prelude.{◌≡◌, ◌≤◌, [], vec_len, vec_capacity};
+    ghost use Rattle.std.specs.Prelude.{◌≡◌, ◌≤◌, ◌++◌, [], ◌∷◌, false, OnOk, IfOk, IfErr, vec_len, vec_capacity};
+    ghost use Rattle.std.specs.HashMap.{values};
+    ghost use Rattle.scrib_core.specs.declared.format.Format.TheVariants as format;
+    ghost use Rattle.scrib_script_reader.specs.declared.item.Item.TheVariants as item;
+    ghost use Rattle.scrib_script_io.specs.declared.fault.ScriptFault.TheVariants as fault;
+    ghost use Rattle.scrib_client.specs.ServiceReplies.{noted_reply};
+    ghost use Rattle.scrib_run_service.specs.Outcomes.{replied, bad, ended, Adds, Yields, Takes, is_bad_step, notes_of, noted_outcomes};
+    ghost use Rattle.scrib_run_service.specs.Outputs.{read_fault_line};
 
-    /// A connection that used no conversation. What it is answered is told in the format of the run.
+    /// Returns a connection with no passes and no lines. Its replies are in the format of the run.
     pub(crate) fn new<P>(
         common: &Common<'a, P>,
         outbox: Option<&'a Sender<Notice>>,
-    ) -> Connection<'a> {
+    ) -> Connection<'a>
+        ensures format { result.format ≡ common.now.format }
+        ensures passes { result.passes.by_id.entries ≡ [] }
+        ensures lines { result.lines.items ≡ [] }
+        ensures pending { result.pending.items ≡ [] }
+        ensures noted { result.noted ≡ 0 }
+    {
         Connection {
             alloc: common.alloc,
             service: common.service,
@@ -68,18 +82,28 @@ impl<'a> Connection<'a> {
         }
     }
 
-    /// How many events it noted since this was last asked.
-    pub(crate) fn take_noted(&mut self) -> u64 {
+    /// Returns how many events were noted since the last call, and counts from 0 again.
+    pub(crate) fn take_noted(&mut self) -> u64
+        ensures count { result ≡ self.old.noted }
+        ensures none { self.new.noted ≡ 0 }
+        ensures format { self.new.format ≡ self.old.format }
+        ensures lines { self.new.lines.items ≡ self.old.lines.items }
+        ensures pending { self.new.pending.items ≡ self.old.pending.items }
+        ensures pending_id { self.new.pending_id ≡ self.old.pending_id }
+    {
         let noted = self.noted;
         self.noted = 0;
         noted
     }
 
-    /// What is left of it at its end, when no event is put off any more.
+    /// Returns the passes and the lines. Events that are still buffered are dropped.
     ///
     /// # Errors
-    /// `AllocError` where memory was refused.
-    pub(crate) fn close(self) -> Result<Closed, AllocError> {
+    /// `AllocError` where memory is refused.
+    pub(crate) fn close(self) -> Result<Closed, AllocError>
+        ensures passes { IfOk result (λ closed. closed.passes.items ≡ values self.entry.passes.by_id) }
+        ensures lines { IfOk result (λ closed. closed.lines ≡ self.entry.lines) }
+    {
         let passes = self.passes.into_vec(self.alloc)?;
         Ok(Closed {
             passes,
@@ -87,34 +111,48 @@ impl<'a> Connection<'a> {
         })
     }
 
-    /// Makes the step that the item of this line is, and adds the line of what is answered; or a line for one that
-    /// says nothing, or for an end inside a module text. A turn or a question whose answer is asked for in JSON says
-    /// nothing. Events of one conversation that follow one another are put off and noted some at a time, since the
-    /// service's locks are taken once for them; `catch_up` notes those that are left.
+    /// Makes the step of an item, which is at this line of the script, and appends the line of its reply.
+    ///
+    /// For a bad line, and for an end inside a module text, it appends the line that reports this. A turn or a question
+    /// whose line asks for JSON is a bad line. Successive events of one conversation are buffered and noted together,
+    /// so that the service's locks are taken once for many. `flush` notes those that are left.
     ///
     /// # Errors
-    /// `OutOfMemory` where there is no memory for a line.
+    /// `OutOfMemory` where memory is refused.
     #[inline(always)]
-    pub(crate) fn tell(
+    pub(crate) fn submit(
         &mut self,
         rt: &impl Wait,
         item: Item,
         number: u32,
-    ) -> Result<(), ScriptFault> {
+    ) -> Result<(), ScriptFault>
+        ensures took { OnOk result (Takes self.old self.new (item ∷ [])) }
+        ensures fault { IfErr result (λ e. e ≡ fault.OutOfMemory) }
+    {
         match item {
-            Item::Step(Format::Line, Step::Note { id, event }) => self.put_off(rt, id, event),
-            item => {
-                self.catch_up(rt)?;
-                self.tell_now(rt, item, number)
-            }
+            Item::Step(Format::Line, Step::Note { id, event }) => self.buffer(rt, id, event),
+            item => self.submit_alone(rt, item, number),
         }
     }
 
-    /// Notes the events that were put off, and adds the lines of what is answered.
+    // As `submit`, for an item that is not buffered.
+    fn submit_alone(&mut self, rt: &impl Wait, item: Item, number: u32) -> Result<(), ScriptFault>
+        ensures took { OnOk result (Takes self.old self.new (item ∷ [])) }
+        ensures fault { IfErr result (λ e. e ≡ fault.OutOfMemory) }
+    {
+        self.flush(rt)?;
+        self.submit_now(rt, item, number)
+    }
+
+    /// Notes the buffered events, and appends the lines of their replies.
     ///
     /// # Errors
-    /// `OutOfMemory` where there is no memory for a line.
-    pub(crate) fn catch_up(&mut self, rt: &impl Wait) -> Result<(), ScriptFault> {
+    /// `OutOfMemory` where memory is refused.
+    pub(crate) fn flush(&mut self, rt: &impl Wait) -> Result<(), ScriptFault>
+        ensures took { OnOk result (Takes self.old self.new []) }
+        ensures none { OnOk result (self.new.pending.items ≡ []) }
+        ensures fault { IfErr result (λ e. e ≡ fault.OutOfMemory) }
+    {
         if self.pending.is_empty() {
             return Ok(());
         }
@@ -125,51 +163,73 @@ impl<'a> Connection<'a> {
         }
     }
 
-    // Puts the event off, once those of another conversation, or as many as may be, are noted. Without memory for that it
-    // is noted now.
+    // Buffers the event. Where memory for that is refused, it is noted now.
     #[inline(always)]
-    fn put_off(&mut self, rt: &impl Wait, id: u32, event: SharedEvent) -> Result<(), ScriptFault> {
-        if self.pending_id != id || self.pending.len() >= MAX_PENDING {
-            self.catch_up(rt)?;
-            self.pending_id = id;
-        }
+    fn buffer(&mut self, rt: &impl Wait, id: u32, event: SharedEvent) -> Result<(), ScriptFault>
+        ensures took { OnOk result (Takes self.old self.new (notes_of id (event ∷ []))) }
+        ensures fault { IfErr result (λ e. e ≡ fault.OutOfMemory) }
+    {
+        self.turn_to(rt, id)?;
         if self.pending.reserve(1).is_err() {
-            self.catch_up(rt)?;
+            self.flush(rt)?;
             return self.note_now(rt, id, event);
         }
         self.pending.push_reserved(event);
         Ok(())
     }
 
-    // Notes the events of the conversation by one call, whose answers there is room for.
+    // Prepares the buffer for an event of the conversation `id`. Flushes it if it is full or of another conversation.
+    #[inline(always)]
+    fn turn_to(&mut self, rt: &impl Wait, id: u32) -> Result<(), ScriptFault>
+        ensures took { OnOk result (Takes self.old self.new []) }
+        ensures pending_id { OnOk result (self.new.pending_id ≡ id) }
+        ensures fault { IfErr result (λ e. e ≡ fault.OutOfMemory) }
+    {
+        if self.pending_id == id && self.pending.len() < MAX_PENDING {
+            return Ok(());
+        }
+        self.flush(rt)?;
+        self.pending_id = id;
+        Ok(())
+    }
+
+    // Notes the events of the conversation by one call. `room` has the capacity for their replies.
     fn note_all(
         &mut self,
         rt: &impl Wait,
         id: u32,
         events: Vec<SharedEvent>,
-        room: Vec<PassAnswer>,
+        room: Vec<PassReply>,
     ) -> Result<(), ScriptFault>
         requires empty { room.items ≡ [] }
         requires room { vec_len events ≤ vec_capacity room }
+        ensures yielded { OnOk result (Yields self.old self.new (notes_of id events.items)) }
+        ensures fault { IfErr result (λ e. e ≡ fault.OutOfMemory) }
     {
         match self.passes.note_all(rt, self.service, id, events, room) {
-            Ok(answers) => self.tell_answers(id, answers),
+            Ok(replies) => self.append_replies(id, replies),
             Err(events) => self.note_each(rt, id, events),
         }
     }
 
-    // Adds the lines of what the notes of the conversation answered.
-    fn tell_answers(&mut self, id: u32, answers: Vec<PassAnswer>) -> Result<(), ScriptFault> {
-        for answer in answers {
-            self.tell_noted(id, answer)?;
+    // Appends the lines of the replies to notes in the conversation.
+    fn append_replies(&mut self, id: u32, replies: Vec<PassReply>) -> Result<(), ScriptFault>
+        ensures added { OnOk result (Adds self.old self.new (noted_outcomes id replies.items)) }
+        ensures fault { IfErr result (λ e. e ≡ fault.OutOfMemory) }
+    {
+        for reply in replies {
+            self.append_noted(id, reply)?;
         }
         Ok(())
     }
 
-    // Adds the line of what a note of the conversation answered.
+    // Appends the line of the reply to a note in the conversation.
     #[inline(always)]
-    fn tell_noted(&mut self, id: u32, answer: PassAnswer) -> Result<(), ScriptFault> {
-        self.tell_answer(&noted(id, answer), Format::Line)
+    fn append_noted(&mut self, id: u32, reply: PassReply) -> Result<(), ScriptFault>
+        ensures added { OnOk result (Adds self.old self.new (replied format.Line (noted_reply id reply) ∷ [])) }
+        ensures fault { IfErr result (λ e. e ≡ fault.OutOfMemory) }
+    {
+        self.append_reply(&noted(id, reply), Format::Line)
     }
 
     // Notes the events of the conversation one by one.
@@ -178,78 +238,107 @@ impl<'a> Connection<'a> {
         rt: &impl Wait,
         id: u32,
         events: Vec<SharedEvent>,
-    ) -> Result<(), ScriptFault> {
+    ) -> Result<(), ScriptFault>
+        ensures yielded { OnOk result (Yields self.old self.new (notes_of id events.items)) }
+        ensures fault { IfErr result (λ e. e ≡ fault.OutOfMemory) }
+    {
         for event in events {
             self.note_now(rt, id, event)?;
         }
         Ok(())
     }
 
-    fn note_now(&mut self, rt: &impl Wait, id: u32, event: SharedEvent) -> Result<(), ScriptFault> {
-        let answer = self.passes.note(rt, self.service, id, event);
-        self.tell_noted(id, answer)
+    // Notes the event, and appends the line of its reply.
+    fn note_now(&mut self, rt: &impl Wait, id: u32, event: SharedEvent) -> Result<(), ScriptFault>
+        ensures yielded { OnOk result (Yields self.old self.new (notes_of id (event ∷ []))) }
+        ensures fault { IfErr result (λ e. e ≡ fault.OutOfMemory) }
+    {
+        let reply = self.passes.note(rt, self.service, id, event);
+        self.append_noted(id, reply)
     }
 
-    // Adds the line of what is answered, which is asked for in this format.
-    fn tell_answer(&mut self, answer: &Answer, asked: Format) -> Result<(), ScriptFault> {
-        if is_noted(answer) {
+    // Appends the line of the reply to a step whose line asks for the format `asked`, and counts a noted event.
+    fn append_reply(&mut self, reply: &ServiceReply, asked: Format) -> Result<(), ScriptFault>
+        ensures added { OnOk result (Adds self.old self.new (replied asked reply.now ∷ [])) }
+        ensures fault { IfErr result (λ e. e ≡ fault.OutOfMemory) }
+    {
+        if is_noted(reply) {
             self.noted = self.noted.saturating_add(1);
         }
         let format = reply_format(self.format, asked);
-        push_answer(&mut self.lines, answer, format)?;
+        push_service_reply(&mut self.lines, reply, format)?;
         Ok(())
     }
 
-    // Makes the step of the item, or says that it is none, when no event is put off.
-    fn tell_now(&mut self, rt: &impl Wait, item: Item, number: u32) -> Result<(), ScriptFault> {
+    // As `submit`, where no event is buffered.
+    fn submit_now(&mut self, rt: &impl Wait, item: Item, number: u32) -> Result<(), ScriptFault>
+        ensures yielded { OnOk result (Yields self.old self.new (item ∷ [])) }
+        ensures fault { IfErr result (λ e. e ≡ fault.OutOfMemory) }
+    {
         match item {
-            Item::Step(Format::Json, Step::Turn { .. } | Step::Ask { .. }) => self.tell_bad(number),
+            Item::Step(Format::Json, Step::Turn { .. } | Step::Ask { .. }) => self.append_bad_line(
+                number,
+            ),
             Item::Step(asked, step) => self.make(rt, asked, step),
-            Item::BadLine(number) => self.tell_bad(number),
-            Item::EndOfText => {
-                push_bytes(&mut self.lines, end_of_text(self.format))?;
-                Ok(())
-            }
+            Item::BadLine(number) => self.append_bad_line(number),
+            Item::EndOfText => self.append_end_of_text(),
         }
     }
 
-    // Makes the step, names each shard where it changed a protocol, and adds the line of what is answered, which is asked
-    // for in this format.
-    fn make(&mut self, rt: &impl Wait, asked: Format, step: Step) -> Result<(), ScriptFault> {
-        let answer = make_step(rt, self.service, &mut self.passes, step);
-        if is_change(&answer) {
+    // Makes the step of a line that asks for the format `asked`, and appends the line of its reply. Sends the notices
+    // if the step changed a protocol.
+    fn make(&mut self, rt: &impl Wait, asked: Format, step: Step) -> Result<(), ScriptFault>
+        requires { is_bad_step asked step ≡ false }
+        ensures yielded { OnOk result (Yields self.old self.new (item.Step asked step ∷ [])) }
+        ensures fault { IfErr result (λ e. e ≡ fault.OutOfMemory) }
+    {
+        let reply = make_step(rt, self.service, &mut self.passes, step);
+        if is_change(&reply) {
             self.send_notices(rt);
         }
-        self.tell_answer(&answer, asked)
+        self.append_reply(&reply, asked)
     }
 
-    /// Adds the line that its reader failed.
+    /// Appends the line that reports a failed reader.
     ///
     /// # Errors
-    /// `OutOfMemory` where there is no memory for the line.
-    pub(crate) fn tell_read_fault(&mut self) -> Result<(), ScriptFault> {
+    /// `AllocError` where memory is refused.
+    pub(crate) fn append_read_fault(&mut self) -> Result<(), AllocError>
+        ensures { OnOk result (self.new.lines.items ≡ self.old.lines.items ++ read_fault_line self.old.format) }
+    {
         let line: &[u8] = match self.format {
             Format::Line => b"read fault\n",
             Format::Json => b"{\"fault\":\"read\"}\n",
         };
-        push_bytes(&mut self.lines, line)?;
-        Ok(())
+        push_bytes(&mut self.lines, line)
     }
 
-    fn tell_bad(&mut self, number: u32) -> Result<(), ScriptFault> {
+    // Appends the line that reports a bad line of this number.
+    fn append_bad_line(&mut self, number: u32) -> Result<(), ScriptFault>
+        ensures added { OnOk result (Adds self.old self.new (bad number ∷ [])) }
+        ensures fault { IfErr result (λ e. e ≡ fault.OutOfMemory) }
+    {
         let line = bad_line(self.alloc, number, self.format)?;
         push_bytes(&mut self.lines, line.as_bytes())?;
         Ok(())
     }
 
-    // Names each shard to those who bring verdicts up to date. Where a notice finds no room it is left out: a last
-    // sweep does its work.
+    // Appends the line that reports an end inside a module text.
+    fn append_end_of_text(&mut self) -> Result<(), ScriptFault>
+        ensures added { OnOk result (Adds self.old self.new (ended ∷ [])) }
+        ensures fault { IfErr result (λ e. e ≡ fault.OutOfMemory) }
+    {
+        push_bytes(&mut self.lines, end_of_text(self.format))?;
+        Ok(())
+    }
+
+    // Sends a notice for each shard to the workers. A notice that cannot be sent is left out, since the last sweep
+    // reaches every shard.
     fn send_notices(&self, rt: &impl Wait) {
-        let Some(outbox) = self.outbox else {
-            return;
-        };
-        for shard in 0..self.service.shards() {
-            let _ = outbox.send(rt, Notice { shard });
+        if let Some(outbox) = self.outbox {
+            name_shards(self.service, |shard| {
+                let _ = outbox.send(rt, Notice { shard });
+            });
         }
     }
 }

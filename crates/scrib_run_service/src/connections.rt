@@ -1,12 +1,15 @@
-//! Connections on threads, beside workers that bring verdicts up to date.
+//! Runs connections on threads, beside workers that renew stale verdicts.
+
+ghost use Rattle.std.specs.Prelude.{◌≡◌, ◌<◌, ℕ, length, map, IfOk, vec_len, slice_index_or};
+ghost use Rattle.scrib_run_service.specs.ConnectionResults.{IsClosed, AreClosed};
 
 use crate::common::Common;
 use crate::connection::{Closed, Connection};
 use crate::progress::Progress;
 use crate::reading::run_script;
 use crossbeam_channel::{Receiver, Sender, unbounded};
-use scrib_cli::fault::ScriptFault;
 use scrib_rejudge::notices::{Notice, serve_notices};
+use scrib_script_io::fault::ScriptFault;
 use scrib_shards::gate::OpenGate;
 use scrib_shards::service::Service;
 use std::alloc::{AllocError, Global};
@@ -16,10 +19,10 @@ use std::sync::Wait;
 use std::thread;
 use std::thread::Threads;
 
-/// What came of a connection.
-type Ran = Result<Closed, ScriptFault>;
+/// The result of a connection. Only refused memory is a fault of the run.
+pub(crate) type Ran = Result<Closed, AllocError>;
 
-// Carries out the script of a connection. Where its reader fails it ends so, which is nobody else's fault.
+// Carries out the script of a connection. A failed reader ends the connection with a line, and is no fault of the run.
 fn run_connection<C: Read, P: Progress>(
     rt: &impl Wait,
     common: &Common<'_, P>,
@@ -28,23 +31,28 @@ fn run_connection<C: Read, P: Progress>(
 ) -> Ran
 where
     C: Drop,
+    ensures { IsClosed common.now.format (C.remaining reader) result }
 {
     let mut connection = Connection::new(common, Some(outbox));
     match run_script(rt, common, &mut connection, &mut reader) {
         Ok(()) => {}
-        Err(ScriptFault::Read) => connection.tell_read_fault()?,
-        Err(fault) => return Err(fault),
+        Err(ScriptFault::Read) => connection.append_read_fault()?,
+        Err(_) => return Err(AllocError),
     }
-    Ok(connection.close()?)
+    connection.close()
 }
 
 // Carries out the connections, each on a thread of its own.
-fn run_all<R: Threads + Wait + Sync, C: Read + Send + Drop, P: Progress + Sync>(
+fn run_each<R: Threads + Wait + Sync, C: Read + Send + Drop, P: Progress + Sync>(
     rt: &R,
     common: &Common<'_, P>,
     outbox: Sender<Notice>,
     readers: Vec<C>,
-) -> Result<Vec<Ran>, AllocError> {
+) -> Result<Vec<Ran>, AllocError>
+    ensures len { IfOk result (λ all. vec_len all ≡ vec_len readers) }
+    ensures each { IfOk result (λ all. (i : ℕ) (d : _) (c : C) → i < length readers.items →
+        IsClosed common.now.format (C.remaining (slice_index_or readers.items i c)) (slice_index_or all.items i d)) }
+{
     thread::map_vec(
         rt,
         readers,
@@ -52,8 +60,20 @@ fn run_all<R: Threads + Wait + Sync, C: Read + Send + Drop, P: Progress + Sync>(
     )
 }
 
-// Sweeps the shards that notices name, by so many workers, until the channel is closed and empty. A worker that finds
-// no memory ends; a last sweep does its work.
+// As `run_each`. The results are in the order of the readers.
+fn run_all<R: Threads + Wait + Sync, C: Read + Send + Drop, P: Progress + Sync>(
+    rt: &R,
+    common: &Common<'_, P>,
+    outbox: Sender<Notice>,
+    readers: Vec<C>,
+) -> Result<Vec<Ran>, AllocError>
+    ensures { IfOk result (λ all. AreClosed common.now.format (map (λ c. C.remaining c) readers.items) all.items) }
+{
+    run_each(rt, common, outbox, readers)
+}
+
+// Sweeps the shards that notices name, by this number of workers, until the channel is closed and empty. A worker that
+// is refused memory ends, since the last sweep reaches every shard.
 fn serve_all<R: Threads + Wait + Sync>(
     rt: &R,
     alloc: Global,
@@ -69,18 +89,20 @@ fn serve_all<R: Threads + Wait + Sync>(
     );
 }
 
-/// Carries out the scripts of the readers, each on a thread of its own and over a connection of its own, while so many
-/// workers bring verdicts up to date that edits put out of date. Returns what came of each, in order, when all have
-/// ended and the workers too.
+/// Carries out the scripts of the readers, each on a thread of its own and over a connection of its own. Meanwhile this
+/// number of workers renews the verdicts that edits leave stale. Returns the results in the order of the readers, when
+/// all threads have ended.
 ///
 /// # Errors
-/// `AllocError` where there is no memory for the channel or the threads.
+/// `AllocError` where memory for the channel or the threads is refused.
 pub(crate) fn run_connections<R: Threads + Wait + Sync, C: Read + Send + Drop, P: Progress + Sync>(
     rt: &R,
     common: &Common<'_, P>,
     workers: usize,
     readers: Vec<C>,
-) -> Result<Vec<Ran>, AllocError> {
+) -> Result<Vec<Ran>, AllocError>
+    ensures { IfOk result (λ all. AreClosed common.now.format (map (λ c. C.remaining c) readers.items) all.items) }
+{
     let (alloc, service) = (common.alloc, common.service);
     let (outbox, inbox) = unbounded(alloc)?;
     let ((), ran) = thread::join(

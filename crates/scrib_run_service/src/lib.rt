@@ -1,10 +1,10 @@
-//! Scripts of many connections over one service.
+//! Runs scripts of many connections over one service.
 #![tactic(auto)]
 
 mod common;
 mod connection;
 mod connections;
-pub mod files;
+mod notices;
 pub mod options;
 pub mod progress;
 mod reading;

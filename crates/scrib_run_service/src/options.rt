@@ -1,10 +1,10 @@
 //! How scripts are run over a service.
 
 use crate::shape::Shape;
-use scrib_script_reader::format::Format;
+use scrib_core::format::Format;
 
-/// How scripts are run over a service: how it is run, in which format what it answers is written that isn't asked for
-/// in JSON, and who is told how far the run is, if anybody.
+/// How scripts are run over a service: its shape, the format of the output, and the receiver of progress reports, if
+/// any. A reply whose line asks for JSON is in JSON in either format.
 #[derive(Drop)]
 pub struct Options<P> {
     pub shape: Shape,

@@ -1,10 +1,10 @@
-//! Telling how far a run is.
+//! Reports of the progress of a run.
 
 use std::fmt;
 use std::fmt::{Display, Formatter};
 use std::sync::atomic::{AtomicU64, Ordering};
 
-// After how many events a mark is told.
+// The number of events between two reported marks.
 const EVENTS_BETWEEN_MARKS: u64 = 100_000;
 
 /// The parts of a run, in their order.
@@ -16,12 +16,12 @@ pub enum Phase {
     Settling,
 }
 
-/// What a run reached.
+/// A mark that a run reached.
 #[derive(Clone, Copy, Debug, PartialEq, Eq)]
 pub enum Mark {
-    /// The beginning of this part, when so many events were noted.
+    /// The beginning of this part, after this number of noted events.
     Phase { phase: Phase, events: u64 },
-    /// So many events.
+    /// This number of noted events.
     Events(u64),
 }
 
@@ -48,23 +48,23 @@ impl Display for Mark {
     }
 }
 
-/// Who is told how far a run is, by many threads beside each other.
+/// Receives progress reports, from several threads at the same time.
 pub trait Progress {
-    /// Is told what the run reached.
-    fn tell(&self, mark: Mark);
+    /// Reports that the run reached the mark.
+    fn report(&self, mark: Mark);
 }
 
-/// Standard error, which is told each mark in a line. Where it fails, nothing is told.
+/// Prints a line on standard error for each mark. If that fails, the mark is left out.
 #[derive(Clone, Copy)]
 pub struct StandardError<'a, R>(pub &'a R);
 
 impl<R: Eprint> Progress for StandardError<'_, R> {
-    fn tell(&self, mark: Mark) {
+    fn report(&self, mark: Mark) {
         let _ = self.0.eprintln(format_args!("scribmon: {mark}"));
     }
 }
 
-/// How many events were noted by all threads of a run, and who is told.
+/// The number of events that all threads of a run noted, and the receiver of its reports.
 #[derive(Drop)]
 pub(crate) struct Tally<'a, P> {
     progress: &'a Option<P>,
@@ -72,7 +72,7 @@ pub(crate) struct Tally<'a, P> {
 }
 
 impl<'a, P: Progress> Tally<'a, P> {
-    /// No event.
+    /// Returns a count of 0 events.
     pub(crate) fn new(progress: &'a Option<P>) -> Tally<'a, P> {
         Tally {
             progress,
@@ -80,24 +80,24 @@ impl<'a, P: Progress> Tally<'a, P> {
         }
     }
 
-    /// Tells that this part begins.
+    /// Reports that this part begins.
     pub(crate) fn begin(&self, phase: Phase) {
         let events = self.events.load(Ordering::Relaxed);
-        self.tell(Mark::Phase { phase, events });
+        self.report(Mark::Phase { phase, events });
     }
 
-    /// Counts so many further events, and tells of each 100,000.
+    /// Counts this number of further events. Reports every 100,000 events.
     pub(crate) fn add(&self, events: u64) {
         let before = self.events.fetch_add(events, Ordering::Relaxed);
         let marks = before.saturating_add(events) / EVENTS_BETWEEN_MARKS;
         if marks > before / EVENTS_BETWEEN_MARKS {
-            self.tell(Mark::Events(marks * EVENTS_BETWEEN_MARKS));
+            self.report(Mark::Events(marks * EVENTS_BETWEEN_MARKS));
         }
     }
 
-    fn tell(&self, mark: Mark) {
+    fn report(&self, mark: Mark) {
         if let Some(progress) = self.progress {
-            progress.tell(mark);
+            progress.report(mark);
         }
     }
 }

@@ -1,11 +1,16 @@
-//! Reading the script of a connection.
+//! Reads the script of a connection.
 
-ghost use Rattle.std.specs.Prelude.{◌<◌, length};
+ghost use Rattle.std.specs.Prelude.{◌≡◌, ◌<◌, true, [], OnOk, IfErr, length};
+ghost use Rattle.scrib_script_reader.specs.Scripts.{listed};
+ghost use Rattle.scrib_script_io.specs.declared.fault.ScriptFault.TheVariants as fault;
+ghost use Rattle.scrib_run_service.specs.Outcomes.{Takes};
+ghost use Rattle.scrib_run_service.specs.Reading.{of_reading, Carries, CarriesFront, AppendsSpelled, AppendsFront, AppendsEnd, Ran, RanPart};
 
 use crate::common::Common;
 use crate::connection::Connection;
 use crate::progress::Progress;
-use scrib_cli::fault::ScriptFault;
+use scrib_script_io::fault::ScriptFault;
+use scrib_script_reader::item::Item;
 use scrib_script_reader::script::Script;
 use std::io::{ErrorKind, Read};
 use std::sync::Wait;
@@ -13,23 +18,45 @@ use std::sync::Wait;
 // How many bytes of a script are read at once.
 const PIECE_BYTES: usize = 65_536;
 
-/// Carries out the script that the reader gives, over the connection, which has the lines of the answers then. The
-/// events that it notes are counted.
+/// Carries out the script of the reader over the connection, which must have no buffered events. Appends the lines of
+/// the replies to the connection's, and counts the noted events.
 ///
 /// # Errors
-/// The lines before are the connection's.
-/// - `Read` where the reader fails, and in the line of the first byte past the limits of a script.
-/// - `OutOfMemory` where there is no memory for a line.
+/// - `Read` where the reader fails, and in the line of the first byte past the limits of a script. The connection then
+///   has the lines of all earlier items.
+/// - `OutOfMemory` where memory is refused.
 pub(crate) fn run_script<R: Read, P: Progress>(
     rt: &impl Wait,
     common: &Common<'_, P>,
     connection: &mut Connection<'_>,
     reader: &mut R,
-) -> Result<(), ScriptFault> {
+) -> Result<(), ScriptFault>
+    requires { connection.old.pending.items ≡ [] }
+    ensures ok { OnOk result (Ran connection.old connection.new (R.remaining reader.old)) }
+    ensures read { IfErr result (λ e. e ≡ fault.Read → RanPart connection.old connection.new (R.remaining reader.old)) }
+    ensures fault { IfErr result (λ e. of_reading e ≡ true) }
+{
     let mut piece = vec![in common.alloc; 0u8; PIECE_BYTES]?;
+    run_by_pieces(rt, common, connection, reader, piece.as_mut_slice())
+}
+
+// As `run_script`, by pieces that are read into this buffer.
+fn run_by_pieces<R: Read, P: Progress>(
+    rt: &impl Wait,
+    common: &Common<'_, P>,
+    connection: &mut Connection<'_>,
+    reader: &mut R,
+    piece: &mut [u8],
+) -> Result<(), ScriptFault>
+    requires none { connection.old.pending.items ≡ [] }
+    requires some { 0 < length piece.old }
+    ensures ok { OnOk result (Ran connection.old connection.new (R.remaining reader.old)) }
+    ensures read { IfErr result (λ e. e ≡ fault.Read → RanPart connection.old connection.new (R.remaining reader.old)) }
+    ensures fault { IfErr result (λ e. of_reading e ≡ true) }
+{
     let mut script = Script::new(common.alloc);
     for _ in 0..u64::MAX {
-        let n = match reader.read(piece.as_mut_slice()) {
+        let n = match reader.read(piece) {
             Ok(n) => n,
             Err(e) => {
                 if e.kind() == ErrorKind::Interrupted {
@@ -49,45 +76,76 @@ pub(crate) fn run_script<R: Read, P: Progress>(
     Err(ScriptFault::Read)
 }
 
-// Takes the next bytes of the script in, and carries out what they spell; before a fault, what they spell up to there.
+// Consumes the next bytes of the script, and carries out the items that they spell. At a fault, it carries out the items
+// before it.
 fn take_piece(
     rt: &impl Wait,
     connection: &mut Connection<'_>,
     script: &mut Script,
     piece: &[u8],
-) -> Result<(), ScriptFault> {
-    let told = tell_items(rt, connection, script, piece);
-    connection.catch_up(rt)?;
-    told
+) -> Result<(), ScriptFault>
+    requires { connection.old.pending.items ≡ [] }
+    ensures ok { OnOk result (AppendsSpelled connection.old connection.new script.old script.new piece.now) }
+    ensures read { IfErr result (λ e. e ≡ fault.Read →
+        AppendsFront connection.old connection.new script.old piece.now) }
+    ensures fault { IfErr result (λ e. of_reading e ≡ true) }
+{
+    let submitted = submit_items(rt, connection, script, piece);
+    connection.flush(rt)?;
+    submitted
 }
 
-// Takes the next bytes of the script in, and tells the connection of what they spell, which may put events off.
-fn tell_items(
+// Consumes the next bytes of the script, and submits the items that they spell to the connection, which may buffer
+// events.
+fn submit_items(
     rt: &impl Wait,
     connection: &mut Connection<'_>,
     script: &mut Script,
     piece: &[u8],
-) -> Result<(), ScriptFault> {
+) -> Result<(), ScriptFault>
+    ensures ok { OnOk result (Carries connection.old connection.new script.old script.new piece.now) }
+    ensures read { IfErr result (λ e. e ≡ fault.Read →
+        CarriesFront connection.old connection.new script.old piece.now) }
+    ensures fault { IfErr result (λ e. of_reading e ≡ true) }
+{
     let mut rest = piece;
     while !rest.is_empty() {
         let (item, after) = script.next_item(rest)?;
-        if let Some(item) = item {
-            connection.tell(rt, item, script.lines())?;
-        }
+        submit_any(rt, connection, item, script.lines())?;
         rest = after;
     }
     Ok(())
 }
 
-// Carries out what the script spells at its end.
+// Submits the item of this line, if there is one.
+#[inline(always)]
+fn submit_any(
+    rt: &impl Wait,
+    connection: &mut Connection<'_>,
+    item: Option<Item>,
+    number: u32,
+) -> Result<(), ScriptFault>
+    ensures took { OnOk result (Takes connection.old connection.new (listed item)) }
+    ensures fault { IfErr result (λ e. e ≡ fault.OutOfMemory) }
+{
+    match item {
+        Some(item) => connection.submit(rt, item, number),
+        None => Ok(()),
+    }
+}
+
+// Carries out the item that the end of the script spells, if there is one.
 fn end_script(
     rt: &impl Wait,
     connection: &mut Connection<'_>,
     script: &mut Script,
-) -> Result<(), ScriptFault> {
+) -> Result<(), ScriptFault>
+    requires { connection.old.pending.items ≡ [] }
+    ensures ok { OnOk result (AppendsEnd connection.old connection.new script.old) }
+    ensures fault { IfErr result (λ e. e ≡ fault.OutOfMemory) }
+{
     let number = script.lines() + 1;
-    if let Some(item) = script.last_item()? {
-        connection.tell(rt, item, number)?;
-    }
-    connection.catch_up(rt)
+    let item = script.last_item()?;
+    submit_any(rt, connection, item, number)?;
+    connection.flush(rt)
 }

@@ -1,17 +1,27 @@
-//! Running scripts of many connections over one service.
+//! Runs scripts of many connections over one service.
+
+ghost use Rattle.std.specs.Prelude.{◌≡◌, ◌≢◌, ◌++◌, true, map, flat_map, IfOk, IfErr, IfSome, OnOk, OnErr, vec_len};
+ghost use Rattle.std.specs.Io.KnownBytes.{Appends};
+ghost use Rattle.scrib_shards.specs.Settling.{IsSettledSome};
+ghost use Rattle.scrib_script_io.specs.Writes.{AppendsPart};
+ghost use Rattle.scrib_script_io.specs.Faults.{of_output, of_script};
+ghost use Rattle.scrib_script_io.specs.declared.fault.ScriptFault.TheVariants as fault;
+ghost use Rattle.scrib_run_service.specs.ConnectionResults.{AreClosed, AreTexts};
+ghost use Rattle.scrib_run_service.specs.Outputs as outputs;
+ghost use Rattle.scrib_run_service.specs.Outputs.{connections_text, IsTable, IsUnsettled, Prints, PrintsPart, PrintsRun, PrintsRunPart, WritesAll, WritesFirst, WritesPart};
 
 use crate::common::Common;
 use crate::connection::{Closed, Connection};
-use crate::connections::run_connections;
+use crate::connections::{Ran, run_connections};
 use crate::options::Options;
 use crate::progress::{Phase, Progress, Tally};
 use crate::reading::run_script;
-pub use scrib_cli::fault::ScriptFault;
-use scrib_cli::writing::{flush_out, write_out};
+use scrib_core::ended::Ended;
+use scrib_core::format::Format;
 use scrib_rejudge::workers::sweep;
 use scrib_report::table::{table, table_json};
-use scrib_script_reader::format::Format;
-use scrib_settlement::ended::Ended;
+pub use scrib_script_io::fault::ScriptFault;
+use scrib_script_io::writing::{flush_out, write_out};
 use scrib_settlement::fault::SettleFault;
 use scrib_shards::gate::OpenGate;
 use scrib_shards::pass::Pass;
@@ -26,20 +36,31 @@ use std::sync::Wait;
 use std::thread;
 use std::thread::Threads;
 
-/// Runs scripts over one new service, by these options. First the setup script is carried out, and its lines are
-/// written. Then each connection script is, on a thread of its own and over passes of its own, while workers bring
-/// verdicts up to date that edits put out of date. When all have ended, a last sweep brings every verdict up to date.
-/// Then for each connection, in order, the line `connection 1` with its number is written, and its lines, while the
-/// service is settled on other threads; and at last the table of all conversations. A connection whose reader failed
-/// has `read fault` as its last line. In JSON these lines are `{"connection":1}`, `{"fault":"read"}`, and a line for
-/// each conversation and for their number. The memory of the service isn't given back: a process makes one run.
+// A service that is not yet settled, its passes, and the format of its table.
+#[derive(Drop)]
+struct Unsettled {
+    alloc: Global,
+    format: Format,
+    service: Service,
+    passes: Vec<Pass>,
+}
+
+/// Runs scripts over one new service, by these options. The setup script is carried out first, and its lines are
+/// written. Then each connection script is carried out on a thread of its own, by passes of its own. Meanwhile workers
+/// renew the verdicts that edits leave stale. When all have ended, a last sweep renews every stale verdict.
+///
+/// Then the line `connection 1`, with the connection's number, and its lines are written for each connection in order.
+/// Meanwhile the service is settled on other threads. The table of all conversations is written last. If the reader of
+/// a connection failed, its last line is `read fault`. In JSON these lines are `{"connection":1}`, `{"fault":"read"}`,
+/// and a line for each conversation and for their number. The memory of the service is not freed, since a process makes
+/// one run.
 ///
 /// # Errors
-/// What was written by then is a beginning of the output.
+/// After a fault, a prefix of the output is written; after `OutOfMemory` its last line may be cut.
 /// - `Read` where the reader of the setup fails, and in the line of its first byte past the limits of a script.
-/// - `Write` where the writer fails.
-/// - `Settle` where the passes don't account for each event of the logs; this would be a defect of the service.
-/// - `OutOfMemory` where there is no memory for a line, a thread, the channel, the last sweep or the settling.
+/// - `Write` where the writer fails, unless the setup was refused memory.
+/// - `Settle` where the passes do not settle the service; this would be a defect of the service.
+/// - `OutOfMemory` where memory is refused: for a line, a thread, the channel, the last sweep or the settling.
 pub fn run_service<
     R: Threads + Wait + Sync,
     S: Read,
@@ -53,7 +74,15 @@ pub fn run_service<
     setup: &mut S,
     connections: Vec<C>,
     writer: &mut W,
-) -> Result<(), ScriptFault> {
+) -> Result<(), ScriptFault>
+    ensures ok { OnOk result (PrintsRun options.now.format options.now.shape.shards (S.remaining setup.old)
+        (map (λ c. C.remaining c) connections.items) (W.contents writer.old) (W.contents writer.new)) }
+    ensures err { IfErr result (λ e. e ≢ fault.OutOfMemory →
+        PrintsRunPart options.now.format options.now.shape.shards (S.remaining setup.old)
+        (map (λ c. C.remaining c) connections.items) (W.contents writer.old) (W.contents writer.new)) }
+    ensures read { IfErr result (λ e. e ≡ fault.Read →
+        WritesFirst options.now.format (S.remaining setup.old) (W.contents writer.old) (W.contents writer.new)) }
+{
     let Options {
         shape,
         format,
@@ -71,47 +100,105 @@ pub fn run_service<
     };
     tally.begin(Phase::Setup);
     let prepared = run_setup(rt, &common, setup, writer)?;
-    tally.begin(Phase::Connections);
-    let ran = run_connections(rt, &common, shape.workers(), connections)?;
-    tally.begin(Phase::LastSweep);
-    let mut closed = Vec::with_capacity(alloc, ran.len())?;
-    for one in ran {
-        closed.push(one?)?;
-    }
-    if sweep(rt, alloc, &service, shape.workers(), &OpenGate).is_err() {
-        return Err(ScriptFault::OutOfMemory);
-    }
+    let closed = run_to_last_sweep(rt, &common, shape.workers(), connections)?;
     tally.begin(Phase::Settling);
-    let (passes, texts) = parted(alloc, prepared, closed)?;
-    finish(
-        rt,
+    let (passes, texts) = split_closed(alloc, prepared, closed)?;
+    let unsettled = Unsettled {
         alloc,
-        *format,
+        format: *format,
         service,
         passes,
-        texts.as_slice(),
-        writer,
-    )
+    };
+    settle_and_print(rt, unsettled, texts.as_slice(), writer)
 }
 
-// Carries out the setup, and writes its lines. Gives its passes.
+// Carries out the setup, and writes and flushes its lines, also those before a fault of its reader. Returns its passes.
 fn run_setup<S: Read, P: Progress, W: Write>(
     rt: &impl Wait,
     common: &Common<'_, P>,
     setup: &mut S,
     writer: &mut W,
-) -> Result<Vec<Pass>, ScriptFault> {
+) -> Result<Vec<Pass>, ScriptFault>
+    ensures ok { OnOk result (
+        WritesAll common.now.format (S.remaining setup.old) (W.contents writer.old) (W.contents writer.new)) }
+    ensures read { IfErr result (λ e. e ≡ fault.Read →
+        WritesFirst common.now.format (S.remaining setup.old) (W.contents writer.old) (W.contents writer.new)) }
+    ensures write { IfErr result (λ e. e ≡ fault.Write →
+        WritesPart common.now.format (S.remaining setup.old) (W.contents writer.old) (W.contents writer.new)) }
+    ensures fault { IfErr result (λ e. of_script e ≡ true) }
+{
     let mut connection = Connection::new(common, None);
     let ran = run_script(rt, common, &mut connection, setup);
-    let Closed { passes, lines } = connection.close()?;
-    write_out(writer, lines.as_slice())?;
-    flush_out(writer)?;
-    ran?;
-    Ok(passes)
+    let closed = connection.close()?;
+    let written = write_whole(writer, closed.lines.as_slice());
+    first_fault(ran, written)?;
+    Ok(closed.passes)
 }
 
-// The line before those of the connection of this number.
-fn heading(alloc: Global, format: Format, number: u64) -> Result<Vec<u8>, AllocError> {
+// Writes the bytes, and flushes them.
+fn write_whole<W: Write>(writer: &mut W, bytes: &[u8]) -> Result<(), ScriptFault>
+    ensures ok { OnOk result (Appends (W.contents writer.old) (W.contents writer.new) bytes.now) }
+    ensures err { OnErr result (AppendsPart (W.contents writer.old) (W.contents writer.new) bytes.now) }
+    ensures fault { IfErr result (λ e. e ≡ fault.Write) }
+{
+    write_out(writer, bytes)?;
+    flush_out(writer)
+}
+
+// Returns the fault of a script and of the writing of its lines. `OutOfMemory` of the script comes first, since its
+// last line may be cut then. Else a fault of the writer comes first.
+fn first_fault(
+    ran: Result<(), ScriptFault>,
+    written: Result<(), ScriptFault>,
+) -> Result<(), ScriptFault>
+    ensures { result ≡ outputs.first_fault ran written }
+{
+    match ran {
+        Ok(()) => written,
+        Err(ScriptFault::OutOfMemory) => Err(ScriptFault::OutOfMemory),
+        Err(fault) => match written {
+            Ok(()) => Err(fault),
+            Err(other) => Err(other),
+        },
+    }
+}
+
+// Carries out the connections, and then sweeps until no verdict is stale.
+fn run_to_last_sweep<R: Threads + Wait + Sync, C: Read + Send + Drop, P: Progress + Sync>(
+    rt: &R,
+    common: &Common<'_, P>,
+    workers: usize,
+    connections: Vec<C>,
+) -> Result<Vec<Closed>, ScriptFault>
+    ensures texts { IfOk result (λ closed.
+        AreTexts common.now.format (map (λ c. C.remaining c) connections.items) (map (λ c. c.lines.items) closed.items)) }
+    ensures fault { IfErr result (λ e. e ≡ fault.OutOfMemory) }
+{
+    common.tally.begin(Phase::Connections);
+    let ran = run_connections(rt, common, workers, connections)?;
+    common.tally.begin(Phase::LastSweep);
+    let closed = all_closed(common.alloc, ran)?;
+    if sweep(rt, common.alloc, common.service, workers, &OpenGate).is_err() {
+        return Err(ScriptFault::OutOfMemory);
+    }
+    Ok(closed)
+}
+
+// Returns the connections, if none was refused memory.
+fn all_closed(alloc: Global, ran: Vec<Ran>) -> Result<Vec<Closed>, AllocError>
+    ensures { IfOk result (λ closed. map (λ c. Ok c) closed.items ≡ ran.items) }
+{
+    let mut closed = Vec::with_capacity(alloc, ran.len())?;
+    for one in ran {
+        closed.push(one?)?;
+    }
+    Ok(closed)
+}
+
+// Returns the line before those of the connection of this number.
+fn heading(alloc: Global, format: Format, number: u64) -> Result<Vec<u8>, AllocError>
+    ensures { IfOk result (λ line. line.items ≡ outputs.heading format number) }
+{
     let (before, after): (&[u8], &[u8]) = match format {
         Format::Line => (b"connection ", b"\n"),
         Format::Json => (b"{\"connection\":", b"}\n"),
@@ -123,69 +210,153 @@ fn heading(alloc: Global, format: Format, number: u64) -> Result<Vec<u8>, AllocE
     Ok(line)
 }
 
-// Writes the lines of the connections, each behind a line with its number, from 1.
+// Writes the heading of the connection of this number, and then its lines.
+fn write_connection<W: Write>(
+    alloc: Global,
+    format: Format,
+    number: u64,
+    lines: &[u8],
+    writer: &mut W,
+) -> Result<(), ScriptFault>
+    ensures ok { OnOk result (
+        Appends (W.contents writer.old) (W.contents writer.new) (outputs.heading format number ++ lines.now)) }
+    ensures err { OnErr result (
+        AppendsPart (W.contents writer.old) (W.contents writer.new) (outputs.heading format number ++ lines.now)) }
+    ensures fault { IfErr result (λ e. of_output e ≡ true) }
+{
+    let heading = heading(alloc, format, number)?;
+    write_out(writer, heading.as_slice())?;
+    write_out(writer, lines)
+}
+
+// Writes the lines of the connections in order, each after its heading. Their numbers begin with 1.
 fn write_connections<W: Write>(
     alloc: Global,
     format: Format,
     texts: &[Vec<u8>],
     writer: &mut W,
-) -> Result<(), ScriptFault> {
+) -> Result<(), ScriptFault>
+    ensures ok { OnOk result (
+        Appends (W.contents writer.old) (W.contents writer.new) (connections_text format 1 (map (λ v. v.items) texts.now))) }
+    ensures err { OnErr result (
+        AppendsPart (W.contents writer.old) (W.contents writer.new) (connections_text format 1 (map (λ v. v.items) texts.now))) }
+    ensures fault { IfErr result (λ e. of_output e ≡ true) }
+{
     let mut number = 0u64;
     for lines in texts {
-        number = number.saturating_add(1);
-        write_out(writer, heading(alloc, format, number)?.as_slice())?;
-        write_out(writer, lines.as_slice())?;
+        number += 1;
+        write_connection(alloc, format, number, lines.as_slice(), writer)?;
     }
     Ok(())
 }
 
-// All passes, and the lines of each connection.
-fn parted(
+// Returns the passes of the setup and then of each connection in order, and the lines of each connection.
+fn split_closed(
     alloc: Global,
-    prepared: Vec<Pass>,
+    setup: Vec<Pass>,
     connections: Vec<Closed>,
-) -> Result<(Vec<Pass>, Vec<Vec<u8>>), AllocError> {
-    let mut passes = prepared;
+) -> Result<(Vec<Pass>, Vec<Vec<u8>>), AllocError>
+    ensures passes { IfOk result (λ r. r.0.items ≡ setup.items ++ flat_map (λ c. c.passes.items) connections.items) }
+    ensures texts { IfOk result (λ r. r.1.items ≡ map (λ c. c.lines) connections.items) }
+{
+    let mut passes = setup;
     let mut texts = Vec::with_capacity(alloc, connections.len())?;
     for closed in connections {
-        texts.push(closed.lines)?;
-        passes.extend(closed.passes)?;
+        let Closed {
+            passes: mut own,
+            lines,
+        } = closed;
+        passes.append(&mut own)?;
+        texts.push(lines)?;
     }
     Ok((passes, texts))
 }
 
-// Writes the lines of the connections while the service settles, and then the table.
-fn finish<R: Threads + Sync, W: Write>(
+// Settles the service on a thread, and writes the lines of the connections meanwhile. Returns the table's text, and the
+// result of the writing.
+fn settle_beside<R: Threads + Sync, W: Write>(
     rt: &R,
-    alloc: Global,
-    format: Format,
-    service: Service,
-    passes: Vec<Pass>,
+    unsettled: Unsettled,
     texts: &[Vec<u8>],
     writer: &mut W,
-) -> Result<(), ScriptFault> {
-    let (table, written) = thread::join(
+) -> (Result<Vec<u8>, ScriptFault>, Result<(), ScriptFault>)
+    ensures table { IfOk result.0 (λ text.
+        IsTable unsettled.format (vec_len unsettled.service.shards) unsettled.passes.items text.items) }
+    ensures settle { IfErr result.0 (λ e. e ≡ fault.Settle →
+        IsUnsettled (vec_len unsettled.service.shards) unsettled.passes.items) }
+    ensures fault { IfErr result.0 (λ e. e ≢ fault.Read) }
+    ensures written { OnOk result.1 (
+        Appends (W.contents writer.old) (W.contents writer.new) (connections_text unsettled.format 1 (map (λ v. v.items) texts.now))) }
+    ensures cut { OnErr result.1 (
+        AppendsPart (W.contents writer.old) (W.contents writer.new) (connections_text unsettled.format 1 (map (λ v. v.items) texts.now))) }
+    ensures output { IfErr result.1 (λ e. of_output e ≡ true) }
+{
+    let (alloc, format) = (unsettled.alloc, unsettled.format);
+    let mut unsettled = Some(unsettled);
+    thread::join_mut(
         rt,
-        || settled_table(rt, alloc, format, service, passes),
-        || write_connections(alloc, format, texts, writer),
-    );
-    let table = table?;
-    written?;
-    write_out(writer, table.as_slice())?;
-    flush_out(writer)
+        &mut || settled_table(rt, &mut unsettled),
+        &mut || write_connections(alloc, format, texts, writer),
+    )
 }
 
-// Settles the service, and gives the text of the table.
+// Writes the lines of the connections while the service settles, and then the table.
+fn settle_and_print<R: Threads + Sync, W: Write>(
+    rt: &R,
+    unsettled: Unsettled,
+    texts: &[Vec<u8>],
+    writer: &mut W,
+) -> Result<(), ScriptFault>
+    ensures ok { OnOk result (
+        Prints unsettled.format (map (λ v. v.items) texts.now) (vec_len unsettled.service.shards) unsettled.passes.items
+        (W.contents writer.old) (W.contents writer.new)) }
+    ensures err { OnErr result (
+        PrintsPart unsettled.format (map (λ v. v.items) texts.now) (vec_len unsettled.service.shards) unsettled.passes.items
+        (W.contents writer.old) (W.contents writer.new)) }
+    ensures settle { IfErr result (λ e. e ≡ fault.Settle →
+        IsUnsettled (vec_len unsettled.service.shards) unsettled.passes.items) }
+    ensures fault { IfErr result (λ e. e ≢ fault.Read) }
+{
+    let (table, written) = settle_beside(rt, unsettled, texts, writer);
+    let table = table?;
+    written?;
+    write_whole(writer, table.as_slice())
+}
+
+// As `table_of`, for a service that is taken out of the option.
 fn settled_table<R: Threads + Sync>(
     rt: &R,
-    alloc: Global,
-    format: Format,
-    service: Service,
-    passes: Vec<Pass>,
-) -> Result<Vec<u8>, ScriptFault> {
+    unsettled: &mut Option<Unsettled>,
+) -> Result<Vec<u8>, ScriptFault>
+    ensures table { IfOk result (λ text. IfSome unsettled.old (λ u.
+        IsTable u.format (vec_len u.service.shards) u.passes.items text.items)) }
+    ensures settle { IfErr result (λ e. e ≡ fault.Settle → IfSome unsettled.old (λ u.
+        IsUnsettled (vec_len u.service.shards) u.passes.items)) }
+    ensures fault { IfErr result (λ e. e ≢ fault.Read) }
+{
+    match unsettled.take() {
+        Some(unsettled) => table_of(rt, unsettled),
+        None => Err(ScriptFault::Settle),
+    }
+}
+
+// Settles the service, and returns the text of its table.
+fn table_of<R: Threads + Sync>(rt: &R, unsettled: Unsettled) -> Result<Vec<u8>, ScriptFault>
+    ensures table { IfOk result (λ text.
+        IsTable unsettled.format (vec_len unsettled.service.shards) unsettled.passes.items text.items) }
+    ensures settle { IfErr result (λ e. e ≡ fault.Settle →
+        IsUnsettled (vec_len unsettled.service.shards) unsettled.passes.items) }
+    ensures fault { IfErr result (λ e. e ≢ fault.Read) }
+{
+    let Unsettled {
+        alloc,
+        format,
+        service,
+        passes,
+    } = unsettled;
     let settled = settled(rt, service, passes)?;
     let table = table_text(alloc, format, settled.list.as_slice())?;
-    // To give the memory of long logs back, event by event, takes a tenth of a run, and the process ends soon.
+    // Freeing the memory of long logs, event by event, takes a tenth of a run, and the process ends soon.
     forget(settled);
     Ok(table)
 }
@@ -195,7 +366,12 @@ fn settled<R: Threads + Sync>(
     rt: &R,
     service: Service,
     passes: Vec<Pass>,
-) -> Result<Settled, ScriptFault> {
+) -> Result<Settled, ScriptFault>
+    ensures settled { IfOk result (λ s.
+        IsSettledSome (vec_len service.shards) s.library s.shards.items passes.items s.list.items) }
+    ensures settle { IfErr result (λ e. e ≡ fault.Settle → IsUnsettled (vec_len service.shards) passes.items) }
+    ensures fault { IfErr result (λ e. e ≢ fault.Read) }
+{
     match service.settle_on_threads(rt, passes) {
         Ok(settled) => Ok(settled),
         Err((SettleFault::OutOfMemory, _, _)) => Err(ScriptFault::OutOfMemory),
@@ -203,7 +379,10 @@ fn settled<R: Threads + Sync>(
     }
 }
 
-fn table_text(alloc: Global, format: Format, list: &[Ended]) -> Result<Vec<u8>, AllocError> {
+// Returns the text of the table in this format.
+fn table_text(alloc: Global, format: Format, list: &[Ended]) -> Result<Vec<u8>, AllocError>
+    ensures { IfOk result (λ text. text.items ≡ outputs.table_text format list.now) }
+{
     match format {
         Format::Line => table(alloc, list),
         Format::Json => table_json(alloc, list),

@@ -1,4 +1,4 @@
-//! How a service is run.
+//! The numbers of shards and workers of a service.
 
 ghost use Rattle.std.specs.Prelude.{◌≡◌, ◌⊎◌, ◌↔◌, ◌<◌, ◌≤◌, IfOk, IsErrOf};
 
@@ -7,7 +7,7 @@ use scrib_rejudge::workers::MAX_WORKERS;
 /// The most shards of a service.
 pub const MAX_SHARDS: usize = 64;
 
-/// How many shards a service has, and how many workers bring its verdicts up to date.
+/// The number of shards of a service, and of the workers that renew its stale verdicts.
 #[derive(Clone, Copy)]
 pub struct Shape {
     shards: usize,
@@ -18,21 +18,21 @@ pub struct Shape {
     pub ghost few_workers: { workers ≤ 16 },
 }
 
-/// Why a service isn't run so.
+/// Why a shape is refused.
 #[derive(Clone, Copy, Debug, PartialEq, Eq)]
 pub enum ShapeFault {
-    /// There are to be no shards, or more than 64.
+    /// The number of shards is 0 or greater than 64.
     BadShards,
-    /// There are to be no workers, or more than 16.
+    /// The number of workers is 0 or greater than 16.
     BadWorkers,
 }
 
 impl Shape {
-    /// So many shards and workers.
+    /// Returns a shape of these numbers of shards and workers.
     ///
     /// # Errors
-    /// `BadShards` exactly where there are to be none or more than 64 shards; else `BadWorkers` exactly where there are
-    /// to be none or more than 16 workers.
+    /// `BadShards` exactly if the number of shards is 0 or greater than 64. Else `BadWorkers` exactly if the number of
+    /// workers is 0 or greater than 16.
     pub fn new(shards: usize, workers: usize) -> Result<Shape, ShapeFault>
         ensures shards { IfOk result (λ shape. shape.shards ≡ shards) }
         ensures workers { IfOk result (λ shape. shape.workers ≡ workers) }
@@ -49,7 +49,7 @@ impl Shape {
         Ok(Shape { shards, workers })
     }
 
-    /// How many shards there are.
+    /// Returns the number of shards.
     pub fn shards(&self) -> usize
         ensures is { result ≡ self.now.shards }
         ensures some { 0 < result }
@@ -58,7 +58,7 @@ impl Shape {
         self.shards
     }
 
-    /// How many workers there are.
+    /// Returns the number of workers.
     pub fn workers(&self) -> usize
         ensures is { result ≡ self.now.workers }
         ensures some { 0 < result }

@@ -1,7 +1,6 @@
-use denote.Exit.{no}
-use denote.Param.Send.{param_sync, arg_sync}
-use Rattle.scrib_run_service.proofs.Crossing.{connecting_sync}
+use Rattle.scrib_run_service.specs.ConnectionResults.{IsClosed}
+use Rattle.scrib_run_service.proofs.ThreadResultLemmas.{zip_ok}
 use Rattle.scrib_run_service.proofs.connections.run_all.Goals as goal
 
-pub map_vec-requires-sync-F : goal.map_vec-requires-sync-F
-map_vec-requires-sync-F g c κs within = param_sync 4 _ (arg_sync _ no _ (connecting_sync _ _ _ _ _ _ _ c.type_bounds.sync-R c.type_bounds.sync-P))
+pub returns : goal.returns
+returns g c = zip_ok (λ r ran. IsClosed c.args.common.now.format r ran) g.C.Read.remaining c.args.readers c.run_each.result c.run_each.ensures.len c.run_each.ensures.each

@@ -1,6 +1,6 @@
 use denote.Exit.{no}
 use denote.Param.Send.{param_send, arg_send}
-use Rattle.scrib_run_service.proofs.Crossing.{serving_send}
+use Rattle.scrib_run_service.proofs.ThreadSharingLemmas.{serving_send}
 use Rattle.scrib_run_service.proofs.connections.run_connections.Goals as goal
 
 pub join-ran-requires-send-F : goal.join-ran-requires-send-F

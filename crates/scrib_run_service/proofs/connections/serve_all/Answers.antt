@@ -1,6 +1,6 @@
 use denote.Exit.{no}
 use denote.Param.Send.{param_sync, arg_sync}
-use Rattle.scrib_run_service.proofs.Crossing.{serving_sync}
+use Rattle.scrib_run_service.proofs.ThreadSharingLemmas.{serving_sync}
 use Rattle.scrib_run_service.proofs.connections.serve_all.Goals as goal
 
 pub map_indices-requires-sync-F : goal.map_indices-requires-sync-F

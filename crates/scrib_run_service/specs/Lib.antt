@@ -1,0 +1,4 @@
+pub mod Outcomes
+pub mod Reading
+pub mod Outputs
+pub mod ConnectionResults
