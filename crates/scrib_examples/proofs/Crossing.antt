@@ -13,7 +13,7 @@ use Rattle.std.proofs.Crossing as heap
 use Rattle.scrib_locked_steps.specs.contracts.pass.Pass as Pass
 use Rattle.scrib_locked_steps.proofs.pass.Pass.TheSendSync as Passes
 use Rattle.scrib_shards.specs.contracts.service.Service as Service
-use Rattle.scrib_shards.proofs.Crossing.{service_sync}
+use Rattle.scrib_shards.proofs.ThreadSharingLemmas.{service_sync}
 use Rattle.scrib_examples.specs.contracts.service.meeting.Meeting as Meeting
 use Rattle.scrib_examples.specs.contracts.service.notes.threads.Plan as Plan
 

@@ -1,10 +1,10 @@
 //! Why the examples end early.
 
-use scrib_cli::fault::ScriptFault;
 use scrib_core::reply::Refusal;
 use scrib_library::fault::EditFault;
 use scrib_rejudge::workers::SweepFault;
-use scrib_shards::passing::PassRefusal;
+use scrib_script_io::fault::ScriptFault;
+use scrib_shards::pass_calls::PassRefusal;
 use scrib_shards::service::ServiceFault;
 use std::alloc::{AllocError, AllocFailed};
 use std::io;

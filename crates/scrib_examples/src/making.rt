@@ -1,12 +1,12 @@
 //! What examples are made of.
 
 use crate::fault::RowsFault;
+use scrib_core::format::Format;
 use scrib_core::step::Step;
 use scrib_run_service::progress::{Mark, Progress};
-use scrib_script_reader::format::Format;
 use scrib_script_reader::line::{Line, line_of};
+use scrib_types::containers::Items;
 use scrib_types::name::Dotted;
-use scrib_types::plain::Items;
 use scrib_types::shared_event::SharedEvent;
 use std::alloc::Global;
 
@@ -64,5 +64,5 @@ pub(crate) fn put(alloc: Global, text: &str) -> Result<Step, RowsFault> {
 pub(crate) struct Unwatched;
 
 impl Progress for Unwatched {
-    fn tell(&self, _mark: Mark) {}
+    fn report(&self, _mark: Mark) {}
 }

@@ -17,7 +17,7 @@ use scrib_cli::id::id_of;
 use scrib_cli::machine::machine_text;
 use scrib_cli::project::project_text;
 use scrib_cli::run_script::{Format, run_script};
-use scrib_types::plain::Items;
+use scrib_types::containers::Items;
 use scrib_types::profile::Profile;
 use std::alloc::{AllocError, Global};
 use std::io::Write;

@@ -3,12 +3,12 @@
 use crate::fault::{RowsFault, check, second};
 use crate::memory::making::call_of;
 use crate::memory::rows::Call;
+use scrib_core::format::Format;
 use scrib_core::monitor::Core;
 use scrib_core::reply::{Refusal, Reply};
 use scrib_core::step::Step;
 use scrib_report::json::json;
 use scrib_report::line::line;
-use scrib_script_reader::format::Format;
 use scrib_types::protocol::Protocol;
 use scrib_types::shared_event::SharedEvent;
 use std::alloc::Global;

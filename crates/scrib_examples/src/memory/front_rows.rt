@@ -7,7 +7,6 @@ use crate::making::{DEMO, event_of, name_of};
 use crate::memory::core_rows::{is_refused, made};
 use crate::memory::rows::{PUT_DEMO, PUT_TWO_OF_THREE};
 use crate::memory::script_rows::page;
-use scrib_cli::fault::ScriptFault;
 use scrib_cli::machine::machine_text;
 use scrib_cli::project::project_text;
 use scrib_core::monitor::Core;
@@ -15,15 +14,16 @@ use scrib_elaborate::elaborate::elaborate;
 use scrib_lexer::fault::LexFault;
 use scrib_lexer::lex::lex;
 use scrib_library::fault::EditFault;
-use scrib_static_checks::modules::Modules;
+use scrib_parser::interner::Interner;
 use scrib_parser::parse::parse;
-use scrib_parser::recent::Recent;
 use scrib_project::protocol::protocol;
 use scrib_queues::queues::Queues;
+use scrib_script_io::fault::ScriptFault;
+use scrib_static_checks::modules::Modules;
+use scrib_types::containers::Items;
 use scrib_types::event::Event;
 use scrib_types::global::GlobalType;
 use scrib_types::name::{Dotted, Name};
-use scrib_types::plain::Items;
 use scrib_types::profile::Profile;
 use scrib_types::protocol::Protocol;
 use scrib_types::shared_message::SharedMessage;
@@ -120,7 +120,7 @@ fn protocol_of(core: &Core) -> Result<&Protocol, RowsFault> {
 // The module of the demonstration alone.
 fn modules(alloc: Global) -> Result<Modules, EditFault> {
     let tokens = lex(alloc, DEMO.as_bytes())?;
-    let tree = parse(alloc, &tokens, &mut Recent::new())?;
+    let tree = parse(alloc, &tokens, &mut Interner::new())?;
     let mut modules = Modules::new(alloc);
     modules.add(tree)?;
     Ok(modules)

@@ -3,8 +3,8 @@
 use crate::fault::RowsFault;
 use crate::making::{formatted_step_of, put};
 use crate::memory::rows::Call;
+use scrib_core::format::Format;
 use scrib_core::step::Step;
-use scrib_script_reader::format::Format;
 use std::alloc::Global;
 
 /// The step that a line of a script says, or `put` and a module text, and the format of its reply.

@@ -3,11 +3,11 @@
 use crate::fault::{RowsFault, check};
 use crate::making::Unwatched;
 use crate::memory::script_rows::{page, refused_line};
-use scrib_cli::fault::ScriptFault;
+use scrib_core::format::Format;
 use scrib_run_service::options::Options;
 use scrib_run_service::run_service::run_service;
 use scrib_run_service::shape::Shape;
-use scrib_script_reader::format::Format;
+use scrib_script_io::fault::ScriptFault;
 use std::alloc::Global;
 use std::sync::Wait;
 use std::thread::Threads;

@@ -4,8 +4,8 @@ use crate::fault::{RowsFault, check, second};
 use crate::memory::making::{answers_of, script_of};
 use crate::memory::rows::Call;
 use scrib_cli::explain_script::explain_script;
-use scrib_cli::fault::ScriptFault;
 use scrib_cli::run_script::{Format, run_script};
+use scrib_script_io::fault::ScriptFault;
 use std::alloc::Global;
 
 // Room for what a row writes.

@@ -1,10 +1,10 @@
 //! Lines that tell what a service answers.
 
 use crate::fault::RowsFault;
-use scrib_client::answer::{Answer, push_answer};
+use scrib_client::service_reply::{ServiceReply, push_service_reply};
+use scrib_core::format::Format;
 use scrib_report::service::mismatch_line;
 use scrib_report::table::table;
-use scrib_script_reader::format::Format;
 use scrib_shards::fault::SettleFault;
 use scrib_shards::pass::Pass;
 use scrib_shards::service::Service;
@@ -20,15 +20,15 @@ pub(crate) fn push_line(out: &mut Vec<u8>, text: &[u8]) -> Result<(), RowsFault>
 }
 
 /// The line of what a service answers, with its LF.
-pub(crate) fn answered(alloc: Global, answer: &Answer) -> Result<Vec<u8>, RowsFault> {
+pub(crate) fn answered(alloc: Global, answer: &ServiceReply) -> Result<Vec<u8>, RowsFault> {
     let mut line = Vec::new(alloc);
-    push_answer(&mut line, answer, Format::Line)?;
+    push_service_reply(&mut line, answer, Format::Line)?;
     Ok(line)
 }
 
 /// Adds the line of what a service answers.
-pub(crate) fn push_told(out: &mut Vec<u8>, answer: &Answer) -> Result<(), RowsFault> {
-    push_answer(out, answer, Format::Line)?;
+pub(crate) fn push_told(out: &mut Vec<u8>, answer: &ServiceReply) -> Result<(), RowsFault> {
+    push_service_reply(out, answer, Format::Line)?;
     Ok(())
 }
 

@@ -5,7 +5,7 @@ use crate::making::{CHOICE, LOOP, event_of};
 use crate::service::lines::push_told;
 use crate::service::making::{note, open, service};
 use crate::service::sweeps::push_counts;
-use scrib_client::answer::noted;
+use scrib_client::service_reply::noted;
 use scrib_record::record::MAX_EVENTS;
 use scrib_rejudge::workers::sweep;
 use scrib_shards::gate::OpenGate;

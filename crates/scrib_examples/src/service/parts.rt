@@ -7,7 +7,7 @@ use scrib_core::monitor::MAX_CONVERSATIONS;
 use scrib_core::reply::Reply;
 use scrib_library::library::Library;
 use scrib_locked_steps::shard::Shard;
-use scrib_locked_steps::stepping::{note_step, open_step};
+use scrib_locked_steps::step_results::{note_step, open_step};
 use scrib_report::line::line;
 use scrib_report::table::table;
 use scrib_settlement::settle::settle_parts;

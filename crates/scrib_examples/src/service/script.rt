@@ -4,7 +4,7 @@ use crate::fault::RowsFault;
 use crate::making::{put, step_of};
 use crate::service::connected::Connected;
 use crate::service::lines::{answered, push_line};
-use scrib_client::answer::Answer;
+use scrib_client::service_reply::ServiceReply;
 use scrib_core::monitor::Core;
 use scrib_core::reply::Reply;
 use scrib_core::step::Step;
@@ -48,7 +48,7 @@ fn push_step(
 ) -> Result<(), RowsFault> {
     let told = connected.make(rt, step)?;
     push_bytes(out, told.as_slice())?;
-    let by_core = answered(alloc, &Answer::Reply(reply))?;
+    let by_core = answered(alloc, &ServiceReply::Reply(reply))?;
     if told.as_slice() != by_core.as_slice() {
         push_bytes(out, b"but the core: ")?;
         push_bytes(out, by_core.as_slice())?;

@@ -4,7 +4,7 @@ use crate::fault::RowsFault;
 use crate::making::{DEMO, event_of, name_of};
 use crate::service::lines::{push_line, push_settling_twice, push_told};
 use crate::service::making::{both, note, open, service};
-use scrib_client::answer::{asked, noted, refused};
+use scrib_client::service_reply::{asked, noted, refused};
 use scrib_core::reply::Refusal;
 use scrib_shards::gate::OpenGate;
 use scrib_shards::pass::Pass;

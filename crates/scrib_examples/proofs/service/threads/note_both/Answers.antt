@@ -1,6 +1,6 @@
 use denote.Exit.{no}
 use denote.Param.Send.{param_send, arg_send}
-use Rattle.scrib_shards.proofs.Crossing.{noting_send}
+use Rattle.scrib_shards.proofs.ThreadSharingLemmas.{noting_send}
 use Rattle.scrib_examples.proofs.service.threads.note_both.Goals as goal
 
 pub join-requires-send-F : goal.join-requires-send-F
