@@ -29,6 +29,8 @@ install: ## copies the built program and its man page below PREFIX
 # Each proof, the edits that must be refused, the tests, and the stored runs by two compilers.
 test: ## the gate: everything from nothing, over an hour
 	$(PYTHON) checks/examples.py check
+	$(PYTHON) checks/definitions.py check
+	$(PYTHON) checks/layers.py check
 	$(RT) ci
 
 examples: ## proves and builds the program of the worked examples, and runs them

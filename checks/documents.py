@@ -47,7 +47,7 @@ COPIED = ["examples", "checks", "bench", "docs"]
 UNREAD_FOLDERS = {".git", ".ci", "out", "__pycache__"}
 SOURCES = ["crates/*/src/**/*.rt", "crates/*/specs/**/*.antt", "crates/*/proofs/**/*.antt", "crates.txt",
            "checks/**/*.py", "bench/**/*.py", "crates/scrib_examples/cases/**/*.py", "examples/**/*"]
-INFO_WORDS = {"console", "sh", "script", "scribble", "json", "text", "rust", "ebnf", "antt", "dot", "make", "yaml"}
+INFO_WORDS = {"console", "sh", "script", "scribble", "json", "text", "rust", "ebnf", "antt", "dot", "make", "yaml", "mermaid"}
 # Blocks of these kinds show code or what is not tried: their words don't excuse a name in the text around them.
 UNTRIED_WORDS = {"rust", "antt", "sh"}
 
