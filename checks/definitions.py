@@ -12,15 +12,13 @@ docs/PROOFS.md quotes. The plain words are the `--` lines right above a definiti
 Status: 0 fine, 1 something is wrong, 2 a bad command line.
 """
 
-import argparse
 import re
 import sys
-from pathlib import Path
 
-TOP = Path(__file__).resolve().parent.parent
-PAGE = TOP / "docs" / "DEFINITIONS.md"
+from generated_parts import TOP, Part, crates, run
+
+PAGE = Part("DEFINITIONS.md", "definitions.py")
 PROOFS = TOP / "docs" / "PROOFS.md"
-BEGIN, END = "<!-- written by checks/definitions.py: begin -->\n", "<!-- written by checks/definitions.py: end -->\n"
 
 DEFINITION = re.compile(r"^(?:abbrev |unfoldable )?pub (?:record |data |ruleset )?([A-Za-z_][A-Za-z0-9_]*)\b(?! *=)")
 SPEC_USE = re.compile(r"ghost use Rattle\.(scrib_\w+)\.specs\.((?:\w+\.)*\w+?)(?:\.\{([^}]*)\}| as (\w+)|);")
@@ -29,12 +27,6 @@ FUNCTION = re.compile(r"^\s*(pub(?:\([^)]*\))? )?(?:const )?(?:unsafe )?fn ")
 TYPE = re.compile(r"^(pub(?:\([^)]*\))? )?(?:struct|enum|trait|impl)\b")
 CLAUSE = re.compile(r"^\s*(?:requires|ensures)\b|^\s*(?:pub )?ghost \w+(?::| =)")
 WORD = re.compile(r"[A-Za-z_][A-Za-z0-9_]*")
-
-
-def crates():
-    """The crates of crates.txt, in its order."""
-    lines = (TOP / "crates.txt").read_text(encoding="utf-8").splitlines()
-    return [re.split(r"[ :]", line)[0] for line in lines if line.strip() and not line.startswith("#")]
 
 
 def spec_files(crate):
@@ -129,31 +121,16 @@ def glossary():
             yield "\n"
 
 
-def parts_of(page):
-    before, found, rest = page.partition(BEGIN)
-    middle, ended, after = rest.partition(END)
-    if not found or not ended:
-        sys.exit("%s: lacks the marks of the generated part" % PAGE.name)
-    return before + BEGIN, middle, END + after
+def write():
+    return PAGE.write("".join(glossary()))
 
 
-def write(_):
-    before, _, after = parts_of(PAGE.read_text(encoding="utf-8"))
-    PAGE.write_text(before + "\n" + "".join(glossary()) + after, encoding="utf-8")
-    return 0
+def check():
+    text = "".join(glossary())
+    return PAGE.check(text, "%d definitions, as in specs/" % text.count("\n| `"))
 
 
-def check(_):
-    _, middle, _ = parts_of(PAGE.read_text(encoding="utf-8"))
-    wanted = "\n" + "".join(glossary())
-    if middle == wanted:
-        print("docs/DEFINITIONS.md: %d definitions, as in specs/" % wanted.count("\n| `"))
-        return 0
-    print("docs/DEFINITIONS.md differs from specs/: `python3 checks/definitions.py write` writes it anew")
-    return 1
-
-
-def bare(_):
+def bare():
     words, found = words_met(), 0
     for crate in crates():
         for file in spec_files(crate):
@@ -164,14 +141,11 @@ def bare(_):
     return 1 if found else 0
 
 
-def main():
-    parser = argparse.ArgumentParser(description=__doc__, formatter_class=argparse.RawDescriptionHelpFormatter)
-    commands = parser.add_subparsers(dest="command", metavar="COMMAND", required=True)
-    for run, text in ((write, "write the glossary"), (check, "compare it"), (bare, "list definitions without words")):
-        commands.add_parser(run.__name__, help=text).set_defaults(run=run)
-    options = parser.parse_args()
-    return options.run(options)
-
+COMMANDS = {
+    "write": (write, "write the glossary"),
+    "check": (check, "compare it"),
+    "bare": (bare, "list definitions without words"),
+}
 
 if __name__ == "__main__":
-    sys.exit(main())
+    sys.exit(run(__doc__, COMMANDS))

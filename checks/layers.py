@@ -8,35 +8,29 @@ A crate uses another where its code names it, and uses its definitions where onl
 edge that follows from others is left out. Status: 0 fine, 1 something is wrong, 2 a bad command line.
 """
 
-import argparse
 import re
 import sys
-from pathlib import Path
 
-TOP = Path(__file__).resolve().parent.parent
-PAGE = TOP / "docs" / "ARCHITECTURE.md"
-BEGIN, END = "<!-- written by checks/layers.py: begin -->\n", "<!-- written by checks/layers.py: end -->\n"
+from generated_parts import TOP, Part, crates, run
+
+PAGE = Part("ARCHITECTURE.md", "layers.py")
 
 NAMED_IN_CODE = re.compile(r"\b(scrib_\w+)::")
 NAMED_IN_CONTRACT = re.compile(r"\bRattle\.(scrib_\w+)\.")
 
 
-def crates():
-    """The crates of crates.txt, in its order."""
-    lines = (TOP / "crates.txt").read_text(encoding="utf-8").splitlines()
-    return [re.split(r"[ :]", line)[0] for line in lines if line.strip() and not line.startswith("#")]
-
-
 def named_by(crate):
     """The crates that the code of this one names, and those that only its contracts and proofs name."""
     code, contracts = set(), set()
-    for file in (TOP / "crates" / crate).rglob("*"):
-        if file.suffix == ".antt" and file.is_file():
+    for part in ("specs", "proofs"):
+        for file in (TOP / "crates" / crate / part).rglob("*.antt"):
             contracts.update(NAMED_IN_CONTRACT.findall(file.read_text(encoding="utf-8")))
-        elif file.suffix == ".rt" and file.is_file():
-            for line in file.read_text(encoding="utf-8").splitlines():
-                (contracts if "ghost use" in line else code).update(
-                    (NAMED_IN_CONTRACT if "ghost use" in line else NAMED_IN_CODE).findall(line))
+    for file in (TOP / "crates" / crate / "src").rglob("*.rt"):
+        for line in file.read_text(encoding="utf-8").splitlines():
+            if "ghost use" in line:
+                contracts.update(NAMED_IN_CONTRACT.findall(line))
+            else:
+                code.update(NAMED_IN_CODE.findall(line))
     return code - {crate}, contracts - code - {crate}
 
 
@@ -68,37 +62,18 @@ def figure():
     yield "```\n"
 
 
-def parts_of(page):
-    before, found, rest = page.partition(BEGIN)
-    middle, ended, after = rest.partition(END)
-    if not found or not ended:
-        sys.exit("%s: lacks the marks of the generated part" % PAGE.name)
-    return before + BEGIN, middle, END + after
+def write():
+    return PAGE.write("".join(figure()) + "\n")
 
 
-def write(_):
-    before, _, after = parts_of(PAGE.read_text(encoding="utf-8"))
-    PAGE.write_text(before + "\n" + "".join(figure()) + "\n" + after, encoding="utf-8")
-    return 0
+def check():
+    return PAGE.check("".join(figure()) + "\n", "%d crates, as in crates/" % len(crates()))
 
 
-def check(_):
-    _, middle, _ = parts_of(PAGE.read_text(encoding="utf-8"))
-    if middle == "\n" + "".join(figure()) + "\n":
-        print("docs/ARCHITECTURE.md: %d crates, as in crates/" % len(crates()))
-        return 0
-    print("docs/ARCHITECTURE.md differs from crates/: `python3 checks/layers.py write` draws its figure anew")
-    return 1
-
-
-def main():
-    parser = argparse.ArgumentParser(description=__doc__, formatter_class=argparse.RawDescriptionHelpFormatter)
-    commands = parser.add_subparsers(dest="command", metavar="COMMAND", required=True)
-    for run, text in ((write, "draw the figure"), (check, "compare it")):
-        commands.add_parser(run.__name__, help=text).set_defaults(run=run)
-    options = parser.parse_args()
-    return options.run(options)
-
+COMMANDS = {
+    "write": (write, "draw the figure"),
+    "check": (check, "compare it"),
+}
 
 if __name__ == "__main__":
-    sys.exit(main())
+    sys.exit(run(__doc__, COMMANDS))
