@@ -27,12 +27,12 @@ use Rattle.scrib_static_checks.specs.Source.{Body, Then, Chooses, Blocks, NoBloc
 use Rattle.scrib_static_checks.specs.SourceView.{body_of, blocks_of}
 use Rattle.scrib_static_checks.specs.Names.{Declaration}
 use Rattle.scrib_static_checks.specs.Elaboration.{Scope, role_in, Frames, Under, and_branches, prefix_message, Types, ends, closes, sends, chooses, repeats, passes, continues, calls, JoinsTo, joins_none, joins, start_of}
-use Rattle.scrib_static_checks.specs.Faults.{IsRestOf, IsRestOfBlocks, in_this, in_other, in_choice, Reaches, blocks_before, Needs, needs_itself, needs_branch, IsBranch, IsOneOf, IsFirstBlock, share_operator, FailsTyping}
+use Rattle.scrib_static_checks.specs.Faults.{IsRestOf, IsRestOfBlocks, in_this, in_other, in_choice, Reaches, blocks_before, Needs, needs_itself, needs_branch, IsBranchAt, IsOneOf, IsFirstBlock, share_operator, FailsTyping}
 use Rattle.scrib_elaborate.specs.Sites.{communications, branch_communications, has_several, IsSite}
-use Rattle.scrib_elaborate.specs.Scope.{scope_of, IsSame}
+use Rattle.scrib_elaborate.specs.Scope.{scope_of, IsSameScope}
 use Rattle.scrib_type_builder.specs.BuiltType.{type_of}
 use Rattle.scrib_type_builder.specs.Rules.{AddsOrigins, IsFirst, IsAdded, BranchFails, IsBranchFault}
-use Rattle.scrib_elaborate.specs.Typing.{Made, made_of, IsMarked, Makes, Target, FailsUp, AreTyped, Path, IsState, IsBefore, IsChoosing, TypingFails}
+use Rattle.scrib_elaborate.specs.Typing.{Made, made_of, IsMarked, FramesMake, Target, FailsUp, AreTyped, TasksLead, IsState, IsTypedRest, IsChoosing, TypingFails}
 use Rattle.scrib_elaborate.proofs.LevelLemmas.{levels_chosen, levels_block}
 use Rattle.scrib_elaborate.proofs.NeededParts.{fails_through}
 use Rattle.scrib_elaborate.proofs.SiteLemmas.{marks_through, made_from, marks_more, marks_some, marks_joined}
@@ -54,7 +54,7 @@ none_typed : (ms : List ModuleTree) (n : ℕ) (sc : Scope) (fs : Frames) (bs : L
 none_typed ms n sc fs bs types none k b t e f = absurd (omega (arith, slice_get_within types k t f, ap length none))
 
 pub choosing_begins : (ms : List ModuleTree) (target : Target) (ts : List Task) (sc : Scope) (n : ℕ) (p : List ℕ) (bs : List Block) (spot : Spot) (t : BuiltType) (types : List BuiltType)
-    → types ≡ [] → IsBefore ms target ts sc n (Chooses p (blocks_of bs) spot) (made_of t) → IsChoosing ms target ts sc n p bs spot (Some t) types
+    → types ≡ [] → IsTypedRest ms target ts sc n (Chooses p (blocks_of bs) spot) (made_of t) → IsChoosing ms target ts sc n p bs spot (Some t) types
 choosing_begins ms target ts sc n p bs spot t types none b = record {
   rest = b.rest;
   outer = b.outer;
@@ -77,7 +77,7 @@ kept_on (Some t) P Q R g f h r = subst R (sym h) r
 
 -- the next block is entered
 pub next_block : (ms : List ModuleTree) (target : Target) (ts : List Task) (c : Choosing) (inner : CodeScope) (ss : Bor (List Statement)) (b : Block) (t : BuiltType) (left : ℕ) (g : Made)
-    → slice_get c.branches.now (length c.types.items) ≡ Some b → length c.types.items + 1 + left ≡ length c.branches.now → IsSame c.scope inner → ss.now ≡ b.body → g ≡ made_of t → MatchOption c.follows (left ≡ 0) (λ u. made_of u ≡ made_of t)
+    → slice_get c.branches.now (length c.types.items) ≡ Some b → length c.types.items + 1 + left ≡ length c.branches.now → IsSameScope c.scope inner → ss.now ≡ b.body → g ≡ made_of t → MatchOption c.follows (left ≡ 0) (λ u. made_of u ≡ made_of t)
     → IsChoosing ms target ts (scope_of c.scope) c.scope.depth c.chooser.now c.branches.now c.spot (Some t) c.types.items → IsState ms target (Front inner ss ∷ Join c ∷ ts) g
 next_block ms target ts c inner ss b t left g at count same body is kept x =
     let sc = scope_of c.scope in
@@ -90,7 +90,7 @@ next_block ms target ts c inner ss b t left g at count same body is kept x =
     let first = blocks_of (take k bs) in
     let last = blocks_of (drop (suc k) bs) in
     opened ms target (Join c ∷ ts) inner ss sc n (body_of b.body) after (Under sc (body_of b.body) after) g same.scope same.depth (ap body_of body) (record {
-      made = subst (λ y. Makes ms n after y) (sym is) x.after;
+      made = subst (λ y. FramesMake ms n after y) (sym is) x.after;
       leads = λ h t. t;
       up = λ f d s h. x.up f d s (fails_through f d s (needs_branch first (body_of b.body) b.spot last split needs_itself) h);
       recs = x.recs;
@@ -111,7 +111,7 @@ next_block ms target ts c inner ss b t left g at count same body is kept x =
         up = x.up;
         typed = x.typed;
         after =
-            kept_on c.follows (left ≡ 0) (k + 1 ≡ length bs) (λ y. Makes ms n after y) (made_of t) (λ none. omega (arith, count, none)) kept x.after;
+            kept_on c.follows (left ≡ 0) (k + 1 ≡ length bs) (λ y. FramesMake ms n after y) (made_of t) (λ none. omega (arith, count, none)) kept x.after;
         recs = x.recs;
         parts = x.parts;
         levels = x.levels;
@@ -123,10 +123,10 @@ next_block ms target ts c inner ss b t left g at count same body is kept x =
 
 -- a choice without a block
 pub no_block : (ms : List ModuleTree) (target : Target) (ts : List Task) (st : CodeScope) (p : List ℕ) (bs : List Block) (spot : Spot) (g : Made)
-    → bs ≡ [] → IsBefore ms target ts (scope_of st) st.depth (Chooses p (blocks_of bs) spot) g → (place : Declaration) × Reaches ms target.root place × (st.within.home.now ≡ place.home) × FailsTyping kind.EmptyBranch ms 0 (start_of target.root) place spot
+    → bs ≡ [] → IsTypedRest ms target ts (scope_of st) st.depth (Chooses p (blocks_of bs) spot) g → (place : Declaration) × Reaches ms target.root place × (st.within.home.now ≡ place.home) × FailsTyping kind.EmptyBranch ms 0 (start_of target.root) place spot
 no_block ms target ts st p bs spot g none b =
     let sc = scope_of st in
-    let c = subst (λ x. IsBefore ms target ts sc st.depth (Chooses p (blocks_of x) spot) g) none b in (
+    let c = subst (λ x. IsTypedRest ms target ts sc st.depth (Chooses p (blocks_of x) spot) g) none b in (
       sc.within,
       c.reached,
       refl,
@@ -263,7 +263,7 @@ shared_one {ms = ms} {n = n} {sc = sc} {fs = fs} {p = p} {q = q} es (joins {b = 
 -- a block that does not fit
 
 abbrev the_branch : (ms : List ModuleTree) (n : ℕ) (sc : Scope) (at : List ℕ) (bs : List Block) (i : ℕ) (b : Block) (spot : Spot) (rest : Body) (outer : Frames) (g : GlobalTree)
-    → slice_get bs i ≡ Some b → Types ms n (Under sc (body_of b.body) (Under sc rest outer)) g → IsBranch ms n (Under sc (Then (Chooses at (blocks_of bs) spot) rest) outer) sc.within b.spot
+    → slice_get bs i ≡ Some b → Types ms n (Under sc (body_of b.body) (Under sc rest outer)) g → IsBranchAt ms n (Under sc (Then (Chooses at (blocks_of bs) spot) rest) outer) sc.within b.spot
 the_branch ms n sc at bs i b spot rest outer g there t = record {
   chooser = at;
   before = blocks_of (take i bs);
@@ -437,11 +437,11 @@ next_fails ms target ts sc n at bs i b spot follows types t chooser old cs x fou
 
 -- the next block has its type
 
-typed_push : (ms : List ModuleTree) (n : ℕ) (sc : Scope) (fs : Frames) (bs : List Block) (types : List BuiltType) (t : BuiltType) (b : Block) → slice_get bs (length types) ≡ Some b → AreTyped ms n sc fs bs types → Makes ms n (Under sc (body_of b.body) fs) (made_of t) → AreTyped ms n sc fs bs (types ++ t ∷ [])
+typed_push : (ms : List ModuleTree) (n : ℕ) (sc : Scope) (fs : Frames) (bs : List Block) (types : List BuiltType) (t : BuiltType) (b : Block) → slice_get bs (length types) ≡ Some b → AreTyped ms n sc fs bs types → FramesMake ms n (Under sc (body_of b.body) fs) (made_of t) → AreTyped ms n sc fs bs (types ++ t ∷ [])
 typed_push ms n sc fs (c ∷ bs) [] t b at all here zero d u e f =
     let blocks : b ≡ d = cc (at, e) in
     let same : t ≡ u = cc f in
-    subst (λ y. Makes ms n (Under sc (body_of y.body) fs) (made_of u)) blocks (subst (λ y. Makes ms n (Under sc (body_of b.body) fs) (made_of y)) same here)
+    subst (λ y. FramesMake ms n (Under sc (body_of y.body) fs) (made_of u)) blocks (subst (λ y. FramesMake ms n (Under sc (body_of b.body) fs) (made_of y)) same here)
 typed_push ms n sc fs [] [] t b at all here k d u e f = absurd (omega (arith, slice_get_within [] k d e))
 typed_push ms n sc fs (c ∷ bs) [] t b at all here (suc k) d u e f = absurd (omega (arith, slice_get_within (t ∷ []) (suc k) u f))
 typed_push ms n sc fs [] (s ∷ types) t b at all here k d u e f = absurd (omega (arith, slice_get_within [] k d e))
@@ -479,7 +479,7 @@ block_typed ms target ts c types t more s =
     let f = s.path.1 in
     let after = Under sc f.rest f.outer in
     let whole = Under sc (Then (Chooses c.chooser.now (blocks_of c.branches.now) c.spot) f.rest) f.outer in
-    let here : Makes ms s.depth (Under sc (body_of f.block.body) after) (made_of t) = subst (λ fs. Makes ms s.depth fs (made_of t)) f.is s.made in
+    let here : FramesMake ms s.depth (Under sc (body_of f.block.body) after) (made_of t) = subst (λ fs. FramesMake ms s.depth fs (made_of t)) f.is s.made in
     let all : AreTyped ms s.depth sc after c.branches.now types = subst (λ ts. AreTyped ms s.depth sc after c.branches.now ts) (sym more) (typed_push ms s.depth sc after c.branches.now c.types.items t f.block f.here f.typed here) in
     let long : length types ≡ length c.types.items + 1 = ap length more ∙ length_push c.types.items t in
     subst (λ n. IsChoosing ms target ts sc n c.chooser.now c.branches.now c.spot c.follows types) f.deep (record {
@@ -487,12 +487,12 @@ block_typed ms target ts c types t more s =
       outer = f.outer;
       typed = all;
       few = omega (arith, long, slice_get_within c.branches.now (length c.types.items) f.block f.here);
-      after = longer c.follows (λ u. Makes ms s.depth after (made_of u)) (length types) (length c.types.items + 1) (length c.branches.now) long f.after;
+      after = longer c.follows (λ u. FramesMake ms s.depth after (made_of u)) (length types) (length c.types.items + 1) (length c.branches.now) long f.after;
       up = subst (λ fs. FailsUp ms target.root s.depth fs) f.goes f.up;
       recs = f.recs;
       parts = f.parts;
       levels = f.levels;
       reached = f.reached;
       below = f.below;
-      path = subst (λ fs. Path ms target ts s.depth fs) f.goes s.path.2;
+      path = subst (λ fs. TasksLead ms target ts s.depth fs) f.goes s.path.2;
     })

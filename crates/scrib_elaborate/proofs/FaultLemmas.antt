@@ -13,7 +13,7 @@ use Rattle.scrib_static_checks.specs.declared.fault.FaultKind.TheVariants as kin
 use Rattle.scrib_static_checks.specs.Names.{Declaration, has_name, module_names, first_where, declarations, is_called}
 use Rattle.scrib_static_checks.specs.Elaboration.{Elaborates}
 use Rattle.scrib_static_checks.specs.Faults.{IsAbsent, FailsAt}
-use Rattle.scrib_elaborate.specs.Meaning.{Means}
+use Rattle.scrib_elaborate.specs.Meaning.{ResultMeans}
 use Rattle.scrib_static_checks.specs.Table.{shown, IsFound}
 use Rattle.scrib_static_checks.specs.Walking.{WasWalked, WalkFails, IsAbsentFault}
 use Rattle.scrib_static_checks.proofs.Checks.{entry_within}
@@ -52,7 +52,7 @@ root_within ds home name k found = entry_within ds k found.found found.there
 
 -- a protocol whose fault may be returned has no meaning
 
-pub nothing_missed : (ms : List ModuleTree) (home : List (List ℕ)) (name : List ℕ) (f : ElaborateFault) → FailsAt ms home name f → (a : Agreement) → Elaborates ms home name a → Means (Err f) a
+pub nothing_missed : (ms : List ModuleTree) (home : List (List ℕ)) (name : List ℕ) (f : ElaborateFault) → FailsAt ms home name f → (a : Agreement) → Elaborates ms home name a → ResultMeans (Err f) a
 nothing_missed ms home name (elaborate.Broken f) h a e = refuted ms home name f a h e
 nothing_missed ms home name elaborate.OutOfMemory h a e = tt
 

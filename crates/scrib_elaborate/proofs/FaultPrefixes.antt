@@ -21,8 +21,8 @@ use Rattle.scrib_static_checks.specs.Statements.{KeepsRules, StatementKeeps}
 use Rattle.scrib_static_checks.specs.Elaboration.{continues_in, Scope, inside, inside_call, Frames, NoFrame, Under, ends}
 use Rattle.scrib_static_checks.specs.Faults.{later, in_choice, in_rec, IsRestOfBlocks, needs_itself, needs_branch, needs_repeats, needs_passes, needs_calls}
 use Rattle.scrib_elaborate.specs.NoExit.{Stays}
-use Rattle.scrib_elaborate.specs.Scope.{scope_of, IsSame, IsInside, IsInsideCall}
-use Rattle.scrib_elaborate.specs.Typing.{Made, nothing_made, Target, before, IsFront, Path, IsState, TypingFails, IsAhead, IsTaskAhead, AreAhead, StopsAhead}
+use Rattle.scrib_elaborate.specs.Scope.{scope_of, IsSameScope, IsInsideRecursion, IsInsideCall}
+use Rattle.scrib_elaborate.specs.Typing.{Made, nothing_made, Target, before, PrecedesFrames, TasksLead, IsState, TypingFails, IsAhead, IsTaskAhead, AreAhead, StopsAhead}
 use Rattle.scrib_static_checks.proofs.RuleLemmas.{of_then, reaches_on}
 use Rattle.scrib_static_checks.proofs.Checks.{occurs_here}
 use Rattle.scrib_elaborate.proofs.LevelLemmas.{levels_none, levels_rest, levels_chosen, levels_block, levels_passes, levels_repeats}
@@ -34,11 +34,11 @@ use Rattle.scrib_elaborate.proofs.IsolatedBlocks.{never_here, fails_onto}
 
 -- the tasks of a run
 
-front_ahead : (ms : List ModuleTree) (root : Declaration) (sc : Scope) (depth : ℕ) (ss : List ParsedStatement) (n : ℕ) (fs hs : Frames) → IsFront ms root sc depth ss n fs hs → (rest : Body) × IsAhead ms root sc depth (before ss rest)
+front_ahead : (ms : List ModuleTree) (root : Declaration) (sc : Scope) (depth : ℕ) (ss : List ParsedStatement) (n : ℕ) (fs hs : Frames) → PrecedesFrames ms root sc depth ss n fs hs → (rest : Body) × IsAhead ms root sc depth (before ss rest)
 front_ahead ms root sc depth ss n fs hs f =
     (f.rest, subst (λ d. IsAhead ms root sc d (before ss f.rest)) f.deep (record { outer = f.outer; up = f.up; recs = f.recs; part = f.part; levels = f.levels; reached = f.reached; below = f.below }))
 
-path_ahead : (ms : List ModuleTree) (target : Target) (ts : List Task) (n : ℕ) (fs : Frames) → Path ms target ts n fs → AreAhead ms target.root ts
+path_ahead : (ms : List ModuleTree) (target : Target) (ts : List Task) (n : ℕ) (fs : Frames) → TasksLead ms target ts n fs → AreAhead ms target.root ts
 path_ahead ms target [] n fs p = All-nil (IsTaskAhead ms target.root)
 path_ahead ms target (Front st ss ∷ ts) n fs p =
     All-cons (IsTaskAhead ms target.root) (Front st ss) ts (front_ahead ms target.root (scope_of st) st.depth ss.now n fs p.0 p.1) (path_ahead ms target ts n p.0 p.2)
@@ -48,7 +48,7 @@ path_ahead ms target (Close home spot ∷ ts) n fs p =
     All-cons (IsTaskAhead ms target.root) (Close home spot) ts tt (path_ahead ms target ts p.0 p.1 p.3)
 
 -- the tasks of a stack, whose last one is next
-pub stack_ahead : (ms : List ModuleTree) (target : Target) (ts : List Task) (n : ℕ) (fs : Frames) → Path ms target (reverse ts) n fs → AreAhead ms target.root ts
+pub stack_ahead : (ms : List ModuleTree) (target : Target) (ts : List Task) (n : ℕ) (fs : Frames) → TasksLead ms target (reverse ts) n fs → AreAhead ms target.root ts
 stack_ahead ms target ts n fs p =
     All-permutation (IsTaskAhead ms target.root) (reverse ts) ts (IsPermutation-sym ts (reverse ts) (IsPermutation-reverse ts)) (path_ahead ms target (reverse ts) n fs p)
 
@@ -149,12 +149,12 @@ ahead_calls ms root sc n path roles spot rest c there a = record {
 
 -- the tasks of such blocks
 
-pub choice_ahead : (ms : List ModuleTree) (root : Declaration) (st inner : CodeScope) (ss : Bor (List ParsedStatement)) (p : List ℕ) (bs : List Block) (spot : Spot) (rest : Body) (k : ℕ) (b : Block) → k < length bs → b ≡ get_or bs k b → IsSame st inner → ss.now ≡ b.body
+pub choice_ahead : (ms : List ModuleTree) (root : Declaration) (st inner : CodeScope) (ss : Bor (List ParsedStatement)) (p : List ℕ) (bs : List Block) (spot : Spot) (rest : Body) (k : ℕ) (b : Block) → k < length bs → b ≡ get_or bs k b → IsSameScope st inner → ss.now ≡ b.body
     → IsAhead ms root (scope_of st) st.depth (Then (Chooses p (blocks_of bs) spot) rest) → IsTaskAhead ms root (Front inner ss)
 choice_ahead ms root st inner ss p bs spot rest k b within here same body a =
     whole ms root inner ss (scope_of st) st.depth (body_of b.body) same.scope same.depth (ap body_of body) (ahead_in_choice ms root (scope_of st) st.depth p bs spot rest k b within here a)
 
-pub choice_block : (ms : List ModuleTree) (root : Declaration) (st inner : CodeScope) (ss : List ParsedStatement) (p : List ℕ) (bs : List Block) (spot : Spot) (rest : Body) (k : ℕ) (b : Block) → k < length bs → b ≡ get_or bs k b → IsSame st inner → ss ≡ b.body
+pub choice_block : (ms : List ModuleTree) (root : Declaration) (st inner : CodeScope) (ss : List ParsedStatement) (p : List ℕ) (bs : List Block) (spot : Spot) (rest : Body) (k : ℕ) (b : Block) → k < length bs → b ≡ get_or bs k b → IsSameScope st inner → ss ≡ b.body
     → IsAhead ms root (scope_of st) st.depth (Then (Chooses p (blocks_of bs) spot) rest) → IsAhead ms root (scope_of inner) inner.depth (body_of ss)
 choice_block ms root st inner ss p bs spot rest k b within here same body a =
     let block = subst (λ x. IsAhead ms root (scope_of st) st.depth (body_of x)) (sym body) (ahead_in_choice ms root (scope_of st) st.depth p bs spot rest k b within here a) in
@@ -164,7 +164,7 @@ pub passes_ahead : (ms : List ModuleTree) (root : Declaration) (st : CodeScope) 
 passes_ahead ms root st ss x spot rest none a =
     whole ms root st ss (scope_of st) st.depth (body_of ss.now) refl refl refl (ahead_passes ms root (scope_of st) st.depth x (body_of ss.now) spot rest none a)
 
-pub repeats_ahead : (ms : List ModuleTree) (root : Declaration) (st inner : CodeScope) (ss : Bor (List ParsedStatement)) (x : List ℕ) (spot : Spot) (rest : Body) → continues_in x (body_of ss.now) ≡ true → IsInside st x inner
+pub repeats_ahead : (ms : List ModuleTree) (root : Declaration) (st inner : CodeScope) (ss : Bor (List ParsedStatement)) (x : List ℕ) (spot : Spot) (rest : Body) → continues_in x (body_of ss.now) ≡ true → IsInsideRecursion st x inner
     → IsAhead ms root (scope_of st) st.depth (Then (Repeats x (body_of ss.now) spot) rest) → IsTaskAhead ms root (Front inner ss)
 repeats_ahead ms root st inner ss x spot rest loops same a =
     whole ms root inner ss (inside (scope_of st) x st.depth) (st.depth + 1) (body_of ss.now) same.scope same.depth refl (ahead_repeats ms root (scope_of st) st.depth x (body_of ss.now) spot rest loops a)
@@ -175,7 +175,7 @@ call_ahead ms root st inner ss path roles spot rest c there same body a =
     whole ms root inner ss (inside_call (scope_of st) c roles) st.depth (body_of c.protocol.body) same.scope same.depth (ap body_of body) (ahead_calls ms root (scope_of st) st.depth path roles spot rest c there a)
 
 -- the statements of a task after its first one
-pub rest_ahead : (ms : List ModuleTree) (root : Declaration) (e : Bool) (st again : CodeScope) (ss rest : Bor (List ParsedStatement)) (s : ParsedStatement) → KeepsRules ms root e → ss.now ≡ s ∷ rest.now → 0 < length rest.now → IsSame st again → IsTaskAhead ms root (Front st ss) → IsTaskAhead ms root (Front again rest)
+pub rest_ahead : (ms : List ModuleTree) (root : Declaration) (e : Bool) (st again : CodeScope) (ss rest : Bor (List ParsedStatement)) (s : ParsedStatement) → KeepsRules ms root e → ss.now ≡ s ∷ rest.now → 0 < length rest.now → IsSameScope st again → IsTaskAhead ms root (Front st ss) → IsTaskAhead ms root (Front again rest)
 rest_ahead ms root e st again ss rest s kept is some same a =
     let sc = scope_of st in
     let n = st.depth in

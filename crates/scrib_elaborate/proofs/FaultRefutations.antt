@@ -16,7 +16,7 @@ use Rattle.scrib_static_checks.specs.Names.{Declaration, has_name, distinct_name
 use Rattle.scrib_static_checks.specs.Statements.{are_roles, KeepsRules}
 use Rattle.scrib_static_checks.specs.Elaboration.{and_branches, Scope, role_in, inside, Frames, Under, Types, nodes, height, start_of, Elaborates}
 use Rattle.scrib_static_checks.specs.Sizes.{IsTooLarge}
-use Rattle.scrib_static_checks.specs.Faults.{HasStatement, IsAgain, HasNoRole, message, choice, call, IsUnreachable, IsLoose, blocks_before, IsNeeded, IsUnguarded, IsBranch, IsWithoutBranch, IsOfAnother, IsToAnother, IsSameOperator, share_operator, Fails, IsInside, IsBroken}
+use Rattle.scrib_static_checks.specs.Faults.{HasStatement, IsAgain, HasNoRole, message, choice, call, IsUnreachable, IsLoose, blocks_before, IsNeeded, IsUnguarded, IsBranchAt, IsWithoutBranch, IsOfAnother, IsToAnother, IsSameOperator, share_operator, Fails, IsInside, IsBroken}
 use Rattle.scrib_elaborate.proofs.Inversion.{type_of_chooses, type_of_repeats, join_of_none, join_of_or, IsJoin}
 use Rattle.scrib_elaborate.proofs.UniqueMeaning.{types_same}
 use Rattle.scrib_static_checks.proofs.RuleLemmas.{kept_at, of_then, of_protocol, of_sends, of_chooses, of_continues, step_at, callee, no_cycle, kept_along, step_exits_same}
@@ -82,7 +82,7 @@ pub record IsJoined (ms : List ModuleTree) (n : ℕ) (sc : Scope) (p : List ℕ)
   pub branch : IsBranchOf ms n sc b fs (role_in sc p) join.receiver join.branches
   pub is : type ≡ Comm (role_in sc p) join.receiver branch.here
 
-joined : (ms : List ModuleTree) (root d : Declaration) (g : GlobalTree) → Types ms 0 (start_of root) g → (spot : Spot) (h : IsBranch ms 0 (start_of root) d spot)
+joined : (ms : List ModuleTree) (root d : Declaration) (g : GlobalTree) → Types ms 0 (start_of root) g → (spot : Spot) (h : IsBranchAt ms 0 (start_of root) d spot)
     → IsJoined ms h.depth h.scope h.chooser h.before h.body spot h.after h.follows h.type
 joined ms root d g t spot h =
     let v = needed_type ms root d g t h.needed in

@@ -10,7 +10,7 @@ use Rattle.scrib_static_checks.specs.Source.{Body, Done, Then, Statement, Sends,
 use Rattle.scrib_static_checks.specs.SourceView.{body_of}
 use Rattle.scrib_static_checks.specs.Names.{Declaration, called}
 use Rattle.scrib_static_checks.specs.Elaboration.{Scope, inside, inside_call, Frames, NoFrame, Under, Types, ends, closes, sends, chooses, repeats, passes, continues, calls, JoinsTo, joins_none, joins}
-use Rattle.scrib_static_checks.specs.Faults.{blocks_before, Needs, needs_itself, needs_close, needs_sends, needs_branch, needs_repeats, needs_passes, needs_calls, IsNeeded, IsBranch, IsOneOf, IsFirstBlock, FailsTyping}
+use Rattle.scrib_static_checks.specs.Faults.{blocks_before, Needs, needs_itself, needs_close, needs_sends, needs_branch, needs_repeats, needs_passes, needs_calls, IsNeeded, IsBranchAt, IsOneOf, IsFirstBlock, FailsTyping}
 use Rattle.scrib_elaborate.specs.NoExit.{Stays, AllStay, none_stays, all_stay}
 use Rattle.scrib_elaborate.proofs.ExitLemmas.{of_then, of_done, of_sends, of_chooses, of_repeats, of_calls, of_or}
 
@@ -136,7 +136,7 @@ never_repeated : {ms : List ModuleTree} {k : ℕ} {from : Frames} {d : Declarati
 never_repeated {ms = ms} {x = x} {c = c} {n = n} {sc = sc} h v =
     subst (λ y. Never ms (Under (inside sc x n) c y)) (sym h.same) (never_inside (inside sc x n) refl (never_along h.needs v))
 
-abbrev branch_onto : {ms : List ModuleTree} {k : ℕ} {from : Frames} {d : Declaration} {spot : Spot} (more : Frames) → Never ms from → IsBranch ms k from d spot → IsBranch ms k (onto from more) d spot
+abbrev branch_onto : {ms : List ModuleTree} {k : ℕ} {from : Frames} {d : Declaration} {spot : Spot} (more : Frames) → Never ms from → IsBranchAt ms k from d spot → IsBranchAt ms k (onto from more) d spot
 branch_onto {spot = spot} more v h = record {
   chooser = h.chooser;
   before = h.before;
@@ -170,7 +170,7 @@ first_onto {bs = bs} more v h = record {
   typed = types_onto h.typed more (block_never bs NoBlock h.body h.spot h.after h.here v);
 }
 
-branch_earlier : {ms : List ModuleTree} {k : ℕ} {from : Frames} {d : Declaration} {spot : Spot} (b : IsBranch ms k from d spot) → Never ms from → NeverAny ms b.scope b.before b.follows
+branch_earlier : {ms : List ModuleTree} {k : ℕ} {from : Frames} {d : Declaration} {spot : Spot} (b : IsBranchAt ms k from d spot) → Never ms from → NeverAny ms b.scope b.before b.follows
 branch_earlier {spot = spot} b v = earlier_never b.before b.body spot b.after (never_needed b.needed v)
 
 pub fails_onto : (k : FaultKind) {ms : List ModuleTree} (n : ℕ) {fs : Frames} (more : Frames) (d : Declaration) (spot : Spot) → Never ms fs → FailsTyping k ms n fs d spot → FailsTyping k ms n (onto fs more) d spot

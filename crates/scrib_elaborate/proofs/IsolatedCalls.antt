@@ -20,7 +20,7 @@ use Rattle.scrib_static_checks.specs.Faults.{blocks_before, Needs, needs_itself,
 use Rattle.scrib_elaborate.specs.Levels.{AreBelow}
 use Rattle.scrib_type_builder.specs.Renaming.{renamed, branches_renamed}
 use Rattle.scrib_elaborate.specs.Sites.{communications, branch_communications, has_several, is_several, IsSite}
-use Rattle.scrib_elaborate.specs.Typing.{Made, IsMarked, Makes}
+use Rattle.scrib_elaborate.specs.Typing.{Made, IsMarked, FramesMake}
 use Rattle.scrib_static_checks.proofs.GivenRoles.{role_itself, true_or_false}
 use Rattle.scrib_static_checks.proofs.RuleLemmas.{of_then, of_chooses, of_repeats, of_or, of_sends, of_calls, of_protocol}
 use Rattle.scrib_elaborate.proofs.ShiftLemmas.{shift_below, below_more}
@@ -277,8 +277,8 @@ names_renamed (d ∷ ds) (g ∷ gs) u l =
     λ i. first i ∷ (given_later d g ds gs ds (not-true (has_role d ds) parts.0) ∙ names_renamed ds gs parts.1 (omega (arith, l))) i
 
 -- a called protocol, with nothing after it, whose type is in the memo
-pub made_moved : {ms : List ModuleTree} {m : ℕ} {base : Frames} (d : Declaration) (e : Bool) (gs : List (List ℕ)) (g h : Made) → KeepsRules ms d e → length (roles_of d) ≡ length gs → Makes ms 0 (start_of d) g → AreBelow m base → Types ms m base GlobalEnd
-    → h.type ≡ renamed (given_for (roles_of d) gs) g.type → h.origins ≡ g.origins → Makes ms m (Under (record { within = d; given = gs; recs = [] }) (body_of d.protocol.body) base) h
+pub made_moved : {ms : List ModuleTree} {m : ℕ} {base : Frames} (d : Declaration) (e : Bool) (gs : List (List ℕ)) (g h : Made) → KeepsRules ms d e → length (roles_of d) ≡ length gs → FramesMake ms 0 (start_of d) g → AreBelow m base → Types ms m base GlobalEnd
+    → h.type ≡ renamed (given_for (roles_of d) gs) g.type → h.origins ≡ g.origins → FramesMake ms m (Under (record { within = d; given = gs; recs = [] }) (body_of d.protocol.body) base) h
 made_moved {ms = ms} {m = m} {base = base} d e gs g h kept long made low ended is same =
     let f = given_for (roles_of d) gs in
     let v = of_protocol kept in
@@ -292,5 +292,5 @@ made_moved {ms = ms} {m = m} {base = base} d e gs g h kept long made low ended i
     let marks = zip_map (IsMarked ms 0 (start_of d)) (IsMarked ms deep (whole (map f (roles_of d)))) (moved_type f m) (communications 0 g.type) g.origins (mark_moved ms 0 (start_of d) start f m base z) made.marked in
     let here = subst (λ cs. AllZip (IsMarked ms deep (whole (map f (roles_of d)))) cs g.origins) (sym (communications_moved f m 0 g.type)) marks in
     let marked = subst (λ x. AllZip (IsMarked ms deep (whole x)) (communications deep (renamed f g.type)) g.origins) given here in
-    let there : Makes ms deep (whole gs) h = made_from h (renamed f g.type) g.origins is same (subst (Types ms deep (whole gs)) (sym is) typed) marked in
-    subst (λ n. Makes ms n (whole gs) h) flat there
+    let there : FramesMake ms deep (whole gs) h = made_from h (renamed f g.type) g.origins is same (subst (Types ms deep (whole gs)) (sym is) typed) marked in
+    subst (λ n. FramesMake ms n (whole gs) h) flat there

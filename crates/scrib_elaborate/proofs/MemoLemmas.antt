@@ -12,7 +12,7 @@ use Rattle.scrib_static_checks.specs.Elaboration.{start_of}
 use Rattle.scrib_static_checks.specs.Names.{Declaration}
 use Rattle.scrib_static_checks.specs.Statements.{KeepsRules}
 use Rattle.scrib_static_checks.specs.Table.{declaration_of, shown}
-use Rattle.scrib_elaborate.specs.Typing.{Made, made_of, Makes, IsAlone, IsMemo, IsEmptyMemo, IsAloneAt}
+use Rattle.scrib_elaborate.specs.Typing.{Made, made_of, FramesMake, IsAlone, IsMemo, IsEmptyMemo, IsAloneAt}
 use Rattle.scrib_static_checks.specs.Walking.{AreSummaries}
 use Rattle.scrib_static_checks.proofs.TableLemmas.{there_shown}
 use Rattle.scrib_static_checks.proofs.Walks.{get_either, get_set}
@@ -39,13 +39,13 @@ pub kept_there : (ms : List ModuleTree) (declared : List CodeDeclaration) (state
 kept_there ms declared states place root s a e w = (a.each place (declaration_of root) s (there_shown declared place root e) w).kept
 
 pub alone_there : (ms : List ModuleTree) (declared : List CodeDeclaration) (states : List State) (place : ℕ) (root : CodeDeclaration) (s : Summary) (m : Made) → AreSummaries ms (shown declared) states → slice_get declared place ≡ Some root → slice_get states place ≡ Some (Walked s)
-    → Makes ms 0 (start_of (declaration_of root)) m → IsAloneAt ms (shown declared) place m
+    → FramesMake ms 0 (start_of (declaration_of root)) m → IsAloneAt ms (shown declared) place m
 alone_there ms declared states place root s m a e w made d p =
     let there = there_shown declared place root e in
     let same : declaration_of root ≡ d = cc (there, p) in
     subst (λ x. IsAlone ms x m) same (record { exits = s.exits; kept = kept_there ms declared states place root s a e w; made = made })
 
-pub some_alone : (ms : List ModuleTree) (declared : List CodeDeclaration) (place : ℕ) (root : CodeDeclaration) (o : Option BuiltType) → ((m : Made) → Makes ms 0 (start_of (declaration_of root)) m → IsAloneAt ms (shown declared) place m)
-    → IfSome o (λ t. Makes ms 0 (start_of (declaration_of root)) (made_of t)) → IfSome o (λ t. IsAloneAt ms (shown declared) place (made_of t))
+pub some_alone : (ms : List ModuleTree) (declared : List CodeDeclaration) (place : ℕ) (root : CodeDeclaration) (o : Option BuiltType) → ((m : Made) → FramesMake ms 0 (start_of (declaration_of root)) m → IsAloneAt ms (shown declared) place m)
+    → IfSome o (λ t. FramesMake ms 0 (start_of (declaration_of root)) (made_of t)) → IfSome o (λ t. IsAloneAt ms (shown declared) place (made_of t))
 some_alone ms declared place root None f h = tt
 some_alone ms declared place root (Some t) f h = f (made_of t) h

@@ -10,7 +10,7 @@ use Rattle.scrib_static_checks.specs.Source.{Body, Then, Statement, Repeats, Blo
 use Rattle.scrib_static_checks.specs.Names.{Declaration, called}
 use Rattle.scrib_static_checks.specs.Statements.{protocol_keeps, BlockKeeps, end_keeps, then_keeps, StatementKeeps, sends_keeps, chooses_keeps, repeats_keeps, continues_keeps, calls_keeps, BlocksKeep, none_keeps, or_keeps}
 use Rattle.scrib_static_checks.specs.Elaboration.{continues_in, Scope, inside, inside_call, Frames, Under, Types}
-use Rattle.scrib_static_checks.specs.Faults.{blocks_before, Needs, needs_itself, needs_close, needs_sends, needs_branch, needs_repeats, needs_passes, needs_calls, IsNeeded, IsBranch, IsOneOf, IsFirstBlock, FailsTyping}
+use Rattle.scrib_static_checks.specs.Faults.{blocks_before, Needs, needs_itself, needs_close, needs_sends, needs_branch, needs_repeats, needs_passes, needs_calls, IsNeeded, IsBranchAt, IsOneOf, IsFirstBlock, FailsTyping}
 use Rattle.scrib_type_builder.specs.Shifting.{shifted, branches_shifted}
 use Rattle.scrib_elaborate.specs.Levels.{AreBelow}
 use Rattle.scrib_elaborate.proofs.ShiftLemmas.{raised_scope, raised, inside_raised, shift_types, leads_shifted, share_shifted, raised_stay, below_more}
@@ -115,7 +115,7 @@ mutual
 needed_from : {ms : List ModuleTree} {k n : ℕ} {from fs : Frames} {d : Declaration} → Needs ms k from n fs → {s : Statement} {m : ℕ} {sc : Scope} {hs : Frames} → IsNeeded ms n fs d s m sc hs → IsNeeded ms k from d s m sc hs
 needed_from u h = record { after = h.after; outer = h.outer; same = h.same; home = h.home; needs = needs_trans u h.needs }
 
-abbrev branch_from : {ms : List ModuleTree} {k n : ℕ} {from fs : Frames} {d : Declaration} → Needs ms k from n fs → {spot : Spot} → IsBranch ms n fs d spot → IsBranch ms k from d spot
+abbrev branch_from : {ms : List ModuleTree} {k n : ℕ} {from fs : Frames} {d : Declaration} → Needs ms k from n fs → {spot : Spot} → IsBranchAt ms n fs d spot → IsBranchAt ms k from d spot
 branch_from u h = record {
   chooser = h.chooser;
   before = h.before;
@@ -191,7 +191,7 @@ needed_deeper {ms = ms} {n = n} {fs = fs} low {s = s} {m = m} {sc = sc} h = reco
 needed_depth : {ms : List ModuleTree} {n : ℕ} {fs : Frames} {d : Declaration} {s : Statement} {m : ℕ} {sc : Scope} {hs : Frames} → IsNeeded ms n fs d s m sc hs → n ≤ m
 needed_depth h = needs_deeper h.needs
 
-abbrev branch_deeper : {ms : List ModuleTree} {n : ℕ} {fs : Frames} {d : Declaration} → AreBelow n fs → {spot : Spot} → IsBranch ms n fs d spot → IsBranch ms (n + 1) fs d spot
+abbrev branch_deeper : {ms : List ModuleTree} {n : ℕ} {fs : Frames} {d : Declaration} → AreBelow n fs → {spot : Spot} → IsBranchAt ms n fs d spot → IsBranchAt ms (n + 1) fs d spot
 branch_deeper {n = n} low h = record {
   chooser = h.chooser;
   before = h.before;

@@ -16,7 +16,7 @@ use Rattle.scrib_type_builder.specs.declared.build_error.BuildError.TheVariants 
 use Rattle.scrib_static_checks.specs.Names.{Declaration, roles_of, declarations, first_where, is_called}
 use Rattle.scrib_static_checks.specs.Elaboration.{Types, start_of, Elaborates}
 use Rattle.scrib_static_checks.specs.Faults.{FailsTyping, Fails, FailsAt}
-use Rattle.scrib_elaborate.specs.Meaning.{meaning_of, Means}
+use Rattle.scrib_elaborate.specs.Meaning.{elaborated_meaning, ResultMeans}
 use Rattle.scrib_static_checks.specs.Table.{declaration_of, shown, IsFound}
 use Rattle.scrib_elaborate.specs.Typing.{TypingFails}
 use Rattle.scrib_static_checks.specs.Walking.{IsFaultIn, WasWalked, IsSmall, IsCounted}
@@ -69,6 +69,6 @@ is_counted ts home name all ds es fs hs states seen at count x d e f h s whole f
     })
 
 -- the protocol has no other meaning
-pub only_meant : (ms : List ModuleTree) (home : List (List ℕ)) (name : List ℕ) (r : Result Elaborated ElaborateFault) → IfOk r (λ e. Elaborates ms home name (meaning_of e)) → IfErr r (FailsAt ms home name) → (a : Agreement) → Elaborates ms home name a → Means r a
-only_meant ms home name (Ok e) ok fault a is = meaning_same ms home name (meaning_of e) a ok is
+pub only_meant : (ms : List ModuleTree) (home : List (List ℕ)) (name : List ℕ) (r : Result Elaborated ElaborateFault) → IfOk r (λ e. Elaborates ms home name (elaborated_meaning e)) → IfErr r (FailsAt ms home name) → (a : Agreement) → Elaborates ms home name a → ResultMeans r a
+only_meant ms home name (Ok e) ok fault a is = meaning_same ms home name (elaborated_meaning e) a ok is
 only_meant ms home name (Err f) ok fault a is = nothing_missed ms home name f fault a is

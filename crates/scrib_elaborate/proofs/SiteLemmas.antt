@@ -16,7 +16,7 @@ use Rattle.scrib_type_builder.specs.Shifting.{shifted, branches_shifted}
 use Rattle.scrib_elaborate.specs.Levels.{AreBelow}
 use Rattle.scrib_elaborate.specs.Sites.{communications, branch_communications, has_several, is_several, several_of, IsSite, IsSiteOf}
 use Rattle.scrib_type_builder.specs.BuiltType.{add_no_origins, with_origin}
-use Rattle.scrib_elaborate.specs.Typing.{Made, nothing_made, IsMarked, Makes, origin_sites}
+use Rattle.scrib_elaborate.specs.Typing.{Made, nothing_made, IsMarked, FramesMake, origin_sites}
 use Rattle.scrib_elaborate.proofs.ShiftLemmas.{raised_scope, raised, raised_stay, shift_types, shift_below, has_branches_shifted}
 use Rattle.scrib_elaborate.proofs.NeededParts.{needs_trans, needs_deeper, needs_raised}
 
@@ -86,11 +86,11 @@ marks_through {ms = ms} {n = n} {m = m} {fs = fs} {hs = hs} u cs js h =
     zip_weaker (IsMarked ms m hs) (IsMarked ms n fs) cs js (mark_through u) h
 
 -- frames of the same type
-pub made_through : {ms : List ModuleTree} {n : ℕ} {fs hs : Frames} (m : Made) → Needs ms n fs n hs → Types ms n fs m.type → Makes ms n hs m → Makes ms n fs m
+pub made_through : {ms : List ModuleTree} {n : ℕ} {fs hs : Frames} (m : Made) → Needs ms n fs n hs → Types ms n fs m.type → FramesMake ms n hs m → FramesMake ms n fs m
 made_through {n = n} m u t k = record { typed = t; marked = marks_through u (communications n m.type) m.origins k.marked }
 
 -- a type and its origins, each by an equation
-pub made_from : {ms : List ModuleTree} {n : ℕ} {fs : Frames} (m : Made) (g : GlobalTree) (js : List (Option Origin)) → m.type ≡ g → m.origins ≡ js → Types ms n fs m.type → AllZip (IsMarked ms n fs) (communications n g) js → Makes ms n fs m
+pub made_from : {ms : List ModuleTree} {n : ℕ} {fs : Frames} (m : Made) (g : GlobalTree) (js : List (Option Origin)) → m.type ≡ g → m.origins ≡ js → Types ms n fs m.type → AllZip (IsMarked ms n fs) (communications n g) js → FramesMake ms n fs m
 made_from {ms = ms} {n = n} {fs = fs} m g js e f t k = record {
   typed = t;
   marked =
@@ -100,7 +100,7 @@ made_from {ms = ms} {n = n} {fs = fs} m g js e f t k = record {
 pub made_is : (m h : Made) → m.type ≡ h.type → m.origins ≡ h.origins → m ≡ h
 made_is m h e f = λ i. record { type = e i; origins = f i }
 
-pub nothing_follows : (ms : List ModuleTree) → Makes ms 0 NoFrame nothing_made
+pub nothing_follows : (ms : List ModuleTree) → FramesMake ms 0 NoFrame nothing_made
 nothing_follows ms = record { typed = ends; marked = tt }
 
 -- messages
@@ -168,7 +168,7 @@ unfolding deeper
 mark_deeper ms n fs low c None h = is_several_shifted (c.0 - n) c.1 ∙ h
 mark_deeper ms n fs low c (Some o) h = (is_several_shifted (c.0 - n) c.1 ∙ h.0, site_deeper low h.1)
 
-pub made_deeper : {ms : List ModuleTree} {n : ℕ} {fs : Frames} (m h : Made) → h.type ≡ shifted 0 m.type → h.origins ≡ m.origins → AreBelow n fs → Makes ms n fs m → Makes ms (n + 1) fs h
+pub made_deeper : {ms : List ModuleTree} {n : ℕ} {fs : Frames} (m h : Made) → h.type ≡ shifted 0 m.type → h.origins ≡ m.origins → AreBelow n fs → FramesMake ms n fs m → FramesMake ms (n + 1) fs h
 made_deeper {ms = ms} {n = n} {fs = fs} m h e f low k =
     let R = IsMarked ms n fs in
     let S = IsMarked ms (n + 1) fs in

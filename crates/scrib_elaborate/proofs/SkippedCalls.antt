@@ -23,7 +23,7 @@ use Rattle.scrib_static_checks.specs.CallEffect.{HasEffect, IsEffectOf, Passes}
 use Rattle.scrib_elaborate.specs.Sites.{communications, IsSite}
 use Rattle.scrib_static_checks.specs.Table.{declaration_of, shown}
 use Rattle.scrib_type_builder.specs.BuiltType.{with_origin}
-use Rattle.scrib_elaborate.specs.Typing.{Made, IsMarked, Makes, Target, IsAlone, PassesOn, IsBefore, IsState}
+use Rattle.scrib_elaborate.specs.Typing.{Made, IsMarked, FramesMake, Target, IsAlone, PassesOn, IsTypedRest, IsState}
 use Rattle.scrib_elaborate.proofs.FirstChoices.{nothing_needs, only_needs, begins_site}
 use Rattle.scrib_static_checks.proofs.RuleLemmas.{of_then, of_calls}
 use Rattle.scrib_elaborate.proofs.IsolatedCalls.{made_moved}
@@ -41,7 +41,7 @@ shown_at table k d h = of (slice_get table k) refl (sym (slice_get-map declarati
     of (Some x) e f = let same : declaration_of x ≡ d = cc f in (x, e, same)
 
 pub call_skipped : (ms : List ModuleTree) (target : Target) (ts : List Task) (sc : Scope) (n : ℕ) (path roles given : List (List ℕ)) (spot : Spot) (c : Declaration) (f : CallEffect) (table : List CodeDeclaration) (g h : Made)
-    → called ms sc.within.home path ≡ Some c → IsEffectOf ms c f → given ≡ map (role_in sc) roles → Passes f given g.type → shown table ≡ declarations ms → PassesOn table f g h → IsBefore ms target ts sc n (Calls path roles spot) g → IsState ms target ts h
+    → called ms sc.within.home path ≡ Some c → IsEffectOf ms c f → given ≡ map (role_in sc) roles → Passes f given g.type → shown table ≡ declarations ms → PassesOn table f g h → IsTypedRest ms target ts sc n (Calls path roles spot) g → IsState ms target ts h
 call_skipped ms target ts sc n path roles given spot c f table g h there has_effect named passed all returned b = record {
   depth = n;
   frames = whole;
@@ -61,9 +61,9 @@ call_skipped ms target ts sc n path roles given spot c f table g h there has_eff
     named_passes : Passes f gs g.type
     named_passes = subst (λ x. Passes f x g.type) named passed
 
-    by : (f : CallEffect) → HasEffect ms c (body_of c.protocol.body) f → distinct_roles (roles_of c) ≡ true → Passes f gs g.type → PassesOn table f g h → Makes ms n whole h
+    by : (f : CallEffect) → HasEffect ms c (body_of c.protocol.body) f → distinct_roles (roles_of c) ≡ true → Passes f gs g.type → PassesOn table f g h → FramesMake ms n whole h
     by Nothing k apart u same =
-        subst (Makes ms n whole) (sym same) (made_through g (needs_calls there (nothing_needs k gs [] n after)) (call_of_nothing c there k b.made.typed) b.made)
+        subst (FramesMake ms n whole) (sym same) (made_through g (needs_calls there (nothing_needs k gs [] n after)) (call_of_nothing c there k b.made.typed) b.made)
     by (Joining k at first) j apart (p, q, cs, role, is) on =
         let typed = subst (λ x. Types ms n after x) is b.made.typed in
         let by_role : p ≡ given_for (roles_of c) gs j.role = sym (given_at (roles_of c) gs k j.role p apart (placed_at j.role (roles_of c) k j.there) role) in
@@ -82,7 +82,7 @@ call_skipped ms target ts sc n path roles given spot c f table g h there has_eff
 -- nor is a call that nothing follows, of a protocol whose type is in the memo
 pub call_memoized : (ms : List ModuleTree) (target : Target) (x : Bool) (ts : List Task) (sc : Scope) (n : ℕ) (path roles given : List (List ℕ)) (spot : Spot) (c : Declaration) (g k h : Made)
     → KeepsRules ms target.root x → called ms sc.within.home path ≡ Some c → IsAlone ms c k → given ≡ map (role_in sc) roles → g.type ≡ GlobalEnd → h.type ≡ renamed (given_for (roles_of c) given) k.type → h.origins ≡ k.origins
-    → IsBefore ms target ts sc n (Calls path roles spot) g → IsState ms target ts h
+    → IsTypedRest ms target ts sc n (Calls path roles spot) g → IsState ms target ts h
 call_memoized ms target x ts sc n path roles given spot c g k h kept there alone named none is same b =
     let gs = map (role_in sc) roles in
     let block = (block_kept b.recs (Then (Calls path roles spot) b.rest) b.reached x kept b.part).2 in
@@ -92,7 +92,7 @@ call_memoized ms target x ts sc n path roles given spot c g k h kept there alone
     let long : length (roles_of c) ≡ length gs = length-map c.protocol.roles (λ r. r.name) ∙ sym count ∙ sym (length-map roles (role_in sc)) in
     let ended = subst (Types ms n (Under sc b.rest b.outer)) none b.made.typed in
     let type : h.type ≡ renamed (given_for (roles_of c) gs) k.type = is ∙ ap (λ ns. renamed (given_for (roles_of c) ns) k.type) named in
-    let inner : Makes ms n (Under (inside_call sc c roles) (body_of c.protocol.body) (Under sc b.rest b.outer)) h = made_moved c alone.exits gs k h alone.kept long alone.made b.below ended type same in
+    let inner : FramesMake ms n (Under (inside_call sc c roles) (body_of c.protocol.body) (Under sc b.rest b.outer)) h = made_moved c alone.exits gs k h alone.kept long alone.made b.below ended type same in
     record {
       depth = n;
       frames = Under sc (Then (Calls path roles spot) b.rest) b.outer;

@@ -28,11 +28,11 @@ use Rattle.scrib_static_checks.specs.Faults.{IsRestOf, here, later, in_rec, Reac
 use Rattle.scrib_type_builder.specs.Shifting.{shifted}
 use Rattle.scrib_elaborate.specs.Levels.{AreBelow}
 use Rattle.scrib_static_checks.specs.Table.{IsPart}
-use Rattle.scrib_elaborate.specs.Scope.{scope_of, start_scope, IsStart, IsSame, IsInside}
+use Rattle.scrib_elaborate.specs.Scope.{scope_of, start_scope, IsStart, IsSameScope, IsInsideRecursion}
 use Rattle.scrib_elaborate.specs.Sites.{communications}
 use Rattle.scrib_type_builder.specs.BuiltType.{add_no_origins}
-use Rattle.scrib_type_builder.specs.Rules.{IsUnguarded}
-use Rattle.scrib_elaborate.specs.Typing.{Made, nothing_made, Makes, Target, whole_target, HasLevels, before, FailsUp, IsFront, Path, IsState, IsBefore, TypingFails}
+use Rattle.scrib_type_builder.specs.Rules.{IsUnguardedBody}
+use Rattle.scrib_elaborate.specs.Typing.{Made, nothing_made, FramesMake, Target, whole_target, HasLevels, before, FailsUp, PrecedesFrames, TasksLead, IsState, IsTypedRest, TypingFails}
 use Rattle.scrib_static_checks.proofs.RuleLemmas.{of_then, of_continues, of_calls, of_protocol, kept_at, kept_along, reaches_on}
 use Rattle.scrib_static_checks.proofs.Checks.{occurs_here}
 use Rattle.scrib_elaborate.proofs.LevelLemmas.{level_below, levels_none, levels_after, levels_passes, levels_repeats}
@@ -90,15 +90,15 @@ pub record IsAt (ms : List ModuleTree) (target : Target) (ts : List Task) (sc : 
   pub rest : Body
   pub outer : Frames
   pub next : Frames
-  pub made : Makes ms n (Under sc rest outer) g
-  pub leads : (h : Made) → Makes ms n (Under sc (before ss rest) outer) h → Makes ms n next h
+  pub made : FramesMake ms n (Under sc rest outer) g
+  pub leads : (h : Made) → FramesMake ms n (Under sc (before ss rest) outer) h → FramesMake ms n next h
   pub up : FailsUp ms target.root n (Under sc (before ss rest) outer)
   pub recs : List (List ℕ)
   pub part : IsPart sc.within recs (before ss rest)
   pub levels : HasLevels sc recs (before ss rest)
   pub reached : Reaches ms target.root sc.within
   pub below : AreBelow n (Under sc rest outer)
-  pub path : Path ms target ts n next
+  pub path : TasksLead ms target ts n next
 
 pub front_at : (ms : List ModuleTree) (target : Target) (ts : List Task) (st : CodeScope) (ss : Bor (List ParsedStatement)) (g : Made) → IsState ms target (Front st ss ∷ ts) g → IsAt ms target ts (scope_of st) st.depth ss.now g
 front_at ms target ts st ss g s =
@@ -109,7 +109,7 @@ front_at ms target ts st ss g s =
       rest = f.rest;
       outer = f.outer;
       next = hs;
-      made = subst (λ fs. Makes ms s.depth fs g) f.is s.made;
+      made = subst (λ fs. FramesMake ms s.depth fs g) f.is s.made;
       leads = f.leads;
       up = f.up;
       recs = f.recs;
@@ -126,7 +126,7 @@ front_same ms target ts st ss others g e s = record {
   depth = s.depth;
   frames = s.frames;
   made = s.made;
-  path = (s.path.0, subst (λ xs. IsFront ms target.root (scope_of st) st.depth xs s.depth s.frames s.path.0) e s.path.1, s.path.2);
+  path = (s.path.0, subst (λ xs. PrecedesFrames ms target.root (scope_of st) st.depth xs s.depth s.frames s.path.0) e s.path.1, s.path.2);
 }
 
 -- no statement is left
@@ -136,8 +136,8 @@ front_done ms target ts st ss g none s =
     record { depth = st.depth; frames = a.next; made = a.leads g a.made; path = a.path }
 
 -- the last statement is next
-pub front_step : (ms : List ModuleTree) (target : Target) (ts : List Task) (st again : CodeScope) (ss front : Bor (List ParsedStatement)) (s : ParsedStatement) (g : Made) (e : Bool) → KeepsRules ms target.root e → ss.now ≡ front.now ++ s ∷ [] → IsSame st again
-    → IsState ms target (Front st ss ∷ ts) g → IsBefore ms target (Front again front ∷ ts) (scope_of st) st.depth (statement_of s) g
+pub front_step : (ms : List ModuleTree) (target : Target) (ts : List Task) (st again : CodeScope) (ss front : Bor (List ParsedStatement)) (s : ParsedStatement) (g : Made) (e : Bool) → KeepsRules ms target.root e → ss.now ≡ front.now ++ s ∷ [] → IsSameScope st again
+    → IsState ms target (Front st ss ∷ ts) g → IsTypedRest ms target (Front again front ∷ ts) (scope_of st) st.depth (statement_of s) g
 front_step ms target ts st again ss front s g e kept is same x =
     let sc = scope_of st in
     let n = st.depth in
@@ -147,9 +147,9 @@ front_step ms target ts st again ss front s g e kept is same x =
     let up = subst (λ b. FailsUp ms target.root n (Under sc b a.outer)) list a.up in
     let part = subst (λ b. IsPart sc.within a.recs b) list a.part in
     let levels = subst (λ b. HasLevels sc a.recs b) list a.levels in
-    let leads = subst (λ b. (h : Made) → Makes ms n (Under sc b a.outer) h → Makes ms n a.next h) list a.leads in
+    let leads = subst (λ b. (h : Made) → FramesMake ms n (Under sc b a.outer) h → FramesMake ms n a.next h) list a.leads in
     let k = block_kept a.recs (before front.now (Then (statement_of s) a.rest)) a.reached e kept part in
-    let this : IsFront ms target.root sc n front.now n (Under sc (Then (statement_of s) a.rest) a.outer) a.next = record {
+    let this : PrecedesFrames ms target.root sc n front.now n (Under sc (Then (statement_of s) a.rest) a.outer) a.next = record {
       rest = Then (statement_of s) a.rest;
       outer = a.outer;
       deep = refl;
@@ -167,7 +167,7 @@ front_step ms target ts st again ss front s g e kept is same x =
       outer = a.outer;
       made = a.made;
       path =
-          (a.next, subst (λ d. IsFront ms target.root (scope_of again) d front.now n (Under sc (Then (statement_of s) a.rest) a.outer) a.next) (sym same.depth) (subst (λ c. IsFront ms target.root c n front.now n (Under sc (Then (statement_of s) a.rest) a.outer) a.next) (sym same.scope) this), a.path);
+          (a.next, subst (λ d. PrecedesFrames ms target.root (scope_of again) d front.now n (Under sc (Then (statement_of s) a.rest) a.outer) a.next) (sym same.depth) (subst (λ c. PrecedesFrames ms target.root c n front.now n (Under sc (Then (statement_of s) a.rest) a.outer) a.next) (sym same.scope) this), a.path);
       up =
           λ f d spot h. up f d spot (fails_in_front f d spot ms a.recs n sc front.now (statement_of s) a.rest a.outer k.0 k.1 k.2 a.below h);
       recs = a.recs;
@@ -180,8 +180,8 @@ front_step ms target ts st again ss front s g e kept is same x =
 -- a block is entered
 
 pub record IsOpened (ms : List ModuleTree) (root : Declaration) (sc : Scope) (n : ℕ) (b : Body) (outer next : Frames) (g : Made) : Type 0 where
-  pub made : Makes ms n outer g
-  pub leads : (h : Made) → Makes ms n (Under sc b outer) h → Makes ms n next h
+  pub made : FramesMake ms n outer g
+  pub leads : (h : Made) → FramesMake ms n (Under sc b outer) h → FramesMake ms n next h
   pub up : FailsUp ms root n (Under sc b outer)
   pub recs : List (List ℕ)
   pub part : IsPart sc.within recs b
@@ -190,11 +190,11 @@ pub record IsOpened (ms : List ModuleTree) (root : Declaration) (sc : Scope) (n 
   pub below : AreBelow n (Under sc Done outer)
 
 pub opened : (ms : List ModuleTree) (target : Target) (ts : List Task) (st : CodeScope) (ss : Bor (List ParsedStatement)) (sc : Scope) (n : ℕ) (b : Body) (outer next : Frames) (g : Made)
-    → scope_of st ≡ sc → st.depth ≡ n → body_of ss.now ≡ b → IsOpened ms target.root sc n b outer next g → Path ms target ts n next → IsState ms target (Front st ss ∷ ts) g
+    → scope_of st ≡ sc → st.depth ≡ n → body_of ss.now ≡ b → IsOpened ms target.root sc n b outer next g → TasksLead ms target ts n next → IsState ms target (Front st ss ∷ ts) g
 opened ms target ts st ss sc n b outer next g scope depth body o path =
     let list : b ≡ before ss.now Done = sym body ∙ sym (before_done ss.now) in
     let p = subst (λ x. IsOpened ms target.root sc n x outer next g) list o in
-    let this : IsFront ms target.root sc n ss.now n (Under sc Done outer) next = record {
+    let this : PrecedesFrames ms target.root sc n ss.now n (Under sc Done outer) next = record {
       rest = Done;
       outer = outer;
       deep = refl;
@@ -212,13 +212,13 @@ opened ms target ts st ss sc n b outer next g scope depth body o path =
       frames = Under sc Done outer;
       made = made_through g (needs_close needs_itself) (closes p.made.typed) p.made;
       path =
-          (next, subst (λ d. IsFront ms target.root (scope_of st) d ss.now n (Under sc Done outer) next) (sym depth) (subst (λ c. IsFront ms target.root c n ss.now n (Under sc Done outer) next) (sym scope) this), path);
+          (next, subst (λ d. PrecedesFrames ms target.root (scope_of st) d ss.now n (Under sc Done outer) next) (sym depth) (subst (λ c. PrecedesFrames ms target.root c n ss.now n (Under sc Done outer) next) (sym scope) this), path);
     }
 
 -- a message is sent
 
 pub message_put : (ms : List ModuleTree) (target : Target) (ts : List Task) (sc : Scope) (n : ℕ) (m : Message) (p : List ℕ) (qs : List (List ℕ)) (spot : Spot) (g h : Made)
-    → h.type ≡ prefix_message m (role_in sc p) (map (role_in sc) qs) g.type → h.origins ≡ add_no_origins (map (role_in sc) qs) g.origins → IsBefore ms target ts sc n (Sends m p qs spot) g → IsState ms target ts h
+    → h.type ≡ prefix_message m (role_in sc p) (map (role_in sc) qs) g.type → h.origins ≡ add_no_origins (map (role_in sc) qs) g.origins → IsTypedRest ms target ts sc n (Sends m p qs spot) g → IsState ms target ts h
 message_put ms target ts sc n m p qs spot g h is none b =
     let sender = role_in sc p in
     let receivers = map (role_in sc) qs in
@@ -234,7 +234,7 @@ message_put ms target ts sc n m p qs spot g h is none b =
 -- a recursion is continued
 
 pub variable_put : (ms : List ModuleTree) (target : Target) (ts : List Task) (sc : Scope) (n k i : ℕ) (x : List ℕ) (spot : Spot) (g h : Made)
-    → level_of x sc.recs ≡ Some k → n ≡ k + 1 + i → h.type ≡ GlobalVar i → h.origins ≡ [] → IsBefore ms target ts sc n (Continues x spot) g → IsState ms target ts h
+    → level_of x sc.recs ≡ Some k → n ≡ k + 1 + i → h.type ≡ GlobalVar i → h.origins ≡ [] → IsTypedRest ms target ts sc n (Continues x spot) g → IsState ms target ts h
 variable_put ms target ts sc n k i x spot g h level deep is alone b = record {
   depth = n;
   frames = Under sc (Then (Continues x spot) b.rest) b.outer;
@@ -245,7 +245,7 @@ variable_put ms target ts sc n k i x spot g h level deep is alone b = record {
 -- a protocol is called
 
 pub call_put : (ms : List ModuleTree) (target : Target) (ts : List Task) (st : CodeScope) (ss : Bor (List ParsedStatement)) (sc : Scope) (n : ℕ) (path roles : List (List ℕ)) (spot : Spot) (c : Declaration) (g : Made)
-    → called ms sc.within.home path ≡ Some c → scope_of st ≡ inside_call sc c roles → st.depth ≡ n → ss.now ≡ c.protocol.body → IsBefore ms target ts sc n (Calls path roles spot) g → IsState ms target (Front st ss ∷ ts) g
+    → called ms sc.within.home path ≡ Some c → scope_of st ≡ inside_call sc c roles → st.depth ≡ n → ss.now ≡ c.protocol.body → IsTypedRest ms target ts sc n (Calls path roles spot) g → IsState ms target (Front st ss ∷ ts) g
 call_put ms target ts st ss sc n path roles spot c g there scope depth body b =
     opened ms target ts st ss (inside_call sc c roles) n (body_of c.protocol.body) (Under sc b.rest b.outer) (Under sc (Then (Calls path roles spot) b.rest) b.outer) g scope depth (ap body_of body) (record {
       made = b.made;
@@ -261,7 +261,7 @@ call_put ms target ts st ss sc n path roles spot c g there scope depth body b =
 -- a recursion that is not continued
 
 pub passes_put : (ms : List ModuleTree) (target : Target) (ts : List Task) (st : CodeScope) (ss : Bor (List ParsedStatement)) (x : List ℕ) (spot : Spot) (g : Made)
-    → continues_in x (body_of ss.now) ≡ false → IsBefore ms target ts (scope_of st) st.depth (Repeats x (body_of ss.now) spot) g → IsState ms target (Front st ss ∷ ts) g
+    → continues_in x (body_of ss.now) ≡ false → IsTypedRest ms target ts (scope_of st) st.depth (Repeats x (body_of ss.now) spot) g → IsState ms target (Front st ss ∷ ts) g
 passes_put ms target ts st ss x spot g none b =
     let sc = scope_of st in
     let n = st.depth in
@@ -280,7 +280,7 @@ passes_put ms target ts st ss x spot g none b =
 -- a recursion that is continued
 
 pub repeats_put : (ms : List ModuleTree) (target : Target) (ts : List Task) (st inner : CodeScope) (ss : Bor (List ParsedStatement)) (home : Bor ModuleTree) (x : List ℕ) (spot : Spot) (g h : Made) → home.now ≡ (scope_of st).within.home
-    → continues_in x (body_of ss.now) ≡ true → IsInside st x inner → h.type ≡ shifted 0 g.type → h.origins ≡ g.origins → IsBefore ms target ts (scope_of st) st.depth (Repeats x (body_of ss.now) spot) g → IsState ms target (Front inner ss ∷ Close home spot ∷ ts) h
+    → continues_in x (body_of ss.now) ≡ true → IsInsideRecursion st x inner → h.type ≡ shifted 0 g.type → h.origins ≡ g.origins → IsTypedRest ms target ts (scope_of st) st.depth (Repeats x (body_of ss.now) spot) g → IsState ms target (Front inner ss ∷ Close home spot ∷ ts) h
 repeats_put ms target ts st inner ss home x spot g h at loops same is kept b =
     let sc = scope_of st in
     let n = st.depth in
@@ -326,12 +326,12 @@ pub record IsClosing (ms : List ModuleTree) (target : Target) (ts : List Task) (
   pub body : Body
   pub rest : Body
   pub outer : Frames
-  pub made : Makes ms (depth + 1) (Under (inside scope name depth) body (Under scope rest outer)) g
+  pub made : FramesMake ms (depth + 1) (Under (inside scope name depth) body (Under scope rest outer)) g
   pub continued : continues_in name body ≡ true
   pub up : FailsUp ms target.root depth (Under scope (Then (Repeats name body spot) rest) outer)
   pub reached : Reaches ms target.root scope.within
   pub at : home ≡ scope.within.home
-  pub path : Path ms target ts depth (Under scope (Then (Repeats name body spot) rest) outer)
+  pub path : TasksLead ms target ts depth (Under scope (Then (Repeats name body spot) rest) outer)
 
 closing : (ms : List ModuleTree) (target : Target) (ts : List Task) (home : Bor ModuleTree) (spot : Spot) (g : Made) → IsState ms target (Close home spot ∷ ts) g → IsClosing ms target ts home.now spot g
 closing ms target ts home spot g s =
@@ -345,12 +345,12 @@ closing ms target ts home spot g s =
       body = f.body;
       rest = f.rest;
       outer = f.outer;
-      made = subst (λ n. Makes ms n (Under (inside f.scope f.name m) f.body (Under f.scope f.rest f.outer)) g) f.deep (subst (λ fs. Makes ms s.depth fs g) f.is s.made);
+      made = subst (λ n. FramesMake ms n (Under (inside f.scope f.name m) f.body (Under f.scope f.rest f.outer)) g) f.deep (subst (λ fs. FramesMake ms s.depth fs g) f.is s.made);
       continued = f.continued;
       up = subst (λ fs. FailsUp ms target.root m fs) f.goes f.up;
       reached = f.reached;
       at = f.at;
-      path = subst (λ fs. Path ms target ts m fs) f.goes s.path.3;
+      path = subst (λ fs. TasksLead ms target ts m fs) f.goes s.path.3;
     }
 
 pub close_put : (ms : List ModuleTree) (target : Target) (ts : List Task) (home : Bor ModuleTree) (spot : Spot) (g h : Made) → leads_to_communication g.type ≡ true → h.type ≡ GlobalRec g.type → h.origins ≡ g.origins → IsState ms target (Close home spot ∷ ts) g → IsState ms target ts h
@@ -385,7 +385,7 @@ unguarded_fails ms target ts home spot g unguarded s =
       }),
     )
 
-pub close_fails : (ms : List ModuleTree) (target : Target) (ts : List Task) (home : Bor ModuleTree) (spot : Spot) (g : Made) (e : BuildError) → IsUnguarded home.now spot g.type e → IsState ms target (Close home spot ∷ ts) g → TypingFails ms target.root e
+pub close_fails : (ms : List ModuleTree) (target : Target) (ts : List Task) (home : Bor ModuleTree) (spot : Spot) (g : Made) (e : BuildError) → IsUnguardedBody home.now spot g.type e → IsState ms target (Close home spot ∷ ts) g → TypingFails ms target.root e
 close_fails ms target ts home spot g (untyped.Broken h b) f s =
     let u = unguarded_fails ms target ts home spot g f.3 s in (
       u.0,
@@ -401,7 +401,7 @@ pub begins : (ms : List ModuleTree) (root : Declaration) (old new : List Task) (
 begins ms root old new st ss g none push start body is =
     let target = whole_target root in
     let state : IsState ms target (Front st ss ∷ []) g = opened ms target [] st ss (start_scope root) 0 (body_of root.protocol.body) NoFrame (start_of root) g start.scope start.depth (ap body_of body) (record {
-      made = subst (λ x. Makes ms 0 NoFrame x) (sym is) (nothing_follows ms);
+      made = subst (λ x. FramesMake ms 0 NoFrame x) (sym is) (nothing_follows ms);
       leads = λ h t. t;
       up = λ f d s h. h;
       recs = [];
@@ -416,14 +416,14 @@ pub popped : (ms : List ModuleTree) (target : Target) (old new : List Task) (t :
 popped ms target old new t g is s =
     subst (λ ts. IsState ms target ts g) (ap reverse is ∙ reverse-append new (t ∷ [])) s
 
-pub ended : (ms : List ModuleTree) (target : Target) (ts : List Task) (g : Made) → ts ≡ [] → IsState ms target (reverse ts) g → Makes ms target.depth target.frames g
+pub ended : (ms : List ModuleTree) (target : Target) (ts : List Task) (g : Made) → ts ≡ [] → IsState ms target (reverse ts) g → FramesMake ms target.depth target.frames g
 ended ms target ts g none s =
     let e = subst (λ x. IsState ms target (reverse x) g) none s in
-    subst (λ fs. Makes ms target.depth fs g) e.path.1 (subst (λ n. Makes ms n e.frames g) e.path.0 e.made)
+    subst (λ fs. FramesMake ms target.depth fs g) e.path.1 (subst (λ n. FramesMake ms n e.frames g) e.path.0 e.made)
 
-pub pushed_before : (ms : List ModuleTree) (target : Target) (old new : List Task) (t : Task) (sc : Scope) (n : ℕ) (s : Statement) (g : Made) → new ≡ old ++ t ∷ [] → IsBefore ms target (t ∷ reverse old) sc n s g → IsBefore ms target (reverse new) sc n s g
+pub pushed_before : (ms : List ModuleTree) (target : Target) (old new : List Task) (t : Task) (sc : Scope) (n : ℕ) (s : Statement) (g : Made) → new ≡ old ++ t ∷ [] → IsTypedRest ms target (t ∷ reverse old) sc n s g → IsTypedRest ms target (reverse new) sc n s g
 pushed_before ms target old new t sc n s g e b =
-    subst (λ ts. IsBefore ms target ts sc n s g) (sym (ap reverse e ∙ reverse-append old (t ∷ []))) b
+    subst (λ ts. IsTypedRest ms target ts sc n s g) (sym (ap reverse e ∙ reverse-append old (t ∷ []))) b
 
 -- the recursion that is continued has a level, below the number of those around the statement
 
@@ -432,7 +432,7 @@ pub record IsEnclosing (sc : Scope) (n : ℕ) (x : List ℕ) : Type 0 where
   pub there : level_of x sc.recs ≡ Some level
   pub low : level < n
 
-pub enclosing_found : (ms : List ModuleTree) (target : Target) (ts : List Task) (sc : Scope) (n : ℕ) (x : List ℕ) (spot : Spot) (g : Made) (e : Bool) → KeepsRules ms target.root e → IsBefore ms target ts sc n (Continues x spot) g → IsEnclosing sc n x
+pub enclosing_found : (ms : List ModuleTree) (target : Target) (ts : List Task) (sc : Scope) (n : ℕ) (x : List ℕ) (spot : Spot) (g : Made) (e : Bool) → KeepsRules ms target.root e → IsTypedRest ms target ts sc n (Continues x spot) g → IsEnclosing sc n x
 enclosing_found ms target ts sc n x spot g e kept b =
     let block = (block_kept b.recs (Then (Continues x spot) b.rest) b.reached e kept b.part).2 in
     let among = (of_continues (of_then block).step).0 in
@@ -444,7 +444,7 @@ pub no_callee : (ms : List ModuleTree) (home : ModuleTree) (path : List (List �
 no_callee ms home path none = ap (option_and_then (λ n. find_protocol ms n (last_name path))) (sym none)
 
 -- the called protocol exists
-pub callee_found : (ms : List ModuleTree) (target : Target) (ts : List Task) (sc : Scope) (n : ℕ) (path roles : List (List ℕ)) (spot : Spot) (g : Made) (e : Bool) → KeepsRules ms target.root e → IsBefore ms target ts sc n (Calls path roles spot) g → called ms sc.within.home path ≡ None → ⊥
+pub callee_found : (ms : List ModuleTree) (target : Target) (ts : List Task) (sc : Scope) (n : ℕ) (path roles : List (List ℕ)) (spot : Spot) (g : Made) (e : Bool) → KeepsRules ms target.root e → IsTypedRest ms target ts sc n (Calls path roles spot) g → called ms sc.within.home path ≡ None → ⊥
 callee_found ms target ts sc n path roles spot g e kept b none =
     let block = (block_kept b.recs (Then (Calls path roles spot) b.rest) b.reached e kept b.part).2 in
     absurd (cc ((of_calls (of_then block).step).call.there, none))

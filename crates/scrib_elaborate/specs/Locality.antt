@@ -1,36 +1,34 @@
 -- The meaning of a protocol depends only on the modules that its own module reaches by imports (this project's own).
 use Rattle.std.specs.Prelude.{◌≡◌, ◌↔◌, ◌⊎◌, ℕ, Bool, true, false, ◌&&◌, List, [], ◌∷◌, ◌++◌, Option, Some, None, option_and_then, if◌then◌else◌, Contains, refl}
 use Rattle.std.proofs.Common.{inl, inr, ap, sym, ◌∙◌, subst}
-use Rattle.std.specs.Bool.{Decides}
 use Rattle.std.specs.Str.{bytes_eq}
 use Rattle.std.proofs.lemmas.Bool.{and_parts, or_parts, cases_Bool, false_from_ne_true}
 use Rattle.std.proofs.lemmas.List.Elements.{All-nil, All-contains, Contains-push, Contains-push_cases, Contains-append_left, Contains-append_right, Contains-append_cases}
-use Rattle.std.proofs.lemmas.Slice.Eq.{bytes_eq-Decides, slice_eq-Decides}
 use Rattle.scrib_types.specs.Agreement.{Agreement}
 use Rattle.scrib_types.specs.Trees.{GlobalTree, GlobalBranches}
 use Rattle.scrib_parser.specs.declared.tree.ModuleTree.{ModuleTree}
 use Rattle.scrib_parser.specs.declared.tree.Import.{Import}
 use Rattle.scrib_parser.specs.declared.tree.ProtocolDeclaration.{ProtocolDeclaration}
 use Rattle.scrib_static_checks.specs.Source.{Body, Statement, Blocks}
-use Rattle.scrib_static_checks.specs.Names.{Declaration, dotted_eq, has_name, first_where, known_by, module_names, with_module, declared_in, declarations, is_called, find_protocol, all_but_last, last_name, imported, looked_in, called}
+use Rattle.scrib_static_checks.specs.Names.{Declaration, dotted_eq, dotted_eq-Decides, has_name, first_where, known_by, module_names, with_module, declared_in, declarations, is_called, find_protocol, all_but_last, last_name, imported, looked_in, called}
 use Rattle.scrib_static_checks.specs.Statements.{KeepsRules, protocol_keeps, BlockKeeps, end_keeps, then_keeps, StatementKeeps, sends_keeps, chooses_keeps, repeats_keeps, continues_keeps, calls_keeps, BlocksKeep, none_keeps, or_keeps}
 use Rattle.scrib_static_checks.specs.Elaboration.{Scope, Frames, NoFrame, Under, Types, ends, closes, sends, chooses, repeats, passes, continues, calls, JoinsTo, joins_none, joins, Elaborates}
 
 -- each import of a module of such a name has such a name
-abbrev pub IsClosed : (S : List (List ℕ) → Type 0) → List ModuleTree → Type 0
-IsClosed S modules = (m : ModuleTree) (i : Import) → Contains modules m → S m.name → Contains m.imports i → S i.module
+abbrev pub IsImportClosed : (S : List (List ℕ) → Type 0) → List ModuleTree → Type 0
+IsImportClosed S modules = (m : ModuleTree) (i : Import) → Contains modules m → S m.name → Contains m.imports i → S i.module
 
 -- The two lists of modules have the same protocols in the modules of these names. Each import of such a module in the
 -- first has such a name.
 pub record AgreeOn (S : List (List ℕ) → Type 0) (before after : List ModuleTree) : Type 0 where
   pub protocols : (n : List (List ℕ)) (p : List ℕ) → S n → find_protocol before n p ≡ find_protocol after n p
-  pub closed : IsClosed S before
+  pub closed : IsImportClosed S before
 
 -- the name is this one, or that of a module that one of such a name imports
-pub data IsReached (modules : List ModuleTree) (home : List (List ℕ)) : List (List ℕ) → Type 0 where
-  itself : IsReached modules home home
-  by_import : (m : ModuleTree) (i : Import) → Contains modules m → IsReached modules home m.name → Contains m.imports i
-      → IsReached modules home i.module
+pub data IsReachedByImports (modules : List ModuleTree) (home : List (List ℕ)) : List (List ℕ) → Type 0 where
+  itself : IsReachedByImports modules home home
+  by_import : (m : ModuleTree) (i : Import) → Contains modules m → IsReachedByImports modules home m.name → Contains m.imports i
+      → IsReachedByImports modules home i.module
 
 -- the modules without the first one of this name
 abbrev pub without_module : List (List ℕ) → List ModuleTree → List ModuleTree
@@ -38,9 +36,6 @@ without_module n [] = []
 without_module n (m ∷ ms) = if dotted_eq n m.name then ms else m ∷ without_module n ms
 
 -- ---- names and lists
-
-dotted_eq-Decides : (r s : List (List ℕ)) → Decides (dotted_eq r s) (r ≡ s)
-dotted_eq-Decides r s = slice_eq-Decides bytes_eq-Decides r s (dotted_eq r s) refl
 
 module _ {X : Type 0} where
   Contains-nil : (x : X) → Contains [] x → ⊥
@@ -228,15 +223,15 @@ elaborates_alike S before after home name a agree s e =
     }
 
 -- the names that are reached are closed under imports
-reached_closed : (modules : List ModuleTree) (home : List (List ℕ)) → IsClosed (IsReached modules home) modules
+reached_closed : (modules : List ModuleTree) (home : List (List ℕ)) → IsImportClosed (IsReachedByImports modules home) modules
 reached_closed modules home m i c r d = by_import m i c r d
 
 -- So the meaning depends only on the protocols of the modules that its own reaches, which is one of them.
 pub elaborates_by_reached : (before after : List ModuleTree) (home : List (List ℕ)) (name : List ℕ) (a : Agreement)
-    → ((n : List (List ℕ)) (p : List ℕ) → IsReached before home n → find_protocol before n p ≡ find_protocol after n p)
+    → ((n : List (List ℕ)) (p : List ℕ) → IsReachedByImports before home n → find_protocol before n p ≡ find_protocol after n p)
     → Elaborates before home name a → Elaborates after home name a
 elaborates_by_reached before after home name a same e =
-    elaborates_alike (IsReached before home) before after home name a
+    elaborates_alike (IsReachedByImports before home) before after home name a
     (record { protocols = same; closed = reached_closed before home }) itself e
 
 -- ---- an edit of another module
@@ -301,7 +296,7 @@ removal_back e (y ∷ ys) x c =
     ]
 
 -- Modules before and after a put agree on names that are closed under imports and without the module's name.
-pub put_agrees : (S : List (List ℕ) → Type 0) (m : ModuleTree) (modules : List ModuleTree) → IsClosed S modules
+pub put_agrees : (S : List (List ℕ) → Type 0) (m : ModuleTree) (modules : List ModuleTree) → IsImportClosed S modules
     → (S m.name → ⊥)
     → AgreeOn S modules (with_module m modules) × AgreeOn S (with_module m modules) modules
 put_agrees S m modules closed out =
@@ -312,7 +307,7 @@ put_agrees S m modules closed out =
     record { protocols = λ n p s. sym (same n p s); closed = still } in
     (forth, back)
   where
-    still : IsClosed S (with_module m modules)
+    still : IsImportClosed S (with_module m modules)
     still x i c s d =
         elim (put_cases m modules x c) [
           | inl e ↦ absurd (out (subst (λ (y : ModuleTree). S y.name) (sym e) s))
@@ -320,13 +315,13 @@ put_agrees S m modules closed out =
         ]
 
 -- So do modules before and after a removal.
-pub removal_agrees : (S : List (List ℕ) → Type 0) (e : List (List ℕ)) (modules : List ModuleTree) → IsClosed S modules
+pub removal_agrees : (S : List (List ℕ) → Type 0) (e : List (List ℕ)) (modules : List ModuleTree) → IsImportClosed S modules
     → (S e → ⊥)
     → AgreeOn S modules (without_module e modules) × AgreeOn S (without_module e modules) modules
 removal_agrees S e modules closed out =
     let same = λ (n : List (List ℕ)) (p : List ℕ) (s : S n).
     found_beside_removal e modules n p (different S n e s out) in
-    let still : IsClosed S (without_module e modules) = λ x i c s d. closed x i (removal_back e modules x c) s d in
+    let still : IsImportClosed S (without_module e modules) = λ x i c s d. closed x i (removal_back e modules x c) s d in
     let forth : AgreeOn S modules (without_module e modules) = record { protocols = same; closed = closed } in
     let back : AgreeOn S (without_module e modules) modules =
     record { protocols = λ n p s. sym (same n p s); closed = still } in
@@ -334,10 +329,10 @@ removal_agrees S e modules closed out =
 
 -- A put of a module changes no meaning of a protocol whose module does not reach it.
 pub put_beside : (m : ModuleTree) (modules : List ModuleTree) (home : List (List ℕ)) (name : List ℕ) (a : Agreement)
-    → (IsReached modules home m.name → ⊥)
+    → (IsReachedByImports modules home m.name → ⊥)
     → Elaborates modules home name a ↔ Elaborates (with_module m modules) home name a
 put_beside m modules home name a out =
-    let S = IsReached modules home in
+    let S = IsReachedByImports modules home in
     let agree = put_agrees S m modules (reached_closed modules home) out in (
       elaborates_alike S modules (with_module m modules) home name a agree.0 itself,
       elaborates_alike S (with_module m modules) modules home name a agree.1 itself,
@@ -346,10 +341,10 @@ put_beside m modules home name a out =
 -- Nor does a removal.
 pub removal_beside : (e : List (List ℕ)) (modules : List ModuleTree) (home : List (List ℕ)) (name : List ℕ)
     (a : Agreement)
-    → (IsReached modules home e → ⊥)
+    → (IsReachedByImports modules home e → ⊥)
     → Elaborates modules home name a ↔ Elaborates (without_module e modules) home name a
 removal_beside e modules home name a out =
-    let S = IsReached modules home in
+    let S = IsReachedByImports modules home in
     let agree = removal_agrees S e modules (reached_closed modules home) out in (
       elaborates_alike S modules (without_module e modules) home name a agree.0 itself,
       elaborates_alike S (without_module e modules) modules home name a agree.1 itself,

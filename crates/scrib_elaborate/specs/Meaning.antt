@@ -8,15 +8,15 @@ use Rattle.scrib_static_checks.specs.declared.fault.ElaborateFault.{ElaborateFau
 use Rattle.scrib_static_checks.specs.declared.fault.ElaborateFault.TheVariants.{Broken, OutOfMemory}
 
 -- the roles and the global type of an elaborated protocol
-abbrev pub meaning_of : Elaborated → Agreement
-meaning_of e = record { roles = e.roles; global = global_of e.global }
+abbrev pub elaborated_meaning : Elaborated → Agreement
+elaborated_meaning e = record { roles = e.roles; global = global_of e.global }
 
 -- the choices that its communications with several branches come from
 abbrev pub sites_of : Elaborated → List ChoiceSite
 sites_of e = e.sites
 
 -- the result means this, or memory was refused
-abbrev pub Means : Result Elaborated ElaborateFault → Agreement → Type 0
-Means (Ok e) a = meaning_of e ≡ a
-Means (Err (Broken f)) a = ⊥
-Means (Err OutOfMemory) a = Unit {0}
+abbrev pub ResultMeans : Result Elaborated ElaborateFault → Agreement → Type 0
+ResultMeans (Ok e) a = elaborated_meaning e ≡ a
+ResultMeans (Err (Broken f)) a = ⊥
+ResultMeans (Err OutOfMemory) a = Unit {0}

@@ -25,12 +25,12 @@ pub record IsStart (root : Declaration) (s : CodeScope) : Type 0 where
   pub depth : s.depth ≡ 0
 
 -- the two scopes are equal
-pub record IsSame (old : CodeScope) (s : CodeScope) : Type 0 where
+pub record IsSameScope (old : CodeScope) (s : CodeScope) : Type 0 where
   pub scope : scope_of s ≡ scope_of old
   pub depth : s.depth ≡ old.depth
 
 -- the scope is that inside a recursion of this name
-pub record IsInside (old : CodeScope) (name : List ℕ) (s : CodeScope) : Type 0 where
+pub record IsInsideRecursion (old : CodeScope) (name : List ℕ) (s : CodeScope) : Type 0 where
   pub scope : scope_of s ≡ inside (scope_of old) name old.depth
   pub depth : s.depth ≡ old.depth + 1
 

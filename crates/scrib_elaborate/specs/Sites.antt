@@ -11,7 +11,7 @@ use Rattle.scrib_static_checks.specs.Source.{Body, Then, Chooses, Blocks}
 use Rattle.scrib_static_checks.specs.Names.{Declaration, find_protocol}
 use Rattle.scrib_static_checks.specs.Elaboration.{Scope, Frames, Under, Types, start_of}
 use Rattle.scrib_static_checks.specs.Faults.{Needs}
-use Rattle.scrib_elaborate.specs.Meaning.{meaning_of, sites_of}
+use Rattle.scrib_elaborate.specs.Meaning.{elaborated_meaning, sites_of}
 
 -- The communications of a type in post-order, where n recursions are around the type. Each has the number of recursions
 -- around it. Those in a communication's branches precede it, from the first branch on.
@@ -69,4 +69,4 @@ IsSiteOf modules root c j = IsSite modules 0 (start_of root) j.module j.spot c.0
 pub record AreSites (modules : List ModuleTree) (home : List (List ℕ)) (name : List ℕ) (e : Elaborated) : Type 0 where
   pub root : Declaration
   pub there : find_protocol modules home name ≡ Some root
-  pub each : AllZip (IsSiteOf modules root) (several (meaning_of e).global) (sites_of e)
+  pub each : AllZip (IsSiteOf modules root) (several (elaborated_meaning e).global) (sites_of e)

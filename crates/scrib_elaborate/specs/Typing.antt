@@ -53,7 +53,7 @@ IsMarked modules k from c (Some o) =
     (is_several c.1 ≡ true) × IsSite modules k from o.home.now.name o.spot c.0 c.1
 
 -- the frames, under n recursions, mean this type, and its communications come from these choices
-pub record Makes (modules : List ModuleTree) (n : ℕ) (fs : Frames) (m : Made) : Type 0 where
+pub record FramesMake (modules : List ModuleTree) (n : ℕ) (fs : Frames) (m : Made) : Type 0 where
   pub typed : Types modules n fs m.type
   pub marked : AllZip (IsMarked modules n fs) (communications n m.type) m.origins
 
@@ -61,7 +61,7 @@ pub record Makes (modules : List ModuleTree) (n : ℕ) (fs : Frames) (m : Made) 
 pub record IsAlone (modules : List ModuleTree) (d : Declaration) (m : Made) : Type 0 where
   pub exits : Bool
   pub kept : KeepsRules modules d exits
-  pub made : Makes modules 0 (start_of d) m
+  pub made : FramesMake modules 0 (start_of d) m
 
 -- each type in the memo is that of the protocol at its index
 abbrev pub IsMemo : List ModuleTree → List Declaration → List (Option BuiltType) → Type 0
@@ -127,13 +127,13 @@ HaveLevels sc recs bs =
     (x : List ℕ) → has_role x recs ≡ true → continues_some x bs ≡ true → (k : ℕ) × (level_of x sc.recs ≡ Some k)
 
 -- the statements precede these frames, and with them the type is that of the others
-pub record IsFront (modules : List ModuleTree) (root : Declaration) (sc : Scope) (depth : ℕ)
+pub record PrecedesFrames (modules : List ModuleTree) (root : Declaration) (sc : Scope) (depth : ℕ)
     (statements : List ParsedStatement) (n : ℕ) (fs hs : Frames) : Type 0 where
   pub rest : Body
   pub outer : Frames
   pub deep : n ≡ depth
   pub is : fs ≡ Under sc rest outer
-  pub leads : (m : Made) → Makes modules n (Under sc (before statements rest) outer) m → Makes modules n hs m
+  pub leads : (m : Made) → FramesMake modules n (Under sc (before statements rest) outer) m → FramesMake modules n hs m
   pub up : FailsUp modules root n (Under sc (before statements rest) outer)
   pub recs : List (List ℕ)
   pub part : IsPart sc.within recs (before statements rest)
@@ -145,7 +145,7 @@ pub record IsFront (modules : List ModuleTree) (root : Declaration) (sc : Scope)
 abbrev pub AreTyped : List ModuleTree → ℕ → Scope → Frames → List Block → List BuiltType → Type 0
 AreTyped modules n sc fs blocks types =
     (k : ℕ) (b : Block) (t : BuiltType) → slice_get blocks k ≡ Some b → slice_get types k ≡ Some t
-    → Makes modules n (Under sc (body_of b.body) fs) (made_of t)
+    → FramesMake modules n (Under sc (body_of b.body) fs) (made_of t)
 
 -- the frames are those of the next block of a choice, and the others begin with that choice
 pub record IsJoin (modules : List ModuleTree) (root : Declaration) (sc : Scope) (depth : ℕ) (chooser : List ℕ)
@@ -161,7 +161,7 @@ pub record IsJoin (modules : List ModuleTree) (root : Declaration) (sc : Scope) 
   pub up : FailsUp modules root n hs
   pub typed : AreTyped modules n sc (Under sc rest outer) blocks types
   pub after : MatchOption follows (length types + 1 ≡ length blocks)
-      (λ t. Makes modules n (Under sc rest outer) (made_of t))
+      (λ t. FramesMake modules n (Under sc rest outer) (made_of t))
   pub recs : List (List ℕ)
   pub parts : AreParts sc.within recs (blocks_of blocks)
   pub levels : HaveLevels sc recs (blocks_of blocks)
@@ -185,31 +185,31 @@ pub record IsClose (modules : List ModuleTree) (root : Declaration) (home : Modu
   pub at : home ≡ scope.within.home
 
 -- the tasks, the next one first, lead from these frames to those of the target
-abbrev pub Path : List ModuleTree → Target → List Task → ℕ → Frames → Type 0
-Path modules target [] n fs = (n ≡ target.depth) × (fs ≡ target.frames)
-Path modules target (Front scope statements ∷ tasks) n fs =
-    (hs : Frames) × IsFront modules target.root (scope_of scope) scope.depth statements.now n fs hs
-    × Path modules target tasks n hs
-Path modules target (Join c ∷ tasks) n fs =
+abbrev pub TasksLead : List ModuleTree → Target → List Task → ℕ → Frames → Type 0
+TasksLead modules target [] n fs = (n ≡ target.depth) × (fs ≡ target.frames)
+TasksLead modules target (Front scope statements ∷ tasks) n fs =
+    (hs : Frames) × PrecedesFrames modules target.root (scope_of scope) scope.depth statements.now n fs hs
+    × TasksLead modules target tasks n hs
+TasksLead modules target (Join c ∷ tasks) n fs =
     (hs : Frames) × IsJoin modules target.root (scope_of c.scope) c.scope.depth c.chooser.now c.branches.now c.spot
-    c.follows c.types.items n fs hs × Path modules target tasks n hs
-Path modules target (Close home spot ∷ tasks) n fs =
-    (m : ℕ) × (hs : Frames) × IsClose modules target.root home.now spot n fs m hs × Path modules target tasks m hs
+    c.follows c.types.items n fs hs × TasksLead modules target tasks n hs
+TasksLead modules target (Close home spot ∷ tasks) n fs =
+    (m : ℕ) × (hs : Frames) × IsClose modules target.root home.now spot n fs m hs × TasksLead modules target tasks m hs
 
 -- the type that was built last is that of the frames from which the tasks go on
 pub record IsState (modules : List ModuleTree) (target : Target) (tasks : List Task) (m : Made) : Type 0 where
   pub depth : ℕ
   pub frames : Frames
-  pub made : Makes modules depth frames m
-  pub path : Path modules target tasks depth frames
+  pub made : FramesMake modules depth frames m
+  pub path : TasksLead modules target tasks depth frames
 
 -- the type is that of what follows this statement, and the tasks go on from the statement
-pub record IsBefore (modules : List ModuleTree) (target : Target) (tasks : List Task) (sc : Scope) (n : ℕ)
+pub record IsTypedRest (modules : List ModuleTree) (target : Target) (tasks : List Task) (sc : Scope) (n : ℕ)
     (s : Statement) (m : Made) : Type 0 where
   pub rest : Body
   pub outer : Frames
-  pub made : Makes modules n (Under sc rest outer) m
-  pub path : Path modules target tasks n (Under sc (Then s rest) outer)
+  pub made : FramesMake modules n (Under sc rest outer) m
+  pub path : TasksLead modules target tasks n (Under sc (Then s rest) outer)
   pub up : FailsUp modules target.root n (Under sc (Then s rest) outer)
   pub recs : List (List ℕ)
   pub part : IsPart sc.within recs (Then s rest)
@@ -261,14 +261,14 @@ pub record IsChoosing (modules : List ModuleTree) (target : Target) (tasks : Lis
   pub typed : AreTyped modules n sc (Under sc rest outer) blocks types
   pub few : length types ≤ length blocks
   pub after : MatchOption follows (length types ≡ length blocks)
-      (λ t. Makes modules n (Under sc rest outer) (made_of t))
+      (λ t. FramesMake modules n (Under sc rest outer) (made_of t))
   pub up : FailsUp modules target.root n (Under sc (Then (Chooses chooser (blocks_of blocks) spot) rest) outer)
   pub recs : List (List ℕ)
   pub parts : AreParts sc.within recs (blocks_of blocks)
   pub levels : HaveLevels sc recs (blocks_of blocks)
   pub reached : Reaches modules target.root sc.within
   pub below : AreBelow n (Under sc rest outer)
-  pub path : Path modules target tasks n (Under sc (Then (Chooses chooser (blocks_of blocks) spot) rest) outer)
+  pub path : TasksLead modules target tasks n (Under sc (Then (Chooses chooser (blocks_of blocks) spot) rest) outer)
 
 -- the positions of the choices of those that have an origin
 abbrev pub origin_sites : List (Option Origin) → List ChoiceSite

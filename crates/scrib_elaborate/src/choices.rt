@@ -8,12 +8,12 @@ ghost use Rattle.scrib_parser.specs.declared.tree.ModuleTree.{ModuleTree};
 ghost use Rattle.scrib_static_checks.specs.Source.{Chooses};
 ghost use Rattle.scrib_static_checks.specs.SourceView.{blocks_of};
 ghost use Rattle.scrib_elaborate.specs.declared.scope.Scope.{Scope};
-ghost use Rattle.scrib_elaborate.specs.Scope.{scope_of, IsSame};
-ghost use Rattle.scrib_elaborate.specs.Typing.{Target, Made, made_of, IsBefore, IsState, TypingFails, StopsAhead, IsChoosing};
+ghost use Rattle.scrib_elaborate.specs.Scope.{scope_of, IsSameScope};
+ghost use Rattle.scrib_elaborate.specs.Typing.{Target, Made, made_of, IsTypedRest, IsState, TypingFails, StopsAhead, IsChoosing};
 
 use crate::scope::Scope;
-use crate::tasks::{Choosing, Task};
-use scrib_parser::tree::{Block, ModuleTree, Statement};
+use crate::tasks::{ChoiceStatement, Choosing, Task};
+use scrib_parser::tree::{ModuleTree, Statement};
 use scrib_static_checks::fault::FaultKind;
 use scrib_type_builder::build_error::{BuildError, broken};
 use scrib_type_builder::built_type::{BuiltType, Origin};
@@ -21,8 +21,6 @@ use scrib_type_builder::choice_branches::{ChoiceBranches, add_branch};
 use scrib_type_builder::operators::Operators;
 use scrib_types::containers::{Items, at};
 use scrib_types::global::GlobalType;
-use scrib_types::name::Role;
-use scrib_types::spot::Spot;
 use std::alloc::{AllocError, Global};
 
 /// Begins a choice, where the type of what follows it is `follows`, at its first block.
@@ -33,17 +31,20 @@ pub fn choose<'a>(
     alloc: Global,
     tasks: &mut Vec<Task<'a>>,
     scope: Scope<'a>,
-    chooser: &'a Role,
-    branches: &'a [Block],
-    spot: Spot,
+    choice: ChoiceStatement<'a>,
     typed: BuiltType<'a>,
 ) -> Result<BuiltType<'a>, BuildError<'a>>
     ensures { (modules : List ModuleTree) (target : Target)
-        → IsBefore modules target (reverse tasks.old.items) (scope_of scope.entry) scope.entry.depth
-        (Chooses chooser.now (blocks_of branches.now) spot) (made_of typed.entry)
+        → IsTypedRest modules target (reverse tasks.old.items) (scope_of scope.entry) scope.entry.depth
+        (Chooses choice.entry.chooser.now (blocks_of choice.entry.branches.now) choice.entry.spot) (made_of typed.entry)
         → MatchResult result (λ t. IsState modules target (reverse tasks.new.items) (made_of t))
         (StopsAhead modules target.root tasks.new.items) }
 {
+    let ChoiceStatement {
+        chooser,
+        branches,
+        spot,
+    } = choice;
     let Some(first) = branches.first() else {
         return Err(broken(scope.within.home, FaultKind::EmptyBranch, spot));
     };
@@ -86,7 +87,12 @@ pub fn join<'a>(
     types.push(typed)?;
     let next = at(branches, types.len());
     let Some((next, follows)) = next.zip(follows) else {
-        return joined(alloc, &scope, chooser, branches, spot, types);
+        let choice = ChoiceStatement {
+            chooser,
+            branches,
+            spot,
+        };
+        return joined(alloc, &scope, choice, types);
     };
     let left = branches.len() - types.len() - 1;
     let (begun, follows) = share(alloc, follows, left)?;
@@ -110,7 +116,7 @@ fn enter<'a>(
     body: &'a [Statement],
 ) -> Result<(), AllocError>
     ensures { (modules : List ModuleTree) (target : Target) (g : Made)
-        → ((inner : Scope) → IsSame choosing.entry.scope inner
+        → ((inner : Scope) → IsSameScope choosing.entry.scope inner
         → IsState modules target (Front inner body.entry ∷ Join choosing.entry ∷ reverse tasks.old.items) g)
         → IfOk result (λ _. IsState modules target (reverse tasks.new.items) g) }
 {
@@ -140,19 +146,18 @@ fn share<'a>(
 fn joined<'a>(
     alloc: Global,
     scope: &Scope<'a>,
-    given: &'a Role,
-    blocks: &'a [Block],
-    spot: Spot,
+    choice: ChoiceStatement<'a>,
     types: Vec<BuiltType<'a>>,
 ) -> Result<BuiltType<'a>, BuildError<'a>>
     ensures { (modules : List ModuleTree) (target : Target) (tasks : List Task) (follows : Option BuiltType)
-        → IsChoosing modules target tasks (scope_of scope.now) scope.now.depth given.now blocks.now spot follows
+        → IsChoosing modules target tasks (scope_of scope.now) scope.now.depth choice.entry.chooser.now
+        choice.entry.branches.now choice.entry.spot follows
         types.entry.items
-        → length types.entry.items ≡ length blocks.now
+        → length types.entry.items ≡ length choice.entry.branches.now
         → MatchResult result (λ t. IsState modules target tasks (made_of t)) (TypingFails modules target.root) }
 {
     let home = scope.within.home;
-    let chooser = scope.role(given);
+    let chooser = scope.role(choice.chooser);
     let operators = Operators::new(alloc, count_others(types.as_slice()))?;
     let mut so_far = ChoiceBranches {
         receiver: None,
@@ -160,7 +165,7 @@ fn joined<'a>(
         operators,
         origins: Vec::new(alloc),
     };
-    for (block, typed) in blocks.iter().zip(types) {
+    for (block, typed) in choice.branches.iter().zip(types) {
         add_branch(home, chooser, block.spot, &mut so_far, typed)?;
     }
     let ChoiceBranches {
@@ -170,11 +175,14 @@ fn joined<'a>(
         ..
     } = so_far;
     let Some(to) = receiver else {
-        return Err(broken(home, FaultKind::EmptyBranch, spot));
+        return Err(broken(home, FaultKind::EmptyBranch, choice.spot));
     };
     let several = branches.len() > 1;
     origins.push(if several {
-        Some(Origin { home, spot })
+        Some(Origin {
+            home,
+            spot: choice.spot,
+        })
     } else {
         None
     })?;

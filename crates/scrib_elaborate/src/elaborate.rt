@@ -6,7 +6,7 @@ ghost use Rattle.scrib_static_checks.specs.Names.{declarations, is_called, role_
 ghost use Rattle.scrib_static_checks.specs.ProtocolIndex.{IsProtocolIndex};
 ghost use Rattle.scrib_static_checks.specs.Elaboration.{Elaborates};
 ghost use Rattle.scrib_static_checks.specs.Faults.{FailsAt};
-ghost use Rattle.scrib_elaborate.specs.Meaning.{meaning_of, Means};
+ghost use Rattle.scrib_elaborate.specs.Meaning.{elaborated_meaning, ResultMeans};
 ghost use Rattle.scrib_elaborate.specs.Sites.{AreSites};
 ghost use Rattle.scrib_static_checks.specs.Table.{shown, declaration_of, IsFound};
 ghost use Rattle.scrib_elaborate.specs.Typing.{IsTable, IsTabled, origin_sites};
@@ -15,8 +15,8 @@ ghost use Rattle.scrib_static_checks.specs.Walking.{IsAbsentFault, IsCounted};
 use crate::elaborated::{ChoiceSite, Elaborated};
 use crate::memo::{empty_memo, memoize, memoized_type, remove_walk};
 use crate::tasks::ElaborationContext;
-use scrib_parser::tree::{ModuleTree, RoleDeclaration};
-use scrib_static_checks::checking::State;
+use scrib_parser::tree::RoleDeclaration;
+use scrib_static_checks::checking::{State, SymbolTable};
 use scrib_static_checks::declared::{Declaration, all_declared};
 use scrib_static_checks::fault::{ElaborateFault, Fault, FaultKind};
 use scrib_static_checks::modules::Modules;
@@ -43,9 +43,9 @@ pub fn elaborate(
     module: &Dotted,
     protocol: &Name,
 ) -> Result<Elaborated, ElaborateFault>
-    ensures ok { IfOk result (λ e. Elaborates modules.now «module».now protocol.now (meaning_of e)) }
+    ensures ok { IfOk result (λ e. Elaborates modules.now «module».now protocol.now (elaborated_meaning e)) }
     ensures sites { IfOk result (AreSites modules.now «module».now protocol.now) }
-    ensures only { (a : Agreement) → Elaborates modules.now «module».now protocol.now a → Means result a }
+    ensures only { (a : Agreement) → Elaborates modules.now «module».now protocol.now a → ResultMeans result a }
     ensures fault { IfErr result (FailsAt modules.now «module».now protocol.now) }
 {
     let mut elaborator = Elaborator::new(alloc, modules)?;
@@ -60,6 +60,12 @@ pub struct Elaborator<'a> {
     modules: &'a Modules,
     declared: Vec<Declaration<'a>>,
     protocol_index: &'a ProtocolIndex,
+    results: Results<'a>,
+}
+
+// The states of the walk, and the types that are built in isolation, of the declared protocols.
+#[derive(Drop)]
+struct Results<'a> {
     states: Vec<State>,
     memo: Vec<Option<BuiltType<'a>>>,
 }
@@ -77,8 +83,8 @@ impl<'a> Model for Elaborator<'a> {
 
     ghost view = { λ e. e.modules.now };
 
-    ghost invariant = { λ e. IsTabled e.modules.now e.declared.items e.protocol_index.now.slots.items e.states.items
-        e.memo.items };
+    ghost invariant = { λ e. IsTabled e.modules.now e.declared.items e.protocol_index.now.slots.items
+        e.results.states.items e.results.memo.items };
 }
 
 impl<'a> Elaborator<'a> {
@@ -97,8 +103,7 @@ impl<'a> Elaborator<'a> {
             modules,
             declared,
             protocol_index: modules.protocol_index(),
-            states,
-            memo,
+            results: Results { states, memo },
         })
     }
 
@@ -111,82 +116,68 @@ impl<'a> Elaborator<'a> {
         module: &Dotted,
         protocol: &Name,
     ) -> Result<Elaborated, ElaborateFault>
-        ensures ok { IfOk result (λ e. Elaborates self.old «module».now protocol.now (meaning_of e)) }
+        ensures ok { IfOk result (λ e. Elaborates self.old «module».now protocol.now (elaborated_meaning e)) }
         ensures sites { IfOk result (AreSites self.old «module».now protocol.now) }
-        ensures only { (a : Agreement) → Elaborates self.old «module».now protocol.now a → Means result a }
+        ensures only { (a : Agreement) → Elaborates self.old «module».now protocol.now a → ResultMeans result a }
         ensures fault { IfErr result (FailsAt self.old «module».now protocol.now) }
         ensures same { self.new ≡ self.old }
     {
-        elaborate_among(
-            self.alloc,
-            self.modules.as_slice(),
-            &self.declared,
-            self.protocol_index,
-            &mut self.states,
-            &mut self.memo,
-            module,
-            protocol,
-        )
+        let modules = self.modules.as_slice();
+        let protocol_index = self.protocol_index;
+        let table = SymbolTable {
+            modules,
+            declared: &self.declared,
+            protocol_index: &*protocol_index,
+        };
+        elaborate_among(self.alloc, &table, &mut self.results, module, protocol)
     }
 }
 
-// Returns the meaning of the protocol among the modules, with their declared protocols, and the results so far.
+// Returns the meaning of the protocol among the modules of the table, with the results so far.
 fn elaborate_among<'a>(
     alloc: Global,
-    trees: &'a [ModuleTree],
-    declared: &[Declaration<'a>],
-    protocol_index: &ProtocolIndex,
-    states: &mut Vec<State>,
-    memo: &mut Vec<Option<BuiltType<'a>>>,
+    table: &SymbolTable<'a, '_>,
+    results: &mut Results<'a>,
     module: &Dotted,
     protocol: &Name,
 ) -> Result<Elaborated, ElaborateFault>
-    requires { IsTabled trees.now declared.now protocol_index.now.slots.items states.old.items memo.old.items }
-    ensures ok { IfOk result (λ e. Elaborates trees.now «module».now protocol.now (meaning_of e)) }
-    ensures sites { IfOk result (AreSites trees.now «module».now protocol.now) }
-    ensures only { (a : Agreement) → Elaborates trees.now «module».now protocol.now a → Means result a }
-    ensures fault { IfErr result (FailsAt trees.now «module».now protocol.now) }
-    ensures tabled { IsTabled trees.now declared.now protocol_index.now.slots.items states.new.items memo.new.items }
+    requires { IsTabled table.now.modules.now table.now.declared.now table.now.protocol_index.now.slots.items
+        results.old.states.items results.old.memo.items }
+    ensures ok { IfOk result (λ e. Elaborates table.now.modules.now «module».now protocol.now (elaborated_meaning e)) }
+    ensures sites { IfOk result (AreSites table.now.modules.now «module».now protocol.now) }
+    ensures only { (a : Agreement) → Elaborates table.now.modules.now «module».now protocol.now a → ResultMeans result a }
+    ensures fault { IfErr result (FailsAt table.now.modules.now «module».now protocol.now) }
+    ensures tabled { IsTabled table.now.modules.now table.now.declared.now table.now.protocol_index.now.slots.items
+        results.new.states.items results.new.memo.items }
 {
-    let root = find_root(alloc, trees, declared, protocol_index, module, protocol)?;
+    let root = find_root(alloc, table, module, protocol)?;
     let mut walked = Vec::new(alloc);
-    walk(
-        alloc,
-        &*trees,
-        &*declared,
-        &*protocol_index,
-        root,
-        states,
-        &mut walked,
-    )?;
-    let count = check_size(alloc, declared, &*states, root)?;
-    walked.pop();
-    memoize(
-        alloc,
-        trees,
+    walk(alloc, table, root, &mut results.states, &mut walked)?;
+    let SymbolTable {
+        modules,
         declared,
         protocol_index,
-        &*states,
-        &walked,
-        memo,
-    )?;
+    } = *table;
+    let count = check_size(alloc, declared, &results.states, root)?;
+    walked.pop();
+    memoize(alloc, table, &results.states, &walked, &mut results.memo)?;
     let at = declared[root];
     let context = ElaborationContext {
-        modules: trees,
+        alloc,
+        modules,
         declared: &*declared,
         protocol_index: &*protocol_index,
-        states: &*states,
-        memo: &*memo,
+        states: &results.states,
+        memo: &results.memo,
         root: at,
     };
-    let answer = finish(alloc, &context, root, count, module, protocol);
-    remove_walk(states, &*memo, root, count);
+    let answer = finish(&context, root, count, module, protocol);
+    remove_walk(&mut results.states, &results.memo, root, count);
     answer
 }
 
 // Returns the meaning of the protocol, after the first two passes.
 fn finish(
-    alloc: Global,
     context: &ElaborationContext,
     root: usize,
     count: usize,
@@ -197,18 +188,18 @@ fn finish(
     requires there { slice_get (shown context.now.declared.now) root ≡ Some (declaration_of context.now.root) }
     requires ready { IsCounted context.now.modules.now (shown context.now.declared.now)
         (declaration_of context.now.root) count «module».now protocol.now }
-    ensures ok { IfOk result (λ e. Elaborates context.now.modules.now «module».now protocol.now (meaning_of e)) }
+    ensures ok { IfOk result (λ e. Elaborates context.now.modules.now «module».now protocol.now (elaborated_meaning e)) }
     ensures sites { IfOk result (AreSites context.now.modules.now «module».now protocol.now) }
     ensures fault { IfErr result (FailsAt context.now.modules.now «module».now protocol.now) }
 {
-    match memoized_type(alloc, context, root) {
+    match memoized_type(context, root) {
         Ok(typed) => {
             let BuiltType { global, origins } = typed;
-            let roles = copy_roles(alloc, context.root.protocol.roles.as_slice())?;
-            let sites = choice_sites(alloc, &origins)?;
+            let roles = copy_roles(context.alloc, context.root.protocol.roles.as_slice())?;
+            let sites = choice_sites(context.alloc, &origins)?;
             Ok(Elaborated::new(roles, global, count, sites))
         }
-        Err(BuildError::Broken(home, rule)) => Err(fault_in(alloc, home, rule)),
+        Err(BuildError::Broken(home, rule)) => Err(fault_in(context.alloc, home, rule)),
         Err(BuildError::OutOfMemory) => Err(ElaborateFault::OutOfMemory),
     }
 }
@@ -241,21 +232,21 @@ fn choice_sites(alloc: Global, origins: &[Option<Origin>]) -> Result<Items<Choic
 // Returns the index of the requested protocol in the table.
 fn find_root(
     alloc: Global,
-    modules: &[ModuleTree],
-    declared: &[Declaration],
-    protocol_index: &ProtocolIndex,
+    table: &SymbolTable,
     module: &Dotted,
     protocol: &Name,
 ) -> Result<usize, ElaborateFault>
-    requires all { shown declared.now ≡ declarations modules.now }
-    requires indexed { IsProtocolIndex (shown declared.now) protocol_index.now.slots.items }
+    requires all { shown table.now.declared.now ≡ declarations table.now.modules.now }
+    requires indexed { IsProtocolIndex (shown table.now.declared.now) table.now.protocol_index.now.slots.items }
     ensures { MatchResult result
-        (IsFound (shown declared.now) (is_called «module».now protocol.now))
-        (FailsAt modules.now «module».now protocol.now) }
+        (IsFound (shown table.now.declared.now) (is_called «module».now protocol.now))
+        (FailsAt table.now.modules.now «module».now protocol.now) }
 {
-    match protocol_index.find(declared, module, protocol) {
+    match table.protocol_index.find(table.declared, module, protocol) {
         Some(root) => Ok(root),
-        None if has_module(modules, module) => { Err(absent(alloc, module, FaultKind::NoProtocol)) }
+        None if has_module(table.modules, module) => {
+            Err(absent(alloc, module, FaultKind::NoProtocol))
+        }
         None => Err(absent(alloc, module, FaultKind::NoModule)),
     }
 }

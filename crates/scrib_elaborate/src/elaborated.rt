@@ -37,7 +37,7 @@ impl Elaborated {
     ghost use Rattle.scrib_types.specs.GlobalView.{global_of};
     ghost use Rattle.scrib_static_checks.specs.Elaboration.{nodes, height};
     ghost use Rattle.scrib_elaborate.specs.Sound.{is_sound};
-    ghost use Rattle.scrib_elaborate.specs.Meaning.{meaning_of, sites_of};
+    ghost use Rattle.scrib_elaborate.specs.Meaning.{elaborated_meaning, sites_of};
 
     /// Returns the protocol of these roles and this type, which has `nodes` nodes, at most 65,536, and at most 4,096 of
     /// them on a path. `sites` are those of the type's communications with several branches, in post-order.
@@ -51,7 +51,7 @@ impl Elaborated {
         requires small { count ≤ 65536 }
         requires short { height (global_of global) ≤ 4096 }
         requires sound { IsTrue (is_sound roles (global_of global)) }
-        ensures meaning { meaning_of result ≡ record { roles = roles; global = global_of global } }
+        ensures meaning { elaborated_meaning result ≡ record { roles = roles; global = global_of global } }
         ensures sites { sites_of result ≡ sites }
     {
         Elaborated {
@@ -64,23 +64,23 @@ impl Elaborated {
 
     /// Returns the roles, in the order in which they are declared.
     pub fn roles(&self) -> &[Role]
-        ensures roles { result.now ≡ (meaning_of self.now).roles }
-        ensures sound { IsTrue (is_sound (meaning_of self.now).roles (meaning_of self.now).global) }
+        ensures roles { result.now ≡ (elaborated_meaning self.now).roles }
+        ensures sound { IsTrue (is_sound (elaborated_meaning self.now).roles (elaborated_meaning self.now).global) }
     {
         self.roles.as_slice()
     }
 
     /// Returns the global type.
     pub fn global(&self) -> &GlobalType
-        ensures global { global_of result.now ≡ (meaning_of self.now).global }
-        ensures sound { IsTrue (is_sound (meaning_of self.now).roles (meaning_of self.now).global) }
+        ensures global { global_of result.now ≡ (elaborated_meaning self.now).global }
+        ensures sound { IsTrue (is_sound (elaborated_meaning self.now).roles (elaborated_meaning self.now).global) }
     {
         &self.global
     }
 
     /// Returns the number of ends, variables, recursions and communications of the global type.
     pub fn nodes(&self) -> usize
-        ensures { result ≡ nodes (meaning_of self.now).global }
+        ensures { result ≡ nodes (elaborated_meaning self.now).global }
     {
         self.count
     }
@@ -95,7 +95,7 @@ impl Elaborated {
 
     /// Returns the roles and the global type.
     pub fn into_parts(self) -> (Items<Role>, GlobalType)
-        ensures parts { record { roles = result.0; global = global_of result.1 } ≡ meaning_of self }
+        ensures parts { record { roles = result.0; global = global_of result.1 } ≡ elaborated_meaning self }
         ensures small { nodes (global_of result.1) ≤ 65536 }
         ensures short { height (global_of result.1) ≤ 4096 }
     {

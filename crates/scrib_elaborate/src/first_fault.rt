@@ -19,12 +19,12 @@ ghost use Rattle.scrib_elaborate.specs.Typing.{IsTable, TypingFails, IsAhead, Is
 
 use crate::exits::has_exit;
 use crate::scope::Scope;
-use crate::tasks::{ElaborationContext, Task};
+use crate::tasks::{CallStatement, ElaborationContext, Task};
 use crate::typing::{callee, perform_tasks};
 use scrib_parser::tree::{Block, Statement};
 use scrib_static_checks::size::continues_in;
 use scrib_type_builder::build_error::{BuildError, Refused};
-use scrib_types::name::{Dotted, Name, Role};
+use scrib_types::name::Name;
 use std::alloc::Global;
 
 /// Returns the fault that is first in the order of the text, where a run returned `found` and left these tasks. The
@@ -32,7 +32,6 @@ use std::alloc::Global;
 /// path through each block. It builds each block without an exit on the way in isolation. If that fails, its fault is
 /// an earlier one, and the walk goes on in what precedes that one.
 pub fn first_fault<'a>(
-    alloc: Global,
     context: &ElaborationContext<'a, '_>,
     left: Vec<Task<'a>>,
     found: BuildError<'a>,
@@ -44,7 +43,7 @@ pub fn first_fault<'a>(
 {
     let mut ahead = left;
     ahead.reverse();
-    let mut entered = Vec::new(alloc);
+    let mut entered = Vec::new(context.alloc);
     let mut reported = found;
     // Memory ends long before this many tasks.
     for _ in 0..u64::MAX {
@@ -54,7 +53,7 @@ pub fn first_fault<'a>(
         let Some(task) = ahead.pop() else {
             return reported;
         };
-        if let Err(earlier) = visit_task(alloc, context, &mut ahead, &mut entered, task) {
+        if let Err(earlier) = visit_task(context, &mut ahead, &mut entered, task) {
             reported = earlier;
         }
     }
@@ -63,7 +62,6 @@ pub fn first_fault<'a>(
 
 // Walks through the first statement of a task: first what is inside it, and then the statements after it.
 fn visit_task<'a>(
-    alloc: Global,
     context: &ElaborationContext<'a, '_>,
     ahead: &mut Vec<Task<'a>>,
     entered: &mut Vec<usize>,
@@ -83,15 +81,14 @@ fn visit_task<'a>(
         return Ok(());
     };
     if !rest.is_empty() {
-        let again = scope.copy(alloc)?;
+        let again = scope.copy(context.alloc)?;
         ahead.push(Task::Front(again, rest))?;
     }
-    visit_statement(alloc, context, ahead, entered, scope, first)
+    visit_statement(context, ahead, entered, scope, first)
 }
 
 // Walks into a statement.
 fn visit_statement<'a>(
-    alloc: Global,
     context: &ElaborationContext<'a, '_>,
     ahead: &mut Vec<Task<'a>>,
     entered: &mut Vec<usize>,
@@ -109,10 +106,10 @@ fn visit_statement<'a>(
     match statement {
         Statement::Message { .. } => Ok(()),
         Statement::Choice { branches, .. } => {
-            visit_choice(alloc, context, ahead, &scope, branches.as_slice())
+            visit_choice(context, ahead, &scope, branches.as_slice())
         }
         Statement::Rec { name, body, .. } => {
-            enter(alloc, ahead, scope, name, body.as_slice())?;
+            enter(context.alloc, ahead, scope, name, body.as_slice())?;
             Ok(())
         }
         // The walk reaches a `continue` only after a statement without an exit, which ends it.
@@ -122,15 +119,11 @@ fn visit_statement<'a>(
             roles,
             ..
         } => {
-            visit_call(
-                alloc,
-                context,
-                ahead,
-                entered,
-                &scope,
-                protocol,
-                roles.as_slice(),
-            )?;
+            let call = CallStatement {
+                path: protocol,
+                roles: roles.as_slice(),
+            };
+            visit_call(context, ahead, entered, &scope, call)?;
             Ok(())
         }
     }
@@ -138,7 +131,6 @@ fn visit_statement<'a>(
 
 // Tries the blocks of a choice before the first one with an exit, and walks into that one.
 fn visit_choice<'a>(
-    alloc: Global,
     context: &ElaborationContext<'a, '_>,
     ahead: &mut Vec<Task<'a>>,
     scope: &Scope<'a>,
@@ -155,19 +147,18 @@ fn visit_choice<'a>(
 {
     for branch in branches {
         let body = branch.body.as_slice();
-        let inside = scope.copy(alloc)?;
+        let inside = scope.copy(context.alloc)?;
         if has_exit(context, scope.within.home, body) {
             ahead.push(Task::Front(inside, body))?;
             return Ok(());
         }
-        try_alone(alloc, context, ahead, inside, body)?;
+        try_alone(context, ahead, inside, body)?;
     }
     Ok(())
 }
 
 // Builds a block without an exit in isolation. If that fails, the tasks are those in front of its fault.
 fn try_alone<'a>(
-    alloc: Global,
     context: &ElaborationContext<'a, '_>,
     ahead: &mut Vec<Task<'a>>,
     scope: Scope<'a>,
@@ -180,9 +171,9 @@ fn try_alone<'a>(
         → Stays context.now.modules.now scope.entry.within.home.now (body_of body.now)
         → IfErr result (StopsAhead context.now.modules.now root ahead.new.items) }
 {
-    let mut tasks = Vec::new(alloc);
+    let mut tasks = Vec::new(context.alloc);
     tasks.push(Task::Front(scope, body))?;
-    match perform_tasks(alloc, context, &mut tasks) {
+    match perform_tasks(context, &mut tasks) {
         Ok(_) => Ok(()),
         Err(fault) => {
             tasks.reverse();
@@ -217,21 +208,20 @@ fn enter<'a>(
 
 // Walks into a called protocol, once: its blocks without an exit have the same types at each call.
 fn visit_call<'a>(
-    alloc: Global,
     context: &ElaborationContext<'a, '_>,
     ahead: &mut Vec<Task<'a>>,
     entered: &mut Vec<usize>,
     scope: &Scope<'a>,
-    path: &'a Dotted,
-    roles: &'a [Role],
+    call: CallStatement<'a>,
 ) -> Result<(), Refused>
     requires { IsTable context.now }
     ensures { (root : Declaration) (spot : Spot) (rest : Body)
         → IsAhead context.now.modules.now root (scope_of scope.now) scope.now.depth
-        (Then (Calls path.now roles.now spot) rest)
+        (Then (Calls call.entry.path.now call.entry.roles.now spot) rest)
         → AreAhead context.now.modules.now root ahead.old.items
         → IfOk result (λ _. AreAhead context.now.modules.now root ahead.new.items) }
 {
+    let CallStatement { path, roles } = call;
     let Some(callee) = callee(context, scope.within.home, path) else {
         return Ok(());
     };
@@ -239,7 +229,7 @@ fn visit_call<'a>(
         return Ok(());
     }
     entered.push(callee.place)?;
-    let inside = scope.inside_call(alloc, callee.declared, roles)?;
+    let inside = scope.inside_call(context.alloc, callee.declared, roles)?;
     ahead.push(Task::Front(inside, callee.declared.protocol.body.as_slice()))?;
     Ok(())
 }

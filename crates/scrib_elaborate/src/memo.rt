@@ -7,14 +7,11 @@ ghost use Rattle.scrib_static_checks.specs.Walking.{IsIdle};
 ghost use Rattle.scrib_static_checks.specs.Statements.{KeepsRules};
 ghost use Rattle.scrib_static_checks.specs.Elaboration.{start_of};
 ghost use Rattle.scrib_static_checks.specs.Table.{shown, declaration_of};
-ghost use Rattle.scrib_elaborate.specs.Typing.{made_of, Makes, IsMemo, IsEmptyMemo, IsAloneAt, IsTable, IsTabled, TypingFails};
+ghost use Rattle.scrib_elaborate.specs.Typing.{made_of, FramesMake, IsMemo, IsEmptyMemo, IsAloneAt, IsTable, IsTabled, TypingFails};
 
 use crate::tasks::ElaborationContext;
 use crate::typing::{type_alone, type_of_root};
-use scrib_parser::tree::ModuleTree;
-use scrib_static_checks::checking::State;
-use scrib_static_checks::declared::Declaration;
-use scrib_static_checks::protocol_index::ProtocolIndex;
+use scrib_static_checks::checking::{State, SymbolTable};
 use scrib_type_builder::build_error::{BuildError, Refused};
 use scrib_type_builder::built_type::BuiltType;
 use std::alloc::{AllocError, Global};
@@ -44,27 +41,17 @@ pub fn empty_memo<'a>(alloc: Global, count: usize) -> Result<Vec<Option<BuiltTyp
 /// `Refused` where memory was refused.
 pub fn memoize<'a>(
     alloc: Global,
-    modules: &'a [ModuleTree],
-    declared: &[Declaration<'a>],
-    protocol_index: &ProtocolIndex,
+    table: &SymbolTable<'a, '_>,
     states: &[State],
     places: &[usize],
     memo: &mut Vec<Option<BuiltType<'a>>>,
 ) -> Result<(), Refused>
-    requires { IsTabled modules.now declared.now protocol_index.now.slots.items states.now memo.old.items }
-    ensures { IsMemo modules.now (shown declared.now) memo.new.items }
+    requires { IsTabled table.now.modules.now table.now.declared.now table.now.protocol_index.now.slots.items states.now
+        memo.old.items }
+    ensures { IsMemo table.now.modules.now (shown table.now.declared.now) memo.new.items }
 {
     for place in places {
-        let Some(typed) = alone(
-            alloc,
-            modules,
-            declared,
-            protocol_index,
-            states,
-            &*memo,
-            *place,
-        )?
-        else {
+        let Some(typed) = alone(alloc, table, states, &*memo, *place)? else {
             return Ok(());
         };
         if *place < memo.len() {
@@ -77,16 +64,21 @@ pub fn memoize<'a>(
 // Returns the type of the protocol at this index in isolation, if it has one of at most 4,096 nodes.
 fn alone<'a>(
     alloc: Global,
-    modules: &'a [ModuleTree],
-    declared: &[Declaration<'a>],
-    protocol_index: &ProtocolIndex,
+    table: &SymbolTable<'a, '_>,
     states: &[State],
     memo: &[Option<BuiltType<'a>>],
     place: usize,
 ) -> Result<Option<BuiltType<'a>>, Refused>
-    requires { IsTabled modules.now declared.now protocol_index.now.slots.items states.now memo.now }
-    ensures { IfOk result (λ o. IfSome o (λ t. IsAloneAt modules.now (shown declared.now) place (made_of t))) }
+    requires { IsTabled table.now.modules.now table.now.declared.now table.now.protocol_index.now.slots.items states.now
+        memo.now }
+    ensures { IfOk result
+        (λ o. IfSome o (λ t. IsAloneAt table.now.modules.now (shown table.now.declared.now) place (made_of t))) }
 {
+    let SymbolTable {
+        modules,
+        declared,
+        protocol_index,
+    } = *table;
     let Some(root) = declared.get(place) else {
         return Ok(None);
     };
@@ -97,14 +89,15 @@ fn alone<'a>(
         return Ok(None);
     }
     let context = ElaborationContext {
+        alloc,
         modules,
-        declared,
-        protocol_index,
+        declared: &*declared,
+        protocol_index: &*protocol_index,
         states,
         memo,
         root: *root,
     };
-    type_alone(alloc, &context)
+    type_alone(&context)
 }
 
 /// Removes the walk over the requested protocol, at index `place` and with `nodes` nodes. It does so if its type is
@@ -127,20 +120,19 @@ pub fn remove_walk(states: &mut Vec<State>, memo: &[Option<BuiltType>], place: u
 /// # Errors
 /// Those of `type_of_root`.
 pub fn memoized_type<'a>(
-    alloc: Global,
     context: &ElaborationContext<'a, '_>,
     place: usize,
 ) -> Result<BuiltType<'a>, BuildError<'a>>
     requires table { IsTable context.now }
     requires there { slice_get (shown context.now.declared.now) place ≡ Some (declaration_of context.now.root) }
     requires kept { (e : Bool) × KeepsRules context.now.modules.now (declaration_of context.now.root) e }
-    ensures ok { IfOk result (λ t. Makes context.now.modules.now 0 (start_of (declaration_of context.now.root))
+    ensures ok { IfOk result (λ t. FramesMake context.now.modules.now 0 (start_of (declaration_of context.now.root))
         (made_of t)) }
     ensures fault { IfErr result (TypingFails context.now.modules.now (declaration_of context.now.root)) }
 {
     if let Some(Some(typed)) = context.memo.get(place) {
-        let typed = typed.copy(alloc)?;
+        let typed = typed.copy(context.alloc)?;
         return Ok(typed);
     }
-    type_of_root(alloc, context)
+    type_of_root(context)
 }

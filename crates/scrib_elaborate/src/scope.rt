@@ -5,7 +5,7 @@ ghost use Rattle.scrib_static_checks.specs.Names.{role_names};
 ghost use Rattle.scrib_static_checks.specs.Elaboration.{role_in, level_of};
 ghost use Rattle.scrib_static_checks.specs.Table.{declaration_of};
 ghost use Rattle.scrib_type_builder.specs.Renaming.{named};
-ghost use Rattle.scrib_elaborate.specs.Scope.{scope_of, levels_of, IsStart, IsSame, IsInside, IsInsideCall};
+ghost use Rattle.scrib_elaborate.specs.Scope.{scope_of, levels_of, IsStart, IsSameScope, IsInsideRecursion, IsInsideCall};
 
 use scrib_parser::tree::RoleDeclaration;
 use scrib_static_checks::declared::Declaration;
@@ -53,7 +53,7 @@ impl<'a> Scope<'a> {
     /// # Errors
     /// `AllocError` where memory was refused.
     pub fn copy(&self, alloc: Global) -> Result<Scope<'a>, AllocError>
-        ensures { IfOk result (IsSame self.now) }
+        ensures { IfOk result (IsSameScope self.now) }
     {
         let given = Vec::from_slice(alloc, &self.given)?;
         let recs = Vec::from_slice(alloc, &self.recs)?;
@@ -70,7 +70,7 @@ impl<'a> Scope<'a> {
     /// # Errors
     /// `Refused` where memory was refused.
     pub fn inside(&self, alloc: Global, name: &'a Name) -> Result<Scope<'a>, Refused>
-        ensures { IfOk result (IsInside self.now name.now) }
+        ensures { IfOk result (IsInsideRecursion self.now name.now) }
     {
         let given = Vec::from_slice(alloc, &self.given)?;
         let recs = one_more(alloc, &self.recs, name, self.depth)?;

@@ -16,12 +16,14 @@ ghost use Rattle.scrib_static_checks.specs.Table.{shown, declaration_of};
 ghost use Rattle.scrib_static_checks.specs.CallEffect.{IsEffectOf};
 ghost use Rattle.scrib_elaborate.specs.Scope.{scope_of};
 ghost use Rattle.scrib_type_builder.specs.BuiltType.{type_of, add_no_origins};
-ghost use Rattle.scrib_elaborate.specs.Typing.{Target, whole_target, made_of, nothing_made, Makes, PassesOn, IsBefore, IsState, IsTable, IsVariable, TypingFails, StopsAhead};
+ghost use Rattle.scrib_elaborate.specs.Typing.{Target, whole_target, made_of, nothing_made, FramesMake, PassesOn, IsTypedRest, IsState, IsTable, IsVariable, TypingFails, StopsAhead};
 
 use crate::choices::{choose, join};
 use crate::first_fault::first_fault;
 use crate::scope::Scope;
-use crate::tasks::{Callee, ElaborationContext, Task};
+use crate::tasks::{
+    CallSite, Callee, ChoiceStatement, ElaborationContext, MessageStatement, RecStatement, Task,
+};
 use scrib_parser::tree::{ModuleTree, Statement};
 use scrib_static_checks::block_effects::effect_at;
 use scrib_static_checks::declared::{Declaration, looked_in};
@@ -30,8 +32,7 @@ use scrib_static_checks::size::continues_in;
 use scrib_type_builder::build_error::{BuildError, Refused};
 use scrib_type_builder::built_type::{BuiltType, Origin};
 use scrib_types::global::GlobalType;
-use scrib_types::name::{Dotted, Name, Role};
-use scrib_types::shared_message::SharedMessage;
+use scrib_types::name::{Dotted, Name};
 use scrib_types::spot::Spot;
 use std::alloc::{AllocError, Global};
 
@@ -39,17 +40,16 @@ use std::alloc::{AllocError, Global};
 fn prefix_messages<'a>(
     alloc: Global,
     scope: &Scope<'a>,
-    message: &SharedMessage,
-    from: &'a Role,
-    to: &'a [Role],
+    statement: MessageStatement<'a>,
     typed: BuiltType<'a>,
 ) -> Result<BuiltType<'a>, AllocError>
     ensures global { IfOk result (λ t. type_of t
-        ≡ prefix_message message.now (role_in (scope_of scope.now) from.now) (map (role_in (scope_of scope.now)) to.now)
-        (type_of typed.entry)) }
+        ≡ prefix_message statement.entry.message.now (role_in (scope_of scope.now) statement.entry.from.now)
+        (map (role_in (scope_of scope.now)) statement.entry.to.now) (type_of typed.entry)) }
     ensures origins { IfOk result (λ t. t.origins.items
-        ≡ add_no_origins (map (role_in (scope_of scope.now)) to.now) typed.entry.origins.items) }
+        ≡ add_no_origins (map (role_in (scope_of scope.now)) statement.entry.to.now) typed.entry.origins.items) }
 {
+    let MessageStatement { message, from, to } = statement;
     let sender = scope.role(from);
     let mut typed = typed;
     for i in (0..to.len()).rev() {
@@ -64,16 +64,15 @@ fn begin_recursion<'a>(
     alloc: Global,
     tasks: &mut Vec<Task<'a>>,
     scope: Scope<'a>,
-    name: &'a Name,
-    body: &'a [Statement],
-    spot: Spot,
+    statement: RecStatement<'a>,
     typed: BuiltType<'a>,
 ) -> Result<BuiltType<'a>, Refused>
     ensures { (modules : List ModuleTree) (target : Target)
-        → IsBefore modules target (reverse tasks.old.items) (scope_of scope.entry) scope.entry.depth
-        (Repeats name.now (body_of body.now) spot) (made_of typed.entry)
+        → IsTypedRest modules target (reverse tasks.old.items) (scope_of scope.entry) scope.entry.depth
+        (Repeats statement.entry.name.now (body_of statement.entry.body.now) statement.entry.spot) (made_of typed.entry)
         → IfOk result (λ t. IsState modules target (reverse tasks.new.items) (made_of t)) }
 {
+    let RecStatement { name, body, spot } = statement;
     if continues_in(name, body) {
         let inside = scope.inside(alloc, name)?;
         let follows = deeper(alloc, scope.depth, typed)?;
@@ -101,35 +100,40 @@ fn deeper<'a>(alloc: Global, depth: u32, typed: BuiltType<'a>) -> Result<BuiltTy
 // Enters a called protocol, where what follows the call has this type. It does not enter one that leaves the type
 // unchanged, or whose type is in the memo and that nothing follows.
 fn call<'a>(
-    alloc: Global,
     context: &ElaborationContext<'a, '_>,
     tasks: &mut Vec<Task<'a>>,
     scope: &Scope<'a>,
-    callee: Callee<'a>,
-    roles: &'a [Role],
+    call: CallSite<'a>,
     typed: BuiltType<'a>,
 ) -> Result<BuiltType<'a>, Refused>
     requires { IsTable context.now }
     ensures { (target : Target) (e : Bool) (path : List (List ℕ)) (spot : Spot)
         → KeepsRules context.now.modules.now target.root e
-        → called context.now.modules.now scope.now.within.home.now path ≡ Some (declaration_of callee.entry.declared)
-        → slice_get (shown context.now.declared.now) callee.entry.place ≡ Some (declaration_of callee.entry.declared)
-        → IsEffectOf context.now.modules.now (declaration_of callee.entry.declared) callee.entry.effect
-        → IsBefore context.now.modules.now target (reverse tasks.old.items) (scope_of scope.now) scope.now.depth
-        (Calls path roles.now spot) (made_of typed.entry)
+        → called context.now.modules.now scope.now.within.home.now path
+        ≡ Some (declaration_of call.entry.callee.declared)
+        → slice_get (shown context.now.declared.now) call.entry.callee.place
+        ≡ Some (declaration_of call.entry.callee.declared)
+        → IsEffectOf context.now.modules.now (declaration_of call.entry.callee.declared) call.entry.callee.effect
+        → IsTypedRest context.now.modules.now target (reverse tasks.old.items) (scope_of scope.now) scope.now.depth
+        (Calls path call.entry.roles.now spot) (made_of typed.entry)
         → IfOk result (λ t. IsState context.now.modules.now target (reverse tasks.new.items) (made_of t)) }
 {
+    let CallSite { callee, roles } = call;
     let Callee {
         declared,
         effect,
         place,
     } = callee;
-    let inside = scope.inside_call(alloc, declared, roles)?;
+    let inside = scope.inside_call(context.alloc, declared, roles)?;
     if effect.passes(&inside.given, &typed.global) {
         return Ok(passed(context.declared, effect, typed));
     }
     if let Some(alone) = memoized_alone(context, place, &typed.global) {
-        let copied = alone.renamed(alloc, declared.protocol.roles.as_slice(), &inside.given)?;
+        let copied = alone.renamed(
+            context.alloc,
+            declared.protocol.roles.as_slice(),
+            &inside.given,
+        )?;
         return Ok(copied);
     }
     tasks.push(Task::Front(inside, declared.protocol.body.as_slice()))?;
@@ -183,7 +187,6 @@ fn close<'a>(
 
 // Puts a statement in front of what has this type, or pushes the tasks for that.
 fn prepend<'a>(
-    alloc: Global,
     context: &ElaborationContext<'a, '_>,
     tasks: &mut Vec<Task<'a>>,
     scope: Scope<'a>,
@@ -192,7 +195,7 @@ fn prepend<'a>(
 ) -> Result<BuiltType<'a>, BuildError<'a>>
     requires { IsTable context.now }
     ensures { (target : Target) (e : Bool) → KeepsRules context.now.modules.now target.root e
-        → IsBefore context.now.modules.now target (reverse tasks.old.items) (scope_of scope.entry) scope.entry.depth
+        → IsTypedRest context.now.modules.now target (reverse tasks.old.items) (scope_of scope.entry) scope.entry.depth
         (statement_of statement.now) (made_of typed.entry)
         → MatchResult result (λ t. IsState context.now.modules.now target (reverse tasks.new.items) (made_of t))
         (StopsAhead context.now.modules.now target.root tasks.new.items) }
@@ -204,23 +207,29 @@ fn prepend<'a>(
             to,
             ..
         } => {
-            let longer = prefix_messages(alloc, &scope, message, from, to.as_slice(), typed)?;
+            let to = to.as_slice();
+            let sent = MessageStatement { message, from, to };
+            let longer = prefix_messages(context.alloc, &scope, sent, typed)?;
             Ok(longer)
         }
-        Statement::Choice { at, branches, spot } => choose(
-            alloc,
-            tasks,
-            scope,
-            at,
-            branches.as_slice(),
-            *spot,
-            typed,
-        ),
+        Statement::Choice { at, branches, spot } => {
+            let choice = ChoiceStatement {
+                chooser: at,
+                branches: branches.as_slice(),
+                spot: *spot,
+            };
+            choose(context.alloc, tasks, scope, choice, typed)
+        }
         Statement::Rec { name, body, spot } => {
-            let begun = begin_recursion(alloc, tasks, scope, name, body.as_slice(), *spot, typed)?;
+            let recursion = RecStatement {
+                name,
+                body: body.as_slice(),
+                spot: *spot,
+            };
+            let begun = begin_recursion(context.alloc, tasks, scope, recursion, typed)?;
             Ok(begun)
         }
-        Statement::Continue { name, .. } => Ok(continued_variable(alloc, &scope, name)),
+        Statement::Continue { name, .. } => Ok(continued_variable(context.alloc, &scope, name)),
         Statement::Do {
             protocol,
             roles,
@@ -230,15 +239,11 @@ fn prepend<'a>(
                 // Not reached: the first pass found it.
                 return Ok(typed);
             };
-            let entered = call(
-                alloc,
-                context,
-                tasks,
-                &scope,
+            let called = CallSite {
                 callee,
-                roles.as_slice(),
-                typed,
-            )?;
+                roles: roles.as_slice(),
+            };
+            let entered = call(context, tasks, &scope, called, typed)?;
             Ok(entered)
         }
     }
@@ -284,7 +289,6 @@ pub fn callee<'a>(
 
 // Puts the last of these statements in front, or ends the task if none is left.
 fn front<'a>(
-    alloc: Global,
     context: &ElaborationContext<'a, '_>,
     tasks: &mut Vec<Task<'a>>,
     scope: Scope<'a>,
@@ -298,13 +302,13 @@ fn front<'a>(
         → MatchResult result (λ t. IsState context.now.modules.now target (reverse tasks.new.items) (made_of t))
         (StopsAhead context.now.modules.now target.root tasks.new.items) }
 {
-    let (typed, statements) = messages(alloc, &scope, statements, typed)?;
+    let (typed, statements) = messages(context.alloc, &scope, statements, typed)?;
     let Some((last, rest)) = statements.split_last() else {
         return Ok(typed);
     };
-    let again = scope.copy(alloc)?;
+    let again = scope.copy(context.alloc)?;
     tasks.push(Task::Front(again, rest))?;
-    prepend(alloc, context, tasks, scope, last, typed)
+    prepend(context, tasks, scope, last, typed)
 }
 
 // Puts the messages at the end of these statements in front of what has this type, and returns the statements before
@@ -332,7 +336,9 @@ fn messages<'a>(
         else {
             return Ok((typed, left));
         };
-        typed = prefix_messages(alloc, scope, message, from, to.as_slice(), typed)?;
+        let to = to.as_slice();
+        let sent = MessageStatement { message, from, to };
+        typed = prefix_messages(alloc, scope, sent, typed)?;
         left = rest;
     }
     Ok((typed, left))
@@ -340,7 +346,6 @@ fn messages<'a>(
 
 // Performs one task.
 fn step<'a>(
-    alloc: Global,
     context: &ElaborationContext<'a, '_>,
     tasks: &mut Vec<Task<'a>>,
     task: Task<'a>,
@@ -353,9 +358,9 @@ fn step<'a>(
         (StopsAhead context.now.modules.now target.root tasks.new.items) }
 {
     match task {
-        Task::Front(scope, statements) => { front(alloc, context, tasks, scope, statements, typed) }
-        Task::Join(choosing) => join(alloc, tasks, choosing, typed),
-        Task::Close(home, spot) => close(alloc, home, spot, typed),
+        Task::Front(scope, statements) => { front(context, tasks, scope, statements, typed) }
+        Task::Join(choosing) => join(context.alloc, tasks, choosing, typed),
+        Task::Close(home, spot) => close(context.alloc, home, spot, typed),
     }
 }
 
@@ -366,23 +371,22 @@ fn step<'a>(
 /// `Broken` with the first rule on types that is broken, from the last statement on, its module and its position. The
 /// tasks that are left contain the statements in front of it. `OutOfMemory` where memory was refused.
 pub fn perform_tasks<'a>(
-    alloc: Global,
     context: &ElaborationContext<'a, '_>,
     tasks: &mut Vec<Task<'a>>,
 ) -> Result<BuiltType<'a>, BuildError<'a>>
     requires { IsTable context.now }
     ensures { (target : Target) (e : Bool) → KeepsRules context.now.modules.now target.root e
         → IsState context.now.modules.now target (reverse tasks.old.items) nothing_made
-        → MatchResult result (λ t. Makes context.now.modules.now target.depth target.frames (made_of t))
+        → MatchResult result (λ t. FramesMake context.now.modules.now target.depth target.frames (made_of t))
         (StopsAhead context.now.modules.now target.root tasks.new.items) }
 {
-    let mut typed = BuiltType::end(alloc);
+    let mut typed = BuiltType::end(context.alloc);
     // Memory ends long before this many tasks.
     for _ in 0..u64::MAX {
         let Some(task) = tasks.pop() else {
             return Ok(typed);
         };
-        typed = step(alloc, context, tasks, task, typed)?;
+        typed = step(context, tasks, task, typed)?;
     }
     Err(BuildError::OutOfMemory)
 }
@@ -394,19 +398,18 @@ pub fn perform_tasks<'a>(
 /// `Broken` with the rule on types that is broken, its module and its position. Of several it is the first in the order
 /// of the text. `OutOfMemory` where memory was refused.
 pub fn type_of_root<'a>(
-    alloc: Global,
     context: &ElaborationContext<'a, '_>,
 ) -> Result<BuiltType<'a>, BuildError<'a>>
     requires table { IsTable context.now }
     requires kept { (e : Bool) × KeepsRules context.now.modules.now (declaration_of context.now.root) e }
-    ensures ok { IfOk result (λ t. Makes context.now.modules.now 0 (start_of (declaration_of context.now.root))
+    ensures ok { IfOk result (λ t. FramesMake context.now.modules.now 0 (start_of (declaration_of context.now.root))
         (made_of t)) }
     ensures fault { IfErr result (TypingFails context.now.modules.now (declaration_of context.now.root)) }
 {
-    let mut tasks = first_task(alloc, context.root)?;
-    match perform_tasks(alloc, context, &mut tasks) {
+    let mut tasks = first_task(context.alloc, context.root)?;
+    match perform_tasks(context, &mut tasks) {
         Ok(typed) => Ok(typed),
-        Err(found) => Err(first_fault(alloc, context, tasks, found)),
+        Err(found) => Err(first_fault(context, tasks, found)),
     }
 }
 
@@ -415,17 +418,16 @@ pub fn type_of_root<'a>(
 /// # Errors
 /// `Refused` where memory was refused.
 pub fn type_alone<'a>(
-    alloc: Global,
     context: &ElaborationContext<'a, '_>,
 ) -> Result<Option<BuiltType<'a>>, Refused>
     requires table { IsTable context.now }
     requires kept { (e : Bool) × KeepsRules context.now.modules.now (declaration_of context.now.root) e }
     ensures { IfOk result
-        (λ o. IfSome o (λ t. Makes context.now.modules.now 0 (start_of (declaration_of context.now.root))
+        (λ o. IfSome o (λ t. FramesMake context.now.modules.now 0 (start_of (declaration_of context.now.root))
         (made_of t))) }
 {
-    let mut tasks = first_task(alloc, context.root)?;
-    match perform_tasks(alloc, context, &mut tasks) {
+    let mut tasks = first_task(context.alloc, context.root)?;
+    match perform_tasks(context, &mut tasks) {
         Ok(typed) => Ok(Some(typed)),
         Err(BuildError::Broken(..)) => Ok(None),
         Err(BuildError::OutOfMemory) => Err(Refused),

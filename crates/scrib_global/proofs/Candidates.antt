@@ -8,8 +8,7 @@ use Rattle.scrib_types.specs.declared.event.Action.TheVariants.{Join, Sends, Rec
 use Rattle.scrib_types.specs.declared.event.Event.{Event}
 use Rattle.scrib_types.specs.declared.event.Event.TheVariants.{Sent, Received}
 use Rattle.scrib_types.specs.Trees.{GlobalTree, LocalTree, LocalEnd, LocalVar, LocalRec, Send, Recv, LocalBranches, NoChoice, Choice}
-use Rattle.scrib_types.specs.declared.profile.Profile.TheVariants.{Reception}
-use Rattle.scrib_types.specs.Projection.{projection}
+use Rattle.scrib_types.specs.Projection.{projection, widest}
 use Rattle.scrib_types.specs.WellFormed.{has_role}
 use Rattle.scrib_types.specs.Agreement.{Agreement}
 use Rattle.scrib_types.specs.Permitted.{IsPermitted}
@@ -111,7 +110,7 @@ all_last : {X : Type 0} (P : X → Type 0) (xs : List X) (y : X) → AllByRecurs
 all_last P [] y h = h.0
 all_last P (x ∷ xs) y h = all_last P xs y h.1
 
-own_last : (a : Agreement) (log : List Event) (e : Event) → is_action e ≡ true → IsPermitted a (log ++ e ∷ []) → Contains (Join ∷ named_by (projection Reception (subject_of e) a.global)) (action_of e)
+own_last : (a : Agreement) (log : List Event) (e : Event) → is_action e ≡ true → IsPermitted a (log ++ e ∷ []) → Contains (Join ∷ named_by (projection widest (subject_of e) a.global)) (action_of e)
 own_last a log e i p =
     let r = subject_of e in
     let d : has_role r a.roles ≡ true = all_last (λ x. has_role (subject_of x) a.roles ≡ true) log e p.declared in
@@ -119,20 +118,20 @@ own_last a log e i p =
     let last : own_actions r (e ∷ []) ≡ action_of e ∷ [] = own_yes r e [] i refl in
     let own : own_actions r (log ++ e ∷ []) ≡ own_actions r log ++ action_of e ∷ [] = own_end r log e ∙ ap (λ z. own_actions r log ++ z) last in
     let among : Among (action_of e) (named t.0) = trace_named (own_actions r log) t.0 (action_of e) (subst (IsTrace t.0) own t.2) in
-    Contains-append_right (Join ∷ []) (named_by (projection Reception r a.global)) (action_of e)
-    (contains_among (action_of e) (named_by (projection Reception r a.global)) (subst (λ o. Among (action_of e) (named_by o)) (sym t.1) among))
+    Contains-append_right (Join ∷ []) (named_by (projection widest r a.global)) (action_of e)
+    (contains_among (action_of e) (named_by (projection widest r a.global)) (subst (λ o. Among (action_of e) (named_by o)) (sym t.1) among))
 
-pub candidate : (a : Agreement) (log : List Event) (role : List ℕ) (act : Action) → IsPermitted a (log ++ event_of role act ∷ []) → Contains (Join ∷ named_by (projection Reception role a.global)) act
-candidate a log role Join p = contains_first Join (named_by (projection Reception role a.global))
+pub candidate : (a : Agreement) (log : List Event) (role : List ℕ) (act : Action) → IsPermitted a (log ++ event_of role act ∷ []) → Contains (Join ∷ named_by (projection widest role a.global)) act
+candidate a log role Join p = contains_first Join (named_by (projection widest role a.global))
 candidate a log role (Sends q m) p = own_last a log (Sent role q m) refl p
 candidate a log role (Receives q m) p = own_last a log (Received q role m) refl p
 
 -- those of the candidates that are permitted are all that is
-pub all_allowed : (a : Agreement) (log : List Event) (role : List ℕ) (acts list : List Action) (g : GlobalTree) → g ≡ a.global → acts ≡ Join ∷ named_by (projection Reception role g) → AllPairs ComesBefore list → ((act : Action) → Contains list act ↔ (Contains acts act × IsPermitted a (log ++ event_of role act ∷ []))) → AreAllowed a log role list
+pub all_allowed : (a : Agreement) (log : List Event) (role : List ℕ) (acts list : List Action) (g : GlobalTree) → g ≡ a.global → acts ≡ Join ∷ named_by (projection widest role g) → AllPairs ComesBefore list → ((act : Action) → Contains list act ↔ (Contains acts act × IsPermitted a (log ++ event_of role act ∷ []))) → AreAllowed a log role list
 all_allowed a log role acts list g same is sorted exact = record {
   sorted = sorted;
   exact = λ act. (
     λ h. ((exact act).0 h).1,
-    λ p. (exact act).1 (subst (λ z. Contains z act) (ap (λ x. Join ∷ named_by (projection Reception role x)) (sym same) ∙ sym is) (candidate a log role act p), p),
+    λ p. (exact act).1 (subst (λ z. Contains z act) (ap (λ x. Join ∷ named_by (projection widest role x)) (sym same) ∙ sym is) (candidate a log role act p), p),
   );
 }

@@ -7,7 +7,7 @@ use Rattle.scrib_types.specs.declared.event.Event.TheVariants.{Sent, Received}
 use Rattle.scrib_types.specs.Trees.{GlobalTree, GlobalEnd, GlobalVar, GlobalRec, Comm, Flight, GlobalBranches, NoBranch, Branch, LocalTree, LocalEnd, LocalVar, LocalRec, Send, Recv, LocalBranches}
 use Rattle.scrib_types.specs.Traces.{Offers, LocalTransition}
 use Rattle.scrib_types.specs.Traces as local
-use Rattle.scrib_global.specs.Transitions.{unfolding_of, IsBranch, first, later, Transition, sends, receives, unfolds, beneath, beside, EachTransition, none, each, BranchTransition, here, there}
+use Rattle.scrib_global.specs.Transitions.{global_unfolding, IsBranch, first, later, Transition, sends, receives, unfolds, beneath, beside, EachTransition, none, each, BranchTransition, here, there}
 use Rattle.scrib_global.proofs.Names.{which}
 use Rattle.scrib_global.proofs.Substitution.{Closed, ClosedAll, closed_unfolding, NonEmpty, Sound, SoundAll, sound_unfolding}
 use Rattle.scrib_global.proofs.ProjectionLemmas.{Projects, p_end, p_var, p_send, p_recv, p_other, p_idle, p_rec, ProjectMerged, merged_none, merged_one, project_unfolding}
@@ -97,7 +97,7 @@ mutual
   recs_from r t m y ih (p_idle c' a) w s c = absurd (rec_no_end y (wider_as w))
   recs_from r t m y ih (p_rec {g} {l} h p) w s c =
       let e = same_rec y l (wider_as w) in
-      let z = ih (unfolding_of g) (subst (λ x. Projects (unfolding_of g) r (local.unfolding_of x)) (sym e) (project_unfolding r g l c h p)) (sound_unfolding g s) (closed_unfolding g c) in
+      let z = ih (global_unfolding g) (subst (λ x. Projects (global_unfolding g) r (local.unfolding_of x)) (sym e) (project_unfolding r g l c h p)) (sound_unfolding g s) (closed_unfolding g c) in
       (z.0, unfolds z.1)
 
   recs_from_merged : (r q : List ℕ) (m : Message) (y : LocalTree) → Unfolded r q m y → {bs : GlobalBranches} {j x : LocalTree} → ProjectMerged bs r j x → Wider (LocalRec y) x → SoundAll bs → ClosedAll bs 0 → (cs : GlobalBranches) × EachTransition bs (Sent r q m) cs

@@ -5,7 +5,7 @@ use Rattle.scrib_types.specs.declared.event.Event.{Event}
 use Rattle.scrib_types.specs.declared.event.Event.TheVariants.{Join, Sent, Received}
 use Rattle.scrib_types.specs.Trees.{GlobalTree, GlobalEnd, GlobalVar, GlobalRec, Comm, Flight, GlobalBranches, NoBranch, Branch}
 use Rattle.scrib_types.specs.Logs.{subject_of}
-use Rattle.scrib_global.specs.Transitions.{unfolding_of, IsBranch, first, later, Transition, sends, receives, unfolds, beneath, beside, EachTransition, none, each, BranchTransition, here, there}
+use Rattle.scrib_global.specs.Transitions.{global_unfolding, IsBranch, first, later, Transition, sends, receives, unfolds, beneath, beside, EachTransition, none, each, BranchTransition, here, there}
 use Rattle.scrib_global.proofs.Names.{NotPair, pair_cases}
 use Rattle.scrib_global.proofs.Substitution.{Closed, ClosedAll, closed_unfolding, NonEmpty, Sound, SoundAll, sound_unfolding}
 use Rattle.scrib_global.proofs.TransitionLemmas.{some_moved}
@@ -39,10 +39,10 @@ mutual
   carries_start_all NoBranch s c a b = tt
   carries_start_all (Branch m g bs) s c a b = (carries_start g s.0 c.0 a b, carries_start_all bs s.1 c.1 a b)
 
-carries_unfolding : (g : GlobalTree) (a b : List ℕ) (w : List Message) → Carries (GlobalRec g) a b w → Carries (unfolding_of g) a b w
+carries_unfolding : (g : GlobalTree) (a b : List ℕ) (w : List Message) → Carries (GlobalRec g) a b w → Carries (global_unfolding g) a b w
 carries_unfolding g a b w c =
-    subst (λ v. Carries (unfolding_of g) a b v) (sym c.0)
-    (carries_start (unfolding_of g) (sound_unfolding g c.2) (closed_unfolding g c.1) a b)
+    subst (λ v. Carries (global_unfolding g) a b v) (sym c.0)
+    (carries_start (global_unfolding g) (sound_unfolding g c.2) (closed_unfolding g c.1) a b)
 
 -- the effect of an event on the messages from a to b
 abbrev pub Effect : Event → List ℕ → List ℕ → List Message → List Message → Type 0

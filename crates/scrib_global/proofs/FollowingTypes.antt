@@ -5,7 +5,7 @@ use Rattle.scrib_types.specs.declared.event.Action.{Action}
 use Rattle.scrib_types.specs.declared.event.Action.TheVariants.{Sends, Receives}
 use Rattle.scrib_types.specs.Trees.{GlobalTree, GlobalEnd, GlobalVar, GlobalRec, Comm, Flight, GlobalBranches, NoBranch, Branch, LocalTree, LocalEnd, LocalRec, Send, Recv, LocalBranches}
 use Rattle.scrib_types.specs.Traces.{Offers, LocalTransition, sends, receives}
-use Rattle.scrib_global.specs.Transitions.{unfolding_of}
+use Rattle.scrib_global.specs.Transitions.{global_unfolding}
 use Rattle.scrib_global.proofs.Substitution.{Closed, ClosedAll, closed_unfolding, NonEmpty, Lack, Distinct, Sound, SoundAll, sound_unfolding}
 use Rattle.scrib_global.proofs.ProjectionLemmas.{Projects, p_end, p_var, p_send, p_recv, p_other, p_idle, p_rec, ProjectEach, each_none, each_one, ProjectMerged, merged_none, merged_one, project_unfolding_idle, project_unfolding}
 use Rattle.scrib_global.proofs.WiderTypes.{wider_trans, second_wider, merged_wider, wider_alike, alike_trans}
@@ -111,12 +111,12 @@ mutual
   follows_merged r (merged_one p m pm) s c l al =
       (follows_project r p s.0 c.0 l (alike_trans al (wider_alike (wider_trans (merged_wider pm) (second_wider m)))), follows_merged r pm s.1 c.1 l al)
 
-follows_begun : (r : List ℕ) (g : GlobalTree) {x : LocalTree} → Projects (GlobalRec g) r x → Closed (GlobalRec g) 0 → Sound g → (l : LocalTree) → Alike l x → Follows (unfolding_of g) r l
+follows_begun : (r : List ℕ) (g : GlobalTree) {x : LocalTree} → Projects (GlobalRec g) r x → Closed (GlobalRec g) 0 → Sound g → (l : LocalTree) → Alike l x → Follows (global_unfolding g) r l
 follows_begun r g (p_idle c' a) c s l al =
     follows_project r (project_unfolding_idle r g s c a) (sound_unfolding g s) (closed_unfolding g c) l al
 follows_begun r g (p_rec {l = y} h p) c s l al =
     follows_project r (project_unfolding r g y c h p) (sound_unfolding g s) (closed_unfolding g c) l (alike_unroll al)
 
 -- a type that follows a recursion follows its unfolding
-pub follows_unfolding : (r : List ℕ) (g : GlobalTree) (l : LocalTree) → FollowsRec g r l → Follows (unfolding_of g) r l
+pub follows_unfolding : (r : List ℕ) (g : GlobalTree) (l : LocalTree) → FollowsRec g r l → Follows (global_unfolding g) r l
 follows_unfolding r g l f = follows_begun r g f.projects f.closed f.sound l f.like

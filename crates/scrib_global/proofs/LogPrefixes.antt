@@ -10,7 +10,7 @@ use Rattle.scrib_types.specs.declared.event.Event.{Event}
 use Rattle.scrib_types.specs.declared.event.Event.TheVariants.{Join, Sent, Received}
 use Rattle.scrib_types.specs.Logs.{action_of, is_action_of, own_actions, IsJoined, AllJoined}
 use Rattle.scrib_types.specs.Queues.{sent_message, received_message, sent, received, IsPrefix, IsQueued}
-use Rattle.scrib_global.specs.Due.{IsDue}
+use Rattle.scrib_global.specs.Due.{IsSentFirst}
 use Rattle.scrib_global.proofs.Names.{pair_cases}
 use Rattle.scrib_global.proofs.Events.{split_cases, received_no}
 
@@ -112,7 +112,7 @@ queued_none [] after eq p q = ([], refl)
 queued_none (x ∷ xs) after eq p q = absurd (cc)
 
 -- one event more keeps the order of each pair's messages
-still_prefix : (log : List Event) (e : Event) → IsDue (log ++ e ∷ []) e → (p q : List ℕ) → IsPrefix (received p q log) (sent p q log) → IsPrefix (received p q (log ++ e ∷ [])) (sent p q (log ++ e ∷ []))
+still_prefix : (log : List Event) (e : Event) → IsSentFirst (log ++ e ∷ []) e → (p q : List ℕ) → IsPrefix (received p q log) (sent p q log) → IsPrefix (received p q (log ++ e ∷ [])) (sent p q (log ++ e ∷ []))
 still_prefix log (Join r) due p q h =
     rw (filter_map-append (received_message p q) log (Join r ∷ []), filter_map-append (sent_message p q) log (Join r ∷ []), append-nil (received p q log)) (prefix_grown (received p q log) (sent p q log) [] h)
 still_prefix log (Sent s t m) due p q h =
@@ -124,7 +124,7 @@ still_prefix log (Received s t m) due p q h = elim (pair_cases p s q t) [
       rw (filter_map-append (received_message p q) log (Received s t m ∷ []), filter_map-append (sent_message p q) log (Received s t m ∷ []), received_no p q t s m [] n, append-nil (received p q log)) (prefix_grown (received p q log) (sent p q log) [] h)
 ]
 
-queued_end : (log : List Event) (e : Event) → IsQueued log → IsDue (log ++ e ∷ []) e → IsQueued (log ++ e ∷ [])
+queued_end : (log : List Event) (e : Event) → IsQueued log → IsSentFirst (log ++ e ∷ []) e → IsQueued (log ++ e ∷ [])
 queued_end log e h due before after eq p q =
     elim (front_cases log before after e eq) [
       | inl i ↦ let P : List Event → Type 0 = λ b. IsPrefix (received p q b) (sent p q b) in
@@ -132,17 +132,17 @@ queued_end log e h due before after eq p q =
       | inr i ↦ h before i.0 i.1 p q
     ]
 
-pub queued_more : (log : List Event) (i : ℕ) (e : Event) → i < length log → e ≡ get_or log i e → IsQueued (take i log) → IsDue (take (i + 1) log) e → IsQueued (take (i + 1) log)
+pub queued_more : (log : List Event) (i : ℕ) (e : Event) → i < length log → e ≡ get_or log i e → IsQueued (take i log) → IsSentFirst (take (i + 1) log) e → IsQueued (take (i + 1) log)
 queued_more log i e n is h due =
     let more = one_more log i e n is in
-    subst IsQueued (sym more) (queued_end (take i log) e h (subst (λ z. IsDue z e) more due))
+    subst IsQueued (sym more) (queued_end (take i log) e h (subst (λ z. IsSentFirst z e) more due))
 
-due_here : (log : List Event) (e : Event) → ((p q : List ℕ) → IsPrefix (received p q log) (sent p q log)) → IsDue log e
+due_here : (log : List Event) (e : Event) → ((p q : List ℕ) → IsPrefix (received p q log) (sent p q log)) → IsSentFirst log e
 due_here log (Join r) h = tt
 due_here log (Sent p q m) h = tt
 due_here log (Received p q m) h = h p q
 
-pub due_at : (log : List Event) (i : ℕ) (e : Event) → IsQueued log → IsDue (take (i + 1) log) e
+pub due_at : (log : List Event) (i : ℕ) (e : Event) → IsQueued log → IsSentFirst (take (i + 1) log) e
 due_at log i e h = due_here (take (i + 1) log) e (λ p q. h (take (i + 1) log) (drop (i + 1) log) (sym (take-append-drop (i + 1) log)) p q)
 
 pub queued_all : (log : List Event) (i : ℕ) → length log ≤ i → IsQueued (take i log) → IsQueued log

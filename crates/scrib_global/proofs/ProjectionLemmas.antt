@@ -4,7 +4,7 @@ use Rattle.scrib_types.specs.declared.message.Message.{Message}
 use Rattle.scrib_types.specs.Trees.{GlobalTree, GlobalEnd, GlobalVar, GlobalRec, Comm, Flight, GlobalBranches, NoBranch, Branch, LocalTree, LocalEnd, LocalVar, LocalRec, Send, Recv, LocalBranches, NoChoice, Choice}
 use Rattle.scrib_types.specs.Traces as local
 use Rattle.scrib_types.specs.Merges.{Merges, merges_same, merges_substitute}
-use Rattle.scrib_global.specs.Transitions.{substitute, substitute_all, unfolding_of}
+use Rattle.scrib_global.specs.Transitions.{substitute, substitute_all, global_unfolding}
 use Rattle.scrib_global.proofs.Substitution.{Closed, ClosedAll, closed_more, closed_same, closed_unfolding, Absent, AbsentAll, absent_unfolding, same_substitute, Sound, SoundAll, sound_unfolding}
 
 mutual
@@ -70,9 +70,9 @@ mutual
   project_substitute_merged r t x pt h n (merged_one p m pm) = merged_one (project_substitute r t x pt h n p) (merges_substitute x n m) (project_substitute_merged r t x pt h n pm)
 
 -- the projection of a recursion's unfolding is the unfolded projection
-pub project_unfolding_idle : (r : List ℕ) (g : GlobalTree) → Sound g → Closed (GlobalRec g) 0 → Absent r g → Projects (unfolding_of g) r LocalEnd
+pub project_unfolding_idle : (r : List ℕ) (g : GlobalTree) → Sound g → Closed (GlobalRec g) 0 → Absent r g → Projects (global_unfolding g) r LocalEnd
 project_unfolding_idle r g s c a =
-    project_absent r (unfolding_of g) (sound_unfolding g s) (closed_unfolding g c) (absent_unfolding r g a)
+    project_absent r (global_unfolding g) (sound_unfolding g s) (closed_unfolding g c) (absent_unfolding r g a)
 
-pub project_unfolding : (r : List ℕ) (g : GlobalTree) (l : LocalTree) → Closed (GlobalRec g) 0 → (Closed (GlobalRec g) 0 → Absent r g → ⊥) → Projects g r l → Projects (unfolding_of g) r (local.unfolding_of l)
+pub project_unfolding : (r : List ℕ) (g : GlobalTree) (l : LocalTree) → Closed (GlobalRec g) 0 → (Closed (GlobalRec g) 0 → Absent r g → ⊥) → Projects g r l → Projects (global_unfolding g) r (local.unfolding_of l)
 project_unfolding r g l c h p = project_substitute r (GlobalRec g) (LocalRec l) (p_rec h p) (h c) 0 p

@@ -5,8 +5,7 @@ use Rattle.std.proofs.lemmas.Bool.{and_parts, and_from, true≢false, cases_Bool
 use Rattle.std.proofs.lemmas.Bool.Decides.{Decides-eqb}
 use Rattle.scrib_types.specs.declared.message.Message.{Message}
 use Rattle.scrib_types.specs.Trees.{GlobalTree, GlobalEnd, GlobalVar, GlobalRec, Comm, Flight, GlobalBranches, NoBranch, Branch, LocalTree, LocalEnd, LocalVar, LocalRec, Send, Recv, LocalBranches, NoChoice, Choice}
-use Rattle.scrib_types.specs.declared.profile.Profile.TheVariants.{Reception}
-use Rattle.scrib_types.specs.Projection.{open_depth, branches_open_depth, is_closed, occurs, branches_occur, merged_two, merged_with, merged, with_choice, seen_by, projection, branch_projections}
+use Rattle.scrib_types.specs.Projection.{open_depth, branches_open_depth, is_closed, occurs, branches_occur, merged_two, merged_with, merged, with_choice, seen_by, projection, branch_projections, widest}
 use Rattle.scrib_types.specs.WellFormed.{has_role, same_operator, has_operator, distinct_operators, has_branches, well_formed, branches_well_formed, projects, is_protocol}
 use Rattle.scrib_types.specs.Agreement.{Agreement}
 use Rattle.scrib_types.specs.Merges.{merges_of}
@@ -196,9 +195,9 @@ record Merging (p : Option LocalTree) (o : Option LocalBranches) (all : LocalTre
   rest : LocalBranches
   one : p ≡ Some l
   others : o ≡ Some rest
-  merging : merged_with Reception l rest ≡ Some all
+  merging : merged_with widest l rest ≡ Some all
 
-all_merging : (m : Message) (p : Option LocalTree) (o : Option LocalBranches) (all : LocalTree) → option_and_then (merged Reception) (with_choice m p o) ≡ Some all → Merging p o all
+all_merging : (m : Message) (p : Option LocalTree) (o : Option LocalBranches) (all : LocalTree) → option_and_then (merged widest) (with_choice m p o) ≡ Some all → Merging p o all
 all_merging m None o all h = absurd (cc)
 all_merging m (Some l) None all h = absurd (cc)
 all_merging m (Some l) (Some rest) all h = record { l = l; rest = rest; one = refl; others = refl; merging = h }
@@ -213,21 +212,21 @@ none_some x h = cc h
 some_same : {X : Type 0} (x y : X) → ◌≡◌ {A = Option X} (Some x) (Some y) → y ≡ x
 some_same x y h = cc
 
-rec_of : (r : List ℕ) (g : GlobalTree) (l : LocalTree) → ((y : LocalTree) → projection Reception r g ≡ Some y → Projects g r y) → (b : Bool) → (is_closed (GlobalRec g) && not (occurs r g)) ≡ b → (if b then Some LocalEnd else option_map LocalRec (projection Reception r g)) ≡ Some l → Projects (GlobalRec g) r l
+rec_of : (r : List ℕ) (g : GlobalTree) (l : LocalTree) → ((y : LocalTree) → projection widest r g ≡ Some y → Projects g r y) → (b : Bool) → (is_closed (GlobalRec g) && not (occurs r g)) ≡ b → (if b then Some LocalEnd else option_map LocalRec (projection widest r g)) ≡ Some l → Projects (GlobalRec g) r l
 rec_of r g l ih true e h =
     let y = and_parts (is_closed (GlobalRec g)) (not (occurs r g)) e in
     subst (Projects (GlobalRec g) r) (sym (some_same LocalEnd l h)) (p_idle (closed_of (GlobalRec g) y.0) (absent_of r g (not_from (occurs r g) y.1)))
 rec_of r g l ih false e h =
-    let y = mapped LocalRec (projection Reception r g) l h in
+    let y = mapped LocalRec (projection widest r g) l h in
     subst (Projects (GlobalRec g) r) (sym y.2)
     (p_rec (λ c a. true≢false (sym (and_from (is_closed (GlobalRec g)) (not (occurs r g)) (is_closed_of (GlobalRec g) c) (not_to (occurs r g) (occurs_not r g a))) ∙ e)) (ih y.0 y.1))
 
 -- two merged, and then the others
-merged_more : (bs : GlobalBranches) (r : List ℕ) (m : Message) (g : GlobalTree) (j k l : LocalTree) (ls : LocalBranches) (o : Option LocalTree) → merged_two Reception j k ≡ o → Projects g r k → ((i : LocalTree) → merged_with Reception i ls ≡ Some l → ProjectMerged bs r i l) → option_and_then (λ i. merged_with Reception i ls) o ≡ Some l → ProjectMerged (Branch m g bs) r j l
+merged_more : (bs : GlobalBranches) (r : List ℕ) (m : Message) (g : GlobalTree) (j k l : LocalTree) (ls : LocalBranches) (o : Option LocalTree) → merged_two widest j k ≡ o → Projects g r k → ((i : LocalTree) → merged_with widest i ls ≡ Some l → ProjectMerged bs r i l) → option_and_then (λ i. merged_with widest i ls) o ≡ Some l → ProjectMerged (Branch m g bs) r j l
 merged_more bs r m g j k l ls None two p more h = absurd (none_some l h)
 merged_more bs r m g j k l ls (Some i) two p more h = merged_one p (merges_of j k i two) (more i h)
 
-comm_of : (r p q : List ℕ) (bs : GlobalBranches) (l : LocalTree) (o : Option LocalBranches) → ((ls : LocalBranches) → o ≡ Some ls → ProjectEach bs r ls) → (r ≢ p → r ≢ q → option_and_then (merged Reception) o ≡ Some l → Projects (Comm p q bs) r l) → Dec (r ≡ p) → Dec (r ≡ q) → seen_by Reception r p q o ≡ Some l → Projects (Comm p q bs) r l
+comm_of : (r p q : List ℕ) (bs : GlobalBranches) (l : LocalTree) (o : Option LocalBranches) → ((ls : LocalBranches) → o ≡ Some ls → ProjectEach bs r ls) → (r ≢ p → r ≢ q → option_and_then (merged widest) o ≡ Some l → Projects (Comm p q bs) r l) → Dec (r ≡ p) → Dec (r ≡ q) → seen_by widest r p q o ≡ Some l → Projects (Comm p q bs) r l
 comm_of r p q bs l o each others (yes e) d h =
     let i : option_map (Send q) o ≡ Some l = rw (name_is r p e) at h in
     let y = mapped (Send q) o l i in
@@ -237,48 +236,48 @@ comm_of r p q bs l o each others (no n) (yes e) h =
     let y = mapped (Recv p) o l i in
     subst (Projects (Comm p q bs) r) (sym y.2) (p_recv e (each y.0 y.1))
 comm_of r p q bs l o each others (no n) (no n2) h =
-    let i : option_and_then (merged Reception) o ≡ Some l = rw (name_not r p n, name_not r q n2) at h in
+    let i : option_and_then (merged widest) o ≡ Some l = rw (name_not r p n, name_not r q n2) at h in
     others n n2 i
 
 mutual
-  pub projects_of : (r : List ℕ) (g : GlobalTree) (l : LocalTree) → projection Reception r g ≡ Some l → Projects g r l
+  pub projects_of : (r : List ℕ) (g : GlobalTree) (l : LocalTree) → projection widest r g ≡ Some l → Projects g r l
   projects_of r GlobalEnd l h = subst (Projects GlobalEnd r) (sym (some_same LocalEnd l h)) p_end
   projects_of r (GlobalVar k) l h = subst (Projects (GlobalVar k) r) (sym (some_same (LocalVar k) l h)) p_var
   projects_of r (GlobalRec g) l h = rec_of r g l (λ y e. projects_of r g y e) (is_closed (GlobalRec g) && not (occurs r g)) refl h
   projects_of r (Comm p q bs) l h =
-      comm_of r p q bs l (branch_projections Reception r bs) (λ ls e. each_of r bs ls e) (λ n n2 i. others_of r p q bs l n n2 i) (which r p) (which r q) h
+      comm_of r p q bs l (branch_projections widest r bs) (λ ls e. each_of r bs ls e) (λ n n2 i. others_of r p q bs l n n2 i) (which r p) (which r q) h
   projects_of r (Flight p q j bs) l h = absurd (none_some l h)
 
-  each_of : (r : List ℕ) (bs : GlobalBranches) (ls : LocalBranches) → branch_projections Reception r bs ≡ Some ls → ProjectEach bs r ls
+  each_of : (r : List ℕ) (bs : GlobalBranches) (ls : LocalBranches) → branch_projections widest r bs ≡ Some ls → ProjectEach bs r ls
   each_of r NoBranch ls h = subst (ProjectEach NoBranch r) (sym (some_same NoChoice ls h)) each_none
   each_of r (Branch m g bs) ls h =
-      let y = chosen m (projection Reception r g) (branch_projections Reception r bs) ls h in
+      let y = chosen m (projection widest r g) (branch_projections widest r bs) ls h in
       subst (ProjectEach (Branch m g bs) r) (sym y.is) (each_one (projects_of r g y.l y.one) (each_of r bs y.rest y.others))
 
-  others_of : (r p q : List ℕ) (bs : GlobalBranches) (l : LocalTree) → r ≢ p → r ≢ q → option_and_then (merged Reception) (branch_projections Reception r bs) ≡ Some l → Projects (Comm p q bs) r l
+  others_of : (r p q : List ℕ) (bs : GlobalBranches) (l : LocalTree) → r ≢ p → r ≢ q → option_and_then (merged widest) (branch_projections widest r bs) ≡ Some l → Projects (Comm p q bs) r l
   others_of r p q NoBranch l n n2 h = absurd (none_some l h)
   others_of r p q (Branch m g bs) l n n2 h =
-      let y = all_merging m (projection Reception r g) (branch_projections Reception r bs) l h in
+      let y = all_merging m (projection widest r g) (branch_projections widest r bs) l h in
       p_other n n2 (projects_of r g y.l y.one) (merged_of r bs y.l y.rest l y.others y.merging)
 
-  merged_of : (r : List ℕ) (bs : GlobalBranches) (j : LocalTree) (ls : LocalBranches) (l : LocalTree) → branch_projections Reception r bs ≡ Some ls → merged_with Reception j ls ≡ Some l → ProjectMerged bs r j l
+  merged_of : (r : List ℕ) (bs : GlobalBranches) (j : LocalTree) (ls : LocalBranches) (l : LocalTree) → branch_projections widest r bs ≡ Some ls → merged_with widest j ls ≡ Some l → ProjectMerged bs r j l
   merged_of r NoBranch j ls l h e =
-      let here : merged_with Reception j NoChoice ≡ Some l = ap (merged_with Reception j) (sym (some_same NoChoice ls h)) ∙ e in
+      let here : merged_with widest j NoChoice ≡ Some l = ap (merged_with widest j) (sym (some_same NoChoice ls h)) ∙ e in
       subst (ProjectMerged NoBranch r j) (sym (some_same j l here)) merged_none
   merged_of r (Branch m g bs) j ls l h e =
-      let y = chosen m (projection Reception r g) (branch_projections Reception r bs) ls h in
-      merged_more bs r m g j y.l l y.rest (merged_two Reception j y.l) refl (projects_of r g y.l y.one) (λ i f. merged_of r bs i y.rest l y.others f) (ap (merged_with Reception j) (sym y.is) ∙ e)
+      let y = chosen m (projection widest r g) (branch_projections widest r bs) ls h in
+      merged_more bs r m g j y.l l y.rest (merged_two widest j y.l) refl (projects_of r g y.l y.one) (λ i f. merged_of r bs i y.rest l y.others f) (ap (merged_with widest j) (sym y.is) ∙ e)
 
 -- a protocol's type
 pub record Tests (roles : List (List ℕ)) (g : GlobalTree) : Type 0 where
   pub closed : is_closed g ≡ true
   pub formed : well_formed roles g ≡ true
-  pub projected : projects Reception g roles ≡ true
+  pub projected : projects widest g roles ≡ true
 
 pub tests : (roles : List (List ℕ)) (g : GlobalTree) → is_protocol roles g ≡ true → Tests roles g
 unfolding is_protocol
 tests roles g h =
-    let a = and_parts _ (projects Reception g roles) h in
+    let a = and_parts _ (projects widest g roles) h in
     let b = and_parts _ (well_formed roles g) a.0 in
     let c = and_parts _ (is_closed g) b.0 in
     record { closed = c.1; formed = b.1; projected = a.1 }
@@ -287,12 +286,12 @@ some_of : {X : Type 0} (o : Option X) → is_some o ≡ true → (x : X) × (o �
 some_of None h = absurd (true≢false (sym h))
 some_of (Some x) h = (x, refl)
 
-projected_role : (g : GlobalTree) (roles : List (List ℕ)) (r : List ℕ) → projects Reception g roles ≡ true → has_role r roles ≡ true → (l : LocalTree) × (projection Reception r g ≡ Some l)
+projected_role : (g : GlobalTree) (roles : List (List ℕ)) (r : List ℕ) → projects widest g roles ≡ true → has_role r roles ≡ true → (l : LocalTree) × (projection widest r g ≡ Some l)
 projected_role g [] r h i = absurd (true≢false (sym i))
 projected_role g (s ∷ roles) r h i =
-    let y = and_parts (is_some (projection Reception s g)) (projects Reception g roles) h in
+    let y = and_parts (is_some (projection widest s g)) (projects widest g roles) h in
     elim (cases_Bool (bytes_eq r s)) [
-      | inl e ↦ some_of (projection Reception r g) (ap (λ x. is_some (projection Reception x g)) (same_name r s e) ∙ y.0)
+      | inl e ↦ some_of (projection widest r g) (ap (λ x. is_some (projection widest x g)) (same_name r s e) ∙ y.0)
       | inr n ↦ projected_role g roles r y.1 (sym (ap (λ b. b || has_role r roles) n) ∙ i)
     ]
 
@@ -301,7 +300,7 @@ pub record Given (a : Agreement) : Type 0 where
   pub closed : Closed a.global 0
   pub sound : Sound a.global
   pub strangers : (r : List ℕ) → has_role r a.roles ≡ false → Absent r a.global
-  pub projected : (r : List ℕ) → has_role r a.roles ≡ true → (l : LocalTree) × (projection Reception r a.global ≡ Some l)
+  pub projected : (r : List ℕ) → has_role r a.roles ≡ true → (l : LocalTree) × (projection widest r a.global ≡ Some l)
 
 pub given : (a : Agreement) → is_protocol a.roles a.global ≡ true → Given a
 given a h =

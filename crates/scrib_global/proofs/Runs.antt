@@ -6,8 +6,7 @@ use Rattle.scrib_types.specs.declared.event.Action.{Action}
 use Rattle.scrib_types.specs.declared.event.Event.{Event}
 use Rattle.scrib_types.specs.declared.event.Event.TheVariants.{Join, Sent, Received}
 use Rattle.scrib_types.specs.Trees.{GlobalTree, GlobalEnd, GlobalVar, GlobalRec, Comm, Flight, GlobalBranches, NoBranch, Branch, LocalTree, LocalEnd}
-use Rattle.scrib_types.specs.declared.profile.Profile.TheVariants.{Reception}
-use Rattle.scrib_types.specs.Projection.{projection}
+use Rattle.scrib_types.specs.Projection.{projection, widest}
 use Rattle.scrib_types.specs.WellFormed.{has_role, is_protocol}
 use Rattle.scrib_types.specs.Agreement.{Agreement}
 use Rattle.scrib_types.specs.Permitted.{IsPermitted}
@@ -42,7 +41,7 @@ run_as (goes {h = k} st rn) = (k, st, rn)
 start_out : (a : Agreement) → Given a → (r : List ℕ) → has_role r a.roles ≡ false → Follows a.global r LocalEnd
 start_out a f r n = follows_project r (project_absent r a.global f.sound f.closed (f.strangers r n)) f.sound f.closed LocalEnd (alike_refl LocalEnd)
 
-start_in : (a : Agreement) → Given a → (r : List ℕ) (l : LocalTree) → projection Reception r a.global ≡ Some l → Follows a.global r l
+start_in : (a : Agreement) → Given a → (r : List ℕ) (l : LocalTree) → projection widest r a.global ≡ Some l → Follows a.global r l
 start_in a f r l p = follows_project r (projects_of r a.global l p) f.sound f.closed l (alike_refl l)
 
 -- traces

@@ -3,7 +3,7 @@ use Rattle.std.proofs.Common.{◌≡◌, true, ℕ, List, [], ◌∷◌, ◌++�
 use Rattle.scrib_types.specs.declared.message.Message.{Message}
 use Rattle.scrib_types.specs.declared.global.GlobalType as global
 use Rattle.scrib_types.specs.declared.global.GlobalType.{GlobalType}
-use Rattle.scrib_types.specs.GlobalView.{global_of, global_branches, comm_of}
+use Rattle.scrib_types.specs.GlobalView.{global_of, global_branches, global_comm}
 use Rattle.scrib_types.specs.Trees.{GlobalTree, GlobalEnd, GlobalVar, GlobalRec, Comm, Branch, NoBranch, LocalEnd, Send, NoChoice, Choice}
 use Rattle.scrib_types.specs.Same.{same_local-refl}
 use Rattle.scrib_types.specs.WellFormed.{is_protocol}
@@ -16,7 +16,7 @@ sending p q operator then = Comm p q (Branch (says operator) then NoBranch)
 
 pub one_branch : (p q r s : List ℕ) (m n : Message) (g : GlobalType) (bs : List (Message × GlobalType)) → p ≡ r → q ≡ s → m ≡ n → bs ≡ (m, g) ∷ [] → global_of (global.Comm p q bs) ≡ Comm r s (Branch n (global_of g) NoBranch)
 one_branch p q r s m n g bs ep eq em eb =
-    comm_of p q bs ∙ ap (λ x. Comm p q (global_branches x)) eb
+    global_comm p q bs ∙ ap (λ x. Comm p q (global_branches x)) eb
     ∙ ap (λ x. Comm x q (Branch m (global_of g) NoBranch)) ep
     ∙ ap (λ x. Comm r x (Branch m (global_of g) NoBranch)) eq
     ∙ ap (λ x. Comm r s (Branch x (global_of g) NoBranch)) em
@@ -24,7 +24,7 @@ one_branch p q r s m n g bs ep eq em eb =
 pub two_branches : (p q r s : List ℕ) (m n m' n' : Message) (g h : GlobalType) (none one bs : List (Message × GlobalType)) (g' h' : GlobalTree) → p ≡ r → q ≡ s → m ≡ m' → n ≡ n' → none ≡ [] → one ≡ none ++ (m, g) ∷ [] → bs ≡ one ++ (n, h) ∷ [] → global_of g ≡ g' → global_of h ≡ h' → global_of (global.Comm p q bs) ≡ Comm r s (Branch m' g' (Branch n' h' NoBranch))
 two_branches p q r s m n m' n' g h none one bs g' h' ep eq em en e0 e1 e2 eg eh =
     let all : bs ≡ (m, g) ∷ (n, h) ∷ [] = e2 ∙ ap (λ (x : List (Message × GlobalType)). x ++ (n, h) ∷ []) (e1 ∙ ap (λ (x : List (Message × GlobalType)). x ++ (m, g) ∷ []) e0) in
-    comm_of p q bs ∙ ap (λ x. Comm p q (global_branches x)) all
+    global_comm p q bs ∙ ap (λ x. Comm p q (global_branches x)) all
     ∙ ap (λ x. Comm x q (Branch m (global_of g) (Branch n (global_of h) NoBranch))) ep
     ∙ ap (λ x. Comm r x (Branch m (global_of g) (Branch n (global_of h) NoBranch))) eq
     ∙ ap (λ x. Comm r s (Branch x (global_of g) (Branch n (global_of h) NoBranch))) em

@@ -4,7 +4,7 @@ use Rattle.std.proofs.lemmas.Bool.{true≢false}
 use Rattle.std.proofs.lemmas.Bool.Decides.{Decides-eqb}
 use Rattle.scrib_types.specs.declared.message.Message.{Message}
 use Rattle.scrib_types.specs.Trees.{GlobalTree, GlobalEnd, GlobalVar, GlobalRec, Comm, Flight, GlobalBranches, NoBranch, Branch}
-use Rattle.scrib_global.specs.Transitions.{substitute, substitute_all, unfolding_of}
+use Rattle.scrib_global.specs.Transitions.{substitute, substitute_all, global_unfolding}
 
 -- n recursions round it bind all its variables
 abbrev mutual
@@ -171,11 +171,11 @@ mutual
   sound_substitute_all t st (Branch m g bs) n s = (sound_substitute t st g n s.0, sound_substitute_all t st bs n s.1)
 
 -- the unfolding of a closed recursion
-pub closed_unfolding : (g : GlobalTree) → Closed (GlobalRec g) 0 → Closed (unfolding_of g) 0
+pub closed_unfolding : (g : GlobalTree) → Closed (GlobalRec g) 0 → Closed (global_unfolding g) 0
 closed_unfolding g c = closed_substitute (GlobalRec g) c g 0 c
 
-pub sound_unfolding : (g : GlobalTree) → Sound g → Sound (unfolding_of g)
+pub sound_unfolding : (g : GlobalTree) → Sound g → Sound (global_unfolding g)
 sound_unfolding g s = sound_substitute (GlobalRec g) s g 0 s
 
-pub absent_unfolding : (r : List ℕ) (g : GlobalTree) → Absent r g → Absent r (unfolding_of g)
+pub absent_unfolding : (r : List ℕ) (g : GlobalTree) → Absent r g → Absent r (global_unfolding g)
 absent_unfolding r g a = absent_substitute r (GlobalRec g) a g 0 a

@@ -6,7 +6,7 @@ use Rattle.scrib_types.specs.declared.event.Event.TheVariants.{Join, Sent, Recei
 use Rattle.scrib_types.specs.Queues.{sent, received, IsPrefix}
 
 -- where the event is a reception, what was received between the two roles is a prefix of what was sent
-abbrev pub IsDue : List Event → Event → Type 0
-IsDue log (Join r) = Unit {0}
-IsDue log (Sent p q m) = Unit {0}
-IsDue log (Received p q m) = IsPrefix (received p q log) (sent p q log)
+abbrev pub IsSentFirst : List Event → Event → Type 0
+IsSentFirst log (Join r) = Unit {0}
+IsSentFirst log (Sent p q m) = Unit {0}
+IsSentFirst log (Received p q m) = IsPrefix (received p q log) (sent p q log)

@@ -6,8 +6,7 @@ use Rattle.scrib_types.specs.declared.event.Action.TheVariants.{Receives}
 use Rattle.scrib_types.specs.declared.event.Event.{Event}
 use Rattle.scrib_types.specs.declared.event.Event.TheVariants.{Received}
 use Rattle.scrib_types.specs.Trees.{GlobalTree, LocalTree}
-use Rattle.scrib_types.specs.declared.profile.Profile.TheVariants.{Reception}
-use Rattle.scrib_types.specs.Projection.{projection}
+use Rattle.scrib_types.specs.Projection.{projection, widest}
 use Rattle.scrib_types.specs.Agreement.{Agreement}
 use Rattle.scrib_types.specs.Permitted.{IsPermitted}
 use Rattle.scrib_types.specs.Traces.{LocalTransition}
@@ -35,7 +34,7 @@ Leads l (a ∷ w) k = (j : LocalTree) × LocalTransition l a j × Leads j w k
 pub record Awaits (a : Agreement) (log : List Event) (p q : List ℕ) : Type 0 where
   pub joined : has_joined q log ≡ true
   pub start : LocalTree
-  pub projected : projection Reception q a.global ≡ Some start
+  pub projected : projection widest q a.global ≡ Some start
   pub now : LocalTree
   pub leads : Leads start (own_actions q log) now
   pub message : Message

@@ -22,8 +22,8 @@ abbrev mutual
   substitute_all t (Branch m g bs) n = Branch m (substitute t g n) (substitute_all t bs n)
 
 -- the unfolding of a recursion with this body
-abbrev pub unfolding_of : GlobalTree → GlobalTree
-unfolding_of body = substitute (GlobalRec body) body 0
+abbrev pub global_unfolding : GlobalTree → GlobalTree
+global_unfolding body = substitute (GlobalRec body) body 0
 
 -- the j-th branch, from 0, has the message and continues as this
 pub data IsBranch : GlobalBranches → ℕ → Message → GlobalTree → Type 0 where
@@ -41,7 +41,7 @@ mutual
     receives : {p q : List ℕ} {j : ℕ} {m : Message} {g : GlobalTree} {bs : GlobalBranches} → IsBranch bs j m g
         → Transition (Flight p q j bs) (Received p q m) g
     -- a recursion has the transitions of its unfolding
-    unfolds : {e : Event} {body h : GlobalTree} → Transition (unfolding_of body) e h → Transition (GlobalRec body) e h
+    unfolds : {e : Event} {body h : GlobalTree} → Transition (global_unfolding body) e h → Transition (GlobalRec body) e h
     -- a role that is neither sender nor receiver may act beneath a communication, in every branch
     beneath : {p q : List ℕ} {e : Event} {bs cs : GlobalBranches} → subject_of e ≢ p → subject_of e ≢ q
         → EachTransition bs e cs → Transition (Comm p q bs) e (Comm p q cs)

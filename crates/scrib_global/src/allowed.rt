@@ -5,8 +5,7 @@ ghost use Rattle.scrib_types.specs.GlobalView.{global_of};
 ghost use Rattle.scrib_types.specs.LocalView.{local_of, local_branches};
 ghost use Rattle.scrib_types.specs.Meaning.{agreement_of};
 ghost use Rattle.scrib_types.specs.Permitted.{IsPermitted};
-ghost use Rattle.scrib_types.specs.declared.profile.Profile.TheVariants.{Reception};
-ghost use Rattle.scrib_types.specs.Projection.{projection};
+ghost use Rattle.scrib_types.specs.Projection.{projection, widest};
 ghost use Rattle.scrib_types.specs.Logs.{event_of};
 ghost use Rattle.scrib_types.specs.Judgement.{AreAllowed, ComesBefore};
 ghost use Rattle.scrib_types.specs.declared.event.Action.{Action};
@@ -28,6 +27,14 @@ use scrib_types::shared_event::SharedEvent;
 use scrib_types::shared_message::SharedMessage;
 use std::alloc::{AllocError, Global};
 
+// A role of a protocol, after a log.
+#[derive(Clone, Copy, Drop)]
+struct RoleAfterLog<'a> {
+    protocol: &'a Protocol,
+    log: &'a [SharedEvent],
+    role: &'a Role,
+}
+
 /// Exactly the actions that the role may make after the log, sorted by their printed text, none twice.
 ///
 /// # Errors
@@ -41,9 +48,14 @@ pub fn allowed(
     ensures { IfOk result (AreAllowed (agreement_of protocol.now) before.now role.now) }
 {
     let candidates = candidates(alloc, protocol.global(), role)?;
+    let at = RoleAfterLog {
+        protocol,
+        log: before,
+        role,
+    };
     let mut list = Vec::new(alloc);
     for action in candidates {
-        add_allowed(alloc, protocol, before, role, action, &mut list)?;
+        add_allowed(alloc, &at, action, &mut list)?;
     }
     Ok(Items::from_vec(list))
 }
@@ -51,18 +63,17 @@ pub fn allowed(
 // Inserts the action into the sorted list, where the role may make it after the log.
 fn add_allowed(
     alloc: Global,
-    protocol: &Protocol,
-    before: &[SharedEvent],
-    role: &Role,
+    at: &RoleAfterLog,
     action: Action,
     list: &mut Vec<Action>,
 ) -> Result<(), AllocError>
     requires { AllPairs ComesBefore list.old.items }
     ensures sorted { OnOk result (AllPairs ComesBefore list.new.items) }
     ensures kept { OnOk result ((a : Action) → Contains list.new.items a ↔ (Contains list.old.items a
-        ⊎ ((action ≡ a) × IsPermitted (agreement_of protocol.now) (before.now ++ event_of role.now action ∷ [])))) }
+        ⊎ ((action ≡ a) × IsPermitted (agreement_of at.now.protocol.now)
+        (at.now.log.now ++ event_of at.now.role.now action ∷ [])))) }
 {
-    if may_follow(alloc, protocol, before, role, &action)? {
+    if may_follow(alloc, at, &action)? {
         insert(alloc, list, action)
     } else {
         Ok(())
@@ -70,19 +81,14 @@ fn add_allowed(
 }
 
 // Whether the log followed by this action of the role is permitted.
-fn may_follow(
-    alloc: Global,
-    protocol: &Protocol,
-    before: &[SharedEvent],
-    role: &Role,
-    action: &Action,
-) -> Result<bool, AllocError>
+fn may_follow(alloc: Global, at: &RoleAfterLog, action: &Action) -> Result<bool, AllocError>
     ensures { IfOk result (λ may.
-        IsTrue may ↔ IsPermitted (agreement_of protocol.now) (before.now ++ event_of role.now action.now ∷ [])) }
+        IsTrue may ↔ IsPermitted (agreement_of at.now.protocol.now)
+        (at.now.log.now ++ event_of at.now.role.now action.now ∷ [])) }
 {
-    let mut log = copies(alloc, before)?;
-    log.push(event_of(alloc, role, action)?)?;
-    is_permitted(alloc, protocol, &log)
+    let mut log = copies(alloc, at.log)?;
+    log.push(event_of(alloc, at.role, action)?)?;
+    is_permitted(alloc, at.protocol, &log)
 }
 
 // A copy of the log.
@@ -99,7 +105,7 @@ fn copies(alloc: Global, log: &[SharedEvent]) -> Result<Vec<SharedEvent>, AllocE
 // The join, and each send and reception in the role's projection. The role is allowed no other action.
 fn candidates(alloc: Global, global: &GlobalType, role: &Role) -> Result<Vec<Action>, AllocError>
     ensures { IfOk result (λ list. list.items ≡ act.Join
-        ∷ spec.named_by (projection Reception role.now (global_of global.now))) }
+        ∷ spec.named_by (projection widest role.now (global_of global.now))) }
 {
     let mut list = Vec::new(alloc);
     list.push(Action::Join)?;

@@ -1,10 +1,10 @@
 //! Laws of every protocol.
 
 ghost use Rattle.std.specs.Prelude.{◌≡◌, Some};
-ghost use Rattle.scrib_types.specs.declared.profile.Profile.TheVariants.{Plain, Reception};
+ghost use Rattle.scrib_types.specs.declared.profile.Profile.TheVariants.{Plain};
 ghost use Rattle.scrib_types.specs.Trees.{LocalTree};
 ghost use Rattle.scrib_types.specs.GlobalView.{global_of};
-ghost use Rattle.scrib_types.specs.Projection.{projection};
+ghost use Rattle.scrib_types.specs.Projection.{projection, widest};
 ghost use Rattle.scrib_types.specs.Meaning.{agreement_of};
 ghost use Rattle.scrib_global.specs.Simulation.{Simulates};
 
@@ -23,5 +23,5 @@ pub fn permits_its_runs(protocol: &Protocol)
 /// A law: where the plain profile has a projection, the reception profile has the same one.
 pub fn keeps_plain_projections(global: &GlobalType, role: &Role)
     ensures { (l : LocalTree) → projection Plain role.now (global_of global.now) ≡ Some l
-        → projection Reception role.now (global_of global.now) ≡ Some l }
+        → projection widest role.now (global_of global.now) ≡ Some l }
 {}

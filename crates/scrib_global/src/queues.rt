@@ -2,7 +2,7 @@
 
 ghost use Rattle.std.specs.Prelude.{◌≡◌, ◌↔◌, IsTrue, IfOk};
 ghost use Rattle.scrib_types.specs.Queues as queue;
-ghost use Rattle.scrib_global.specs.Due.{IsDue};
+ghost use Rattle.scrib_global.specs.Due.{IsSentFirst};
 
 use scrib_types::event::Event;
 use scrib_types::name::Role;
@@ -90,7 +90,7 @@ pub fn received(
 }
 
 // Whether the two lists are the same.
-fn all_equal(a: &[SharedMessage], b: &[SharedMessage]) -> bool
+fn messages_equal(a: &[SharedMessage], b: &[SharedMessage]) -> bool
     ensures { IsTrue result ↔ (a.now ≡ b.now) }
 {
     if a.len() != b.len() {
@@ -108,13 +108,13 @@ fn all_equal(a: &[SharedMessage], b: &[SharedMessage]) -> bool
 fn is_prefix(a: &[SharedMessage], b: &[SharedMessage]) -> bool
     ensures { IsTrue result ↔ queue.IsPrefix a.now b.now }
 {
-    a.len() <= b.len() && all_equal(a, &b[..a.len()])
+    a.len() <= b.len() && messages_equal(a, &b[..a.len()])
 }
 
 // Whether the event is no reception, or the messages that were received between its roles are a prefix of those that
 // were sent.
 fn is_due(alloc: Global, log: &[SharedEvent], event: &SharedEvent) -> Result<bool, AllocError>
-    ensures { IfOk result (λ due. IsTrue due ↔ IsDue log.now event.now) }
+    ensures { IfOk result (λ due. IsTrue due ↔ IsSentFirst log.now event.now) }
 {
     match event.get() {
         Event::Received { from, to, .. } => {

@@ -11,7 +11,7 @@ use Rattle.scrib_lexer.specs.declared.token.TokenKind.TheVariants as kind
 use Rattle.scrib_lexer.specs.declared.token.TokenKind.{TokenKind}
 use Rattle.scrib_lexer.specs.Words.{is_space, in_line, ends_line, is_quote, is_quotable, quoted, keyword_of, begins_in_word}
 use Rattle.scrib_lexer.specs.Pieces.{has_close, IsElement, IsLongest, Piece, IsFront}
-use Rattle.scrib_lexer.specs.Steps.{mark_of}
+use Rattle.scrib_lexer.specs.Steps.{punctuation_of}
 use Rattle.scrib_lexer.proofs.Words.{keyword-name, named, name-letter, word_front, word_front-append}
 use Rattle.scrib_lexer.proofs.Quotes.{line_front, line_front-append, block_front, block_front-append, string_front, string_front-append}
 
@@ -104,15 +104,15 @@ read_comment (b ∷ bytes) = cond (b == 47) element.LineComment element.BlockCom
 unfoldable pub read_element : List ℕ → Element
 read_element [] = element.Space
 read_element (b ∷ bytes) =
-    cond (is_letter b) (element.Token (kind_of_word (keyword_of (b ∷ bytes)))) (cond (is_quote b) (element.Token kind.StringLiteral) (cond (b == 47) (read_comment bytes) (kind_of_mark (mark_of b))))
+    cond (is_letter b) (element.Token (kind_of_word (keyword_of (b ∷ bytes)))) (cond (is_quote b) (element.Token kind.StringLiteral) (cond (b == 47) (read_comment bytes) (kind_of_mark (punctuation_of b))))
 
 read_element-name : (word : List ℕ) (o : Option Keyword) → is_name word ≡ true → keyword_of word ≡ o → read_element word ≡ element.Token (kind_of_word o)
 unfolding read_element
 read_element-name [] o n e = absurd (false≢true n)
 read_element-name (b ∷ bytes) o n e =
-    ap (λ t. cond t (element.Token (kind_of_word (keyword_of (b ∷ bytes)))) (cond (is_quote b) (element.Token kind.StringLiteral) (cond (b == 47) (read_comment bytes) (kind_of_mark (mark_of b))))) (name-letter b bytes n) ∙ ap (λ x. element.Token (kind_of_word x)) e
+    ap (λ t. cond t (element.Token (kind_of_word (keyword_of (b ∷ bytes)))) (cond (is_quote b) (element.Token kind.StringLiteral) (cond (b == 47) (read_comment bytes) (kind_of_mark (punctuation_of b))))) (name-letter b bytes n) ∙ ap (λ x. element.Token (kind_of_word x)) e
 
-space-no_mark : (b : ℕ) → is_space b ≡ true → mark_of b ≡ None
+space-no_mark : (b : ℕ) → is_space b ≡ true → punctuation_of b ≡ None
 space-no_mark b h = grind (arith, nat_tests)
 
 read_element-space : (b : ℕ) → is_space b ≡ true → read_element (b ∷ []) ≡ element.Space

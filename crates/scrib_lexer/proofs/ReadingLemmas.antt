@@ -13,7 +13,7 @@ use Rattle.scrib_lexer.specs.declared.fault.LexFault.{LexFault}
 use Rattle.scrib_lexer.specs.Lexeme.{Lexeme, lexeme_of, lexemes_of}
 use Rattle.scrib_lexer.specs.Words.{in_line}
 use Rattle.scrib_lexer.specs.Pieces.{IsElement, IsLongest, Piece, IsFront, Pieces, bytes_of}
-use Rattle.scrib_lexer.specs.Tokens.{spot_after, token_at, tokens_of, IsTokens, FailsWith, FailsAt, LexFails, AtOnce, BeginsNothing, BeginsBadString, BeginsBad, BeginsOpenComment, BeginsOpenString, BeginsLongName}
+use Rattle.scrib_lexer.specs.Tokens.{spot_after, token_at, tokens_of, IsTokens, FailsWith, LexFailsAt, LexFails, AtOnce, BeginsNothing, BeginsBadString, BeginsBad, BeginsOpenComment, BeginsOpenString, BeginsLongName}
 use Rattle.scrib_lexer.specs.Steps.{IsFrontElement, IsFrontFault, IsWrongAt, spot_on, spot_past_all}
 use Rattle.scrib_lexer.proofs.Spots.{spot_after-past_all, spot_after-in_line, spot_on-zero}
 use Rattle.scrib_lexer.proofs.Quotes.{quotable-in_line, quotable-take}
@@ -96,7 +96,7 @@ some-comment n w = let e : [] ≡ 47 ∷ 42 ∷ w.0.0 = w.0.1 in cc e
 some-string : (n : ℕ) → AtOnce BeginsOpenString [] n → ⊥
 some-string n w = cc w.0.2
 
-pub is_faulty : (text : List ℕ) (e : LexFault) → e ≢ fault.OutOfMemory → e ≢ fault.TextTooLong → FailsAt text e → IsFaulty text e
+pub is_faulty : (text : List ℕ) (e : LexFault) → e ≢ fault.OutOfMemory → e ≢ fault.TextTooLong → LexFailsAt text e → IsFaulty text e
 is_faulty text fault.TextTooLong m l w = absurd (l refl)
 is_faulty text (fault.BadByte at) m l w = faulty text BeginsBad fault.BadByte at stuck-bad some-bad fault-bad w.1
 is_faulty text (fault.OpenComment at) m l w =
@@ -111,7 +111,7 @@ is_faulty text fault.OutOfMemory m l w = absurd (m refl)
 pub no_tokens : (text : List ℕ) (e : LexFault) (all : List Lexeme) → IsFaulty text e → IsTokens text all → ⊥
 no_tokens text e all f t = f.some (one_reading text f.ps t.1.0 f.rest [] f.pieces t.1.1 f.stuck stuck-nil).1
 
-pub fits : (text : List ℕ) (e : LexFault) → e ≢ fault.TextTooLong → FailsAt text e → length text ≤ 1048576
+pub fits : (text : List ℕ) (e : LexFault) → e ≢ fault.TextTooLong → LexFailsAt text e → length text ≤ 1048576
 fits text fault.TextTooLong n w = absurd (n refl)
 fits text (fault.BadByte at) n w = w.0
 fits text (fault.OpenComment at) n w = w.0
@@ -193,7 +193,7 @@ on_bad : (before rest : List ℕ) (n : ℕ) → BeginsBad rest n → spot_after 
 on_bad before rest n (inl w) = on_at_once BeginsNothing before rest n w
 on_bad before rest n (inr w) = on_bad_string before rest n w
 
-pub fault_here : (text : List ℕ) (i : ℕ) (done : List Lexeme) (here : Spot) (e : LexFault) → length text ≤ 1048576 → here ≡ spot_after (take i text) → IsRead text i done → IsFrontFault (drop i text) here e → FailsAt text e
+pub fault_here : (text : List ℕ) (i : ℕ) (done : List Lexeme) (here : Spot) (e : LexFault) → length text ≤ 1048576 → here ≡ spot_after (take i text) → IsRead text i done → IsFrontFault (drop i text) here e → LexFailsAt text e
 fault_here text i done here fault.TextTooLong l s h w = absurd w
 fault_here text i done here (fault.BadByte at) l s h w =
     (l, fails_here text i done BeginsBad here at s h (on_bad (take i text) (drop i text)) w)
@@ -216,7 +216,7 @@ placed text here fault.OutOfMemory w = absurd w
 
 -- ---- the clauses
 
-pub fails_as : (text : List ℕ) (e f : LexFault) → e ≢ fault.OutOfMemory → e ≢ fault.TextTooLong → FailsAt text e → f ≢ fault.OutOfMemory → FailsAt text f → f ≡ e
+pub fails_as : (text : List ℕ) (e f : LexFault) → e ≢ fault.OutOfMemory → e ≢ fault.TextTooLong → LexFailsAt text e → f ≢ fault.OutOfMemory → LexFailsAt text f → f ≡ e
 fails_as text e fault.TextTooLong m l v n w = absurd (omega (arith, w, fits text e l v))
 fails_as text e (fault.BadByte at) m l v n w =
     same_fault text e (fault.BadByte at) (is_faulty text e m l v) (is_faulty text (fault.BadByte at) n (λ x. cc x) w)
@@ -236,7 +236,7 @@ refused_as text (fault.OpenString at) f s = s
 refused_as text (fault.LongName at) f s = s
 refused_as text fault.OutOfMemory f s = tt
 
-pub too_long : (text : List ℕ) (f : LexFault) → 1048576 < length text → f ≢ fault.OutOfMemory → FailsAt text f → f ≡ fault.TextTooLong
+pub too_long : (text : List ℕ) (f : LexFault) → 1048576 < length text → f ≢ fault.OutOfMemory → LexFailsAt text f → f ≡ fault.TextTooLong
 too_long text fault.TextTooLong l n w = refl
 too_long text (fault.BadByte at) l n w = absurd (omega (arith, w.0))
 too_long text (fault.OpenComment at) l n w = absurd (omega (arith, w.0))
@@ -245,7 +245,7 @@ too_long text (fault.LongName at) l n w = absurd (omega (arith, w.0))
 too_long text fault.OutOfMemory l n w = absurd (n refl)
 
 -- a text with tokens has no fault
-pub no_fault : (text : List ℕ) (all : List Lexeme) (f : LexFault) → f ≢ fault.OutOfMemory → IsTokens text all → FailsAt text f → ⊥
+pub no_fault : (text : List ℕ) (all : List Lexeme) (f : LexFault) → f ≢ fault.OutOfMemory → IsTokens text all → LexFailsAt text f → ⊥
 no_fault text all fault.TextTooLong n t w = omega (arith, t.0, w)
 no_fault text all (fault.BadByte at) n t w = no_tokens text (fault.BadByte at) all (is_faulty text (fault.BadByte at) n (λ x. cc x) w) t
 no_fault text all (fault.OpenComment at) n t w = no_tokens text (fault.OpenComment at) all (is_faulty text (fault.OpenComment at) n (λ x. cc x) w) t

@@ -10,7 +10,7 @@ use Rattle.scrib_lexer.specs.declared.token.TokenKind.TheVariants as kind
 use Rattle.scrib_lexer.specs.declared.token.TokenKind.{TokenKind}
 use Rattle.scrib_lexer.specs.Words.{is_space, is_quote, in_line, ends_line, quoted, IsLexeme, begins_in_word}
 use Rattle.scrib_lexer.specs.Tokens.{begins_comment, BeginsNothing, BeginsOpenComment, BeginsOpenString, BeginsLongName, AtOnce, BeginsBad}
-use Rattle.scrib_lexer.specs.Steps.{IsFrontElement, IsWrongAt, spot_on, mark_of, close_in, quote_in}
+use Rattle.scrib_lexer.specs.Steps.{IsFrontElement, IsWrongAt, spot_on, punctuation_of, close_in, quote_in}
 use Rattle.scrib_lexer.proofs.Words.{keyword-name, name-letter}
 use Rattle.scrib_lexer.proofs.Spots.{spot_on-zero}
 use Rattle.scrib_lexer.proofs.Quotes.{IsClosed, close_in-some, close_in-none, IsQuoted, quote_in-some, quote_in-none}
@@ -39,10 +39,10 @@ word_fault text n here l within w e long = at_here BeginsLongName text here (lon
 
 -- ---- a byte with which nothing begins
 
-no_mark : (b : ℕ) (bytes : List ℕ) (c : ℕ) (k : TokenKind) → mark_of c ≡ Some k → mark_of b ≡ None → b ∷ bytes ≡ c ∷ [] → ⊥
+no_mark : (b : ℕ) (bytes : List ℕ) (c : ℕ) (k : TokenKind) → punctuation_of c ≡ Some k → punctuation_of b ≡ None → b ∷ bytes ≡ c ∷ [] → ⊥
 no_mark b bytes c k m n e =
     let same : b ≡ c = cc in
-    let q : Some k ≡ None = sym m ∙ ap mark_of (sym same) ∙ n in absurd (cc q)
+    let q : Some k ≡ None = sym m ∙ ap punctuation_of (sym same) ∙ n in absurd (cc q)
 
 no_name : (b : ℕ) (bytes : List ℕ) → is_letter b ≡ false → is_name (b ∷ bytes) ≡ true → ⊥
 no_name b bytes l n = false≢true (sym l ∙ name-letter b bytes n)
@@ -51,7 +51,7 @@ no_string : (b : ℕ) (bytes inner : List ℕ) → is_quote b ≡ false → b �
 no_string b bytes inner q e =
     let same : b ≡ 34 = cc in false≢true (sym q ∙ ap is_quote same)
 
-no_token : (b : ℕ) → is_letter b ≡ false → is_quote b ≡ false → mark_of b ≡ None → (k : TokenKind) (bytes : List ℕ) → IsLexeme k (b ∷ bytes) → ⊥
+no_token : (b : ℕ) → is_letter b ≡ false → is_quote b ≡ false → punctuation_of b ≡ None → (k : TokenKind) (bytes : List ℕ) → IsLexeme k (b ∷ bytes) → ⊥
 no_token b l q m kind.Name bytes h = no_name b bytes l h.0
 no_token b l q m (kind.Keyword k) bytes h = no_name b bytes l (keyword-name (b ∷ bytes) k h)
 no_token b l q m kind.StringLiteral bytes h = no_string b bytes h.0 q h.1
@@ -73,7 +73,7 @@ no_slash : (b : ℕ) (text : List ℕ) → (b ≡ 47 → ⊥) → begins_comment
 no_slash b [] n = refl
 no_slash b (c ∷ text) n = rw (ne_eqb b 47 n) refl
 
-pub byte_fault : (text : List ℕ) (here : Spot) → 0 < length text → is_space (get_or text 0 0) ≡ false → is_letter (get_or text 0 0) ≡ false → mark_of (get_or text 0 0) ≡ None → (get_or text 0 0 ≡ 34 → ⊥) → (get_or text 0 0 ≡ 47 → ⊥) → IsWrongAt BeginsBad text here here
+pub byte_fault : (text : List ℕ) (here : Spot) → 0 < length text → is_space (get_or text 0 0) ≡ false → is_letter (get_or text 0 0) ≡ false → punctuation_of (get_or text 0 0) ≡ None → (get_or text 0 0 ≡ 34 → ⊥) → (get_or text 0 0 ≡ 47 → ⊥) → IsWrongAt BeginsBad text here here
 byte_fault [] here some s l m q n = absurd (omega (arith, some))
 byte_fault (b ∷ text) here some s l m q n =
     bad_here (b ∷ text) here (s, no_slash b text n, no_token b l (ne_eqb b 34 q) m)

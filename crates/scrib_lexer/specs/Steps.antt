@@ -36,8 +36,8 @@ IsFrontFault text here (fault.LongName at) = IsWrongAt (AtOnce BeginsLongName) t
 IsFrontFault text here _ = ⊥
 
 -- the punctuation mark that a byte is
-abbrev pub mark_of : ℕ → Option TokenKind
-mark_of b =
+abbrev pub punctuation_of : ℕ → Option TokenKind
+punctuation_of b =
     if b == 59 then Some kind.Semicolon
     else (if b == 44 then Some kind.Comma
     else (if b == 46 then Some kind.Dot

@@ -95,13 +95,13 @@ FailsWith Wrong text at =
     × (at ≡ spot_after (bytes_of ps ++ take n rest))
 
 -- The fault of the text, and its place. Memory may be refused for any text that is not too long.
-abbrev pub FailsAt : List ℕ → LexFault → Type 0
-FailsAt text fault.TextTooLong = max_text_bytes < length text
-FailsAt text (fault.BadByte at) = (length text ≤ max_text_bytes) × FailsWith BeginsBad text at
-FailsAt text (fault.OpenComment at) = (length text ≤ max_text_bytes) × FailsWith (AtOnce BeginsOpenComment) text at
-FailsAt text (fault.OpenString at) = (length text ≤ max_text_bytes) × FailsWith (AtOnce BeginsOpenString) text at
-FailsAt text (fault.LongName at) = (length text ≤ max_text_bytes) × FailsWith (AtOnce BeginsLongName) text at
-FailsAt text fault.OutOfMemory = length text ≤ max_text_bytes
+abbrev pub LexFailsAt : List ℕ → LexFault → Type 0
+LexFailsAt text fault.TextTooLong = max_text_bytes < length text
+LexFailsAt text (fault.BadByte at) = (length text ≤ max_text_bytes) × FailsWith BeginsBad text at
+LexFailsAt text (fault.OpenComment at) = (length text ≤ max_text_bytes) × FailsWith (AtOnce BeginsOpenComment) text at
+LexFailsAt text (fault.OpenString at) = (length text ≤ max_text_bytes) × FailsWith (AtOnce BeginsOpenString) text at
+LexFailsAt text (fault.LongName at) = (length text ≤ max_text_bytes) × FailsWith (AtOnce BeginsLongName) text at
+LexFailsAt text fault.OutOfMemory = length text ≤ max_text_bytes
 
 -- the result is these tokens, unless memory was refused
 abbrev pub LexGives : Result (Vec Token Global) LexFault → List Lexeme → Type 0

@@ -5,11 +5,11 @@ ghost use Rattle.std.specs.List.{prefix_len};
 ghost use Rattle.scrib_types.specs.Names as names;
 ghost use Rattle.scrib_lexer.specs.declared.fault.LexFault.{LexFault};
 ghost use Rattle.scrib_lexer.specs.Lexeme.{Lexeme, lexemes_of};
-ghost use Rattle.scrib_lexer.specs.Tokens.{IsTokens, LexGives, LexFails, FailsAt};
+ghost use Rattle.scrib_lexer.specs.Tokens.{IsTokens, LexGives, LexFails, LexFailsAt};
 ghost use Rattle.scrib_lexer.specs.Words as words;
 ghost use Rattle.scrib_lexer.specs.Pieces as pieces;
 ghost use Rattle.scrib_lexer.specs.Pieces.{IsElement};
-ghost use Rattle.scrib_lexer.specs.Steps.{IsFrontElement, IsFrontFault, mark_of, close_in, quote_in, spot_in, spot_past, spot_past_all};
+ghost use Rattle.scrib_lexer.specs.Steps.{IsFrontElement, IsFrontFault, punctuation_of, close_in, quote_in, spot_in, spot_past, spot_past_all};
 
 use crate::fault::LexFault;
 use crate::token::{Element, Keyword, Token, TokenKind};
@@ -39,8 +39,8 @@ const BYTES_PER_TOKEN: usize = 3;
 pub fn lex<'a>(alloc: Global, text: &'a [u8]) -> Result<Vec<Token<'a>>, LexFault>
     ensures found { IfOk result (λ tokens. IsTokens text.now (lexemes_of tokens.items)) }
     ensures only { (ts : List Lexeme) → IsTokens text.now ts → LexGives result ts }
-    ensures fault { IfErr result (FailsAt text.now) }
-    ensures refused { (fault : LexFault) → fault ≢ LexFault.OutOfMemory → FailsAt text.now fault
+    ensures fault { IfErr result (LexFailsAt text.now) }
+    ensures refused { (fault : LexFault) → fault ≢ LexFault.OutOfMemory → LexFailsAt text.now fault
         → LexFails result fault }
 {
     if text.len() > MAX_TEXT_BYTES {
@@ -320,7 +320,7 @@ fn quote_in(text: &[u8]) -> Option<usize>
 
 // The punctuation mark that the byte is.
 fn mark_of(byte: u8) -> Option<TokenKind>
-    ensures { result ≡ mark_of byte }
+    ensures { result ≡ punctuation_of byte }
 {
     match byte {
         b';' => Some(TokenKind::Semicolon),

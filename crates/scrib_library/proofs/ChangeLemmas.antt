@@ -16,7 +16,7 @@ use Rattle.scrib_static_checks.specs.Names.{Declaration, distinct_names, module_
 use Rattle.scrib_static_checks.specs.Statements.{KeepsRules, protocol_keeps}
 use Rattle.scrib_static_checks.specs.Elaboration.{Elaborates}
 use Rattle.scrib_static_checks.specs.declared.modules.Placed.{Placed}
-use Rattle.scrib_static_checks.specs.Placed.{IsPlaced}
+use Rattle.scrib_static_checks.specs.Placed.{IsModulePlaced}
 use Rattle.scrib_record.specs.Versions.{meaning_of}
 use Rattle.scrib_library.specs.declared.declared.Entry.{Entry}
 use Rattle.scrib_library.specs.declared.versions.NamedVersion.{NamedVersion}
@@ -30,7 +30,7 @@ use Rattle.scrib_library.specs.Entries.{entry_names, AreAffectedEntries}
 use Rattle.scrib_library.specs.Calls.{EachCall, IsOther, IsBeside, AreReaching}
 use Rattle.scrib_library.specs.Edits.{HasRoom, ModuleFails}
 use Rattle.scrib_library.specs.Stored.{IsSpelled, IsLibrary}
-use Rattle.scrib_library.specs.Elaborated.{meant, meaning_names, IsMeant, AreMeanings, AreElaborable, IsRefusal}
+use Rattle.scrib_library.specs.Elaborated.{meant, meaning_names, IsMeant, AreMeanings, AreElaborable, IsEntryRefusal}
 use Rattle.scrib_library.specs.Drafts.{StopsDraft}
 use Rattle.scrib_library.specs.Plans.{IsCovered}
 use Rattle.scrib_library.proofs.Lists.{Contains-nil, Contains-cases, Contains-map_back}
@@ -84,7 +84,7 @@ declared_once ms distinct d e d_there d_in e_there e_in once same =
     let protocol : d.protocol ≡ e.protocol = protocol_once d.home.protocols once d.protocol e.protocol d_in (subst P (sym home) e_in) names.1 in
     λ i. record { home = home i; protocol = protocol i }
 
-module _ (profile : Profile) (m : ModuleTree) (before after : List ModuleTree) (p : Placed) (placed : IsPlaced m before after p) (versions : List NamedVersion) (used : ℕ) (library : IsLibrary profile before versions used) where
+module _ (profile : Profile) (m : ModuleTree) (before after : List ModuleTree) (p : Placed) (placed : IsModulePlaced m before after p) (versions : List NamedVersion) (used : ℕ) (library : IsLibrary profile before versions used) where
   pub distinct_after : distinct_names (module_names after) ≡ true
   distinct_after =
       let P : List ModuleTree → Type 0 = λ l. distinct_names (module_names l) ≡ true in
@@ -347,7 +347,7 @@ module _ (profile : Profile) (m : ModuleTree) (before after : List ModuleTree) (
 
   -- the reason why there are no meanings is one why the put fails
   module _ (room : HasRoom m after) (names : List (List (List ℕ))) (affected : AreAffected after m.name names) (entries : List Entry) (affected_entries : AreAffectedEntries after names p.replaced entries) (reached : List Entry) (reaching : AreReaching m.name entries reached) where
-    pub refused_meanings : (f : EditFault) → IsRefusal profile after reached f → ModuleFails profile before used m after f
+    pub refused_meanings : (f : EditFault) → IsEntryRefusal profile after reached f → ModuleFails profile before used m after f
     refused_meanings (edit.Elaborate f) k = (room, k.1)
     refused_meanings (edit.Project u) k = (room, meant_after names affected entries affected_entries reached reaching k.1, k.2)
     refused_meanings edit.OutOfMemory k = tt

@@ -27,7 +27,7 @@ use Rattle.scrib_library.specs.Listed.{AreInOrder}
 use Rattle.scrib_library.specs.Edits.{Changes, NamedBefore, IsChanges, has_new_version, AreVersionsUsed, RunsOut}
 use Rattle.scrib_library.specs.Stored.{version_names, HasVersion, IsVersion, AreVersions, AreCounted, IsSpelled}
 use Rattle.scrib_library.specs.Elaborated.{ProjectsUnder, meant, meaning_names}
-use Rattle.scrib_library.specs.Drafts.{shown, edit_names, meaning_before, IsKind, IsChangedBy, IsUnchanged, IsDraft, IsOverdrawn, AreApplied}
+use Rattle.scrib_library.specs.Drafts.{shown_changes, edit_names, meaning_before, IsKind, IsChangedBy, IsUnchanged, IsDraft, IsOverdrawn, AreApplied}
 use Rattle.scrib_library.specs.Plans.{IsCovered}
 use Rattle.scrib_library.proofs.Lists.{Contains-nil, Contains-head_at, Contains-tail, Contains-cases, Contains-map, Contains-map_back, count_within}
 use Rattle.scrib_library.proofs.Orders.{once}
@@ -188,13 +188,13 @@ module _ (profile : Profile) (before after : List ModuleTree) (olds : List Named
 
     -- ---- what changes
 
-    told : (c : Change) → Contains (shown es) c → Changes before after c.kind c.name
+    told : (c : Change) → Contains (shown_changes es) c → Changes before after c.kind c.name
     told c p =
         let e = Contains-map_back (λ (x : VersionEdit). record { kind = x.kind; name = x.name }) es c p in
         let P : Change → Type 0 = λ x. Changes before after x.kind x.name in
         subst P e.2 (change_of e.0 e.1)
 
-    all_told : (c : Change) → Changes before after c.kind c.name → Contains (shown es) c
+    all_told : (c : Change) → Changes before after c.kind c.name → Contains (shown_changes es) c
     all_told c d =
         elim (among c.name (meaning_names ys)) [
           | inl q ↦ (
@@ -208,7 +208,7 @@ module _ (profile : Profile) (before after : List ModuleTree) (olds : List Named
                     let named : e.0.name ≡ c.name = e.2 ∙ y.2 in
                     let P : List (List ℕ) → Type 0 = λ m. Changes before after e.0.kind m in
                     let kind : e.0.kind ≡ c.kind = one_kind before after c.name e.0.kind c.kind (subst P named (change_of e.0 e.1)) d in
-                    let Q : Change → Type 0 = λ x. Contains (shown es) x in
+                    let Q : Change → Type 0 = λ x. Contains (shown_changes es) x in
                     let whole : record { kind = e.0.kind; name = e.0.name } ≡ c = (λ i. record { kind = kind i; name = named i }) in
                     subst Q whole (Contains-map (λ (x : VersionEdit). record { kind = x.kind; name = x.name }) es e.0 e.1))
               ])
@@ -220,9 +220,9 @@ module _ (profile : Profile) (before after : List ModuleTree) (olds : List Named
         not_here Withdrawn n non d = d.1 d.0.0 ((covered.same n non d.0.0).0 d.0.1)
         not_here Replaced n non d = d.4 (means_once after n d.0 d.1 ((covered.same n non d.0).0 d.2) d.3)
 
-    pub changes_reported : ((m : ModuleTree) → Contains before m → IsSpelled m) → ((m : ModuleTree) → Contains after m → IsSpelled m) → IsChanges before after (shown es)
+    pub changes_reported : ((m : ModuleTree) → Contains before m → IsSpelled m) → ((m : ModuleTree) → Contains after m → IsSpelled m) → IsChanges before after (shown_changes es)
     changes_reported spelled spelled_after = record {
-      sorted = (let P : List (List (List ℕ)) → Type 0 = λ l. AreInOrder l in sorted_texts before after spelled spelled_after (shown es) (subst P (sym (names_shown es)) draft.sorted) told);
+      sorted = (let P : List (List (List ℕ)) → Type 0 = λ l. AreInOrder l in sorted_texts before after spelled spelled_after (shown_changes es) (subst P (sym (names_shown es)) draft.sorted) told);
       exact = λ c. (told c, all_told c);
     }
 
@@ -345,7 +345,7 @@ module _ (profile : Profile) (before after : List ModuleTree) (olds : List Named
           few = draft.few;
         }
 
-        pub versions_used : AreVersionsUsed (holdings profile before olds first) (holdings profile after news used) (shown es)
+        pub versions_used : AreVersionsUsed (holdings profile before olds first) (holdings profile after news used) (shown_changes es)
         versions_used = record {
           count = draft.count;
           few = draft.few;

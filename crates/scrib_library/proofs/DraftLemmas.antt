@@ -19,7 +19,7 @@ use Rattle.scrib_library.specs.Edits.{has_new_version, new_versions}
 use Rattle.scrib_library.specs.Listed.{name_cmp, AreInOrder}
 use Rattle.scrib_library.specs.Stored.{IsVersion}
 use Rattle.scrib_library.specs.Elaborated.{meant, meaning_names}
-use Rattle.scrib_library.specs.Drafts.{shown, edit_names, change_names, meaning_before, IsKind, IsEditFrom, LacksVersion, IsChangedBy, IsUnchanged, IsEditOf, IsDraft, StopsDraft}
+use Rattle.scrib_library.specs.Drafts.{shown_changes, edit_names, change_names, meaning_before, IsKind, IsEditFrom, LacksVersion, IsChangedBy, IsUnchanged, IsEditOf, IsDraft, StopsDraft}
 use Rattle.scrib_library.proofs.Lists.{Contains-nil, Contains-map_back}
 use Rattle.scrib_library.proofs.Orders.{get_or_any}
 use Rattle.scrib_library.proofs.VersionEditLemmas.{map_same}
@@ -51,7 +51,7 @@ more_changed olds ys zs more kind n h = record {
 more_sound : (ys zs : List NamedMeaning) → ((z : NamedMeaning) → Contains ys z → Contains zs z) → (e : VersionEdit) → IsEditOf ys e → IsEditOf zs e
 more_sound ys zs more e h = record { meaning = h.meaning; there = more h.meaning h.there; named = h.named; new = h.new }
 
-pub names_shown : (es : List VersionEdit) → change_names (shown es) ≡ edit_names es
+pub names_shown : (es : List VersionEdit) → change_names (shown_changes es) ≡ edit_names es
 names_shown [] = refl
 names_shown (e ∷ es) = ap (λ l. e.name ∷ l) (names_shown es)
 
@@ -106,7 +106,7 @@ module _ (olds : List NamedVersion) (ys : List NamedMeaning) (first : ℕ) (es :
       names : edit_names (es ++ e ∷ []) ≡ edit_names es ++ e.name ∷ []
       names = map-append (λ (x : VersionEdit). x.name) es (e ∷ [])
 
-      shown_more : shown (es ++ e ∷ []) ≡ shown es ++ record { kind = e.kind; name = e.name } ∷ []
+      shown_more : shown_changes (es ++ e ∷ []) ≡ shown_changes es ++ record { kind = e.kind; name = e.name } ∷ []
       shown_more = map-append (λ (x : VersionEdit). record { kind = x.kind; name = x.name }) es (e ∷ [])
 
       number_new : (v : Version) (next : ℕ) → next ≡ used + cond (is_some e.version) 1 0 → e.version ≡ Some v → (first ≤ number_of v) × (number_of v < next)
@@ -161,8 +161,8 @@ module _ (olds : List NamedVersion) (ys : List NamedMeaning) (first : ℕ) (es :
           ]
         ];
         count =
-            let more : new_versions (shown (es ++ e ∷ [])) ≡ new_versions (shown es) + cond (is_some e.version) 1 0 =
-            ap new_versions shown_more ∙ new_versions-push (shown es) (record { kind = e.kind; name = e.name }) ∙ ap (λ (c : Bool). new_versions (shown es) + cond c 1 0) new.counted in
+            let more : new_versions (shown_changes (es ++ e ∷ [])) ≡ new_versions (shown_changes es) + cond (is_some e.version) 1 0 =
+            ap new_versions shown_more ∙ new_versions-push (shown_changes es) (record { kind = e.kind; name = e.name }) ∙ ap (λ (c : Bool). new_versions (shown_changes es) + cond c 1 0) new.counted in
             omega (arith, more, counts, h.count);
         few = few_new e.version next refl counts;
       }
@@ -171,13 +171,13 @@ module _ (olds : List NamedVersion) (ys : List NamedMeaning) (first : ℕ) (es :
     pub draft_full : (b : Option Version) → IsVersion olds y.name b → (all : List NamedMeaning) → ((z : NamedMeaning) → Contains (ys ++ y ∷ []) z → Contains all z) → (f : EditFault) → LacksVersion b y used f → StopsDraft olds all first f
     draft_full b at all more edit.VersionsFull k =
         let c : Change = record { kind = k.1; name = y.name } in
-        let names : change_names (shown es ++ c ∷ []) ≡ change_names (shown es) ++ y.name ∷ [] = map-append (λ (x : Change). x.name) (shown es) (c ∷ []) in
-        let counts : new_versions (shown es ++ c ∷ []) ≡ new_versions (shown es) + 1 = new_versions-push (shown es) c ∙ ap (λ (x : Bool). new_versions (shown es) + cond x 1 0) k.2 in
+        let names : change_names (shown_changes es ++ c ∷ []) ≡ change_names (shown_changes es) ++ y.name ∷ [] = map-append (λ (x : Change). x.name) (shown_changes es) (c ∷ []) in
+        let counts : new_versions (shown_changes es ++ c ∷ []) ≡ new_versions (shown_changes es) + 1 = new_versions-push (shown_changes es) c ∙ ap (λ (x : Bool). new_versions (shown_changes es) + cond x 1 0) k.2 in
         let P : List (List (List ℕ)) → Type 0 = λ l. AreInOrder l in (
-          shown es ++ c ∷ [],
+          shown_changes es ++ c ∷ [],
           record {
-            sorted = subst P (sym names) (in_order-push (change_names (shown es)) y.name (subst P (sym (names_shown es)) h.sorted) (λ m p. name_last y.name refl m (let Q : List (List (List ℕ)) → Type 0 = λ l. Contains l m in subst Q (names_shown es) p)));
-            sound = λ d p. elim (Contains-push_cases (shown es) c d p) [
+            sorted = subst P (sym names) (in_order-push (change_names (shown_changes es)) y.name (subst P (sym (names_shown es)) h.sorted) (λ m p. name_last y.name refl m (let Q : List (List (List ℕ)) → Type 0 = λ l. Contains l m in subst Q (names_shown es) p)));
+            sound = λ d p. elim (Contains-push_cases (shown_changes es) c d p) [
               | inl q ↦ (
                   let e = Contains-map_back (λ (x : VersionEdit). record { kind = x.kind; name = x.name }) es d q in
                   let R : Change → Type 0 = λ x. IsChangedBy olds all x.kind x.name in

@@ -19,7 +19,7 @@ use Rattle.scrib_static_checks.specs.declared.fault.ElaborateFault.TheVariants a
 use Rattle.scrib_elaborate.specs.declared.elaborated.Elaborated.{Elaborated}
 use Rattle.scrib_static_checks.specs.Elaboration.{Elaborates}
 use Rattle.scrib_static_checks.specs.Faults.{FailsAt, IsBroken}
-use Rattle.scrib_elaborate.specs.Meaning.{meaning_of, Means}
+use Rattle.scrib_elaborate.specs.Meaning.{elaborated_meaning, ResultMeans}
 use Rattle.scrib_elaborate.specs.Sites.{AreSites}
 use Rattle.scrib_project.specs.declared.projected.ProjectedProtocol.{ProjectedProtocol}
 use Rattle.scrib_project.specs.declared.fault.ProjectFault.{ProjectFault}
@@ -35,13 +35,13 @@ use Rattle.scrib_library.specs.declared.fault.EditFault.TheVariants as edit
 use Rattle.scrib_library.specs.FaultConversions.{edit_fault_of_elaborate, edit_fault_of_project}
 use Rattle.scrib_library.specs.Listed.{AreInOrder}
 use Rattle.scrib_library.specs.Entries.{entry_names, AreDeclared}
-use Rattle.scrib_library.specs.Elaborated.{elaborated_names, meaning_names, found, meant, ProjectsUnder, IsMeant, IsMeaningOf, HasSites, IsFoundFor, IsFoundAmong, IsBrokenEntry, AreElaborated, AreMeanings, IsProjected, StopsNamed, IsProjectionOf, AreProjected, AreElaborable, StopsProjection, IsRefusal}
+use Rattle.scrib_library.specs.Elaborated.{elaborated_names, meaning_names, found, meant, ProjectsUnder, IsMeant, IsMeaningOf, HasSites, IsFoundFor, IsFoundAmong, IsBrokenEntry, AreElaborated, AreMeanings, IsProjected, StopsNamed, IsProjectionOf, AreProjected, AreElaborable, StopsProjection, IsEntryRefusal}
 use Rattle.scrib_library.proofs.Lists.{Contains-map, Contains-map_back}
 use Rattle.scrib_library.proofs.Orders.{once}
 
 -- ---- elaboration
 
-pub broken_entry : (ms : List ModuleTree) (e : Entry) (f : ElaborateFault) → e.is_declared ≡ true → ((a : Agreement) → Elaborates ms e.home.now.name e.protocol.now.name a → Means (Err f) a) → FailsAt ms e.home.now.name e.protocol.now.name f
+pub broken_entry : (ms : List ModuleTree) (e : Entry) (f : ElaborateFault) → e.is_declared ≡ true → ((a : Agreement) → Elaborates ms e.home.now.name e.protocol.now.name a → ResultMeans (Err f) a) → FailsAt ms e.home.now.name e.protocol.now.name f
     → IsBrokenEntry ms e (edit_fault_of_elaborate f)
 broken_entry ms e elaborate.OutOfMemory s only k = tt
 broken_entry ms e (elaborate.Broken f) s only k = (s, only, k)
@@ -59,7 +59,7 @@ module _ (ms : List ModuleTree) (es : List Entry) where
   )
 
   -- the reason why an entry has no meaning, under every profile
-  pub not_elaborated : AreDeclared ms es → (e : Entry) (f : EditFault) → Contains es e → IsBrokenEntry ms e f → (profile : Profile) → IsRefusal profile ms es f
+  pub not_elaborated : AreDeclared ms es → (e : Entry) (f : EditFault) → Contains es e → IsBrokenEntry ms e f → (profile : Profile) → IsEntryRefusal profile ms es f
   not_elaborated stand e (edit.Elaborate f) there k profile =
       let s = stand e there k.0 in
       let P : List (List ℕ) → Type 0 = λ home. ((a : Agreement) → Elaborates ms home s.declaration.protocol.name a → ⊥) × IsBroken ms home s.declaration.protocol.name f in
@@ -84,22 +84,22 @@ module _ (ms : List ModuleTree) (es : List Entry) where
 pub projects_made : (profile : Profile) (a : Agreement) (p : Protocol) → Agrees profile a (Ok p) → ProjectsUnder profile (Some (agreement_of p))
 projects_made profile a p k = subst (λ (x : Agreement). projects profile x.global x.roles ≡ true) (sym k.0) (all_project profile a.global a.roles k.1)
 
-pub projected_named : (profile : Profile) (x : NamedElaborated) (e : Elaborated) (p : ProjectedProtocol) (c : Compiled) (o : Option Compiled) → x.elaborated ≡ Some e → Agrees profile (meaning_of e) (Ok p.protocol) → agreement_of c.protocol ≡ agreement_of p.protocol → o ≡ Some c → IsProjected profile x (record { name = x.name; compiled = o })
+pub projected_named : (profile : Profile) (x : NamedElaborated) (e : Elaborated) (p : ProjectedProtocol) (c : Compiled) (o : Option Compiled) → x.elaborated ≡ Some e → Agrees profile (elaborated_meaning e) (Ok p.protocol) → agreement_of c.protocol ≡ agreement_of p.protocol → o ≡ Some c → IsProjected profile x (record { name = x.name; compiled = o })
 projected_named profile x e p c o from k same is =
     let shown : option_map (λ (d : Compiled). agreement_of d.protocol) o ≡ Some (agreement_of p.protocol) = ap (option_map (λ (d : Compiled). agreement_of d.protocol)) is ∙ ap Some same in
     record {
       named = refl;
-      means = shown ∙ ap Some k.0 ∙ ap (option_map meaning_of) (sym from);
-      projected = subst (ProjectsUnder profile) (sym shown) (projects_made profile (meaning_of e) p.protocol k);
+      means = shown ∙ ap Some k.0 ∙ ap (option_map elaborated_meaning) (sym from);
+      projected = subst (ProjectsUnder profile) (sym shown) (projects_made profile (elaborated_meaning e) p.protocol k);
     }
 
 pub nothing_named : (profile : Profile) (x : NamedElaborated) (o : Option Compiled) → x.elaborated ≡ None → o ≡ None → IsProjected profile x (record { name = x.name; compiled = o })
 nothing_named profile x o from is =
     let shown : option_map (λ (d : Compiled). agreement_of d.protocol) o ≡ None = ap (option_map (λ (d : Compiled). agreement_of d.protocol)) is in
-    record { named = refl; means = shown ∙ ap (option_map meaning_of) (sym from); projected = subst (ProjectsUnder profile) (sym shown) tt }
+    record { named = refl; means = shown ∙ ap (option_map elaborated_meaning) (sym from); projected = subst (ProjectsUnder profile) (sym shown) tt }
 
-pub unprojected_named : (profile : Profile) (x : NamedElaborated) (e : Elaborated) (f : ProjectFault) → x.elaborated ≡ Some e → Agrees profile (meaning_of e) (Err f)
-    → ((ms : List ModuleTree) (home : List (List ℕ)) (name : List ℕ) → AreSites ms home name e → IsFaultPlaced profile ms home name (meaning_of e).global f) → StopsNamed profile x (edit_fault_of_project f)
+pub unprojected_named : (profile : Profile) (x : NamedElaborated) (e : Elaborated) (f : ProjectFault) → x.elaborated ≡ Some e → Agrees profile (elaborated_meaning e) (Err f)
+    → ((ms : List ModuleTree) (home : List (List ℕ)) (name : List ℕ) → AreSites ms home name e → IsFaultPlaced profile ms home name (elaborated_meaning e).global f) → StopsNamed profile x (edit_fault_of_project f)
 unprojected_named profile x e project.OutOfMemory is k place = tt
 unprojected_named profile x e (project.Unmergeable u) is k place = record { elaborated = e; is = is; first = k.0; place = place }
 
@@ -177,19 +177,19 @@ module _ (ms : List ModuleTree) (es : List Entry) where
       projected = λ y p. (k.sound y p).projected;
     }
 
-    pub no_meanings : AreInOrder (entry_names es) → AreDeclared ms es → (f : EditFault) → StopsProjection profile xs f → IsRefusal profile ms es f
+    pub no_meanings : AreInOrder (entry_names es) → AreDeclared ms es → (f : EditFault) → StopsProjection profile xs f → IsEntryRefusal profile ms es f
     no_meanings sorted stand (edit.Project u) (x, there, k) =
         let m = h.sound x there in
-        let g = (meaning_of k.elaborated).global in
-        let P : Option Elaborated → Type 0 = λ o. IsMeant ms m.entry (option_map meaning_of o) in
+        let g = (elaborated_meaning k.elaborated).global in
+        let P : Option Elaborated → Type 0 = λ o. IsMeant ms m.entry (option_map elaborated_meaning o) in
         let Q : Option Elaborated → Type 0 = λ o. HasSites ms m.entry o in
         let e = subst P k.is m.found.means in
         let at = k.place ms m.entry.home.now.name m.entry.protocol.now.name (subst Q k.is m.found.sites) in
         let s = stand m.entry m.there e.0 in
-        let R : List (List ℕ) → Type 0 = λ home. Elaborates ms home s.declaration.protocol.name (meaning_of k.elaborated) × IsPlaced profile ms home s.declaration.protocol.name g u in
-        let S : List ℕ → Type 0 = λ name. Elaborates ms m.entry.home.now.name name (meaning_of k.elaborated) × IsPlaced profile ms m.entry.home.now.name name g u in
+        let R : List (List ℕ) → Type 0 = λ home. Elaborates ms home s.declaration.protocol.name (elaborated_meaning k.elaborated) × IsPlaced profile ms home s.declaration.protocol.name g u in
+        let S : List ℕ → Type 0 = λ name. Elaborates ms m.entry.home.now.name name (elaborated_meaning k.elaborated) × IsPlaced profile ms m.entry.home.now.name name g u in
         let both = subst R (ap (λ (x : ModuleTree). x.name) s.entry.home) (subst S (ap (λ (x : ProtocolDeclaration). x.name) s.entry.protocol) (e.1, at)) in
-        ((m.entry, m.there, e.0), elaborable_by sorted xs h, (s.declaration, meaning_of k.elaborated, s.there, both.0, lacking profile g (meaning_of k.elaborated).roles u.role k.first, k.first, both.1))
+        ((m.entry, m.there, e.0), elaborable_by sorted xs h, (s.declaration, elaborated_meaning k.elaborated, s.there, both.0, lacking profile g (elaborated_meaning k.elaborated).roles u.role k.first, k.first, both.1))
     no_meanings sorted stand edit.OutOfMemory k = tt
     no_meanings sorted stand (edit.Elaborate f) k = absurd k
     no_meanings sorted stand edit.TooManyModules k = absurd k

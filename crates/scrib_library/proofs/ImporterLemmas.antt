@@ -11,7 +11,7 @@ use Rattle.scrib_parser.specs.declared.tree.ModuleTree.{ModuleTree}
 use Rattle.scrib_library.specs.Edits.{IsImporter, IsLeastImporter}
 use Rattle.scrib_library.specs.Listed.{name_cmp}
 use Rattle.scrib_library.specs.Stored.{IsSpelled, AreNames}
-use Rattle.scrib_library.specs.Withdrawals.{Imports, IsFirstImporter, IsFirstOrNone, IsFirstOf}
+use Rattle.scrib_library.specs.Withdrawals.{Imports, IsFirstImporter, IsFirstImporterOrNone, IsLesserName}
 use Rattle.scrib_library.proofs.Lists.{Contains-nil, Contains-head_at, Contains-cases}
 use Rattle.scrib_library.proofs.Orders.{name_cmp_total, name_exact}
 use Rattle.scrib_library.proofs.EntryLemmas.{taken_cases, taken_back, taken_last}
@@ -42,10 +42,10 @@ is_greater Greater e = refl
 pub not_greater : (o : Ordering) → (ordering_index o == 2) ≡ false → o ≢ Greater
 not_greater o e g = false≢true (sym e ∙ ap (λ x. ordering_index x == 2) g)
 
-pub first_kept : (a b : List (List ℕ)) → name_cmp a b ≢ Greater → IsFirstOf (Some a) b a
+pub first_kept : (a b : List (List ℕ)) → name_cmp a b ≢ Greater → IsLesserName (Some a) b a
 first_kept a b p = (inl refl, not_after_itself a a refl, p)
 
-pub first_second : (a b : List (List ℕ)) → name_cmp a b ≡ Greater → IsFirstOf (Some a) b b
+pub first_second : (a b : List (List ℕ)) → name_cmp a b ≡ Greater → IsLesserName (Some a) b b
 first_second a b p = (inr refl, λ g. (let less : name_cmp b a ≡ Less = name_cmp_total.antisymm b a ∙ ap ordering_reverse p in cc), not_after_itself b b refl)
 
 -- ---- the modules that import one
@@ -74,7 +74,7 @@ module _ (name : List (List ℕ)) where
         ]
 
     -- the case of a next module that imports the name
-    pub first_more : (o : Option (List (List ℕ))) (c : List (List ℕ)) → IsFirstOrNone (take i ms) name o → Imports t name → IsFirstOf o t.name c → IsFirstImporter (take (i + 1) ms) name c
+    pub first_more : (o : Option (List (List ℕ))) (c : List (List ℕ)) → IsFirstImporterOrNone (take i ms) name o → Imports t name → IsLesserName o t.name c → IsFirstImporter (take (i + 1) ms) name c
     first_more None c h new is = record {
       importer = t;
       imports = here new;
@@ -93,7 +93,7 @@ module _ (name : List (List ℕ)) where
         ]
 
     -- the case of one that does not
-    pub first_same : (o : Option (List (List ℕ))) → (Imports t name → ⊥) → IsFirstOrNone (take i ms) name o → IsFirstOrNone (take (i + 1) ms) name o
+    pub first_same : (o : Option (List (List ℕ))) → (Imports t name → ⊥) → IsFirstImporterOrNone (take i ms) name o → IsFirstImporterOrNone (take (i + 1) ms) name o
     first_same None non h = λ m p. elim (cases m p) [
       | inl q ↦ h m q
       | inr e ↦ non (let P : ModuleTree → Type 0 = λ x. Imports x name in subst P (sym e) (imports_of (take (i + 1) ms) m p))
@@ -108,11 +108,11 @@ module _ (name : List (List ℕ)) where
       ];
     }
 
-  pub first_all : (ms : List ModuleTree) (i : ℕ) (o : Option (List (List ℕ))) → length ms ≤ i → IsFirstOrNone (take i ms) name o → IsFirstOrNone ms name o
-  first_all ms i o le h = let P : List ModuleTree → Type 0 = λ l. IsFirstOrNone l name o in subst P (take_all i ms le) h
+  pub first_all : (ms : List ModuleTree) (i : ℕ) (o : Option (List (List ℕ))) → length ms ≤ i → IsFirstImporterOrNone (take i ms) name o → IsFirstImporterOrNone ms name o
+  first_all ms i o le h = let P : List ModuleTree → Type 0 = λ l. IsFirstImporterOrNone l name o in subst P (take_all i ms le) h
 
-  pub first_none : (o : Option (List (List ℕ))) → o ≡ None → IsFirstOrNone [] name o
-  first_none o e = let P : Option (List (List ℕ)) → Type 0 = λ x. IsFirstOrNone [] name x in subst P (sym e) (λ m p. Contains-nil m p.there)
+  pub first_none : (o : Option (List (List ℕ))) → o ≡ None → IsFirstImporterOrNone [] name o
+  first_none o e = let P : Option (List (List ℕ)) → Type 0 = λ x. IsFirstImporterOrNone [] name x in subst P (sym e) (λ m p. Contains-nil m p.there)
 
   -- the first by name is the first by text
   pub least_by_text : (ms : List ModuleTree) → ((m : ModuleTree) → Contains ms m → IsSpelled m) → (by : List (List ℕ)) → IsFirstImporter ms name by → IsLeastImporter ms name by

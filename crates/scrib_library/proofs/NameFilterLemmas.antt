@@ -1,16 +1,18 @@
 -- A name whose bit a filter lacks is not among its names.
-use Rattle.std.proofs.Common.{◌≡◌, ℕ, zero, suc, min, ◌⊎◌, refl, ◌+◌, ◌*◌, ◌%◌, ◌^◌, ◌<◌, ◌≤◌, List, [], ◌∷◌, length, get_or, take, drop, inl, inr, sym, ap, ◌∙◌, subst, arith}
+use Rattle.std.proofs.Common.{◌≡◌, ℕ, zero, suc, min, ◌⊎◌, refl, ◌+◌, ◌/◌, ◌^◌, ◌<◌, ◌≤◌, List, [], ◌∷◌, length, get_or, take, drop, inl, inr, sym, ap, ◌∙◌, subst, arith}
 use Rattle.std.specs.Borrow.{Bor}
 use Rattle.std.specs.List.{Contains}
 use Rattle.std.specs.Int.{bit_at}
 use Rattle.std.specs.Int.Bits.{bit_or, bit_and}
+use Rattle.std.proofs.lemmas.Nat.{and_le_r}
 use Rattle.std.proofs.lemmas.Nat.Bits.{bit_at_or, bit_at_and, bit_at-zero, bit_at-lt, bit_at-pow_same}
 use Rattle.std.proofs.lemmas.List.{drop_more, take_all}
 use Rattle.scrib_parser.specs.declared.tree.Import.{Import}
 use Rattle.scrib_parser.specs.declared.tree.ModuleTree.{ModuleTree}
 use Rattle.scrib_library.specs.Affected.{names_now, ImportsSome}
+use Rattle.scrib_types.specs.Hashing.{hash_bytes}
 use Rattle.scrib_static_checks.specs.Names.{last_name}
-use Rattle.scrib_library.specs.NameFilter.{hashed, filter_bit, filter_from, filter_of, IsNameFilter, IsFilterOfNames, LacksBit}
+use Rattle.scrib_library.specs.NameFilter.{filter_bit, filter_from, filter_of, IsNameFilter, IsFilterOfNames, LacksBit}
 use Rattle.scrib_library.proofs.Lists.{Contains-nil, Contains-cases, Contains-map_back}
 use Rattle.scrib_library.proofs.EntryLemmas.{taken_cases}
 
@@ -45,12 +47,8 @@ pub filter_more : (is : List Import) (k : ℕ) (i : Import) (old new whole : ℕ
 filter_more is k i old new whole lt at h is_new =
     ap (λ s. filter_from s (drop (k + 1) is)) is_new ∙ sym (ap (filter_from old) (drop_more is k i lt ∙ ap (λ x. x ∷ drop (k + 1) is) (sym at))) ∙ h
 
-hashed_small : (h : ℕ) (bs : List ℕ) → h < 64 → hashed h bs < 64
-hashed_small h [] lt = lt
-hashed_small h (b ∷ bs) lt = hashed_small ((h * 5 + b) % 64) bs (omega arith)
-
 pub bit_small : (name : List (List ℕ)) → filter_bit name < 64
-bit_small name = hashed_small 0 (last_name name) (omega arith)
+bit_small name = let small = and_le_r (hash_bytes 0 (last_name name) / 2 ^ 32) 63 in omega (arith, small)
 
 -- filters without a common bit
 least : (x y : ℕ) → min x y ≡ 0 → (x ≡ 0) ⊎ (y ≡ 0)

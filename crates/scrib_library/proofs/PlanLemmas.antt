@@ -5,7 +5,7 @@ use Rattle.std.proofs.lemmas.List.{set-get_or}
 use Rattle.scrib_types.specs.declared.profile.Profile.{Profile}
 use Rattle.scrib_parser.specs.declared.tree.ModuleTree.{ModuleTree}
 use Rattle.scrib_static_checks.specs.declared.modules.Placed.{Placed}
-use Rattle.scrib_static_checks.specs.Placed.{IsPlaced}
+use Rattle.scrib_static_checks.specs.Placed.{IsModulePlaced}
 use Rattle.scrib_record.specs.Versions.{meaning_of}
 use Rattle.scrib_library.specs.declared.declared.Entry.{Entry}
 use Rattle.scrib_library.specs.declared.versions.NamedVersion.{NamedVersion}
@@ -20,7 +20,7 @@ use Rattle.scrib_library.specs.Entries.{AreAffectedEntries}
 use Rattle.scrib_library.specs.Calls.{AreReaching}
 use Rattle.scrib_library.specs.Edits.{Reads, HasRoom, PutFails, IsPut, IsChanges, AreVersionsUsed}
 use Rattle.scrib_library.specs.Stored.{IsSpelled, IsLibrary}
-use Rattle.scrib_library.specs.Elaborated.{meaning_names, AreMeanings, IsRefusal}
+use Rattle.scrib_library.specs.Elaborated.{meaning_names, AreMeanings, IsEntryRefusal}
 use Rattle.scrib_library.specs.Drafts.{AreApplied, StopsDraft}
 use Rattle.scrib_library.specs.Plans.{IsCovered, Covers, IsPlan, StopsMeanings, StopsPut}
 use Rattle.scrib_library.proofs.Lists.{Contains-nil, Contains-map_back}
@@ -33,7 +33,7 @@ use Rattle.scrib_library.proofs.ChangeLemmas.{distinct_after, imports_after, spe
 
 -- ---- planning a put
 
-module _ (profile : Profile) (m : ModuleTree) (before after : List ModuleTree) (p : Placed) (placed : IsPlaced m before after p) (versions : List NamedVersion) (used : ℕ) (library : IsLibrary profile before versions used) (text : List ℕ) (read : Reads text m) (plan : Plan) (h : IsPlan profile m after p.replaced versions used plan) where
+module _ (profile : Profile) (m : ModuleTree) (before after : List ModuleTree) (p : Placed) (placed : IsModulePlaced m before after p) (versions : List NamedVersion) (used : ℕ) (library : IsLibrary profile before versions used) (text : List ℕ) (read : Reads text m) (plan : Plan) (h : IsPlan profile m after p.replaced versions used plan) where
   covers : IsCovered profile before after h.meanings
   covers = h.covered before p versions used placed refl library
 
@@ -82,12 +82,12 @@ module _ (profile : Profile) (m : ModuleTree) (after : List ModuleTree) (gone : 
     λ before placed versions used h g library. covered profile m before after placed h versions used library names affected entries (subst Touched (sym g) affected_entries) reached reaching ys meanings,
   )
 
-  pub stopped_meanings : HasRoom m after → (f : EditFault) → IsRefusal profile after reached f → StopsMeanings profile m after gone f
+  pub stopped_meanings : HasRoom m after → (f : EditFault) → IsEntryRefusal profile after reached f → StopsMeanings profile m after gone f
   stopped_meanings room f k before placed versions used h g library =
       refused_meanings profile m before after placed h versions used library room names affected entries (subst Touched (sym g) affected_entries) reached reaching f k
 
 -- if the module equals the one that it replaces, nothing changes
-before_same : (m : ModuleTree) (before after : List ModuleTree) (p : Placed) → IsPlaced m before after p → p.replaced ≡ Some m → before ≡ after
+before_same : (m : ModuleTree) (before after : List ModuleTree) (p : Placed) → IsModulePlaced m before after p → p.replaced ≡ Some m → before ≡ after
 before_same m before after p h is =
     sym (before_set m before after p h m is) ∙ ap (set after p.at) (sym (h.there m)) ∙ set-get_or after p.at m
 
@@ -115,10 +115,10 @@ module _ (profile : Profile) (m : ModuleTree) (after : List ModuleTree) (gone : 
 
 -- ---- and why applying it fails
 
-pub fails_then : (profile : Profile) (m : ModuleTree) (before after : List ModuleTree) (p : Placed) → IsPlaced m before after p → (versions : List NamedVersion) (used : ℕ) → IsLibrary profile before versions used → (text : List ℕ) → Reads text m → (f : EditFault) → StopsPut profile m after p.replaced versions used f → PutFails profile before used text f
+pub fails_then : (profile : Profile) (m : ModuleTree) (before after : List ModuleTree) (p : Placed) → IsModulePlaced m before after p → (versions : List NamedVersion) (used : ℕ) → IsLibrary profile before versions used → (text : List ℕ) → Reads text m → (f : EditFault) → StopsPut profile m after p.replaced versions used f → PutFails profile before used text f
 fails_then profile m before after p placed versions used library text read f h =
     put_refused profile before used text m after f read placed.put (h before p placed refl (spelled text m read) library)
 
 -- the module at the index where it was put
-pub stood : (m n : ModuleTree) (before after : List ModuleTree) (p : Placed) → IsPlaced m before after p → n ≡ get_or after p.at n → m ≡ n
+pub stood : (m n : ModuleTree) (before after : List ModuleTree) (p : Placed) → IsModulePlaced m before after p → n ≡ get_or after p.at n → m ≡ n
 stood m n before after p placed at = sym (at ∙ placed.there n)

@@ -9,7 +9,7 @@ use Rattle.scrib_lexer.specs.Tokens.{IsTokens, LexGives}
 use Rattle.scrib_parser.specs.declared.fault.ParseFault.{ParseFault}
 use Rattle.scrib_parser.specs.declared.fault.ParseFault.TheVariants as parse
 use Rattle.scrib_parser.specs.declared.tree.ModuleTree.{ModuleTree}
-use Rattle.scrib_parser.specs.Grammar.{IsModule, IsFaultOf, ParseGives}
+use Rattle.scrib_parser.specs.Grammar.{IsModule, IsParseFault, ParseGives}
 use Rattle.scrib_static_checks.specs.Names.{with_module}
 use Rattle.scrib_library.specs.declared.fault.EditFault.{EditFault}
 use Rattle.scrib_library.specs.declared.fault.EditFault.TheVariants as edit
@@ -17,7 +17,7 @@ use Rattle.scrib_library.specs.FaultConversions.{edit_fault_of_lex, edit_fault_o
 use Rattle.scrib_library.specs.Edits.{Reads, IsUnread, ModuleFails, PutFails}
 
 -- the reason why the text has no token sequence is one why it is refused
-pub lex_refused : (text : List ℕ) (f : LexFault) → ((ts : List Lexeme) → IsTokens text ts → LexGives (Err f) ts) → tokens.FailsAt text f
+pub lex_refused : (text : List ℕ) (f : LexFault) → ((ts : List Lexeme) → IsTokens text ts → LexGives (Err f) ts) → tokens.LexFailsAt text f
     → (profile : Profile) → (before : List ModuleTree) → (used : ℕ) → PutFails profile before used text (edit_fault_of_lex f)
 lex_refused text lex.OutOfMemory only h profile before used = h
 lex_refused text lex.TextTooLong only h profile before used = (λ m r. only r.0 r.1, h)
@@ -31,7 +31,7 @@ module _ (text : List ℕ) (ts : List Lexeme) (t : IsTokens text ts) (one : (us 
   unread : ((m : ModuleTree) → IsModule ts m → ⊥) → IsUnread text
   unread none m r = none m (subst (λ (l : List Lexeme). IsModule l m) (sym (one r.0 r.1)) r.2)
 
-  pub parse_refused : (f : ParseFault) → ((m : ModuleTree) → IsModule ts m → ParseGives (Err f) m) → IsFaultOf ts f
+  pub parse_refused : (f : ParseFault) → ((m : ModuleTree) → IsModule ts m → ParseGives (Err f) m) → IsParseFault ts f
       → (profile : Profile) → (before : List ModuleTree) → (used : ℕ) → PutFails profile before used text (edit_fault_of_parse f)
   parse_refused parse.OutOfMemory only h profile before used = t.0
   parse_refused parse.EndOfText only h profile before used = (unread only, (ts, t, h))

@@ -7,7 +7,7 @@ use Rattle.std.proofs.lemmas.List.Elements.{Contains-append_left}
 use Rattle.scrib_parser.specs.declared.tree.ModuleTree.{ModuleTree}
 use Rattle.scrib_static_checks.specs.Names.{dotted_eq, with_module}
 use Rattle.scrib_static_checks.specs.declared.modules.Placed.{Placed}
-use Rattle.scrib_static_checks.specs.Placed.{IsPlaced, back_to}
+use Rattle.scrib_static_checks.specs.Placed.{IsModulePlaced, back_to}
 use Rattle.scrib_static_checks.proofs.NameLemmas.{dotted_eq-Decides}
 use Rattle.scrib_library.proofs.Lists.{Contains-set_cases}
 use Rattle.scrib_library.proofs.Orders.{get_or_any}
@@ -31,10 +31,10 @@ names_alike m r (n ∷ ns) at lt old new =
     other (suc k) l o w rest = rest k (omega (arith, l)) o w
 
 -- the old modules, if one is replaced
-pub before_set : (m : ModuleTree) (before after : List ModuleTree) (p : Placed) → IsPlaced m before after p → (r : ModuleTree) → p.replaced ≡ Some r → set after p.at r ≡ before
+pub before_set : (m : ModuleTree) (before after : List ModuleTree) (p : Placed) → IsModulePlaced m before after p → (r : ModuleTree) → p.replaced ≡ Some r → set after p.at r ≡ before
 before_set m before after p h r is = sym (ap (λ o. back_to p.at o after) is) ∙ h.back
 
-pub gone_named : (m : ModuleTree) (before after : List ModuleTree) (p : Placed) → IsPlaced m before after p → (r : ModuleTree) → p.replaced ≡ Some r → r.name ≡ m.name
+pub gone_named : (m : ModuleTree) (before after : List ModuleTree) (p : Placed) → IsModulePlaced m before after p → (r : ModuleTree) → p.replaced ≡ Some r → r.name ≡ m.name
 gone_named m before after p h r is =
     let back = before_set m before after p h r is in
     let long : length before ≡ length after = ap length (sym back) ∙ length-set after p.at r in
@@ -44,7 +44,7 @@ gone_named m before after p h r is =
     names_alike m r before p.at lt old new
 
 -- each old module is still there, or is the replaced one and has the new one's name
-pub still_there : (m : ModuleTree) (before after : List ModuleTree) (p : Placed) → IsPlaced m before after p → (t : ModuleTree) → Contains before t → Contains after t ⊎ ((p.replaced ≡ Some t) × (t.name ≡ m.name))
+pub still_there : (m : ModuleTree) (before after : List ModuleTree) (p : Placed) → IsModulePlaced m before after p → (t : ModuleTree) → Contains before t → Contains after t ⊎ ((p.replaced ≡ Some t) × (t.name ≡ m.name))
 still_there m before after p h t c = by p.replaced refl
   where
     by : (o : Option ModuleTree) → p.replaced ≡ o → Contains after t ⊎ ((p.replaced ≡ Some t) × (t.name ≡ m.name))

@@ -8,7 +8,7 @@ use Rattle.scrib_static_checks.specs.declared.modules.Placed.{Placed}
 use Rattle.scrib_static_checks.specs.Names.{dotted_eq, has_name, module_names, with_module}
 use Rattle.scrib_static_checks.specs.Table.{IsPlace}
 use Rattle.scrib_static_checks.proofs.NameLemmas.{dotted_eq-Decides}
-use Rattle.scrib_static_checks.specs.Placed.{IsPlaced, back_to}
+use Rattle.scrib_static_checks.specs.Placed.{IsModulePlaced, back_to}
 use Rattle.scrib_library.specs.declared.summaries.ModuleSummary.{ModuleSummary}
 use Rattle.scrib_library.specs.NameFilter.{filter_bit}
 use Rattle.scrib_library.specs.Summaries.{summary, summaries_of, declared_count}
@@ -68,7 +68,7 @@ with_one m (n ∷ ns) =
     ]
 
 -- without a replaced module the new one is last
-put_last : (m : ModuleTree) (before after : List ModuleTree) (p : Placed) → IsPlaced m before after p → p.replaced ≡ None → after ≡ before ++ m ∷ []
+put_last : (m : ModuleTree) (before after : List ModuleTree) (p : Placed) → IsModulePlaced m before after p → p.replaced ≡ None → after ≡ before ++ m ∷ []
 put_last m before after p h is =
     let back : take p.at after ≡ before = sym (ap (λ o. back_to p.at o after) is) ∙ h.back in
     let long = with_one m before in
@@ -76,7 +76,7 @@ put_last m before after p h is =
     let all : take (p.at + 1) after ≡ after = take_all (p.at + 1) after (omega (arith, long, cut, ap length back, ap length h.put)) in
     sym all ∙ take_more after p.at m h.within ∙ (λ i. back i ++ h.there m i ∷ [])
 
-module _ (m : ModuleTree) (before after : List ModuleTree) (p : Placed) (h : IsPlaced m before after p) (os : List ModuleSummary) (same : os ≡ summaries_of before) where
+module _ (m : ModuleTree) (before after : List ModuleTree) (p : Placed) (h : IsModulePlaced m before after p) (os : List ModuleSummary) (same : os ≡ summaries_of before) where
   pub outlined_last : p.replaced ≡ None → (o : ModuleSummary) → o ≡ summary m → os ++ o ∷ [] ≡ summaries_of after
   outlined_last is o e =
       (λ i. same i ++ e i ∷ []) ∙ sym (ap summaries_of (put_last m before after p h is) ∙ map-append summary before (m ∷ []))

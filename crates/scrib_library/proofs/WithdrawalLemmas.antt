@@ -7,7 +7,7 @@ use Rattle.scrib_types.specs.declared.profile.Profile.{Profile}
 use Rattle.scrib_types.specs.Agreement.{Agreement}
 use Rattle.scrib_parser.specs.declared.tree.ModuleTree.{ModuleTree}
 use Rattle.scrib_static_checks.specs.Names.{Declaration, dotted_eq, declarations}
-use Rattle.scrib_elaborate.specs.Locality.{IsClosed, AgreeOn, without_module, elaborates_alike, removal_agrees}
+use Rattle.scrib_elaborate.specs.Locality.{IsImportClosed, AgreeOn, without_module, elaborates_alike, removal_agrees}
 use Rattle.scrib_static_checks.specs.Table.{IsPlace}
 use Rattle.scrib_static_checks.proofs.NameLemmas.{dotted_eq-Decides}
 use Rattle.scrib_record.specs.Versions.{meaning_of}
@@ -27,7 +27,7 @@ use Rattle.scrib_library.specs.Entries.{AreEntered}
 use Rattle.scrib_library.specs.Edits.{has_new_version, new_versions, IsImporter, IsWithdrawal, IsChanges, AreWithdrawn, AreVersionsUsed}
 use Rattle.scrib_library.specs.Stored.{IsSpelled, IsLibrary}
 use Rattle.scrib_library.specs.Elaborated.{ProjectsUnder, meant, meaning_names}
-use Rattle.scrib_library.specs.Drafts.{shown, meaning_before, IsKind, IsChangedBy, AreApplied, StopsDraft}
+use Rattle.scrib_library.specs.Drafts.{shown_changes, meaning_before, IsKind, IsChangedBy, AreApplied, StopsDraft}
 use Rattle.scrib_library.specs.Withdrawals.{AreNothing, AreWithdrawnMeanings, IsRemovalPlan}
 use Rattle.scrib_library.proofs.Lists.{Contains-nil, Contains-head, Contains-tail, Contains-map, Contains-map_back}
 use Rattle.scrib_library.proofs.Places.{either, declared-back, declared-there}
@@ -103,7 +103,7 @@ module _ (profile : Profile) (name : List (List ℕ)) (before : List ModuleTree)
   abbrev S : List (List ℕ) → Type 0
   S n = n ≢ name
 
-  closed : IsClosed S before
+  closed : IsImportClosed S before
   closed m i there other imports same = free m (record { there = there; other = other; by = i; imports = imports; of = same })
 
   agree : AgreeOn S before after × AgreeOn S after before
@@ -181,7 +181,7 @@ module _ (profile : Profile) (name : List (List ℕ)) (before : List ModuleTree)
     covers : IsCovered profile before after h.meanings
     covers = covered h.meanings h.withdrawn_meanings
 
-    withdrawn : AreWithdrawn (shown plan.edits.items)
+    withdrawn : AreWithdrawn (shown_changes plan.edits.items)
     withdrawn x p =
         let c = Contains-map_back (λ (e : VersionEdit). record { kind = e.kind; name = e.name }) plan.edits.items x p in
         ap (λ (y : Change). y.kind) (sym c.2) ∙ dropped_kind gone h.meanings h.withdrawn_meanings versions c.0.kind c.0.name (h.planned.draft.changed c.0 c.1)
@@ -190,7 +190,7 @@ module _ (profile : Profile) (name : List (List ℕ)) (before : List ModuleTree)
     withdrawn_then = let P : List Change → Type 0 = λ l. AreWithdrawn l in subst P (sym h.planned.list) withdrawn
 
     pub unused_then : plan.used ≡ used
-    unused_then = omega (arith, h.planned.draft.count, no_versions (shown plan.edits.items) withdrawn)
+    unused_then = omega (arith, h.planned.draft.count, no_versions (shown_changes plan.edits.items) withdrawn)
 
     pub named_then : plan.changes.module ≡ name
     named_then = h.planned.module_name ∙ named

@@ -21,8 +21,8 @@ use Rattle.scrib_library.specs.Stored.{version_names, IsVersion}
 use Rattle.scrib_library.specs.Elaborated.{meant}
 
 -- the edits as reported, without the new versions
-abbrev pub shown : List VersionEdit → List Change
-shown es = map (λ (e : VersionEdit). record { kind = e.kind; name = e.name }) es
+abbrev pub shown_changes : List VersionEdit → List Change
+shown_changes es = map (λ (e : VersionEdit). record { kind = e.kind; name = e.name }) es
 
 -- the names of the edits
 abbrev pub edit_names : List VersionEdit → List (List (List ℕ))
@@ -117,7 +117,7 @@ pub record IsDraft (olds : List NamedVersion) (ys : List NamedMeaning) (first : 
       → (first ≤ number_of v) × (number_of v < used)
   pub once : (e f : VersionEdit) (v w : Version) → Contains es e → Contains es f → e.version ≡ Some v
       → f.version ≡ Some w → number_of v ≡ number_of w → e.name ≡ f.name
-  pub count : used ≡ first + new_versions (shown es)
+  pub count : used ≡ first + new_versions (shown_changes es)
   pub few : used ≤ 65536
 
 -- changes, in order, that need more new versions than numbers are left

@@ -17,7 +17,7 @@ use Rattle.scrib_parser.specs.declared.fault.ParseFault.{ParseFault}
 use Rattle.scrib_parser.specs.declared.fault.ParseFault.TheVariants as parse
 use Rattle.scrib_parser.specs.declared.tree.ModuleTree.{ModuleTree}
 use Rattle.scrib_parser.specs.declared.tree.Import.{Import}
-use Rattle.scrib_parser.specs.Grammar.{IsModule, IsFaultOf}
+use Rattle.scrib_parser.specs.Grammar.{IsModule, IsParseFault}
 use Rattle.scrib_static_checks.specs.declared.fault.Fault.{Fault}
 use Rattle.scrib_static_checks.specs.Names.{Declaration, declarations, has_name, module_names, with_module}
 use Rattle.scrib_elaborate.specs.Locality.{without_module}
@@ -134,31 +134,23 @@ WithdrawFails before name edit.UnknownModule = has_name name (module_names befor
 WithdrawFails before name (edit.StillImported by) =
     (has_name name (module_names before) ≡ true) × IsLeastImporter before name by
 WithdrawFails before name edit.OutOfMemory = has_name name (module_names before) ≡ true
-WithdrawFails before name edit.TooManyModules = ⊥
-WithdrawFails before name (edit.ImportMissing other) = ⊥
-WithdrawFails before name edit.TooManyProtocols = ⊥
-WithdrawFails before name (edit.Elaborate f) = ⊥
-WithdrawFails before name (edit.Project u) = ⊥
-WithdrawFails before name edit.VersionsFull = ⊥
-WithdrawFails before name (edit.Lex f) = ⊥
-WithdrawFails before name (edit.Parse f) = ⊥
-WithdrawFails before name (edit.NeedsReception other) = ⊥
+WithdrawFails before name _ = ⊥
 
 -- the text has no token sequence for this reason; `OutOfMemory` is the edit's own fault instead
 abbrev pub ReportsLex : List ℕ → LexFault → Type 0
-ReportsLex text lex.TextTooLong = tokens.FailsAt text lex.TextTooLong
-ReportsLex text (lex.BadByte at) = tokens.FailsAt text (lex.BadByte at)
-ReportsLex text (lex.OpenComment at) = tokens.FailsAt text (lex.OpenComment at)
-ReportsLex text (lex.OpenString at) = tokens.FailsAt text (lex.OpenString at)
-ReportsLex text (lex.LongName at) = tokens.FailsAt text (lex.LongName at)
+ReportsLex text lex.TextTooLong = tokens.LexFailsAt text lex.TextTooLong
+ReportsLex text (lex.BadByte at) = tokens.LexFailsAt text (lex.BadByte at)
+ReportsLex text (lex.OpenComment at) = tokens.LexFailsAt text (lex.OpenComment at)
+ReportsLex text (lex.OpenString at) = tokens.LexFailsAt text (lex.OpenString at)
+ReportsLex text (lex.LongName at) = tokens.LexFailsAt text (lex.LongName at)
 ReportsLex text lex.OutOfMemory = ⊥
 
 -- the tokens form no module for this reason; `OutOfMemory` is the edit's own fault instead
 abbrev pub ReportsParse : List Lexeme → ParseFault → Type 0
-ReportsParse ts (parse.Unexpected at) = IsFaultOf ts (parse.Unexpected at)
-ReportsParse ts parse.EndOfText = IsFaultOf ts parse.EndOfText
-ReportsParse ts (parse.LeftOut word at) = IsFaultOf ts (parse.LeftOut word at)
-ReportsParse ts (parse.TooDeep at) = IsFaultOf ts (parse.TooDeep at)
+ReportsParse ts (parse.Unexpected at) = IsParseFault ts (parse.Unexpected at)
+ReportsParse ts parse.EndOfText = IsParseFault ts parse.EndOfText
+ReportsParse ts (parse.LeftOut word at) = IsParseFault ts (parse.LeftOut word at)
+ReportsParse ts (parse.TooDeep at) = IsParseFault ts (parse.TooDeep at)
 ReportsParse ts parse.OutOfMemory = ⊥
 
 -- a declared protocol has no meaning, and breaks this rule at this place
@@ -190,11 +182,7 @@ ModuleFails profile before used m after (edit.Project u) =
 ModuleFails profile before used m after edit.VersionsFull =
     HasRoom m after × AreWellFormed profile after × RunsOut before after used
 ModuleFails profile before used m after edit.OutOfMemory = Unit {0}
-ModuleFails profile before used m after edit.UnknownModule = ⊥
-ModuleFails profile before used m after (edit.StillImported name) = ⊥
-ModuleFails profile before used m after (edit.Lex f) = ⊥
-ModuleFails profile before used m after (edit.Parse f) = ⊥
-ModuleFails profile before used m after (edit.NeedsReception name) = ⊥
+ModuleFails profile before used m after _ = ⊥
 
 -- the text forms a module, whose put fails with this fault
 abbrev pub TextFails : Profile → (before : List ModuleTree) (used : ℕ) → List ℕ → EditFault → Type 0
@@ -215,6 +203,4 @@ PutFails profile before used text (edit.Elaborate f) = TextFails profile before 
 PutFails profile before used text (edit.Project u) = TextFails profile before used text (edit.Project u)
 PutFails profile before used text edit.VersionsFull = TextFails profile before used text edit.VersionsFull
 PutFails profile before used text edit.OutOfMemory = length text ≤ max_text_bytes
-PutFails profile before used text edit.UnknownModule = ⊥
-PutFails profile before used text (edit.StillImported name) = ⊥
-PutFails profile before used text (edit.NeedsReception name) = ⊥
+PutFails profile before used text _ = ⊥

@@ -10,7 +10,7 @@ use Rattle.scrib_parser.specs.declared.tree.ModuleTree.{ModuleTree}
 use Rattle.scrib_elaborate.specs.declared.elaborated.Elaborated.{Elaborated}
 use Rattle.scrib_static_checks.specs.Elaboration.{Elaborates}
 use Rattle.scrib_static_checks.specs.Faults.{IsBroken}
-use Rattle.scrib_elaborate.specs.Meaning.{meaning_of}
+use Rattle.scrib_elaborate.specs.Meaning.{elaborated_meaning}
 use Rattle.scrib_elaborate.specs.Sites.{AreSites}
 use Rattle.scrib_project.specs.declared.fault.Unmergeable.{Unmergeable}
 use Rattle.scrib_project.specs.Faults.{first_without, IsPlaced}
@@ -33,7 +33,7 @@ meaning_names ys = map (λ (y : NamedMeaning). y.name) ys
 
 -- the elaborated type of the name, if it has a meaning
 abbrev pub found : NamedElaborated → Option Agreement
-found x = option_map meaning_of x.elaborated
+found x = option_map elaborated_meaning x.elaborated
 
 -- the meaning of the name, if it has one
 abbrev pub meant : NamedMeaning → Option Agreement
@@ -109,9 +109,9 @@ pub record IsProjected (profile : Profile) (x : NamedElaborated) (y : NamedMeani
 pub record IsUnprojected (profile : Profile) (x : NamedElaborated) (u : Unmergeable) : Type 0 where
   pub elaborated : Elaborated
   pub is : x.elaborated ≡ Some elaborated
-  pub first : first_without profile (meaning_of elaborated).global (meaning_of elaborated).roles ≡ Some u.role
+  pub first : first_without profile (elaborated_meaning elaborated).global (elaborated_meaning elaborated).roles ≡ Some u.role
   pub place : (modules : List ModuleTree) (home : List (List ℕ)) (name : List ℕ)
-      → AreSites modules home name elaborated → IsPlaced profile modules home name (meaning_of elaborated).global u
+      → AreSites modules home name elaborated → IsPlaced profile modules home name (elaborated_meaning elaborated).global u
 
 -- why this elaborated type has no projections, or memory was refused
 abbrev pub StopsNamed : Profile → NamedElaborated → EditFault → Type 0
@@ -149,9 +149,9 @@ StopsProjection profile xs edit.OutOfMemory = Unit {0}
 StopsProjection profile xs other = ⊥
 
 -- the reason why an entry's protocol has no meaning, or no projections under the profile
-abbrev pub IsRefusal : Profile → List ModuleTree → List Entry → EditFault → Type 0
-IsRefusal profile modules es (edit.Elaborate f) = SomeIsDeclared es × IsBrokenIn modules f
-IsRefusal profile modules es (edit.Project u) =
+abbrev pub IsEntryRefusal : Profile → List ModuleTree → List Entry → EditFault → Type 0
+IsEntryRefusal profile modules es (edit.Elaborate f) = SomeIsDeclared es × IsBrokenIn modules f
+IsEntryRefusal profile modules es (edit.Project u) =
     SomeIsDeclared es × AreElaborable modules es × IsUnmergeableIn profile modules u
-IsRefusal profile modules es edit.OutOfMemory = Unit {0}
-IsRefusal profile modules es other = ⊥
+IsEntryRefusal profile modules es edit.OutOfMemory = Unit {0}
+IsEntryRefusal profile modules es other = ⊥

@@ -29,9 +29,9 @@ pub record IsFirstLacking (profile : Profile) (versions : List NamedVersion) (na
       → name_cmp name v.name ≢ Greater
 
 -- the first such name, or none if no name is such
-abbrev pub IsFirstOrNone : Profile → List NamedVersion → Option (List (List ℕ)) → Type 0
-IsFirstOrNone profile versions None = AllVersionsProject profile versions
-IsFirstOrNone profile versions (Some name) = IsFirstLacking profile versions name
+abbrev pub IsFirstLackingOrNone : Profile → List NamedVersion → Option (List (List ℕ)) → Type 0
+IsFirstLackingOrNone profile versions None = AllVersionsProject profile versions
+IsFirstLackingOrNone profile versions (Some name) = IsFirstLacking profile versions name
 
 -- why the wanted profile cannot replace the held one
 abbrev pub StopsChange : (held wanted : Profile) → List NamedVersion → EditFault → Type 0

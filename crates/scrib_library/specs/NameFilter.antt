@@ -1,23 +1,19 @@
 -- Name filters: Bloom filters of 64 bits over names.
 -- Only contracts of private functions cite this file.
-use Rattle.std.specs.Prelude.{◌≡◌, ℕ, ◌+◌, ◌*◌, ◌%◌, ◌^◌, bit_or, List, [], ◌∷◌, map, Contains}
+use Rattle.std.specs.Prelude.{◌≡◌, ℕ, ◌^◌, bit_or, List, [], ◌∷◌, map, Contains}
 use Rattle.std.specs.Borrow.{Bor}
 use Rattle.std.specs.Int.{bit_at}
 use Rattle.scrib_parser.specs.declared.tree.Import.{Import}
+use Rattle.scrib_types.specs.Hashing.{hash_bytes, slot_of}
 use Rattle.scrib_static_checks.specs.Names.{last_name}
 
 -- the names that the references refer to
 abbrev pub names_now : List (Bor (List (List ℕ))) → List (List (List ℕ))
 names_now rs = map (λ (r : Bor (List (List ℕ))). r.now) rs
 
--- the hash of the bytes, below 64, continued from `so_far`
-abbrev pub hashed : (so_far : ℕ) → List ℕ → ℕ
-hashed h [] = h
-hashed h (b ∷ bs) = hashed ((h * 5 + b) % 64) bs
-
--- the filter bit of the name
+-- the filter bit of the name, by the hash of its last part
 abbrev pub filter_bit : List (List ℕ) → ℕ
-filter_bit name = hashed 0 (last_name name)
+filter_bit name = slot_of (hash_bytes 0 (last_name name)) 64
 
 -- the filter, extended by the bits of the imported modules' names
 abbrev pub filter_from : (so_far : ℕ) → List Import → ℕ

@@ -5,7 +5,7 @@ use Rattle.scrib_types.specs.Agreement.{Agreement}
 use Rattle.scrib_types.specs.declared.profile.Profile.{Profile}
 use Rattle.scrib_parser.specs.declared.tree.ModuleTree.{ModuleTree}
 use Rattle.scrib_static_checks.specs.declared.modules.Placed.{Placed}
-use Rattle.scrib_static_checks.specs.Placed.{IsPlaced}
+use Rattle.scrib_static_checks.specs.Placed.{IsModulePlaced}
 use Rattle.scrib_library.specs.declared.plan.Plan.{Plan}
 use Rattle.scrib_library.specs.declared.meanings.NamedMeaning.{NamedMeaning}
 use Rattle.scrib_library.specs.declared.versions.NamedVersion.{NamedVersion}
@@ -15,14 +15,14 @@ use Rattle.scrib_library.specs.Listed.{AreInOrder}
 use Rattle.scrib_library.specs.Edits.{HasRoom, ModuleFails}
 use Rattle.scrib_library.specs.Stored.{IsSpelled, IsLibrary}
 use Rattle.scrib_library.specs.Elaborated.{ProjectsUnder, meant, meaning_names}
-use Rattle.scrib_library.specs.Drafts.{shown, IsDraft}
+use Rattle.scrib_library.specs.Drafts.{shown_changes, IsDraft}
 
 -- the plan is a draft for these meanings, and lists its changes
 pub record IsPlanFor (versions : List NamedVersion) (ys : List NamedMeaning) (used : ℕ) (name : List (List ℕ))
     (p : Plan) : Type 0 where
   pub draft : IsDraft versions ys used p.edits.items p.used
   pub module_name : p.changes.module ≡ name
-  pub list : p.changes.list ≡ shown p.edits.items
+  pub list : p.changes.list ≡ shown_changes p.edits.items
 
 -- `ys` are the meanings of their names after an edit, and project under the profile. Every other name keeps its
 -- meaning, and each declared protocol has one.
@@ -38,7 +38,7 @@ abbrev pub Covers : Profile → ModuleTree → (modules : List ModuleTree) → (
     → Type 0
 Covers profile m modules gone ys =
     (before : List ModuleTree) (placed : Placed) (versions : List NamedVersion) (used : ℕ)
-    → IsPlaced m before modules placed → placed.replaced ≡ gone → IsLibrary profile before versions used
+    → IsModulePlaced m before modules placed → placed.replaced ≡ gone → IsLibrary profile before versions used
     → IsCovered profile before modules ys
 
 -- The module has room. The plan is for the meanings that the put can have changed.
@@ -55,13 +55,13 @@ abbrev pub StopsMeanings : Profile → ModuleTree → (modules : List ModuleTree
     → Type 0
 StopsMeanings profile m modules gone f =
     (before : List ModuleTree) (placed : Placed) (versions : List NamedVersion) (used : ℕ)
-    → IsPlaced m before modules placed → placed.replaced ≡ gone → IsLibrary profile before versions used
+    → IsModulePlaced m before modules placed → placed.replaced ≡ gone → IsLibrary profile before versions used
     → ModuleFails profile before used m modules f
 
 -- the reason why the put of the module is refused, for every library of this profile
 abbrev pub StopsPut : Profile → ModuleTree → (modules : List ModuleTree) → (gone : Option ModuleTree)
     → List NamedVersion → ℕ → EditFault → Type 0
 StopsPut profile m modules gone versions used f =
-    (before : List ModuleTree) (placed : Placed) → IsPlaced m before modules placed → placed.replaced ≡ gone
+    (before : List ModuleTree) (placed : Placed) → IsModulePlaced m before modules placed → placed.replaced ≡ gone
     → IsSpelled m → IsLibrary profile before versions used
     → ModuleFails profile before used m modules f

@@ -30,13 +30,4 @@ pub record IsLeastLacking (profile : Profile) (modules : List ModuleTree) (name 
 abbrev pub ProfileFails : (held wanted : Profile) → List ModuleTree → EditFault → Type 0
 ProfileFails held wanted modules (edit.NeedsReception name) = IsLeastLacking wanted modules name
 ProfileFails held wanted modules edit.OutOfMemory = (held ≡ Reception) × (wanted ≡ Plain)
-ProfileFails held wanted modules (edit.Lex f) = ⊥
-ProfileFails held wanted modules (edit.Parse f) = ⊥
-ProfileFails held wanted modules edit.UnknownModule = ⊥
-ProfileFails held wanted modules edit.TooManyModules = ⊥
-ProfileFails held wanted modules (edit.StillImported by) = ⊥
-ProfileFails held wanted modules (edit.ImportMissing other) = ⊥
-ProfileFails held wanted modules edit.TooManyProtocols = ⊥
-ProfileFails held wanted modules (edit.Elaborate f) = ⊥
-ProfileFails held wanted modules (edit.Project u) = ⊥
-ProfileFails held wanted modules edit.VersionsFull = ⊥
+ProfileFails held wanted modules _ = ⊥

@@ -34,14 +34,14 @@ pub record IsFirstImporter (modules : List ModuleTree) (name by : List (List ℕ
   pub first : (m : ModuleTree) → IsImporter modules name m → name_cmp by m.name ≢ Greater
 
 -- the first such name, or none if no name is such
-abbrev pub IsFirstOrNone : List ModuleTree → List (List ℕ) → Option (List (List ℕ)) → Type 0
-IsFirstOrNone modules name None = (m : ModuleTree) → IsImporter modules name m → ⊥
-IsFirstOrNone modules name (Some by) = IsFirstImporter modules name by
+abbrev pub IsFirstImporterOrNone : List ModuleTree → List (List ℕ) → Option (List (List ℕ)) → Type 0
+IsFirstImporterOrNone modules name None = (m : ModuleTree) → IsImporter modules name m → ⊥
+IsFirstImporterOrNone modules name (Some by) = IsFirstImporter modules name by
 
 -- the lesser of the two names, or the second if the first is missing
-abbrev pub IsFirstOf : Option (List (List ℕ)) → (second first : List (List ℕ)) → Type 0
-IsFirstOf None b c = c ≡ b
-IsFirstOf (Some a) b c = ((c ≡ a) ⊎ (c ≡ b)) × (name_cmp c a ≢ Greater) × (name_cmp c b ≢ Greater)
+abbrev pub IsLesserName : Option (List (List ℕ)) → (second first : List (List ℕ)) → Type 0
+IsLesserName None b c = c ≡ b
+IsLesserName (Some a) b c = ((c ≡ a) ⊎ (c ≡ b)) × (name_cmp c a ≢ Greater) × (name_cmp c b ≢ Greater)
 
 -- the name of a protocol of the module, without a meaning
 pub record IsWithdrawnMeaning (gone : ModuleTree) (y : NamedMeaning) : Type 0 where

@@ -1,12 +1,11 @@
 //! Which protocols the statements of another call.
 
 ghost use Rattle.std.specs.Prelude.{◌≡◌, false};
-ghost use Rattle.std.specs.Option.{option_copied};
 ghost use Rattle.scrib_static_checks.specs.SourceView.{body_of, blocks_of, statement_of};
-ghost use Rattle.scrib_static_checks.specs.Names.{dotted_eq, known_by, imported, looked_in};
 ghost use Rattle.scrib_library.specs.Calls.{EachCall, EachCallAt, EachCallOf, IsOther};
 
-use scrib_parser::tree::{Block, Import, ModuleTree, Statement};
+use scrib_parser::tree::{Block, ModuleTree, Statement};
+use scrib_static_checks::declared::looked_in;
 use scrib_types::name::{Dotted, Name};
 
 /// Whether some call in these statements of the module `at` calls the protocol `name` of the module `home`.
@@ -61,48 +60,4 @@ fn is_of(at: &ModuleTree, path: &Dotted, home: &Dotted, name: &Name) -> bool
         Some(module) => module.equal(home),
         None => false,
     }
-}
-
-// Returns the name of the module that a call refers to, given the part of its path before the protocol's name.
-fn looked_in<'a>(at: &'a ModuleTree, front: &[Name]) -> Option<&'a Dotted>
-    ensures { option_copied result ≡ looked_in at.now front.now }
-{
-    if front.is_empty() {
-        return Some(&at.name);
-    }
-    imported(at.imports.as_slice(), front)
-}
-
-fn imported<'a>(imports: &'a [Import], front: &[Name]) -> Option<&'a Dotted>
-    ensures { option_copied result ≡ imported imports.now front.now }
-{
-    for import in imports {
-        if is_known_by(import, front) {
-            return Some(&import.module);
-        }
-    }
-    None
-}
-
-fn is_known_by(import: &Import, front: &[Name]) -> bool
-    ensures { result ≡ dotted_eq front.now (known_by import.now) }
-{
-    match &import.known_as {
-        Some(name) => front.len() == 1 && front[0].equal(name),
-        None => are_same(front, import.module.as_slice()),
-    }
-}
-
-fn are_same(a: &[Name], b: &[Name]) -> bool
-    ensures { result ≡ dotted_eq a.now b.now }
-{
-    if a.len() != b.len() {
-        return false;
-    }
-    for i in 0..a.len() {
-        if !a[i].equal(&b[i]) {
-            return false;
-        }
-    }
-    true
 }

@@ -6,7 +6,7 @@ ghost use Rattle.scrib_record.specs.declared.version.Version as version;
 ghost use Rattle.scrib_library.specs.Listed.{AreInOrder};
 ghost use Rattle.scrib_library.specs.Stored.{version_names};
 ghost use Rattle.scrib_library.specs.Elaborated.{meaning_names};
-ghost use Rattle.scrib_library.specs.Drafts.{shown, IsNewVersionEdit, IsEdit, LacksVersion, LacksNumber, IsDraft, StopsDraft};
+ghost use Rattle.scrib_library.specs.Drafts.{shown_changes, IsNewVersionEdit, IsEdit, LacksVersion, LacksNumber, IsDraft, StopsDraft};
 
 use crate::changes::{Change, ChangeKind};
 use crate::fault::EditFault;
@@ -76,7 +76,7 @@ fn used_after(edit: &VersionEdit, used: u32) -> u32
 /// # Errors
 /// `AllocError` if memory was refused.
 pub fn changes_in(alloc: Global, edits: &[VersionEdit]) -> Result<Items<Change>, AllocError>
-    ensures { IfOk result (λ changes. changes ≡ shown edits.now) }
+    ensures { IfOk result (λ changes. changes ≡ shown_changes edits.now) }
 {
     let mut changes = Vec::with_capacity(alloc, edits.len())?;
     for edit in edits {

@@ -1,13 +1,12 @@
 //! Hints for the indices of versions, by a hash of their names. Correctness does not depend on them: the user of a hint
 //! compares the name found there.
 
-ghost use Rattle.std.specs.Prelude.{◌<◌};
-
 use crate::versions::NamedVersion;
+use scrib_types::hashing::{hash_names, slot_of};
 use scrib_types::name::Dotted;
 use std::alloc::{AllocError, Global};
 
-// The number of hint slots: a power of two, so that a remainder is cheap.
+// The number of hint slots, a power of two.
 const SLOTS: usize = 4096;
 
 /// For each hash an index into the versions. The slots are allocated on first use.
@@ -50,7 +49,7 @@ impl Hints {
         }
         self.count = versions.len();
         for (place, named) in (0..=u16::MAX).zip(versions) {
-            if let Some(noted) = self.places.get_mut(slot_of(&named.name)) {
+            if let Some(noted) = self.places.get_mut(hint_slot(&named.name)) {
                 *noted = place;
             }
         }
@@ -58,31 +57,16 @@ impl Hints {
 
     /// Returns the likely index of the version of this name.
     pub fn place_of(&self, name: &Dotted) -> usize {
-        match self.places.get(slot_of(name)) {
+        match self.places.get(hint_slot(name)) {
             Some(place) => usize::from(*place),
             None => 0,
         }
     }
 }
 
-// Hashes the last two parts of the name to a slot. The parts in front are mostly alike among a library's protocols.
-fn slot_of(name: &Dotted) -> usize {
+// Returns the slot of the name by its last two parts. The parts in front are mostly alike among a library's protocols.
+fn hint_slot(name: &Dotted) -> usize {
     let parts = name.as_slice();
-    let mut number = 0;
-    for part in &parts[parts.len().saturating_sub(2)..] {
-        number = hash_bytes(number, part.as_bytes());
-    }
-    number
-}
-
-// Adds the bytes to the hash.
-fn hash_bytes(so_far: usize, bytes: &[u8]) -> usize
-    requires { so_far < 4096 }
-    ensures { result < 4096 }
-{
-    let mut number = so_far;
-    for byte in bytes {
-        number = (number * 33 + usize::from(*byte)) % SLOTS;
-    }
-    number
+    let last_two = &parts[parts.len().saturating_sub(2)..];
+    slot_of(hash_names(0, last_two), SLOTS)
 }

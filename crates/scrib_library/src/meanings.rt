@@ -5,7 +5,7 @@ ghost use Rattle.scrib_types.specs.declared.profile.Profile as held;
 ghost use Rattle.scrib_types.specs.Meaning.{agreement_of};
 ghost use Rattle.scrib_library.specs.Listed.{AreInOrder};
 ghost use Rattle.scrib_library.specs.Entries.{entry_names, AreDeclared};
-ghost use Rattle.scrib_library.specs.Elaborated.{IsFoundFor, IsBrokenEntry, AreElaborated, AreMeanings, IsProjected, StopsNamed, AreProjected, IsRefusal, StopsProjection};
+ghost use Rattle.scrib_library.specs.Elaborated.{IsFoundFor, IsBrokenEntry, AreElaborated, AreMeanings, IsProjected, StopsNamed, AreProjected, IsEntryRefusal, StopsProjection};
 ghost use Rattle.scrib_library.specs.Withdrawals.{AreNothing, AreWithdrawnMeanings};
 
 use crate::declared::{Entry, enter};
@@ -49,7 +49,7 @@ pub fn meanings_of(
     requires sorted { AreInOrder (entry_names entries.items) }
     requires stand { AreDeclared modules.now entries.items }
     ensures ok { IfOk result (λ meanings. AreMeanings profile modules.now entries.entry.items meanings.items) }
-    ensures fault { IfErr result (IsRefusal profile modules.now entries.entry.items) }
+    ensures fault { IfErr result (IsEntryRefusal profile modules.now entries.entry.items) }
 {
     let elaborated = elaborate_all(alloc, modules, entries)?;
     let meanings = project_all(alloc, profile, elaborated)?;
@@ -91,7 +91,7 @@ fn elaborate_all(
 ) -> Result<Vec<NamedElaborated>, EditFault>
     requires { AreDeclared modules.now entries.items }
     ensures ok { IfOk result (λ all. AreElaborated modules.now entries.entry.items all.items) }
-    ensures fault { IfErr result (λ f. (profile : held.Profile) → IsRefusal profile modules.now entries.entry.items f) }
+    ensures fault { IfErr result (λ f. (profile : held.Profile) → IsEntryRefusal profile modules.now entries.entry.items f) }
 {
     let mut elaborator = Elaborator::new(alloc, modules)?;
     let mut all = Vec::with_capacity(alloc, entries.len())?;

@@ -4,7 +4,7 @@ ghost use Rattle.std.specs.Prelude.{◌≡◌, ◌<◌, [], false, length, remov
 ghost use Rattle.scrib_parser.specs.declared.tree.ModuleTree as parsed;
 ghost use Rattle.scrib_static_checks.specs.Names.{has_name, module_names};
 ghost use Rattle.scrib_static_checks.specs.Table.{IsPlace};
-ghost use Rattle.scrib_static_checks.specs.Placed.{IsPlaced, undone};
+ghost use Rattle.scrib_static_checks.specs.Placed.{IsModulePlaced, undone};
 ghost use Rattle.scrib_library.specs.Summaries.{summaries_of};
 
 use crate::summaries::{ModuleSummary, place_of, summary_of};
@@ -53,7 +53,7 @@ impl ModuleStore {
     /// # Errors
     /// `AllocError` if memory for one more module was refused. The modules are unchanged then.
     pub fn put(&mut self, tree: ModuleTree) -> Result<Placed, AllocError>
-        ensures ok { IfOk result (IsPlaced tree self.old self.new) }
+        ensures ok { IfOk result (IsModulePlaced tree self.old self.new) }
         ensures err { OnErr result (self.new ≡ self.old) }
     {
         let summary = summary_of(&tree);

@@ -4,7 +4,11 @@ ghost use Rattle.std.specs.Prelude.{◌≡◌, ◌<◌, ◌⊎◌, ℕ, false};
 ghost use Rattle.scrib_library.specs.NameFilter as spec;
 
 use scrib_parser::tree::{Import, ModuleTree};
+use scrib_types::hashing::{hash_bytes, slot_of};
 use scrib_types::name::Dotted;
+
+// The number of bits of a filter.
+const FILTER_BITS: usize = 64;
 
 /// A module, with the filter of the module names that it imports.
 #[derive(Drop)]
@@ -20,11 +24,8 @@ pub fn filter_bit(name: &Dotted) -> u32
     ensures within { result < 64 }
 {
     let parts = name.as_slice();
-    let mut bit = 0;
-    for byte in parts[parts.len() - 1].as_bytes() {
-        bit = (bit * 5 + u32::from(*byte)) % 64;
-    }
-    bit
+    let last = &parts[parts.len() - 1];
+    slot_of(hash_bytes(0, last.as_bytes()), FILTER_BITS) as u32
 }
 
 /// Returns the filter of the imported modules' names.

@@ -6,7 +6,7 @@ ghost use Rattle.scrib_types.specs.Meaning.{agreement_of};
 ghost use Rattle.scrib_types.specs.WellFormed.{projects};
 ghost use Rattle.scrib_library.specs.Listed.{AreInOrder};
 ghost use Rattle.scrib_library.specs.Stored.{version_names};
-ghost use Rattle.scrib_library.specs.Lacking.{AllVersionsProject, IsFirstOrNone, StopsChange};
+ghost use Rattle.scrib_library.specs.Lacking.{AllVersionsProject, IsFirstLackingOrNone, StopsChange};
 
 use crate::fault::EditFault;
 use crate::versions::NamedVersion;
@@ -50,7 +50,7 @@ fn first_lacking<'a>(
     profile: Profile,
 ) -> Result<Option<&'a Dotted>, AllocError>
     requires { AreInOrder (version_names versions.now) }
-    ensures { IfOk result (λ name. IsFirstOrNone profile versions.now (option_copied name)) }
+    ensures { IfOk result (λ name. IsFirstLackingOrNone profile versions.now (option_copied name)) }
 {
     for named in versions {
         let projected = has_projections(alloc, named.version.protocol(), profile)?;

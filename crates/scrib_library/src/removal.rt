@@ -5,7 +5,7 @@ ghost use Rattle.std.specs.Option.{option_copied};
 ghost use Rattle.scrib_parser.specs.declared.tree.ModuleTree as parsed;
 ghost use Rattle.scrib_library.specs.Edits.{WithdrawFails};
 ghost use Rattle.scrib_library.specs.Stored.{IsSpelled};
-ghost use Rattle.scrib_library.specs.Withdrawals.{Imports, IsFreePlace, IsFirstOrNone, IsFirstOf};
+ghost use Rattle.scrib_library.specs.Withdrawals.{Imports, IsFreePlace, IsFirstImporterOrNone, IsLesserName};
 
 use crate::affected::imports_some;
 use crate::fault::EditFault;
@@ -37,7 +37,7 @@ pub fn free_place(modules: &ModuleStore, name: &Dotted) -> Result<usize, EditFau
 
 // Returns the first, in the order of names, of the other modules that import the one of this name.
 fn first_importer<'a>(modules: &'a [ModuleTree], name: &Dotted) -> Option<&'a Dotted>
-    ensures { IsFirstOrNone modules.now name.now (option_copied result) }
+    ensures { IsFirstImporterOrNone modules.now name.now (option_copied result) }
 {
     let mut first = None;
     for tree in modules {
@@ -57,7 +57,7 @@ fn is_importer(tree: &ModuleTree, name: &Dotted) -> bool
 
 // Returns the lesser of two names; the second if the first is missing.
 fn first_of<'a>(name: Option<&'a Dotted>, second: &'a Dotted) -> &'a Dotted
-    ensures { IsFirstOf (option_copied name.entry) second.entry.now result.now }
+    ensures { IsLesserName (option_copied name.entry) second.entry.now result.now }
 {
     let Some(name) = name else {
         return second;

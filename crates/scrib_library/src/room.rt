@@ -63,7 +63,7 @@ fn missing_import<'a>(
 
 // Whether the summarised modules declare more than 1,024 protocols.
 fn declares_too_many(summaries: &[ModuleSummary]) -> bool
-    ensures { result ≡ nat_lt 1024 (declared_count summaries.now) }
+    ensures { result ≡ nat_lt MAX_PROTOCOLS (declared_count summaries.now) }
 {
     let mut left = MAX_PROTOCOLS;
     for summary in summaries {

@@ -13,13 +13,13 @@ use Rattle.scrib_types.specs.LocalView.{local_of, local_branches}
 use Rattle.scrib_types.specs.Trees.{LocalTree, LocalEnd, LocalVar, LocalRec, Send, Recv, LocalBranches, NoChoice, Choice}
 use Rattle.scrib_machine.specs.declared.machine.Edge.{Edge}
 use Rattle.scrib_machine.specs.Compilable.{Closed}
-use Rattle.scrib_machine.specs.Layout.{size, sizes, actions_of, edges_of, IsRow, Laid, LaidAll, Kept, Placed, PlacedAll}
+use Rattle.scrib_machine.specs.Layout.{size, sizes, actions_of, edges_of, HasEdges, Laid, LaidAll, Kept, Placed, PlacedAll}
 
 -- tables that have the same states from n on, up to a number of them
 abbrev Same : List (List Edge) → List (List Edge) → ℕ → ℕ → Type 0
 Same m m' n k = (i : ℕ) → n ≤ i → i < n + k → slice_get m' i ≡ slice_get m i
 
-row_kept : (m m' : List (List Edge)) (n : ℕ) (f : Message → Action) (ls : LocalBranches) (ks : List ℕ) → slice_get m' n ≡ slice_get m n → IsRow m n f ls ks → IsRow m' n f ls ks
+row_kept : (m m' : List (List Edge)) (n : ℕ) (f : Message → Action) (ls : LocalBranches) (ks : List ℕ) → slice_get m' n ≡ slice_get m n → HasEdges m n f ls ks → HasEdges m' n f ls ks
 row_kept m m' n f ls ks e r = record { edges = r.edges; here = e ∙ r.here; same = r.same; sorted = r.sorted }
 
 mutual
@@ -95,7 +95,7 @@ record Filled (old new : List (List Edge)) (env : List ℕ) (f : Message → Act
   kept : Kept old new
   ks : List ℕ
   laid : LaidAll new env ls (length old + 1) ks
-  row : IsRow new (length old) f ls ks
+  row : HasEdges new (length old) f ls ks
 
 filled : (old mid laid new : List (List Edge)) (env : List ℕ) (f : Message → Action) (ls : LocalBranches) (ks : List ℕ) (es : List Edge) → mid ≡ old ++ [] ∷ [] → PlacedAll mid laid env ls ks → new ≡ set laid (length old) es → IsPermutation (edges_of f ls ks) es → AllPairs ComesBefore (actions_of es) → Filled old new env f ls
 filled old mid laid new env f ls ks es start p is same sorted =

@@ -12,7 +12,7 @@ use Rattle.scrib_types.specs.Traces.{unfolding_of, Offers, LocalTransition, send
 use Rattle.scrib_machine.specs.declared.machine.Edge.{Edge}
 use Rattle.scrib_machine.specs.Machines.{Steps, IsMachine, UnfoldsTo, as_is, unfolded, IsSystemOf}
 use Rattle.scrib_machine.specs.Compilable.{Closed, ClosedAll, LeadsToChoice, Guarded, GuardedAll, Lacks, Differ, Distinct, DistinctAll, IsCompilable}
-use Rattle.scrib_machine.specs.Layout.{size, sizes, actions_of, edges_of, IsRow, Laid, LaidAll, Placed}
+use Rattle.scrib_machine.specs.Layout.{size, sizes, actions_of, edges_of, HasEdges, Laid, LaidAll, Placed}
 use Rattle.scrib_machine.proofs.ClosedSubstitution.{closing, closing_all, closing_end, closing_rec, closing_send, closing_recv, closing_none, closing_choice, closing_closed, closing_var, EachClosed}
 
 -- The closed types of a tree's states, in order, where the trees ss replace its free variables, the innermost first.
@@ -225,11 +225,11 @@ edge_offer m T env ss f (Choice y l ls) n (k ∷ ks) b c d v w g a j (suc at) h 
     }
 
 -- the steps of a row are its edges
-steps_row : (m : List (List Edge)) (n : ℕ) (f : Message → Action) (ls : LocalBranches) (ks : List ℕ) → IsRow m n f ls ks → (a : Action) (j : ℕ) → Contains (edges_of f ls ks) (record { action = a; next = j }) → Steps m n a j
+steps_row : (m : List (List Edge)) (n : ℕ) (f : Message → Action) (ls : LocalBranches) (ks : List ℕ) → HasEdges m n f ls ks → (a : Action) (j : ℕ) → Contains (edges_of f ls ks) (record { action = a; next = j }) → Steps m n a j
 steps_row m n f ls ks row a j w =
     record { edges = row.edges; here = row.here; there = Contains-permutation (edges_of f ls ks) row.edges (record { action = a; next = j }) row.same w }
 
-row_steps : (m : List (List Edge)) (n : ℕ) (f : Message → Action) (ls : LocalBranches) (ks : List ℕ) → IsRow m n f ls ks → (a : Action) (j : ℕ) → Steps m n a j → Contains (edges_of f ls ks) (record { action = a; next = j })
+row_steps : (m : List (List Edge)) (n : ℕ) (f : Message → Action) (ls : LocalBranches) (ks : List ℕ) → HasEdges m n f ls ks → (a : Action) (j : ℕ) → Steps m n a j → Contains (edges_of f ls ks) (record { action = a; next = j })
 row_steps m n f ls ks row a j s =
     let e : Edge = record { action = a; next = j } in
     let same : s.edges ≡ row.edges = some_is s.edges row.edges (sym s.here ∙ row.here) in
@@ -265,7 +265,7 @@ end_right m T n at type =
       complete = λ a k d. absurd (does_as (subst (λ x. LocalTransition x a k) type d));
     }
 
-send_right : (m : List (List Edge)) (T : ℕ → LocalTree) (env : List ℕ) (ss : List LocalTree) (q : List ℕ) (ls : LocalBranches) (n : ℕ) (ks : List ℕ) → Bound m T env ss → ClosedAll ls (length ss) → GuardedAll ls → Differ ls → LaidAll m env ls (n + 1) ks → IsRow m n (Sends q) ls ks → Gives T n (types ss (Send q ls)) → IsRight m T n
+send_right : (m : List (List Edge)) (T : ℕ → LocalTree) (env : List ℕ) (ss : List LocalTree) (q : List ℕ) (ls : LocalBranches) (n : ℕ) (ks : List ℕ) → Bound m T env ss → ClosedAll ls (length ss) → GuardedAll ls → Differ ls → LaidAll m env ls (n + 1) ks → HasEdges m n (Sends q) ls ks → Gives T n (types ss (Send q ls)) → IsRight m T n
 send_right m T env ss q ls n ks b c d v w row g =
     let choice : LocalTree = Send q (closing_all 0 ss ls) in
     record {
@@ -281,7 +281,7 @@ send_right m T env ss q ls n ks b c d v w row g =
           (e.next, subst (λ x. Steps m n x e.next) (sym o.1) (steps_row m n (Sends q) ls ks row (Sends q o.0) e.next e.there), e.begins.type);
     }
 
-recv_right : (m : List (List Edge)) (T : ℕ → LocalTree) (env : List ℕ) (ss : List LocalTree) (p : List ℕ) (ls : LocalBranches) (n : ℕ) (ks : List ℕ) → Bound m T env ss → ClosedAll ls (length ss) → GuardedAll ls → Differ ls → LaidAll m env ls (n + 1) ks → IsRow m n (Receives p) ls ks → Gives T n (types ss (Recv p ls)) → IsRight m T n
+recv_right : (m : List (List Edge)) (T : ℕ → LocalTree) (env : List ℕ) (ss : List LocalTree) (p : List ℕ) (ls : LocalBranches) (n : ℕ) (ks : List ℕ) → Bound m T env ss → ClosedAll ls (length ss) → GuardedAll ls → Differ ls → LaidAll m env ls (n + 1) ks → HasEdges m n (Receives p) ls ks → Gives T n (types ss (Recv p ls)) → IsRight m T n
 recv_right m T env ss p ls n ks b c d v w row g =
     let choice : LocalTree = Recv p (closing_all 0 ss ls) in
     record {

@@ -18,11 +18,10 @@ abbrev mutual
 
 -- a choice follows its leading recursions
 abbrev pub LeadsToChoice : LocalTree → Type 0
-LeadsToChoice LocalEnd = ⊥
-LeadsToChoice (LocalVar k) = ⊥
 LeadsToChoice (LocalRec body) = LeadsToChoice body
 LeadsToChoice (Send q ls) = Unit {0}
 LeadsToChoice (Recv p ls) = Unit {0}
+LeadsToChoice _ = ⊥
 
 -- guarded (Honda, Yoshida and Carbone, POPL 2008): in each recursion a choice follows the leading recursions
 abbrev mutual

@@ -46,7 +46,8 @@ edges_of f (Choice m l ls) [] = []
 edges_of f (Choice m l ls) (k ∷ ks) = edge_of (f m) k ∷ edges_of f ls ks
 
 -- state n has these edges, sorted
-pub record IsRow (m : List (List Edge)) (n : ℕ) (f : Message → Action) (ls : LocalBranches) (ks : List ℕ) : Type 0 where
+pub record HasEdges (m : List (List Edge)) (n : ℕ) (f : Message → Action) (ls : LocalBranches) (ks : List ℕ)
+    : Type 0 where
   pub edges : List Edge
   pub here : slice_get m n ≡ Some edges
   pub same : IsPermutation (edges_of f ls ks) edges
@@ -59,15 +60,14 @@ abbrev mutual
   Laid m env LocalEnd n r = (r ≡ n) × (slice_get m n ≡ Some [])
   Laid m env (LocalVar k) n r = slice_get env k ≡ Some r
   Laid m env (LocalRec body) n r = Laid m (n ∷ env) body n r
-  Laid m env (Send q ls) n r = (r ≡ n) × ((ks : List ℕ) × LaidAll m env ls (n + 1) ks × IsRow m n (Sends q) ls ks)
-  Laid m env (Recv p ls) n r = (r ≡ n) × ((ks : List ℕ) × LaidAll m env ls (n + 1) ks × IsRow m n (Receives p) ls ks)
+  Laid m env (Send q ls) n r = (r ≡ n) × ((ks : List ℕ) × LaidAll m env ls (n + 1) ks × HasEdges m n (Sends q) ls ks)
+  Laid m env (Recv p ls) n r = (r ≡ n) × ((ks : List ℕ) × LaidAll m env ls (n + 1) ks × HasEdges m n (Receives p) ls ks)
 
   -- the branches have the states from n on, one after another, and begin in the states ks
   pub LaidAll : List (List Edge) → List ℕ → LocalBranches → ℕ → List ℕ → Type 0
   LaidAll m env NoChoice n [] = Unit {0}
-  LaidAll m env NoChoice n (k ∷ ks) = ⊥
-  LaidAll m env (Choice x l ls) n [] = ⊥
   LaidAll m env (Choice x l ls) n (k ∷ ks) = Laid m env l n k × LaidAll m env ls (n + size l) ks
+  LaidAll m env _ n _ = ⊥
 
 -- the states of the old rows have the same edges in the new rows
 abbrev pub Kept : List (List Edge) → List (List Edge) → Type 0

@@ -45,5 +45,5 @@ Path m i [] j = i ≡ j
 Path m i (a ∷ w) j = (k : ℕ) × Steps m i a k × Path m k w j
 
 -- the machine's paths from its start are exactly the traces of the local type
-abbrev pub Follows : LocalTree → List (List Edge) → Type 0
-Follows l m = (w : List Action) → IsTrace l w ↔ ((j : ℕ) × Path m 0 w j)
+abbrev pub HasTracesOf : LocalTree → List (List Edge) → Type 0
+HasTracesOf l m = (w : List Action) → IsTrace l w ↔ ((j : ℕ) × Path m 0 w j)

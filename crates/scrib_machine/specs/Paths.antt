@@ -8,7 +8,7 @@ use Rattle.scrib_types.specs.Judgement.{ComesBefore}
 use Rattle.scrib_types.specs.Trees.{LocalTree, LocalRec}
 use Rattle.scrib_types.specs.Traces.{unfolding_of, LocalTransition, unfolds, IsTrace}
 use Rattle.scrib_machine.specs.declared.machine.Edge.{Edge}
-use Rattle.scrib_machine.specs.Machines.{Steps, Path, UnfoldsTo, as_is, unfolded, IsSystemOf, Follows, IsMachine}
+use Rattle.scrib_machine.specs.Machines.{Steps, Path, UnfoldsTo, as_is, unfolded, IsSystemOf, HasTracesOf, IsMachine}
 
 unfolding_does : {body k : LocalTree} {a : Action} → LocalTransition (LocalRec body) a k
     → LocalTransition (unfolding_of body) a k
@@ -39,7 +39,7 @@ traces_from l m machine s (a ∷ w) i t h u = (
 )
 
 -- a machine that is the transition system of a local type follows the traces of the type
-pub system_follows : (l : LocalTree) (m : List (List Edge)) → IsMachine m → IsSystemOf l m → Follows l m
+pub system_follows : (l : LocalTree) (m : List (List Edge)) → IsMachine m → IsSystemOf l m → HasTracesOf l m
 system_follows l m machine s w = traces_from l m machine s w 0 l machine.some s.first
 
 some_is : {X : Type 0} (x y : X) → Some x ≡ Some y → x ≡ y
@@ -101,7 +101,7 @@ path_within m machine [] i j h p = subst (λ x. x < length m) p h
 path_within m machine (a ∷ w) i j h p = path_within m machine w p.0 j (machine.within i p.0 a p.1) p.2
 
 -- the state that the actions lead to has an edge of the action exactly where the longer list is a trace
-pub step_is_trace : (l : LocalTree) (m : List (List Edge)) → IsMachine m → Follows l m → (w : List Action) (i : ℕ)
+pub step_is_trace : (l : LocalTree) (m : List (List Edge)) → IsMachine m → HasTracesOf l m → (w : List Action) (i : ℕ)
     → Path m 0 w i → (a : Action) → ((j : ℕ) × Steps m i a j) ↔ IsTrace l (w ++ a ∷ [])
 step_is_trace l m machine f w i p a = (
   λ s. (f (w ++ a ∷ [])).1 (s.0, path_push m w a 0 i s.0 p s.1),

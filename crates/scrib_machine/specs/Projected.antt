@@ -5,14 +5,12 @@ use Rattle.std.proofs.Common.{sym, ap, ◌∙◌, inl, inr, arith}
 use Rattle.std.specs.Str.{bytes_eq}
 use Rattle.std.proofs.lemmas.Bool.{and_parts, true≢false, cases_Bool, cases_eq}
 use Rattle.std.proofs.lemmas.Bool.Decides.{Decides-eqb}
-use Rattle.std.proofs.lemmas.Slice.Eq.{bytes_eq-Decides}
 use Rattle.scrib_types.specs.declared.message.Message.{Message}
 pub use Rattle.scrib_types.specs.Nodes.{global_nodes, branch_nodes}
 use Rattle.scrib_types.specs.Trees.{GlobalTree, GlobalEnd, GlobalVar, GlobalRec, Comm, Flight, GlobalBranches, NoBranch, Branch, LocalTree, LocalEnd, LocalVar, LocalRec, Send, Recv, LocalBranches}
-use Rattle.scrib_types.specs.Projection.{open_depth, branches_open_depth, is_closed, occurs, branches_occur, projection}
+use Rattle.scrib_types.specs.Projection.{open_depth, branches_open_depth, is_closed, occurs, branches_occur, projection, widest}
 use Rattle.scrib_types.specs.WellFormed.{leads_to_communication, uses, branches_use, same_operator, has_operator, distinct_operators, has_branches, well_formed, branches_well_formed}
-use Rattle.scrib_types.specs.declared.profile.Profile.TheVariants.{Reception}
-use Rattle.scrib_types.specs.Merges.{WithOne, one_new, one_known, one_later, WithAll, all_none, all_more, Merges, merges_same, merges_receptions, kept_all}
+use Rattle.scrib_types.specs.Merges.{operator_itself, WithOne, one_new, one_known, one_later, WithAll, all_none, all_more, Merges, merges_same, merges_receptions, kept_all}
 use Rattle.scrib_machine.specs.Compilable.{Closed, ClosedAll, LeadsToChoice, Guarded, GuardedAll, Lacks, Differ, Distinct, DistinctAll, nodes, nodes_all, max_nodes, IsCompilable}
 use Rattle.scrib_machine.specs.Projects.{Projects, p_end, p_var, p_send, p_recv, p_other, p_idle, p_rec, ProjectEach, each_none, each_one, ProjectMerged, merged_none, merged_one, not_from, projects_of}
 
@@ -120,15 +118,12 @@ mutual
       let w = and_parts (well_formed roles g) (branches_well_formed roles bs) f in
       omega (arith, merges_small m, small roles r p w.0, small_merged roles r pm w.1)
 
--- different messages
-operator_itself : (o : Option (List ℕ)) → same_operator o o ≡ true
-operator_itself None = refl
-operator_itself (Some a) = (bytes_eq-Decides a a).1 refl
-
+-- where neither of two tests holds, each of them does not
 or_none : (a b : Bool) → (a || b) ≡ false → (a ≡ false) × (b ≡ false)
 or_none true b h = absurd (true≢false h)
 or_none false b h = (refl, h)
 
+-- an operator that no branch has is the operator of no message of the projection
 lacks : (r : List ℕ) (m : Message) {bs : GlobalBranches} {ls : LocalBranches} → ProjectEach bs r ls
     → has_operator m.op bs ≡ false → Lacks m ls
 lacks r m each_none h = tt
@@ -138,12 +133,12 @@ lacks r m (each_one {m = n} {bs = bs} p pe) h =
       lacks r m pe y.1,
     )
 
-differ : (r : List ℕ) {bs : GlobalBranches} {ls : LocalBranches} → ProjectEach bs r ls → distinct_operators bs ≡ true
+branches_differ : (r : List ℕ) {bs : GlobalBranches} {ls : LocalBranches} → ProjectEach bs r ls → distinct_operators bs ≡ true
     → Differ ls
-differ r each_none h = tt
-differ r (each_one {m = m} {bs = bs} p pe) h =
+branches_differ r each_none h = tt
+branches_differ r (each_one {m = m} {bs = bs} p pe) h =
     let y = and_parts (not (has_operator m.op bs)) (distinct_operators bs) h in
-    (lacks r m pe (not_from (has_operator m.op bs) y.0), differ r pe y.1)
+    (lacks r m pe (not_from (has_operator m.op bs) y.0), branches_differ r pe y.1)
 
 one_lacks : {m : Message} {l : LocalTree} {ks js : LocalBranches} → WithOne m l ks js → (n : Message) → n ≢ m
     → Lacks n ks → Lacks n js
@@ -174,9 +169,9 @@ mutual
   distinct roles r p_end f = tt
   distinct roles r p_var f = tt
   distinct roles r (p_send {p} {q} {bs} e pe) f =
-      let w = parts roles p q bs f in (differ r pe w.distinct, distinct_each roles r pe w.branches)
+      let w = parts roles p q bs f in (branches_differ r pe w.distinct, distinct_each roles r pe w.branches)
   distinct roles r (p_recv {p} {q} {bs} e pe) f =
-      let w = parts roles p q bs f in (differ r pe w.distinct, distinct_each roles r pe w.branches)
+      let w = parts roles p q bs f in (branches_differ r pe w.distinct, distinct_each roles r pe w.branches)
   distinct roles r (p_other {p} {q} {m} {g} {bs} e n pj pm) f =
       let w = and_parts (well_formed roles g) (branches_well_formed roles bs)
       (parts roles p q (Branch m g bs) f).branches in
@@ -271,11 +266,9 @@ mutual
 
 -- after its recursions the tree is the variable that is k outside it
 abbrev EndsIn : LocalTree → ℕ → Type 0
-EndsIn LocalEnd k = ⊥
 EndsIn (LocalVar n) k = n ≡ k
 EndsIn (LocalRec l) k = EndsIn l (k + 1)
-EndsIn (Send q ls) k = ⊥
-EndsIn (Recv p ls) k = ⊥
+EndsIn _ k = ⊥
 
 ends_in_one : (l : LocalTree) (j k : ℕ) → EndsIn l j → EndsIn l k → j ≡ k
 ends_in_one LocalEnd j k a b = absurd a
@@ -331,10 +324,10 @@ not_closed g h = some (open_depth g) h
         let ne : n - 1 ≢ 0 = λ (e : n - 1 ≡ 0). true≢false (sym ((Decides-eqb (n - 1) 0).1 e) ∙ h) in
         (n - 2, omega arith)
 
-and_false : (a b : Bool) → (a && not b) ≡ false → b ≡ false → a ≡ false
-and_false true true h e = e
-and_false true false h e = h
-and_false false b h e = refl
+left_false : (a b : Bool) → (a && not b) ≡ false → b ≡ false → a ≡ false
+left_false true true h e = e
+left_false true false h e = h
+left_false false b h e = refl
 
 -- a recursion that is kept leads to a choice
 kept_leads : (r : List ℕ) (g : GlobalTree) (l : LocalTree) → Projects g r l → uses 0 g ≡ true
@@ -342,7 +335,7 @@ kept_leads : (r : List ℕ) (g : GlobalTree) (l : LocalTree) → Projects g r l 
 kept_leads r g l p used kept = elim (cases_Bool (occurs r g)) [
   | inl here ↦ leads r p here
   | inr nowhere ↦
-      let w = not_closed g (and_false (is_closed (GlobalRec g)) (occurs r g) kept nowhere) in
+      let w = not_closed g (left_false (is_closed (GlobalRec g)) (occurs r g) kept nowhere) in
       let same : 0 ≡ w.0 + 1 = ends_in_one l 0 (w.0 + 1) (idle r 0 p nowhere used)
       (idle r (w.0 + 1) p nowhere (depth_used g (w.0 + 1) w.1)) in
       absurd (omega arith)
@@ -384,7 +377,7 @@ mutual
 
 -- each projection of a well-formed and closed global type that isn't too large has a machine
 pub projected_compilable : (roles : List (List ℕ)) (r : List ℕ) (g : GlobalTree) (l : LocalTree)
-    → well_formed roles g ≡ true → is_closed g ≡ true → global_nodes g ≤ max_nodes → projection Reception r g ≡ Some l
+    → well_formed roles g ≡ true → is_closed g ≡ true → global_nodes g ≤ max_nodes → projection widest r g ≡ Some l
     → IsCompilable l
 projected_compilable roles r g l f c n e =
     let p = projects_of r g l e in

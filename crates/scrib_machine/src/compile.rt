@@ -6,7 +6,7 @@ ghost use Rattle.scrib_types.specs.Judgement.{ComesBefore};
 ghost use Rattle.scrib_types.specs.LocalView.{local_of, local_branches};
 ghost use Rattle.scrib_types.specs.Trees.{Send, Recv};
 ghost use Rattle.scrib_types.specs.declared.event.Action.TheVariants.{Sends, Receives};
-ghost use Rattle.scrib_machine.specs.Machines.{IsMachine, IsSystemOf, Follows};
+ghost use Rattle.scrib_machine.specs.Machines.{IsMachine, IsSystemOf, HasTracesOf};
 ghost use Rattle.scrib_machine.specs.Compilable.{IsCompilable, Closed, ClosedAll, Differ, Distinct, DistinctAll, nodes, nodes_all, max_nodes};
 ghost use Rattle.scrib_machine.specs.Layout as layout;
 
@@ -32,7 +32,7 @@ pub fn compile(alloc: Global, local: &Local) -> Result<Machine, AllocError>
     requires { IsCompilable (local_of local.now) }
     ensures machine { IfOk result IsMachine }
     ensures system { IfOk result (IsSystemOf (local_of local.now)) }
-    ensures follows { IfOk result (Follows (local_of local.now)) }
+    ensures follows { IfOk result (HasTracesOf (local_of local.now)) }
 {
     let mut rows = Vec::new(alloc);
     let mut outer = Vec::new(alloc);

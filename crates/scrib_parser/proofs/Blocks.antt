@@ -11,8 +11,8 @@ use Rattle.scrib_parser.specs.declared.fault.ParseFault.TheVariants.{Unexpected,
 use Rattle.scrib_parser.specs.declared.tree.Block.{Block}
 use Rattle.scrib_parser.specs.declared.tree.Statement.{Statement}
 use Rattle.scrib_parser.specs.declared.tree.Statement as tree
-use Rattle.scrib_parser.specs.Grammar.{Language, ◌·◌, many, joined, token_at, token, name, message, choice, recursion, jump, call, statement, block}
-use Rattle.scrib_parser.specs.Reading.{Reader, Stops, begins, same_kind, mapped, both, after, before, branch, repeated, token_of, name_of, begins_message, message_of, blocks_of, choice_of, recursion_of, jump_of, call_of, statement_of, begins_statement, statements_of, deep_fault, opened_block_of, block_of}
+use Rattle.scrib_parser.specs.Grammar.{Language, ◌·◌, many, joined, spotted_token, token, name, message, choice, recursion, jump, call, statement, block}
+use Rattle.scrib_parser.specs.Reading.{Reader, Stops, begins, same_kind, mapped, read_both, after, read_before, branch, repeated, token_of, read_name, begins_message, read_message, read_blocks, read_choice, recursion_of, jump_of, call_of, statement_of, begins_statement, statements_of, deep_fault, opened_block_of, block_of}
 use Rattle.scrib_parser.proofs.Laws.{free, follows_free, Claim, never, Sends, sends_never, sends_same, IsCause, Stopped, Reads, err_is, chain_reads}
 use Rattle.scrib_parser.proofs.Combinations.{respelled_up, seen, mapped_up, either, branch_up}
 use Rattle.scrib_parser.proofs.Repetition.{Takes, takes, begins_front, past, many_up}
@@ -122,7 +122,7 @@ module _ (reader : Reader Block) (B W : Block → Language) (r : Reads (claim_of
   or_W b = token (Keyword words.Or) · W b
 
   pub or_reads : Reads (claim_of or_W) (after (token_of (Keyword words.Or)) reader) or_B or_W free
-  or_reads = after_claimed (token_of (Keyword words.Or)) reader (token_at (Keyword words.Or)) B W free free (token_reads (Keyword words.Or)) r (λ y ts rest h fits. follows_free (ts ++ rest))
+  or_reads = after_claimed (token_of (Keyword words.Or)) reader (spotted_token (Keyword words.Or)) B W free free (token_reads (Keyword words.Or)) r (λ y ts rest h fits. follows_free (ts ++ rest))
 
   pub begins_or : (b : Block) (ts : List Lexeme) → or_B b ts → begins (same_kind (Keyword words.Or)) ts ≡ true
   begins_or b ts h = begins_token (same_kind (Keyword words.Or)) (Keyword words.Or) (B b) ts refl h
@@ -147,8 +147,8 @@ module _ (reader : Reader Block) (B W : Block → Language) (r : Reads (claim_of
   split_B [] ts h = absurd h
   split_B (x ∷ xs) ts h = (x, (h.0, h.1, h.2, h.3, (xs, refl, h.4)))
 
-  blocks_reads : Reads (claim_of joined_W) (blocks_of reader) joined_B joined_W past_choice
-  unfolding blocks_of
+  blocks_reads : Reads (claim_of joined_W) (read_blocks reader) joined_B joined_W past_choice
+  unfolding read_blocks
   blocks_reads =
       respelled_up (claim_of joined_W) _ _ _ joined_B joined_W past_choice
       (λ y ts h. subst (λ (z : List Block). joined_B z ts) h.1.4.1 (h.1.0, h.1.1, h.1.2, h.1.3, h.1.4.2))
@@ -171,18 +171,18 @@ module _ (reader : Reader Block) (B W : Block → Language) (r : Reads (claim_of
   chosen_made x = tree.Choice x.1.0 x.1.1 x.0
 
   abbrev pub chosen : (List Block → Language) → Chosen → Language
-  chosen bs x = token_at (Keyword words.Choice) x.0 · token (Keyword words.At) · name x.1.0 · bs x.1.1
+  chosen bs x = spotted_token (Keyword words.Choice) x.0 · token (Keyword words.At) · name x.1.0 · bs x.1.1
 
-  chosen_reads : Reads (claim_of (chosen joined_W)) (both (token_of (Keyword words.Choice)) (after (token_of (Keyword words.At)) (both name_of (blocks_of reader)))) (chosen joined_B) (chosen joined_W) past_choice
+  chosen_reads : Reads (claim_of (chosen joined_W)) (read_both (token_of (Keyword words.Choice)) (after (token_of (Keyword words.At)) (read_both read_name (read_blocks reader)))) (chosen joined_B) (chosen joined_W) past_choice
   chosen_reads =
-      both_claimed (token_of (Keyword words.Choice)) (after (token_of (Keyword words.At)) (both name_of (blocks_of reader))) (token_at (Keyword words.Choice)) (λ x. token (Keyword words.At) · name x.0 · joined_B x.1) (λ x. token (Keyword words.At) · name x.0 · joined_W x.1) free past_choice (token_reads (Keyword words.Choice))
-      (after_claimed (token_of (Keyword words.At)) (both name_of (blocks_of reader)) (token_at (Keyword words.At)) (λ x. name x.0 · joined_B x.1) (λ x. name x.0 · joined_W x.1) free past_choice (token_reads (Keyword words.At))
-      (both_claimed name_of (blocks_of reader) name joined_B joined_W free past_choice name_reads blocks_reads (λ y ts rest h fits. follows_free (ts ++ rest)))
+      both_claimed (token_of (Keyword words.Choice)) (after (token_of (Keyword words.At)) (read_both read_name (read_blocks reader))) (spotted_token (Keyword words.Choice)) (λ x. token (Keyword words.At) · name x.0 · joined_B x.1) (λ x. token (Keyword words.At) · name x.0 · joined_W x.1) free past_choice (token_reads (Keyword words.Choice))
+      (after_claimed (token_of (Keyword words.At)) (read_both read_name (read_blocks reader)) (spotted_token (Keyword words.At)) (λ x. name x.0 · joined_B x.1) (λ x. name x.0 · joined_W x.1) free past_choice (token_reads (Keyword words.At))
+      (both_claimed read_name (read_blocks reader) name joined_B joined_W free past_choice name_reads blocks_reads (λ y ts rest h fits. follows_free (ts ++ rest)))
       (λ y ts rest h fits. follows_free (ts ++ rest)))
       (λ y ts rest h fits. follows_free (ts ++ rest))
 
-  choice_reads : Reads (claim_of (choice W)) (choice_of reader) (choice B) (choice W) past_choice
-  unfolding choice_of
+  choice_reads : Reads (claim_of (choice W)) (read_choice reader) (choice B) (choice W) past_choice
+  unfolding read_choice
   choice_reads =
       respelled_claimed _ (seen chosen_made (chosen joined_B)) (seen chosen_made (chosen joined_W)) (choice B) (choice W) past_choice
       (λ s ts h. (h.0.1.0, h.0.1.1, h.0.0, sym h.1, h.2)) (λ s ts h. ((h.2, (h.0, h.1)), sym h.3, h.4)) (λ s ts h. (h.0.1.0, h.0.1.1, h.0.0, sym h.1, h.2))
@@ -195,12 +195,12 @@ module _ (reader : Reader Block) (B W : Block → Language) (r : Reads (claim_of
   repeating_made x = tree.Rec x.1.0 x.1.1.body x.0
 
   abbrev pub repeating : (Block → Language) → Repeating → Language
-  repeating b x = token_at (Keyword words.Rec) x.0 · name x.1.0 · b x.1.1
+  repeating b x = spotted_token (Keyword words.Rec) x.0 · name x.1.0 · b x.1.1
 
-  repeating_reads : Reads (claim_of (repeating W)) (both (token_of (Keyword words.Rec)) (both name_of reader)) (repeating B) (repeating W) free
+  repeating_reads : Reads (claim_of (repeating W)) (read_both (token_of (Keyword words.Rec)) (read_both read_name reader)) (repeating B) (repeating W) free
   repeating_reads =
-      both_claimed (token_of (Keyword words.Rec)) (both name_of reader) (token_at (Keyword words.Rec)) (λ x. name x.0 · B x.1) (λ x. name x.0 · W x.1) free free (token_reads (Keyword words.Rec))
-      (both_claimed name_of reader name B W free free name_reads r (λ y ts rest h fits. follows_free (ts ++ rest)))
+      both_claimed (token_of (Keyword words.Rec)) (read_both read_name reader) (spotted_token (Keyword words.Rec)) (λ x. name x.0 · B x.1) (λ x. name x.0 · W x.1) free free (token_reads (Keyword words.Rec))
+      (both_claimed read_name reader name B W free free name_reads r (λ y ts rest h fits. follows_free (ts ++ rest)))
       (λ y ts rest h fits. follows_free (ts ++ rest))
 
   recursion_reads : Reads (claim_of (recursion W)) (recursion_of reader) (recursion B) (recursion W) free
@@ -251,21 +251,21 @@ module _ (reader : Reader Block) (B W : Block → Language) (r : Reads (claim_of
   no_choice s front rest (inr (inr (inl h))) = apart (same_kind (Keyword words.Do)) (same_kind (Keyword words.Choice)) (other (Keyword words.Do) (Keyword words.Choice) refl) front rest (begins_call s front h)
   no_choice s front rest (inr (inr (inr h))) = apart begins_message (same_kind (Keyword words.Choice)) (no_message words.Choice) front rest (begins_with_message s front h)
 
-  behind_do_reads : Reads of_W (branch (same_kind (Keyword words.Do)) call_of message_of) (behind_do B) (behind_do W) past_choice
+  behind_do_reads : Reads of_W (branch (same_kind (Keyword words.Do)) call_of read_message) (behind_do B) (behind_do W) past_choice
   behind_do_reads =
-      branch_up never at_first of_W (same_kind (Keyword words.Do)) call_of message_of call call message message free free past_choice call_reads message_reads (sends_never [] of_W) sends_message
+      branch_up never at_first of_W (same_kind (Keyword words.Do)) call_of read_message call call message message free free past_choice call_reads message_reads (sends_never [] of_W) sends_message
       (λ s front rest h fits. (begins_front (same_kind (Keyword words.Do)) front rest (begins_call s front h), follows_free rest))
       (λ s front rest h fits. (no_call s front rest h, follows_free rest))
 
-  behind_continue_reads : Reads of_W (branch (same_kind (Keyword words.Continue)) jump_of (branch (same_kind (Keyword words.Do)) call_of message_of)) (behind_continue B) (behind_continue W) past_choice
+  behind_continue_reads : Reads of_W (branch (same_kind (Keyword words.Continue)) jump_of (branch (same_kind (Keyword words.Do)) call_of read_message)) (behind_continue B) (behind_continue W) past_choice
   behind_continue_reads =
-      branch_up never of_W of_W (same_kind (Keyword words.Continue)) jump_of (branch (same_kind (Keyword words.Do)) call_of message_of) jump jump (behind_do B) (behind_do W) free past_choice past_choice jump_reads behind_do_reads (sends_never [] of_W) (sends_same of_W)
+      branch_up never of_W of_W (same_kind (Keyword words.Continue)) jump_of (branch (same_kind (Keyword words.Do)) call_of read_message) jump jump (behind_do B) (behind_do W) free past_choice past_choice jump_reads behind_do_reads (sends_never [] of_W) (sends_same of_W)
       (λ s front rest h fits. (begins_front (same_kind (Keyword words.Continue)) front rest (begins_jump s front h), follows_free rest))
       (λ s front rest h fits. (no_jump s front rest h, fits))
 
-  behind_rec_reads : Reads of_W (branch (same_kind (Keyword words.Rec)) (recursion_of reader) (branch (same_kind (Keyword words.Continue)) jump_of (branch (same_kind (Keyword words.Do)) call_of message_of))) (behind_rec B) (behind_rec W) past_choice
+  behind_rec_reads : Reads of_W (branch (same_kind (Keyword words.Rec)) (recursion_of reader) (branch (same_kind (Keyword words.Continue)) jump_of (branch (same_kind (Keyword words.Do)) call_of read_message))) (behind_rec B) (behind_rec W) past_choice
   behind_rec_reads =
-      branch_up (claim_of (recursion W)) of_W of_W (same_kind (Keyword words.Rec)) (recursion_of reader) (branch (same_kind (Keyword words.Continue)) jump_of (branch (same_kind (Keyword words.Do)) call_of message_of)) (recursion B) (recursion W) (behind_continue B) (behind_continue W) free past_choice past_choice recursion_reads behind_continue_reads
+      branch_up (claim_of (recursion W)) of_W of_W (same_kind (Keyword words.Rec)) (recursion_of reader) (branch (same_kind (Keyword words.Continue)) jump_of (branch (same_kind (Keyword words.Do)) call_of read_message)) (recursion B) (recursion W) (behind_continue B) (behind_continue W) free past_choice past_choice recursion_reads behind_continue_reads
       (begun_on [] (recursion W) (statement W) (λ s. s) (λ s us k. inr (inr (inl k)))) (sends_same of_W)
       (λ s front rest h fits. (begins_front (same_kind (Keyword words.Rec)) front rest (begins_recursion B s front h), follows_free rest))
       (λ s front rest h fits. (no_rec s front rest h, fits))
@@ -288,7 +288,7 @@ module _ (reader : Reader Block) (B W : Block → Language) (r : Reads (claim_of
   unfolding statement_of
   statement_reads =
       respelled_up of_W (statement_of reader) (in_order B) (in_order W) (statement B) (statement W) past_choice (reordered B) (ordered B) (reordered W)
-      (branch_up (claim_of (choice W)) of_W of_W (same_kind (Keyword words.Choice)) (choice_of reader) (branch (same_kind (Keyword words.Rec)) (recursion_of reader) (branch (same_kind (Keyword words.Continue)) jump_of (branch (same_kind (Keyword words.Do)) call_of message_of))) (choice B) (choice W) (behind_rec B) (behind_rec W) past_choice past_choice past_choice choice_reads behind_rec_reads
+      (branch_up (claim_of (choice W)) of_W of_W (same_kind (Keyword words.Choice)) (read_choice reader) (branch (same_kind (Keyword words.Rec)) (recursion_of reader) (branch (same_kind (Keyword words.Continue)) jump_of (branch (same_kind (Keyword words.Do)) call_of read_message))) (choice B) (choice W) (behind_rec B) (behind_rec W) past_choice past_choice past_choice choice_reads behind_rec_reads
       (begun_on [] (choice W) (statement W) (λ s. s) (λ s us k. inr (inl k))) (sends_same of_W)
       (λ s front rest h fits. (begins_front (same_kind (Keyword words.Choice)) front rest (begins_choice B s front h), fits))
       (λ s front rest h fits. (no_choice s front rest h, fits)))
@@ -310,15 +310,15 @@ module _ (reader : Reader Block) (B W : Block → Language) (r : Reads (claim_of
   body b ss = many (statement b) ss · token CloseBrace
 
   abbrev pub opened : (Block → Language) → Block → Language
-  opened b x = token_at OpenBrace x.spot · body b x.body
+  opened b x = spotted_token OpenBrace x.spot · body b x.body
 
-  body_reads : Reads (claim_of (body W)) (before (statements_of reader) (token_of CloseBrace)) (body B) (body W) free
+  body_reads : Reads (claim_of (body W)) (read_before (statements_of reader) (token_of CloseBrace)) (body B) (body W) free
   body_reads =
-      before_claimed (statements_of reader) (token_of CloseBrace) (many (statement B)) (many (statement W)) (token_at CloseBrace) (past begins_statement past_choice) free statements_reads (token_reads CloseBrace)
+      before_claimed (statements_of reader) (token_of CloseBrace) (many (statement B)) (many (statement W)) (spotted_token CloseBrace) (past begins_statement past_choice) free statements_reads (token_reads CloseBrace)
       (λ spot ts rest h fits. behind_token_at (past begins_statement past_choice) CloseBrace spot ts rest (refl, (refl, tt)) h)
 
   abbrev paired : (Block → Language) → Spot × List Statement → Language
-  paired b x = token_at OpenBrace x.0 · body b x.1
+  paired b x = spotted_token OpenBrace x.0 · body b x.1
 
   abbrev block_made : Spot × List Statement → Block
   block_made x = record { body = x.1; spot = x.0 }
@@ -329,7 +329,7 @@ module _ (reader : Reader Block) (B W : Block → Language) (r : Reads (claim_of
       respelled_claimed _ (seen block_made (paired B)) (seen block_made (paired W)) (opened B) (opened W) free
       (λ x ts h. subst (λ (b : Block). opened B b ts) h.1 h.2) (λ x ts h. ((x.spot, x.body), refl, h)) (λ x ts h. subst (λ (b : Block). opened W b ts) h.1 h.2)
       (mapped_claimed block_made _ (paired B) (paired W) free
-      (both_claimed (token_of OpenBrace) (before (statements_of reader) (token_of CloseBrace)) (token_at OpenBrace) (body B) (body W) free free (token_reads OpenBrace) body_reads (λ y ts rest h fits. follows_free (ts ++ rest))))
+      (both_claimed (token_of OpenBrace) (read_before (statements_of reader) (token_of CloseBrace)) (spotted_token OpenBrace) (body B) (body W) free free (token_reads OpenBrace) body_reads (λ y ts rest h fits. follows_free (ts ++ rest))))
 
 -- ---- blocks of a number of levels
 

@@ -5,7 +5,7 @@ use Rattle.scrib_lexer.specs.declared.token.TokenKind.{TokenKind}
 use Rattle.scrib_lexer.specs.declared.token.TokenKind.TheVariants.{Keyword}
 use Rattle.scrib_lexer.specs.Lexeme.{Lexeme}
 use Rattle.scrib_parser.specs.Grammar.{Language, ◌·◌, any}
-use Rattle.scrib_parser.specs.Reading.{Reader, mapped, both, after, before}
+use Rattle.scrib_parser.specs.Reading.{Reader, mapped, read_both, after, read_before}
 use Rattle.scrib_parser.proofs.Laws.{Follows, Begun, Claim, never, Sends, sends_never, Reads, Leaf, reclaimed}
 use Rattle.scrib_parser.proofs.Combinations.{seen, respelled_up, mapped_up, both_up, after_up, before_up}
 use Rattle.scrib_parser.proofs.Statements.{IsLeftWord}
@@ -46,7 +46,7 @@ module _ {A B : Type 0} (first : Reader A) (second : Reader B) (P : A → Langua
   abbrev pub Joined : Type 0
   Joined = (y : B) (ts rest : List Lexeme) → M y ts → Follows G rest → Follows F (ts ++ rest)
 
-  pub both_claimed : Leaf never first P F → Reads (claim_of V) second M V G → Joined → Reads (claim_of {A = A × B} (λ p. P p.0 · V p.1)) (both first second) (λ p. P p.0 · M p.1) (λ p. P p.0 · V p.1) G
+  pub both_claimed : Leaf never first P F → Reads (claim_of V) second M V G → Joined → Reads (claim_of {A = A × B} (λ p. P p.0 · V p.1)) (read_both first second) (λ p. P p.0 · M p.1) (λ p. P p.0 · V p.1) G
   both_claimed r s joins =
       both_up never (claim_of V) (claim_of {A = A × B} (λ p. P p.0 · V p.1)) first second P P M V F G r s joins
       (sends_never [] (claim_of {A = A × B} (λ p. P p.0 · V p.1)), (λ x ts h. begun_on {B = A × B} ts V (λ p. P p.0 · V p.1) (λ y. (x, y)) (λ y us k. (ts, us, refl, h, k))))
@@ -58,7 +58,7 @@ module _ {A B : Type 0} (first : Reader A) (second : Reader B) (P : A → Langua
 
 module _ {A B : Type 0} (first : Reader A) (second : Reader B) (L U : A → Language) (M : B → Language) (F G : TokenKind → Type 0) where
   pub before_claimed : Reads (claim_of U) first L U F → Leaf never second M G → ((y : B) (ts rest : List Lexeme) → M y ts → Follows G rest → Follows F (ts ++ rest))
-      → Reads (claim_of (λ x. U x · any M)) (before first second) (λ x. L x · any M) (λ x. U x · any M) G
+      → Reads (claim_of (λ x. U x · any M)) (read_before first second) (λ x. L x · any M) (λ x. U x · any M) G
   before_claimed r s joins =
       before_up (claim_of U) never (claim_of (λ x. U x · any M)) first second L U M M F G r s joins
       (begun_before U (λ x. U x · any M) s.example (λ x. x) (λ x ts h. (ts, s.example, refl, h, (s.value, s.spelled))), (λ x ts h. sends_never ts (claim_of (λ x. U x · any M))))

@@ -5,7 +5,7 @@ use Rattle.scrib_lexer.specs.declared.token.TokenKind.{TokenKind}
 use Rattle.scrib_lexer.specs.Lexeme.{Lexeme}
 use Rattle.scrib_parser.specs.declared.fault.ParseFault.{ParseFault}
 use Rattle.scrib_parser.specs.Grammar.{Language, ◌·◌, any, nothing}
-use Rattle.scrib_parser.specs.Reading.{Reader, begins, mapped, both, after, before, branch, none}
+use Rattle.scrib_parser.specs.Reading.{Reader, begins, mapped, read_both, after, read_before, branch, none}
 use Rattle.scrib_parser.proofs.Laws.{done, Follows, Claim, never, Sends, cause_on, Taken, Stopped, Reads, bind_ok, bind_err, ok_is, chain_reads}
 
 -- ---- the same language, written in another way
@@ -84,12 +84,12 @@ module _ {A B : Type 0} (C D E : Claim) (first : Reader A) (second : Reader B) (
   abbrev pub Joins : Type 0
   Joins = (y : B) (ts rest : List Lexeme) → M y ts → Follows G rest → Follows F (ts ++ rest)
 
-  -- the claims of the two readers hold of both together
+  -- the claims of the two readers hold of read_both together
   abbrev pub Brings : Type 0
   Brings = Sends [] C E × ((x : A) (ts : List Lexeme) → L x ts → Sends ts D E)
 
-  pub both_up : Reads C first L U F → Reads D second M V G → Joins → Brings → Reads E (both first second) (λ p. L p.0 · M p.1) (λ p. U p.0 · V p.1) G
-  both_up r s joins brings = respelled_up E (both first second) _ _ (λ p. L p.0 · M p.1) (λ p. U p.0 · V p.1) G
+  pub both_up : Reads C first L U F → Reads D second M V G → Joins → Brings → Reads E (read_both first second) (λ p. L p.0 · M p.1) (λ p. U p.0 · V p.1) G
+  both_up r s joins brings = respelled_up E (read_both first second) _ _ (λ p. L p.0 · M p.1) (λ p. U p.0 · V p.1) G
       (λ p ts h. let e : (h.0, h.1.4.0) ≡ p = h.1.4.1 in subst (λ (q : A × B). (L q.0 · M q.1) ts) e (h.1.0, h.1.1, h.1.2, h.1.3, h.1.4.2))
       (λ p ts h. (p.0, (h.0, h.1, h.2, h.3, (p.1, refl, h.4))))
       (λ p ts h. let e : (h.0, h.1.4.0) ≡ p = h.1.4.1 in subst (λ (q : A × B). (U q.0 · V q.1) ts) e (h.1.0, h.1.1, h.1.2, h.1.3, h.1.4.2))
@@ -102,21 +102,21 @@ module _ {A B : Type 0} (C D E : Claim) (first : Reader A) (second : Reader B) (
       (λ y ts h. (h.1.0, h.1.1, h.1.2, (h.0, h.1.3), h.1.4))
       (chain_reads first (λ x. second) L U (λ x. M) (λ x. V) F G C (λ x. D) E r (λ x. s) (λ x. joins) brings)
 
-  pub before_up : Reads C first L U F → Reads D second M V G → Joins → Brings → Reads E (before first second) (λ x. L x · any M) (λ x. U x · any V) G
-  before_up r s joins brings = respelled_up E (before first second) _ _ (λ x. L x · any M) (λ x. U x · any V) G
+  pub before_up : Reads C first L U F → Reads D second M V G → Joins → Brings → Reads E (read_before first second) (λ x. L x · any M) (λ x. U x · any V) G
+  before_up r s joins brings = respelled_up E (read_before first second) _ _ (λ x. L x · any M) (λ x. U x · any V) G
       (λ x ts h. subst (λ (z : A). (L z · any M) ts) h.1.4.1 (h.1.0, h.1.1, h.1.2, h.1.3, (h.1.4.0, h.1.4.2)))
       (λ x ts h. (x, (h.0, h.1, h.2, h.3, (h.4.0, refl, h.4.1))))
       (λ x ts h. subst (λ (z : A). (U z · any V) ts) h.1.4.1 (h.1.0, h.1.1, h.1.2, h.1.3, (h.1.4.0, h.1.4.2)))
       (chain_reads first (λ x. mapped (λ y. x) second) L U (λ x. seen (λ (y : B). x) M) (λ x. seen (λ (y : B). x) V) F G C (λ x. D) E r (λ x. mapped_up D (λ (y : B). x) second M V G s) (λ x p ts rest h fits. joins h.0 ts rest h.2 fits) brings)
 
 module _ {A B : Type 0} (C D E : Claim) (first : Reader A) (second : Reader B) (L : A → Language) (M : B → Language) (F G : TokenKind → Type 0) where
-  pub both_reads : Reads C first L L F → Reads D second M M G → Joins C D E first second L L M M F G → Brings C D E first second L L M M F G → Reads E (both first second) (λ p. L p.0 · M p.1) (λ p. L p.0 · M p.1) G
+  pub both_reads : Reads C first L L F → Reads D second M M G → Joins C D E first second L L M M F G → Brings C D E first second L L M M F G → Reads E (read_both first second) (λ p. L p.0 · M p.1) (λ p. L p.0 · M p.1) G
   both_reads r s joins brings = both_up C D E first second L L M M F G r s joins brings
 
   pub after_reads : Reads C first L L F → Reads D second M M G → Joins C D E first second L L M M F G → Brings C D E first second L L M M F G → Reads E (after first second) (λ y. any L · M y) (λ y. any L · M y) G
   after_reads r s joins brings = after_up C D E first second L L M M F G r s joins brings
 
-  pub before_reads : Reads C first L L F → Reads D second M M G → Joins C D E first second L L M M F G → Brings C D E first second L L M M F G → Reads E (before first second) (λ x. L x · any M) (λ x. L x · any M) G
+  pub before_reads : Reads C first L L F → Reads D second M M G → Joins C D E first second L L M M F G → Brings C D E first second L L M M F G → Reads E (read_before first second) (λ x. L x · any M) (λ x. L x · any M) G
   before_reads r s joins brings = before_up C D E first second L L M M F G r s joins brings
 
 -- ---- no token

@@ -4,8 +4,8 @@ use Rattle.std.specs.Prelude.{◌⊎◌}
 use Rattle.scrib_lexer.specs.declared.token.TokenKind.{TokenKind}
 use Rattle.scrib_lexer.specs.declared.token.TokenKind.TheVariants.{Name, Comma, Dot, Colon}
 use Rattle.scrib_lexer.specs.Lexeme.{Lexeme}
-use Rattle.scrib_parser.specs.Grammar.{Language, ◌·◌, nothing, any, maybe, many, joined, listed, token_at, token, name, dotted, element}
-use Rattle.scrib_parser.specs.Reading.{begins, same_kind, after, branch, none, token_of, name_of, dots_of, dotted_from, dotted_of, element_of, elements_of, payload_of, names_of}
+use Rattle.scrib_parser.specs.Grammar.{Language, ◌·◌, nothing, any, maybe, many, joined, listed, spotted_token, token, name, dotted, element}
+use Rattle.scrib_parser.specs.Reading.{begins, same_kind, after, branch, none, token_of, read_name, dots_of, dotted_from, dotted_of, element_of, elements_of, payload_of, read_names}
 use Rattle.scrib_parser.proofs.Laws.{Follows, free, follows_free, never, sends_same, Leaf, chain_reads}
 use Rattle.scrib_parser.proofs.Combinations.{respelled, seen, mapped_reads, after_reads, none_reads, either, branch_reads}
 use Rattle.scrib_parser.proofs.Repetition.{begins_front, past}
@@ -24,7 +24,7 @@ past_element kind = (same_kind Colon kind ≡ false) × no_dot kind
 
 pub dotted_reads : Leaf never dotted_of dotted no_dot
 unfolding dotted_of dotted_from
-dotted_reads = quiet_joined_reads name_of name free Dot name_reads (λ kind e. tt)
+dotted_reads = quiet_joined_reads read_name name free Dot name_reads (λ kind e. tt)
 
 -- the names after the first
 abbrev dotted_behind : List ℕ → List (List ℕ) → Language
@@ -32,7 +32,7 @@ dotted_behind first = seen (λ (names : List (List ℕ)). first ∷ names) (many
 
 dotted_from_reads : (first : List ℕ) → Leaf never (dotted_from first) (dotted_behind first) no_dot
 unfolding dotted_from
-dotted_from_reads first = mapped_reads never (λ names. first ∷ names) dots_of (many (λ y. token Dot · name y)) no_dot (quiet_more_reads name_of name free Dot name_reads (λ kind e. tt))
+dotted_from_reads first = mapped_reads never (λ names. first ∷ names) dots_of (many (λ y. token Dot · name y)) no_dot (quiet_more_reads read_name name free Dot name_reads (λ kind e. tt))
 
 -- dots, or no token and what follows: no colon
 no_colon : (names : List (List ℕ)) (ts rest : List Lexeme) → many (λ y. token Dot · name y) names ts → Follows past_element rest → begins (same_kind Colon) (ts ++ rest) ≡ false
@@ -54,7 +54,7 @@ element_behind first = either (λ y. token Colon · dotted y) (dotted_behind fir
 element_behind_reads : (first : List ℕ) → Leaf never (branch (same_kind Colon) (after (token_of Colon) dotted_of) (dotted_from first)) (element_behind first) past_element
 element_behind_reads first =
     branch_reads never never never (same_kind Colon) (after (token_of Colon) dotted_of) (dotted_from first) (λ y. token Colon · dotted y) (dotted_behind first) no_dot no_dot past_element
-    (after_reads never never never (token_of Colon) dotted_of (token_at Colon) dotted free no_dot (token_reads Colon) dotted_reads (λ y ts rest h fits. follows_free (ts ++ rest)) (quiet (token_at Colon)))
+    (after_reads never never never (token_of Colon) dotted_of (spotted_token Colon) dotted free no_dot (token_reads Colon) dotted_reads (λ y ts rest h fits. follows_free (ts ++ rest)) (quiet (spotted_token Colon)))
     (dotted_from_reads first) (sends_same never) (sends_same never)
     (λ y front rest h fits. (begins_front (same_kind Colon) front rest (begins_token (same_kind Colon) Colon (dotted y) front refl h), behind_element rest fits))
     (λ y front rest h fits. (no_colon h.0 front rest h.2 fits, behind_element rest fits))
@@ -83,7 +83,7 @@ pub element_reads : Leaf never element_of element past_element
 unfolding element_of
 element_reads =
     respelled never element_of _ element past_element element_to element_from
-    (chain_reads name_of (λ first. branch (same_kind Colon) (after (token_of Colon) dotted_of) (dotted_from first)) name name element_behind element_behind free past_element never (λ x. never) never name_reads element_behind_reads (λ x y ts rest h fits. follows_free (ts ++ rest)) (quiet name))
+    (chain_reads read_name (λ first. branch (same_kind Colon) (after (token_of Colon) dotted_of) (dotted_from first)) name name element_behind element_behind free past_element never (λ x. never) never name_reads element_behind_reads (λ x y ts rest h fits. follows_free (ts ++ rest)) (quiet name))
 
 -- ---- payloads
 
@@ -138,6 +138,6 @@ payload_reads =
 
 -- ---- names between commas
 
-pub names_reads : Leaf never names_of (joined name (token Comma)) (past (same_kind Comma) free)
-unfolding names_of
-names_reads = quiet_joined_reads name_of name free Comma name_reads (λ kind e. tt)
+pub names_reads : Leaf never read_names (joined name (token Comma)) (past (same_kind Comma) free)
+unfolding read_names
+names_reads = quiet_joined_reads read_name name free Comma name_reads (λ kind e. tt)

@@ -18,8 +18,8 @@ use Rattle.scrib_parser.specs.declared.tree.ProtocolDeclaration.{ProtocolDeclara
 use Rattle.scrib_parser.specs.declared.tree.Block.{Block}
 use Rattle.scrib_parser.specs.declared.tree.Statement.{Statement}
 use Rattle.scrib_parser.specs.LeftOut.{spelling, word_among, statement_word, statement_word_of, declaration_word_of, left_out_declaration, left_out_statement}
-use Rattle.scrib_parser.specs.Grammar.{Language, ◌·◌, many, joined, token_at, token, name, dotted, statement, block, role, protocol, type_declaration, declaration, kept, «import», module_text, MayFollow, IsLeftOut}
-use Rattle.scrib_parser.specs.Reading.{Reader, ◌>>=◌, same_kind, token_of, placed_name_of, paren_behind, named_opening_of, opening_of, payload_of, message_of, statement_of, block_of, at_end, whole_of, refusal}
+use Rattle.scrib_parser.specs.Grammar.{Language, ◌·◌, many, joined, spotted_token, token, name, dotted, statement, block, role, protocol, type_declaration, declaration, kept, «import», module_text, TokenMayFollow, IsLeftOut}
+use Rattle.scrib_parser.specs.Reading.{Reader, ◌>>=◌, same_kind, token_of, placed_name_of, paren_behind, named_opening_of, opening_of, payload_of, read_message, statement_of, block_of, at_end, whole_of, refusal}
 use Rattle.scrib_parser.proofs.Modules.{module_reads, past_module}
 use Rattle.scrib_parser.proofs.LevelLemmas.{Same, deeper}
 use Rattle.scrib_parser.proofs.TokenKinds.{parted, Plain, none_in, IsRare, plain_at, plain_token, plain_name, plain_seq, plain_many, plain_joined, plain_message, plain_call, plain_dotted, plain_roles, plain_imports, plain_type, plain_behind_jump}
@@ -54,20 +54,20 @@ rare = record {
 plain_statement : (inner : Block → Language) → ((b : Block) → Plain opens (inner b)) → (s : Statement) → Plain opens (statement inner s)
 plain_statement inner f s ts (inl h) = plain_message opens rare s ts h
 plain_statement inner f s ts (inr (inl h)) =
-    plain_seq opens (token_at (Keyword words.Choice) h.2) (token (Keyword words.At) · name h.0 · joined inner (token (Keyword words.Or)) h.1) (plain_at opens (Keyword words.Choice) h.2 refl)
+    plain_seq opens (spotted_token (Keyword words.Choice) h.2) (token (Keyword words.At) · name h.0 · joined inner (token (Keyword words.Or)) h.1) (plain_at opens (Keyword words.Choice) h.2 refl)
     (plain_seq opens (token (Keyword words.At)) (name h.0 · joined inner (token (Keyword words.Or)) h.1) (plain_token opens (Keyword words.At) refl)
     (plain_seq opens (name h.0) (joined inner (token (Keyword words.Or)) h.1) (plain_name opens refl h.0) (plain_joined opens inner (token (Keyword words.Or)) f (plain_token opens (Keyword words.Or) refl) h.1))) ts h.4
 plain_statement inner f s ts (inr (inr (inl h))) =
-    plain_seq opens (token_at (Keyword words.Rec) h.2) (name h.0 · inner h.1) (plain_at opens (Keyword words.Rec) h.2 refl) (plain_seq opens (name h.0) (inner h.1) (plain_name opens refl h.0) (f h.1)) ts h.4
+    plain_seq opens (spotted_token (Keyword words.Rec) h.2) (name h.0 · inner h.1) (plain_at opens (Keyword words.Rec) h.2 refl) (plain_seq opens (name h.0) (inner h.1) (plain_name opens refl h.0) (f h.1)) ts h.4
 plain_statement inner f s ts (inr (inr (inr (inl h)))) =
-    plain_seq opens (token_at (Keyword words.Continue) h.1) (name h.0 · token Semicolon) (plain_at opens (Keyword words.Continue) h.1 refl) (plain_behind_jump opens rare h.0) ts h.3
+    plain_seq opens (spotted_token (Keyword words.Continue) h.1) (name h.0 · token Semicolon) (plain_at opens (Keyword words.Continue) h.1 refl) (plain_behind_jump opens rare h.0) ts h.3
 plain_statement inner f s ts (inr (inr (inr (inr h)))) = plain_call opens rare s ts h
 
 plain_block : (levels : ℕ) (b : Block) → Plain opens (block levels b)
 unfolding block
 plain_block zero b ts h = absurd h
 plain_block (suc levels) b ts h =
-    plain_seq opens (token_at OpenBrace b.spot) (many (statement (block levels)) b.body · token CloseBrace) (plain_at opens OpenBrace b.spot refl)
+    plain_seq opens (spotted_token OpenBrace b.spot) (many (statement (block levels)) b.body · token CloseBrace) (plain_at opens OpenBrace b.spot refl)
     (plain_seq opens (many (statement (block levels)) b.body) (token CloseBrace) (plain_many opens (statement (block levels)) (plain_statement (block levels) (plain_block levels)) b.body) (plain_token opens CloseBrace refl)) ts h
 
 -- no such word after a protocol's first
@@ -77,7 +77,7 @@ no_second levels p v front g more k e = at (parted (v ∷ front) g more h.0 h.1 
     Rest : Language
     Rest = token (Keyword words.Protocol) · name p.name · token OpenParen · joined role (token Comma) p.roles · token CloseParen · block levels (record { body = p.body; spot = k.0 })
 
-    h : (token_at (Keyword words.Global) p.spot · Rest) (v ∷ front ++ g ∷ more)
+    h : (spotted_token (Keyword words.Global) p.spot · Rest) (v ∷ front ++ g ∷ more)
     h = k.1
 
     plain : Plain opens Rest
@@ -153,7 +153,7 @@ behind_words Name bytes word h = ((refl, tt), (refl, tt))
 behind_words (Keyword words.From) bytes word h = ((refl, tt), (refl, tt))
 behind_words _ bytes word h = absurd cc
 
-no_declaration : (front : List Lexeme) (u : Lexeme) (word : LeftOutWord) → whole_of 64 (front ++ u ∷ []) ≡ Err (Unexpected u.spot) → left_out_declaration u ≡ Some word → MayFollow opens front → ⊥
+no_declaration : (front : List Lexeme) (u : Lexeme) (word : LeftOutWord) → whole_of 64 (front ++ u ∷ []) ≡ Err (Unexpected u.spot) → left_out_declaration u ≡ Some word → TokenMayFollow opens front → ⊥
 unfolding whole_of
 no_declaration front u word e d may =
     let levels = may.2.0 in
@@ -208,15 +208,15 @@ module _ (bytes : List ℕ) (spot : Spot) (u : Lexeme) (word : LeftOutWord) (rep
   no_paren p = rw (statement_name bytes word reported) (rw (p, reported) refl)
 
   ends_behind : same_kind OpenParen u.kind ≡ true → (inner : Reader Block) → statement_of inner (w ∷ u ∷ []) ≡ Err EndOfText
-  unfolding statement_of message_of payload_of token_of
+  unfolding statement_of read_message payload_of token_of
   ends_behind p inner = let one = open_paren p in rw one refl
 
   stops_behind : same_kind OpenParen u.kind ≡ false → (inner : Reader Block) → statement_of inner (w ∷ u ∷ []) ≡ Err (LeftOut word spot)
-  unfolding statement_of message_of
+  unfolding statement_of read_message
   stops_behind p inner = let one = no_paren p in rw one refl
 
   -- the fault of such a text isn't `Unexpected`
-  not_reported : (front : List Lexeme) → whole_of 64 (front ++ w ∷ u ∷ []) ≡ Err (Unexpected u.spot) → MayFollow go front → ⊥
+  not_reported : (front : List Lexeme) → whole_of 64 (front ++ w ∷ u ∷ []) ≡ Err (Unexpected u.spot) → TokenMayFollow go front → ⊥
   unfolding whole_of
   not_reported front e may = at (same_kind OpenParen u.kind) refl
     where
@@ -238,7 +238,7 @@ module _ (bytes : List ℕ) (spot : Spot) (u : Lexeme) (word : LeftOutWord) (rep
       at true b = let same = broken EndOfText (λ n. ends_behind b (block_of n)) in cc same
       at false b = let same = broken (LeftOut word spot) (λ n. stops_behind b (block_of n)) in cc same
 
-no_statement : (front : List Lexeme) (w u : Lexeme) (word : LeftOutWord) → whole_of 64 (front ++ w ∷ u ∷ []) ≡ Err (Unexpected u.spot) → left_out_statement w ≡ Some word → MayFollow go front → ⊥
+no_statement : (front : List Lexeme) (w u : Lexeme) (word : LeftOutWord) → whole_of 64 (front ++ w ∷ u ∷ []) ≡ Err (Unexpected u.spot) → left_out_statement w ≡ Some word → TokenMayFollow go front → ⊥
 no_statement front w u word e h may =
     let k = word_kind w.kind w.bytes word h in
     let same : w ≡ record { kind = Name; bytes = w.bytes; spot = w.spot } = λ i. record { kind = k.0 i; bytes = w.bytes; spot = w.spot } in

@@ -4,7 +4,7 @@ use Rattle.scrib_types.specs.declared.spot.Spot.{Spot}
 use Rattle.scrib_lexer.specs.declared.token.TokenKind.{TokenKind}
 use Rattle.scrib_lexer.specs.declared.token.TokenKind.TheVariants.{Name}
 use Rattle.scrib_lexer.specs.Lexeme.{Lexeme}
-use Rattle.scrib_parser.specs.Grammar.{Language, ◌·◌, token_at, token, name}
+use Rattle.scrib_parser.specs.Grammar.{Language, ◌·◌, spotted_token, token, name}
 use Rattle.scrib_parser.specs.Reading.{begins}
 use Rattle.scrib_parser.proofs.Laws.{Follows, Claim, never, Sends, sends_never}
 
@@ -31,7 +31,7 @@ other_kind test kind t front rest ts h k e p = ap (begins test) (p ∙ ap (λ (l
 pub begins_token : (test : TokenKind → Bool) (kind : TokenKind) (p : Language) (ts : List Lexeme) → test kind ≡ true → (token kind · p) ts → begins test ts ≡ true
 begins_token test kind p ts h w = first_kind test kind w.3.1.0 w.0 w.1 ts h w.3.1.2.0 w.3.1.1 w.2
 
-pub begins_token_at : (test : TokenKind → Bool) (kind : TokenKind) (spot : Spot) (p : Language) (ts : List Lexeme) → test kind ≡ true → (token_at kind spot · p) ts → begins test ts ≡ true
+pub begins_token_at : (test : TokenKind → Bool) (kind : TokenKind) (spot : Spot) (p : Language) (ts : List Lexeme) → test kind ≡ true → (spotted_token kind spot · p) ts → begins test ts ≡ true
 begins_token_at test kind spot p ts h w = first_kind test kind w.3.0 w.0 w.1 ts h w.3.2.0 w.3.1 w.2
 
 pub begins_name : (test : TokenKind → Bool) (bytes : List ℕ) (p : Language) (ts : List Lexeme) → test Name ≡ true → (name bytes · p) ts → begins test ts ≡ true
@@ -45,5 +45,5 @@ pub behind_token : (F : TokenKind → Type 0) (kind : TokenKind) (p : Language) 
 behind_token F kind p ts rest h w =
     follows_kind F kind w.3.1.0 (ts ++ rest) (w.1 ++ rest) h w.3.1.2.0 (ap (λ (l : List Lexeme). l ++ rest) (w.2 ∙ ap (λ (l : List Lexeme). l ++ w.1) w.3.1.1))
 
-pub behind_token_at : (F : TokenKind → Type 0) (kind : TokenKind) (spot : Spot) (ts rest : List Lexeme) → F kind → token_at kind spot ts → Follows F (ts ++ rest)
+pub behind_token_at : (F : TokenKind → Type 0) (kind : TokenKind) (spot : Spot) (ts rest : List Lexeme) → F kind → spotted_token kind spot ts → Follows F (ts ++ rest)
 behind_token_at F kind spot ts rest h w = follows_kind F kind w.0 (ts ++ rest) rest h w.2.0 (ap (λ (l : List Lexeme). l ++ rest) w.1)

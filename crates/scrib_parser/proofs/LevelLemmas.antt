@@ -8,7 +8,7 @@ use Rattle.scrib_lexer.specs.Lexeme.{Lexeme}
 use Rattle.scrib_parser.specs.declared.fault.ParseFault.{ParseFault}
 use Rattle.scrib_parser.specs.declared.fault.ParseFault.TheVariants.{TooDeep}
 use Rattle.scrib_parser.specs.declared.tree.Block.{Block}
-use Rattle.scrib_parser.specs.Reading.{Reader, ◌>>=◌, begins, same_kind, chain, mapped, both, after, before, branch, repeat, repeated, token_of, blocks_of, choice_of, recursion_of, statement_of, begins_statement, statements_of, deep_fault, opened_block_of, block_of, protocol_of, declaration_of, begins_declaration, declarations_of, module_of, at_end, whole_of}
+use Rattle.scrib_parser.specs.Reading.{Reader, ◌>>=◌, begins, same_kind, chain, mapped, read_both, after, read_before, branch, repeat, repeated, token_of, read_blocks, read_choice, recursion_of, statement_of, begins_statement, statements_of, deep_fault, opened_block_of, block_of, protocol_of, read_declaration, begins_declaration, declarations_of, module_of, at_end, whole_of}
 
 -- a result for want of a level
 abbrev pub IsDeep : {A : Type 0} → Result A ParseFault → Type 0
@@ -45,13 +45,13 @@ module _ {A B : Type 0} where
 
 module _ {A B : Type 0} where
   -- the second part has the blocks
-  under_both : (r : Reader A) (f g : Reader B) → Under f g → Under (both r f) (both r g)
+  under_both : (r : Reader A) (f g : Reader B) → Under f g → Under (read_both r f) (read_both r g)
   under_both r f g v = under_chain r r (λ x. mapped (λ y. (x, y)) f) (λ x. mapped (λ y. (x, y)) g) (under_same r) (λ x. under_mapped (λ (y : B). (x, y)) f g v)
 
   under_after : (r : Reader A) (f g : Reader B) → Under f g → Under (after r f) (after r g)
   under_after r f g v = under_chain r r (λ x. f) (λ x. g) (under_same r) (λ x. v)
 
-  under_before : (r s : Reader A) (f : Reader B) → Under r s → Under (before r f) (before s f)
+  under_before : (r s : Reader A) (f : Reader B) → Under r s → Under (read_before r f) (read_before s f)
   under_before r s f u = under_chain r s (λ x. mapped (λ y. x) f) (λ x. mapped (λ y. x) f) u (λ x. under_same (mapped (λ y. x) f))
 
 under_cond : {A : Type 0} (b : Bool) (r s p q : Result A ParseFault) → Same r s → Same p q → Same (cond b r p) (cond b s q)
@@ -75,14 +75,14 @@ unfolding repeated
 under_repeated test r s u ts = under_repeat test r s u (length ts) ts
 
 module _ (r s : Reader Block) (u : Under r s) where
-  under_blocks : Under (blocks_of r) (blocks_of s)
-  unfolding blocks_of
+  under_blocks : Under (read_blocks r) (read_blocks s)
+  unfolding read_blocks
   under_blocks =
       under_chain r s _ _ u (λ first. under_mapped (λ more. first ∷ more) _ _ (under_repeated _ _ _ (under_after (token_of _) r s u)))
 
-  under_choice : Under (choice_of r) (choice_of s)
-  unfolding choice_of
-  under_choice = under_mapped _ _ _ (under_both (token_of _) _ _ (under_after (token_of _) _ _ (under_both _ (blocks_of r) (blocks_of s) under_blocks)))
+  under_choice : Under (read_choice r) (read_choice s)
+  unfolding read_choice
+  under_choice = under_mapped _ _ _ (under_both (token_of _) _ _ (under_after (token_of _) _ _ (under_both _ (read_blocks r) (read_blocks s) under_blocks)))
 
   under_recursion : Under (recursion_of r) (recursion_of s)
   unfolding recursion_of
@@ -90,7 +90,7 @@ module _ (r s : Reader Block) (u : Under r s) where
 
   under_statement : Under (statement_of r) (statement_of s)
   unfolding statement_of
-  under_statement = under_branch _ (choice_of r) (choice_of s) _ _ under_choice (under_branch _ (recursion_of r) (recursion_of s) _ _ under_recursion (under_same _))
+  under_statement = under_branch _ (read_choice r) (read_choice s) _ _ under_choice (under_branch _ (recursion_of r) (recursion_of s) _ _ under_recursion (under_same _))
 
   under_statements : Under (statements_of r) (statements_of s)
   unfolding statements_of
@@ -116,13 +116,13 @@ unfolding protocol_of
 under_protocol levels =
     under_mapped _ _ _ (under_both (token_of _) _ _ (under_after (token_of _) _ _ (under_both _ _ _ (under_after (token_of _) _ _ (under_both _ _ _ (under_after (token_of _) (block_of levels) (block_of (suc levels)) (under_block levels)))))))
 
-under_declaration : (levels : ℕ) → Under (declaration_of levels) (declaration_of (suc levels))
-unfolding declaration_of
+under_declaration : (levels : ℕ) → Under (read_declaration levels) (read_declaration (suc levels))
+unfolding read_declaration
 under_declaration levels = under_branch _ _ _ _ _ (under_same _) (under_mapped Some (protocol_of levels) (protocol_of (suc levels)) (under_protocol levels))
 
 under_declarations : (levels : ℕ) → Under (declarations_of levels) (declarations_of (suc levels))
 unfolding declarations_of
-under_declarations levels = under_mapped _ _ _ (under_repeated begins_declaration (declaration_of levels) (declaration_of (suc levels)) (under_declaration levels))
+under_declarations levels = under_mapped _ _ _ (under_repeated begins_declaration (read_declaration levels) (read_declaration (suc levels)) (under_declaration levels))
 
 under_module : (levels : ℕ) → Under (module_of levels) (module_of (suc levels))
 unfolding module_of

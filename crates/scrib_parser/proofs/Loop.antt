@@ -6,18 +6,18 @@ use Rattle.scrib_lexer.specs.declared.token.TokenKind.{TokenKind}
 use Rattle.scrib_lexer.specs.Lexeme.{Lexeme}
 use Rattle.scrib_parser.specs.declared.fault.ParseFault.{ParseFault}
 use Rattle.scrib_parser.specs.declared.fault.ParseFault.TheVariants.{Unexpected, EndOfText, LeftOut, TooDeep, OutOfMemory}
-use Rattle.scrib_parser.specs.Reading.{Reader, Read, ◌>>=◌, Stops, begins, repeated, token_of, after}
+use Rattle.scrib_parser.specs.Reading.{Reader, ReadResult, ◌>>=◌, Stops, begins, repeated, token_of, after}
 use Rattle.scrib_parser.proofs.Repetition.{Takes, repeated_ends, repeated_goes}
 
 -- the values that were read, and those that are still read
-abbrev pub with_front : {A : Type 0} → List A → Read (List A) → Read (List A)
+abbrev pub with_front : {A : Type 0} → List A → ReadResult (List A) → ReadResult (List A)
 with_front front read = read >>= λ x. Ok (front ++ x.0, x.1)
 
-regroup : {A : Type 0} (front : List A) (x : A) (read : Read (List A)) → with_front front (read >>= λ xs. Ok (x ∷ xs.0, xs.1)) ≡ with_front (front ++ x ∷ []) read
+regroup : {A : Type 0} (front : List A) (x : A) (read : ReadResult (List A)) → with_front front (read >>= λ xs. Ok (x ∷ xs.0, xs.1)) ≡ with_front (front ++ x ∷ []) read
 regroup front x (Ok xs) = ap (λ (l : List _). Ok (l, xs.1)) (simp append_assoc)
 regroup front x (Err f) = refl
 
-module _ {A : Type 0} (test : TokenKind → Bool) (item : Reader A) (takes : Takes test item) (front : List A) (ts : List Lexeme) (total : Read (List A)) where
+module _ {A : Type 0} (test : TokenKind → Bool) (item : Reader A) (takes : Takes test item) (front : List A) (ts : List Lexeme) (total : ReadResult (List A)) where
   -- one more was read
   pub goes_on : (x : A) (rest : List Lexeme) → begins test ts ≡ true → item ts ≡ Ok (x, rest) → with_front front (repeated test item ts) ≡ total → with_front (front ++ x ∷ []) (repeated test item rest) ≡ total
   goes_on x rest b h so_far =

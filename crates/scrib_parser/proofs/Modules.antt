@@ -11,8 +11,8 @@ use Rattle.scrib_parser.specs.declared.tree.Import.{Import}
 use Rattle.scrib_parser.specs.declared.tree.ProtocolDeclaration.{ProtocolDeclaration}
 use Rattle.scrib_parser.specs.declared.tree.RoleDeclaration.{RoleDeclaration}
 use Rattle.scrib_parser.specs.declared.tree.Block.{Block}
-use Rattle.scrib_parser.specs.Grammar.{Language, ◌·◌, any, many, joined, token_at, token, name, dotted, block, role, protocol, type_declaration, declaration, kept, «import», module_text}
-use Rattle.scrib_parser.specs.Reading.{begins, same_kind, mapped, both, after, repeated, token_of, name_of, dotted_of, block_of, roles_of, protocol_of, type_declaration_of, declaration_of, begins_declaration, declarations_of, imports_of, module_of}
+use Rattle.scrib_parser.specs.Grammar.{Language, ◌·◌, any, many, joined, spotted_token, token, name, dotted, block, role, protocol, type_declaration, declaration, kept, «import», module_text}
+use Rattle.scrib_parser.specs.Reading.{begins, same_kind, mapped, read_both, after, repeated, token_of, read_name, dotted_of, block_of, read_roles, protocol_of, type_declaration_of, read_declaration, begins_declaration, declarations_of, imports_of, module_of}
 use Rattle.scrib_parser.proofs.Laws.{Follows, free, follows_free, never, sends_never, Reads}
 use Rattle.scrib_parser.proofs.Combinations.{seen, mapped_reads, either, branch_up, respelled_up}
 use Rattle.scrib_parser.proofs.Repetition.{Takes, takes, begins_front, past, many_up}
@@ -35,7 +35,7 @@ abbrev pub with_roles : (Block → Language) → List RoleDeclaration × Block �
 with_roles b x = joined role (token Comma) x.0 · token CloseParen · b x.1
 
 abbrev pub declared : (Block → Language) → Declared → Language
-declared b x = token_at (Keyword words.Global) x.0 · token (Keyword words.Protocol) · name x.1.0 · token OpenParen · with_roles b x.1.1
+declared b x = spotted_token (Keyword words.Global) x.0 · token (Keyword words.Protocol) · name x.1.0 · token OpenParen · with_roles b x.1.1
 
 module _ (levels : ℕ) where
   abbrev B : Block → Language
@@ -44,20 +44,20 @@ module _ (levels : ℕ) where
   abbrev W : Block → Language
   W = block (suc levels)
 
-  with_roles_reads : Reads (claim_of (with_roles W)) (both roles_of (after (token_of CloseParen) (block_of levels))) (with_roles B) (with_roles W) free
+  with_roles_reads : Reads (claim_of (with_roles W)) (read_both read_roles (after (token_of CloseParen) (block_of levels))) (with_roles B) (with_roles W) free
   with_roles_reads =
-      both_claimed roles_of (after (token_of CloseParen) (block_of levels)) (joined role (token Comma)) (λ b. token CloseParen · B b) (λ b. token CloseParen · W b) (past (same_kind Comma) free) free roles_reads
-      (after_claimed (token_of CloseParen) (block_of levels) (token_at CloseParen) B W free free (token_reads CloseParen) (block_reads levels) (λ y ts rest h fits. follows_free (ts ++ rest)))
+      both_claimed read_roles (after (token_of CloseParen) (block_of levels)) (joined role (token Comma)) (λ b. token CloseParen · B b) (λ b. token CloseParen · W b) (past (same_kind Comma) free) free roles_reads
+      (after_claimed (token_of CloseParen) (block_of levels) (spotted_token CloseParen) B W free free (token_reads CloseParen) (block_reads levels) (λ y ts rest h fits. follows_free (ts ++ rest)))
       (λ b ts rest h fits. behind_token (past (same_kind Comma) free) CloseParen (B b) ts rest (refl, tt) h)
 
-  declared_reads : Reads (claim_of (declared W)) (both (token_of (Keyword words.Global)) (after (token_of (Keyword words.Protocol)) (both name_of (after (token_of OpenParen) (both roles_of (after (token_of CloseParen) (block_of levels))))))) (declared B) (declared W) free
+  declared_reads : Reads (claim_of (declared W)) (read_both (token_of (Keyword words.Global)) (after (token_of (Keyword words.Protocol)) (read_both read_name (after (token_of OpenParen) (read_both read_roles (after (token_of CloseParen) (block_of levels))))))) (declared B) (declared W) free
   declared_reads =
-      both_claimed (token_of (Keyword words.Global)) (after (token_of (Keyword words.Protocol)) (both name_of (after (token_of OpenParen) (both roles_of (after (token_of CloseParen) (block_of levels)))))) (token_at (Keyword words.Global))
+      both_claimed (token_of (Keyword words.Global)) (after (token_of (Keyword words.Protocol)) (read_both read_name (after (token_of OpenParen) (read_both read_roles (after (token_of CloseParen) (block_of levels)))))) (spotted_token (Keyword words.Global))
       (λ x. token (Keyword words.Protocol) · name x.0 · token OpenParen · with_roles B x.1) (λ x. token (Keyword words.Protocol) · name x.0 · token OpenParen · with_roles W x.1) free free (token_reads (Keyword words.Global))
-      (after_claimed (token_of (Keyword words.Protocol)) (both name_of (after (token_of OpenParen) (both roles_of (after (token_of CloseParen) (block_of levels))))) (token_at (Keyword words.Protocol))
+      (after_claimed (token_of (Keyword words.Protocol)) (read_both read_name (after (token_of OpenParen) (read_both read_roles (after (token_of CloseParen) (block_of levels))))) (spotted_token (Keyword words.Protocol))
       (λ x. name x.0 · token OpenParen · with_roles B x.1) (λ x. name x.0 · token OpenParen · with_roles W x.1) free free (token_reads (Keyword words.Protocol))
-      (both_claimed name_of (after (token_of OpenParen) (both roles_of (after (token_of CloseParen) (block_of levels)))) name (λ x. token OpenParen · with_roles B x) (λ x. token OpenParen · with_roles W x) free free name_reads
-      (after_claimed (token_of OpenParen) (both roles_of (after (token_of CloseParen) (block_of levels))) (token_at OpenParen) (with_roles B) (with_roles W) free free (token_reads OpenParen) with_roles_reads (λ y ts rest h fits. follows_free (ts ++ rest)))
+      (both_claimed read_name (after (token_of OpenParen) (read_both read_roles (after (token_of CloseParen) (block_of levels)))) name (λ x. token OpenParen · with_roles B x) (λ x. token OpenParen · with_roles W x) free free name_reads
+      (after_claimed (token_of OpenParen) (read_both read_roles (after (token_of CloseParen) (block_of levels))) (spotted_token OpenParen) (with_roles B) (with_roles W) free free (token_reads OpenParen) with_roles_reads (λ y ts rest h fits. follows_free (ts ++ rest)))
       (λ y ts rest h fits. follows_free (ts ++ rest)))
       (λ y ts rest h fits. follows_free (ts ++ rest)))
       (λ y ts rest h fits. follows_free (ts ++ rest))
@@ -79,12 +79,12 @@ module _ (levels : ℕ) where
 typed_to : (spot : Spot) (ts : List Lexeme) → typed spot ts → type_declaration ts
 typed_to spot ts h =
     into _ _ (λ (s : Spot). _) (into _ _ (λ (s : Spot). _) (into _ _ (λ (s : Spot). _) (into _ _ (λ (s : Spot). _) (into _ _ (λ (s : Spot). _) (into _ _ (λ (s : Spot). _) (into _ _ (λ (s : Spot). _) (into _ _ (λ (s : Spot). _)
-    (into (any name) (token Semicolon) (λ (s : Spot). token_at Semicolon s) (λ s us k. (s, k)))))))))) spot ts h
+    (into (any name) (token Semicolon) (λ (s : Spot). spotted_token Semicolon s) (λ s us k. (s, k)))))))))) spot ts h
 
 typed_from : (ts : List Lexeme) → type_declaration ts → (spot : Spot) × typed spot ts
 typed_from ts h =
     out _ _ (λ (s : Spot). _) (out _ _ (λ (s : Spot). _) (out _ _ (λ (s : Spot). _) (out _ _ (λ (s : Spot). _) (out _ _ (λ (s : Spot). _) (out _ _ (λ (s : Spot). _) (out _ _ (λ (s : Spot). _) (out _ _ (λ (s : Spot). _)
-    (out (any name) (token Semicolon) (λ (s : Spot). token_at Semicolon s) (λ us k. k))))))))) ts h
+    (out (any name) (token Semicolon) (λ (s : Spot). spotted_token Semicolon s) (λ us k. k))))))))) ts h
 
 abbrev a_type : Option ProtocolDeclaration → Language
 a_type = seen (λ (spot : Spot). None) typed
@@ -103,8 +103,8 @@ declaration_from levels (Some p) ts h = inr (p, refl, h)
 begins_type : (spot : Spot) (ts : List Lexeme) → typed spot ts → begins (same_kind (Keyword words.«Type»)) ts ≡ true
 begins_type spot ts h = begins_token (same_kind (Keyword words.«Type»)) (Keyword words.«Type») _ ts refl h
 
-pub declaration_reads : (levels : ℕ) → Reads (claim_of (declaration (suc levels))) (declaration_of levels) (declaration levels) (declaration (suc levels)) free
-unfolding declaration_of
+pub declaration_reads : (levels : ℕ) → Reads (claim_of (declaration (suc levels))) (read_declaration levels) (declaration levels) (declaration (suc levels)) free
+unfolding read_declaration
 declaration_reads levels =
     let C = claim_of (declaration (suc levels)) in
     respelled_up C _ (either a_type (a_protocol levels)) (either a_type (a_protocol (suc levels))) (declaration levels) (declaration (suc levels)) free (declaration_to levels) (declaration_from levels) (declaration_to (suc levels))
@@ -124,9 +124,9 @@ begins_a_declaration levels None ts h =
 begins_a_declaration levels (Some p) ts h =
     along (same_kind (Keyword words.Global)) begins_declaration (λ kind e. is_declaration kind (Keyword words.Global) refl e) ts (begins_protocol levels p ts h)
 
-pub declaration_takes : (levels : ℕ) → Takes begins_declaration (declaration_of levels)
+pub declaration_takes : (levels : ℕ) → Takes begins_declaration (read_declaration levels)
 declaration_takes levels =
-    takes (claim_of (declaration (suc levels))) (claim_of (many (declaration (suc levels)))) begins_declaration (declaration_of levels) (declaration levels) (declaration (suc levels)) free (declaration_reads levels) (begins_a_declaration levels)
+    takes (claim_of (declaration (suc levels))) (claim_of (many (declaration (suc levels)))) begins_declaration (read_declaration levels) (declaration levels) (declaration (suc levels)) free (declaration_reads levels) (begins_a_declaration levels)
 
 abbrev pub past_declarations : TokenKind → Type 0
 past_declarations = past begins_declaration free
@@ -138,8 +138,8 @@ declarations_reads : (levels : ℕ) → Reads (claim_of (kept_of (suc levels))) 
 unfolding declarations_of
 declarations_reads levels =
     let C = claim_of (declaration (suc levels)) in
-    mapped_claimed kept (repeated begins_declaration (declaration_of levels)) (many (declaration levels)) (many (declaration (suc levels))) past_declarations
-    (many_up C (claim_of (many (declaration (suc levels)))) begins_declaration (declaration_of levels) (declaration levels) (declaration (suc levels)) free (declaration_reads levels) (begins_a_declaration levels) (λ kind e. tt) (
+    mapped_claimed kept (repeated begins_declaration (read_declaration levels)) (many (declaration levels)) (many (declaration (suc levels))) past_declarations
+    (many_up C (claim_of (many (declaration (suc levels)))) begins_declaration (read_declaration levels) (declaration levels) (declaration (suc levels)) free (declaration_reads levels) (begins_a_declaration levels) (λ kind e. tt) (
       begun_on [] (declaration (suc levels)) (many (declaration (suc levels))) (λ d. d ∷ []) (λ d us k. (us, [], sym (append-nil us), k, refl)),
       (λ d ts h. begun_on ts (many (declaration (suc levels))) (many (declaration (suc levels))) (λ ds. d ∷ ds) (λ ds us k. (ts, us, refl, (declaration_reads levels).wider d ts h, k))),
     ))
@@ -186,13 +186,13 @@ module_made x = record { name = x.0; imports = x.1.0; protocols = x.1.1 }
 abbrev pub in_module : ℕ → Parts → Language
 in_module levels x = token (Keyword words.Module) · dotted x.0 · token Semicolon · many «import» x.1.0 · kept_of levels x.1.1
 
-in_module_reads : (levels : ℕ) → Reads (claim_of (in_module (suc levels))) (after (token_of (Keyword words.Module)) (both dotted_of (after (token_of Semicolon) (both imports_of (declarations_of levels))))) (in_module levels) (in_module (suc levels)) past_module
+in_module_reads : (levels : ℕ) → Reads (claim_of (in_module (suc levels))) (after (token_of (Keyword words.Module)) (read_both dotted_of (after (token_of Semicolon) (read_both imports_of (declarations_of levels))))) (in_module levels) (in_module (suc levels)) past_module
 in_module_reads levels =
-    after_claimed (token_of (Keyword words.Module)) (both dotted_of (after (token_of Semicolon) (both imports_of (declarations_of levels)))) (token_at (Keyword words.Module))
+    after_claimed (token_of (Keyword words.Module)) (read_both dotted_of (after (token_of Semicolon) (read_both imports_of (declarations_of levels)))) (spotted_token (Keyword words.Module))
     (λ (x : Parts). dotted x.0 · token Semicolon · many «import» x.1.0 · kept_of levels x.1.1) (λ (x : Parts). dotted x.0 · token Semicolon · many «import» x.1.0 · kept_of (suc levels) x.1.1) free past_module (token_reads (Keyword words.Module))
-    (both_claimed dotted_of (after (token_of Semicolon) (both imports_of (declarations_of levels))) dotted
+    (both_claimed dotted_of (after (token_of Semicolon) (read_both imports_of (declarations_of levels))) dotted
     (λ (x : List Import × List ProtocolDeclaration). token Semicolon · many «import» x.0 · kept_of levels x.1) (λ (x : List Import × List ProtocolDeclaration). token Semicolon · many «import» x.0 · kept_of (suc levels) x.1) no_dot past_module dotted_reads
-    (after_claimed (token_of Semicolon) (both imports_of (declarations_of levels)) (token_at Semicolon)
+    (after_claimed (token_of Semicolon) (read_both imports_of (declarations_of levels)) (spotted_token Semicolon)
     (λ (x : List Import × List ProtocolDeclaration). many «import» x.0 · kept_of levels x.1) (λ (x : List Import × List ProtocolDeclaration). many «import» x.0 · kept_of (suc levels) x.1) free past_module (token_reads Semicolon)
     (both_claimed imports_of (declarations_of levels) (many «import») (kept_of levels) (kept_of (suc levels)) past_imports past_module imports_reads
     (narrowed levels) (λ ps ts rest h fits. behind_imports levels ps ts rest h fits))

@@ -6,7 +6,7 @@ use Rattle.scrib_lexer.specs.declared.token.TokenKind.{TokenKind}
 use Rattle.scrib_lexer.specs.Lexeme.{Lexeme}
 use Rattle.scrib_parser.specs.declared.fault.ParseFault.{ParseFault}
 use Rattle.scrib_parser.specs.Grammar.{Language, many}
-use Rattle.scrib_parser.specs.Reading.{Reader, Read, ◌>>=◌, begins, repeat, repeated}
+use Rattle.scrib_parser.specs.Reading.{Reader, ReadResult, ◌>>=◌, begins, repeat, repeated}
 use Rattle.scrib_parser.proofs.Laws.{done, Follows, Claim, Sends, cause_on, Taken, Stopped, Reads, bind_ok, bind_err, ok_is, carried}
 use Rattle.scrib_parser.proofs.Combinations.{begins_first}
 
@@ -25,14 +25,14 @@ module _ {A : Type 0} (test : TokenKind → Bool) (item : Reader A) where
   Takes = (ts : List Lexeme) (x : A) (rest : List Lexeme) → item ts ≡ Ok (x, rest) → length rest < length ts
 
   -- one more step
-  abbrev pub one_more : (List Lexeme → Read (List A)) → List Lexeme → Read (List A)
+  abbrev pub one_more : (List Lexeme → ReadResult (List A)) → List Lexeme → ReadResult (List A)
   one_more rest_of ts = item ts >>= λ x. rest_of x.1 >>= λ xs. Ok (x.0 ∷ xs.0, xs.1)
 
-  one_more_same : (f g : List Lexeme → Read (List A)) (ts : List Lexeme) → ((x : A) (rest : List Lexeme) → item ts ≡ Ok (x, rest) → f rest ≡ g rest) → one_more f ts ≡ one_more g ts
+  one_more_same : (f g : List Lexeme → ReadResult (List A)) (ts : List Lexeme) → ((x : A) (rest : List Lexeme) → item ts ≡ Ok (x, rest) → f rest ≡ g rest) → one_more f ts ≡ one_more g ts
   one_more_same f g ts h = at (item ts) h
     where
-      at : (r : Read A) → ((x : A) (rest : List Lexeme) → r ≡ Ok (x, rest) → f rest ≡ g rest)
-          → ◌≡◌ {A = Read (List A)} (r >>= λ x. f x.1 >>= λ xs. Ok (x.0 ∷ xs.0, xs.1)) (r >>= λ x. g x.1 >>= λ xs. Ok (x.0 ∷ xs.0, xs.1))
+      at : (r : ReadResult A) → ((x : A) (rest : List Lexeme) → r ≡ Ok (x, rest) → f rest ≡ g rest)
+          → ◌≡◌ {A = ReadResult (List A)} (r >>= λ x. f x.1 >>= λ xs. Ok (x.0 ∷ xs.0, xs.1)) (r >>= λ x. g x.1 >>= λ xs. Ok (x.0 ∷ xs.0, xs.1))
       at (Ok x) k = rw (k x.0 x.1 refl) refl
       at (Err f) k = refl
 
@@ -45,7 +45,7 @@ module _ {A : Type 0} (test : TokenKind → Bool) (item : Reader A) where
   enough takes (suc n) zero [] h k = refl
   enough takes (suc n) zero (t ∷ ts) h k = absurd (omega arith)
   enough takes (suc n) (suc m) ts h k =
-      ap (λ (r : Read (List A)). cond (begins test ts) r (Ok ([], ts)))
+      ap (λ (r : ReadResult (List A)). cond (begins test ts) r (Ok ([], ts)))
       (one_more_same (repeat test item n) (repeat test item m) ts (λ x rest e. let lt = takes ts x rest e in enough takes n m rest (omega arith) (omega arith)))
 
   -- what reading does at its next token
@@ -53,7 +53,7 @@ module _ {A : Type 0} (test : TokenKind → Bool) (item : Reader A) where
   unfolding repeat repeated
   repeated_is takes [] = refl
   repeated_is takes (t ∷ ts) =
-      ap (λ (r : Read (List A)). cond (test t.kind) r (Ok ([], t ∷ ts)))
+      ap (λ (r : ReadResult (List A)). cond (test t.kind) r (Ok ([], t ∷ ts)))
       (one_more_same (repeat test item (length ts)) (repeated test item) (t ∷ ts) (λ x rest e. let lt = takes (t ∷ ts) x rest e in enough takes (length ts) (length rest) rest (omega arith) (omega arith)))
 
   pub repeated_ends : Takes → (ts : List Lexeme) → begins test ts ≡ false → repeated test item ts ≡ Ok ([], ts)

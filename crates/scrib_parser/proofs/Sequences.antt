@@ -3,8 +3,8 @@ use Rattle.std.proofs.Common.{◌≡◌, true, List, [], ◌∷◌, ◌++◌, re
 use Rattle.scrib_types.specs.declared.spot.Spot.{Spot}
 use Rattle.scrib_lexer.specs.declared.token.TokenKind.{TokenKind}
 use Rattle.scrib_lexer.specs.Lexeme.{Lexeme}
-use Rattle.scrib_parser.specs.Grammar.{Language, ◌·◌, any, many, joined, token_at, token}
-use Rattle.scrib_parser.specs.Reading.{Reader, begins, same_kind, chain, mapped, both, after, before, repeated, token_of}
+use Rattle.scrib_parser.specs.Grammar.{Language, ◌·◌, any, many, joined, spotted_token, token}
+use Rattle.scrib_parser.specs.Reading.{Reader, begins, same_kind, chain, mapped, read_both, after, read_before, repeated, token_of}
 use Rattle.scrib_parser.proofs.Laws.{free, follows_free, Claim, never, Sends, sends_never, Leaf, chain_reads}
 use Rattle.scrib_parser.proofs.Combinations.{respelled, seen, mapped_reads, both_reads, after_reads, before_reads}
 use Rattle.scrib_parser.proofs.Repetition.{past, follows_items, many_reads}
@@ -22,11 +22,11 @@ module _ {A : Type 0} (C E D K : Claim) (item : Reader A) (L : A → Language) (
 
   -- the claim after a mark
   abbrev pub BehindMark : Type 0
-  BehindMark = (spot : Spot) (ts : List Lexeme) → token_at mark spot ts → Sends ts C E
+  BehindMark = (spot : Spot) (ts : List Lexeme) → spotted_token mark spot ts → Sends ts C E
 
   pub marked_reads : Leaf C item L F → BehindMark → Leaf E (after (token_of mark) item) marked F
   marked_reads r behind =
-      after_reads never C E (token_of mark) item (token_at mark) L free F (token_reads mark) r (λ y ts rest h fits. follows_free (ts ++ rest)) (behind_quiet (token_at mark) C E behind)
+      after_reads never C E (token_of mark) item (spotted_token mark) L free F (token_reads mark) r (λ y ts rest h fits. follows_free (ts ++ rest)) (behind_quiet (spotted_token mark) C E behind)
 
   pub begins_marked : (y : A) (ts : List Lexeme) → marked y ts → begins (same_kind mark) ts ≡ true
   begins_marked y ts h = begins_token (same_kind mark) mark (L y) ts (same_kind-refl mark) h
@@ -65,25 +65,25 @@ module _ {A : Type 0} (item : Reader A) (L : A → Language) (F : TokenKind → 
 -- ---- parts that don't continue one another, with no claim
 
 module _ {A B : Type 0} (first : Reader A) (second : Reader B) (L : A → Language) (M : B → Language) where
-  pub pair_reads : Leaf never first L free → Leaf never second M free → Leaf never (both first second) (λ p. L p.0 · M p.1) free
+  pub pair_reads : Leaf never first L free → Leaf never second M free → Leaf never (read_both first second) (λ p. L p.0 · M p.1) free
   pair_reads r s = both_reads never never never first second L M free free r s (λ y ts rest h fits. follows_free (ts ++ rest)) (quiet L)
 
   pub skip_reads : Leaf never first L free → Leaf never second M free → Leaf never (after first second) (λ y. any L · M y) free
   skip_reads r s = after_reads never never never first second L M free free r s (λ y ts rest h fits. follows_free (ts ++ rest)) (quiet L)
 
-  pub closed_reads : Leaf never first L free → Leaf never second M free → Leaf never (before first second) (λ x. L x · any M) free
+  pub closed_reads : Leaf never first L free → Leaf never second M free → Leaf never (read_before first second) (λ x. L x · any M) free
   closed_reads r s = before_reads never never never first second L M free free r s (λ y ts rest h fits. follows_free (ts ++ rest)) (quiet L)
 
 module _ {A B : Type 0} (first : Reader A) (second : Reader B) (L : A → Language) (M : B → Language) (F G : TokenKind → Type 0) (kind : TokenKind) where
   -- a token of a kind that doesn't continue the first
-  pub until_reads : Leaf never first L F → Leaf never second M G → F kind → Leaf never (both first (after (token_of kind) second)) (λ p. L p.0 · token kind · M p.1) G
+  pub until_reads : Leaf never first L F → Leaf never second M G → F kind → Leaf never (read_both first (after (token_of kind) second)) (λ p. L p.0 · token kind · M p.1) G
   until_reads r s h =
       both_reads never never never first (after (token_of kind) second) L (λ y. token kind · M y) F G r
-      (after_reads never never never (token_of kind) second (token_at kind) M free G (token_reads kind) s (λ y ts rest k fits. follows_free (ts ++ rest)) (quiet (token_at kind)))
+      (after_reads never never never (token_of kind) second (spotted_token kind) M free G (token_reads kind) s (λ y ts rest k fits. follows_free (ts ++ rest)) (quiet (spotted_token kind)))
       (λ y ts rest k fits. behind_token F kind (M y) ts rest h k) (quiet L)
 
 module _ {A : Type 0} (first : Reader A) (L : A → Language) (F : TokenKind → Type 0) (kind : TokenKind) where
   -- a last token of a kind that doesn't continue the first
-  pub ended_reads : Leaf never first L F → F kind → Leaf never (before first (token_of kind)) (λ x. L x · token kind) free
+  pub ended_reads : Leaf never first L F → F kind → Leaf never (read_before first (token_of kind)) (λ x. L x · token kind) free
   ended_reads r h =
-      before_reads never never never first (token_of kind) L (token_at kind) F free r (token_reads kind) (λ spot ts rest k fits. behind_token_at F kind spot ts rest h k) (quiet L)
+      before_reads never never never first (token_of kind) L (spotted_token kind) F free r (token_reads kind) (λ spot ts rest k fits. behind_token_at F kind spot ts rest h k) (quiet L)

@@ -13,8 +13,8 @@ use Rattle.scrib_parser.specs.declared.tree.RoleDeclaration.{RoleDeclaration}
 use Rattle.scrib_parser.specs.declared.tree.Block.{Block}
 use Rattle.scrib_parser.specs.declared.tree.Statement.{Statement}
 use Rattle.scrib_parser.specs.declared.tree.Statement as tree
-use Rattle.scrib_parser.specs.Grammar.{Language, ◌·◌, any, many, joined, token_at, token, name, dotted, message, choice, recursion, jump, call, statement, block, role, protocol, type_declaration, declaration, kept, «import», module_text}
-use Rattle.scrib_parser.specs.Reading.{Reader, Read, begins, same_kind, mapped, both, after, before, repeated, token_of, name_of, dotted_of, blocks_of, choice_of, recursion_of, statement_of, begins_statement, statements_of, opened_block_of, block_of, roles_of, protocol_of, declaration_of, begins_declaration, declarations_of, imports_of, module_of}
+use Rattle.scrib_parser.specs.Grammar.{Language, ◌·◌, any, many, joined, spotted_token, token, name, dotted, message, choice, recursion, jump, call, statement, block, role, protocol, type_declaration, declaration, kept, «import», module_text}
+use Rattle.scrib_parser.specs.Reading.{Reader, ReadResult, begins, same_kind, mapped, read_both, after, read_before, repeated, token_of, read_name, dotted_of, read_blocks, read_choice, recursion_of, statement_of, begins_statement, statements_of, opened_block_of, block_of, read_roles, protocol_of, read_declaration, begins_declaration, declarations_of, imports_of, module_of}
 use Rattle.scrib_parser.proofs.Laws.{Follows, free, follows_free, Claim, never, Reads, Leaf}
 use Rattle.scrib_parser.proofs.Combinations.{seen}
 use Rattle.scrib_parser.proofs.Repetition.{Takes, takes, begins_front, past, repeated_goes, follows_items}
@@ -55,7 +55,7 @@ rare = record {
 module _ (us : List Lexeme) (f : ParseFault) (named : begins (same_kind Name) us ≡ true) where
   -- where such a word may follow, reading other tokens there stops with the fault
   abbrev pub Breaks : {A : Type 0} → Reader A → (A → Language) → Type 0
-  Breaks {A} reader L = (x : A) (front : List Lexeme) (c : Lexeme) (more : List Lexeme) → L x (front ++ c ∷ more) → c.kind ≡ go → ◌≡◌ {A = Read A} (reader (front ++ us)) (Err f)
+  Breaks {A} reader L = (x : A) (front : List Lexeme) (c : Lexeme) (more : List Lexeme) → L x (front ++ c ∷ more) → c.kind ≡ go → ◌≡◌ {A = ReadResult A} (reader (front ++ us)) (Err f)
 
   begins_us : (test : TokenKind → Bool) → test Name ≡ true → begins test us ≡ true
   begins_us test h = at us named
@@ -88,7 +88,7 @@ module _ (us : List Lexeme) (f : ParseFault) (named : begins (same_kind Name) us
             let one = r.again h.0 x (k.0 ++ us) h.3 (follows_on F fits k.0 c more (joins y (k.0 ++ c ∷ more) second_part)) in
             (k.0, ap first (ap (λ (l : List Lexeme). l ++ us) k.1 ∙ append_assoc h.0 k.0 us) ∙ one, breaks y k.0 c more second_part g)
 
-    pub breaks_both : Leaf never first P F → ((x : A) → Plain go (P x)) → F Name → ((y : B) (ts : List Lexeme) → M y ts → Follows F (ts ++ [])) → Breaks second M → Breaks {A = A × B} (both first second) (λ p. P p.0 · M p.1)
+    pub breaks_both : Leaf never first P F → ((x : A) → Plain go (P x)) → F Name → ((y : B) (ts : List Lexeme) → M y ts → Follows F (ts ++ [])) → Breaks second M → Breaks {A = A × B} (read_both first second) (λ p. P p.0 · M p.1)
     breaks_both r plain fits joins breaks p front c more h g =
         let k = passed r plain fits joins breaks p.0 p.1 front c more h g in rw (k.1, k.2) refl
 
@@ -96,10 +96,10 @@ module _ (us : List Lexeme) (f : ParseFault) (named : begins (same_kind Name) us
     breaks_after r plain fits joins breaks y front c more h g =
         let k = passed r plain fits joins breaks h.3.0 y front c more (h.0, h.1, h.2, h.3.1, h.4) g in rw (k.1, k.2) refl
 
-  breaks_before : {A B : Type 0} (first : Reader A) (second : Reader B) (L : A → Language) (M : B → Language) → Breaks first L → Plain go (any M) → Breaks (before first second) (λ x. L x · any M)
+  breaks_before : {A B : Type 0} (first : Reader A) (second : Reader B) (L : A → Language) (M : B → Language) → Breaks first L → Plain go (any M) → Breaks (read_before first second) (λ x. L x · any M)
   breaks_before first second L M breaks plain x front c more h g = at (parted front c more h.0 h.1 h.2)
     where
-      at : (((m : List Lexeme) × (h.0 ≡ front ++ c ∷ m)) ⊎ ((b : List Lexeme) × (front ≡ h.0 ++ b) × (h.1 ≡ b ++ c ∷ more))) → before first second (front ++ us) ≡ Err f
+      at : (((m : List Lexeme) × (h.0 ≡ front ++ c ∷ m)) ⊎ ((b : List Lexeme) × (front ≡ h.0 ++ b) × (h.1 ≡ b ++ c ∷ more))) → read_before first second (front ++ us) ≡ Err f
       at (inl k) = let one = breaks x front c k.0 (subst (L x) k.1 h.3) g in rw one refl
       at (inr k) = absurd (none_in go (any M) k.0 c more plain (subst (any M) k.2 h.4) g)
 
@@ -157,7 +157,7 @@ module _ (us : List Lexeme) (f : ParseFault) (named : begins (same_kind Name) us
       more_of = repeated (same_kind (Keyword words.Or)) (after (token_of (Keyword words.Or)) reader)
 
       breaks_or : Breaks (after (token_of (Keyword words.Or)) reader) (λ b. token (Keyword words.Or) · B b)
-      breaks_or = breaks_after (token_of (Keyword words.Or)) reader (token_at (Keyword words.Or)) B free (token_reads (Keyword words.Or)) (λ spot. plain_at go (Keyword words.Or) spot refl) tt (λ y ts h. follows_free (ts ++ [])) inner
+      breaks_or = breaks_after (token_of (Keyword words.Or)) reader (spotted_token (Keyword words.Or)) B free (token_reads (Keyword words.Or)) (λ spot. plain_at go (Keyword words.Or) spot refl) tt (λ y ts h. follows_free (ts ++ [])) inner
 
       breaks_more : Breaks more_of (many (λ b. token (Keyword words.Or) · B b))
       breaks_more =
@@ -165,42 +165,42 @@ module _ (us : List Lexeme) (f : ParseFault) (named : begins (same_kind Name) us
           (or_reads reader B W (block_reads levels)) (begins_or reader B W (block_reads levels))
           (λ b c more h g. absurd (not_go (same_kind (Keyword words.Or)) refl c (begins_or reader B W (block_reads levels) b (c ∷ more) h) g)) (λ kind e. tt) tt breaks_or
 
-      breaks_blocks : Breaks (blocks_of reader) (λ bs. joined B (token (Keyword words.Or)) bs)
-      unfolding blocks_of
+      breaks_blocks : Breaks (read_blocks reader) (λ bs. joined B (token (Keyword words.Or)) bs)
+      unfolding read_blocks
       breaks_blocks [] front c more h g = absurd h
       breaks_blocks (x ∷ xs) front c more h g = at (parted front c more h.0 h.1 h.2)
         where
-          at : (((m : List Lexeme) × (h.0 ≡ front ++ c ∷ m)) ⊎ ((b : List Lexeme) × (front ≡ h.0 ++ b) × (h.1 ≡ b ++ c ∷ more))) → blocks_of reader (front ++ us) ≡ Err f
+          at : (((m : List Lexeme) × (h.0 ≡ front ++ c ∷ m)) ⊎ ((b : List Lexeme) × (front ≡ h.0 ++ b) × (h.1 ≡ b ++ c ∷ more))) → read_blocks reader (front ++ us) ≡ Err f
           at (inl k) = let one = inner x front c k.0 (subst (B x) k.1 h.3) g in rw one refl
           at (inr k) =
               let one = (block_reads levels).again h.0 x (k.0 ++ us) h.3 (follows_free (k.0 ++ us)) in
               let two = breaks_more xs k.0 c more (subst (many (λ b. token (Keyword words.Or) · B b) xs) k.2 h.4) g in
-              ap (blocks_of reader) (ap (λ (l : List Lexeme). l ++ us) k.1 ∙ append_assoc h.0 k.0 us) ∙ rw (one, two) refl
+              ap (read_blocks reader) (ap (λ (l : List Lexeme). l ++ us) k.1 ∙ append_assoc h.0 k.0 us) ∙ rw (one, two) refl
 
       abbrev chosen_of : Reader (Spot × (List ℕ × List Block))
-      chosen_of = both (token_of (Keyword words.Choice)) (after (token_of (Keyword words.At)) (both name_of (blocks_of reader)))
+      chosen_of = read_both (token_of (Keyword words.Choice)) (after (token_of (Keyword words.At)) (read_both read_name (read_blocks reader)))
 
-      breaks_choice : Breaks (choice_of reader) (choice B)
-      unfolding choice_of
+      breaks_choice : Breaks (read_choice reader) (choice B)
+      unfolding read_choice
       breaks_choice =
-          breaks_respelled (choice_of reader) (seen (λ (x : Spot × (List ℕ × List Block)). tree.Choice x.1.0 x.1.1 x.0) (λ x. token_at (Keyword words.Choice) x.0 · token (Keyword words.At) · name x.1.0 · joined B (token (Keyword words.Or)) x.1.1)) (choice B)
+          breaks_respelled (read_choice reader) (seen (λ (x : Spot × (List ℕ × List Block)). tree.Choice x.1.0 x.1.1 x.0) (λ x. spotted_token (Keyword words.Choice) x.0 · token (Keyword words.At) · name x.1.0 · joined B (token (Keyword words.Or)) x.1.1)) (choice B)
           (λ s ts h. ((h.2, (h.0, h.1)), sym h.3, h.4))
-          (breaks_seen (λ (x : Spot × (List ℕ × List Block)). tree.Choice x.1.0 x.1.1 x.0) chosen_of (λ x. token_at (Keyword words.Choice) x.0 · token (Keyword words.At) · name x.1.0 · joined B (token (Keyword words.Or)) x.1.1)
-          (breaks_both (token_of (Keyword words.Choice)) (after (token_of (Keyword words.At)) (both name_of (blocks_of reader))) (token_at (Keyword words.Choice)) (λ x. token (Keyword words.At) · name x.0 · joined B (token (Keyword words.Or)) x.1) free (token_reads (Keyword words.Choice)) (λ spot. plain_at go (Keyword words.Choice) spot refl) tt (λ y ts h. follows_free (ts ++ []))
-          (breaks_after (token_of (Keyword words.At)) (both name_of (blocks_of reader)) (token_at (Keyword words.At)) (λ x. name x.0 · joined B (token (Keyword words.Or)) x.1) free (token_reads (Keyword words.At)) (λ spot. plain_at go (Keyword words.At) spot refl) tt (λ y ts h. follows_free (ts ++ []))
-          (breaks_both name_of (blocks_of reader) name (λ bs. joined B (token (Keyword words.Or)) bs) free name_reads (plain_name go refl) tt (λ y ts h. follows_free (ts ++ [])) breaks_blocks))))
+          (breaks_seen (λ (x : Spot × (List ℕ × List Block)). tree.Choice x.1.0 x.1.1 x.0) chosen_of (λ x. spotted_token (Keyword words.Choice) x.0 · token (Keyword words.At) · name x.1.0 · joined B (token (Keyword words.Or)) x.1.1)
+          (breaks_both (token_of (Keyword words.Choice)) (after (token_of (Keyword words.At)) (read_both read_name (read_blocks reader))) (spotted_token (Keyword words.Choice)) (λ x. token (Keyword words.At) · name x.0 · joined B (token (Keyword words.Or)) x.1) free (token_reads (Keyword words.Choice)) (λ spot. plain_at go (Keyword words.Choice) spot refl) tt (λ y ts h. follows_free (ts ++ []))
+          (breaks_after (token_of (Keyword words.At)) (read_both read_name (read_blocks reader)) (spotted_token (Keyword words.At)) (λ x. name x.0 · joined B (token (Keyword words.Or)) x.1) free (token_reads (Keyword words.At)) (λ spot. plain_at go (Keyword words.At) spot refl) tt (λ y ts h. follows_free (ts ++ []))
+          (breaks_both read_name (read_blocks reader) name (λ bs. joined B (token (Keyword words.Or)) bs) free name_reads (plain_name go refl) tt (λ y ts h. follows_free (ts ++ [])) breaks_blocks))))
 
       abbrev repeating_of : Reader (Spot × (List ℕ × Block))
-      repeating_of = both (token_of (Keyword words.Rec)) (both name_of reader)
+      repeating_of = read_both (token_of (Keyword words.Rec)) (read_both read_name reader)
 
       breaks_recursion : Breaks (recursion_of reader) (recursion B)
       unfolding recursion_of
       breaks_recursion =
-          breaks_respelled (recursion_of reader) (seen (λ (x : Spot × (List ℕ × Block)). tree.Rec x.1.0 x.1.1.body x.0) (λ x. token_at (Keyword words.Rec) x.0 · name x.1.0 · B x.1.1)) (recursion B)
+          breaks_respelled (recursion_of reader) (seen (λ (x : Spot × (List ℕ × Block)). tree.Rec x.1.0 x.1.1.body x.0) (λ x. spotted_token (Keyword words.Rec) x.0 · name x.1.0 · B x.1.1)) (recursion B)
           (λ s ts h. ((h.2, (h.0, h.1)), sym h.3, h.4))
-          (breaks_seen (λ (x : Spot × (List ℕ × Block)). tree.Rec x.1.0 x.1.1.body x.0) repeating_of (λ x. token_at (Keyword words.Rec) x.0 · name x.1.0 · B x.1.1)
-          (breaks_both (token_of (Keyword words.Rec)) (both name_of reader) (token_at (Keyword words.Rec)) (λ x. name x.0 · B x.1) free (token_reads (Keyword words.Rec)) (λ spot. plain_at go (Keyword words.Rec) spot refl) tt (λ y ts h. follows_free (ts ++ []))
-          (breaks_both name_of reader name B free name_reads (plain_name go refl) tt (λ y ts h. follows_free (ts ++ [])) inner)))
+          (breaks_seen (λ (x : Spot × (List ℕ × Block)). tree.Rec x.1.0 x.1.1.body x.0) repeating_of (λ x. spotted_token (Keyword words.Rec) x.0 · name x.1.0 · B x.1.1)
+          (breaks_both (token_of (Keyword words.Rec)) (read_both read_name reader) (spotted_token (Keyword words.Rec)) (λ x. name x.0 · B x.1) free (token_reads (Keyword words.Rec)) (λ spot. plain_at go (Keyword words.Rec) spot refl) tt (λ y ts h. follows_free (ts ++ []))
+          (breaks_both read_name reader name B free name_reads (plain_name go refl) tt (λ y ts h. follows_free (ts ++ [])) inner)))
 
       -- a jump has the word at its start alone
       no_jump_in : (s : Statement) (v : Lexeme) (front : List Lexeme) (c : Lexeme) (more : List Lexeme) → jump s (v ∷ front ++ c ∷ more) → c.kind ≡ go → ⊥
@@ -236,19 +236,19 @@ module _ (us : List Lexeme) (f : ParseFault) (named : begins (same_kind Name) us
           breaks_many (claim_of (statement W)) begins_statement (statement_of reader) (statement B) (statement W) past_choice (statement_reads reader B W (block_reads levels)) (begins_a_statement B) (λ s c more h g. refl) (λ kind e. (statement_no_or kind e, tt)) (refl, tt) breaks_statement
 
       abbrev braced : Block → Language
-      braced x = token_at OpenBrace x.spot · many (statement B) x.body · token CloseBrace
+      braced x = spotted_token OpenBrace x.spot · many (statement B) x.body · token CloseBrace
 
       abbrev braced_of : Reader (Spot × List Statement)
-      braced_of = both (token_of OpenBrace) (before (statements_of reader) (token_of CloseBrace))
+      braced_of = read_both (token_of OpenBrace) (read_before (statements_of reader) (token_of CloseBrace))
 
       breaks_opened : Breaks (opened_block_of reader) braced
       unfolding opened_block_of
       breaks_opened =
-          breaks_respelled (opened_block_of reader) (seen (λ (x : Spot × List Statement). record { body = x.1; spot = x.0 }) (λ x. token_at OpenBrace x.0 · many (statement B) x.1 · token CloseBrace)) braced
+          breaks_respelled (opened_block_of reader) (seen (λ (x : Spot × List Statement). record { body = x.1; spot = x.0 }) (λ x. spotted_token OpenBrace x.0 · many (statement B) x.1 · token CloseBrace)) braced
           (λ x ts h. ((x.spot, x.body), refl, h))
-          (breaks_seen (λ (x : Spot × List Statement). record { body = x.1; spot = x.0 }) braced_of (λ x. token_at OpenBrace x.0 · many (statement B) x.1 · token CloseBrace)
-          (breaks_both (token_of OpenBrace) (before (statements_of reader) (token_of CloseBrace)) (token_at OpenBrace) (λ ss. many (statement B) ss · token CloseBrace) free (token_reads OpenBrace) (λ spot. plain_at go OpenBrace spot refl) tt (λ y ts h. follows_free (ts ++ []))
-          (breaks_before (statements_of reader) (token_of CloseBrace) (many (statement B)) (token_at CloseBrace) breaks_statements (plain_token go CloseBrace refl))))
+          (breaks_seen (λ (x : Spot × List Statement). record { body = x.1; spot = x.0 }) braced_of (λ x. spotted_token OpenBrace x.0 · many (statement B) x.1 · token CloseBrace)
+          (breaks_both (token_of OpenBrace) (read_before (statements_of reader) (token_of CloseBrace)) (spotted_token OpenBrace) (λ ss. many (statement B) ss · token CloseBrace) free (token_reads OpenBrace) (λ spot. plain_at go OpenBrace spot refl) tt (λ y ts h. follows_free (ts ++ []))
+          (breaks_before (statements_of reader) (token_of CloseBrace) (many (statement B)) (spotted_token CloseBrace) breaks_statements (plain_token go CloseBrace refl))))
 
     breaks_block : (levels : ℕ) → Breaks (block_of levels) (block levels)
     unfolding block block_of
@@ -263,41 +263,41 @@ module _ (us : List Lexeme) (f : ParseFault) (named : begins (same_kind Name) us
       Whole = Spot × (List ℕ × (List RoleDeclaration × Block))
 
       abbrev spelled : Whole → Language
-      spelled x = token_at (Keyword words.Global) x.0 · token (Keyword words.Protocol) · name x.1.0 · token OpenParen · roles_and x.1.1
+      spelled x = spotted_token (Keyword words.Global) x.0 · token (Keyword words.Protocol) · name x.1.0 · token OpenParen · roles_and x.1.1
 
       abbrev made : Whole → ProtocolDeclaration
       made x = record { name = x.1.0; roles = x.1.1.0; body = x.1.1.1.body; spot = x.0 }
 
       abbrev roles_and_of : Reader (List RoleDeclaration × Block)
-      roles_and_of = both roles_of (after (token_of CloseParen) (block_of levels))
+      roles_and_of = read_both read_roles (after (token_of CloseParen) (block_of levels))
 
       abbrev named_of : Reader (List ℕ × (List RoleDeclaration × Block))
-      named_of = both name_of (after (token_of OpenParen) roles_and_of)
+      named_of = read_both read_name (after (token_of OpenParen) roles_and_of)
 
       abbrev whole_of : Reader Whole
-      whole_of = both (token_of (Keyword words.Global)) (after (token_of (Keyword words.Protocol)) named_of)
+      whole_of = read_both (token_of (Keyword words.Global)) (after (token_of (Keyword words.Protocol)) named_of)
 
-      breaks_roles : Breaks (both roles_of (after (token_of CloseParen) (block_of levels))) roles_and
+      breaks_roles : Breaks (read_both read_roles (after (token_of CloseParen) (block_of levels))) roles_and
       breaks_roles =
-          breaks_both roles_of (after (token_of CloseParen) (block_of levels)) (joined role (token Comma)) (λ b. token CloseParen · block levels b) (past (same_kind Comma) free) roles_reads (plain_roles go rare) (refl, tt)
+          breaks_both read_roles (after (token_of CloseParen) (block_of levels)) (joined role (token Comma)) (λ b. token CloseParen · block levels b) (past (same_kind Comma) free) roles_reads (plain_roles go rare) (refl, tt)
           (λ b ts h. behind_token (past (same_kind Comma) free) CloseParen (block levels b) ts [] (refl, tt) h)
-          (breaks_after (token_of CloseParen) (block_of levels) (token_at CloseParen) (block levels) free (token_reads CloseParen) (λ spot. plain_at go CloseParen spot refl) tt (λ y ts h. follows_free (ts ++ [])) (breaks_block levels))
+          (breaks_after (token_of CloseParen) (block_of levels) (spotted_token CloseParen) (block levels) free (token_reads CloseParen) (λ spot. plain_at go CloseParen spot refl) tt (λ y ts h. follows_free (ts ++ [])) (breaks_block levels))
 
       breaks_protocol : Breaks (protocol_of levels) (protocol levels)
       unfolding protocol_of
       breaks_protocol =
           breaks_respelled (protocol_of levels) (seen made spelled) (protocol levels) (λ p ts h. ((p.spot, (p.name, (p.roles, record { body = p.body; spot = h.0 }))), refl, h.1))
           (breaks_seen made whole_of spelled
-          (breaks_both (token_of (Keyword words.Global)) (after (token_of (Keyword words.Protocol)) named_of) (token_at (Keyword words.Global)) (λ x. token (Keyword words.Protocol) · name x.0 · token OpenParen · roles_and x.1) free (token_reads (Keyword words.Global)) (λ spot. plain_at go (Keyword words.Global) spot refl) tt (λ y ts h. follows_free (ts ++ []))
-          (breaks_after (token_of (Keyword words.Protocol)) named_of (token_at (Keyword words.Protocol)) (λ x. name x.0 · token OpenParen · roles_and x.1) free (token_reads (Keyword words.Protocol)) (λ spot. plain_at go (Keyword words.Protocol) spot refl) tt (λ y ts h. follows_free (ts ++ []))
-          (breaks_both name_of (after (token_of OpenParen) roles_and_of) name (λ x. token OpenParen · roles_and x) free name_reads (plain_name go refl) tt (λ y ts h. follows_free (ts ++ []))
-          (breaks_after (token_of OpenParen) roles_and_of (token_at OpenParen) roles_and free (token_reads OpenParen) (λ spot. plain_at go OpenParen spot refl) tt (λ y ts h. follows_free (ts ++ [])) breaks_roles)))))
+          (breaks_both (token_of (Keyword words.Global)) (after (token_of (Keyword words.Protocol)) named_of) (spotted_token (Keyword words.Global)) (λ x. token (Keyword words.Protocol) · name x.0 · token OpenParen · roles_and x.1) free (token_reads (Keyword words.Global)) (λ spot. plain_at go (Keyword words.Global) spot refl) tt (λ y ts h. follows_free (ts ++ []))
+          (breaks_after (token_of (Keyword words.Protocol)) named_of (spotted_token (Keyword words.Protocol)) (λ x. name x.0 · token OpenParen · roles_and x.1) free (token_reads (Keyword words.Protocol)) (λ spot. plain_at go (Keyword words.Protocol) spot refl) tt (λ y ts h. follows_free (ts ++ []))
+          (breaks_both read_name (after (token_of OpenParen) roles_and_of) name (λ x. token OpenParen · roles_and x) free name_reads (plain_name go refl) tt (λ y ts h. follows_free (ts ++ []))
+          (breaks_after (token_of OpenParen) roles_and_of (spotted_token OpenParen) roles_and free (token_reads OpenParen) (λ spot. plain_at go OpenParen spot refl) tt (λ y ts h. follows_free (ts ++ [])) breaks_roles)))))
 
       no_first : (d : Option ProtocolDeclaration) (c : Lexeme) (more : List Lexeme) → declaration levels d (c ∷ more) → c.kind ≡ go → ⊥
       no_first d c more h g = not_go begins_declaration refl c (begins_a_declaration levels d (c ∷ more) h) g
 
-      breaks_declaration : Breaks (declaration_of levels) (declaration levels)
-      unfolding declaration_of
+      breaks_declaration : Breaks (read_declaration levels) (declaration levels)
+      unfolding read_declaration
       breaks_declaration d [] c more h g = absurd (no_first d c more h g)
       breaks_declaration None (v ∷ front) c more h g = absurd (none_in go type_declaration (v ∷ front) c more (plain_type go rare) h g)
       breaks_declaration (Some p) (v ∷ front) c more h g =
@@ -309,21 +309,21 @@ module _ (us : List Lexeme) (f : ParseFault) (named : begins (same_kind Name) us
       breaks_declarations : Breaks (declarations_of levels) (seen kept (many (declaration levels)))
       unfolding declarations_of
       breaks_declarations =
-          breaks_seen kept (repeated begins_declaration (declaration_of levels)) (many (declaration levels))
-          (breaks_many (claim_of (declaration (suc levels))) begins_declaration (declaration_of levels) (declaration levels) (declaration (suc levels)) free (declaration_reads levels) (begins_a_declaration levels) (λ d c more h g. absurd (no_first d c more h g)) (λ kind e. tt) tt breaks_declaration)
+          breaks_seen kept (repeated begins_declaration (read_declaration levels)) (many (declaration levels))
+          (breaks_many (claim_of (declaration (suc levels))) begins_declaration (read_declaration levels) (declaration levels) (declaration (suc levels)) free (declaration_reads levels) (begins_a_declaration levels) (λ d c more h g. absurd (no_first d c more h g)) (λ kind e. tt) tt breaks_declaration)
 
       abbrev listed_of : Reader (List Import × List ProtocolDeclaration)
-      listed_of = both imports_of (declarations_of levels)
+      listed_of = read_both imports_of (declarations_of levels)
 
       abbrev titled_of : Reader (List (List ℕ) × (List Import × List ProtocolDeclaration))
-      titled_of = both dotted_of (after (token_of Semicolon) listed_of)
+      titled_of = read_both dotted_of (after (token_of Semicolon) listed_of)
 
       pub breaks_module : Breaks (module_of levels) (module_text levels)
       unfolding module_of
       breaks_module =
           breaks_respelled (module_of levels) (seen module_made (in_module levels)) (module_text levels) (module_from levels)
           (breaks_seen module_made (after (token_of (Keyword words.Module)) titled_of) (in_module levels)
-          (breaks_after (token_of (Keyword words.Module)) titled_of (token_at (Keyword words.Module)) (λ x. dotted x.0 · token Semicolon · many «import» x.1.0 · seen kept (many (declaration levels)) x.1.1) free (token_reads (Keyword words.Module)) (λ spot. plain_at go (Keyword words.Module) spot refl) tt (λ y ts h. follows_free (ts ++ []))
+          (breaks_after (token_of (Keyword words.Module)) titled_of (spotted_token (Keyword words.Module)) (λ x. dotted x.0 · token Semicolon · many «import» x.1.0 · seen kept (many (declaration levels)) x.1.1) free (token_reads (Keyword words.Module)) (λ spot. plain_at go (Keyword words.Module) spot refl) tt (λ y ts h. follows_free (ts ++ []))
           (breaks_both dotted_of (after (token_of Semicolon) listed_of) dotted (λ x. token Semicolon · many «import» x.0 · seen kept (many (declaration levels)) x.1) no_dot dotted_reads (plain_dotted go rare) (refl, tt) (λ y ts h. behind_token no_dot Semicolon _ ts [] (refl, tt) h)
-          (breaks_after (token_of Semicolon) listed_of (token_at Semicolon) (λ x. many «import» x.0 · seen kept (many (declaration levels)) x.1) free (token_reads Semicolon) (λ spot. plain_at go Semicolon spot refl) tt (λ y ts h. follows_free (ts ++ []))
+          (breaks_after (token_of Semicolon) listed_of (spotted_token Semicolon) (λ x. many «import» x.0 · seen kept (many (declaration levels)) x.1) free (token_reads Semicolon) (λ spot. plain_at go Semicolon spot refl) tt (λ y ts h. follows_free (ts ++ []))
           (breaks_both imports_of (declarations_of levels) (many «import») (seen kept (many (declaration levels))) past_imports imports_reads (plain_imports go rare) (refl, tt) (λ ps ts h. behind_imports levels ps ts [] h tt) breaks_declarations)))))

@@ -9,7 +9,7 @@ use Rattle.scrib_lexer.specs.Lexeme.{Lexeme}
 use Rattle.scrib_parser.specs.declared.tree.Import.{Import}
 use Rattle.scrib_parser.specs.declared.tree.RoleDeclaration.{RoleDeclaration}
 use Rattle.scrib_parser.specs.declared.tree.Statement.{Statement}
-use Rattle.scrib_parser.specs.Grammar.{Language, ◌·◌, nothing, any, maybe, many, joined, listed, token_at, token, name, name_at, dotted, element, opening, message, call, role, known_as, «import», type_declaration}
+use Rattle.scrib_parser.specs.Grammar.{Language, ◌·◌, nothing, any, maybe, many, joined, listed, spotted_token, token, name, name_at, dotted, element, opening, message, call, role, known_as, «import», type_declaration}
 use Rattle.scrib_parser.specs.Reading.{same_kind}
 use Rattle.scrib_parser.proofs.Tokens.{same_kind-refl}
 
@@ -57,7 +57,7 @@ module _ (kind : TokenKind) where
   not_this : (k : TokenKind) → Not k → (t : Lexeme) → t.kind ≡ k → t.kind ≡ kind → ⊥
   not_this k n t e g = let same : k ≡ kind = sym e ∙ g in let yes : same_kind kind k ≡ true = ap (same_kind kind) same ∙ same_kind-refl kind in absurd (let no : false ≡ true = sym n ∙ yes in cc no)
 
-  pub plain_at : (k : TokenKind) (spot : Spot) → Not k → Plain (token_at k spot)
+  pub plain_at : (k : TokenKind) (spot : Spot) → Not k → Plain (spotted_token k spot)
   plain_at k spot n ts h = subst Free (sym h.1) (not_this k n h.0 h.2.0, tt)
 
   pub plain_token : (k : TokenKind) → Not k → Plain (token k)
@@ -145,14 +145,14 @@ module _ (kind : TokenKind) where
 
     pub plain_call : (s : Statement) → Plain (call s)
     plain_call s ts h =
-        plain_seq (token_at (Keyword words.Do) h.2) _ (plain_at (Keyword words.Do) h.2 r.no_do)
+        plain_seq (spotted_token (Keyword words.Do) h.2) _ (plain_at (Keyword words.Do) h.2 r.no_do)
         (plain_seq (dotted h.0) _ (plain_dotted h.0)
         (plain_seq (token OpenParen) _ (plain_token OpenParen r.no_open)
         (plain_seq (joined name (token Comma) h.1) _ (plain_names h.1)
         (plain_seq (token CloseParen) (token Semicolon) (plain_token CloseParen r.no_close) (plain_token Semicolon r.no_semicolon))))) ts h.4
 
     pub plain_role : (x : RoleDeclaration) → Plain (role x)
-    plain_role x = plain_seq (token_at (Keyword words.Role) x.spot) (name x.name) (plain_at (Keyword words.Role) x.spot r.no_role) (plain_name r.no_name x.name)
+    plain_role x = plain_seq (spotted_token (Keyword words.Role) x.spot) (name x.name) (plain_at (Keyword words.Role) x.spot r.no_role) (plain_name r.no_name x.name)
 
     pub plain_roles : (rs : List RoleDeclaration) → Plain (joined role (token Comma) rs)
     plain_roles rs = plain_joined role (token Comma) plain_role (plain_token Comma r.no_comma) rs
@@ -163,7 +163,7 @@ module _ (kind : TokenKind) where
 
     plain_import : (i : Import) → Plain («import» i)
     plain_import i =
-        plain_seq (token_at (Keyword words.Import) i.spot) _ (plain_at (Keyword words.Import) i.spot r.no_import)
+        plain_seq (spotted_token (Keyword words.Import) i.spot) _ (plain_at (Keyword words.Import) i.spot r.no_import)
         (plain_seq (dotted i.«module») _ (plain_dotted i.«module»)
         (plain_seq (known_as i.known_as) (token Semicolon) (plain_known i.known_as) (plain_token Semicolon r.no_semicolon)))
 

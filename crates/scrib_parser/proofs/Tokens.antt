@@ -10,8 +10,8 @@ use Rattle.scrib_lexer.specs.declared.token.TokenKind.TheVariants.{Name, Keyword
 use Rattle.scrib_lexer.specs.Lexeme.{Lexeme}
 use Rattle.scrib_parser.specs.declared.fault.ParseFault.{ParseFault}
 use Rattle.scrib_parser.specs.declared.fault.ParseFault.TheVariants.{Unexpected, EndOfText}
-use Rattle.scrib_parser.specs.Grammar.{Language, lexeme, token_at, name, name_at}
-use Rattle.scrib_parser.specs.Reading.{same_word, same_kind, given, lexeme_at, mapped, token_of, name_of, placed_name_of}
+use Rattle.scrib_parser.specs.Grammar.{Language, lexeme, spotted_token, name, name_at}
+use Rattle.scrib_parser.specs.Reading.{same_word, same_kind, given, lexeme_at, mapped, token_of, read_name, placed_name_of}
 use Rattle.scrib_parser.proofs.Laws.{free, never, IsCause, Taken, Stopped, Reads, ok_is, err_is}
 use Rattle.scrib_parser.proofs.Combinations.{respelled, seen, mapped_reads}
 
@@ -153,11 +153,11 @@ some_token : TokenKind → List ℕ → Lexeme
 some_token kind bytes = record { kind = kind; bytes = bytes; spot = somewhere }
 
 -- a token of this kind, and its place
-pub token_reads : (kind : TokenKind) → Reads never (token_of kind) (token_at kind) (token_at kind) free
+pub token_reads : (kind : TokenKind) → Reads never (token_of kind) (spotted_token kind) (spotted_token kind) free
 unfolding token_of some_token
 token_reads kind =
     let test : Lexeme → Option Spot = λ t. cond (same_kind kind t.kind) (Some t.spot) None in
-    respelled never (lexeme_at test) (passing test) (token_at kind) free
+    respelled never (lexeme_at test) (passing test) (spotted_token kind) free
     (λ spot ts h. let k = if_some (same_kind kind h.0.kind) h.0.spot spot h.2 in (h.0, h.1, (sym (kind_is kind h.0.kind k.0), k.1)))
     (λ spot ts h. (h.0, h.1, rw (same_kind-of kind h.0.kind h.2.0, h.2.1) refl))
     (passing_reads test somewhere (some_token kind []) (rw (same_kind-refl kind) refl))
@@ -178,8 +178,8 @@ placed_name_reads =
     (h.0, h.1, rw (same_kind-of Name h.0.kind h.2.0, real) (λ i. Some (h.2.1 i, h.2.3 i))))
     (passing_reads test (97 ∷ [], somewhere) (some_token Name (97 ∷ [])) refl)
 
-pub name_reads : Reads never name_of name name free
-unfolding name_of
+pub name_reads : Reads never read_name name name free
+unfolding read_name
 name_reads =
     let first : List ℕ × Spot → List ℕ = λ p. p.0 in
     let placed : List ℕ × Spot → Language = λ p. name_at p.0 p.1 in

@@ -11,7 +11,7 @@ use Rattle.scrib_parser.specs.declared.fault.ParseFault.{ParseFault}
 use Rattle.scrib_parser.specs.declared.fault.ParseFault.TheVariants.{Unexpected, EndOfText, LeftOut, TooDeep, OutOfMemory}
 use Rattle.scrib_parser.specs.declared.tree.ModuleTree.{ModuleTree}
 use Rattle.scrib_parser.specs.LeftOut.{left_out_declaration}
-use Rattle.scrib_parser.specs.Grammar.{module_text, IsModule, ParseGives, IsBeginning, MayFollow, IsFaultOf}
+use Rattle.scrib_parser.specs.Grammar.{module_text, IsModule, ParseGives, IsBeginning, TokenMayFollow, IsParseFault}
 use Rattle.scrib_parser.specs.Reading.{◌>>=◌, GivesAll, module_of, refusal, at_end, whole_of}
 use Rattle.scrib_parser.proofs.Laws.{Taken, Stopped, bind_ok, bind_err, ok_is, err_is}
 use Rattle.scrib_parser.proofs.Claims.{claim_of}
@@ -98,7 +98,7 @@ module _ (levels : ℕ) (ts : List Lexeme) where
   parts_at : (f : ParseFault) (s : StopsAt f) (u : Lexeme) (us : List Lexeme) → s.rest ≡ u ∷ us → ts ≡ s.front ++ u ∷ us
   parts_at f s u us k = s.parts ∙ ap (λ (l : List Lexeme). s.front ++ l) k
 
-stopped_at : (ts : List Lexeme) (f : ParseFault) → whole_of 64 ts ≡ Err f → Stopped (claim_of (module_text 65)) (module_of 64) (module_text 65) ts f → IsFaultOf ts f
+stopped_at : (ts : List Lexeme) (f : ParseFault) → whole_of 64 ts ≡ Err f → Stopped (claim_of (module_text 65)) (module_of 64) (module_text 65) ts f → IsParseFault ts f
 stopped_at ts (Unexpected spot) e s =
     let h = s.cause in
     let goes : (vs : List Lexeme) → whole_of 64 (s.front ++ h.0 ∷ vs) ≡ Err (Unexpected spot) = stays 64 ts (Unexpected spot) s h.0 h.1 h.2 in (
@@ -137,7 +137,7 @@ stopped_at ts (TooDeep spot) e s =
 stopped_at ts OutOfMemory e s = tt
 
 -- a token that is left over
-left_over : (ts : List Lexeme) (f : ParseFault) (m : ModuleTree) (rest : List Lexeme) → module_of 64 ts ≡ Ok (m, rest) → at_end (m, rest) ≡ Err f → IsFaultOf ts f
+left_over : (ts : List Lexeme) (f : ParseFault) (m : ModuleTree) (rest : List Lexeme) → module_of 64 ts ≡ Ok (m, rest) → at_end (m, rest) ≡ Err f → IsParseFault ts f
 unfolding whole_of
 left_over ts f m [] e k = absurd cc
 left_over ts f m (u ∷ us) e k = at (left_out_declaration u) f refl (err_is {A = ModuleTree} (refusal (left_out_declaration u) u) f k)
@@ -151,29 +151,29 @@ left_over ts f m (u ∷ us) e k = at (left_out_declaration u) f refl (err_is {A 
     goes_on : (vs : List Lexeme) → whole_of 64 (t.front ++ u ∷ vs) ≡ Err (refusal (left_out_declaration u) u)
     goes_on vs = ap (λ r. r >>= at_end) (t.again u us vs refl)
 
-    may_follow : MayFollow (Keyword words.Global) t.front
+    may_follow : TokenMayFollow (Keyword words.Global) t.front
     may_follow =
         let g = a_protocol_text 64 in
         let n = one_protocol_more 65 m g.0 t.front (g.1 ∷ g.2) ((module_reads 64).wider m t.front t.spelled) g.4 in
         (g.1, g.3, (65, g.2, n.0, subst (λ (l : List Lexeme). module_text 65 n.0 l) (sym (append_assoc t.front (g.1 ∷ []) g.2)) n.1))
 
-    at : (o : Option LeftOutWord) (g : ParseFault) → left_out_declaration u ≡ o → refusal (left_out_declaration u) u ≡ g → IsFaultOf ts g
+    at : (o : Option LeftOutWord) (g : ParseFault) → left_out_declaration u ≡ o → refusal (left_out_declaration u) u ≡ g → IsParseFault ts g
     at None g d r =
         let reported : Unexpected u.spot ≡ g = ap (λ o. refusal o u) (sym d) ∙ r in
         let goes : (vs : List Lexeme) → whole_of 64 (t.front ++ u ∷ vs) ≡ Err (Unexpected u.spot) = λ vs. goes_on vs ∙ ap (λ o. Err (refusal o u)) d in
-        subst (λ (x : ParseFault). IsFaultOf ts x) reported
+        subst (λ (x : ParseFault). IsParseFault ts x) reported
         (t.front, u, us, t.parts, (whole, offends 64 t.front u (Unexpected u.spot) goes (λ at k. cc k)), exclusive t.front u (goes []), refl)
     at (Some word) g d r =
         let reported : LeftOut word u.spot ≡ g = ap (λ o. refusal o u) (sym d) ∙ r in
-        subst (λ (x : ParseFault). IsFaultOf ts x) reported
+        subst (λ (x : ParseFault). IsParseFault ts x) reported
         (t.front, u, us, t.parts, (whole, offends 64 t.front u (LeftOut word u.spot) (λ vs. goes_on vs ∙ ap (λ o. Err (refusal o u)) d) (λ at k. cc k)), inl (d, refl, may_follow))
 
 -- a fault is the first from the left
-pub whole_fault : (ts : List Lexeme) (f : ParseFault) → whole_of 64 ts ≡ Err f → IsFaultOf ts f
+pub whole_fault : (ts : List Lexeme) (f : ParseFault) → whole_of 64 ts ≡ Err f → IsParseFault ts f
 unfolding whole_of
 whole_fault ts f e = at (bind_err (module_of 64 ts) at_end f e)
   where
-    at : (module_of 64 ts ≡ Err f) ⊎ ((x : ModuleTree × List Lexeme) × (module_of 64 ts ≡ Ok x) × (at_end x ≡ Err f)) → IsFaultOf ts f
+    at : (module_of 64 ts ≡ Err f) ⊎ ((x : ModuleTree × List Lexeme) × (module_of 64 ts ≡ Ok x) × (at_end x ≡ Err f)) → IsParseFault ts f
     at (inl h) = stopped_at ts f e ((module_reads 64).stopped ts f h)
     at (inr h) = left_over ts f h.0.0 h.0.1 h.1 h.2
 
@@ -191,7 +191,7 @@ is_only ts (Err EndOfText) given m h = refused 64 ts EndOfText given m h
 is_only ts (Err (LeftOut word spot)) given m h = refused 64 ts (LeftOut word spot) given m h
 is_only ts (Err (TooDeep spot)) given m h = refused 64 ts (TooDeep spot) given m h
 
-pub is_fault : (ts : List Lexeme) (r : Result ModuleTree ParseFault) → GivesAll r (whole_of 64 ts) → IfErr r (λ e. IsFaultOf ts e)
+pub is_fault : (ts : List Lexeme) (r : Result ModuleTree ParseFault) → GivesAll r (whole_of 64 ts) → IfErr r (λ e. IsParseFault ts e)
 is_fault ts (Ok m) given = tt
 is_fault ts (Err OutOfMemory) given = tt
 is_fault ts (Err (Unexpected spot)) given = whole_fault ts (Unexpected spot) given

@@ -62,12 +62,12 @@ abbrev pub lexeme : (Lexeme → Type 0) → Language
 lexeme P ts = (t : Lexeme) × (ts ≡ t ∷ []) × P t
 
 -- a token of this kind at this place
-abbrev pub token_at : TokenKind → Spot → Language
-token_at kind spot = lexeme (λ t. (t.kind ≡ kind) × (t.spot ≡ spot))
+abbrev pub spotted_token : TokenKind → Spot → Language
+spotted_token kind spot = lexeme (λ t. (t.kind ≡ kind) × (t.spot ≡ spot))
 
 -- a token of this kind
 abbrev pub token : TokenKind → Language
-token kind = any (token_at kind)
+token kind = any (spotted_token kind)
 
 -- a token at this place that is this name: its kind is a name's, and its bytes are a name
 abbrev pub name_at : List ℕ → Spot → Language
@@ -88,7 +88,7 @@ element sort = maybe (any name · token Colon) · dotted sort
 -- opening = [ name ] "(", whose first token is at this place
 abbrev pub opening : Option (List ℕ) → Spot → Language
 opening (Some op) spot = name_at op spot · token OpenParen
-opening None spot = token_at OpenParen spot
+opening None spot = spotted_token OpenParen spot
 
 -- message = opening [ element { "," element } ] ")" "from" name "to" name { "," name } ";"
 abbrev pub message : Statement → Language
@@ -101,26 +101,26 @@ message s ts =
 abbrev pub choice : (Block → Language) → Statement → Language
 choice block s ts =
     (at : List ℕ) × (branches : List Block) × (spot : Spot) × (s ≡ tree.Choice at branches spot)
-    × (token_at (Keyword words.Choice) spot · token (Keyword words.At) · name at
+    × (spotted_token (Keyword words.Choice) spot · token (Keyword words.At) · name at
     · joined block (token (Keyword words.Or)) branches) ts
 
 -- rec = "rec" name block
 abbrev pub recursion : (Block → Language) → Statement → Language
 recursion block s ts =
     (label : List ℕ) × (body : Block) × (spot : Spot) × (s ≡ tree.Rec label body.body spot)
-    × (token_at (Keyword words.Rec) spot · name label · block body) ts
+    × (spotted_token (Keyword words.Rec) spot · name label · block body) ts
 
 -- continue = "continue" name ";"
 abbrev pub jump : Statement → Language
 jump s ts =
     (label : List ℕ) × (spot : Spot) × (s ≡ tree.Continue label spot)
-    × (token_at (Keyword words.Continue) spot · name label · token Semicolon) ts
+    × (spotted_token (Keyword words.Continue) spot · name label · token Semicolon) ts
 
 -- do = "do" dotted "(" name { "," name } ")" ";"
 abbrev pub call : Statement → Language
 call s ts =
     (protocol : List (List ℕ)) × (roles : List (List ℕ)) × (spot : Spot) × (s ≡ tree.Do protocol roles spot)
-    × (token_at (Keyword words.Do) spot · dotted protocol · token OpenParen · joined name (token Comma) roles
+    × (spotted_token (Keyword words.Do) spot · dotted protocol · token OpenParen · joined name (token Comma) roles
     · token CloseParen · token Semicolon) ts
 
 -- statement = message | choice | rec | continue | do
@@ -131,17 +131,17 @@ statement block s ts = message s ts ⊎ (choice block s ts ⊎ (recursion block 
 -- blocks, its own the first.
 unfoldable pub block : ℕ → Block → Language
 block zero b ts = ⊥
-block (suc levels) b ts = (token_at OpenBrace b.spot · many (statement (block levels)) b.body · token CloseBrace) ts
+block (suc levels) b ts = (spotted_token OpenBrace b.spot · many (statement (block levels)) b.body · token CloseBrace) ts
 
 -- role = "role" name, where its word is at the role's place
 abbrev pub role : RoleDeclaration → Language
-role r = token_at (Keyword words.Role) r.spot · name r.name
+role r = spotted_token (Keyword words.Role) r.spot · name r.name
 
 -- protocol = "global" "protocol" name "(" role { "," role } ")" block, where its first word is at the protocol's
 -- place
 abbrev pub protocol : ℕ → ProtocolDeclaration → Language
 protocol levels p ts =
-    (spot : Spot) × (token_at (Keyword words.Global) p.spot · token (Keyword words.Protocol) · name p.name
+    (spot : Spot) × (spotted_token (Keyword words.Global) p.spot · token (Keyword words.Protocol) · name p.name
     · token OpenParen · joined role (token Comma) p.roles · token CloseParen
     · block levels (record { body = p.body; spot = spot })) ts
 
@@ -169,7 +169,7 @@ known_as (Some known) = token (Keyword words.As) · name known
 
 -- import = "import" dotted [ "as" name ] ";", where its word is at the import's place
 abbrev pub «import» : Import → Language
-«import» i = token_at (Keyword words.Import) i.spot · dotted i.«module» · known_as i.known_as · token Semicolon
+«import» i = spotted_token (Keyword words.Import) i.spot · dotted i.«module» · known_as i.known_as · token Semicolon
 
 -- module = "module" dotted ";" { import } { decl }
 abbrev pub module_text : ℕ → ModuleTree → Language
@@ -197,36 +197,36 @@ abbrev pub IsBeginning : List Lexeme → Type 0
 IsBeginning ts = (levels : ℕ) × (more : List Lexeme) × (m : ModuleTree) × module_text levels m (ts ++ more)
 
 -- the tokens before t begin a module, and with t they begin none
-abbrev pub IsOffence : List Lexeme → Lexeme → Type 0
-IsOffence front t = IsBeginning front × (IsBeginning (front ++ t ∷ []) → ⊥)
+abbrev pub IsUnexpected : List Lexeme → Lexeme → Type 0
+IsUnexpected front t = IsBeginning front × (IsBeginning (front ++ t ∷ []) → ⊥)
 
 -- a token of the kind may follow these tokens
-abbrev pub MayFollow : TokenKind → List Lexeme → Type 0
-MayFollow kind front = (t : Lexeme) × (t.kind ≡ kind) × IsBeginning (front ++ t ∷ [])
+abbrev pub TokenMayFollow : TokenKind → List Lexeme → Type 0
+TokenMayFollow kind front = (t : Lexeme) × (t.kind ≡ kind) × IsBeginning (front ++ t ∷ [])
 
 -- The offending token is a left-out word at the start of a declaration, where `global` may be. Or it follows such a
 -- word at the start of a statement, where `continue` may be.
 abbrev pub IsLeftOut : List Lexeme → Lexeme → LeftOutWord → Spot → Type 0
 IsLeftOut front t word spot =
-    ((left_out_declaration t ≡ Some word) × (t.spot ≡ spot) × MayFollow (Keyword words.Global) front)
+    ((left_out_declaration t ≡ Some word) × (t.spot ≡ spot) × TokenMayFollow (Keyword words.Global) front)
     ⊎ ((before : List Lexeme) × (w : Lexeme) × (front ≡ before ++ w ∷ []) × (left_out_statement w ≡ Some word)
-    × (w.spot ≡ spot) × MayFollow (Keyword words.Continue) before)
+    × (w.spot ≡ spot) × TokenMayFollow (Keyword words.Continue) before)
 
 -- the fault of the tokens
-abbrev pub IsFaultOf : List Lexeme → ParseFault → Type 0
+abbrev pub IsParseFault : List Lexeme → ParseFault → Type 0
 -- the first token that no module can have, where no form of the language that is left out begins
-IsFaultOf ts (Unexpected spot) =
-    (front : List Lexeme) × (t : Lexeme) × (rest : List Lexeme) × (ts ≡ front ++ t ∷ rest) × IsOffence front t
+IsParseFault ts (Unexpected spot) =
+    (front : List Lexeme) × (t : Lexeme) × (rest : List Lexeme) × (ts ≡ front ++ t ∷ rest) × IsUnexpected front t
     × ((word : LeftOutWord) (at : Spot) → IsLeftOut front t word at → ⊥) × (t.spot ≡ spot)
 -- the first token that no module can have, where a form of the language that is left out begins
-IsFaultOf ts (LeftOut word spot) =
-    (front : List Lexeme) × (t : Lexeme) × (rest : List Lexeme) × (ts ≡ front ++ t ∷ rest) × IsOffence front t
+IsParseFault ts (LeftOut word spot) =
+    (front : List Lexeme) × (t : Lexeme) × (rest : List Lexeme) × (ts ≡ front ++ t ∷ rest) × IsUnexpected front t
     × IsLeftOut front t word spot
 -- the tokens up to a brace begin a module, but none of the number of levels that a module may have
-IsFaultOf ts (TooDeep spot) =
+IsParseFault ts (TooDeep spot) =
     (front : List Lexeme) × (t : Lexeme) × (rest : List Lexeme) × (ts ≡ front ++ t ∷ rest) × (t.kind ≡ OpenBrace)
     × IsBeginning (front ++ t ∷ [])
     × ((more : List Lexeme) (m : ModuleTree) → IsModule (front ++ t ∷ more) m → ⊥) × (t.spot ≡ spot)
 -- the tokens begin a module, and are none
-IsFaultOf ts EndOfText = IsBeginning ts × ((levels : ℕ) (m : ModuleTree) → module_text levels m ts → ⊥)
-IsFaultOf ts OutOfMemory = Unit {0}
+IsParseFault ts EndOfText = IsBeginning ts × ((levels : ℕ) (m : ModuleTree) → module_text levels m ts → ⊥)
+IsParseFault ts OutOfMemory = Unit {0}

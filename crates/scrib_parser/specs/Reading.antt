@@ -28,12 +28,12 @@ abbrev pub left : Cursor → List Lexeme
 left tokens = lexemes_of tokens.rest.now
 
 -- a value and the tokens after it, or a fault
-abbrev pub Read : Type 0 → Type 0
-Read A = Result (A × List Lexeme) ParseFault
+abbrev pub ReadResult : Type 0 → Type 0
+ReadResult A = Result (A × List Lexeme) ParseFault
 
 -- reads a value from the front of the tokens
 abbrev pub Reader : Type 0 → Type 0
-Reader A = List Lexeme → Read A
+Reader A = List Lexeme → ReadResult A
 
 -- the second step, on the value of the first, or the fault of the first
 infixl 10 ◌>>=◌
@@ -47,7 +47,7 @@ Stops OutOfMemory read = Unit {0}
 Stops fault read = read ≡ Err fault
 
 -- a function's result, with the tokens that it left, is the result of reading, unless memory was refused
-abbrev pub Gives : {A : Type 0} → Result A ParseFault → List Lexeme → Read A → Type 0
+abbrev pub Gives : {A : Type 0} → Result A ParseFault → List Lexeme → ReadResult A → Type 0
 Gives (Ok x) rest read = read ≡ Ok (x, rest)
 Gives (Err e) rest read = Stops e read
 
@@ -93,7 +93,7 @@ begins test [] = false
 begins test (t ∷ ts) = test t.kind
 
 -- the next token's value, or the fault at that token
-abbrev pub given : {A : Type 0} → Option A → Lexeme → List Lexeme → Read A
+abbrev pub given : {A : Type 0} → Option A → Lexeme → List Lexeme → ReadResult A
 given (Some x) t ts = Ok (x, ts)
 given None t ts = Err (Unexpected t.spot)
 
@@ -110,17 +110,17 @@ chain first second ts = first ts >>= λ x. second x.0 x.1
 abbrev pub mapped : {A B : Type 0} → (A → B) → Reader A → Reader B
 mapped f reader ts = reader ts >>= λ x. Ok (f x.0, x.1)
 
--- both values · the second's value · the first's value
-abbrev pub both : {A B : Type 0} → Reader A → Reader B → Reader (A × B)
-both first second = chain first (λ x. mapped (λ y. (x, y)) second)
+-- read_both values · the second's value · the first's value
+abbrev pub read_both : {A B : Type 0} → Reader A → Reader B → Reader (A × B)
+read_both first second = chain first (λ x. mapped (λ y. (x, y)) second)
 
--- reads both, and returns the second's value
+-- reads read_both, and returns the second's value
 abbrev pub after : {A B : Type 0} → Reader A → Reader B → Reader B
 after first second = chain first (λ x. second)
 
--- reads both, and returns the first's value
-abbrev pub before : {A B : Type 0} → Reader A → Reader B → Reader A
-before first second = chain first (λ x. mapped (λ y. x) second)
+-- reads read_both, and returns the first's value
+abbrev pub read_before : {A B : Type 0} → Reader A → Reader B → Reader A
+read_before first second = chain first (λ x. mapped (λ y. x) second)
 
 -- one or the other, by the next token's kind
 abbrev pub branch : {A : Type 0} → (TokenKind → Bool) → Reader A → Reader A → Reader A
@@ -149,12 +149,12 @@ unfoldable pub placed_name_of : Reader (List ℕ × Spot)
 placed_name_of = lexeme_at (λ t. if same_kind Name t.kind && is_name t.bytes then Some (t.bytes, t.spot) else None)
 
 -- reads a name
-unfoldable pub name_of : Reader (List ℕ)
-name_of = mapped (λ p. p.0) placed_name_of
+unfoldable pub read_name : Reader (List ℕ)
+read_name = mapped (λ p. p.0) placed_name_of
 
 -- the names after dots
 abbrev pub dots_of : Reader (List (List ℕ))
-dots_of = repeated (same_kind Dot) (after (token_of Dot) name_of)
+dots_of = repeated (same_kind Dot) (after (token_of Dot) read_name)
 
 -- reads the names after dots, following this first name
 unfoldable pub dotted_from : List ℕ → Reader (List (List ℕ))
@@ -162,11 +162,11 @@ dotted_from first = mapped (λ names. first ∷ names) dots_of
 
 -- reads a dotted name
 unfoldable pub dotted_of : Reader (List (List ℕ))
-dotted_of = chain name_of dotted_from
+dotted_of = chain read_name dotted_from
 
 -- reads an element of a payload
 unfoldable pub element_of : Reader (List (List ℕ))
-element_of = chain name_of (λ first. branch (same_kind Colon) (after (token_of Colon) dotted_of) (dotted_from first))
+element_of = chain read_name (λ first. branch (same_kind Colon) (after (token_of Colon) dotted_of) (dotted_from first))
 
 -- the elements after commas
 abbrev pub more_elements_of : Reader (List (List (List ℕ)))
@@ -201,53 +201,53 @@ opening_of = branch (same_kind Name) named_opening_of (mapped (λ spot. (None, s
 
 -- the names after commas
 abbrev pub more_names_of : Reader (List (List ℕ))
-more_names_of = repeated (same_kind Comma) (after (token_of Comma) name_of)
+more_names_of = repeated (same_kind Comma) (after (token_of Comma) read_name)
 
 -- reads names with commas between them
-unfoldable pub names_of : Reader (List (List ℕ))
-names_of = chain name_of (λ first. mapped (λ more. first ∷ more) more_names_of)
+unfoldable pub read_names : Reader (List (List ℕ))
+read_names = chain read_name (λ first. mapped (λ more. first ∷ more) more_names_of)
 
 -- the message of an operator and the types of a payload
 abbrev pub message_from : Option (List ℕ) → List (List (List ℕ)) → Message
 message_from op sorts = record { op = op; payload = sorts }
 
 -- reads a message
-unfoldable pub message_of : Reader Statement
-message_of =
+unfoldable pub read_message : Reader Statement
+read_message =
     mapped (λ x. tree.Message (record { op = x.0.0; payload = x.1.0 }) x.1.1.0 x.1.1.1 x.0.1)
-    (both opening_of (both payload_of (after (token_of CloseParen) (after (token_of (Keyword words.From))
-    (both name_of (after (token_of (Keyword words.To)) (before names_of (token_of Semicolon))))))))
+    (read_both opening_of (read_both payload_of (after (token_of CloseParen) (after (token_of (Keyword words.From))
+    (read_both read_name (after (token_of (Keyword words.To)) (read_before read_names (token_of Semicolon))))))))
 
 -- blocks with the word `or` between two
 abbrev pub more_blocks_of : Reader Block → Reader (List Block)
 more_blocks_of block = repeated (same_kind (Keyword words.Or)) (after (token_of (Keyword words.Or)) block)
 
 -- reads the blocks of a choice
-unfoldable pub blocks_of : Reader Block → Reader (List Block)
-blocks_of block = chain block (λ first. mapped (λ more. first ∷ more) (more_blocks_of block))
+unfoldable pub read_blocks : Reader Block → Reader (List Block)
+read_blocks block = chain block (λ first. mapped (λ more. first ∷ more) (more_blocks_of block))
 
 -- reads a choice
-unfoldable pub choice_of : Reader Block → Reader Statement
-choice_of block =
+unfoldable pub read_choice : Reader Block → Reader Statement
+read_choice block =
     mapped (λ x. tree.Choice x.1.0 x.1.1 x.0)
-    (both (token_of (Keyword words.Choice)) (after (token_of (Keyword words.At)) (both name_of (blocks_of block))))
+    (read_both (token_of (Keyword words.Choice)) (after (token_of (Keyword words.At)) (read_both read_name (read_blocks block))))
 
 -- reads a recursion
 unfoldable pub recursion_of : Reader Block → Reader Statement
 recursion_of block =
-    mapped (λ x. tree.Rec x.1.0 x.1.1.body x.0) (both (token_of (Keyword words.Rec)) (both name_of block))
+    mapped (λ x. tree.Rec x.1.0 x.1.1.body x.0) (read_both (token_of (Keyword words.Rec)) (read_both read_name block))
 
 -- reads a `continue`
 unfoldable pub jump_of : Reader Statement
 jump_of =
-    mapped (λ x. tree.Continue x.1 x.0) (both (token_of (Keyword words.Continue)) (before name_of (token_of Semicolon)))
+    mapped (λ x. tree.Continue x.1 x.0) (read_both (token_of (Keyword words.Continue)) (read_before read_name (token_of Semicolon)))
 
 -- reads a `do`
 unfoldable pub call_of : Reader Statement
 call_of =
     mapped (λ x. tree.Do x.1.0 x.1.1 x.0)
-    (both (token_of (Keyword words.Do))
-    (both dotted_of (after (token_of OpenParen) (before names_of (after (token_of CloseParen) (token_of Semicolon))))))
+    (read_both (token_of (Keyword words.Do))
+    (read_both dotted_of (after (token_of OpenParen) (read_before read_names (after (token_of CloseParen) (token_of Semicolon))))))
 
 -- a message begins with its operator, or with its parenthesis
 abbrev pub begins_message : TokenKind → Bool
@@ -256,10 +256,10 @@ begins_message kind = same_kind Name kind || same_kind OpenParen kind
 -- reads a statement
 unfoldable pub statement_of : Reader Block → Reader Statement
 statement_of block =
-    branch (same_kind (Keyword words.Choice)) (choice_of block)
+    branch (same_kind (Keyword words.Choice)) (read_choice block)
     (branch (same_kind (Keyword words.Rec)) (recursion_of block)
     (branch (same_kind (Keyword words.Continue)) jump_of
-    (branch (same_kind (Keyword words.Do)) call_of message_of)))
+    (branch (same_kind (Keyword words.Do)) call_of read_message)))
 
 -- a token of the kind begins a statement
 abbrev pub begins_statement : TokenKind → Bool
@@ -284,7 +284,7 @@ deep_fault (t ∷ ts) = if same_kind OpenBrace t.kind then TooDeep t.spot else U
 unfoldable pub opened_block_of : Reader Block → Reader Block
 opened_block_of inner =
     mapped (λ x. record { body = x.1; spot = x.0 })
-    (both (token_of OpenBrace) (before (statements_of inner) (token_of CloseBrace)))
+    (read_both (token_of OpenBrace) (read_before (statements_of inner) (token_of CloseBrace)))
 
 -- a block of at most this number of levels
 unfoldable pub block_of : ℕ → Reader Block
@@ -293,27 +293,27 @@ block_of (suc levels) ts = opened_block_of (block_of levels) ts
 
 -- reads the declaration of a role
 unfoldable pub role_of : Reader RoleDeclaration
-role_of = mapped (λ x. record { name = x.1; spot = x.0 }) (both (token_of (Keyword words.Role)) name_of)
+role_of = mapped (λ x. record { name = x.1; spot = x.0 }) (read_both (token_of (Keyword words.Role)) read_name)
 
 -- reads the declarations of roles after commas
 abbrev pub more_roles_of : Reader (List RoleDeclaration)
 more_roles_of = repeated (same_kind Comma) (after (token_of Comma) role_of)
 
 -- reads the declarations of roles with commas between them
-unfoldable pub roles_of : Reader (List RoleDeclaration)
-roles_of = chain role_of (λ first. mapped (λ more. first ∷ more) more_roles_of)
+unfoldable pub read_roles : Reader (List RoleDeclaration)
+read_roles = chain role_of (λ first. mapped (λ more. first ∷ more) more_roles_of)
 
 -- reads the declaration of a protocol
 unfoldable pub protocol_of : ℕ → Reader ProtocolDeclaration
 protocol_of levels =
     mapped (λ x. record { name = x.1.0; roles = x.1.1.0; body = x.1.1.1.body; spot = x.0 })
-    (both (token_of (Keyword words.Global))
-    (after (token_of (Keyword words.Protocol)) (both name_of (after (token_of OpenParen)
-    (both roles_of (after (token_of CloseParen) (block_of levels)))))))
+    (read_both (token_of (Keyword words.Global))
+    (after (token_of (Keyword words.Protocol)) (read_both read_name (after (token_of OpenParen)
+    (read_both read_roles (after (token_of CloseParen) (block_of levels)))))))
 
 -- the end of a type declaration, after its second text
 abbrev pub type_name_of : Reader Spot
-type_name_of = after (token_of (Keyword words.As)) (after name_of (token_of Semicolon))
+type_name_of = after (token_of (Keyword words.As)) (after read_name (token_of Semicolon))
 
 -- the end of a type declaration, after its brackets
 abbrev pub type_source_of : Reader Spot
@@ -324,11 +324,11 @@ type_source_of =
 unfoldable pub type_declaration_of : Reader Spot
 type_declaration_of =
     after (token_of (Keyword words.«Type»))
-    (after (token_of OpenAngle) (after name_of (after (token_of CloseAngle) type_source_of)))
+    (after (token_of OpenAngle) (after read_name (after (token_of CloseAngle) type_source_of)))
 
 -- reads a declaration
-unfoldable pub declaration_of : ℕ → Reader (Option ProtocolDeclaration)
-declaration_of levels =
+unfoldable pub read_declaration : ℕ → Reader (Option ProtocolDeclaration)
+read_declaration levels =
     branch (same_kind (Keyword words.«Type»)) (mapped (λ spot. None) type_declaration_of)
     (mapped Some (protocol_of levels))
 
@@ -340,18 +340,18 @@ begins_declaration _ = false
 
 -- reads declarations, and keeps the protocols
 unfoldable pub declarations_of : ℕ → Reader (List ProtocolDeclaration)
-declarations_of levels = mapped kept (repeated begins_declaration (declaration_of levels))
+declarations_of levels = mapped kept (repeated begins_declaration (read_declaration levels))
 
 -- reads the name that an import has after `as`, if any
 unfoldable pub known_as_of : Reader (Option (List ℕ))
 known_as_of =
-    branch (same_kind (Keyword words.As)) (mapped Some (after (token_of (Keyword words.As)) name_of)) (none None)
+    branch (same_kind (Keyword words.As)) (mapped Some (after (token_of (Keyword words.As)) read_name)) (none None)
 
 -- reads an import
 unfoldable pub import_of : Reader Import
 import_of =
     mapped (λ x. record { «module» = x.1.0; known_as = x.1.1; spot = x.0 })
-    (both (token_of (Keyword words.Import)) (both dotted_of (before known_as_of (token_of Semicolon))))
+    (read_both (token_of (Keyword words.Import)) (read_both dotted_of (read_before known_as_of (token_of Semicolon))))
 
 -- reads imports
 unfoldable pub imports_of : Reader (List Import)
@@ -362,7 +362,7 @@ unfoldable pub module_of : ℕ → Reader ModuleTree
 module_of levels =
     mapped (λ x. record { name = x.0; imports = x.1.0; protocols = x.1.1 })
     (after (token_of (Keyword words.Module))
-    (both dotted_of (after (token_of Semicolon) (both imports_of (declarations_of levels)))))
+    (read_both dotted_of (after (token_of Semicolon) (read_both imports_of (declarations_of levels)))))
 
 -- the fault at a token after the declarations
 abbrev pub refusal : Option LeftOutWord → Lexeme → ParseFault

@@ -3,7 +3,7 @@
 ghost use Rattle.std.specs.Prelude.{◌≡◌};
 ghost use Rattle.scrib_lexer.specs.Lexeme.{lexemes_of};
 ghost use Rattle.scrib_parser.specs.LeftOut as left_out;
-ghost use Rattle.scrib_parser.specs.Reading.{left, Gives, begins, same_kind, begins_statement, begins_declaration, deep_fault, token_of, paren_behind, placed_name_of, name_of};
+ghost use Rattle.scrib_parser.specs.Reading.{left, Gives, begins, same_kind, begins_statement, begins_declaration, deep_fault, token_of, paren_behind, placed_name_of, read_name};
 
 use crate::fault::{LeftOutWord, ParseFault};
 use crate::messages::MessageInterner;
@@ -125,9 +125,9 @@ impl<'t, 'a> Cursor<'t, 'a> {
     }
 
     /// Takes the next token, which must be a name, and returns its bytes in the text.
-    #[tactic(auto, unfolding(crate::specs::Reading::name_of, crate::specs::Reading::placed_name_of))]
+    #[tactic(auto, unfolding(crate::specs::Reading::read_name, crate::specs::Reading::placed_name_of))]
     pub(crate) fn word(&mut self) -> Result<Word<'a>, ParseFault>
-        ensures { Gives result (left self.new) (name_of (left self.old)) }
+        ensures { Gives result (left self.new) (read_name (left self.old)) }
     {
         match self.rest {
             [] => Err(ParseFault::EndOfText),
@@ -144,9 +144,9 @@ impl<'t, 'a> Cursor<'t, 'a> {
     }
 
     /// Takes the next token, which must be a name, and returns it.
-    #[tactic(auto, unfolding(crate::specs::Reading::name_of))]
+    #[tactic(auto, unfolding(crate::specs::Reading::read_name))]
     pub(crate) fn name(&mut self, alloc: Global) -> Result<Name, ParseFault>
-        ensures { Gives result (left self.new) (name_of (left self.old)) }
+        ensures { Gives result (left self.new) (read_name (left self.old)) }
     {
         let (name, _) = self.placed_name(alloc)?;
         Ok(name)

@@ -4,6 +4,20 @@ use crate::messages::MessageInterner;
 use crate::names::NameInterner;
 use std::alloc::{AllocError, Global};
 
+// The number of a text's tokens for which a table has one slot. Most tokens are marks, reserved words and repeated
+// names, and a small table stays in a processor's cache.
+const TOKENS_PER_SLOT: usize = 32;
+
+// The least number of slots.
+const MIN_SLOTS: usize = 32;
+
+/// The number of slots for a text of this number of tokens, a power of two.
+pub(crate) fn slot_count(tokens: usize) -> usize {
+    (tokens / TOKENS_PER_SLOT)
+        .max(MIN_SLOTS)
+        .next_power_of_two()
+}
+
 /// Tables of names and short messages. An equal one, in the same text or in a later one, shares their memory.
 /// Correctness does not depend on which ones are kept.
 #[derive(Drop)]

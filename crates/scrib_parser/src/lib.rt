@@ -7,7 +7,6 @@ pub mod interner;
 mod messages;
 mod names;
 pub mod parse;
-mod slots;
 mod sorts;
 pub mod tree;
 mod word;

@@ -3,7 +3,7 @@
 ghost use Rattle.std.specs.Prelude.{◌≡◌, ◌↔◌, IsTrue, IfOk, []};
 ghost use Rattle.scrib_parser.specs.Reading.{message_from};
 
-use crate::slots;
+use scrib_types::hashing::{empty_slots, hash_bytes, hash_names, slot_of};
 use scrib_types::message::{Message, Payload, operators_equal, sorts_equal};
 use scrib_types::name::{Dotted, Name};
 use scrib_types::shared_message::SharedMessage;
@@ -55,7 +55,7 @@ impl MessageInterner {
     /// # Errors
     /// `AllocError` where memory for the slots is refused.
     pub(crate) fn new(alloc: Global, count: usize) -> Result<MessageInterner, AllocError> {
-        let slots = slots::empty(alloc, count)?;
+        let slots = empty_slots(alloc, count)?;
         let room = Vec::new(alloc);
         Ok(MessageInterner { slots, room })
     }
@@ -87,7 +87,7 @@ impl MessageInterner {
     ) -> Result<SharedMessage, AllocError>
         ensures { IfOk result (λ shared. shared ≡ message_from op sorts) }
     {
-        let at = slots::slot_of(hash_of(&op, &sorts.list), self.slots.len());
+        let at = slot_of(hash_of(&op, &sorts.list), self.slots.len());
         if at >= self.slots.len() {
             return SharedMessage::new(alloc, message(op, sorts));
         }
@@ -124,11 +124,11 @@ fn is_message(message: &Message, op: &Option<Name>, sorts: &[Dotted]) -> bool
 // The message's hash.
 fn hash_of(op: &Option<Name>, sorts: &[Dotted]) -> u64 {
     let mut hash = match op {
-        Some(op) => slots::hash_bytes(1, op.as_bytes()),
+        Some(op) => hash_bytes(1, op.as_bytes()),
         None => 0,
     };
     for sort in sorts {
-        hash = slots::hash_names(hash, sort.as_slice());
+        hash = hash_names(hash, sort.as_slice());
     }
     hash
 }

@@ -3,8 +3,8 @@
 ghost use Rattle.std.specs.Prelude.{◌≡◌, IsTrue, IfOk, Some, None, if◌then◌else◌};
 ghost use Rattle.scrib_types.specs.Names as names;
 
-use crate::slots;
 use crate::word::Word;
+use scrib_types::hashing::{empty_slots, hash_bytes, slot_of};
 use scrib_types::name::Name;
 use std::alloc::{AllocError, Global};
 
@@ -27,7 +27,7 @@ impl NameInterner {
     /// # Errors
     /// `AllocError` where memory for the slots is refused.
     pub(crate) fn new(alloc: Global, count: usize) -> Result<NameInterner, AllocError> {
-        let slots = slots::empty(alloc, count)?;
+        let slots = empty_slots(alloc, count)?;
         Ok(NameInterner { slots })
     }
 
@@ -43,7 +43,7 @@ impl NameInterner {
     pub(crate) fn name(&mut self, alloc: Global, bytes: &[u8]) -> Result<Option<Name>, AllocError>
         ensures { IfOk result (λ name. name ≡ (if names.is_name bytes.now then Some bytes.now else None)) }
     {
-        let at = slots::slot_of(slots::hash_bytes(0, bytes), self.slots.len());
+        let at = slot_of(hash_bytes(0, bytes), self.slots.len());
         if at >= self.slots.len() {
             return Name::from_bytes(alloc, bytes);
         }

@@ -2,15 +2,14 @@
 
 ghost use Rattle.std.specs.Prelude.{◌≡◌, IfOk, IfErr};
 ghost use Rattle.scrib_lexer.specs.Lexeme.{lexemes_of};
-ghost use Rattle.scrib_parser.specs.Grammar.{IsModule, ParseGives, IsFaultOf};
+ghost use Rattle.scrib_parser.specs.Grammar.{IsModule, ParseGives, IsParseFault};
 ghost use Rattle.scrib_parser.specs.Reading as reading;
 ghost use Rattle.scrib_parser.specs.Reading.{left, Gives, GivesAll};
 
 use crate::cursor::{Cursor, left_out_declaration};
 use crate::fault::ParseFault;
-use crate::interner::Interner;
+use crate::interner::{Interner, slot_count};
 use crate::messages::Sorts;
-use crate::slots;
 use crate::sorts::SortInterner;
 use crate::tree::{Block, Import, ModuleTree, ProtocolDeclaration, RoleDeclaration, Statement};
 use crate::word::Word;
@@ -48,15 +47,15 @@ pub fn parse(
     // A tree that the tokens spell is returned, unless memory is refused: the tokens spell at most one tree.
     ensures only { (m : ModuleTree) → IsModule (lexemes_of tokens.now) m → ParseGives result m }
     // The fault is the leftmost one.
-    ensures fault { IfErr result (λ e. IsFaultOf (lexemes_of tokens.now) e) }
+    ensures fault { IfErr result (λ e. IsParseFault (lexemes_of tokens.now) e) }
 {
     whole(alloc, tokens, interner)
 }
 
 fn whole(alloc: Global, tokens: &[Token], interner: &mut Interner) -> Result<ModuleTree, ParseFault>
-    ensures { GivesAll result (reading.whole_of 64 (lexemes_of tokens.now)) }
+    ensures { GivesAll result (reading.whole_of MAX_LEVELS (lexemes_of tokens.now)) }
 {
-    let count = slots::count_for(tokens.len());
+    let count = slot_count(tokens.len());
     let (names, messages) = interner.take(alloc, count)?;
     let mut tokens = Cursor {
         rest: tokens,
@@ -77,7 +76,7 @@ fn whole(alloc: Global, tokens: &[Token], interner: &mut Interner) -> Result<Mod
 // The module that all of the tokens are.
 #[tactic(auto, unfolding(crate::specs::Reading::whole_of))]
 fn whole_tree(alloc: Global, tokens: &mut Cursor) -> Result<ModuleTree, ParseFault>
-    ensures { GivesAll result (reading.whole_of 64 (left tokens.old)) }
+    ensures { GivesAll result (reading.whole_of MAX_LEVELS (left tokens.old)) }
 {
     let tree = module_tree(alloc, MAX_LEVELS, tokens)?;
     match tokens.rest {
@@ -168,13 +167,13 @@ fn declarations(
 }
 
 // `typedecl | protocol`
-#[tactic(auto, unfolding(crate::specs::Reading::declaration_of))]
+#[tactic(auto, unfolding(crate::specs::Reading::read_declaration))]
 fn declaration(
     alloc: Global,
     levels: usize,
     tokens: &mut Cursor,
 ) -> Result<Option<ProtocolDeclaration>, ParseFault>
-    ensures { Gives result (left tokens.new) (reading.declaration_of levels (left tokens.old)) }
+    ensures { Gives result (left tokens.new) (reading.read_declaration levels (left tokens.old)) }
 {
     if tokens.next_is(TokenKind::Keyword(Keyword::Type)) {
         type_declaration(alloc, tokens)?;
@@ -226,9 +225,9 @@ fn protocol(
 }
 
 // `role { "," role }`
-#[tactic(auto, unfolding(crate::specs::Reading::roles_of))]
+#[tactic(auto, unfolding(crate::specs::Reading::read_roles))]
 fn roles(alloc: Global, tokens: &mut Cursor) -> Result<Items<RoleDeclaration>, ParseFault>
-    ensures { Gives result (left tokens.new) (reading.roles_of (left tokens.old)) }
+    ensures { Gives result (left tokens.new) (reading.read_roles (left tokens.old)) }
 {
     let mut roles = Vec::new(alloc);
     roles.push(role(alloc, tokens)?)?;
@@ -309,9 +308,9 @@ fn statement(alloc: Global, levels: usize, tokens: &mut Cursor) -> Result<Statem
 
 // `"choice" "at" name block { "or" block }`
 #[cycle(blocks)]
-#[tactic(auto, unfolding(crate::specs::Reading::choice_of))]
+#[tactic(auto, unfolding(crate::specs::Reading::read_choice))]
 fn choice(alloc: Global, levels: usize, tokens: &mut Cursor) -> Result<Statement, ParseFault>
-    ensures { Gives result (left tokens.new) (reading.choice_of (reading.block_of levels) (left tokens.old)) }
+    ensures { Gives result (left tokens.new) (reading.read_choice (reading.block_of levels) (left tokens.old)) }
 {
     let spot = tokens.take(TokenKind::Keyword(Keyword::Choice))?;
     tokens.take(TokenKind::Keyword(Keyword::At))?;
@@ -322,9 +321,9 @@ fn choice(alloc: Global, levels: usize, tokens: &mut Cursor) -> Result<Statement
 
 // `block { "or" block }`
 #[cycle(blocks)]
-#[tactic(auto, unfolding(crate::specs::Reading::blocks_of))]
+#[tactic(auto, unfolding(crate::specs::Reading::read_blocks))]
 fn blocks(alloc: Global, levels: usize, tokens: &mut Cursor) -> Result<Items<Block>, ParseFault>
-    ensures { Gives result (left tokens.new) (reading.blocks_of (reading.block_of levels) (left tokens.old)) }
+    ensures { Gives result (left tokens.new) (reading.read_blocks (reading.block_of levels) (left tokens.old)) }
 {
     let mut blocks = Vec::new(alloc);
     blocks.push(block(alloc, levels, tokens)?)?;
@@ -377,9 +376,9 @@ fn call(alloc: Global, tokens: &mut Cursor) -> Result<Statement, ParseFault>
 }
 
 // `[ name ] "(" [ element { "," element } ] ")" "from" name "to" name { "," name } ";"`
-#[tactic(auto, unfolding(crate::specs::Reading::message_of))]
+#[tactic(auto, unfolding(crate::specs::Reading::read_message))]
 fn message(alloc: Global, tokens: &mut Cursor) -> Result<Statement, ParseFault>
-    ensures { Gives result (left tokens.new) (reading.message_of (left tokens.old)) }
+    ensures { Gives result (left tokens.new) (reading.read_message (left tokens.old)) }
 {
     let (op, spot) = opening(alloc, tokens)?;
     let payload = payload(alloc, tokens)?;
@@ -399,9 +398,9 @@ fn message(alloc: Global, tokens: &mut Cursor) -> Result<Statement, ParseFault>
 }
 
 // `name { "," name }`
-#[tactic(auto, unfolding(crate::specs::Reading::names_of))]
+#[tactic(auto, unfolding(crate::specs::Reading::read_names))]
 fn names(alloc: Global, tokens: &mut Cursor) -> Result<OneOrMany<Name>, ParseFault>
-    ensures { Gives result (left tokens.new) (reading.names_of (left tokens.old)) }
+    ensures { Gives result (left tokens.new) (reading.read_names (left tokens.old)) }
 {
     let first = tokens.name(alloc)?;
     if !tokens.next_is(TokenKind::Comma) {

@@ -3,8 +3,8 @@
 ghost use Rattle.std.specs.Prelude.{◌≡◌, ◌↔◌, ◌<◌, IfOk, IsTrue, [], length};
 
 use crate::names::NameInterner;
-use crate::slots;
 use crate::word::Word;
+use scrib_types::hashing::{empty_slots, hash_bytes, slot_of};
 use scrib_types::name::{Dotted, Name};
 use std::alloc::{AllocError, Global};
 use std::mem;
@@ -23,7 +23,7 @@ impl<'a> SortInterner<'a> {
     /// # Errors
     /// `AllocError` where memory for the slots is refused.
     pub(crate) fn new(alloc: Global, count: usize) -> Result<SortInterner<'a>, AllocError> {
-        let slots = slots::empty(alloc, count)?;
+        let slots = empty_slots(alloc, count)?;
         let room = Vec::new(alloc);
         Ok(SortInterner { slots, room })
     }
@@ -50,7 +50,7 @@ impl<'a> SortInterner<'a> {
         requires { 0 < length words.items }
         ensures { IfOk result (λ shared. shared ≡ words.entry.items) }
     {
-        let at = slots::slot_of(hash_of(&words), self.slots.len());
+        let at = slot_of(hash_of(&words), self.slots.len());
         if at >= self.slots.len() {
             return Dotted::from_vec(alloc, names.names(alloc, &words)?);
         }
@@ -87,7 +87,7 @@ fn are_words(names: &[Name], words: &[Word]) -> bool
 fn hash_of(words: &[Word]) -> u64 {
     let mut hash = 0;
     for word in words {
-        hash = slots::hash_bytes(hash, word.as_bytes());
+        hash = hash_bytes(hash, word.as_bytes());
     }
     hash
 }

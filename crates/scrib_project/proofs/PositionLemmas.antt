@@ -7,7 +7,7 @@ use Rattle.scrib_parser.specs.declared.tree.ModuleTree.{ModuleTree}
 use Rattle.scrib_projection.specs.Differences.{first_difference}
 use Rattle.scrib_elaborate.specs.declared.elaborated.Elaborated.{Elaborated}
 use Rattle.scrib_static_checks.specs.Elaboration.{start_of}
-use Rattle.scrib_elaborate.specs.Meaning.{meaning_of, sites_of}
+use Rattle.scrib_elaborate.specs.Meaning.{elaborated_meaning, sites_of}
 use Rattle.scrib_elaborate.specs.Sites.{several, IsSite, IsSiteOf, AreSites}
 use Rattle.scrib_project.specs.declared.fault.Unmergeable.{Unmergeable}
 use Rattle.scrib_project.specs.declared.fault.ProjectFault.{ProjectFault}
@@ -15,9 +15,9 @@ use Rattle.scrib_project.specs.declared.fault.ProjectFault.TheVariants as fault
 use Rattle.scrib_project.specs.Faults.{IsUnmergeable, IsAtSite, IsOfSite, Projects, IsPlaced, IsFaultPlaced}
 use Rattle.scrib_project.proofs.FirstDifferences.{located, zipped_at}
 
-placed : (profile : Profile) (modules : List ModuleTree) (home : List (List ℕ)) (name : List ℕ) (e : Elaborated) (r : List ℕ) (u : Unmergeable) → AreSites modules home name e → IsUnmergeable profile (meaning_of e).global r u → IsAtSite profile (sites_of e) (meaning_of e).global u → IsPlaced profile modules home name (meaning_of e).global u
+placed : (profile : Profile) (modules : List ModuleTree) (home : List (List ℕ)) (name : List ℕ) (e : Elaborated) (r : List ℕ) (u : Unmergeable) → AreSites modules home name e → IsUnmergeable profile (elaborated_meaning e).global r u → IsAtSite profile (sites_of e) (elaborated_meaning e).global u → IsPlaced profile modules home name (elaborated_meaning e).global u
 placed profile modules home name e r u sites told at =
-    let g = (meaning_of e).global in
+    let g = (elaborated_meaning e).global in
     let number = ap (λ x. first_difference profile x g) told.role ∙ told.differs in
     let there = located profile u.role 0 g told.first number in
     let c = there.0 in
@@ -42,7 +42,7 @@ placed profile modules home name e r u sites told at =
       apart = d.differs;
     }
 
-pub fault_placed : (profile : Profile) (modules : List ModuleTree) (home : List (List ℕ)) (name : List ℕ) (e : Elaborated) (r : List ℕ) (x : Result Local ProjectFault) → AreSites modules home name e → Projects profile (meaning_of e).global r x → IfErr x (IsOfSite profile (sites_of e) (meaning_of e).global) → IfErr x (IsFaultPlaced profile modules home name (meaning_of e).global)
+pub fault_placed : (profile : Profile) (modules : List ModuleTree) (home : List (List ℕ)) (name : List ℕ) (e : Elaborated) (r : List ℕ) (x : Result Local ProjectFault) → AreSites modules home name e → Projects profile (elaborated_meaning e).global r x → IfErr x (IsOfSite profile (sites_of e) (elaborated_meaning e).global) → IfErr x (IsFaultPlaced profile modules home name (elaborated_meaning e).global)
 fault_placed profile modules home name e r (Ok l) sites value at = tt
 fault_placed profile modules home name e r (Err (fault.Unmergeable u)) sites value at = placed profile modules home name e r u sites value at
 fault_placed profile modules home name e r (Err fault.OutOfMemory) sites value at = tt

@@ -3,7 +3,7 @@
 ghost use Rattle.std.specs.Prelude.{◌≡◌, ℕ, List, Option, slice_get, IfOk, IfErr, option_map, option_and_then};
 ghost use Rattle.std.specs.Option.{option_copied};
 ghost use Rattle.scrib_parser.specs.declared.tree.ModuleTree.{ModuleTree};
-ghost use Rattle.scrib_elaborate.specs.Meaning.{meaning_of};
+ghost use Rattle.scrib_elaborate.specs.Meaning.{elaborated_meaning};
 ghost use Rattle.scrib_elaborate.specs.Sites.{AreSites};
 ghost use Rattle.scrib_projection.specs.Surveys.{capped};
 ghost use Rattle.scrib_project.specs.Faults.{Projects, IsOfSite, IsFaultPlaced, IsFaultOf};
@@ -28,10 +28,10 @@ pub fn project(
     role: &Role,
     profile: Profile,
 ) -> Result<Local, ProjectFault>
-    ensures value { Projects profile (meaning_of elaborated.now).global role.now result }
+    ensures value { Projects profile (elaborated_meaning elaborated.now).global role.now result }
     ensures place { (modules : List ModuleTree) (home : List (List ℕ)) (name : List ℕ)
         → AreSites modules home name elaborated.now
-        → IfErr result (IsFaultPlaced profile modules home name (meaning_of elaborated.now).global) }
+        → IfErr result (IsFaultPlaced profile modules home name (elaborated_meaning elaborated.now).global) }
 {
     project_among(alloc, elaborated, elaborated.sites(), role, profile)
 }
@@ -44,8 +44,8 @@ fn project_among(
     role: &Role,
     profile: Profile,
 ) -> Result<Local, ProjectFault>
-    ensures value { Projects profile (meaning_of elaborated.now).global role.now result }
-    ensures place { IfErr result (IsOfSite profile sites.now (meaning_of elaborated.now).global) }
+    ensures value { Projects profile (elaborated_meaning elaborated.now).global role.now result }
+    ensures place { IfErr result (IsOfSite profile sites.now (elaborated_meaning elaborated.now).global) }
 {
     let outcome = project_role(alloc, elaborated.global(), role, profile)?;
     match outcome.local {

@@ -2,7 +2,7 @@
 
 ghost use Rattle.std.specs.Prelude.{ℕ, List, IfErr};
 ghost use Rattle.scrib_parser.specs.declared.tree.ModuleTree.{ModuleTree};
-ghost use Rattle.scrib_elaborate.specs.Meaning.{meaning_of};
+ghost use Rattle.scrib_elaborate.specs.Meaning.{elaborated_meaning};
 ghost use Rattle.scrib_elaborate.specs.Sites.{AreSites};
 ghost use Rattle.scrib_project.specs.Faults.{Agrees, AgreesWithProjections, IsFaultPlaced};
 
@@ -26,10 +26,10 @@ pub fn protocol(
     elaborated: Elaborated,
     profile: Profile,
 ) -> Result<Protocol, ProjectFault>
-    ensures value { Agrees profile (meaning_of elaborated) result }
+    ensures value { Agrees profile (elaborated_meaning elaborated) result }
     ensures place { (modules : List ModuleTree) (home : List (List ℕ)) (name : List ℕ)
         → AreSites modules home name elaborated
-        → IfErr result (IsFaultPlaced profile modules home name (meaning_of elaborated).global) }
+        → IfErr result (IsFaultPlaced profile modules home name (elaborated_meaning elaborated).global) }
 {
     let projected = protocol_with_projections(alloc, elaborated, profile)?;
     let ProjectedProtocol { protocol, .. } = projected;
@@ -45,10 +45,10 @@ pub fn protocol_with_projections(
     elaborated: Elaborated,
     profile: Profile,
 ) -> Result<ProjectedProtocol, ProjectFault>
-    ensures value { AgreesWithProjections profile (meaning_of elaborated) result }
+    ensures value { AgreesWithProjections profile (elaborated_meaning elaborated) result }
     ensures place { (modules : List ModuleTree) (home : List (List ℕ)) (name : List ℕ)
         → AreSites modules home name elaborated
-        → IfErr result (IsFaultPlaced profile modules home name (meaning_of elaborated).global) }
+        → IfErr result (IsFaultPlaced profile modules home name (elaborated_meaning elaborated).global) }
 {
     let mut locals = Vec::with_capacity(alloc, elaborated.roles().len())?;
     for role in elaborated.roles() {

@@ -2,10 +2,9 @@
 -- is the same.
 use Rattle.std.specs.Prelude.{ℕ, Bool, true, false, ◌&&◌, List, [], ◌∷◌, Option, Some, None}
 use Rattle.scrib_types.specs.declared.local.Local.{Local}
-use Rattle.scrib_types.specs.declared.profile.Profile.TheVariants.{Reception}
 use Rattle.scrib_types.specs.LocalView.{local_of}
 use Rattle.scrib_types.specs.Trees.{GlobalTree, LocalTree}
-use Rattle.scrib_types.specs.Projection.{projection}
+use Rattle.scrib_types.specs.Projection.{projection, widest}
 use Rattle.scrib_types.specs.Same.{same_local}
 
 -- the local type is defined, and is this one
@@ -18,4 +17,4 @@ abbrev pub are_projections : GlobalTree → List (List ℕ) → List Local → B
 are_projections g [] [] = true
 are_projections g [] (l ∷ ls) = false
 are_projections g (r ∷ rs) [] = false
-are_projections g (r ∷ rs) (l ∷ ls) = is_this (projection Reception r g) (local_of l) && are_projections g rs ls
+are_projections g (r ∷ rs) (l ∷ ls) = is_this (projection widest r g) (local_of l) && are_projections g rs ls

@@ -3,13 +3,13 @@
 ghost use Rattle.std.specs.Prelude.{◌≡◌, ◌&&◌, IfOk};
 ghost use Rattle.scrib_types.specs.LocalView.{local_of, local_branches};
 ghost use Rattle.scrib_types.specs.Projection.{with_alternative, alternatives};
-ghost use Rattle.scrib_types.specs.Same.{same_operator, same_message, same_local};
+ghost use Rattle.scrib_types.specs.Same.{same_message, same_local};
 ghost use Rattle.scrib_projection.specs.Merging.{fitted};
 ghost use Rattle.scrib_projection.specs.Surveys.{offered};
 
 use scrib_types::containers::Items;
 use scrib_types::local::Local;
-use scrib_types::name::Name;
+use scrib_types::message::operators_equal;
 use scrib_types::shared_message::SharedMessage;
 use std::alloc::{AllocError, Global};
 
@@ -75,7 +75,7 @@ fn fit_of(known: &[(SharedMessage, Local)], message: &SharedMessage, local: &Loc
         ≡ with_alternative message.now (local_of local.now) (local_branches known.now) }
 {
     for (other, continuation) in known {
-        if same_operator(&message.get().op, &other.get().op) {
+        if operators_equal(&message.get().op, &other.get().op) {
             if same_alternative(message, local, other, continuation) {
                 return Fit::Known;
             }
@@ -95,16 +95,6 @@ fn same_alternative(
         && same_local (local_of local.now) (local_of continuation.now)) }
 {
     same_message(message, other) && same(local, continuation)
-}
-
-fn same_operator(a: &Option<Name>, b: &Option<Name>) -> bool
-    ensures { result ≡ same_operator a.now b.now }
-{
-    match (a, b) {
-        (None, None) => true,
-        (Some(a), Some(b)) => a.equal(b),
-        _ => false,
-    }
 }
 
 fn same_message(a: &SharedMessage, b: &SharedMessage) -> bool

@@ -15,7 +15,7 @@ use Rattle.scrib_record.specs.declared.role_state.RoleState.{RoleState}
 use Rattle.scrib_record.specs.declared.configuration.Configuration.{Configuration}
 use Rattle.scrib_record.specs.RoleMachines.{AreMachinesOf}
 use Rattle.scrib_record.specs.Following.{MayAct, MayFollow}
-use Rattle.scrib_record.specs.Configurations.{place_in, AreFlying, LeadsTo, Others, IsFront, IsNext}
+use Rattle.scrib_record.specs.Configurations.{place_in, AreFlying, LeadsTo, Others, IsAtFront, IsNext}
 use Rattle.scrib_record.proofs.RolePlaces.{place_at, place_within, not_declared, is_declared}
 use Rattle.scrib_record.proofs.MachineLemmas.{valid}
 use Rattle.scrib_record.proofs.Partners.{acts_among}
@@ -90,7 +90,7 @@ receive_stuck a ms log p q m i s k o at h e f =
     let w = acts_from a ms log q i s k (Receives p m) at f.0 in
     stuck o (λ n. (s.joined ≡ true) × Steps k s.state (Receives p m) n) e h w.1.0 (w.0, w.1.1)
 
-pub receive_early : (a : Agreement) (ms : List (List (List Edge))) (log : List Event) (c : Configuration) (p q : List ℕ) (m : Message) (i j : ℕ) → LeadsTo a ms log c → place_in a.roles p ≡ Some i → place_in a.roles q ≡ Some j → (IsFront i j m c.queues → ⊥) → MayFollow a log (Received p q m) → ⊥
+pub receive_early : (a : Agreement) (ms : List (List (List Edge))) (log : List Event) (c : Configuration) (p q : List ℕ) (m : Message) (i j : ℕ) → LeadsTo a ms log c → place_in a.roles p ≡ Some i → place_in a.roles q ≡ Some j → (IsAtFront i j m c.queues → ⊥) → MayFollow a log (Received p q m) → ⊥
 receive_early a ms log c p q m i j st e f never h = never (oldest_front a log c.queues p q i j m st.flying e f h.1)
 
 pub sends_on : (a : Agreement) (ms : List (List (List Edge))) (log : List Event) (c d : Configuration) (p q : List ℕ) (m : Message) (i j : ℕ) (s t : RoleState) (k : List (List Edge)) → LeadsTo a ms log c → IsAt a ms log p i s k → slice_get ms i ≡ Some k → place_in a.roles q ≡ Some j → t.joined ≡ true → (s.joined ≡ true) × Steps k s.state (Sends q m) t.state → d.role_states.items ≡ set c.role_states.items i t → d.queues.roles ≡ c.queues.roles → queue_of d.queues i j ≡ queue_of c.queues i j ++ m ∷ [] → Others i j c.queues d.queues → IsNext a ms log (Sent p q m) d true
@@ -100,7 +100,7 @@ sends_on a ms log c d p q m i j s t k st at runs e tj step role_states roles pus
       (flying_sent a log p q m i j c.queues d.queues st.flying at.place e pushed others),
 )
 
-pub receives_on : (a : Agreement) (ms : List (List (List Edge))) (log : List Event) (c d : Configuration) (p q : List ℕ) (m : Message) (i j : ℕ) (s t : RoleState) (k : List (List Edge)) → LeadsTo a ms log c → IsAt a ms log q j s k → slice_get ms j ≡ Some k → place_in a.roles p ≡ Some i → IsFront i j m c.queues → t.joined ≡ true → (s.joined ≡ true) × Steps k s.state (Receives p m) t.state → d.role_states.items ≡ set c.role_states.items j t → d.queues.roles ≡ c.queues.roles → queue_of c.queues i j ≡ m ∷ queue_of d.queues i j → Others i j c.queues d.queues → IsNext a ms log (Received p q m) d true
+pub receives_on : (a : Agreement) (ms : List (List (List Edge))) (log : List Event) (c d : Configuration) (p q : List ℕ) (m : Message) (i j : ℕ) (s t : RoleState) (k : List (List Edge)) → LeadsTo a ms log c → IsAt a ms log q j s k → slice_get ms j ≡ Some k → place_in a.roles p ≡ Some i → IsAtFront i j m c.queues → t.joined ≡ true → (s.joined ≡ true) × Steps k s.state (Receives p m) t.state → d.role_states.items ≡ set c.role_states.items j t → d.queues.roles ≡ c.queues.roles → queue_of c.queues i j ≡ m ∷ queue_of d.queues i j → Others i j c.queues d.queues → IsNext a ms log (Received p q m) d true
 receives_on a ms log c d p q m i j s t k st at runs e front tj step role_states roles popped others = (
   (acts_on a ms log q j s k (Receives p m) at step.0 (t.state, step.1), front_oldest a log c.queues p q i j m st.flying e at.place front),
   led_on a ms log c d (Received p q m) j t st at.place role_states (role_state_received a ms log p q m j s t k runs at step.0 tj step.1) roles

@@ -21,7 +21,7 @@ use Rattle.scrib_record.specs.declared.role_state.RoleState.{RoleState}
 use Rattle.scrib_record.specs.declared.configuration.Configuration.{Configuration}
 use Rattle.scrib_record.specs.RoleMachines.{IsMachineOf, AreMachinesOf}
 use Rattle.scrib_record.specs.Following.{MayAct, IsOldest}
-use Rattle.scrib_record.specs.Configurations.{place_in, IsRoleState, AreRoleStates, AreFlying, LeadsTo, IsSame, Others, IsFront}
+use Rattle.scrib_record.specs.Configurations.{place_in, IsRoleState, AreRoleStates, AreFlying, LeadsTo, IsSameConfiguration, Others, IsAtFront}
 use Rattle.scrib_record.proofs.Logs.{own_more, own_same, joined_on, or_false}
 use Rattle.scrib_record.proofs.Queues.{sent_on, received_on, listed, grown, led, fly_still, fly_sent, fly_taken, listed_is}
 use Rattle.scrib_record.proofs.RolePlaces.{bytes_same, bytes_itself, place_within, place_role, same_role, same_place, is_declared}
@@ -77,10 +77,10 @@ acts_from a ms log r i s m act k h =
     )
 
 -- the front of a queue is the oldest message
-pub front_oldest : (a : Agreement) (log : List Event) (queues : Channels) (p q : List ℕ) (i j : ℕ) (m : Message) → AreFlying a log queues → place_in a.roles p ≡ Some i → place_in a.roles q ≡ Some j → IsFront i j m queues → IsOldest p q m log
+pub front_oldest : (a : Agreement) (log : List Event) (queues : Channels) (p q : List ℕ) (i j : ℕ) (m : Message) → AreFlying a log queues → place_in a.roles p ≡ Some i → place_in a.roles q ≡ Some j → IsAtFront i j m queues → IsOldest p q m log
 front_oldest a log queues p q i j m fly e f h = (h.0, fly p q i j e f ∙ ap (λ x. received p q log ++ x) h.1)
 
-pub oldest_front : (a : Agreement) (log : List Event) (queues : Channels) (p q : List ℕ) (i j : ℕ) (m : Message) → AreFlying a log queues → place_in a.roles p ≡ Some i → place_in a.roles q ≡ Some j → IsOldest p q m log → IsFront i j m queues
+pub oldest_front : (a : Agreement) (log : List Event) (queues : Channels) (p q : List ℕ) (i j : ℕ) (m : Message) → AreFlying a log queues → place_in a.roles p ≡ Some i → place_in a.roles q ≡ Some j → IsOldest p q m log → IsAtFront i j m queues
 oldest_front a log queues p q i j m fly e f h =
     (h.0, append_cancel_left (received p q log) (queue_of queues i j) (m ∷ h.0) (sym (fly p q i j e f) ∙ h.1))
 
@@ -228,7 +228,7 @@ led_on a ms log c d e i s st at is k roles fly = record {
     length_set (x ∷ xs) zero s = refl
     length_set (x ∷ xs) (suc i) s = ap suc (length_set xs i s)
 
-pub led_same : (a : Agreement) (ms : List (List (List Edge))) (log : List Event) (c d : Configuration) → IsSame c d → LeadsTo a ms log c → LeadsTo a ms log d
+pub led_same : (a : Agreement) (ms : List (List (List Edge))) (log : List Event) (c d : Configuration) → IsSameConfiguration c d → LeadsTo a ms log c → LeadsTo a ms log d
 led_same a ms log c d same st = record {
   role_states = ap length same.role_states ∙ st.role_states;
   queues = same.roles ∙ st.queues;

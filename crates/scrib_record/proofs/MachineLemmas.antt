@@ -7,9 +7,8 @@ use Rattle.std.proofs.lemmas.Option.{same_Some, get_or_from_slice_get, slice_get
 use Rattle.scrib_types.specs.declared.local.Local.{Local}
 use Rattle.scrib_types.specs.LocalView.{local_of}
 use Rattle.scrib_types.specs.Agreement.{Agreement}
-use Rattle.scrib_types.specs.Projection.{projection, is_closed}
+use Rattle.scrib_types.specs.Projection.{projection, is_closed, widest}
 use Rattle.scrib_types.specs.Trees.{GlobalTree}
-use Rattle.scrib_types.specs.declared.profile.Profile.TheVariants.{Reception}
 use Rattle.scrib_types.specs.WellFormed.{distinct_roles, is_protocol, well_formed}
 use Rattle.scrib_projection.specs.Projections.{are_projections}
 use Rattle.scrib_machine.specs.declared.machine.Edge.{Edge}
@@ -85,7 +84,7 @@ are_machines a ls ms p z =
           let named : get_or a.roles i role ≡ role = get_or_from_slice_get a.roles i role role here in
           record {
             local = local_of (get_or ls i d);
-            projected = subst (λ x. projection Reception x a.global ≡ Some (local_of (get_or ls i d))) named (projection_at a.global a.roles ls i role d p (omega arith));
+            projected = subst (λ x. projection widest x a.global ≡ Some (local_of (get_or ls i d))) named (projection_at a.global a.roles ls i role d p (omega arith));
             machine = is.0;
             follows = is.1;
           };

@@ -8,8 +8,7 @@ use Rattle.scrib_types.specs.declared.event.Event.{Event}
 use Rattle.scrib_types.specs.declared.event.Event.TheVariants.{Join, Sent, Received}
 use Rattle.scrib_types.specs.Trees.{LocalTree}
 use Rattle.scrib_types.specs.Traces.{IsTrace}
-use Rattle.scrib_types.specs.declared.profile.Profile.TheVariants.{Reception}
-use Rattle.scrib_types.specs.Projection.{projection}
+use Rattle.scrib_types.specs.Projection.{projection, widest}
 use Rattle.scrib_types.specs.WellFormed.{has_role}
 use Rattle.scrib_types.specs.Agreement.{Agreement}
 use Rattle.scrib_types.specs.Permitted.{IsPermitted}
@@ -35,16 +34,16 @@ may_act a log (Join r) h i = absurd (true≢false (sym i))
 may_act a log (Sent p q m) h i = h
 may_act a log (Received p q m) h i = h.0
 
-subject_trace : (a : Agreement) (log : List Event) (e : Event) → MayAct a log (subject_of e) (action_of e) → is_action_of (subject_of e) e ≡ true → (l : LocalTree) × (projection Reception (subject_of e) a.global ≡ Some l) × IsTrace l (own_actions (subject_of e) (log ++ e ∷ []))
+subject_trace : (a : Agreement) (log : List Event) (e : Event) → MayAct a log (subject_of e) (action_of e) → is_action_of (subject_of e) e ≡ true → (l : LocalTree) × (projection widest (subject_of e) a.global ≡ Some l) × IsTrace l (own_actions (subject_of e) (log ++ e ∷ []))
 subject_trace a log e h i = (h.local, h.projected, subst (IsTrace h.local) (sym (own_more (subject_of e) log e i)) h.trace)
 
-trace_more : (a : Agreement) (log : List Event) (e : Event) → IsPermitted a log → MayFollow a log e → (r : List ℕ) → has_role r a.roles ≡ true → (l : LocalTree) × (projection Reception r a.global ≡ Some l) × IsTrace l (own_actions r (log ++ e ∷ []))
+trace_more : (a : Agreement) (log : List Event) (e : Event) → IsPermitted a log → MayFollow a log e → (r : List ℕ) → has_role r a.roles ≡ true → (l : LocalTree) × (projection widest r a.global ≡ Some l) × IsTrace l (own_actions r (log ++ e ∷ []))
 trace_more a log e p h r d =
     elim (cases_Bool (is_action_of r e)) [
       | inl i ↦
           let b = and_parts (is_action e) (bytes_eq r (subject_of e)) i in
           let same : subject_of e ≡ r = sym (bytes_same r (subject_of e) b.1) in
-          let P : List ℕ → Type 0 = λ s. is_action_of s e ≡ true → (l : LocalTree) × (projection Reception s a.global ≡ Some l) × IsTrace l (own_actions s (log ++ e ∷ [])) in
+          let P : List ℕ → Type 0 = λ s. is_action_of s e ≡ true → (l : LocalTree) × (projection widest s a.global ≡ Some l) × IsTrace l (own_actions s (log ++ e ∷ [])) in
           subst P same (subject_trace a log e (may_act a log e h b.0)) i
       | inr i ↦ let l = p.traces r d in (l.0, l.1, subst (IsTrace l.0) (sym (own_same r log e i)) l.2)
     ]

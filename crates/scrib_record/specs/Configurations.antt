@@ -52,7 +52,7 @@ abbrev pub IsReached : Agreement → List (List (List Edge)) → Configuration �
 IsReached a ms c = (log : List Event) × LeadsTo a ms log c
 
 -- the same states of roles, and the same messages in flight
-pub record IsSame (c d : Configuration) : Type 0 where
+pub record IsSameConfiguration (c d : Configuration) : Type 0 where
   pub role_states : d.role_states.items ≡ c.role_states.items
   pub roles : d.queues.roles ≡ c.queues.roles
   pub messages : SameQueues c.queues d.queues
@@ -62,14 +62,14 @@ abbrev pub Others : ℕ → ℕ → Channels → Channels → Type 0
 Others p q old new = (i j : ℕ) → ¬ ((i ≡ p) × (j ≡ q)) → queue_of new i j ≡ queue_of old i j
 
 -- the oldest message from place p to place q is this one
-abbrev pub IsFront : ℕ → ℕ → Message → Channels → Type 0
-IsFront p q m queues = (rest : List Message) × (queue_of queues p q ≡ m ∷ rest)
+abbrev pub IsAtFront : ℕ → ℕ → Message → Channels → Type 0
+IsAtFront p q m queues = (rest : List Message) × (queue_of queues p q ≡ m ∷ rest)
 
 -- the messages in flight allow the action of the role at this place: a reception is of the oldest message
-abbrev pub IsDue : List (List ℕ) → Channels → ℕ → Action → Type 0
-IsDue roles queues at Join = ⊥
-IsDue roles queues at (Sends q m) = Unit {0}
-IsDue roles queues at (Receives p m) = (i : ℕ) × (place_in roles p ≡ Some i) × IsFront i at m queues
+abbrev pub IsEnabled : List (List ℕ) → Channels → ℕ → Action → Type 0
+IsEnabled roles queues at Join = ⊥
+IsEnabled roles queues at (Sends q m) = Unit {0}
+IsEnabled roles queues at (Receives p m) = (i : ℕ) × (place_in roles p ≡ Some i) × IsAtFront i at m queues
 
 -- the event may follow the log, and the two lead to the configuration, or it may not, and the log leads to it
 abbrev pub IsNext : Agreement → List (List (List Edge)) → List Event → Event → Configuration → Bool → Type 0

@@ -7,8 +7,7 @@ use Rattle.scrib_types.specs.declared.event.Event.{Event}
 use Rattle.scrib_types.specs.declared.event.Event.TheVariants.{Join, Sent, Received}
 use Rattle.scrib_types.specs.Agreement.{Agreement}
 use Rattle.scrib_types.specs.Logs.{own_actions, has_joined}
-use Rattle.scrib_types.specs.declared.profile.Profile.TheVariants.{Reception}
-use Rattle.scrib_types.specs.Projection.{projection}
+use Rattle.scrib_types.specs.Projection.{projection, widest}
 use Rattle.scrib_types.specs.Queues.{sent, received}
 use Rattle.scrib_types.specs.Traces.{IsTrace}
 use Rattle.scrib_types.specs.Trees.{LocalTree}
@@ -19,7 +18,7 @@ pub record MayAct (a : Agreement) (log : List Event) (role : List ℕ) (act : Ac
   pub declared : has_role role a.roles ≡ true
   pub joined : has_joined role log ≡ true
   pub local : LocalTree
-  pub projected : projection Reception role a.global ≡ Some local
+  pub projected : projection widest role a.global ≡ Some local
   pub trace : IsTrace local (own_actions role log ++ act ∷ [])
 
 -- the message is the oldest in flight from p to q

@@ -24,12 +24,10 @@ IsPermittedThroughout a log = (n : ℕ) → n ≤ length log → IsPermitted a (
 
 -- the log leads to the configuration while it is permitted, and otherwise the verdict is its first offence
 abbrev pub Keeps : Option Version → List Event → Verdict → Configuration → Type 0
-Keeps None log Permitted c = ⊥
-Keeps None log (Offence place role allowed) c = ⊥
 Keeps None log Withdrawn c = Unit {0}
 Keeps (Some v) log Permitted c = LeadsTo (meaning_of v) v.machines log c × IsPermittedThroughout (meaning_of v) log
 Keeps (Some v) log (Offence place role allowed) c = IsOffence (meaning_of v) log place role allowed
-Keeps (Some v) log Withdrawn c = ⊥
+Keeps _ log _ c = ⊥
 
 -- What is kept of the log: the verdict on the judged events, and the configuration that `reached` events lead to. These
 -- are the judged events, and up to 256 more after a turn that ran out of memory.

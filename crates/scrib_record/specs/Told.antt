@@ -21,15 +21,15 @@ IsReported present r (Judged v) =
     (is_stale present r ≡ false) × (v ≡ r.verdict) × Judges (option_map meaning_of present) r.log v
 
 -- the same, borrowed
-abbrev pub IsAnswer : Option Version → Recorded → Answer → Type 0
-IsAnswer present r answer.Stale = is_stale present r ≡ true
-IsAnswer present r answer.Permitted =
+abbrev pub IsReportedAnswer : Option Version → Recorded → Answer → Type 0
+IsReportedAnswer present r answer.Stale = is_stale present r ≡ true
+IsReportedAnswer present r answer.Permitted =
     (is_stale present r ≡ false) × (r.verdict ≡ verdict.Permitted)
     × Judges (option_map meaning_of present) r.log verdict.Permitted
-IsAnswer present r (answer.Offence place role allowed) =
+IsReportedAnswer present r (answer.Offence place role allowed) =
     let v = verdict.Offence place role.now allowed.now in
     (is_stale present r ≡ false) × (r.verdict ≡ v) × Judges (option_map meaning_of present) r.log v
-IsAnswer present r answer.Withdrawn =
+IsReportedAnswer present r answer.Withdrawn =
     (is_stale present r ≡ false) × (r.verdict ≡ verdict.Withdrawn)
     × Judges (option_map meaning_of present) r.log verdict.Withdrawn
 

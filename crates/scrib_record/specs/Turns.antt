@@ -94,12 +94,12 @@ progress now (turned {t} {old = old} {new = new} {answer = answer} calls u) s =
     ]
 
 -- Enough turns: after some turns a record is not stale, if 256 events for each cover its log at the last of them.
-abbrev pub TurnsSuffice : Type 0
-TurnsSuffice =
+abbrev pub RecordTurnsSuffice : Type 0
+RecordTurnsSuffice =
     (now : Option Version) (t : ℕ) (first old new : Recorded) (answer : Told) → Calls now t first old
     → IsTurned now old new answer → length old.log ≤ 256 * (t + 1) → is_stale now new ≡ false
 
-pub enough_turns : TurnsSuffice
+pub enough_turns : RecordTurnsSuffice
 enough_turns now t first old new answer calls u enough =
     elim (cases_Bool (is_stale now new)) [
       | inl s ↦

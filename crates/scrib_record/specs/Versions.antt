@@ -19,6 +19,5 @@ HaveSameStamp v w = (number_of v ≡ number_of w) × (meaning_of v ≡ meaning_o
 -- two versions of the same stamp, or none and none
 abbrev pub AreOfOneStamp : Option Version → Option Version → Type 0
 AreOfOneStamp None None = Unit {0}
-AreOfOneStamp None (Some w) = ⊥
-AreOfOneStamp (Some v) None = ⊥
 AreOfOneStamp (Some v) (Some w) = HaveSameStamp v w
+AreOfOneStamp _ _ = ⊥

@@ -63,7 +63,7 @@ fn allowed_actions(
     requires order { AllPairs ComesBefore (map (λ e. e.action) edges.now) }
     ensures sorted { IfOk result (AllPairs ComesBefore) }
     ensures exact { IfOk result (λ list. (act : Action)
-        → Contains list act ↔ (Contains (map (λ e. e.action) edges.now) act × conf.IsDue roles.now queues.now at act)) }
+        → Contains list act ↔ (Contains (map (λ e. e.action) edges.now) act × conf.IsEnabled roles.now queues.now at act)) }
 {
     let mut list = Items::new(alloc);
     for edge in edges {
@@ -80,7 +80,7 @@ fn allowed_actions(
 fn is_allowed(roles: &[Role], queues: &Queues, at: usize, action: &Action) -> bool
     requires roles { queues.now.roles ≡ length roles.now }
     requires place { at < length roles.now }
-    ensures { IsTrue result ↔ conf.IsDue roles.now queues.now at action.now }
+    ensures { IsTrue result ↔ conf.IsEnabled roles.now queues.now at action.now }
 {
     match action {
         // No machine has a join.
@@ -97,7 +97,7 @@ fn is_allowed(roles: &[Role], queues: &Queues, at: usize, action: &Action) -> bo
 fn is_first(queues: &Queues, p: usize, q: usize, message: &SharedMessage) -> bool
     requires sender { p < queues.now.roles }
     requires receiver { q < queues.now.roles }
-    ensures { IsTrue result ↔ conf.IsFront p q message.now queues.now }
+    ensures { IsTrue result ↔ conf.IsAtFront p q message.now queues.now }
 {
     match queues.front(p, q) {
         Some(first) => first.equal(message),

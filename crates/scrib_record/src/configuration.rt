@@ -61,7 +61,7 @@ impl Configuration {
         requires { conf.IsReached (meaning_of version.now) version.now.machines self.old }
         ensures ok { IfOk result (conf.Advances (meaning_of version.now) version.now.machines event.now self.old
             self.new) }
-        ensures err { OnErr result (conf.IsSame self.old self.new) }
+        ensures err { OnErr result (conf.IsSameConfiguration self.old self.new) }
     {
         match event.get() {
             Event::Join { role } => Ok(self.join(version, role)),
@@ -98,7 +98,7 @@ impl Configuration {
         requires { conf.IsReached (meaning_of version.now) version.now.machines self.old }
         ensures ok { IfOk result (conf.Advances (meaning_of version.now) version.now.machines
             (Sent from.now to.now message.now) self.old self.new) }
-        ensures err { OnErr result (conf.IsSame self.old self.new) }
+        ensures err { OnErr result (conf.IsSameConfiguration self.old self.new) }
     {
         let Some(p) = version.place_of(from) else {
             return Ok(false);

@@ -7,6 +7,7 @@ ghost use Rattle.scrib_types.specs.declared.event.Told.TheVariants.{Stale, Judge
 ghost use Rattle.scrib_types.specs.declared.event.Verdict.TheVariants.{Permitted};
 ghost use Rattle.scrib_record.specs.Comparisons.{ServesFor};
 ghost use Rattle.scrib_record.specs.Configurations as conf;
+ghost use Rattle.scrib_record.specs.declared.record.TheConstants.{MAX_EVENTS};
 ghost use Rattle.scrib_record.specs.Judgings as kept;
 ghost use Rattle.scrib_record.specs.Stale as stale;
 ghost use Rattle.scrib_record.specs.Versions.{meaning_of};
@@ -127,7 +128,7 @@ impl Judging {
     pub fn note(&mut self, log: &[SharedEvent], event: &SharedEvent) -> Result<Told, AllocError>
         requires kept { kept.IsKept log.now self.old }
         requires whole { stale.is_final self.old.verdict self.old.judged (length log.now) ≡ true }
-        requires room { length log.now < 1048576 }
+        requires room { length log.now < MAX_EVENTS }
         ensures ok { IfOk result (kept.IsJudgedOn log.now event.now self.old self.new) }
         ensures kept { OnErr result (kept.IsKept log.now self.new) }
         ensures same { OnErr result (kept.IsSameJudging self.old self.new) }
@@ -164,7 +165,7 @@ impl Judging {
         requires kept { kept.IsKept log.now self.old }
         requires stale { (stale.is_present (option_copied present) self.old.held
             && stale.is_final self.old.verdict self.old.judged (length log.now)) ≢ true }
-        requires room { length log.now ≤ 1048576 }
+        requires room { length log.now ≤ MAX_EVENTS }
         ensures ok { IfOk result (kept.IsTurnedTo (option_copied present.entry) log.now self.old self.new) }
         ensures kept { OnErr result (kept.IsKept log.now self.new) }
         ensures same { OnErr result (kept.IsSameJudging self.old self.new) }
@@ -187,7 +188,7 @@ impl Judging {
     fn judge_more(&mut self, log: &[SharedEvent]) -> Result<Told, AllocError>
         requires kept { kept.IsKept log.now self.old }
         requires open { self.old.verdict ≡ Permitted }
-        requires room { length log.now ≤ 1048576 }
+        requires room { length log.now ≤ MAX_EVENTS }
         ensures ok { IfOk result (kept.IsFurther log.now self.old self.new) }
         ensures kept { OnErr result (kept.IsKept log.now self.new) }
         ensures same { OnErr result (kept.IsSameJudging self.old self.new) }

@@ -6,7 +6,7 @@ ghost use Rattle.scrib_types.specs.LocalView.{local_of};
 ghost use Rattle.scrib_types.specs.Meaning.{agreement_of};
 ghost use Rattle.scrib_projection.specs.Projections.{are_projections};
 ghost use Rattle.scrib_machine.specs.Compilable.{IsCompilable, max_nodes};
-ghost use Rattle.scrib_machine.specs.Machines.{IsMachine, Follows};
+ghost use Rattle.scrib_machine.specs.Machines.{IsMachine, HasTracesOf};
 ghost use Rattle.scrib_machine.specs.Projected.{global_nodes};
 ghost use Rattle.scrib_record.specs.RoleMachines as roles;
 

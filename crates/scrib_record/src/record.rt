@@ -6,7 +6,7 @@ ghost use Rattle.scrib_record.specs.Comparisons.{ServesFor};
 ghost use Rattle.scrib_record.specs.Stale.{Recorded, IsLawful};
 ghost use Rattle.scrib_record.specs.Turns.{new_record};
 ghost use Rattle.scrib_record.specs.Versions.{number_of};
-ghost use Rattle.scrib_record.specs.Told.{IsAnswer, IsNoted, IsTurned, NoteFails};
+ghost use Rattle.scrib_record.specs.Told.{IsReportedAnswer, IsNoted, IsTurned, NoteFails};
 
 use crate::answer::Answer;
 use crate::comparison::Comparison;
@@ -125,7 +125,7 @@ impl Record {
     ) -> Result<Told, NoteFault>
         requires { ServesFor comparison (option_copied present) self.old.held }
         ensures ok { IfOk result (IsNoted (option_copied present.entry) self.old event self.new) }
-        ensures room { OnOk result (length self.old.log < 1048576) }
+        ensures room { OnOk result (length self.old.log < MAX_EVENTS) }
         ensures fault { IfErr result (NoteFails self.old) }
         ensures err { OnErr result (self.new ≡ self.old) }
     {
@@ -174,7 +174,7 @@ impl Record {
     /// is one. It allocates nothing.
     pub fn ask(&self, present: Option<&Version>, comparison: Comparison) -> Answer<'_>
         requires { ServesFor comparison (option_copied present) self.now.held }
-        ensures { IsAnswer (option_copied present.entry) self.now result }
+        ensures { IsReportedAnswer (option_copied present.entry) self.now result }
     {
         if self.judging.is_stale(present, comparison, self.log.len()) {
             return Answer::Stale;

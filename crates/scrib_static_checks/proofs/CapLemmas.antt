@@ -3,7 +3,7 @@ use Rattle.std.proofs.Common.{◌≡◌, ℕ, zero, suc, ◌+◌, ◌*◌, ◌<�
 use Rattle.std.proofs.Math.Nat.{mul-suc, mul-add, add-mul, mul_assoc, mul_comm}
 use Rattle.std.proofs.lemmas.Bool.{cases_lt}
 use Rattle.scrib_static_checks.specs.declared.size_bound.NodeCount.{NodeCount}
-use Rattle.scrib_static_checks.specs.SizeFunctions.{Agree, nodes_at, IsComposed, IsJoined}
+use Rattle.scrib_static_checks.specs.SizeFunctions.{Agree, nodes_at, IsComposed, IsCombined}
 
 at_least : (m j : ℕ) → m ≤ m * suc j
 at_least m j = let has_size = mul-suc m j in omega arith
@@ -56,7 +56,7 @@ pub compose_agrees : (outer inner all : NodeCount) → all.base ≡ min 65536 (o
 compose_agrees outer inner all p q k m n e f =
     f ∙ capped_put 65536 outer.base outer.times m (nodes_at inner k) e ∙ ap (min 65536) (distributed outer.base outer.times inner.base inner.times k) ∙ nodes_at_is all (outer.base + outer.times * inner.base) (outer.times * inner.times) p q k
 
-pub sum_agrees : (one other all : NodeCount) → all.base ≡ min 65536 (one.base + other.base) → all.times ≡ min 65536 (one.times + other.times) → IsJoined 65536 ◌+◌ (nodes_at one) (nodes_at other) (nodes_at all)
+pub sum_agrees : (one other all : NodeCount) → all.base ≡ min 65536 (one.base + other.base) → all.times ≡ min 65536 (one.times + other.times) → IsCombined 65536 ◌+◌ (nodes_at one) (nodes_at other) (nodes_at all)
 sum_agrees one other all p q k m n e f =
     let split = add-mul one.times other.times k in
     let together : min 65536 (m + n) ≡ min 65536 ((one.base + other.base) + (one.times + other.times) * k) = omega arith in

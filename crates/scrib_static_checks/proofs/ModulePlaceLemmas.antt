@@ -6,7 +6,7 @@ use Rattle.std.proofs.lemmas.List.{take-map, drop-map, map-append, length-set, l
 use Rattle.scrib_parser.specs.declared.tree.ModuleTree.{ModuleTree}
 use Rattle.scrib_static_checks.specs.Names.{has_name, module_names}
 use Rattle.scrib_static_checks.specs.Table.{IsPlace}
-use Rattle.scrib_static_checks.specs.Placed.{IsPlaced}
+use Rattle.scrib_static_checks.specs.Placed.{IsModulePlaced}
 use Rattle.scrib_static_checks.proofs.Places.{with_module-at, with_module-last}
 
 -- removing an element of a list removes it from the image too
@@ -19,7 +19,7 @@ set-back [] k x y e = refl
 set-back (z ∷ zs) zero x y e = ap (λ w. w ∷ zs) e
 set-back (z ∷ zs) (suc k) x y e = ap (λ ws. z ∷ ws) (set-back zs k x y e)
 
-pub put_over : (ms old : List ModuleTree) (m n o : ModuleTree) (k : ℕ) → ms ≡ old → n ≡ m → IsPlace ms m.name k → o ≡ get_or ms k o → IsPlaced m old (set ms k n) (record { at = k; replaced = Some o })
+pub put_over : (ms old : List ModuleTree) (m n o : ModuleTree) (k : ℕ) → ms ≡ old → n ≡ m → IsPlace ms m.name k → o ≡ get_or ms k o → IsModulePlaced m old (set ms k n) (record { at = k; replaced = Some o })
 put_over ms old m n o k same copied p stood =
     let within : k < length ms = omega (arith, p.at, ap length p.is, length-append p.before (p.here ∷ p.after)) in
     record {
@@ -29,7 +29,7 @@ put_over ms old m n o k same copied p stood =
       back = set-back ms k n o stood ∙ same;
     }
 
-pub put_last : (ms old : List ModuleTree) (m : ModuleTree) (k : ℕ) → ms ≡ old → k ≡ length old → has_name m.name (module_names old) ≡ false → IsPlaced m old (ms ++ m ∷ []) (record { at = k; replaced = None })
+pub put_last : (ms old : List ModuleTree) (m : ModuleTree) (k : ℕ) → ms ≡ old → k ≡ length old → has_name m.name (module_names old) ≡ false → IsModulePlaced m old (ms ++ m ∷ []) (record { at = k; replaced = None })
 put_last ms old m k same at none = record {
   put = ap (λ xs. xs ++ m ∷ []) same ∙ sym (with_module-last m old none);
   within = omega (arith, at, length_push ms m, ap length same);

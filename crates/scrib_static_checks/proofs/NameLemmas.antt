@@ -1,8 +1,7 @@
 -- Lists of different names, and protocols found by their names.
 use Rattle.std.proofs.Common.{◌≡◌, ℕ, Bool, true, false, ◌&&◌, not, List, [], ◌∷◌, ◌++◌, map, None, refl, sym, ◌∙◌, ⊎_elim}
-use Rattle.std.specs.Bool.{Decides}
 use Rattle.std.specs.Str.{bytes_eq}
-use Rattle.std.proofs.lemmas.Slice.Eq.{bytes_eq-Decides, slice_eq-Decides}
+use Rattle.std.proofs.lemmas.Slice.Eq.{bytes_eq-Decides}
 use Rattle.std.proofs.lemmas.Bool.{false≢true, both_ways, and_parts, and_from, or_parts, or_from, or_cases, or_left, or_right, not-true, not_from_false}
 use Rattle.std.proofs.lemmas.Bool.Decides.{same_from_decides, Decides-like}
 use Rattle.std.proofs.lemmas.List.Folds.{list_any-append}
@@ -10,13 +9,11 @@ use Rattle.scrib_types.specs.WellFormed.{has_role, distinct_roles}
 use Rattle.scrib_parser.specs.declared.tree.ModuleTree.{ModuleTree}
 use Rattle.scrib_parser.specs.declared.tree.ProtocolDeclaration.{ProtocolDeclaration}
 use Rattle.scrib_static_checks.specs.Names.{Declaration, dotted_eq, has_name, distinct_names, first_where, module_names, declarations, is_called, find_protocol}
+pub use Rattle.scrib_static_checks.specs.Names.{dotted_eq-Decides}
 
 pub bytes_eq-comm : (r s : List ℕ) → bytes_eq r s ≡ bytes_eq s r
 bytes_eq-comm r s =
     same_from_decides (bytes_eq r s) (bytes_eq s r) (bytes_eq-Decides r s) (Decides-like (bytes_eq s r) (λ e. sym e) (λ e. sym e) (bytes_eq-Decides s r))
-
-pub dotted_eq-Decides : (r s : List (List ℕ)) → Decides (dotted_eq r s) (r ≡ s)
-dotted_eq-Decides r s = slice_eq-Decides bytes_eq-Decides r s (dotted_eq r s) refl
 
 pub dotted_eq-comm : (r s : List (List ℕ)) → dotted_eq r s ≡ dotted_eq s r
 dotted_eq-comm [] [] = refl

@@ -4,7 +4,7 @@ use Rattle.std.specs.List.{slice_get}
 use Rattle.std.proofs.lemmas.List.{length-map, map-append, map_more, take_all}
 use Rattle.scrib_parser.specs.declared.tree.ModuleTree.{ModuleTree}
 use Rattle.scrib_parser.specs.declared.tree.ProtocolDeclaration.{ProtocolDeclaration}
-use Rattle.scrib_static_checks.specs.ProtocolIndex.{slot_of, slot_for, IsFilled, IsIndexed}
+use Rattle.scrib_static_checks.specs.ProtocolIndex.{protocol_slot, slot_for, IsFilled, IsIndexed}
 use Rattle.scrib_static_checks.specs.Names.{Declaration, protocol_names, declared_in, declarations}
 
 -- of two lists with the same image, elements at the same place have the same image
@@ -44,7 +44,7 @@ slots_alike size a b n (p ∷ ps) (q ∷ qs) e =
     let head : p.name ≡ q.name = cc e in
     let tail : protocol_names ps ≡ protocol_names qs = cc e in
     let rest = slots_alike size a b n ps qs tail in
-    λ i. slot_of size (n i) (head i) ∷ rest i
+    λ i. protocol_slot size (n i) (head i) ∷ rest i
 
 slots_set : (size : ℕ) (ms : List ModuleTree) (k : ℕ) (o m : ModuleTree) → k < length ms → o ≡ get_or ms k o → map (slot_for size) (declared_in o o.protocols) ≡ map (slot_for size) (declared_in m m.protocols) → map (slot_for size) (declarations ms) ≡ map (slot_for size) (declarations (set ms k m))
 slots_set size [] k o m lt at e = absurd (omega (arith, lt))

@@ -9,7 +9,7 @@ use Rattle.scrib_static_checks.specs.SourceView.{body_of}
 use Rattle.scrib_static_checks.specs.Names.{Declaration, called}
 use Rattle.scrib_static_checks.specs.Elaboration.{continues_in}
 use Rattle.scrib_static_checks.specs.Sizes.{Size, size_done, size_sends, size_chooses, size_repeats, size_continues, size_calls, SizeOfBlocks, size_none, size_or}
-use Rattle.scrib_static_checks.specs.SizeFunctions.{Agree, nodes_at, height_at, BlockSize, StatementSize, BlocksSize, BlockHasSize, StatementHasSize, BlocksHaveSize, IsComposed, IsJoined, AreComposed, AreJoined, IsRow, IsEnd}
+use Rattle.scrib_static_checks.specs.SizeFunctions.{Agree, nodes_at, height_at, BlockSize, StatementSize, BlocksSize, BlockHasSize, StatementHasSize, BlocksHaveSize, IsComposed, IsCombined, AreComposed, AreJoined, IsRow, IsEnd}
 
 -- how sizes are combined: 0 changes nothing, and the operation is associative
 pub record Gathers (both : ℕ → ℕ → ℕ) : Type 0 where
@@ -53,7 +53,7 @@ begin_blocks_going cap both ms d whole f gathers end = record {
   completes = λ k. (0, end k, λ t s. subst (λ x. SizeOfBlocks both ms d whole (k + 1) x) (sym (gathers.before t)) s);
 }
 
-step_blocks_going : (cap : ℕ) (both : ℕ → ℕ → ℕ) (ms : List ModuleTree) (d : Declaration) (whole : Blocks) (f g h : ℕ → ℕ) (bs cs : Blocks) (b : Body) (s : Spot) → Gathers both → bs ≡ OrBlock b s cs → IsJoined cap both f g h → BlockSize cap both ms d b g
+step_blocks_going : (cap : ℕ) (both : ℕ → ℕ → ℕ) (ms : List ModuleTree) (d : Declaration) (whole : Blocks) (f g h : ℕ → ℕ) (bs cs : Blocks) (b : Body) (s : Spot) → Gathers both → bs ≡ OrBlock b s cs → IsCombined cap both f g h → BlockSize cap both ms d b g
     → AreGoing cap both ms d whole f bs → AreGoing cap both ms d whole h cs
 step_blocks_going cap both ms d whole f g h bs cs b s gathers is joined block l = record {
   completes =

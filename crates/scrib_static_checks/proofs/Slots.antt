@@ -7,7 +7,7 @@ use Rattle.std.proofs.lemmas.List.{length-set, length-append, length-map}
 use Rattle.std.proofs.lemmas.Option.{slice_get_read}
 use Rattle.std.proofs.lemmas.Slice.Eq.{bytes_eq-Decides}
 use Rattle.scrib_static_checks.specs.declared.declared.Declaration.{Declaration as CodeDeclaration}
-use Rattle.scrib_static_checks.specs.ProtocolIndex.{slot_of, slot_for, IsFirstOf, IsProtocolIndex, IsFilled, IsIndexed, IsTaken}
+use Rattle.scrib_static_checks.specs.ProtocolIndex.{protocol_slot, slot_for, IsFirstOf, IsProtocolIndex, IsFilled, IsIndexed, IsSlotTaken}
 use Rattle.scrib_parser.specs.declared.tree.ModuleTree.{ModuleTree}
 use Rattle.scrib_parser.specs.declared.tree.ProtocolDeclaration.{ProtocolDeclaration}
 use Rattle.scrib_static_checks.specs.Names.{Declaration, declared_in, dotted_eq, first_where, is_called}
@@ -34,7 +34,7 @@ named_slot size c d home name e f t =
     let parts = and_parts (bytes_eq name d.protocol.name) (dotted_eq home d.home.name) t in
     let home_is : d.home.name ≡ c.home.name = sym ((dotted_eq-Decides home d.home.name).0 parts.1) ∙ sym e in
     let name_is : d.protocol.name ≡ c.protocol.name = sym ((bytes_eq-Decides name d.protocol.name).0 parts.0) ∙ sym f in
-    λ i. slot_of size (home_is i) (name_is i)
+    λ i. protocol_slot size (home_is i) (name_is i)
 
 -- what is found through a slot is the first of its name
 pub found_by_slot : (ds : List Declaration) (size s k : ℕ) (home : List (List ℕ)) (name : List ℕ) → IsFirstOf ds size s k → (n : IsNamed ds k home name) → s ≡ slot_for size n.found → IsFound ds (is_called home name) k
@@ -118,7 +118,7 @@ kept_indexed ds size n s k c slots here at there f = record {
         (k, ap (slice_get slots) (sym (at ∙ ap (slot_for size) same)) ∙ there)
 
 -- one more protocol, whether its slot was free or taken
-pub next_indexed : (ds : List Declaration) (size n : ℕ) (c : Declaration) (slots new : List (Option ℕ)) → slice_get ds n ≡ Some c → IsTaken slots n (slot_for (length slots) c) new → IsFilled ds size n slots → IsFilled ds size (n + 1) new
+pub next_indexed : (ds : List Declaration) (size n : ℕ) (c : Declaration) (slots new : List (Option ℕ)) → slice_get ds n ≡ Some c → IsSlotTaken slots n (slot_for (length slots) c) new → IsFilled ds size n slots → IsFilled ds size (n + 1) new
 next_indexed ds size n c slots new here t f =
     let at = ap (λ z. slot_for z c) f.long in
     let s = slot_for (length slots) c in
@@ -143,7 +143,7 @@ none_kept ds slots n e l = absurd (omega (arith, l, ap length e))
 pub read_at : {X : Type 0} (xs : List X) (i : ℕ) (x : X) → i < length xs → x ≡ get_or xs i x → slice_get xs i ≡ Some x
 read_at xs i x l e = slice_get_read xs (length xs) i x refl l e
 
-pub next_declared : (ds : List CodeDeclaration) (size n : ℕ) (c : CodeDeclaration) (slots new : List (Option ℕ)) → n < length ds → c ≡ get_or ds n c → IsTaken slots n (slot_for (length slots) (declaration_of c)) new → IsFilled (shown ds) size n slots → IsFilled (shown ds) size (n + 1) new
+pub next_declared : (ds : List CodeDeclaration) (size n : ℕ) (c : CodeDeclaration) (slots new : List (Option ℕ)) → n < length ds → c ≡ get_or ds n c → IsSlotTaken slots n (slot_for (length slots) (declaration_of c)) new → IsFilled (shown ds) size n slots → IsFilled (shown ds) size (n + 1) new
 next_declared ds size n c slots new l e t f = next_indexed (shown ds) size n (declaration_of c) slots new (there_shown ds n c (read_at ds n c l e)) t f
 
 -- the protocols of one more module
@@ -176,13 +176,13 @@ declared_at home (q ∷ ps) zero p e =
     ap (λ x. Some (record { home = home; protocol = x })) same
 declared_at home (q ∷ ps) (suc i) p e = declared_at home ps i p e
 
-pub next_added : (ds : List Declaration) (home : ModuleTree) (size i place : ℕ) (p : ProtocolDeclaration) (slots new : List (Option ℕ)) → i < length home.protocols → p ≡ get_or home.protocols i p → place ≡ length ds + i → IsTaken slots place (slot_of (length slots) home.name p.name) new
+pub next_added : (ds : List Declaration) (home : ModuleTree) (size i place : ℕ) (p : ProtocolDeclaration) (slots new : List (Option ℕ)) → i < length home.protocols → p ≡ get_or home.protocols i p → place ≡ length ds + i → IsSlotTaken slots place (protocol_slot (length slots) home.name p.name) new
     → IsFilled (ds ++ declared_in home home.protocols) size (length ds + i) slots → IsFilled (ds ++ declared_in home home.protocols) size (length ds + (i + 1)) new
 next_added ds home size i place p slots new l e at t f =
     let es = declared_in home home.protocols in
     let d : Declaration = record { home = home; protocol = p } in
     let here = get_after ds es i d (declared_at home home.protocols i p (read_at home.protocols i p l e)) in
-    let taken = subst (λ z. IsTaken slots z (slot_for (length slots) d) new) at t in
+    let taken = subst (λ z. IsSlotTaken slots z (slot_for (length slots) d) new) at t in
     let more : length ds + i + 1 ≡ length ds + (i + 1) = omega arith in
     subst (λ z. IsFilled (ds ++ es) size z new) more (next_indexed (ds ++ es) size (length ds + i) d slots new here taken f)
 

@@ -173,7 +173,7 @@ pub record IsUnguarded (modules : List ModuleTree) (k : ℕ) (from : Frames) (d 
   pub unguarded : leads_to_communication inner ≡ false
 
 -- a choice of d, and its branch whose opening brace is at this position and whose type is this one
-pub record IsBranch (modules : List ModuleTree) (k : ℕ) (from : Frames) (d : Declaration) (spot : Spot) : Type 0 where
+pub record IsBranchAt (modules : List ModuleTree) (k : ℕ) (from : Frames) (d : Declaration) (spot : Spot) : Type 0 where
   pub chooser : List ℕ
   pub before : Blocks
   pub body : Body
@@ -222,7 +222,7 @@ share_operator (Branch m g bs) cs = has_operator m.op cs || share_operator bs cs
 -- the branch at this position begins with another sender than the chooser
 pub record IsOfAnother (modules : List ModuleTree) (k : ℕ) (from : Frames) (d : Declaration)
     (spot : Spot) : Type 0 where
-  pub branch : IsBranch modules k from d spot
+  pub branch : IsBranchAt modules k from d spot
   pub sender : List ℕ
   pub receiver : List ℕ
   pub branches : GlobalBranches
@@ -232,7 +232,7 @@ pub record IsOfAnother (modules : List ModuleTree) (k : ℕ) (from : Frames) (d 
 -- the branch at this position begins with another receiver than the first one, and both with the chooser as sender
 pub record IsToAnother (modules : List ModuleTree) (k : ℕ) (from : Frames) (d : Declaration)
     (spot : Spot) : Type 0 where
-  pub branch : IsBranch modules k from d spot
+  pub branch : IsBranchAt modules k from d spot
   pub receiver : List ℕ
   pub branches : GlobalBranches
   pub is : branch.type ≡ Comm (role_in branch.scope branch.chooser) receiver branches
@@ -246,7 +246,7 @@ pub record IsToAnother (modules : List ModuleTree) (k : ℕ) (from : Frames) (d 
 -- receiver.
 pub record IsSameOperator (modules : List ModuleTree) (k : ℕ) (from : Frames) (d : Declaration)
     (spot : Spot) : Type 0 where
-  pub branch : IsBranch modules k from d spot
+  pub branch : IsBranchAt modules k from d spot
   pub receiver : List ℕ
   pub branches : GlobalBranches
   pub is : branch.type ≡ Comm (role_in branch.scope branch.chooser) receiver branches
@@ -260,11 +260,11 @@ abbrev pub FailsTyping : FaultKind → (modules : List ModuleTree) (k : ℕ) (fr
     → Type 0
 FailsTyping kind.Unguarded modules k from d spot = IsUnguarded modules k from d spot
 FailsTyping kind.EmptyBranch modules k from d spot =
-    ((b : IsBranch modules k from d spot) × (b.type ≡ GlobalEnd)) ⊎ IsWithoutBranch modules k from d spot
+    ((b : IsBranchAt modules k from d spot) × (b.type ≡ GlobalEnd)) ⊎ IsWithoutBranch modules k from d spot
 FailsTyping kind.ContinueHead modules k from d spot =
-    (b : IsBranch modules k from d spot) × (n : ℕ) × (b.type ≡ GlobalVar n)
+    (b : IsBranchAt modules k from d spot) × (n : ℕ) × (b.type ≡ GlobalVar n)
 FailsTyping kind.RecHead modules k from d spot =
-    (b : IsBranch modules k from d spot) × (g : GlobalTree) × (b.type ≡ GlobalRec g)
+    (b : IsBranchAt modules k from d spot) × (g : GlobalTree) × (b.type ≡ GlobalRec g)
 FailsTyping kind.NotChooser modules k from d spot = IsOfAnother modules k from d spot
 FailsTyping kind.TwoReceivers modules k from d spot = IsToAnother modules k from d spot
 FailsTyping kind.SameOperator modules k from d spot = IsSameOperator modules k from d spot

@@ -1,8 +1,10 @@
 -- The protocol that a call names (this project's own, after the Scribble Language Reference 0.3).
-use Rattle.std.specs.Prelude.{◌≡◌, ℕ, ◌≤◌, Bool, true, ◌&&◌, not, nat_le, List, [], ◌∷◌, ◌++◌, length, map, Option, Some, None, option_and_then, if◌then◌else◌}
+use Rattle.std.specs.Prelude.{◌≡◌, ℕ, ◌≤◌, Bool, true, ◌&&◌, not, nat_le, List, [], ◌∷◌, ◌++◌, length, map, Option, Some, None, option_and_then, if◌then◌else◌, refl}
+use Rattle.std.specs.Bool.{Decides}
 use Rattle.std.specs.List.{list_any}
 use Rattle.std.specs.Cmp.Lexicographic.{pointwise}
 use Rattle.std.specs.Str.{bytes_eq}
+use Rattle.std.proofs.lemmas.Slice.Eq.{bytes_eq-Decides, slice_eq-Decides}
 use Rattle.scrib_types.specs.WellFormed.{distinct_roles}
 use Rattle.scrib_parser.specs.declared.tree.ModuleTree.{ModuleTree}
 use Rattle.scrib_parser.specs.declared.tree.Import.{Import}
@@ -17,6 +19,10 @@ pub record Declaration : Type 0 where
 -- whether the two dotted names are equal
 abbrev pub dotted_eq : List (List ℕ) → List (List ℕ) → Bool
 dotted_eq = pointwise bytes_eq
+
+-- the test decides whether two dotted names are the same
+pub dotted_eq-Decides : (a b : List (List ℕ)) → Decides (dotted_eq a b) (a ≡ b)
+dotted_eq-Decides a b = slice_eq-Decides bytes_eq-Decides a b (dotted_eq a b) refl
 
 -- whether the name is one of these
 abbrev pub has_name : List (List ℕ) → List (List (List ℕ)) → Bool

@@ -13,7 +13,7 @@ abbrev pub undone : Placed → List ModuleTree → List ModuleTree
 undone p modules = back_to p.at p.replaced modules
 
 -- the module is at this place, instead of the one of its name, or at the end, and undoing that restores the old list
-pub record IsPlaced (m : ModuleTree) (before after : List ModuleTree) (p : Placed) : Type 0 where
+pub record IsModulePlaced (m : ModuleTree) (before after : List ModuleTree) (p : Placed) : Type 0 where
   pub put : after ≡ with_module m before
   pub within : p.at < length after
   pub there : (d : ModuleTree) → slice_index_or after p.at d ≡ m

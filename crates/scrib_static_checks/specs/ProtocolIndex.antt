@@ -1,23 +1,16 @@
 -- How an index of declared protocols finds one by name (this project's own). Only contracts of this crate, the
 -- invariant of `Modules`, and private functions of `scrib_elaborate` cite this file.
-use Rattle.std.specs.Prelude.{◌≡◌, ◌≢◌, ◌⊎◌, ℕ, ◌+◌, ◌*◌, ◌%◌, ◌<◌, List, [], ◌∷◌, length, slice_get, slice_set, Option, Some, None}
+use Rattle.std.specs.Prelude.{◌≡◌, ◌≢◌, ◌⊎◌, ℕ, ◌+◌, ◌<◌, List, [], ◌∷◌, length, slice_get, slice_set, Option, Some, None}
+use Rattle.scrib_types.specs.Hashing.{hash_bytes, hash_names, slot_of}
 use Rattle.scrib_static_checks.specs.Names.{Declaration}
 
--- the hash of the bytes, mixed into a number, below 2^32
-abbrev pub mixed : (so_far : ℕ) → List ℕ → ℕ
-mixed h [] = h
-mixed h (b ∷ bs) = mixed ((h * 33 + b) % 4294967296) bs
+-- the slot, out of `size`, of the protocol of this name in the module of this name
+abbrev pub protocol_slot : (size : ℕ) → (home : List (List ℕ)) (name : List ℕ) → ℕ
+protocol_slot size home name = slot_of (hash_names (hash_bytes 0 name) home) size
 
-abbrev pub mixed_all : (so_far : ℕ) → List (List ℕ) → ℕ
-mixed_all h [] = h
-mixed_all h (n ∷ ns) = mixed_all (mixed h n) ns
-
--- the slot of the protocol of this name, in the module of this name
-abbrev pub slot_of : (size : ℕ) → (home : List (List ℕ)) (name : List ℕ) → ℕ
-slot_of size home name = mixed_all (mixed 0 name) home % size
-
+-- the slot, out of `size`, of the declared protocol
 abbrev pub slot_for : (size : ℕ) → Declaration → ℕ
-slot_for size d = slot_of size d.home.name d.protocol.name
+slot_for size d = protocol_slot size d.home.name d.protocol.name
 
 -- no protocol at a smaller index has the slot
 abbrev pub IsFirstOf : List Declaration → (size slot place : ℕ) → Type 0
@@ -41,7 +34,7 @@ abbrev pub IsIndexed : List Declaration → (slots : List (Option ℕ)) → (ind
 IsIndexed ds slots n = 0 < length slots → IsFilled ds (length slots) (length ds) slots × (n ≡ length ds)
 
 -- the slot contains the protocol at this place if it was free, and is unchanged if it was taken
-abbrev pub IsTaken : List (Option ℕ) → (place slot : ℕ) → List (Option ℕ) → Type 0
-IsTaken before k s after =
+abbrev pub IsSlotTaken : List (Option ℕ) → (place slot : ℕ) → List (Option ℕ) → Type 0
+IsSlotTaken before k s after =
     ((slice_get before s ≡ Some None) × (after ≡ slice_set before s (Some k)))
     ⊎ ((o : ℕ) × (slice_get before s ≡ Some (Some o)) × (after ≡ before))

@@ -61,8 +61,8 @@ abbrev pub IsComposed : (cap : ℕ) → (outer inner all : ℕ → ℕ) → Type
 IsComposed cap f g h = (k m n : ℕ) → Agree cap m (g k) → Agree cap n (f m) → Agree cap n (h k)
 
 -- below the cap, the third function combines the first and the second
-abbrev pub IsJoined : (cap : ℕ) → (ℕ → ℕ → ℕ) → (one other all : ℕ → ℕ) → Type 0
-IsJoined cap both f g h = (k m n : ℕ) → Agree cap m (f k) → Agree cap n (g k) → Agree cap (both m n) (h k)
+abbrev pub IsCombined : (cap : ℕ) → (ℕ → ℕ → ℕ) → (one other all : ℕ → ℕ) → Type 0
+IsCombined cap both f g h = (k m n : ℕ) → Agree cap m (f k) → Agree cap n (g k) → Agree cap (both m n) (h k)
 
 -- the third bound is that of the first followed by the second
 pub record AreComposed (outer inner all : SizeBound) : Type 0 where
@@ -71,8 +71,8 @@ pub record AreComposed (outer inner all : SizeBound) : Type 0 where
 
 -- the third bound is that of the first beside the second
 pub record AreJoined (one other all : SizeBound) : Type 0 where
-  pub nodes : IsJoined 65536 ◌+◌ (nodes_at one.nodes) (nodes_at other.nodes) (nodes_at all.nodes)
-  pub height : IsJoined 4096 max (height_at one.height) (height_at other.height) (height_at all.height)
+  pub nodes : IsCombined 65536 ◌+◌ (nodes_at one.nodes) (nodes_at other.nodes) (nodes_at all.nodes)
+  pub height : IsCombined 4096 max (height_at one.height) (height_at other.height) (height_at all.height)
 
 -- so many nodes one under another, and a node that nothing follows
 

@@ -35,6 +35,14 @@ pub struct EnclosingRec<'a> {
     pub name: &'a Name,
 }
 
+/// The modules, all their declared protocols in order, and the index of these by name.
+#[derive(Clone, Copy, Drop)]
+pub struct SymbolTable<'a, 'k> {
+    pub modules: &'a [ModuleTree],
+    pub declared: &'k [Declaration<'a>],
+    pub protocol_index: &'k ProtocolIndex,
+}
+
 /// The protocol whose statements are checked, with all declared protocols of the modules, their index and the states of
 /// the walk.
 #[derive(Clone, Copy, Drop)]

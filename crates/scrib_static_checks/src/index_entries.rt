@@ -1,21 +1,22 @@
 //! How an index of declared protocols is filled and searched. Its slots have a file of their own, because
 //! specifications refer to them.
 
-ghost use Rattle.std.specs.Prelude.{◌≡◌, ◌<◌, ◌^◌, length, IsTrue};
+ghost use Rattle.std.specs.Prelude.{◌≡◌, ◌<◌, length, IsTrue};
 ghost use Rattle.scrib_static_checks.specs.ProtocolIndex as spec;
 ghost use Rattle.scrib_static_checks.specs.Table.{shown, IsNamed};
 
 use crate::declared::{Declaration, find};
 use crate::names::same_name;
-use crate::protocol_index::{ProtocolIndex, empty, slot_of};
+use crate::protocol_index::{ProtocolIndex, protocol_slot};
 use scrib_parser::tree::ModuleTree;
+use scrib_types::hashing::empty_slots;
 use scrib_types::name::{Dotted, Name};
 use std::alloc::{AllocError, Global};
 
 /// The largest number of protocols that an index has slots for.
 const MAX_INDEXED: usize = 65_536;
 
-/// The slots of a new index for each protocol. An index with fewer than half as many is crowded.
+/// The least number of slots of a new index for each protocol. An index with fewer than half as many is crowded.
 const SLOTS_EACH: usize = 32;
 
 impl ProtocolIndex {
@@ -31,8 +32,9 @@ impl ProtocolIndex {
     pub fn new(alloc: Global, declared: &[Declaration]) -> Result<ProtocolIndex, AllocError>
         ensures { IfOk result (λ d. spec.IsIndexed (shown declared.now) d.slots.items d.indexed) }
     {
-        let size = declared.len().min(MAX_INDEXED) * SLOTS_EACH + 1;
-        let mut slots = empty(alloc, size)?;
+        let least = declared.len().min(MAX_INDEXED) * SLOTS_EACH + 1;
+        let size = least.next_power_of_two();
+        let mut slots = empty_slots(alloc, size)?;
         for (place, one) in declared.iter().enumerate() {
             take_slot(&mut slots, place, &one.home.name, &one.protocol.name);
         }
@@ -74,7 +76,7 @@ impl ProtocolIndex {
         if size == 0 {
             return find(declared, home, name);
         }
-        let slot = slot_of(size, home, name);
+        let slot = protocol_slot(size, home, name);
         if let Some(place) = self.slots[slot] {
             if is_named(declared, place, home, name) {
                 return Some(place);
@@ -86,13 +88,12 @@ impl ProtocolIndex {
 
 // Writes the index of this protocol to its slot, if the slot is free.
 fn take_slot(slots: &mut Vec<Option<usize>>, place: usize, home: &Dotted, name: &Name)
-    requires some { 0 < length slots.old.items }
-    requires few { length slots.old.items < 2 ^ 48 }
+    requires { 0 < length slots.old.items }
     ensures long { length slots.new.items ≡ length slots.old.items }
-    ensures taken { spec.IsTaken slots.old.items place (spec.slot_of (length slots.old.items) home.now name.now)
+    ensures taken { spec.IsSlotTaken slots.old.items place (spec.protocol_slot (length slots.old.items) home.now name.now)
         slots.new.items }
 {
-    let slot = slot_of(slots.len(), home, name);
+    let slot = protocol_slot(slots.len(), home, name);
     if slots[slot].is_none() {
         slots[slot] = Some(place);
     }

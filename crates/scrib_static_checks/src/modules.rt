@@ -5,7 +5,7 @@ ghost use Rattle.scrib_parser.specs.declared.tree.ModuleTree as parsed;
 ghost use Rattle.scrib_static_checks.specs.Names.{has_name, module_names, protocol_names, declarations, with_module, has_checked_names};
 ghost use Rattle.scrib_static_checks.specs.ProtocolIndex.{IsProtocolIndex, IsIndexed};
 ghost use Rattle.scrib_static_checks.specs.Table.{IsPlace};
-ghost use Rattle.scrib_static_checks.specs.Placed.{IsPlaced, undone};
+ghost use Rattle.scrib_static_checks.specs.Placed.{IsModulePlaced, undone};
 
 use crate::declared::all_declared;
 use crate::names::same_name;
@@ -86,7 +86,7 @@ impl Modules {
     /// # Errors
     /// `AllocError` where memory for one more was refused. The modules are unchanged then.
     pub fn put(&mut self, tree: ModuleTree) -> Result<Placed, AllocError>
-        ensures ok { IfOk result (IsPlaced tree self.old self.new) }
+        ensures ok { IfOk result (IsModulePlaced tree self.old self.new) }
         ensures err { OnErr result (self.new ≡ self.old) }
     {
         let place = self.place_of(&tree.name);
@@ -104,7 +104,7 @@ impl Modules {
         tree: ModuleTree,
     ) -> Result<Placed, AllocError>
         requires { MatchOption place (has_name tree.name (module_names self.old) ≡ false) (IsPlace self.old tree.name) }
-        ensures ok { IfOk result (IsPlaced tree self.old self.new) }
+        ensures ok { IfOk result (IsModulePlaced tree self.old self.new) }
         ensures err { OnErr result (self.new ≡ self.old) }
     {
         match place {

@@ -6,7 +6,7 @@ ghost use Rattle.scrib_static_checks.specs.Names.{dotted_eq, has_name, module_na
 ghost use Rattle.scrib_static_checks.specs.Statements.{are_roles};
 
 use scrib_parser::tree::{ModuleTree, RoleDeclaration};
-use scrib_types::name::{Dotted, Name, Role};
+use scrib_types::name::{Dotted, Name, Role, names_equal};
 
 /// Returns whether the two are equal.
 pub fn same_name(a: &Dotted, b: &Dotted) -> bool
@@ -19,15 +19,7 @@ pub fn same_name(a: &Dotted, b: &Dotted) -> bool
 pub fn same_names(a: &[Name], b: &[Name]) -> bool
     ensures { result ≡ dotted_eq a.now b.now }
 {
-    if a.len() != b.len() {
-        return false;
-    }
-    for i in 0..a.len() {
-        if !a[i].equal(&b[i]) {
-            return false;
-        }
-    }
-    true
+    names_equal(a, b)
 }
 
 /// Returns whether there is a module of this name.

@@ -2,6 +2,7 @@
 
 ghost use Rattle.std.specs.Prelude.{◌≤◌};
 ghost use Rattle.std.specs.Option.{ForSome};
+ghost use Rattle.scrib_static_checks.specs.declared.size_bound.TheConstants.{MAX_NODES, MAX_HEIGHT};
 
 /// The largest number of nodes of a global type.
 pub const MAX_NODES: usize = 65_536;
@@ -15,18 +16,18 @@ pub const MAX_HEIGHT: usize = 4_096;
 pub struct NodeCount {
     pub base: usize,
     pub times: usize,
-    pub ghost base_small: { base ≤ 65536 },
-    pub ghost times_small: { times ≤ 65536 },
+    pub ghost base_small: { base ≤ MAX_NODES },
+    pub ghost times_small: { times ≤ MAX_NODES },
 }
 
 impl NodeCount {
     ghost use Rattle.std.specs.Prelude.{◌≡◌, ◌+◌, min};
-    ghost use Rattle.scrib_static_checks.specs.SizeFunctions.{nodes_at, IsComposed, IsJoined};
+    ghost use Rattle.scrib_static_checks.specs.SizeFunctions.{nodes_at, IsComposed, IsCombined};
 
     /// Returns this count with each number capped at 65,536.
     pub fn new(base: usize, times: usize) -> NodeCount
-        ensures base { result.base ≡ min 65536 base }
-        ensures times { result.times ≡ min 65536 times }
+        ensures base { result.base ≡ min MAX_NODES base }
+        ensures times { result.times ≡ min MAX_NODES times }
     {
         NodeCount {
             base: base.min(MAX_NODES),
@@ -36,7 +37,7 @@ impl NodeCount {
 
     /// Returns the count of `self` followed by something of the count `inner`.
     pub fn compose(self, inner: NodeCount) -> NodeCount
-        ensures { IsComposed 65536 (nodes_at self) (nodes_at inner) (nodes_at result) }
+        ensures { IsComposed MAX_NODES (nodes_at self) (nodes_at inner) (nodes_at result) }
     {
         NodeCount::new(
             self.base + self.times * inner.base,
@@ -46,7 +47,7 @@ impl NodeCount {
 
     /// Returns the sum of the counts of two blocks.
     pub fn sum(self, other: NodeCount) -> NodeCount
-        ensures { IsJoined 65536 ◌+◌ (nodes_at self) (nodes_at other) (nodes_at result) }
+        ensures { IsCombined MAX_NODES ◌+◌ (nodes_at self) (nodes_at other) (nodes_at result) }
     {
         NodeCount::new(self.base + other.base, self.times + other.times)
     }
@@ -58,19 +59,19 @@ impl NodeCount {
 pub struct Height {
     pub deepest: usize,
     pub through: Option<usize>,
-    pub ghost deepest_small: { deepest ≤ 4096 },
-    pub ghost through_small: { ForSome through (λ t. t ≤ 4096) },
+    pub ghost deepest_small: { deepest ≤ MAX_HEIGHT },
+    pub ghost through_small: { ForSome through (λ t. t ≤ MAX_HEIGHT) },
 }
 
 impl Height {
     ghost use Rattle.std.specs.Prelude.{◌≡◌, ℕ, min, max};
     ghost use Rattle.std.specs.Option.{option_map};
-    ghost use Rattle.scrib_static_checks.specs.SizeFunctions.{passed, height_at, IsComposed, IsJoined};
+    ghost use Rattle.scrib_static_checks.specs.SizeFunctions.{passed, height_at, IsComposed, IsCombined};
 
     /// Returns this height with each number capped at 4,096.
     pub fn new(deepest: usize, through: Option<usize>) -> Height
-        ensures deepest { result.deepest ≡ min 4096 deepest }
-        ensures through { result.through ≡ option_map (min 4096) through }
+        ensures deepest { result.deepest ≡ min MAX_HEIGHT deepest }
+        ensures through { result.through ≡ option_map (min MAX_HEIGHT) through }
     {
         Height {
             deepest: deepest.min(MAX_HEIGHT),
@@ -80,7 +81,7 @@ impl Height {
 
     /// Returns the height of `self` followed by something of the height `inner`.
     pub fn compose(self, inner: Height) -> Height
-        ensures { IsComposed 4096 (height_at self) (height_at inner) (height_at result) }
+        ensures { IsComposed MAX_HEIGHT (height_at self) (height_at inner) (height_at result) }
     {
         let Some(through) = self.through else {
             return self;
@@ -94,7 +95,7 @@ impl Height {
 
     /// Returns the greater of the two.
     pub fn greater(self, other: Height) -> Height
-        ensures { IsJoined 4096 max (height_at self) (height_at other) (height_at result) }
+        ensures { IsCombined MAX_HEIGHT max (height_at self) (height_at other) (height_at result) }
     {
         Height::new(
             self.deepest.max(other.deepest),

@@ -9,11 +9,10 @@ ghost use Rattle.scrib_static_checks.specs.Walking.{AreUnwalked, IsEntered, Ente
 ghost use Rattle.scrib_parser.specs.declared.tree.ModuleTree.{ModuleTree};
 
 use crate::block_effects::block_effect;
-use crate::checking::{BrokenRule, CheckContext, CheckError, State, Summary};
+use crate::checking::{BrokenRule, CheckContext, CheckError, State, Summary, SymbolTable};
 use crate::declared::Declaration;
 use crate::fault::{ElaborateFault, Fault, FaultKind};
 use crate::own_names::check_own_names;
-use crate::protocol_index::ProtocolIndex;
 use crate::size::size_block;
 use crate::statements::check_block;
 use scrib_parser::tree::ModuleTree;
@@ -26,33 +25,23 @@ use std::alloc::{AllocError, Global};
 /// # Errors
 /// `Broken` with the first rule that is broken, the module's name and the position. `OutOfMemory` where memory was
 /// refused.
-pub fn walk<'a>(
+pub fn walk(
     alloc: Global,
-    modules: &'a [ModuleTree],
-    declared: &'a [Declaration<'a>],
-    protocol_index: &'a ProtocolIndex,
+    table: &SymbolTable,
     root: usize,
     states: &mut Vec<State>,
     walked: &mut Vec<usize>,
 ) -> Result<(), ElaborateFault>
-    requires all { shown declared.now ≡ declarations modules.now }
-    requires indexed { IsProtocolIndex (shown declared.now) protocol_index.now.slots.items }
-    requires names_checked { All HasCheckedNames declared.now }
-    requires there { root < length declared.now }
-    requires idle { IsIdle modules.now (shown declared.now) states.old.items }
-    ensures ok { OnOk result (WasWalked modules.now (shown declared.now) states.new.items root) }
-    ensures idle { IsIdle modules.now (shown declared.now) states.new.items }
-    ensures fault { IfErr result (WalkFails modules.now (shown declared.now) root) }
+    requires all { shown table.now.declared.now ≡ declarations table.now.modules.now }
+    requires indexed { IsProtocolIndex (shown table.now.declared.now) table.now.protocol_index.now.slots.items }
+    requires names_checked { All HasCheckedNames table.now.declared.now }
+    requires there { root < length table.now.declared.now }
+    requires idle { IsIdle table.now.modules.now (shown table.now.declared.now) states.old.items }
+    ensures ok { OnOk result (WasWalked table.now.modules.now (shown table.now.declared.now) states.new.items root) }
+    ensures idle { IsIdle table.now.modules.now (shown table.now.declared.now) states.new.items }
+    ensures fault { IfErr result (WalkFails table.now.modules.now (shown table.now.declared.now) root) }
 {
-    match walk_from(
-        alloc,
-        modules,
-        declared,
-        protocol_index,
-        root,
-        states,
-        walked,
-    ) {
+    match walk_from(alloc, table, root, states, walked) {
         Ok(()) => Ok(()),
         Err(fault) => {
             reset(states);
@@ -64,37 +53,38 @@ pub fn walk<'a>(
 // `stack` contains the protocols that the walk has entered and not left. Where a protocol calls one that was not
 // walked, the walk enters that one. Then it checks the first again from its beginning. So a protocol is checked once
 // more for each other that is first entered from it.
-fn walk_from<'a>(
+fn walk_from(
     alloc: Global,
-    modules: &'a [ModuleTree],
-    declared: &'a [Declaration<'a>],
-    protocol_index: &'a ProtocolIndex,
+    table: &SymbolTable,
     root: usize,
     states: &mut Vec<State>,
     walked: &mut Vec<usize>,
 ) -> Result<(), ElaborateFault>
-    requires all { shown declared.now ≡ declarations modules.now }
-    requires indexed { IsProtocolIndex (shown declared.now) protocol_index.now.slots.items }
-    requires names_checked { All HasCheckedNames declared.now }
-    requires there { root < length declared.now }
-    requires idle { IsIdle modules.now (shown declared.now) states.old.items }
-    ensures ok { OnOk result (WasWalked modules.now (shown declared.now) states.new.items root) }
-    ensures idle { OnOk result (IsIdle modules.now (shown declared.now) states.new.items) }
-    ensures long { length states.new.items ≡ length declared.now }
-    ensures fault { IfErr result (WalkFails modules.now (shown declared.now) root) }
+    requires all { shown table.now.declared.now ≡ declarations table.now.modules.now }
+    requires indexed { IsProtocolIndex (shown table.now.declared.now) table.now.protocol_index.now.slots.items }
+    requires names_checked { All HasCheckedNames table.now.declared.now }
+    requires there { root < length table.now.declared.now }
+    requires idle { IsIdle table.now.modules.now (shown table.now.declared.now) states.old.items }
+    ensures ok { OnOk result (WasWalked table.now.modules.now (shown table.now.declared.now) states.new.items root) }
+    ensures idle { OnOk result (IsIdle table.now.modules.now (shown table.now.declared.now) states.new.items) }
+    ensures long { length states.new.items ≡ length table.now.declared.now }
+    ensures fault { IfErr result (WalkFails table.now.modules.now (shown table.now.declared.now) root) }
 {
+    let SymbolTable {
+        modules,
+        declared,
+        protocol_index,
+    } = *table;
     let mut stack = Vec::new(alloc);
     let first = declared[root];
     enter(alloc, first, root, states, &mut stack)?;
     while let Some(top) = stack.pop() {
-        match check(
-            alloc,
-            &*modules,
-            &*declared,
-            &*protocol_index,
-            &*states,
-            top,
-        ) {
+        let table = SymbolTable {
+            modules: &*modules,
+            declared: &*declared,
+            protocol_index: &*protocol_index,
+        };
+        match check(alloc, &table, &*states, top) {
             Ok(summary) => {
                 walked.push(top)?;
                 states[top] = State::Walked(summary);
@@ -162,19 +152,22 @@ pub fn check_size(
 // Checks the statements of the protocol at this index, and computes its size and its effect.
 fn check<'a>(
     alloc: Global,
-    modules: &'a [ModuleTree],
-    declared: &'a [Declaration<'a>],
-    protocol_index: &'a ProtocolIndex,
+    table: &SymbolTable<'a, 'a>,
     states: &'a [State],
     top: usize,
 ) -> Result<Summary, CheckError>
-    requires ready { IsReady modules.now declared.now states.now top }
-    requires indexed { IsProtocolIndex (shown declared.now) protocol_index.now.slots.items }
-    requires there { top < length declared.now }
+    requires ready { IsReady table.now.modules.now table.now.declared.now states.now top }
+    requires indexed { IsProtocolIndex (shown table.now.declared.now) table.now.protocol_index.now.slots.items }
+    requires there { top < length table.now.declared.now }
     ensures { MatchResult result
-        (TopKeeps modules.now (shown declared.now) top)
-        (TopStops modules.now (shown declared.now) states.now top) }
+        (TopKeeps table.now.modules.now (shown table.now.declared.now) top)
+        (TopStops table.now.modules.now (shown table.now.declared.now) states.now top) }
 {
+    let SymbolTable {
+        modules,
+        declared,
+        protocol_index,
+    } = *table;
     let at = declared[top];
     let context = CheckContext {
         modules,

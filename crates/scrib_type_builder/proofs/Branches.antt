@@ -4,7 +4,7 @@ use Rattle.std.proofs.lemmas.List.{take_more}
 use Rattle.scrib_types.specs.declared.message.Message.{Message}
 use Rattle.scrib_types.specs.declared.global.GlobalType as global
 use Rattle.scrib_types.specs.declared.global.GlobalType.{GlobalType}
-use Rattle.scrib_types.specs.GlobalView.{global_of, global_branches, comm_of}
+use Rattle.scrib_types.specs.GlobalView.{global_of, global_branches, global_comm}
 use Rattle.scrib_types.specs.Trees.{GlobalTree, Comm, GlobalBranches, NoBranch, Branch}
 use Rattle.scrib_static_checks.specs.Elaboration.{and_branches}
 use Rattle.scrib_type_builder.specs.Shifting.{shifted, branches_shifted}
@@ -43,4 +43,4 @@ renamed_more f = changed_more (renamed f) (branches_renamed f) (λ bs m g. renam
 -- a communication with one branch
 pub global_of-one_branch : (p q r s : List ℕ) (m n : Message) (g : GlobalType) (bs : List (Message × GlobalType)) → r ≡ p → s ≡ q → n ≡ m → bs ≡ (n, g) ∷ [] → global_of (global.Comm r s bs) ≡ Comm p q (Branch m (global_of g) NoBranch)
 global_of-one_branch p q r s m n g bs e f k h =
-    ap (λ cs. global_of (global.Comm r s cs)) h ∙ comm_of r s ((n, g) ∷ []) ∙ (λ i. Comm (e i) (f i) (Branch (k i) (global_of g) NoBranch))
+    ap (λ cs. global_of (global.Comm r s cs)) h ∙ global_comm r s ((n, g) ∷ []) ∙ (λ i. Comm (e i) (f i) (Branch (k i) (global_of g) NoBranch))

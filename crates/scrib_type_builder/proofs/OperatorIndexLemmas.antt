@@ -11,7 +11,7 @@ use Rattle.scrib_types.specs.GlobalView.{global_branches}
 use Rattle.scrib_types.specs.Trees.{GlobalTree, GlobalBranches, NoBranch, Branch}
 use Rattle.scrib_types.specs.WellFormed.{has_operator, same_operator}
 use Rattle.scrib_static_checks.specs.Faults.{share_operator}
-use Rattle.scrib_type_builder.specs.Operators.{slot_of, IsLatest, AreChained, AreIndexed}
+use Rattle.scrib_type_builder.specs.Operators.{operator_slot, IsLatest, AreChained, AreIndexed}
 use Rattle.scrib_static_checks.proofs.Slots.{empty_slot, last_or_before, get_before}
 use Rattle.scrib_static_checks.proofs.Walks.{get_either, get_set}
 
@@ -37,11 +37,11 @@ same_sym a b =
     alike (same_operator a b) (same_operator b a) (λ e. subst (λ x. same_operator x a ≡ true) (same_names a b e) (same_itself a)) (λ e. subst (λ x. same_operator x b ≡ true) (same_names b a e) (same_itself b))
 
 -- the operators of two slots differ
-slots_differ : (size s : ℕ) (a b : Option (List ℕ)) → slot_of size a ≡ s → slot_of size b ≢ s → same_operator a b ≡ false
+slots_differ : (size s : ℕ) (a b : Option (List ℕ)) → operator_slot size a ≡ s → operator_slot size b ≢ s → same_operator a b ≡ false
 slots_differ size s a b e ne = case (same_operator a b) refl
   where
     case : (t : Bool) → same_operator a b ≡ t → same_operator a b ≡ false
-    case true h = absurd (ne (ap (slot_of size) (sym (same_names a b h)) ∙ e))
+    case true h = absurd (ne (ap (operator_slot size) (sym (same_names a b h)) ∙ e))
     case false h = h
 
 -- an operator in common
@@ -110,28 +110,28 @@ chained_more bs cs latest earlier c =
       within = omega (arith, count, length-append bs cs);
       counted = refl;
       last = λ s o h. latest_more bs cs size s (length earlier) o (omega (arith, count)) (subst (λ n. IsLatest bs size s n o) (sym count) (c.last s o h));
-      linked = λ i b o h k. let low : i < length bs = omega (arith, slice_get_within earlier i o k, count) in latest_more bs cs size (slot_of size b.0.op) i o (omega (arith, low)) (c.linked i b o (get_before bs cs i b low h) k);
+      linked = λ i b o h k. let low : i < length bs = omega (arith, slice_get_within earlier i o k, count) in latest_more bs cs size (operator_slot size b.0.op) i o (omega (arith, low)) (c.linked i b o (get_before bs cs i b low h) k);
     }
 
-other_slot : (bs : List (Message × GlobalType)) (size s n : ℕ) (b : Message × GlobalType) → slice_get bs n ≡ Some b → slot_of size b.0.op ≢ s → (j : ℕ) (d : Message × GlobalType) → slice_get bs j ≡ Some d → j ≡ n → slot_of size d.0.op ≢ s
+other_slot : (bs : List (Message × GlobalType)) (size s n : ℕ) (b : Message × GlobalType) → slice_get bs n ≡ Some b → operator_slot size b.0.op ≢ s → (j : ℕ) (d : Message × GlobalType) → slice_get bs j ≡ Some d → j ≡ n → operator_slot size d.0.op ≢ s
 other_slot bs size s n b here ne j d e x same =
     let both : slice_get bs n ≡ Some d = ap (slice_get bs) (sym x) ∙ e in
     let is : b ≡ d = cc (here, both) in
-    ne (ap (λ (y : Message × GlobalType). slot_of size y.0.op) is ∙ same)
+    ne (ap (λ (y : Message × GlobalType). operator_slot size y.0.op) is ∙ same)
 
-latest_past : (bs : List (Message × GlobalType)) (size s n : ℕ) (b : Message × GlobalType) (o : Option ℕ) → slice_get bs n ≡ Some b → slot_of size b.0.op ≢ s → IsLatest bs size s n o → IsLatest bs size s (n + 1) o
+latest_past : (bs : List (Message × GlobalType)) (size s n : ℕ) (b : Message × GlobalType) (o : Option ℕ) → slice_get bs n ≡ Some b → operator_slot size b.0.op ≢ s → IsLatest bs size s n o → IsLatest bs size s (n + 1) o
 latest_past bs size s n b None here ne f =
     λ j d e l. ⊎_elim (λ x. f j d e x) (λ x. other_slot bs size s n b here ne j d e x) (last_or_before j n l)
 latest_past bs size s n b (Some k) here ne f =
     let low : k < n = f.0 in
     (omega (arith, low), f.1, λ j d e a l. ⊎_elim (λ x. f.2 j d e a x) (λ x. other_slot bs size s n b here ne j d e x) (last_or_before j n l))
 
-latest_here : (bs : List (Message × GlobalType)) (size s n : ℕ) (b : Message × GlobalType) → slice_get bs n ≡ Some b → slot_of size b.0.op ≡ s → IsLatest bs size s (n + 1) (Some n)
+latest_here : (bs : List (Message × GlobalType)) (size s n : ℕ) (b : Message × GlobalType) → slice_get bs n ≡ Some b → operator_slot size b.0.op ≡ s → IsLatest bs size s (n + 1) (Some n)
 latest_here bs size s n b here at =
-    (omega arith, λ d e. let is : b ≡ d = cc (here, e) in ap (λ (y : Message × GlobalType). slot_of size y.0.op) (sym is) ∙ at, λ j d e a l. absurd (omega (arith, a, l)))
+    (omega arith, λ d e. let is : b ≡ d = cc (here, e) in ap (λ (y : Message × GlobalType). operator_slot size y.0.op) (sym is) ∙ at, λ j d e a l. absurd (omega (arith, a, l)))
 
 -- one more branch is added to the index
-pub next_chained : (bs : List (Message × GlobalType)) (n s : ℕ) (b : Message × GlobalType) (o : Option ℕ) (latest earlier : List (Option ℕ)) → slice_get bs n ≡ Some b → s ≡ slot_of (length latest) b.0.op → slice_get latest s ≡ Some o
+pub next_chained : (bs : List (Message × GlobalType)) (n s : ℕ) (b : Message × GlobalType) (o : Option ℕ) (latest earlier : List (Option ℕ)) → slice_get bs n ≡ Some b → s ≡ operator_slot (length latest) b.0.op → slice_get latest s ≡ Some o
     → AreChained bs n latest earlier → AreChained bs (n + 1) (set latest s (Some n)) (earlier ++ o ∷ [])
 next_chained bs n s b o latest earlier here at there c = record {
   within = omega (arith, slice_get_within bs n b here);
@@ -139,7 +139,7 @@ next_chained bs n s b o latest earlier here at there c = record {
   last =
       λ p q h. subst (λ z. IsLatest bs z p (n + 1) q) (sym long) (⊎_elim (λ x. fresh p q x.0 x.1) (λ x. kept p q x.0 x.1) (get_set latest s (Some n) p q h));
   linked =
-      λ i d q f h. subst (λ z. IsLatest bs z (slot_of z d.0.op) i q) (sym long) (⊎_elim (λ x. c.linked i d q f x) (λ x. pushed i d q f x.0 x.1) (get_either earlier o q i h));
+      λ i d q f h. subst (λ z. IsLatest bs z (operator_slot z d.0.op) i q) (sym long) (⊎_elim (λ x. c.linked i d q f x) (λ x. pushed i d q f x.0 x.1) (get_either earlier o q i h));
 }
   where
     long : length (set latest s (Some n)) ≡ length latest
@@ -151,13 +151,13 @@ next_chained bs n s b o latest earlier here at there c = record {
     kept : (p : ℕ) (q : Option ℕ) → p ≢ s → slice_get latest p ≡ Some q → IsLatest bs (length latest) p (n + 1) q
     kept p q ne e = latest_past bs (length latest) p n b q here (λ same. ne (sym same ∙ sym at)) (c.last p q e)
 
-    pushed : (i : ℕ) (d : Message × GlobalType) (q : Option ℕ) → slice_get bs i ≡ Some d → i ≡ length earlier → o ≡ q → IsLatest bs (length latest) (slot_of (length latest) d.0.op) i q
+    pushed : (i : ℕ) (d : Message × GlobalType) (q : Option ℕ) → slice_get bs i ≡ Some d → i ≡ length earlier → o ≡ q → IsLatest bs (length latest) (operator_slot (length latest) d.0.op) i q
     pushed i d q f e g =
         let last : i ≡ n = e ∙ c.counted in
         let both : slice_get bs n ≡ Some d = ap (slice_get bs) (sym last) ∙ f in
         let is : b ≡ d = cc (here, both) in
-        let slot : s ≡ slot_of (length latest) d.0.op = at ∙ ap (λ (y : Message × GlobalType). slot_of (length latest) y.0.op) is in
-        subst (λ z. IsLatest bs (length latest) (slot_of (length latest) d.0.op) z q) (sym last) (subst (λ z. IsLatest bs (length latest) z n q) slot (subst (λ z. IsLatest bs (length latest) s n z) g (c.last s o there)))
+        let slot : s ≡ operator_slot (length latest) d.0.op = at ∙ ap (λ (y : Message × GlobalType). operator_slot (length latest) y.0.op) is in
+        subst (λ z. IsLatest bs (length latest) (operator_slot (length latest) d.0.op) z q) (sym last) (subst (λ z. IsLatest bs (length latest) z n q) slot (subst (λ z. IsLatest bs (length latest) s n z) g (c.last s o there)))
 
 -- the search from the last branch of a slot to the first
 
@@ -165,10 +165,10 @@ next_chained bs n s b o latest earlier here at there c = record {
 pub record IsPassed (bs : List (Message × GlobalType)) (size : ℕ) (op : Option (List ℕ)) (next : Option ℕ) : Type 0 where
   pub before : ℕ
   pub within : before ≤ length bs
-  pub latest : IsLatest bs size (slot_of size op) before next
+  pub latest : IsLatest bs size (operator_slot size op) before next
   pub others : (j : ℕ) (b : Message × GlobalType) → slice_get bs j ≡ Some b → before ≤ j → same_operator op b.0.op ≡ false
 
-pub walk_begins : (bs : List (Message × GlobalType)) (op : Option (List ℕ)) (s : ℕ) (o : Option ℕ) (latest earlier : List (Option ℕ)) → AreChained bs (length bs) latest earlier → s ≡ slot_of (length latest) op → slice_get latest s ≡ Some o → IsPassed bs (length latest) op o
+pub walk_begins : (bs : List (Message × GlobalType)) (op : Option (List ℕ)) (s : ℕ) (o : Option ℕ) (latest earlier : List (Option ℕ)) → AreChained bs (length bs) latest earlier → s ≡ operator_slot (length latest) op → slice_get latest s ≡ Some o → IsPassed bs (length latest) op o
 walk_begins bs op s o latest earlier c at there = record {
   before = length bs;
   within = omega arith;
@@ -195,7 +195,7 @@ walk_goes bs k b op o latest earlier c here there ne w = record {
   where
     within : (j : ℕ) (d : Message × GlobalType) → slice_get bs j ≡ Some d → k < j → (leb w.before j ≡ true) ⊎ (leb w.before j ≡ false) → same_operator op d.0.op ≡ false
     within j d e l t =
-        ⊎_elim (λ h. w.others j d e (leb-true w.before j h)) (λ h. slots_differ (length latest) (slot_of (length latest) op) op d.0.op refl (w.latest.2 j d e l (leb-false w.before j h))) t
+        ⊎_elim (λ h. w.others j d e (leb-true w.before j h)) (λ h. slots_differ (length latest) (operator_slot (length latest) op) op d.0.op refl (w.latest.2 j d e l (leb-false w.before j h))) t
 
     either : (t : Bool) → (t ≡ true) ⊎ (t ≡ false)
     either true = inl refl
@@ -209,7 +209,7 @@ walk_goes bs k b op o latest earlier c here there ne w = record {
 pub walk_shrinks : (bs : List (Message × GlobalType)) (k : ℕ) (b : Message × GlobalType) (o : Option ℕ) (latest earlier : List (Option ℕ)) → AreChained bs (length bs) latest earlier → slice_get bs k ≡ Some b → slice_get earlier k ≡ Some o → place_of o < k + 1
 walk_shrinks bs k b o latest earlier c here there = below o (c.linked k b o here there)
   where
-    below : (o : Option ℕ) → IsLatest bs (length latest) (slot_of (length latest) b.0.op) k o → place_of o < k + 1
+    below : (o : Option ℕ) → IsLatest bs (length latest) (operator_slot (length latest) b.0.op) k o → place_of o < k + 1
     below None f = omega arith
     below (Some p) f = let low : p < k = f.0 in omega (arith, low)
 
@@ -218,4 +218,4 @@ walk_ends bs size op w = has_none op bs (λ j b e. from j b e (leb w.before j) r
   where
     from : (j : ℕ) (b : Message × GlobalType) → slice_get bs j ≡ Some b → (t : Bool) → leb w.before j ≡ t → same_operator op b.0.op ≡ false
     from j b e true h = w.others j b e (leb-true w.before j h)
-    from j b e false h = slots_differ size (slot_of size op) op b.0.op refl (w.latest j b e (leb-false w.before j h))
+    from j b e false h = slots_differ size (operator_slot size op) op b.0.op refl (w.latest j b e (leb-false w.before j h))

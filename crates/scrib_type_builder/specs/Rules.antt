@@ -21,10 +21,10 @@ pub record IsClosed (body t : BuiltType) : Type 0 where
   pub origins : t.origins.items ≡ body.origins.items
 
 -- the body does not, and the error has this position, or memory was refused
-abbrev pub IsUnguarded : ModuleTree → Spot → (body : GlobalTree) → BuildError → Type 0
-IsUnguarded home spot g (Broken h b) =
+abbrev pub IsUnguardedBody : ModuleTree → Spot → (body : GlobalTree) → BuildError → Type 0
+IsUnguardedBody home spot g (Broken h b) =
     (h.now ≡ home) × (b.spot ≡ spot) × (b.kind ≡ kind.Unguarded) × (leads_to_communication g ≡ false)
-IsUnguarded home spot g OutOfMemory = Unit {0}
+IsUnguardedBody home spot g OutOfMemory = Unit {0}
 
 -- there is no receiver so far, or it is this one
 abbrev pub IsFirst : Option (List ℕ) → List ℕ → Type 0

@@ -9,7 +9,7 @@ ghost use Rattle.scrib_static_checks.specs.Elaboration.{given_for, prefix_messag
 ghost use Rattle.scrib_type_builder.specs.Shifting.{shifted};
 ghost use Rattle.scrib_type_builder.specs.Renaming.{renamed, named};
 ghost use Rattle.scrib_type_builder.specs.BuiltType.{type_of, add_no_origins, with_origin};
-ghost use Rattle.scrib_type_builder.specs.Rules.{IsClosed, IsUnguarded};
+ghost use Rattle.scrib_type_builder.specs.Rules.{IsClosed, IsUnguardedBody};
 
 use crate::build_error::{BuildError, Refused, broken};
 use crate::renamed::renamed;
@@ -120,7 +120,7 @@ impl<'a> BuiltType<'a> {
         home: &'a ModuleTree,
         spot: Spot,
     ) -> Result<BuiltType<'a>, BuildError<'a>>
-        ensures { MatchResult result (IsClosed self.entry) (IsUnguarded home.now spot (type_of self.entry)) }
+        ensures { MatchResult result (IsClosed self.entry) (IsUnguardedBody home.now spot (type_of self.entry)) }
     {
         if !leads_to_communication(&self.global) {
             return Err(broken(home, FaultKind::Unguarded, spot));

@@ -2,11 +2,12 @@
 
 ghost use Rattle.std.specs.Prelude.{◌≡◌, ◌<◌};
 ghost use Rattle.scrib_types.specs.GlobalView.{global_branches};
-ghost use Rattle.scrib_types.specs.WellFormed.{has_operator, same_operator};
+ghost use Rattle.scrib_types.specs.WellFormed.{has_operator};
 ghost use Rattle.scrib_type_builder.specs.Operators as spec;
 
-use scrib_static_checks::protocol_index::{empty, mixed};
 use scrib_types::global::GlobalType;
+use scrib_types::hashing::{empty_slots, hash_bytes, slot_of};
+use scrib_types::message::operators_equal;
 use scrib_types::name::Name;
 use scrib_types::shared_message::SharedMessage;
 use std::alloc::{AllocError, Global};
@@ -44,7 +45,7 @@ impl Operators {
             return Ok(Operators { latest, earlier });
         }
         let size = count.min(MAX_SLOTS).next_power_of_two();
-        let latest = empty(alloc, size)?;
+        let latest = empty_slots(alloc, size)?;
         Ok(Operators { latest, earlier })
     }
 
@@ -62,7 +63,7 @@ impl Operators {
             return Ok(());
         }
         for place in self.earlier.len()..branches.len() {
-            let slot = slot_of(size, &branches[place].0.get().op);
+            let slot = operator_slot(size, &branches[place].0.get().op);
             let earlier = self.latest[slot];
             self.earlier.push(earlier)?;
             self.latest[slot] = Some(place);
@@ -79,10 +80,10 @@ impl Operators {
         if size == 0 {
             return has_operator(op, branches);
         }
-        let slot = slot_of(size, op);
+        let slot = operator_slot(size, op);
         let mut next = self.latest[slot];
         while let Some(place) = next {
-            if same_operator(op, &branches[place].0.get().op) {
+            if operators_equal(op, &branches[place].0.get().op) {
                 return true;
             }
             let earlier = self.earlier[place];
@@ -93,14 +94,14 @@ impl Operators {
 }
 
 // Returns the slot, out of `size`, of an operator.
-fn slot_of(size: usize, op: &Option<Name>) -> usize
+fn operator_slot(size: usize, op: &Option<Name>) -> usize
     requires { 0 < size }
-    ensures slot { result ≡ spec.slot_of size op.now }
+    ensures slot { result ≡ spec.operator_slot size op.now }
     ensures within { result < size }
 {
     match op {
         None => 0,
-        Some(name) => mixed(0, name.as_bytes()) % size,
+        Some(name) => slot_of(hash_bytes(0, name.as_bytes()), size),
     }
 }
 
@@ -108,19 +109,9 @@ fn has_operator(op: &Option<Name>, branches: &[(SharedMessage, GlobalType)]) -> 
     ensures { result ≡ has_operator op.now (global_branches branches.now) }
 {
     for (message, _) in branches {
-        if same_operator(op, &message.get().op) {
+        if operators_equal(op, &message.get().op) {
             return true;
         }
     }
     false
-}
-
-fn same_operator(a: &Option<Name>, b: &Option<Name>) -> bool
-    ensures { result ≡ same_operator a.now b.now }
-{
-    match (a, b) {
-        (None, None) => true,
-        (Some(a), Some(b)) => a.equal(b),
-        _ => false,
-    }
 }

@@ -1,2 +1,3 @@
 pub mod FlatFormLemmas
 pub mod NumberLemmas
+pub mod HashLemmas

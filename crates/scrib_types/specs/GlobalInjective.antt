@@ -7,7 +7,7 @@ use Rattle.scrib_types.specs.declared.global.GlobalType.{GlobalType, roll-Global
 use Rattle.scrib_types.specs.declared.global.GlobalType.TheOpen.{GlobalType-F}
 use Rattle.scrib_types.specs.declared.global.GlobalType.TheVariants.{rolls-End, rolls-Var, rolls-Rec, rolls-Comm}
 use Rattle.scrib_types.specs.Trees.{GlobalTree, GlobalEnd, GlobalVar, GlobalRec, Comm, Flight, GlobalBranches, NoBranch, Branch}
-use Rattle.scrib_types.specs.GlobalView.{global_of, global_branches, end_of, var_of, rec_of, comm_of}
+use Rattle.scrib_types.specs.GlobalView.{global_of, global_branches, global_end, global_var, global_rec, global_comm}
 
 -- the global type of a tree that has no flight
 mutual
@@ -25,26 +25,28 @@ mutual
 abbrev RoundTrips : GlobalType → Type 0
 RoundTrips g = tree_to_type (global_of g) ≡ g
 
-branches_round_trip : (es : List (Message × ((g : GlobalType) × RoundTrips g)))
+global_branches_round_trip : (es : List (Message × ((g : GlobalType) × RoundTrips g)))
     → let bs : List (Message × GlobalType) = map (λ e. (e.0, e.1.0)) es in tree_to_branches (global_branches bs) ≡ bs
 unfolding tree_to_branches
-branches_round_trip [] = refl
-branches_round_trip (e ∷ es) = λ i. (e.0, e.1.1 i) ∷ branches_round_trip es i
+global_branches_round_trip [] = refl
+global_branches_round_trip (e ∷ es) = λ i. (e.0, e.1.1 i) ∷ global_branches_round_trip es i
 
-step : (y : GlobalType-F ((g : GlobalType) × RoundTrips g))
+global_round_trip : (y : GlobalType-F ((g : GlobalType) × RoundTrips g))
     → RoundTrips (roll-GlobalType (map-GlobalType ((g : GlobalType) × RoundTrips g) GlobalType (λ e. e.0) y))
 unfolding tree_to_type
-step GlobalType-F.End = rw (rolls-End, end_of) refl
-step (GlobalType-F.Var n) = rw (rolls-Var, var_of) refl
-step (GlobalType-F.Rec e) = subst RoundTrips (sym (rolls-Rec e.0)) (ap tree_to_type (rec_of e.0) ∙ ap global.Rec e.1)
-step (GlobalType-F.Comm p q es) =
+global_round_trip GlobalType-F.End = rw (rolls-End, global_end) refl
+global_round_trip (GlobalType-F.Var n) = rw (rolls-Var, global_var) refl
+global_round_trip (GlobalType-F.Rec e) =
+    subst RoundTrips (sym (rolls-Rec e.0)) (ap tree_to_type (global_rec e.0) ∙ ap global.Rec e.1)
+global_round_trip (GlobalType-F.Comm p q es) =
     let bs : List (Message × GlobalType) = map (λ e. (e.0, e.1.0)) es in
     subst RoundTrips (sym (rolls-Comm p q bs))
-    (ap tree_to_type (comm_of p q bs) ∙ ap (global.Comm p q) (branches_round_trip es))
+    (ap tree_to_type (global_comm p q bs) ∙ ap (global.Comm p q) (global_branches_round_trip es))
 
-round_trips : (g : GlobalType) → RoundTrips g
-round_trips = ind-GlobalType RoundTrips (λ x y is. subst (λ z. RoundTrips (roll-GlobalType z)) is (step y))
+global_round_trips : (g : GlobalType) → RoundTrips g
+global_round_trips =
+    ind-GlobalType RoundTrips (λ x y is. subst (λ z. RoundTrips (roll-GlobalType z)) is (global_round_trip y))
 
 -- one tree, one global type
 pub global_of-injective : (a b : GlobalType) → global_of a ≡ global_of b → a ≡ b
-global_of-injective a b e = sym (round_trips a) ∙ ap tree_to_type e ∙ round_trips b
+global_of-injective a b e = sym (global_round_trips a) ∙ ap tree_to_type e ∙ global_round_trips b

@@ -36,26 +36,26 @@ branches_in (Comm p q bs) = bs
 branches_in (Flight p q j bs) = bs
 
 -- the tree of a communication
-pub comm_of : (p q : List ℕ) (bs : List (Message × GlobalType))
+pub global_comm : (p q : List ℕ) (bs : List (Message × GlobalType))
     → global_of (global.Comm p q bs) ≡ Comm p q (global_branches bs)
 unfolding hidden-the_row-GlobalType-Comm-2-2-1 hidden global_of rows_of body_of branches_in
-comm_of p q [] = refl
-comm_of p q (b ∷ bs) = ap (λ t. Comm p q (Branch b.0 (global_of b.1) (branches_in t))) (comm_of p q bs)
+global_comm p q [] = refl
+global_comm p q (b ∷ bs) = ap (λ t. Comm p q (Branch b.0 (global_of b.1) (branches_in t))) (global_comm p q bs)
 
 -- the tree of a recursion
-pub rec_of : (g : GlobalType) → global_of (global.Rec g) ≡ GlobalRec (global_of g)
+pub global_rec : (g : GlobalType) → global_of (global.Rec g) ≡ GlobalRec (global_of g)
 unfolding hidden-the_row-GlobalType-0 hidden global_of rows_of body_of
-rec_of g = refl
+global_rec g = refl
 
 -- the tree of an end
-pub end_of : global_of global.End ≡ GlobalEnd
+pub global_end : global_of global.End ≡ GlobalEnd
 unfolding global_of
-end_of = refl
+global_end = refl
 
 -- the tree of a variable
-pub var_of : (n : ℕ) → global_of (global.Var n) ≡ GlobalVar n
+pub global_var : (n : ℕ) → global_of (global.Var n) ≡ GlobalVar n
 unfolding global_of
-var_of n = refl
+global_var n = refl
 
 -- the equation at each form of global type
-pub ruleset global_views = (end_of, var_of, rec_of, comm_of)
+pub ruleset global_views = (global_end, global_var, global_rec, global_comm)

@@ -37,9 +37,7 @@ pub record IsOffence (a : Agreement) (log : List Event) (place : ℕ) (role : Li
 
 -- the verdict on a log whose protocol has this meaning, or is not in the library
 abbrev pub Judges : Option Agreement → List Event → Verdict → Type 0
-Judges None log Permitted = ⊥
-Judges None log (Offence place role allowed) = ⊥
 Judges None log Withdrawn = Unit {0}
 Judges (Some a) log Permitted = IsPermitted a log
 Judges (Some a) log (Offence place role allowed) = IsOffence a log place role allowed
-Judges (Some a) log Withdrawn = ⊥
+Judges _ log _ = ⊥

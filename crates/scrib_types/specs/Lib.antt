@@ -1,4 +1,5 @@
 pub mod Names
+pub mod Hashing
 pub mod OneOrMany
 pub mod Trees
 pub mod GlobalView

@@ -29,39 +29,39 @@ abbrev pub local_branches : List (Message × Local) → LocalBranches
 local_branches [] = NoChoice
 local_branches (b ∷ bs) = Choice b.0 (local_of b.1) (local_branches bs)
 
-unfoldable branches_in : LocalTree → LocalBranches
-branches_in LocalEnd = NoChoice
-branches_in (LocalVar n) = NoChoice
-branches_in (LocalRec l) = NoChoice
-branches_in (Send q ls) = ls
-branches_in (Recv p ls) = ls
+unfoldable local_branches_in : LocalTree → LocalBranches
+local_branches_in LocalEnd = NoChoice
+local_branches_in (LocalVar n) = NoChoice
+local_branches_in (LocalRec l) = NoChoice
+local_branches_in (Send q ls) = ls
+local_branches_in (Recv p ls) = ls
 
 -- the tree of a choice of sends
-pub send_of : (q : List ℕ) (bs : List (Message × Local)) → local_of (local.Send q bs) ≡ Send q (local_branches bs)
-unfolding hidden-the_row-Local-Send-1-2-1 hidden local_of rows_of body_of branches_in
-send_of q [] = refl
-send_of q (b ∷ bs) = ap (λ t. Send q (Choice b.0 (local_of b.1) (branches_in t))) (send_of q bs)
+pub local_send : (q : List ℕ) (bs : List (Message × Local)) → local_of (local.Send q bs) ≡ Send q (local_branches bs)
+unfolding hidden-the_row-Local-Send-1-2-1 hidden local_of rows_of body_of local_branches_in
+local_send q [] = refl
+local_send q (b ∷ bs) = ap (λ t. Send q (Choice b.0 (local_of b.1) (local_branches_in t))) (local_send q bs)
 
 -- the tree of a choice of receptions
-pub recv_of : (p : List ℕ) (bs : List (Message × Local)) → local_of (local.Recv p bs) ≡ Recv p (local_branches bs)
-unfolding hidden-the_row-Local-Send-1-2-1 hidden local_of rows_of body_of branches_in
-recv_of p [] = refl
-recv_of p (b ∷ bs) = ap (λ t. Recv p (Choice b.0 (local_of b.1) (branches_in t))) (recv_of p bs)
+pub local_recv : (p : List ℕ) (bs : List (Message × Local)) → local_of (local.Recv p bs) ≡ Recv p (local_branches bs)
+unfolding hidden-the_row-Local-Send-1-2-1 hidden local_of rows_of body_of local_branches_in
+local_recv p [] = refl
+local_recv p (b ∷ bs) = ap (λ t. Recv p (Choice b.0 (local_of b.1) (local_branches_in t))) (local_recv p bs)
 
 -- the tree of a recursion
-pub rec_of : (l : Local) → local_of (local.Rec l) ≡ LocalRec (local_of l)
+pub local_rec : (l : Local) → local_of (local.Rec l) ≡ LocalRec (local_of l)
 unfolding hidden-the_row-Local-0 hidden local_of rows_of body_of
-rec_of l = refl
+local_rec l = refl
 
 -- the tree of an end
-pub end_of : local_of local.End ≡ LocalEnd
+pub local_end : local_of local.End ≡ LocalEnd
 unfolding local_of
-end_of = refl
+local_end = refl
 
 -- the tree of a variable
-pub var_of : (n : ℕ) → local_of (local.Var n) ≡ LocalVar n
+pub local_var : (n : ℕ) → local_of (local.Var n) ≡ LocalVar n
 unfolding local_of
-var_of n = refl
+local_var n = refl
 
 -- the equation at each form of local type
-pub ruleset local_views = (end_of, var_of, rec_of, send_of, recv_of)
+pub ruleset local_views = (local_end, local_var, local_rec, local_send, local_recv)

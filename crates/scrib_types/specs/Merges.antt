@@ -32,14 +32,16 @@ pub data Merges : LocalTree → LocalTree → LocalTree → Type 0 where
 
 -- from the computed merge
 
-operator_itself : (o : Option (List ℕ)) → same_operator o o ≡ true
+-- an operator is the same as itself
+pub operator_itself : (o : Option (List ℕ)) → same_operator o o ≡ true
 operator_itself None = refl
 operator_itself (Some a) = (bytes_eq-Decides a a).1 refl
 
 operators_apart : (m n : Message) → same_operator m.op n.op ≡ false → m ≢ n
 operators_apart m n h e = true≢false (sym (operator_itself m.op) ∙ ap (λ (x : Message). same_operator m.op x.op) e ∙ h)
 
-some_same : {X : Type 0} (x y : X) → ◌≡◌ {A = Option X} (Some x) (Some y) → x ≡ y
+-- two optional values that are the same contain the same
+pub some_same : {X : Type 0} (x y : X) → ◌≡◌ {A = Option X} (Some x) (Some y) → x ≡ y
 some_same x y h = cc
 
 known : (m n : Message) (l k : LocalTree) (ls js : LocalBranches) (b : Bool) → same_message m n && same_local l k ≡ b
@@ -81,15 +83,15 @@ with_all ks (Choice m l ls) js e =
     by None h more f = absurd (cc)
     by (Some is) h more f = all_more (h is refl) (more is f)
 
-joined : (p q : List ℕ) (ks ls : LocalBranches) (l : LocalTree) (b : Bool) → bytes_eq p q ≡ b
+merged_joined : (p q : List ℕ) (ks ls : LocalBranches) (l : LocalTree) (b : Bool) → bytes_eq p q ≡ b
     → (o : Option LocalBranches) → ((js : LocalBranches) → o ≡ Some js → WithAll ks ls js)
     → (if b then option_map (Recv p) o else None) ≡ Some l → Merges (Recv p ks) (Recv q ls) l
-joined p q ks ls l true f None h e = absurd (cc)
-joined p q ks ls l true f (Some js) h e =
+merged_joined p q ks ls l true f None h e = absurd (cc)
+merged_joined p q ks ls l true f (Some js) h e =
     let from : p ≡ q = (bytes_eq-Decides p q).0 f in
     subst (λ x. Merges (Recv p ks) (Recv x ls) l) from
     (subst (Merges (Recv p ks) (Recv p ls)) (some_same (Recv p js) l e) (merges_receptions (h js refl)))
-joined p q ks ls l false f o h e = absurd (cc)
+merged_joined p q ks ls l false f o h e = absurd (cc)
 
 receptions_from : (p : List ℕ) (ks : LocalBranches) (b c : LocalTree) → merged_from p ks b ≡ Some c
     → Merges (Recv p ks) b c
@@ -98,7 +100,7 @@ receptions_from p ks (LocalVar n) c e = absurd (cc)
 receptions_from p ks (LocalRec l) c e = absurd (cc)
 receptions_from p ks (Send q ls) c e = absurd (cc)
 receptions_from p ks (Recv q ls) c e =
-    joined p q ks ls c (bytes_eq p q) refl (alternatives ks ls) (λ js i. with_all ks ls js i) e
+    merged_joined p q ks ls c (bytes_eq p q) refl (alternatives ks ls) (λ js i. with_all ks ls js i) e
 
 receptions : (a b c : LocalTree) → merged_receptions a b ≡ Some c → Merges a b c
 receptions LocalEnd b c e = absurd (cc)

@@ -9,6 +9,10 @@ use Rattle.scrib_types.specs.declared.profile.Profile.TheVariants.{Plain, Recept
 use Rattle.scrib_types.specs.Trees.{GlobalTree, GlobalEnd, GlobalVar, GlobalRec, Comm, Flight, GlobalBranches, NoBranch, Branch, LocalTree, LocalEnd, LocalVar, LocalRec, Send, Recv, LocalBranches, NoChoice, Choice}
 use Rattle.scrib_types.specs.Same.{same_operator, same_message, same_local}
 
+-- the profile whose merge is the widest: where any profile has a projection, this one has the same
+abbrev pub widest : Profile
+widest = Reception
+
 -- the number of enclosing recursions that would bind all its variables
 abbrev mutual
   pub open_depth : GlobalTree → ℕ

@@ -5,9 +5,8 @@ use Rattle.std.specs.List.{list_any}
 use Rattle.std.specs.Str.{bytes_eq}
 use Rattle.scrib_types.specs.Trees.{GlobalTree, GlobalEnd, GlobalVar, GlobalRec, Comm, Flight, GlobalBranches, NoBranch, Branch}
 use Rattle.scrib_types.specs.declared.profile.Profile.{Profile}
-use Rattle.scrib_types.specs.declared.profile.Profile.TheVariants.{Reception}
 pub use Rattle.scrib_types.specs.Same.{same_operator}
-use Rattle.scrib_types.specs.Projection.{is_closed, projection}
+use Rattle.scrib_types.specs.Projection.{is_closed, projection, widest}
 
 -- the role is one of these
 abbrev pub has_role : List ℕ → List (List ℕ) → Bool
@@ -79,4 +78,4 @@ projects profile g (r ∷ rs) = is_some (projection profile r g) && projects pro
 -- reception profile it has a projection on each.
 unfoldable pub is_protocol : List (List ℕ) → GlobalTree → Bool
 is_protocol roles g =
-    nat_le (length roles) 64 && distinct_roles roles && is_closed g && well_formed roles g && projects Reception g roles
+    nat_le (length roles) 64 && distinct_roles roles && is_closed g && well_formed roles g && projects widest g roles

@@ -6,6 +6,7 @@ pub mod bytes;
 pub mod event;
 pub mod flat;
 pub mod global;
+pub mod hashing;
 pub mod local;
 pub mod message;
 pub mod name;

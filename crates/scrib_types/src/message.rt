@@ -1,6 +1,7 @@
 //! Messages: an operator, or none, and the types of the payload.
 
 ghost use Rattle.std.specs.Prelude.{◌≡◌, ◌↔◌, IsTrue};
+ghost use Rattle.scrib_types.specs.Same.{same_operator};
 
 use crate::name::{Dotted, Name};
 use std::marker::Model;
@@ -61,7 +62,8 @@ impl Message {
 
 /// Whether both are the same operator, or both none.
 pub fn operators_equal(a: &Option<Name>, b: &Option<Name>) -> bool
-    ensures { IsTrue result ↔ (a.now ≡ b.now) }
+    ensures same { IsTrue result ↔ (a.now ≡ b.now) }
+    ensures test { result ≡ same_operator a.now b.now }
 {
     match (a, b) {
         (Some(x), Some(y)) => x.equal(y),

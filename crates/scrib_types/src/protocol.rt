@@ -5,7 +5,7 @@ ghost use Rattle.scrib_types.specs.GlobalView.{global_of};
 ghost use Rattle.scrib_types.specs.WellFormed.{is_protocol};
 
 use crate::global::GlobalType;
-use crate::name::Role;
+use crate::name::{Role, names_equal};
 use sqlite_items::Items;
 
 /// A well-formed global type with its roles, in declared order. Each role has a projection.
@@ -50,21 +50,7 @@ impl Protocol {
     pub fn same_meaning(a: &Protocol, b: &Protocol) -> bool
         ensures { IsTrue result ↔ (agreement_of a.now ≡ agreement_of b.now) }
     {
-        roles_equal(a.roles.as_slice(), b.roles.as_slice())
+        names_equal(a.roles.as_slice(), b.roles.as_slice())
             && GlobalType::equal(&a.global, &b.global)
     }
-}
-
-fn roles_equal(a: &[Role], b: &[Role]) -> bool
-    ensures { IsTrue result ↔ (a.now ≡ b.now) }
-{
-    if a.len() != b.len() {
-        return false;
-    }
-    for i in 0..a.len() {
-        if !a[i].equal(&b[i]) {
-            return false;
-        }
-    }
-    true
 }

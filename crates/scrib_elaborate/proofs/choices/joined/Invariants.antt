@@ -16,8 +16,8 @@ use Rattle.scrib_elaborate.proofs.choices.joined.Given as goal
 
 abbrev pub invariant-loop-block : goal.invariant-loop-block
 invariant-loop-block l = record {
-  joined : (modules : List ModuleTree) (target : Target) (tasks : List Task) (follows : Option BuiltType) (x : IsChoosing modules target tasks (scope_of l.scope) l.scope.depth l.given l.blocks l.spot follows l.fn.types.items)
-      → AreJoined modules l.scope.depth (scope_of l.scope) (Under (scope_of l.scope) x.rest x.outer) (role_in (scope_of l.scope) l.given) (blocks_of (take (length l.yielded) l.blocks)) l.so_far.receiver (global_branches l.so_far.branches)
-      × AllZip (IsMarked modules l.scope.depth (Under (scope_of l.scope) (Then (Chooses l.given (blocks_of l.blocks) l.spot) x.rest) x.outer)) (branch_communications l.scope.depth (global_branches l.so_far.branches)) l.so_far.origins.items;
+  joined : (modules : List ModuleTree) (target : Target) (tasks : List Task) (follows : Option BuiltType) (x : IsChoosing modules target tasks (scope_of l.scope) l.scope.depth l.choice.chooser.now l.choice.branches.now l.choice.spot follows l.fn.types.items)
+      → AreJoined modules l.scope.depth (scope_of l.scope) (Under (scope_of l.scope) x.rest x.outer) (role_in (scope_of l.scope) l.choice.chooser.now) (blocks_of (take (length l.yielded) l.choice.branches.now)) l.so_far.receiver (global_branches l.so_far.branches)
+      × AllZip (IsMarked modules l.scope.depth (Under (scope_of l.scope) (Then (Chooses l.choice.chooser.now (blocks_of l.choice.branches.now) l.choice.spot) x.rest) x.outer)) (branch_communications l.scope.depth (global_branches l.so_far.branches)) l.so_far.origins.items;
   indexed : AreIndexed l.so_far.branches l.so_far.operators.latest.items l.so_far.operators.earlier.items;
 }

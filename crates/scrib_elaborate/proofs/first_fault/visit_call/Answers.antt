@@ -8,4 +8,4 @@ returns c = λ root spot rest a old.
     let ms = c.args.context.now.modules.now in
     let inside = c.in_ok-inside.inside in
     let d = declaration_of c.in-Some.callee.declared in
-    more_ahead ms root c.args.ahead.now.items c.push-2.new.self.items (Front inside c.as_slice.result) c.in_ok-push-2.ensures.items old (call_ahead ms root c.args.scope.now inside c.as_slice.result c.args.path.now c.args.roles.now spot rest d c.in-Some.ensures.called c.in_ok-inside.ensures c.as_slice.ensures a)
+    more_ahead ms root c.args.ahead.now.items c.push-2.new.self.items (Front inside c.as_slice.result) c.in_ok-push-2.ensures.items old (call_ahead ms root c.args.scope.now inside c.as_slice.result c.args.call.path.now c.args.call.roles.now spot rest d c.in-Some.ensures.called c.in_ok-inside.ensures c.as_slice.ensures a)

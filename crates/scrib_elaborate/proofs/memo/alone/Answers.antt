@@ -6,17 +6,17 @@ use Rattle.scrib_elaborate.proofs.memo.alone.Goals as goal
 
 pub type_alone-requires-clause-kept : goal.type_alone-requires-clause-kept
 type_alone-requires-clause-kept c =
-    let ds = c.args.declared.now in
+    let ds = c.args.table.now.declared.now in
     let states = c.args.states.now in
     let m = c.in-Some-Walked in
     let root = lent_at ds c.args.place c.in-Some.root.now c.in-Some.ensures.lookup.0 c.in-Some.ensures.lookup.1 in
     let walked = lent_at states c.args.place m.field-0.now m.ensures.lookup.0 m.ensures.lookup.1 ∙ ap Some m.field-0-is in
-    (m.summary.exits, kept_there c.args.modules.now ds states c.args.place c.in-Some.root.now m.summary c.requires.idle.kept root walked)
+    (m.summary.exits, kept_there c.args.table.now.modules.now ds states c.args.place c.in-Some.root.now m.summary c.requires.idle.kept root walked)
 
 pub returns : goal.returns
 returns c =
-    let ms = c.args.modules.now in
-    let ds = c.args.declared.now in
+    let ms = c.args.table.now.modules.now in
+    let ds = c.args.table.now.declared.now in
     let states = c.args.states.now in
     let m = c.in-Some-Walked in
     let root = lent_at ds c.args.place c.in-Some.root.now c.in-Some.ensures.lookup.0 c.in-Some.ensures.lookup.1 in

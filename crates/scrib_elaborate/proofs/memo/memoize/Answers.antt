@@ -9,5 +9,5 @@ alone-requires c = record {
   indexed = c.requires.indexed;
   names_checked = c.requires.names_checked;
   idle = c.requires.idle;
-  memo = subst (λ ts. IsMemo c.args.modules.now (shown c.args.declared.now) ts) (sym c.deref.ensures.value) c.loop-place.invariant;
+  memo = subst (λ ts. IsMemo c.args.table.now.modules.now (shown c.args.table.now.declared.now) ts) (sym c.deref.ensures.value) c.loop-place.invariant;
 }

@@ -3,4 +3,4 @@ use Rattle.scrib_elaborate.specs.Typing.{IsMemo}
 use Rattle.scrib_elaborate.proofs.memo.memoize.Given as goal
 
 abbrev pub invariant-loop-place : goal.invariant-loop-place
-invariant-loop-place l = IsMemo l.modules (shown l.declared) l.memo.items
+invariant-loop-place l = IsMemo l.table.modules.now (shown l.table.declared.now) l.memo.items

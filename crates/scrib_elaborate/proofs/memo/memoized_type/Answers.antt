@@ -1,7 +1,7 @@
 use Rattle.std.proofs.Common.{Some, sym, ap, ◌∙◌, subst}
 use Rattle.scrib_static_checks.specs.Elaboration.{start_of}
 use Rattle.scrib_static_checks.specs.Table.{declaration_of}
-use Rattle.scrib_elaborate.specs.Typing.{made_of, Makes}
+use Rattle.scrib_elaborate.specs.Typing.{made_of, FramesMake}
 use Rattle.scrib_elaborate.proofs.SiteLemmas.{made_is}
 use Rattle.scrib_static_checks.proofs.TableLemmas.{lent_at}
 use Rattle.scrib_elaborate.proofs.memo.memoized_type.Goals as goal
@@ -14,4 +14,4 @@ returns-in-Some-Some-clause-ok c =
     let there = lent_at context.memo.now c.args.place m.field-0.now m.ensures.lookup.0 m.ensures.lookup.1 ∙ ap Some m.field-0-is in
     let alone = c.requires.table.memo c.args.place (declaration_of context.root) typed c.requires.there there in
     let same = made_is (made_of typed) (made_of c.in_ok-typed.typed) (sym c.in_ok-typed.ensures.global) (sym c.in_ok-typed.ensures.origins) in
-    subst (λ m. Makes context.modules.now 0 (start_of (declaration_of context.root)) m) same alone.made
+    subst (λ m. FramesMake context.modules.now 0 (start_of (declaration_of context.root)) m) same alone.made

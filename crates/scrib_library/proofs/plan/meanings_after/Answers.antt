@@ -6,7 +6,7 @@ use Rattle.scrib_library.specs.declared.meanings.NamedMeaning.{NamedMeaning}
 use Rattle.scrib_library.specs.Affected.{names_now, AreAffected}
 use Rattle.scrib_library.specs.Entries.{IsDeclaredIn, AreAffectedEntries}
 use Rattle.scrib_library.specs.Listed.{AreInOrder}
-use Rattle.scrib_library.specs.Elaborated.{meaning_names, AreMeanings, IsRefusal}
+use Rattle.scrib_library.specs.Elaborated.{meaning_names, AreMeanings, IsEntryRefusal}
 use Rattle.scrib_library.specs.Plans.{Covers, StopsMeanings}
 use Rattle.scrib_library.proofs.PlanLemmas.{covering, covering_nothing, stopped_meanings}
 use Rattle.scrib_library.proofs.plan.meanings_after.Goals as goal
@@ -52,7 +52,7 @@ returns-clause-fault c =
     let Q : List ModuleTree → Type 0 = λ ms. AreAffected ms m.name names in
     let R : List ModuleTree → Type 0 = λ ms. AreAffectedEntries ms names gone es in
     let named = rw c.deref.ensures.value at c.in_ok-entries.ensures in
-    IfErr-weaker c.meanings_of.result (IsRefusal c.args.profile c.args.modules.now rs) (StopsMeanings c.args.profile m c.args.modules.now gone)
+    IfErr-weaker c.meanings_of.result (IsEntryRefusal c.args.profile c.args.modules.now rs) (StopsMeanings c.args.profile m c.args.modules.now gone)
     (stopped_meanings c.args.profile m c.args.modules.now gone names (subst Q c.as_slice-trees.ensures c.in_ok-affected.ensures) es (subst R c.as_slice-trees.ensures named) rs c.in_ok-reached.ensures c.requires)
     (rw c.as_modules.ensures at c.meanings_of.ensures.fault)
 

@@ -3,7 +3,7 @@ use Rattle.std.specs.List.Sorted.{IsPermutation}
 use Rattle.scrib_types.specs.declared.event.Action.TheVariants.{Sends, Receives}
 use Rattle.scrib_types.specs.declared.local.Local.{Local}
 use Rattle.scrib_types.specs.declared.message.Message.{Message}
-use Rattle.scrib_types.specs.LocalView.{local_of, local_branches, end_of, var_of, rec_of, send_of, recv_of}
+use Rattle.scrib_types.specs.LocalView.{local_of, local_branches, local_end, local_var, local_rec, local_send, local_recv}
 use Rattle.scrib_types.specs.Trees.{LocalRec, Send, Recv}
 use Rattle.scrib_machine.specs.declared.machine.Edge.{Edge}
 use Rattle.scrib_machine.specs.Compilable.{Closed, Distinct, nodes, nodes_all, max_nodes}
@@ -14,7 +14,7 @@ use Rattle.scrib_machine.proofs.compile.+lay.Goals as goal
 
 pub lay-lay-requires : goal.lay-lay-requires
 lay-lay-requires t c =
-    let form : local_of c.args.local.now ≡ LocalRec (local_of c.get.result.now) = ap local_of c.in-Rec.is ∙ rec_of c.in-Rec.body ∙ ap (λ (l : Local). LocalRec (local_of l)) (sym c.get.ensures) in
+    let form : local_of c.args.local.now ≡ LocalRec (local_of c.get.result.now) = ap local_of c.in-Rec.is ∙ local_rec c.in-Rec.body ∙ ap (λ (l : Local). LocalRec (local_of l)) (sym c.get.ensures) in
     let falls : 3 * nodes (local_of c.get.result.now) < t = omega (arith, c.decreases, ap nodes form) in (
       falls,
       (
@@ -29,17 +29,17 @@ lay-lay-requires t c =
 pub lay-returns-in_ok-push-in-End-clause-placed : goal.lay-returns-in_ok-push-in-End-clause-placed
 lay-returns-in_ok-push-in-End-clause-placed t c =
     let at : c.len-at.result ≡ length c.args.rows.now.items = search rules in
-    placed_end c.args.rows.now.items c.push.new.self.items (reverse c.args.outer.now.items) (local_of c.args.local.now) c.len-at.result (ap local_of c.in-End.is ∙ end_of) (pushed_as c.args.rows.now.items c.push.new.self.items c.none.result [] c.in_ok-push-in-End.ensures.items c.none.ensures) at
+    placed_end c.args.rows.now.items c.push.new.self.items (reverse c.args.outer.now.items) (local_of c.args.local.now) c.len-at.result (ap local_of c.in-End.is ∙ local_end) (pushed_as c.args.rows.now.items c.push.new.self.items c.none.result [] c.in_ok-push-in-End.ensures.items c.none.ensures) at
 
 pub lay-returns-in-Var-clause-placed : goal.lay-returns-in-Var-clause-placed
 lay-returns-in-Var-clause-placed t c =
     let len : c.len.result ≡ length c.args.outer.now.items = search rules in
-    placed_var c.args.rows.now.items c.args.outer.now.items (local_of c.args.local.now) c.in-Var.i c.len.result c.index.result.now (ap local_of c.in-Var.is ∙ var_of c.in-Var.i) c.requires.closed len c.index.ensures
+    placed_var c.args.rows.now.items c.args.outer.now.items (local_of c.args.local.now) c.in-Var.i c.len.result c.index.result.now (ap local_of c.in-Var.is ∙ local_var c.in-Var.i) c.requires.closed len c.index.ensures
 
 pub lay-returns-in_ok-root-in-Rec-clause-placed : goal.lay-returns-in_ok-root-in-Rec-clause-placed
 lay-returns-in_ok-root-in-Rec-clause-placed t c =
     let at : c.len-in-Rec.result ≡ length c.args.rows.now.items = search rules in
-    placed_rec c.args.rows.now.items c.lay.new.rows.items c.args.outer.now.items c.push-in-Rec.new.self.items _ (local_of c.args.local.now) (local_of c.get.result.now) c.in_ok-root-in-Rec.root (ap local_of c.in-Rec.is ∙ rec_of c.in-Rec.body ∙ ap (λ (l : Local). LocalRec (local_of l)) (sym c.get.ensures)) c.in_ok-push-in-Rec.ensures.items at c.in_ok-root-in-Rec.ensures.placed
+    placed_rec c.args.rows.now.items c.lay.new.rows.items c.args.outer.now.items c.push-in-Rec.new.self.items _ (local_of c.args.local.now) (local_of c.get.result.now) c.in_ok-root-in-Rec.root (ap local_of c.in-Rec.is ∙ local_rec c.in-Rec.body ∙ ap (λ (l : Local). LocalRec (local_of l)) (sym c.get.ensures)) c.in_ok-push-in-Rec.ensures.items at c.in_ok-root-in-Rec.ensures.placed
 
 pub lay_all-lay-requires : goal.lay_all-lay-requires
 lay_all-lay-requires t c = (
@@ -65,7 +65,7 @@ lay_all-loop-local-preserved t c =
 
 pub lay-lay_sends-requires : goal.lay-lay_sends-requires
 lay-lay_sends-requires t c =
-    let form : local_of c.args.local.now ≡ Send c.in-Send.to (local_branches c.as_slice.result.now) = ap local_of c.in-Send.is ∙ send_of c.in-Send.to c.in-Send.branches ∙ ap (λ (bs : List (Message × Local)). Send c.in-Send.to (local_branches bs)) (sym c.as_slice.ensures) in
+    let form : local_of c.args.local.now ≡ Send c.in-Send.to (local_branches c.as_slice.result.now) = ap local_of c.in-Send.is ∙ local_send c.in-Send.to c.in-Send.branches ∙ ap (λ (bs : List (Message × Local)). Send c.in-Send.to (local_branches bs)) (sym c.as_slice.ensures) in
     let falls : 3 * nodes_all (local_branches c.as_slice.result.now) + 2 < t = omega (arith, c.decreases, ap nodes form) in (
       falls,
       (
@@ -107,7 +107,7 @@ lay_sends-returns-clause-placed t c =
 
 pub lay-lay_receptions-requires : goal.lay-lay_receptions-requires
 lay-lay_receptions-requires t c =
-    let form : local_of c.args.local.now ≡ Recv c.in-Recv.from (local_branches c.as_slice-in-Recv.result.now) = ap local_of c.in-Recv.is ∙ recv_of c.in-Recv.from c.in-Recv.branches ∙ ap (λ (bs : List (Message × Local)). Recv c.in-Recv.from (local_branches bs)) (sym c.as_slice-in-Recv.ensures) in
+    let form : local_of c.args.local.now ≡ Recv c.in-Recv.from (local_branches c.as_slice-in-Recv.result.now) = ap local_of c.in-Recv.is ∙ local_recv c.in-Recv.from c.in-Recv.branches ∙ ap (λ (bs : List (Message × Local)). Recv c.in-Recv.from (local_branches bs)) (sym c.as_slice-in-Recv.ensures) in
     let falls : 3 * nodes_all (local_branches c.as_slice-in-Recv.result.now) + 2 < t = omega (arith, c.decreases, ap nodes form) in (
       falls,
       (

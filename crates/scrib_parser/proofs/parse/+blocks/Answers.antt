@@ -3,7 +3,7 @@ use Rattle.std.proofs.lemmas.Result.{err_from_is_err_and}
 use Rattle.scrib_lexer.specs.declared.token.Keyword.TheVariants.{Or}
 use Rattle.scrib_lexer.specs.declared.token.TokenKind.TheVariants.{Keyword}
 use Rattle.scrib_lexer.specs.Lexeme.{lexemes_of}
-use Rattle.scrib_parser.specs.Reading.{left, Gives, same_kind, token_of, after, begins_statement, statement_of, statements_of, block_of, blocks_of}
+use Rattle.scrib_parser.specs.Reading.{left, Gives, same_kind, token_of, after, begins_statement, statement_of, statements_of, block_of, read_blocks}
 use Rattle.scrib_parser.proofs.Loop.{goes_on, fails, is_done, behind_mark, no_mark, none_behind_mark}
 use Rattle.scrib_parser.proofs.Blocks.{statement_takes_of, or_takes_of, stops_deep, opens_more}
 use Rattle.scrib_parser.proofs.parse.+blocks.Goals as goal
@@ -20,14 +20,14 @@ pub blocks-returns-in_err-take : goal.blocks-returns-in_err-take
 blocks-returns-in_err-take n c =
     let ts = lexemes_of c.loop-alloc.tokens.rest.now in
     let p = err_from_is_err_and c.from_residual-in_err-take.result c.from_residual-in_err-take.ensures.1 in
-    rw (p.1, p.2) (fails (same_kind (Keyword Or)) (after (token_of (Keyword Or)) (block_of c.args.levels)) (or_takes_of c.args.levels) c.loop-alloc.blocks.items ts (blocks_of (block_of c.args.levels) (lexemes_of c.args.tokens.now.rest.now)) c.in_err-take.field-0.0 (sym c.loop-alloc-test.ensures)
+    rw (p.1, p.2) (fails (same_kind (Keyword Or)) (after (token_of (Keyword Or)) (block_of c.args.levels)) (or_takes_of c.args.levels) c.loop-alloc.blocks.items ts (read_blocks (block_of c.args.levels) (lexemes_of c.args.tokens.now.rest.now)) c.in_err-take.field-0.0 (sym c.loop-alloc-test.ensures)
     (no_mark (Keyword Or) (block_of c.args.levels) ts c.in_err-take.field-0.0 c.in_err-take.ensures) c.loop-alloc.invariant)
 
 pub blocks-returns-in_err-block-2 : goal.blocks-returns-in_err-block-2
 blocks-returns-in_err-block-2 n c =
     let ts = lexemes_of c.loop-alloc.tokens.rest.now in
     let p = err_from_is_err_and c.from_residual-in_err-block-2.result c.from_residual-in_err-block-2.ensures.1 in
-    rw (p.1, p.2) (fails (same_kind (Keyword Or)) (after (token_of (Keyword Or)) (block_of c.args.levels)) (or_takes_of c.args.levels) c.loop-alloc.blocks.items ts (blocks_of (block_of c.args.levels) (lexemes_of c.args.tokens.now.rest.now)) c.in_err-block-2.field-0.0 (sym c.loop-alloc-test.ensures)
+    rw (p.1, p.2) (fails (same_kind (Keyword Or)) (after (token_of (Keyword Or)) (block_of c.args.levels)) (or_takes_of c.args.levels) c.loop-alloc.blocks.items ts (read_blocks (block_of c.args.levels) (lexemes_of c.args.tokens.now.rest.now)) c.in_err-block-2.field-0.0 (sym c.loop-alloc-test.ensures)
     (none_behind_mark (Keyword Or) (block_of c.args.levels) ts _ _ c.in_err-block-2.field-0.0 c.in_ok-take.ensures c.in_err-block-2.ensures) c.loop-alloc.invariant)
 
 pub blocks-loop-alloc-smaller : goal.blocks-loop-alloc-smaller
@@ -36,12 +36,12 @@ blocks-loop-alloc-smaller n c = or_takes_of c.args.levels _ _ _ (behind_mark (Ke
 pub blocks-loop-alloc-preserved : goal.blocks-loop-alloc-preserved
 blocks-loop-alloc-preserved n c =
     let ts = lexemes_of c.loop-alloc.tokens.rest.now in
-    rw c.in_ok-push-2.ensures.items (goes_on (same_kind (Keyword Or)) (after (token_of (Keyword Or)) (block_of c.args.levels)) (or_takes_of c.args.levels) c.loop-alloc.blocks.items ts (blocks_of (block_of c.args.levels) (lexemes_of c.args.tokens.now.rest.now)) _ _ (sym c.loop-alloc-test.ensures)
+    rw c.in_ok-push-2.ensures.items (goes_on (same_kind (Keyword Or)) (after (token_of (Keyword Or)) (block_of c.args.levels)) (or_takes_of c.args.levels) c.loop-alloc.blocks.items ts (read_blocks (block_of c.args.levels) (lexemes_of c.args.tokens.now.rest.now)) _ _ (sym c.loop-alloc-test.ensures)
     (behind_mark (Keyword Or) (block_of c.args.levels) ts _ _ _ _ c.in_ok-take.ensures c.in_ok-block-2.ensures) c.loop-alloc.invariant)
 
 pub blocks-returns : goal.blocks-returns
 blocks-returns n c =
-    rw c.fitted.ensures (is_done (same_kind (Keyword Or)) (after (token_of (Keyword Or)) (block_of c.args.levels)) (or_takes_of c.args.levels) c.loop-alloc.blocks.items (lexemes_of c.loop-alloc.tokens.rest.now) (blocks_of (block_of c.args.levels) (lexemes_of c.args.tokens.now.rest.now)) (sym c.loop-alloc-test.ensures) c.loop-alloc.invariant)
+    rw c.fitted.ensures (is_done (same_kind (Keyword Or)) (after (token_of (Keyword Or)) (block_of c.args.levels)) (or_takes_of c.args.levels) c.loop-alloc.blocks.items (lexemes_of c.loop-alloc.tokens.rest.now) (read_blocks (block_of c.args.levels) (lexemes_of c.args.tokens.now.rest.now)) (sym c.loop-alloc-test.ensures) c.loop-alloc.invariant)
 
 pub statements-returns-in_err-statement : goal.statements-returns-in_err-statement
 unfolding statements_of

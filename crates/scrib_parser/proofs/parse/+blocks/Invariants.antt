@@ -27,7 +27,7 @@ decreases-statements l = 8 * l.levels + 5
 
 abbrev pub invariant-blocks-loop-alloc : goal.invariant-blocks-loop-alloc
 invariant-blocks-loop-alloc l =
-    with_front l.blocks.items (reading.more_blocks_of (reading.block_of l.levels) (lexemes_of l.tokens.rest.now)) ≡ reading.blocks_of (reading.block_of l.levels) (lexemes_of l.fn.tokens.rest.now)
+    with_front l.blocks.items (reading.more_blocks_of (reading.block_of l.levels) (lexemes_of l.tokens.rest.now)) ≡ reading.read_blocks (reading.block_of l.levels) (lexemes_of l.fn.tokens.rest.now)
 
 abbrev pub decreases-blocks-loop-alloc : goal.decreases-blocks-loop-alloc
 decreases-blocks-loop-alloc l = length (lexemes_of l.tokens.rest.now)

@@ -5,7 +5,7 @@ use Rattle.scrib_parser.proofs.Loop.{with_front}
 use Rattle.scrib_parser.proofs.parse.names.Given as goal
 
 abbrev pub invariant-loop-alloc : goal.invariant-loop-alloc
-invariant-loop-alloc l = with_front l.names.items (reading.more_names_of (lexemes_of l.tokens.rest.now)) ≡ reading.names_of (lexemes_of l.fn.tokens.rest.now)
+invariant-loop-alloc l = with_front l.names.items (reading.more_names_of (lexemes_of l.tokens.rest.now)) ≡ reading.read_names (lexemes_of l.fn.tokens.rest.now)
 
 abbrev pub decreases-loop-alloc : goal.decreases-loop-alloc
 decreases-loop-alloc l = length (lexemes_of l.tokens.rest.now)

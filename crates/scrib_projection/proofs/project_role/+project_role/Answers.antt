@@ -1,5 +1,5 @@
 use Rattle.std.proofs.Common.{◌*◌, ◌<◌, sym, ap, ◌∙◌, subst, arith, rules}
-use Rattle.scrib_types.specs.GlobalView.{global_of, global_branches, comm_of, rec_of, global_views}
+use Rattle.scrib_types.specs.GlobalView.{global_of, global_branches, global_comm, global_rec, global_views}
 use Rattle.scrib_types.specs.LocalView.{local_views}
 use Rattle.scrib_types.specs.Nodes.{global_nodes}
 use Rattle.scrib_projection.specs.Surveys.{IsProjectionResult, AreOwnBranches, AreOtherBranches}
@@ -15,13 +15,13 @@ project_role-returns-in-Var t c = c.skip_uninvolved.ensures.seen _ _ (search (ru
 
 pub project_role-returns-in_ok-outcome-in-Rec : goal.project_role-returns-in_ok-outcome-in-Rec
 project_role-returns-in_ok-outcome-in-Rec t c =
-    let g = ap global_of c.in-Rec.is ∙ rec_of c.in-Rec.body in
+    let g = ap global_of c.in-Rec.is ∙ global_rec c.in-Rec.body in
     let seen = subst (λ b. IsProjectionResult c.args.profile c.args.role.now (global_of b) c.in_ok-body-in-Rec.body) c.get.ensures c.in_ok-body-in-Rec.ensures in
     c.skip_uninvolved.ensures.seen _ _ (subst (λ x. IsProjectionResult c.args.profile c.args.role.now x c.in_ok-outcome-in-Rec.outcome) (sym g) (c.in_ok-outcome-in-Rec.ensures c.args.profile c.args.role.now _ seen))
 
 pub project_role-returns-then-equal : goal.project_role-returns-then-equal
 project_role-returns-then-equal t c =
-    let g = ap global_of c.in-Comm.is ∙ comm_of c.in-Comm.from c.in-Comm.to c.in-Comm.branches in
+    let g = ap global_of c.in-Comm.is ∙ global_comm c.in-Comm.from c.in-Comm.to c.in-Comm.branches in
     let seen = subst (λ bs. AreOwnBranches c.args.profile c.args.role.now (global_branches bs) c.in_ok-own_branches-in-Comm.own_branches) c.as_slice.ensures c.in_ok-own_branches-in-Comm.ensures in
     let s = c.communication-survey.ensures in
     c.skip_uninvolved.ensures.seen _ _ (subst (λ x. IsProjectionResult c.args.profile c.args.role.now x (record { survey = c.communication-survey.result; local = c.in_ok-local-in-Comm.local })) (sym g)
@@ -29,7 +29,7 @@ project_role-returns-then-equal t c =
 
 pub project_role-returns-then-equal-2 : goal.project_role-returns-then-equal-2
 project_role-returns-then-equal-2 t c =
-    let g = ap global_of c.in-Comm.is ∙ comm_of c.in-Comm.from c.in-Comm.to c.in-Comm.branches in
+    let g = ap global_of c.in-Comm.is ∙ global_comm c.in-Comm.from c.in-Comm.to c.in-Comm.branches in
     let seen = subst (λ bs. AreOwnBranches c.args.profile c.args.role.now (global_branches bs) c.in_ok-own_branches-in-Comm-2.own_branches) c.as_slice-then-equal-2.ensures c.in_ok-own_branches-in-Comm-2.ensures in
     let s = c.communication-survey-then-equal-2.ensures in
     c.skip_uninvolved.ensures.seen _ _ (subst (λ x. IsProjectionResult c.args.profile c.args.role.now x (record { survey = c.communication-survey-then-equal-2.result; local = c.in_ok-local-in-Comm-2.local })) (sym g)
@@ -37,7 +37,7 @@ project_role-returns-then-equal-2 t c =
 
 pub project_role-returns-in_ok-others-in-Comm : goal.project_role-returns-in_ok-others-in-Comm
 project_role-returns-in_ok-others-in-Comm t c =
-    let g = ap global_of c.in-Comm.is ∙ comm_of c.in-Comm.from c.in-Comm.to c.in-Comm.branches in
+    let g = ap global_of c.in-Comm.is ∙ global_comm c.in-Comm.from c.in-Comm.to c.in-Comm.branches in
     let seen = subst (λ bs. AreOtherBranches c.args.profile c.args.role.now (global_branches bs) c.in_ok-others-in-Comm.others) c.as_slice-in-Comm.ensures c.in_ok-others-in-Comm.ensures in
     let s = c.communication-survey-in-Comm.ensures in
     c.skip_uninvolved.ensures.seen _ _ (subst (λ x. IsProjectionResult c.args.profile c.args.role.now x (record { survey = c.communication-survey-in-Comm.result; local = c.into_local-local.result })) (sym g)

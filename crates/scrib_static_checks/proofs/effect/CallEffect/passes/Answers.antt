@@ -1,7 +1,7 @@
 use Rattle.std.proofs.Common.{◌≡◌, slice_get, Some, ℕ, ◌<◌, length, get_or, option_map, List, Bor, sym, ap, ◌∙◌, subst, arith, tests}
 use Rattle.std.proofs.lemmas.List.{length-map}
 use Rattle.std.proofs.lemmas.Option.{slice_get-map, slice_get-get_or, slice_get_within}
-use Rattle.scrib_types.specs.GlobalView.{global_of, comm_of}
+use Rattle.scrib_types.specs.GlobalView.{global_of, global_comm}
 use Rattle.scrib_types.specs.Trees.{GlobalTree, Comm, GlobalBranches}
 use Rattle.scrib_types.specs.declared.spot.Spot.{Spot}
 use Rattle.scrib_static_checks.specs.declared.effect.CallEffect.{CallEffect}
@@ -36,7 +36,7 @@ within effect k at spot given g is passed =
 
 pub returns-then-chooser-given : goal.returns-then-chooser-given
 returns-then-chooser-given c =
-    let made = ap global_of c.in-Comm.is ∙ comm_of c.in-Comm.from c.in-Comm.to c.in-Comm.branches in
+    let made = ap global_of c.in-Comm.is ∙ global_comm c.in-Comm.from c.in-Comm.to c.in-Comm.branches in
     (λ t. passes_where c.args.self c.in-Joining.chooser c.in-Joining.at c.in-Joining.spot c.args.given.now c.index-given-chooser.result _ _ _ _ c.in-Joining.is c.if-chooser-given.true c.index-given-chooser.is made (c.equal.ensures.same.0 t), λ p. c.equal.ensures.same.1 (passes_only c.args.self c.in-Joining.chooser c.in-Joining.at c.in-Joining.spot c.args.given.now c.index-given-chooser.result _ _ _ _ c.in-Joining.is c.if-chooser-given.true c.index-given-chooser.is made p))
 
 pub returns-else-chooser-given : goal.returns-else-chooser-given

@@ -7,7 +7,7 @@ use Rattle.scrib_static_checks.proofs.protocol_index.ProtocolIndex.new.Goals as 
 
 pub loop-place-preserved : goal.loop-place-preserved
 loop-place-preserved c =
-    next_declared c.args.declared.now (c.min.result * 32 + 1) c.loop-place.place c.index-declared-place.result c.loop-place.slots.items c.take_slot.new.slots.items c.loop-place-test.true c.index-declared-place.is c.take_slot.ensures.taken c.loop-place.invariant
+    next_declared c.args.declared.now c.next_power_of_two-size.result c.loop-place.place c.index-declared-place.result c.loop-place.slots.items c.take_slot.new.slots.items c.loop-place-test.true c.index-declared-place.is c.take_slot.ensures.taken c.loop-place.invariant
 
 pub returns : goal.returns
 returns c = λ l.

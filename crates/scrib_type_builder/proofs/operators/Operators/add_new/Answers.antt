@@ -1,7 +1,7 @@
 use Rattle.std.proofs.Common.{◌≡◌, ◌+◌, ◌<◌, Some, length, get_or, set, sym, subst, ◌∙◌, arith}
 use Rattle.std.proofs.lemmas.List.{length-set}
 use Rattle.std.proofs.lemmas.Option.{slice_get-get_or}
-use Rattle.scrib_type_builder.specs.Operators.{slot_of, AreChained}
+use Rattle.scrib_type_builder.specs.Operators.{operator_slot, AreChained}
 use Rattle.scrib_static_checks.proofs.Slots.{read_at}
 use Rattle.scrib_type_builder.proofs.OperatorIndexLemmas.{next_chained}
 use Rattle.scrib_type_builder.proofs.operators.Operators.add_new.Goals as goal
@@ -14,12 +14,12 @@ loop-place-preserved c =
     let bs = c.args.branches.now in
     let place = c.loop-place.place in
     let b = get_or bs place c.index-branches-place.result in
-    let slot = c.slot_of-slot.result in
+    let slot = c.operator_slot-slot.result in
     let o = c.index-earlier.result.now in
-    let within : slot < length latest = omega (arith, c.slot_of-slot.ensures.within, inv.long) in
+    let within : slot < length latest = omega (arith, c.operator_slot-slot.ensures.within, inv.long) in
     let here = slice_get-get_or bs place c.index-branches-place.result c.loop-place-test.true in
     let there = read_at latest slot o within c.index-earlier.ensures in
-    let at : slot ≡ slot_of (length latest) b.0.op = c.slot_of-slot.ensures.slot ∙ (λ i. slot_of (sym inv.long i) (c.get.ensures i).op) in
+    let at : slot ≡ operator_slot (length latest) b.0.op = c.operator_slot-slot.ensures.slot ∙ (λ i. operator_slot (sym inv.long i) (c.get.ensures i).op) in
     record {
       long = length-set latest slot (Some place) ∙ inv.long;
       some = inv.some;

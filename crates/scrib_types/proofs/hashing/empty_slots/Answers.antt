@@ -1,6 +1,6 @@
 use Rattle.std.proofs.Common.{arith}
 use Rattle.std.proofs.lemmas.Grind.{common_steps}
-use Rattle.scrib_static_checks.proofs.protocol_index.empty.Goals as goal
+use Rattle.scrib_types.proofs.hashing.empty_slots.Goals as goal
 
 pub loop-preserved : goal.loop-preserved
-loop-preserved c = grind (arith, common_steps)
+loop-preserved g c = grind (arith, common_steps)
