@@ -3,19 +3,19 @@ use Rattle.std.proofs.Common.{◌≡◌, ◌∙◌, ℕ, zero, suc, Bool, true, 
 use Rattle.std.specs.List.{IsDistinct}
 use Rattle.std.specs.Map.{keys_of, values_of, lookup}
 use Rattle.std.specs.Cmp.{nat_eq_equiv}
-use Rattle.std.proofs.lemmas.Option.{none-some, same_Some, slice_get-map}
+use Rattle.std.proofs.lemmas.Option.{none-some, slice_get-map}
 use Rattle.std.proofs.lemmas.Map.Entries.{lookup_from_place}
 use Rattle.indexmap.specs.IndexMap.{IndexMap, IsUnchanged, insert_entry, set_value_at}
 use Rattle.scrib_types.specs.declared.event.Event.{Event}
 use Rattle.scrib_library.specs.Holdings.{Holdings}
 use Rattle.scrib_core.specs.Held.{Records}
 use Rattle.scrib_locked_steps.specs.declared.pass_calls.PassRefusal.{PassRefusal}
-use Rattle.scrib_locked_steps.specs.declared.step_results.Noted.{Noted}
+use Rattle.scrib_core.specs.declared.conversation_steps.Noted.{Noted}
 use Rattle.scrib_locked_steps.specs.OneByOne.{OneByOne}
 use Rattle.scrib_locked_steps.specs.Passes.{PassHeld, IsReceipted}
 use Rattle.scrib_locked_steps.specs.Passing.{AnswersBy}
 use Rattle.scrib_shards.specs.Called.{AreAnsweredSome}
-use Rattle.scrib_client.specs.ConnectionPasses.{AreOwn, conversation_of, pass_of}
+use Rattle.scrib_client.specs.ConnectionPasses.{AreOwn, conversation_id, pass_of}
 
 abbrev held_to : PassHeld → ℕ
 held_to p = p.conversation
@@ -29,7 +29,7 @@ module _ (id : ℕ) where
       by : (t : Bool) → nat_eq id e.0 ≡ t → AreOwn (insert_entry nat_eq es id p) → AreOwn (if t then (e.0, p) ∷ es else e ∷ insert_entry nat_eq es id p)
       by true same rest =
           let here : p.conversation ≡ e.0 = is ∙ eqb-true id e.0 same in
-          let others : map conversation_of es ≡ keys_of es = cc own in
+          let others : map conversation_id es ≡ keys_of es = cc own in
           cc (here, others)
       by false other rest =
           let first : e.1.conversation ≡ e.0 = cc own in
@@ -68,15 +68,12 @@ module _ (id : ℕ) where
       let is : e.1 ≡ p = cc value in
       sym (ap held_to is) ∙ first ∙ cc key
   own_there (e ∷ es) (suc at) p own key value =
-      let rest : map conversation_of es ≡ keys_of es = cc own in
+      let rest : map conversation_id es ≡ keys_of es = cc own in
       own_there es at p rest key value
 
-  -- the pass of an entry that was read at the index of an id is the pass of the id
-  pub pass_read : (kept : List (ℕ × PassHeld)) (at key : ℕ) (p : PassHeld) → Some (key, p) ≡ slice_get kept at → lookup (nat_eq key) kept ≡ Some p → slice_get (keys_of kept) at ≡ Some id → pass_of kept id ≡ p
-  pass_read kept at key p read found there =
-      let read_key : slice_get (keys_of kept) at ≡ Some key = slice_get-map (λ (e : ℕ × PassHeld). e.0) kept at ∙ ap (option_map (λ (e : ℕ × PassHeld). e.0)) (sym read) in
-      let same : key ≡ id = same_Some key id (sym read_key ∙ there) in
-      ap (λ (o : Option PassHeld). unwrap_or o (record { conversation = id; receipts = [] })) (subst (λ (n : ℕ). lookup (nat_eq n) kept ≡ Some p) same found)
+  -- the value of an entry that was read
+  pub value_read : (kept : List (ℕ × PassHeld)) (at key : ℕ) (p : PassHeld) → slice_get kept at ≡ Some (key, p) → slice_get (values_of kept) at ≡ Some p
+  value_read kept at key p read = slice_get-map (λ (e : ℕ × PassHeld). e.1) kept at ∙ ap (option_map (λ (e : ℕ × PassHeld). e.1)) read
 
   keys_set : (kept : List (ℕ × PassHeld)) (at : ℕ) (w : PassHeld) → keys_of (set_value_at kept at w) ≡ keys_of kept
   keys_set [] at w = refl
@@ -98,11 +95,11 @@ module _ (id : ℕ) where
   own_set [] at w own key is = refl
   own_set (e ∷ es) zero w own key is =
       let here : w.conversation ≡ e.0 = cc in
-      let rest : map conversation_of es ≡ keys_of es = cc own in
+      let rest : map conversation_id es ≡ keys_of es = cc own in
       cc (here, rest)
   own_set (e ∷ es) (suc at) w own key is =
       let first : e.1.conversation ≡ e.0 = cc own in
-      let rest : map conversation_of es ≡ keys_of es = cc own in
+      let rest : map conversation_id es ≡ keys_of es = cc own in
       cc (first, own_set es at w rest key is)
 
   -- inserting a new pass keeps `AreOwn`, whether it succeeds or fails

@@ -1,5 +1,5 @@
 -- The replies of a service to a connection, and their text (this project's own).
-use Rattle.std.specs.Prelude.{ℕ, Bool, true, false, List, [], ◌∷◌, ◌++◌, Result, Ok, Err}
+use Rattle.std.specs.Prelude.{ℕ, Bool, true, false, List, [], ◌∷◌, Result, Ok, Err}
 use Rattle.scrib_types.specs.declared.event.Told.{Told}
 use Rattle.scrib_types.specs.declared.profile.Profile.{Profile}
 use Rattle.scrib_library.specs.declared.changes.Change.{Change}
@@ -11,12 +11,10 @@ use Rattle.scrib_core.specs.declared.reply.Refusal.TheVariants as refusal
 use Rattle.scrib_core.specs.declared.reply.Reply.TheVariants as reply
 use Rattle.scrib_locked_steps.specs.declared.pass_calls.PassRefusal.{PassRefusal}
 use Rattle.scrib_locked_steps.specs.declared.pass_calls.PassRefusal.TheVariants as pass
-use Rattle.scrib_locked_steps.specs.declared.step_results.Noted.{Noted}
-use Rattle.scrib_report.specs.Json.{judged_json, mismatch_json}
-use Rattle.scrib_report.specs.Services.{judged_text, mismatch_text}
+use Rattle.scrib_core.specs.declared.conversation_steps.Noted.{Noted}
+use Rattle.scrib_report.specs.Parts.{Part, reply_part, judged_part, mismatch_part}
 use Rattle.scrib_core.specs.declared.format.Format.{Format}
-use Rattle.scrib_core.specs.declared.format.Format.TheVariants as format
-use Rattle.scrib_report.specs.ReplyTexts.{reply_text}
+use Rattle.scrib_report.specs.ReplyTexts.{part_text}
 use Rattle.scrib_client.specs.declared.service_reply.ServiceReply.{ServiceReply}
 use Rattle.scrib_client.specs.declared.service_reply.ServiceReply.TheVariants as service_reply
 
@@ -82,10 +80,12 @@ is_noted (service_reply.Reply (reply.Refused f)) = false
 is_noted (service_reply.Judged id verdict) = false
 is_noted (service_reply.Mismatch c place) = false
 
+-- the part of the output that a reply is
+abbrev pub part_of_reply : ServiceReply → Part
+part_of_reply (service_reply.Reply r) = reply_part r
+part_of_reply (service_reply.Judged id verdict) = judged_part id verdict
+part_of_reply (service_reply.Mismatch c place) = mismatch_part c place
+
 -- the text of a reply in this format, with its LF
 abbrev pub service_reply_text : Format → ServiceReply → List ℕ
-service_reply_text f (service_reply.Reply r) = reply_text f r
-service_reply_text format.Line (service_reply.Judged id verdict) = judged_text id verdict ++ 10 ∷ []
-service_reply_text format.Json (service_reply.Judged id verdict) = judged_json id verdict ++ 10 ∷ []
-service_reply_text format.Line (service_reply.Mismatch c place) = mismatch_text c place ++ 10 ∷ []
-service_reply_text format.Json (service_reply.Mismatch c place) = mismatch_json c place ++ 10 ∷ []
+service_reply_text f a = part_text f (part_of_reply a)

@@ -4,6 +4,7 @@ ghost use Rattle.scrib_client.specs.ConnectionPasses.{AreOwn};
 
 use indexmap::IndexMap;
 use scrib_core::reply::Refusal;
+use scrib_shards::batch_notes::Batch;
 use scrib_shards::gate::OpenGate;
 use scrib_shards::pass::Pass;
 use scrib_shards::pass_calls::{PassRefusal, PassReply};
@@ -23,7 +24,7 @@ pub struct Passes {
 }
 
 impl Passes {
-    ghost use Rattle.std.specs.Prelude.{◌≡◌, ◌<◌, ◌≤◌, [], IfOk, IfErr, IfSome, OnErr, IsSome, None, Some, nat_eq, slice_get, vec_len, vec_capacity};
+    ghost use Rattle.std.specs.Prelude.{◌≡◌, ◌<◌, ◌≤◌, [], IfOk, IfErr, IfSome, OnErr, IsSome, None, Some, nat_eq, slice_get, vec_len};
     ghost use Rattle.std.specs.Map.{lookup};
     ghost use Rattle.indexmap.specs.IndexMap.{index_map_len, keys, values};
     ghost use Rattle.scrib_locked_steps.specs.Passes.{PassHeld, IsReceipted, IsAnsweredOn};
@@ -77,42 +78,35 @@ impl Passes {
             Ok(at) => at,
             Err(refusal) => return Err(PassRefusal::Step(refusal)),
         };
-        match self.by_id.get_index_mut(at) {
-            Some(pass) => service.note(rt, pass, event, &OpenGate),
-            None => unreachable!(),
-        }
+        let (_, pass) = self.by_id.pair_mut(at);
+        service.note(rt, pass, event, &OpenGate)
     }
 
     /// Notes the events one after another by the pass of the conversation. Connects first where there is no pass.
     ///
-    /// Returns the service's reply to each, in `room`, which must be empty and have capacity for them.
+    /// Returns the service's reply to each, in the list of the batch.
     ///
     /// # Errors
-    /// Returns the events where the conversation isn't open, and where memory for a pass is refused.
+    /// Returns the batch where the conversation isn't open, and where memory for a pass is refused.
     pub fn note_all(
         &mut self,
         rt: &impl Wait,
         service: &Service,
         id: u32,
-        events: Vec<SharedEvent>,
-        room: Vec<PassReply>,
-    ) -> Result<Vec<PassReply>, Vec<SharedEvent>>
-        requires empty { room.items ≡ [] }
-        requires room { vec_len events ≤ vec_capacity room }
+        batch: Batch,
+    ) -> Result<Vec<PassReply>, Batch>
         ensures own { (pass_of self.old.by_id.entries id).conversation ≡ id }
         ensures answered { IfOk result (λ answers.
-            AreAnsweredSome (pass_of self.old.by_id.entries id) events.items answers.items
+            AreAnsweredSome (pass_of self.old.by_id.entries id) batch.events.items answers.items
             (pass_of self.new.by_id.entries id)) }
-        ensures each { IfOk result (λ answers. vec_len answers ≡ vec_len events) }
-        ensures back { IfErr result (λ back. back ≡ events) }
+        ensures each { IfOk result (λ answers. vec_len answers ≡ vec_len batch.events) }
+        ensures back { IfErr result (λ back. back ≡ batch) }
     {
         let Ok(at) = self.find_or_connect(rt, service, id) else {
-            return Err(events);
+            return Err(batch);
         };
-        let Some(pass) = self.by_id.get_index_mut(at) else {
-            unreachable!()
-        };
-        Ok(service.note_all(rt, pass, events, room, &OpenGate))
+        let (_, pass) = self.by_id.pair_mut(at);
+        Ok(service.note_all(rt, pass, batch, &OpenGate))
     }
 
     /// Asks for the verdict on the conversation by its pass. Connects first where there is no pass.
@@ -133,10 +127,8 @@ impl Passes {
             Ok(at) => at,
             Err(refusal) => return Err(PassRefusal::Step(refusal)),
         };
-        match self.by_id.get_index(at) {
-            Some((_, pass)) => service.ask(rt, pass),
-            None => unreachable!(),
-        }
+        let (_, pass) = self.by_id.pair_mut(at);
+        service.ask(rt, pass)
     }
 
     // The index of the pass of the conversation. Connects where there is no pass, and makes no second one.

@@ -3,19 +3,18 @@
 ghost use Rattle.std.specs.Prelude.{◌≡◌, ◌++◌, OnOk};
 ghost use Rattle.scrib_core.specs.declared.reply.Reply.TheVariants.{Refused};
 ghost use Rattle.scrib_client.specs.declared.service_reply.ServiceReply.TheVariants as service_reply;
-ghost use Rattle.scrib_client.specs.ServiceReplies.{service_reply_text, ask_reply, edit_reply, is_change, is_noted, noted_reply, profile_reply, refusal_reply, turn_reply};
+ghost use Rattle.scrib_client.specs.ServiceReplies.{service_reply_text, ask_reply, edit_reply, is_change, is_noted, noted_reply, part_of_reply, profile_reply, refusal_reply, turn_reply};
+ghost use Rattle.scrib_report.specs.Parts.{part_of};
 
 use scrib_core::format::Format;
 use scrib_core::reply::{Edit, Refusal, Reply};
 use scrib_library::changes::Changes;
 use scrib_library::fault::EditFault;
-use scrib_report::json::{judged_json, mismatch_json};
-use scrib_report::printing::push_reply;
-use scrib_report::service::{judged_line, mismatch_line};
+use scrib_report::part::OutputPart;
+use scrib_report::printing::push_part;
 use scrib_shards::pass_calls::{PassRefusal, PassReply};
 use scrib_types::event::Told;
 use scrib_types::profile::Profile;
-use scrib_types::text::push_bytes;
 use std::alloc::AllocError;
 
 /// The reply of a service to a step.
@@ -124,6 +123,24 @@ pub fn is_change(service_reply: &ServiceReply) -> bool
     }
 }
 
+// The part of the output that the reply is.
+#[inline(always)]
+fn part_of_reply(service_reply: &ServiceReply) -> OutputPart<'_>
+    ensures { part_of result ≡ part_of_reply service_reply.now }
+{
+    match service_reply {
+        ServiceReply::Reply(reply) => OutputPart::Reply(reply),
+        ServiceReply::Judged { id, told } => OutputPart::Judged { id: *id, told },
+        ServiceReply::Mismatch {
+            conversation,
+            place,
+        } => OutputPart::Mismatch {
+            conversation: *conversation,
+            place: *place,
+        },
+    }
+}
+
 /// Appends the text of the reply in this format, and an LF.
 ///
 /// # Errors
@@ -135,26 +152,5 @@ pub fn push_service_reply(
 ) -> Result<(), AllocError>
     ensures { OnOk result (lines.new.items ≡ lines.old.items ++ service_reply_text format service_reply.now) }
 {
-    let alloc = *lines.allocator();
-    let text = match (service_reply, format) {
-        (ServiceReply::Reply(reply), _) => return push_reply(lines, reply, format),
-        (ServiceReply::Judged { id, told }, Format::Line) => judged_line(alloc, *id, told)?,
-        (ServiceReply::Judged { id, told }, Format::Json) => judged_json(alloc, *id, told)?,
-        (
-            ServiceReply::Mismatch {
-                conversation,
-                place,
-            },
-            Format::Line,
-        ) => mismatch_line(alloc, *conversation, *place)?,
-        (
-            ServiceReply::Mismatch {
-                conversation,
-                place,
-            },
-            Format::Json,
-        ) => mismatch_json(alloc, *conversation, *place)?,
-    };
-    push_bytes(lines, text.as_slice())?;
-    push_bytes(lines, b"\n")
+    push_part(lines, &part_of_reply(service_reply), format)
 }

@@ -1,7 +1,7 @@
 -- From the effects on records to the replies of steps.
-use Rattle.std.proofs.Common.{◌≡◌, ◌≢◌, inl, ℕ, ◌+◌, ◌<◌, ◌≤◌, Bool, true, false, cond, List, [], ◌∷◌, ◌++◌, map, length, Option, Some, None, option_map, nat_eq, refl, sym, ap, subst, ◌∙◌}
-use Rattle.std.specs.Prelude.{IsSome}
-use Rattle.std.specs.Map.{lookup, set_value}
+use Rattle.std.proofs.Common.{◌≡◌, inl, ℕ, ◌<◌, ◌≤◌, Bool, true, false, cond, List, [], ◌∷◌, ◌++◌, map, length, Option, Some, None, option_map, nat_eq, refl, sym, ap, subst, ◌∙◌}
+use Rattle.std.specs.Prelude.{IsSome, Result, Ok, Err, IfOk, IfErr, OnOk, OnErr}
+use Rattle.std.specs.Map.{set_value}
 use Rattle.std.specs.Cmp.{nat_eq_equiv}
 use Rattle.std.proofs.lemmas.Bool.{true≢false}
 use Rattle.std.proofs.lemmas.Bool.Decides.{Decides-eqb}
@@ -13,12 +13,14 @@ use Rattle.scrib_types.specs.declared.event.Event.{Event}
 use Rattle.scrib_types.specs.declared.event.Told.{Told}
 use Rattle.scrib_types.specs.declared.event.Told.TheVariants as tell
 use Rattle.scrib_record.specs.declared.version.Version.{Version}
-use Rattle.scrib_record.specs.Stale.{Recorded, is_present, IsLawful}
+use Rattle.scrib_record.specs.Stale.{Recorded, IsLawful}
 use Rattle.scrib_record.specs.Told as record_verdict
 use Rattle.scrib_record.specs.Turns.{new_record, new_fresh}
 use Rattle.scrib_record.specs.Versions.{meaning_of, number_of, AreOfOneStamp}
 use Rattle.scrib_library.specs.Holdings.{Holdings, HasNumber, AreNumbered}
 use Rattle.scrib_library.specs.Modules.{Means, MeansOnce}
+use Rattle.scrib_core.specs.declared.conversation_steps.Noted.{Noted}
+use Rattle.scrib_core.specs.declared.conversation_steps.Judged.{Judged}
 use Rattle.scrib_core.specs.declared.step.Step.{Step}
 use Rattle.scrib_core.specs.declared.step.Step.TheVariants.{Open, Note, Turn, Ask}
 use Rattle.scrib_core.specs.declared.reply.Refusal.{Refusal}
@@ -26,10 +28,11 @@ use Rattle.scrib_core.specs.declared.reply.Refusal.TheVariants as refusal
 use Rattle.scrib_core.specs.declared.reply.Reply.{Reply}
 use Rattle.scrib_core.specs.declared.reply.Reply.TheVariants as reply
 use Rattle.scrib_core.specs.World.{Conversation, conversation, noted, opened, Follows, Refuses}
-use Rattle.scrib_core.specs.Marks.{Mark, Fresh, Stale, IsStale, IsLeft, UpdatesMarks}
-use Rattle.scrib_core.specs.Answers.{IsReported, IsAnswered, IsDue}
+use Rattle.scrib_core.specs.Marks.{Mark, Fresh, IsStale, IsLeft, UpdatesMarks}
+use Rattle.scrib_core.specs.Answers.{IsReportedIn, IsAnswered, IsDue}
 use Rattle.scrib_core.specs.Held.{Records, Held, LeavesRefused, record_at, conversation_of, world_of, mark_of, mark_at, marks_of, state, IsKnown, AreKnown}
-use Rattle.scrib_core.specs.ConversationSteps.{IsPresent, IsOpened, OpenFails, IsNotedAt, NoteFails, IsTurnedAt, IsAskedAt, VerdictFails, AnswersOpen, AnswersNote, AnswersTurn, AnswersAsk}
+use Rattle.scrib_core.specs.ConversationSteps.{IsPresent, IsOpened, OpenFails, IsNotedAt, NoteFails, IsTurnedAt, IsAskedAt, VerdictFails}
+use Rattle.scrib_core.specs.ReplyValues.{open_reply_of, note_reply_of, verdict_reply_of}
 use Rattle.scrib_core.proofs.MarkLemmas.{fresh_mark, stale_mark, note_mark, turn_mark}
 
 same_some : {X : Type 0} (x y : X) → Some x ≡ Some y → x ≡ y
@@ -101,7 +104,7 @@ at_push_new (y ∷ rs) i x e = by (nat_eq i y.0) e (at_push_new rs i x)
 
 -- the verdict reported on a record is reported on its conversation
 verdict_holds : (h : Holdings) (rs : Records) (id : ℕ) (r : Recorded) (present : Option Version) (answer : Told) → AreNumbered h → MeansOnce h.modules → IsKnown h r → record_at rs id ≡ Some r
-    → IsPresent h r.name present → IsLawful r → record_verdict.IsReported present r answer → IsReported (state h rs) id answer
+    → IsPresent h r.name present → IsLawful r → record_verdict.IsReported present r answer → IsReportedIn (state h rs) id answer
 verdict_holds h rs id r present tell.Stale numbered once known e here lawful t =
     subst (λ (o : Option Recorded). IsStale (mark_at h o)) (sym e) (stale_mark h r present numbered once known here lawful t)
 verdict_holds h rs id r present (tell.Judged v) numbered once known e here lawful t = (
@@ -229,8 +232,8 @@ module _ (h : Holdings) (old : Records) (numbered : AreNumbered h) (once : Means
     note_refused refusal.LogFull x same = refused (Note id e) refusal.LogFull new (conversation_of x.0, seen h old id (Some x.0) x.1, x.2) tt same
     note_refused refusal.OutOfMemory x same = refused (Note id e) refusal.OutOfMemory new tt (conversation_of x.0, seen h old id (Some x.0) x.1, x.2) same
 
-    note_made : (i place : ℕ) (answer : Told) → i ≡ id → IsNotedAt h old id e place answer new → Makes h old (Note id e) (reply.Noted i place answer) h new
-    note_made i place answer is x =
+    note_made : (place : ℕ) (answer : Told) → IsNotedAt h old id e place answer new → Makes h old (Note id e) (reply.Noted id place answer) h new
+    note_made place answer x =
         let r = x.before in
         let s = x.after in
         let rest : Records = set_value (nat_eq id) old x.after in
@@ -242,25 +245,21 @@ module _ (h : Holdings) (old : Records) (numbered : AreNumbered h) (once : Means
         let conv : conversation_of x.after ≡ noted (conversation_of x.before) e = λ j. record { name = x.noted.name j; log = x.noted.log j } in
         let world : world_of h rest ≡ record { profile = h.profile; modules = h.modules; used = h.used; conversations = set_value (nat_eq id) (world_of h old).conversations (noted (conversation_of x.before) e) } =
         λ j. record { profile = h.profile; modules = h.modules; used = h.used; conversations = (set_seen (nat_eq id) old x.after ∙ ap (set_value (nat_eq id) (world_of h old).conversations) conv) j } in
-        let made : Makes h old (Note id e) (reply.Noted i place answer) h rest = record {
+        let made : Makes h old (Note id e) (reply.Noted id place answer) h rest = record {
           answered = record {
             follows = (conversation_of x.before, seen h old id (Some x.before) x.there, x.room, world);
-            replies = (is, (conversation_of x.after, seen h rest id (Some x.after) there, x.place_is), verdict_holds h rest id x.after x.present answer numbered once k' there here x.lawful x.noted.told);
+            replies = (refl, (conversation_of x.after, seen h rest id (Some x.after) there, x.place_is), verdict_holds h rest id x.after x.present answer numbered once k' there here x.lawful x.noted.told);
             remarks = set_remarks h old id x.before x.after x.there (Note id e) marked (λ j events m other. refl);
           };
           due = tt;
           left = tt;
           known = set_known h old id x.before x.after x.there k' known;
         } in
-        subst (Makes h old (Note id e) (reply.Noted i place answer) h) (sym x.put) made
+        subst (Makes h old (Note id e) (reply.Noted id place answer) h) (sym x.put) made
 
-    pub note_answered : (answer : Reply) → AnswersNote h old id e answer new → Makes h old (Note id e) answer h new
-    note_answered (reply.Noted i place told) x = note_made i place told x.0 x.1
-    note_answered (reply.Refused f) x = note_refused f x.0 x.1
-    note_answered (reply.Edited d changes) x = absurd x
-    note_answered (reply.Profiled p) x = absurd x
-    note_answered (reply.Opened i n) x = absurd x
-    note_answered (reply.Judged i n events told) x = absurd x
+    pub note_answered : (r : Result Noted Refusal) → IfOk r (λ n. IsNotedAt h old id e n.place n.told new) → IfErr r (NoteFails old id) → OnErr r (new ≡ old) → Makes h old (Note id e) (note_reply_of id r) h new
+    note_answered (Ok n) made fails same = note_made n.place n.told made
+    note_answered (Err f) made fails same = note_refused f fails same
 
   module _ (id : ℕ) (new : Records) where
     turn_refused : (f : Refusal) → VerdictFails old id f → new ≡ old → Makes h old (Turn id) (reply.Refused f) h new
@@ -272,8 +271,8 @@ module _ (h : Holdings) (old : Records) (numbered : AreNumbered h) (once : Means
     turn_refused refusal.LogFull x same = absurd x
     turn_refused refusal.OutOfMemory x same = refused (Turn id) refusal.OutOfMemory new tt (some_seen h old id x) same
 
-    turn_made : (i : ℕ) (name : List (List ℕ)) (events : ℕ) (answer : Told) → i ≡ id → IsTurnedAt h old id name events answer new → Makes h old (Turn id) (reply.Judged i name events answer) h new
-    turn_made i name events answer is x =
+    turn_made : (name : List (List ℕ)) (events : ℕ) (answer : Told) → IsTurnedAt h old id name events answer new → Makes h old (Turn id) (reply.Judged id name events answer) h new
+    turn_made name events answer x =
         let rest : Records = set_value (nat_eq id) old x.after in
         let k : IsKnown h x.before = known id x.before x.there in
         let here : IsPresent h x.after.name x.present = subst (λ (n : List (List ℕ)). IsPresent h n x.present) (sym x.turned.name) x.is_present in
@@ -285,17 +284,17 @@ module _ (h : Holdings) (old : Records) (numbered : AreNumbered h) (once : Means
         let world : world_of h rest ≡ world_of h old =
         λ j. record { profile = h.profile; modules = h.modules; used = h.used; conversations = (set_seen (nat_eq id) old x.after ∙ ap (set_value (nat_eq id) (world_of h old).conversations) conv ∙ kept) j } in
         let marked = turn_mark h x.before x.after x.present numbered once answer k k' x.is_present x.turned in
-        let made : Makes h old (Turn id) (reply.Judged i name events answer) h rest = record {
+        let made : Makes h old (Turn id) (reply.Judged id name events answer) h rest = record {
           answered = record {
             follows = (some_seen h old id (subst IsSome (sym x.there) refl), world);
             replies = (
-              is,
+              refl,
               record {
                 of = conversation_of x.after;
                 there = seen h rest id (Some x.after) there;
                 name_is = x.name_is;
                 events_are = x.events_are;
-                told = verdict_holds h rest id x.after x.present answer numbered once k' there here x.lawful x.turned.told;
+                reported = verdict_holds h rest id x.after x.present answer numbered once k' there here x.lawful x.turned.told;
               },
             );
             remarks = set_remarks h old id x.before x.after x.there (Turn id) (λ same. marked, λ apart. absurd (apart refl)) (left_by_other_turn id);
@@ -304,15 +303,12 @@ module _ (h : Holdings) (old : Records) (numbered : AreNumbered h) (once : Means
           left = tt;
           known = set_known h old id x.before x.after x.there k' known;
         } in
-        subst (Makes h old (Turn id) (reply.Judged i name events answer) h) (sym x.put) made
+        subst (Makes h old (Turn id) (reply.Judged id name events answer) h) (sym x.put) made
 
-    pub turn_answered : (answer : Reply) → AnswersTurn h old id answer new → Makes h old (Turn id) answer h new
-    turn_answered (reply.Judged i name events told) x = turn_made i name events told x.0 x.1
-    turn_answered (reply.Refused f) x = turn_refused f x.0 x.1
-    turn_answered (reply.Edited d changes) x = absurd x
-    turn_answered (reply.Profiled p) x = absurd x
-    turn_answered (reply.Opened i n) x = absurd x
-    turn_answered (reply.Noted i place told) x = absurd x
+    pub turn_answered : (r : Result Judged Refusal) → IfOk r (λ j. IsTurnedAt h old id j.name j.events j.told new) → IfErr r (VerdictFails old id) → OnErr r (new ≡ old)
+        → Makes h old (Turn id) (verdict_reply_of id r) h new
+    turn_answered (Ok j) made fails same = turn_made j.name j.events j.told made
+    turn_answered (Err f) made fails same = turn_refused f fails same
 
   module _ (id : ℕ) where
     ask_refused : (f : Refusal) → VerdictFails old id f → Makes h old (Ask id) (reply.Refused f) h old
@@ -324,18 +320,18 @@ module _ (h : Holdings) (old : Records) (numbered : AreNumbered h) (once : Means
     ask_refused refusal.LogFull x = absurd x
     ask_refused refusal.OutOfMemory x = refused (Ask id) refusal.OutOfMemory old tt (some_seen h old id x) refl
 
-    ask_made : (i : ℕ) (name : List (List ℕ)) (events : ℕ) (answer : Told) → i ≡ id → IsAskedAt h old id name events answer → Makes h old (Ask id) (reply.Judged i name events answer) h old
-    ask_made i name events answer is x = record {
+    ask_made : (name : List (List ℕ)) (events : ℕ) (answer : Told) → IsAskedAt h old id name events answer → Makes h old (Ask id) (reply.Judged id name events answer) h old
+    ask_made name events answer x = record {
       answered = record {
         follows = (some_seen h old id (subst IsSome (sym x.there) refl), refl);
         replies = (
-          is,
+          refl,
           record {
             of = conversation_of x.of;
             there = seen h old id (Some x.of) x.there;
             name_is = x.name_is;
             events_are = x.events_are;
-            told = verdict_holds h old id x.of x.present answer numbered once (known id x.of x.there) x.there x.is_present x.lawful x.told;
+            reported = verdict_holds h old id x.of x.present answer numbered once (known id x.of x.there) x.there x.is_present x.lawful x.told;
           },
         );
         remarks = same_remarks h old (Ask id) (left_by_ask id);
@@ -345,13 +341,9 @@ module _ (h : Holdings) (old : Records) (numbered : AreNumbered h) (once : Means
       known = known;
     }
 
-    pub ask_answered : (answer : Reply) → AnswersAsk h old id answer → Makes h old (Ask id) answer h old
-    ask_answered (reply.Judged i name events told) x = ask_made i name events told x.0 x.1
-    ask_answered (reply.Refused f) x = ask_refused f x
-    ask_answered (reply.Edited d changes) x = absurd x
-    ask_answered (reply.Profiled p) x = absurd x
-    ask_answered (reply.Opened i n) x = absurd x
-    ask_answered (reply.Noted i place told) x = absurd x
+    pub ask_answered : (r : Result Judged Refusal) → IfOk r (λ j. IsAskedAt h old id j.name j.events j.told) → IfErr r (VerdictFails old id) → Makes h old (Ask id) (verdict_reply_of id r) h old
+    ask_answered (Ok j) made fails = ask_made j.name j.events j.told made
+    ask_answered (Err f) made fails = ask_refused f fails
 
   module _ (id : ℕ) (name : List (List ℕ)) (new : Records) where
     open_refused : (f : Refusal) → OpenFails 65536 h old id name f → new ≡ old → Makes h old (Open id name) (reply.Refused f) h new
@@ -401,21 +393,18 @@ module _ (h : Holdings) (old : Records) (numbered : AreNumbered h) (once : Means
       open_follows : Follows (world_of h old) (Open id name) (world_of h (old ++ (id, new_record name v) ∷ []))
       open_follows = (seen h old id None absent, (meaning_of v, present.meaning), few, pushed_world)
 
-      open_made : (i : ℕ) (n : List (List ℕ)) → i ≡ id → n ≡ name → Makes h old (Open id name) (reply.Opened i n) h (old ++ (id, new_record name v) ∷ [])
-      open_made i n is named = record {
-        answered = record { follows = open_follows; replies = (is, named); remarks = pushed_remarks };
+      open_made : (n : List (List ℕ)) → n ≡ name → Makes h old (Open id name) (reply.Opened id n) h (old ++ (id, new_record name v) ∷ [])
+      open_made n named = record {
+        answered = record { follows = open_follows; replies = (refl, named); remarks = pushed_remarks };
         due = tt;
         left = tt;
         known = λ j q e. pushed_known j q (record_at old j) refl e;
       }
 
-    opened_answered : (i : ℕ) (n : List (List ℕ)) → i ≡ id → n ≡ name → IsOpened 65536 h old id name new → Makes h old (Open id name) (reply.Opened i n) h new
-    opened_answered i n is named x = subst (Makes h old (Open id name) (reply.Opened i n) h) (sym x.added) (open_made x.version x.absent x.present x.room i n is named)
+    opened_answered : (n : List (List ℕ)) → n ≡ name → IsOpened 65536 h old id name new → Makes h old (Open id name) (reply.Opened id n) h new
+    opened_answered n named x = subst (Makes h old (Open id name) (reply.Opened id n) h) (sym x.added) (open_made x.version x.absent x.present x.room n named)
 
-    pub open_answered : (answer : Reply) → AnswersOpen 65536 h old id name answer new → Makes h old (Open id name) answer h new
-    open_answered (reply.Opened i n) x = opened_answered i n x.0 x.1 x.2
-    open_answered (reply.Refused f) x = open_refused f x.0 x.1
-    open_answered (reply.Edited d changes) x = absurd x
-    open_answered (reply.Profiled p) x = absurd x
-    open_answered (reply.Noted i place told) x = absurd x
-    open_answered (reply.Judged i n events told) x = absurd x
+    pub open_answered : (r : Result (List (List ℕ)) Refusal) → IfOk r (λ n. n ≡ name) → OnOk r (IsOpened 65536 h old id name new) → IfErr r (OpenFails 65536 h old id name) → OnErr r (new ≡ old)
+        → Makes h old (Open id name) (open_reply_of id r) h new
+    open_answered (Ok n) named made fails same = opened_answered n named made
+    open_answered (Err f) named made fails same = open_refused f fails same

@@ -16,7 +16,7 @@ use Rattle.scrib_library.specs.Modules.{Means, MeansOnce, AllProject}
 use Rattle.scrib_library.specs.Profiles.{ProfileFails}
 use Rattle.scrib_core.specs.World.{Conversation, Refuses}
 use Rattle.scrib_core.specs.Answers.{IsDue}
-use Rattle.scrib_core.specs.ReplyValues.{refusal_of, reply_of, profile_reply_of}
+use Rattle.scrib_core.specs.ReplyValues.{refusal_of, edit_reply_of, profile_reply_of}
 use Rattle.scrib_core.specs.Marks.{Mark, Fresh, Stale, IsLeft, IsReset, UpdatesMarks}
 use Rattle.scrib_core.specs.Held.{number_at, mark, held_number, mark_of, mark_at, marks_of, conversation_of, world_of, Records, record_at, IsKnown, AreKnown}
 use Rattle.scrib_library.specs.declared.changes.Changes.{Changes as EditChanges}
@@ -225,12 +225,12 @@ module _ (h : Holdings) (rs : Records) (numbered : AreNumbered h) (once : MeansO
 
   module _ (k : Holdings) (after : AreNumbered k) where
     pub put_answered : (text : List ℕ) (edited : Result EditChanges EditFault) → IfOk edited (λ changes. (m : ModuleTree) × IsPut h.profile h.modules text m k.modules × (changes.module ≡ m.name) × IsChanges h.modules k.modules changes.list)
-        → IfOk edited (λ changes. AreVersionsUsed h k changes.list) → k.profile ≡ h.profile → IfErr edited (PutFails h.profile h.modules h.used text) → OnErr edited (k ≡ h) → Makes h rs (Put text) (reply_of edit.Put edited) k rs
+        → IfOk edited (λ changes. AreVersionsUsed h k changes.list) → k.profile ≡ h.profile → IfErr edited (PutFails h.profile h.modules h.used text) → OnErr edited (k ≡ h) → Makes h rs (Put text) (edit_reply_of edit.Put edited) k rs
     put_answered text (Ok changes) ok versions profile fails err = put_made h k rs numbered after once known text changes ok versions profile
     put_answered text (Err f) ok versions profile fails err = put_refused text k f err fails
 
     pub withdraw_answered : (name : List (List ℕ)) (edited : Result EditChanges EditFault) → IfOk edited (λ changes. IsWithdrawal h.profile h.modules name k.modules × (changes.module ≡ name) × IsChanges h.modules k.modules changes.list × AreWithdrawn changes.list)
-        → IfOk edited (λ changes. AreVersionsUsed h k changes.list × (k.used ≡ h.used)) → k.profile ≡ h.profile → IfErr edited (WithdrawFails h.modules name) → OnErr edited (k ≡ h) → Makes h rs (Withdraw name) (reply_of edit.Withdraw edited) k rs
+        → IfOk edited (λ changes. AreVersionsUsed h k changes.list × (k.used ≡ h.used)) → k.profile ≡ h.profile → IfErr edited (WithdrawFails h.modules name) → OnErr edited (k ≡ h) → Makes h rs (Withdraw name) (edit_reply_of edit.Withdraw edited) k rs
     withdraw_answered name (Ok changes) ok versions profile fails err = withdraw_made h k rs numbered after once known name changes ok.0 ok.1 ok.2 versions.0 versions.1 profile
     withdraw_answered name (Err f) ok versions profile fails err = withdraw_refused name k f err fails
 

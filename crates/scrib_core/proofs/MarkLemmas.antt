@@ -1,10 +1,9 @@
 -- Marks: read off the version numbers, and changed by turns and edits.
-use Rattle.std.proofs.Common.{◌≡◌, ◌≢◌, ◌==◌, ◌&&◌, ◌⊎◌, inl, inr, ℕ, zero, suc, ◌+◌, ◌/◌, ◌<◌, Bool, true, false, not, cond, if◌then◌else◌, List, [], ◌∷◌, length, Option, Some, None, option_map, Contains, take, refl, sym, ap, subst, ◌∙◌, arith}
+use Rattle.std.proofs.Common.{◌≡◌, ◌==◌, ◌&&◌, ◌⊎◌, inl, inr, ℕ, zero, suc, ◌+◌, ◌/◌, ◌<◌, Bool, true, false, not, cond, if◌then◌else◌, List, [], ◌∷◌, length, Option, Some, None, option_map, Contains, take, refl, sym, ap, subst, ◌∙◌, arith}
 use Rattle.std.specs.Str.{bytes_eq}
 use Rattle.std.specs.List.{slice_index_or}
 use Rattle.std.proofs.lemmas.Bool.{cases_Bool, true≢false, false≢true}
 use Rattle.std.proofs.lemmas.Bool.Decides.{Decides-eqb, nat_tests}
-use Rattle.std.proofs.lemmas.Slice.Eq.{bytes_eq-Decides, slice_eq-Decides}
 use Rattle.std.proofs.lemmas.List.Elements.{Contains-append_right}
 use Rattle.std.proofs.Math.Nat.{add-mul-div_left, mul-div-le}
 use Rattle.scrib_types.specs.declared.event.Verdict.{Verdict}
@@ -13,6 +12,7 @@ use Rattle.scrib_types.specs.declared.event.Event.{Event}
 use Rattle.scrib_types.specs.declared.event.Told.{Told}
 use Rattle.scrib_types.specs.Judgement.{Judges}
 use Rattle.scrib_static_checks.specs.Names.{dotted_eq}
+use Rattle.scrib_static_checks.proofs.NameLemmas.{dotted_eq-Decides}
 use Rattle.scrib_record.specs.declared.version.Version.{Version}
 use Rattle.scrib_record.specs.Flat.{flat_form}
 use Rattle.scrib_record.specs.Stale.{same_stamp, is_present, is_final, Recorded, is_stale, IsLawful}
@@ -26,10 +26,6 @@ use Rattle.scrib_core.specs.Marks.{Mark, Fresh, Stale, IsStale}
 use Rattle.scrib_core.specs.Marks as marks
 use Rattle.scrib_core.specs.Held.{number_at, mark, held_number, mark_of, IsKnown}
 use Rattle.scrib_core.specs.ConversationSteps.{IsPresent}
-
--- the test decides equality of names
-dotted_eq-Decides : (r s : List (List ℕ)) → (dotted_eq r s ≡ true → r ≡ s) × (r ≡ s → dotted_eq r s ≡ true)
-dotted_eq-Decides r s = slice_eq-Decides bytes_eq-Decides r s (dotted_eq r s) refl
 
 -- membership at the head and in the tail
 Contains-head : {X : Type 0} (x : X) (xs : List X) → Contains (x ∷ xs) x
@@ -184,14 +180,14 @@ module _ (h : Holdings) (r : Recorded) (present : Option Version) (numbered : Ar
   left_mark s = mark_is ∙ seen_stale present held_now r.verdict r.judged (length r.log) s
 
 -- the case of a turn
-turned_fresh : (events : ℕ) (m : Mark) → marks.IsTurned events m Fresh
+turned_fresh : (events : ℕ) (m : Mark) → marks.IsMarkTurned events m Fresh
 turned_fresh events Fresh = refl
 turned_fresh events (Stale t) = tt
 
 turned_once : (j : ℕ) → (j + 256) / 256 ≡ j / 256 + 1
 turned_once j = add-mul-div_left j 1 {y = 256} (omega arith)
 
-turned_left : (p : Option Version) (b : Bool) (j k events : ℕ) → k ≡ (if b then j else 0) + 256 → k < events → marks.IsTurned events (mark_left p b j) (mark_left p true k)
+turned_left : (p : Option Version) (b : Bool) (j k events : ℕ) → k ≡ (if b then j else 0) + 256 → k < events → marks.IsMarkTurned events (mark_left p b j) (mark_left p true k)
 turned_left None b j k events e l = turned_fresh events (mark_left None b j)
 turned_left (Some v) true j k events e l = (ap (λ (n : ℕ). n / 256) e ∙ turned_once j, omega (arith, mul-div-le k 256, l))
 turned_left (Some v) false j k events e l = (ap (λ (n : ℕ). n / 256) e, omega (arith, mul-div-le k 256, l))
@@ -225,7 +221,7 @@ module _ (h : Holdings) (r s : Recorded) (present : Option Version) (numbered : 
 
   -- a turn after which the record is still stale
   still : {answer : Told} → record_verdict.IsTurned present r s answer → IsKnown h r → IsKnown h s → IsPresent h r.name present → IsPresent h s.name present → is_stale present s ≡ true
-      → marks.IsTurned (length r.log) (mark_of h r) (mark_of h s)
+      → marks.IsMarkTurned (length r.log) (mark_of h r) (mark_of h s)
   still u old new here there stale =
       let was : is_stale present r ≡ true = elim (cases_Bool (is_stale present r)) [
         | inl e ↦ e
@@ -239,13 +235,13 @@ module _ (h : Holdings) (r s : Recorded) (present : Option Version) (numbered : 
       let mark_s = left_mark h s present numbered once new there stale ∙ ap (λ (b : Bool). mark_left present b s.judged) u.present in
       let mark_r = left_mark h r present numbered once old here was in
       let both = turned_left present (is_present present r.held) r.judged s.judged (length r.log) further more in
-      subst (λ (m : Mark). marks.IsTurned (length r.log) m (mark_of h s)) (sym mark_r) (subst (marks.IsTurned (length r.log) (mark_left present (is_present present r.held) r.judged)) (sym mark_s) both)
+      subst (λ (m : Mark). marks.IsMarkTurned (length r.log) m (mark_of h s)) (sym mark_r) (subst (marks.IsMarkTurned (length r.log) (mark_left present (is_present present r.held) r.judged)) (sym mark_s) both)
 
   -- a turn that leaves the mark stale is counted
-  pub turn_mark : (answer : Told) → IsKnown h r → IsKnown h s → IsPresent h r.name present → record_verdict.IsTurned present r s answer → marks.IsTurned (length r.log) (mark_of h r) (mark_of h s)
+  pub turn_mark : (answer : Told) → IsKnown h r → IsKnown h s → IsPresent h r.name present → record_verdict.IsTurned present r s answer → marks.IsMarkTurned (length r.log) (mark_of h r) (mark_of h s)
   turn_mark answer old new here u =
       let there : IsPresent h s.name present = subst (λ (x : List (List ℕ)). IsPresent h x present) (sym u.name) here in
       elim (cases_Bool (is_stale present s)) [
-        | inr fresh ↦ subst (marks.IsTurned (length r.log) (mark_of h r)) (sym (fresh_mark h s present numbered once new there fresh)) (turned_fresh (length r.log) (mark_of h r))
+        | inr fresh ↦ subst (marks.IsMarkTurned (length r.log) (mark_of h r)) (sym (fresh_mark h s present numbered once new there fresh)) (turned_fresh (length r.log) (mark_of h r))
         | inl stale ↦ still u old new here there stale
       ]

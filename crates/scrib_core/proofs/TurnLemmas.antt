@@ -6,7 +6,7 @@ use Rattle.std.proofs.lemmas.Bool.Decides.{Decides-eqb, eqb_tells}
 use Rattle.scrib_core.specs.declared.step.Step.{Step}
 use Rattle.scrib_core.specs.declared.step.Step.TheVariants.{Put, Withdraw, Open, Note, Turn, Ask}
 use Rattle.scrib_core.specs.declared.step.Step.TheVariants as step
-use Rattle.scrib_core.specs.Marks.{Mark, Fresh, Stale, IsTurned, IsLeft}
+use Rattle.scrib_core.specs.Marks.{Mark, Fresh, Stale, IsMarkTurned, IsLeft}
 use Rattle.scrib_core.specs.Answers.{State}
 use Rattle.scrib_core.specs.Turns.{turns, IsAcceptedBeside, Stretch, none, more, StaysFresh, TurnsSuffice}
 
@@ -23,7 +23,7 @@ left id s t step b = elim (b.accepted.remarks.opened id b.of b.there) [
 ]
 
 module _ (id events : ℕ) where
-  counts_turn : (n : ℕ) (old new : Mark) → IsTurned events old new → Counts n old → Counts (n + 1) new
+  counts_turn : (n : ℕ) (old new : Mark) → IsMarkTurned events old new → Counts n old → Counts (n + 1) new
   counts_turn n Fresh new e c = subst (Counts (n + 1)) (sym e) tt
   counts_turn n (Stale t) Fresh e c = tt
   counts_turn n (Stale t) (Stale u) e c = omega (arith, e.0, c)
@@ -58,7 +58,7 @@ module _ (id events : ℕ) where
   fresh_left (Ask i) new e = e
 
   -- after a turn the mark is stale only if the log has more events than the turns cover
-  last_turn : (n : ℕ) (old new : Mark) → IsTurned events old new → Counts n old → events ≤ 256 * (n + 1) → new ≡ Fresh
+  last_turn : (n : ℕ) (old new : Mark) → IsMarkTurned events old new → Counts n old → events ≤ 256 * (n + 1) → new ≡ Fresh
   last_turn n Fresh new e c enough = e
   last_turn n (Stale t) Fresh e c enough = refl
   last_turn n (Stale t) (Stale u) e c enough = absurd (omega (arith, e.0, e.1, c, enough))
@@ -86,5 +86,5 @@ stays_fresh id n s t stretch e = still_fresh stretch e
 
 pub turns_suffice : TurnsSuffice
 turns_suffice id n m s t u v before b enough after =
-    let turned : IsTurned (length b.of.log) (t.marks id) (u.marks id) = (left id t u (Turn id) b).0 refl in
+    let turned : IsMarkTurned (length b.of.log) (t.marks id) (u.marks id) = (left id t u (Turn id) b).0 refl in
     still_fresh after (last_turn id (length b.of.log) n (t.marks id) (u.marks id) turned (counts before) enough)

@@ -14,7 +14,7 @@ use Rattle.scrib_core.specs.declared.step.Step.{Step}
 use Rattle.scrib_core.specs.declared.step.Step.TheVariants.{Put, Withdraw, Open, Note, Turn, Ask}
 use Rattle.scrib_core.specs.declared.step.Step.TheVariants as step
 use Rattle.scrib_core.specs.declared.reply.Edit.TheVariants as edit
-use Rattle.scrib_core.specs.declared.reply.Refusal.TheVariants.{AlreadyOpen, UnknownProtocol, TooManyConversations, NoConversation, Edit, LogFull, OutOfMemory}
+use Rattle.scrib_core.specs.declared.reply.Refusal.TheVariants.{OutOfMemory}
 use Rattle.scrib_core.specs.declared.reply.Reply.{Reply}
 use Rattle.scrib_core.specs.declared.reply.Reply.TheVariants as reply
 use Rattle.scrib_core.specs.World.{World, Conversation, conversation, nothing_under, Follows, Refuses, NeedsMemory}
@@ -38,9 +38,9 @@ abbrev pub IsFresh : List ModuleTree → Conversation → Verdict → Type 0
 IsFresh modules c v = (o : Option Agreement) × IsMeaning modules c.name o × Judges o c.log v
 
 -- the verdict is reported as stale exactly if the conversation is marked, and is fresh otherwise
-abbrev pub IsReported : State → ℕ → Told → Type 0
-IsReported s id tell.Stale = IsStale (s.marks id)
-IsReported s id (tell.Judged v) =
+abbrev pub IsReportedIn : State → ℕ → Told → Type 0
+IsReportedIn s id tell.Stale = IsStale (s.marks id)
+IsReportedIn s id (tell.Judged v) =
     (s.marks id ≡ Fresh) × ((c : Conversation) × (conversation s.world id ≡ Some c) × IsFresh s.world.modules c v)
 
 -- the reported verdict on a conversation, with its name and the number of its events
@@ -49,28 +49,23 @@ pub record IsJudged (s : State) (id : ℕ) (name : List (List ℕ)) (events : �
   pub there : conversation s.world id ≡ Some of
   pub name_is : name ≡ of.name
   pub events_are : events ≡ length of.log
-  pub told : IsReported s id answer
+  pub reported : IsReportedIn s id answer
 
 -- the reply to an accepted step, in terms of the world before it and the state after it
 abbrev pub Replies : World → Step → Reply → State → Type 0
 Replies w (Put text) (reply.Edited e changes) s =
     (e ≡ edit.Put) × ((m : ModuleTree) × Reads text m × (changes.module ≡ m.name))
     × IsChanges w.modules s.world.modules changes.list
-Replies w (Put text) _ s = ⊥
 Replies w (Withdraw name) (reply.Edited e changes) s =
     (e ≡ edit.Withdraw) × (changes.module ≡ name) × IsChanges w.modules s.world.modules changes.list
-Replies w (Withdraw name) _ s = ⊥
 Replies w (step.Profile p) (reply.Profiled q) s = q ≡ p
-Replies w (step.Profile p) _ s = ⊥
 Replies w (Open id name) (reply.Opened i n) s = (i ≡ id) × (n ≡ name)
-Replies w (Open id name) _ s = ⊥
-Replies w (Note id e) (reply.Noted i place told) s =
-    (i ≡ id) × ((c : Conversation) × (conversation s.world id ≡ Some c) × (place ≡ length c.log)) × IsReported s id told
-Replies w (Note id e) _ s = ⊥
-Replies w (Turn id) (reply.Judged i name events told) s = (i ≡ id) × IsJudged s id name events told
-Replies w (Turn id) _ s = ⊥
-Replies w (Ask id) (reply.Judged i name events told) s = (i ≡ id) × IsJudged s id name events told
-Replies w (Ask id) _ s = ⊥
+Replies w (Note id e) (reply.Noted i place answer) s =
+    (i ≡ id) × ((c : Conversation) × (conversation s.world id ≡ Some c) × (place ≡ length c.log))
+    × IsReportedIn s id answer
+Replies w (Turn id) (reply.Judged i name events answer) s = (i ≡ id) × IsJudged s id name events answer
+Replies w (Ask id) (reply.Judged i name events answer) s = (i ≡ id) × IsJudged s id name events answer
+Replies w _ _ s = ⊥
 
 -- the step is accepted, and this is its reply
 pub record IsAccepted (s : State) (step : Step) (answer : Reply) (t : State) : Type 0 where
@@ -81,38 +76,22 @@ pub record IsAccepted (s : State) (step : Step) (answer : Reply) (t : State) : T
 -- The reply to one step: the step is refused and changes nothing, or it is accepted.
 abbrev pub IsAnswered : State → Step → Reply → State → Type 0
 IsAnswered s step (reply.Refused f) t = Refuses s.world step f × (t ≡ s)
-IsAnswered s step (reply.Edited e changes) t = IsAccepted s step (reply.Edited e changes) t
-IsAnswered s step (reply.Profiled p) t = IsAccepted s step (reply.Profiled p) t
-IsAnswered s step (reply.Opened i n) t = IsAccepted s step (reply.Opened i n) t
-IsAnswered s step (reply.Noted i place told) t = IsAccepted s step (reply.Noted i place told) t
-IsAnswered s step (reply.Judged i n events told) t = IsAccepted s step (reply.Judged i n events told) t
+IsAnswered s step r t = IsAccepted s step r t
 
 -- Answered: a state follows each step such that each reply is that of its step.
 abbrev pub Answers : State → List Step → List Reply → State → Type 0
 Answers s [] [] t = t ≡ s
-Answers s [] (r ∷ rs) t = ⊥
-Answers s (step ∷ steps) [] t = ⊥
 Answers s (step ∷ steps) (r ∷ rs) t = (u : State) × IsAnswered s step r u × Answers u steps rs t
+Answers s _ _ t = ⊥
 
 -- `OutOfMemory` is the reply only if no other refusal applies
 abbrev pub IsDue : World → Step → Reply → Type 0
 IsDue w step (reply.Refused OutOfMemory) = NeedsMemory w step
-IsDue w step (reply.Refused AlreadyOpen) = Unit {0}
-IsDue w step (reply.Refused UnknownProtocol) = Unit {0}
-IsDue w step (reply.Refused TooManyConversations) = Unit {0}
-IsDue w step (reply.Refused NoConversation) = Unit {0}
-IsDue w step (reply.Refused (Edit f)) = Unit {0}
-IsDue w step (reply.Refused LogFull) = Unit {0}
-IsDue w step (reply.Edited e changes) = Unit {0}
-IsDue w step (reply.Profiled p) = Unit {0}
-IsDue w step (reply.Opened i n) = Unit {0}
-IsDue w step (reply.Noted i place told) = Unit {0}
-IsDue w step (reply.Judged i n events told) = Unit {0}
+IsDue w step _ = Unit {0}
 
 -- Answered, and `OutOfMemory` is the reply only if no other refusal applies.
 abbrev pub AnswersAsDue : State → List Step → List Reply → State → Type 0
 AnswersAsDue s [] [] t = t ≡ s
-AnswersAsDue s [] (r ∷ rs) t = ⊥
-AnswersAsDue s (step ∷ steps) [] t = ⊥
 AnswersAsDue s (step ∷ steps) (r ∷ rs) t =
     (u : State) × IsAnswered s step r u × IsDue s.world step r × AnswersAsDue u steps rs t
+AnswersAsDue s _ _ t = ⊥

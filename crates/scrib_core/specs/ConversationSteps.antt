@@ -16,10 +16,9 @@ use Rattle.scrib_record.specs.Versions.{meaning_of, number_of}
 use Rattle.scrib_library.specs.Holdings.{Holdings, IsNumber}
 use Rattle.scrib_library.specs.Modules.{Means, IsMeaning, MeansOnce}
 use Rattle.scrib_core.specs.declared.reply.Refusal.{Refusal}
-use Rattle.scrib_core.specs.declared.reply.Refusal.TheVariants.{AlreadyOpen, UnknownProtocol, TooManyConversations, NoConversation, Edit, LogFull, OutOfMemory}
-use Rattle.scrib_core.specs.declared.reply.Reply.{Reply}
-use Rattle.scrib_core.specs.declared.reply.Reply.TheVariants as reply
+use Rattle.scrib_core.specs.declared.reply.Refusal.TheVariants.{AlreadyOpen, UnknownProtocol, TooManyConversations, NoConversation, LogFull, OutOfMemory}
 use Rattle.scrib_core.specs.Held.{Records, record_at, IsKnown, AreKnown}
+use Rattle.scrib_record.specs.declared.record.TheConstants.{MAX_EVENTS}
 
 -- the library's version of the name, or none
 pub record IsPresent (h : Holdings) (name : List (List ℕ)) (present : Option Version) : Type 0 where
@@ -53,18 +52,16 @@ OpenFails limit h old id name UnknownProtocol =
     (record_at old id ≡ None) × ((a : Agreement) → Means h.modules name a → ⊥)
 OpenFails limit h old id name TooManyConversations =
     (record_at old id ≡ None) × ((a : Agreement) × Means h.modules name a) × (limit ≤ length old)
-OpenFails limit h old id name NoConversation = ⊥
-OpenFails limit h old id name (Edit f) = ⊥
-OpenFails limit h old id name LogFull = ⊥
 OpenFails limit h old id name OutOfMemory =
     (record_at old id ≡ None) × ((a : Agreement) × Means h.modules name a) × (length old < limit)
+OpenFails limit h old id name _ = ⊥
 
 -- the event is appended to the record of the id
 pub record IsNotedAt (h : Holdings) (old : Records) (id : ℕ) (e : Event) (place : ℕ) (answer : Told)
     (new : Records) : Type 0 where
   pub before : Recorded
   pub there : record_at old id ≡ Some before
-  pub room : length before.log < 1048576
+  pub room : length before.log < MAX_EVENTS
   pub present : Option Version
   pub is_present : IsPresent h before.name present
   pub after : Recorded
@@ -75,13 +72,10 @@ pub record IsNotedAt (h : Holdings) (old : Records) (id : ℕ) (e : Event) (plac
 
 -- a note is refused: the record is missing, its log is full, or memory was refused
 abbrev pub NoteFails : Records → ℕ → Refusal → Type 0
-NoteFails old id AlreadyOpen = ⊥
-NoteFails old id UnknownProtocol = ⊥
-NoteFails old id TooManyConversations = ⊥
 NoteFails old id NoConversation = record_at old id ≡ None
-NoteFails old id (Edit f) = ⊥
-NoteFails old id LogFull = (r : Recorded) × (record_at old id ≡ Some r) × (1048576 ≤ length r.log)
-NoteFails old id OutOfMemory = (r : Recorded) × (record_at old id ≡ Some r) × (length r.log < 1048576)
+NoteFails old id LogFull = (r : Recorded) × (record_at old id ≡ Some r) × (MAX_EVENTS ≤ length r.log)
+NoteFails old id OutOfMemory = (r : Recorded) × (record_at old id ≡ Some r) × (length r.log < MAX_EVENTS)
+NoteFails old id _ = ⊥
 
 -- the record of the id makes a turn
 pub record IsTurnedAt (h : Holdings) (old : Records) (id : ℕ) (name : List (List ℕ)) (events : ℕ) (answer : Told)
@@ -111,46 +105,6 @@ pub record IsAskedAt (h : Holdings) (rs : Records) (id : ℕ) (name : List (List
 
 -- a turn or a question is refused: the record is missing, or memory was refused
 abbrev pub VerdictFails : Records → ℕ → Refusal → Type 0
-VerdictFails rs id AlreadyOpen = ⊥
-VerdictFails rs id UnknownProtocol = ⊥
-VerdictFails rs id TooManyConversations = ⊥
 VerdictFails rs id NoConversation = record_at rs id ≡ None
-VerdictFails rs id (Edit f) = ⊥
-VerdictFails rs id LogFull = ⊥
 VerdictFails rs id OutOfMemory = IsSome (record_at rs id)
-
--- the reply to an opening, and the records after it; a refusal leaves them unchanged
-abbrev pub AnswersOpen : (limit : ℕ) → Holdings → Records → ℕ → List (List ℕ) → Reply → Records → Type 0
-AnswersOpen limit h old id name (reply.Opened i n) new = (i ≡ id) × (n ≡ name) × IsOpened limit h old id name new
-AnswersOpen limit h old id name (reply.Refused f) new = OpenFails limit h old id name f × (new ≡ old)
-AnswersOpen limit h old id name (reply.Edited e changes) new = ⊥
-AnswersOpen limit h old id name (reply.Profiled p) new = ⊥
-AnswersOpen limit h old id name (reply.Noted i place told) new = ⊥
-AnswersOpen limit h old id name (reply.Judged i n events told) new = ⊥
-
--- the reply to a note, and the records after it
-abbrev pub AnswersNote : Holdings → Records → ℕ → Event → Reply → Records → Type 0
-AnswersNote h old id e (reply.Noted i place told) new = (i ≡ id) × IsNotedAt h old id e place told new
-AnswersNote h old id e (reply.Refused f) new = NoteFails old id f × (new ≡ old)
-AnswersNote h old id e (reply.Edited x changes) new = ⊥
-AnswersNote h old id e (reply.Profiled p) new = ⊥
-AnswersNote h old id e (reply.Opened i n) new = ⊥
-AnswersNote h old id e (reply.Judged i n events told) new = ⊥
-
--- the reply to a turn, and the records after it
-abbrev pub AnswersTurn : Holdings → Records → ℕ → Reply → Records → Type 0
-AnswersTurn h old id (reply.Judged i name events told) new = (i ≡ id) × IsTurnedAt h old id name events told new
-AnswersTurn h old id (reply.Refused f) new = VerdictFails old id f × (new ≡ old)
-AnswersTurn h old id (reply.Edited e changes) new = ⊥
-AnswersTurn h old id (reply.Profiled p) new = ⊥
-AnswersTurn h old id (reply.Opened i n) new = ⊥
-AnswersTurn h old id (reply.Noted i place told) new = ⊥
-
--- the reply to a question
-abbrev pub AnswersAsk : Holdings → Records → ℕ → Reply → Type 0
-AnswersAsk h rs id (reply.Judged i name events told) = (i ≡ id) × IsAskedAt h rs id name events told
-AnswersAsk h rs id (reply.Refused f) = VerdictFails rs id f
-AnswersAsk h rs id (reply.Edited e changes) = ⊥
-AnswersAsk h rs id (reply.Profiled p) = ⊥
-AnswersAsk h rs id (reply.Opened i n) = ⊥
-AnswersAsk h rs id (reply.Noted i place told) = ⊥
+VerdictFails rs id _ = ⊥

@@ -32,11 +32,7 @@ pub record Held : Type 0 where
 -- a refusal leaves the contents unchanged
 abbrev pub LeavesRefused : Reply → (old new : Held) → Type 0
 LeavesRefused (reply.Refused f) old new = new ≡ old
-LeavesRefused (reply.Edited e changes) old new = Unit {0}
-LeavesRefused (reply.Profiled p) old new = Unit {0}
-LeavesRefused (reply.Opened i n) old new = Unit {0}
-LeavesRefused (reply.Noted i place told) old new = Unit {0}
-LeavesRefused (reply.Judged i n events told) old new = Unit {0}
+LeavesRefused _ old new = Unit {0}
 
 -- the record of the id, if it exists
 abbrev pub record_at : Records → ℕ → Option Recorded
@@ -99,11 +95,10 @@ state_of c = state c.library c.records
 -- refused step leaves the contents unchanged.
 abbrev pub AnswersHeld : Held → List Step → List Reply → Held → Type 0
 AnswersHeld c [] [] d = d ≡ c
-AnswersHeld c [] (r ∷ rs) d = ⊥
-AnswersHeld c (step ∷ steps) [] d = ⊥
 AnswersHeld c (step ∷ steps) (r ∷ rs) d =
     (u : Held) × IsAnswered (state_of c) step r (state_of u) × IsDue (state_of c).world step r × LeavesRefused r c u
     × AnswersHeld u steps rs d
+AnswersHeld c _ _ d = ⊥
 
 -- The number of the held version was used. If some name has this number now, it is the record's name, and its meaning
 -- is that of the held version.

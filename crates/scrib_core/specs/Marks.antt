@@ -3,8 +3,7 @@ use Rattle.std.specs.Prelude.{◌≡◌, ◌≢◌, ◌⊎◌, ℕ, ◌+◌, ◌
 use Rattle.scrib_library.specs.declared.changes.ChangeKind.{ChangeKind}
 use Rattle.scrib_library.specs.Edits.{Changes}
 use Rattle.scrib_core.specs.declared.step.Step.{Step}
-use Rattle.scrib_core.specs.declared.step.Step.TheVariants.{Put, Withdraw, Open, Note, Turn, Ask}
-use Rattle.scrib_core.specs.declared.step.Step.TheVariants as step
+use Rattle.scrib_core.specs.declared.step.Step.TheVariants.{Turn}
 use Rattle.scrib_core.specs.World.{World, Conversation, conversation}
 
 -- fresh, or stale with the number of accepted turns since the meaning of the name last changed
@@ -27,21 +26,16 @@ IsStale (Stale t) = Unit {0}
 
 -- The mark after an accepted turn on a log of so many events. A fresh verdict stays fresh. A stale one becomes fresh if
 -- the log has at most 256 events for each turn so far.
-abbrev pub IsTurned : (events : ℕ) → (old new : Mark) → Type 0
-IsTurned events Fresh new = new ≡ Fresh
-IsTurned events (Stale t) Fresh = Unit {0}
-IsTurned events (Stale t) (Stale u) = (u ≡ t + 1) × (256 * u < events)
+abbrev pub IsMarkTurned : (events : ℕ) → (old new : Mark) → Type 0
+IsMarkTurned events Fresh new = new ≡ Fresh
+IsMarkTurned events (Stale t) Fresh = Unit {0}
+IsMarkTurned events (Stale t) (Stale u) = (u ≡ t + 1) × (256 * u < events)
 
 -- the mark after an accepted step that leaves the meaning of the name: a turn of this id counts, any other step leaves
 -- it
 abbrev pub IsLeft : Step → (id events : ℕ) → (old new : Mark) → Type 0
-IsLeft (Put text) id events old new = new ≡ old
-IsLeft (Withdraw name) id events old new = new ≡ old
-IsLeft (step.Profile p) id events old new = new ≡ old
-IsLeft (Open i name) id events old new = new ≡ old
-IsLeft (Note i e) id events old new = new ≡ old
-IsLeft (Turn i) id events old new = (i ≡ id → IsTurned events old new) × (i ≢ id → new ≡ old)
-IsLeft (Ask i) id events old new = new ≡ old
+IsLeft (Turn i) id events old new = (i ≡ id → IsMarkTurned events old new) × (i ≢ id → new ≡ old)
+IsLeft _ id events old new = new ≡ old
 
 -- the mark after a step that changed the meaning of the name: stale with no turns yet, or fresh
 abbrev pub IsReset : Mark → Type 0

@@ -3,8 +3,7 @@ use Rattle.std.specs.Prelude.{◌≡◌, ◌==◌, if◌then◌else◌, ℕ, ◌
 use Rattle.scrib_library.specs.declared.changes.ChangeKind.{ChangeKind}
 use Rattle.scrib_library.specs.Edits.{Changes}
 use Rattle.scrib_core.specs.declared.step.Step.{Step}
-use Rattle.scrib_core.specs.declared.step.Step.TheVariants.{Put, Withdraw, Open, Note, Turn, Ask}
-use Rattle.scrib_core.specs.declared.step.Step.TheVariants as step
+use Rattle.scrib_core.specs.declared.step.Step.TheVariants.{Turn}
 use Rattle.scrib_core.specs.declared.reply.Reply.{Reply}
 use Rattle.scrib_core.specs.World.{Conversation, conversation}
 use Rattle.scrib_core.specs.Marks.{Fresh}
@@ -12,13 +11,8 @@ use Rattle.scrib_core.specs.Answers.{State, IsAccepted}
 
 -- 1 for a turn of the conversation of this id, else 0
 abbrev pub turns : Step → ℕ → ℕ
-turns (Put text) id = 0
-turns (Withdraw name) id = 0
-turns (step.Profile p) id = 0
-turns (Open i name) id = 0
-turns (Note i e) id = 0
 turns (Turn i) id = if i == id then 1 else 0
-turns (Ask i) id = 0
+turns _ id = 0
 
 -- the step is accepted while the conversation is open, and the meaning of its name is unchanged
 pub record IsAcceptedBeside (id : ℕ) (s : State) (step : Step) (t : State) : Type 0 where

@@ -19,6 +19,9 @@ use Rattle.scrib_core.specs.declared.step.Step.TheVariants.{Put, Withdraw, Open,
 use Rattle.scrib_core.specs.declared.step.Step.TheVariants as step
 use Rattle.scrib_core.specs.declared.reply.Refusal.{Refusal}
 use Rattle.scrib_core.specs.declared.reply.Refusal.TheVariants.{AlreadyOpen, UnknownProtocol, TooManyConversations, NoConversation, Edit, LogFull, OutOfMemory}
+use Rattle.scrib_library.specs.declared.library.TheConstants.{MAX_VERSIONS}
+use Rattle.scrib_record.specs.declared.record.TheConstants.{MAX_EVENTS}
+use Rattle.scrib_core.specs.declared.monitor.TheConstants.{MAX_CONVERSATIONS}
 
 -- a conversation: the full name of its protocol, and its events, oldest first
 pub record Conversation : Type 0 where
@@ -48,22 +51,12 @@ opened name = record { name = name; log = [] }
 abbrev pub noted : Conversation → Event → Conversation
 noted c e = record { name = c.name; log = c.log ++ e ∷ [] }
 
--- a note in the conversation is refused for this
-abbrev pub NoteFails : Conversation → Refusal → Type 0
-NoteFails c AlreadyOpen = ⊥
-NoteFails c UnknownProtocol = ⊥
-NoteFails c TooManyConversations = ⊥
-NoteFails c NoConversation = ⊥
-NoteFails c (Edit f) = ⊥
-NoteFails c LogFull = 1048576 ≤ length c.log
-NoteFails c OutOfMemory = length c.log < 1048576
-
 -- each added or replaced name used a version, and at most 65,536 are used
 pub record UsesVersions (w v : World) : Type 0 where
   pub list : List Change
   pub changes : IsChanges w.modules v.modules list
   pub count : v.used ≡ w.used + new_versions list
-  pub few : v.used ≤ 65536
+  pub few : v.used ≤ MAX_VERSIONS
 
 -- The world after an accepted step. A put places the module of its text, and a withdrawal removes a module. A change of
 -- the profile requires that each name's meaning projects under the new one. An open adds an empty log, and a note
@@ -79,7 +72,8 @@ Follows w (step.Profile p) v =
     AllProject p w.modules
     × (v ≡ record { profile = p; modules = w.modules; used = w.used; conversations = w.conversations })
 Follows w (Open id name) v =
-    (conversation w id ≡ None) × ((a : Agreement) × Means w.modules name a) × (length w.conversations < 65536)
+    (conversation w id ≡ None) × ((a : Agreement) × Means w.modules name a)
+    × (length w.conversations < MAX_CONVERSATIONS)
     × (v ≡ record {
       profile = w.profile;
       modules = w.modules;
@@ -87,7 +81,7 @@ Follows w (Open id name) v =
       conversations = w.conversations ++ (id, opened name) ∷ [];
     })
 Follows w (Note id e) v =
-    (c : Conversation) × (conversation w id ≡ Some c) × (length c.log < 1048576)
+    (c : Conversation) × (conversation w id ≡ Some c) × (length c.log < MAX_EVENTS)
     × (v ≡ record {
       profile = w.profile;
       modules = w.modules;
@@ -105,17 +99,14 @@ NeedsMemory w (Put text) = length text ≤ max_text_bytes
 NeedsMemory w (Withdraw name) = has_name name (module_names w.modules) ≡ true
 NeedsMemory w (step.Profile p) = (w.profile ≡ Reception) × (p ≡ Plain)
 NeedsMemory w (Open id name) =
-    (conversation w id ≡ None) × ((a : Agreement) × Means w.modules name a) × (length w.conversations < 65536)
-NeedsMemory w (Note id e) = (c : Conversation) × (conversation w id ≡ Some c) × (length c.log < 1048576)
+    (conversation w id ≡ None) × ((a : Agreement) × Means w.modules name a)
+    × (length w.conversations < MAX_CONVERSATIONS)
+NeedsMemory w (Note id e) = (c : Conversation) × (conversation w id ≡ Some c) × (length c.log < MAX_EVENTS)
 NeedsMemory w (Turn id) = IsSome (conversation w id)
 NeedsMemory w (Ask id) = IsSome (conversation w id)
 
 -- The step is refused for this, and for nothing before it in this list. Any step may be refused memory.
 abbrev pub Refuses : World → Step → Refusal → Type 0
-Refuses w (Put text) AlreadyOpen = ⊥
-Refuses w (Put text) UnknownProtocol = ⊥
-Refuses w (Put text) TooManyConversations = ⊥
-Refuses w (Put text) NoConversation = ⊥
 Refuses w (Put text) (Edit (edit.Lex f)) = PutFails w.profile w.modules w.used text (edit.Lex f)
 Refuses w (Put text) (Edit (edit.Parse f)) = PutFails w.profile w.modules w.used text (edit.Parse f)
 Refuses w (Put text) (Edit edit.TooManyModules) = PutFails w.profile w.modules w.used text edit.TooManyModules
@@ -125,75 +116,24 @@ Refuses w (Put text) (Edit edit.TooManyProtocols) = PutFails w.profile w.modules
 Refuses w (Put text) (Edit (edit.Elaborate f)) = PutFails w.profile w.modules w.used text (edit.Elaborate f)
 Refuses w (Put text) (Edit (edit.Project u)) = PutFails w.profile w.modules w.used text (edit.Project u)
 Refuses w (Put text) (Edit edit.VersionsFull) = PutFails w.profile w.modules w.used text edit.VersionsFull
-Refuses w (Put text) (Edit edit.UnknownModule) = ⊥
-Refuses w (Put text) (Edit (edit.StillImported by)) = ⊥
-Refuses w (Put text) (Edit (edit.NeedsReception name)) = ⊥
-Refuses w (Put text) (Edit edit.OutOfMemory) = ⊥
-Refuses w (Put text) LogFull = ⊥
 Refuses w (Put text) OutOfMemory = Unit {0}
-Refuses w (Withdraw name) AlreadyOpen = ⊥
-Refuses w (Withdraw name) UnknownProtocol = ⊥
-Refuses w (Withdraw name) TooManyConversations = ⊥
-Refuses w (Withdraw name) NoConversation = ⊥
-Refuses w (Withdraw name) (Edit (edit.Lex f)) = ⊥
-Refuses w (Withdraw name) (Edit (edit.Parse f)) = ⊥
-Refuses w (Withdraw name) (Edit edit.TooManyModules) = ⊥
-Refuses w (Withdraw name) (Edit (edit.ImportMissing other)) = ⊥
-Refuses w (Withdraw name) (Edit edit.TooManyProtocols) = ⊥
-Refuses w (Withdraw name) (Edit (edit.Elaborate f)) = ⊥
-Refuses w (Withdraw name) (Edit (edit.Project u)) = ⊥
-Refuses w (Withdraw name) (Edit edit.VersionsFull) = ⊥
 Refuses w (Withdraw name) (Edit edit.UnknownModule) = WithdrawFails w.modules name edit.UnknownModule
 Refuses w (Withdraw name) (Edit (edit.StillImported by)) = WithdrawFails w.modules name (edit.StillImported by)
-Refuses w (Withdraw name) (Edit (edit.NeedsReception other)) = ⊥
-Refuses w (Withdraw name) (Edit edit.OutOfMemory) = ⊥
-Refuses w (Withdraw name) LogFull = ⊥
 Refuses w (Withdraw name) OutOfMemory = Unit {0}
-Refuses w (step.Profile p) AlreadyOpen = ⊥
-Refuses w (step.Profile p) UnknownProtocol = ⊥
-Refuses w (step.Profile p) TooManyConversations = ⊥
-Refuses w (step.Profile p) NoConversation = ⊥
-Refuses w (step.Profile p) (Edit (edit.Lex f)) = ⊥
-Refuses w (step.Profile p) (Edit (edit.Parse f)) = ⊥
-Refuses w (step.Profile p) (Edit edit.UnknownModule) = ⊥
-Refuses w (step.Profile p) (Edit edit.TooManyModules) = ⊥
-Refuses w (step.Profile p) (Edit (edit.StillImported by)) = ⊥
-Refuses w (step.Profile p) (Edit (edit.ImportMissing name)) = ⊥
-Refuses w (step.Profile p) (Edit edit.TooManyProtocols) = ⊥
-Refuses w (step.Profile p) (Edit (edit.Elaborate f)) = ⊥
-Refuses w (step.Profile p) (Edit (edit.Project u)) = ⊥
-Refuses w (step.Profile p) (Edit edit.VersionsFull) = ⊥
 Refuses w (step.Profile p) (Edit (edit.NeedsReception name)) =
     ProfileFails w.profile p w.modules (edit.NeedsReception name)
-Refuses w (step.Profile p) (Edit edit.OutOfMemory) = ⊥
-Refuses w (step.Profile p) LogFull = ⊥
 Refuses w (step.Profile p) OutOfMemory = Unit {0}
 Refuses w (Open id name) AlreadyOpen = IsSome (conversation w id)
 Refuses w (Open id name) UnknownProtocol = (conversation w id ≡ None) × ((a : Agreement) → Means w.modules name a → ⊥)
 Refuses w (Open id name) TooManyConversations =
-    (conversation w id ≡ None) × ((a : Agreement) × Means w.modules name a) × (65536 ≤ length w.conversations)
-Refuses w (Open id name) NoConversation = ⊥
-Refuses w (Open id name) (Edit f) = ⊥
-Refuses w (Open id name) LogFull = ⊥
+    (conversation w id ≡ None) × ((a : Agreement) × Means w.modules name a)
+    × (MAX_CONVERSATIONS ≤ length w.conversations)
 Refuses w (Open id name) OutOfMemory = Unit {0}
-Refuses w (Note id e) AlreadyOpen = ⊥
-Refuses w (Note id e) UnknownProtocol = ⊥
-Refuses w (Note id e) TooManyConversations = ⊥
 Refuses w (Note id e) NoConversation = conversation w id ≡ None
-Refuses w (Note id e) (Edit f) = ⊥
-Refuses w (Note id e) LogFull = (c : Conversation) × (conversation w id ≡ Some c) × NoteFails c LogFull
+Refuses w (Note id e) LogFull = (c : Conversation) × (conversation w id ≡ Some c) × (MAX_EVENTS ≤ length c.log)
 Refuses w (Note id e) OutOfMemory = Unit {0}
-Refuses w (Turn id) AlreadyOpen = ⊥
-Refuses w (Turn id) UnknownProtocol = ⊥
-Refuses w (Turn id) TooManyConversations = ⊥
 Refuses w (Turn id) NoConversation = conversation w id ≡ None
-Refuses w (Turn id) (Edit f) = ⊥
-Refuses w (Turn id) LogFull = ⊥
 Refuses w (Turn id) OutOfMemory = Unit {0}
-Refuses w (Ask id) AlreadyOpen = ⊥
-Refuses w (Ask id) UnknownProtocol = ⊥
-Refuses w (Ask id) TooManyConversations = ⊥
 Refuses w (Ask id) NoConversation = conversation w id ≡ None
-Refuses w (Ask id) (Edit f) = ⊥
-Refuses w (Ask id) LogFull = ⊥
 Refuses w (Ask id) OutOfMemory = Unit {0}
+Refuses w _ _ = ⊥

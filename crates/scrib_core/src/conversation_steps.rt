@@ -1,11 +1,11 @@
 //! The steps of one conversation over a library: open, note, turn and ask.
 
-ghost use Rattle.std.specs.Prelude.{◌≡◌, IfOk};
+ghost use Rattle.std.specs.Prelude.{◌≡◌, IfOk, IfErr, OnOk, OnErr};
 ghost use Rattle.scrib_record.specs.Turns.{new_record};
 ghost use Rattle.std.specs.Option.{option_copied};
-ghost use Rattle.scrib_core.specs.ConversationSteps.{AnswersOpen, AnswersNote, AnswersTurn, AnswersAsk, IsPresent, IsSoundComparison, IsSoundForRecord};
+ghost use Rattle.scrib_core.specs.ConversationSteps.{IsOpened, OpenFails, IsNotedAt, NoteFails, IsTurnedAt, IsAskedAt, VerdictFails, IsPresent, IsSoundComparison, IsSoundForRecord};
 
-use crate::reply::{Refusal, Reply};
+use crate::reply::Refusal;
 use crate::verdicts::verdict_of;
 use indexmap::IndexMap;
 use scrib_library::library::Library;
@@ -13,47 +13,67 @@ use scrib_record::comparison::Comparison;
 use scrib_record::fault::NoteFault;
 use scrib_record::record::Record;
 use scrib_record::version::Version;
+use scrib_types::event::Told;
 use scrib_types::name::Dotted;
 use scrib_types::shared_event::SharedEvent;
 use std::alloc::{AllocError, Global};
 
-/// Opens a conversation of the protocol, if fewer than `limit` are open, and returns `Opened`. Otherwise it returns the
-/// first refusal that applies and changes nothing: `AlreadyOpen`, `UnknownProtocol`, `TooManyConversations` or
-/// `OutOfMemory`.
+/// A noted event: its place in the log, from 1, and the verdict on the log that ends with it, or `Stale`.
+#[derive(Drop)]
+pub struct Noted {
+    pub place: usize,
+    pub told: Told,
+}
+
+/// The verdict on a conversation, or `Stale`, with the protocol's name and the number of events in the log.
+#[derive(Drop)]
+pub struct Judged {
+    pub name: Dotted,
+    pub events: usize,
+    pub told: Told,
+}
+
+/// Opens a conversation of the protocol, if fewer than `limit` are open. Returns the protocol's name.
+///
+/// # Errors
+/// `AlreadyOpen`, `UnknownProtocol`, `TooManyConversations` or `OutOfMemory`, whichever applies first. Nothing changes
+/// then.
 pub fn open(
-    alloc: Global,
     library: &Library,
     records: &mut IndexMap<u32, Record>,
     limit: usize,
     id: u32,
     name: &Dotted,
-) -> Reply
-    ensures { AnswersOpen limit library.now records.old.entries id name.now result records.new.entries }
+) -> Result<Dotted, Refusal>
+    ensures name { IfOk result (λ n. n ≡ name.now) }
+    ensures ok { OnOk result (IsOpened limit library.now records.old.entries id name.now records.new.entries) }
+    ensures fault { IfErr result (OpenFails limit library.now records.old.entries id name.now) }
+    ensures err { OnErr result (records.new.entries ≡ records.old.entries) }
 {
+    let alloc = *records.allocator();
     if records.contains_key(&id) {
-        return Reply::Refused(Refusal::AlreadyOpen);
+        return Err(Refusal::AlreadyOpen);
     }
     let Some(version) = library.present(name) else {
-        return Reply::Refused(Refusal::UnknownProtocol);
+        return Err(Refusal::UnknownProtocol);
     };
     if records.len() >= limit {
-        return Reply::Refused(Refusal::TooManyConversations);
+        return Err(Refusal::TooManyConversations);
     }
     let shared = library.shared_name(name);
     let (Ok(record), Ok(reply_name)) = (begin(alloc, shared, version), shared.copy()) else {
-        return Reply::Refused(Refusal::OutOfMemory);
+        return Err(Refusal::OutOfMemory);
     };
     match records.insert(id, record) {
-        Ok(_) => Reply::Opened {
-            id,
-            name: reply_name,
-        },
-        Err(_) => Reply::Refused(Refusal::OutOfMemory),
+        Ok(_) => Ok(reply_name),
+        Err(_) => Err(Refusal::OutOfMemory),
     }
 }
 
-/// Appends the event to the conversation's log and returns `Noted`. Otherwise it returns the first refusal that applies
-/// and changes nothing: `NoConversation`, `LogFull` or `OutOfMemory`.
+/// Appends the event to the conversation's log.
+///
+/// # Errors
+/// `NoConversation`, `LogFull` or `OutOfMemory`, whichever applies first. Nothing changes then.
 #[inline(always)]
 pub fn note(
     library: &Library,
@@ -61,25 +81,27 @@ pub fn note(
     comparison: Comparison,
     id: u32,
     event: SharedEvent,
-) -> Reply
+) -> Result<Noted, Refusal>
     requires { IsSoundComparison comparison library.now records.old.entries }
-    ensures { AnswersNote library.now records.old.entries id event result records.new.entries }
+    ensures ok { IfOk result (λ n.
+        IsNotedAt library.now records.old.entries id event n.place n.told records.new.entries) }
+    ensures fault { IfErr result (NoteFails records.old.entries id) }
+    ensures err { OnErr result (records.new.entries ≡ records.old.entries) }
 {
     let Some(record) = records.get_mut(&id) else {
-        return Reply::Refused(Refusal::NoConversation);
+        return Err(Refusal::NoConversation);
     };
     let (hint, present) = present_of(library, record, comparison);
     match record.note(present, comparison, event) {
         Ok(told) => {
             record.set_hint(hint);
-            Reply::Noted {
-                id,
+            Ok(Noted {
                 place: record.log().len(),
                 told,
-            }
+            })
         }
-        Err(NoteFault::LogFull) => Reply::Refused(Refusal::LogFull),
-        Err(NoteFault::OutOfMemory) => Reply::Refused(Refusal::OutOfMemory),
+        Err(NoteFault::LogFull) => Err(Refusal::LogFull),
+        Err(NoteFault::OutOfMemory) => Err(Refusal::OutOfMemory),
     }
 }
 
@@ -102,61 +124,67 @@ fn present_of<'a>(
     library.present_at_hint(conversation.hint(), conversation.name())
 }
 
-/// Judges up to 256 further events of a conversation with a stale verdict, and returns `Judged`. Otherwise it returns
-/// `NoConversation` or `OutOfMemory` and changes nothing.
+/// Judges up to 256 further events of a conversation with a stale verdict.
+///
+/// # Errors
+/// `NoConversation` or `OutOfMemory`. Nothing changes then.
 pub fn turn(
     library: &Library,
     records: &mut IndexMap<u32, Record>,
     comparison: Comparison,
     id: u32,
-) -> Reply
+) -> Result<Judged, Refusal>
     requires { IsSoundComparison comparison library.now records.old.entries }
-    ensures { AnswersTurn library.now records.old.entries id result records.new.entries }
+    ensures ok { IfOk result (λ j.
+        IsTurnedAt library.now records.old.entries id j.name j.events j.told records.new.entries) }
+    ensures fault { IfErr result (VerdictFails records.old.entries id) }
+    ensures err { OnErr result (records.new.entries ≡ records.old.entries) }
 {
     let Some(record) = records.get_mut(&id) else {
-        return Reply::Refused(Refusal::NoConversation);
+        return Err(Refusal::NoConversation);
     };
     let Ok(name) = record.name().copy() else {
-        return Reply::Refused(Refusal::OutOfMemory);
+        return Err(Refusal::OutOfMemory);
     };
     let present = library.present(&name);
     match record.turn(present, comparison) {
-        Ok(told) => Reply::Judged {
-            id,
+        Ok(told) => Ok(Judged {
             name,
             events: record.log().len(),
             told,
-        },
-        Err(_) => Reply::Refused(Refusal::OutOfMemory),
+        }),
+        Err(_) => Err(Refusal::OutOfMemory),
     }
 }
 
-/// Returns `Judged` with the verdict on a conversation, or with `Stale`. Otherwise it returns `NoConversation` or
-/// `OutOfMemory`.
+/// Returns the verdict on a conversation, or `Stale`.
+///
+/// # Errors
+/// `NoConversation` or `OutOfMemory`.
 pub fn ask(
     library: &Library,
     records: &IndexMap<u32, Record>,
     comparison: Comparison,
     id: u32,
-) -> Reply
+) -> Result<Judged, Refusal>
     requires { IsSoundComparison comparison library.now records.now.entries }
-    ensures { AnswersAsk library.now records.now.entries id result }
+    ensures ok { IfOk result (λ j. IsAskedAt library.now records.now.entries id j.name j.events j.told) }
+    ensures fault { IfErr result (VerdictFails records.now.entries id) }
 {
     let Some(record) = records.get(&id) else {
-        return Reply::Refused(Refusal::NoConversation);
+        return Err(Refusal::NoConversation);
     };
     let Ok(name) = record.name().copy() else {
-        return Reply::Refused(Refusal::OutOfMemory);
+        return Err(Refusal::OutOfMemory);
     };
     let answer = record.ask(library.present(&name), comparison);
     match verdict_of(answer) {
-        Ok(told) => Reply::Judged {
-            id,
+        Ok(told) => Ok(Judged {
             name,
             events: record.log().len(),
             told,
-        },
-        Err(_) => Reply::Refused(Refusal::OutOfMemory),
+        }),
+        Err(_) => Err(Refusal::OutOfMemory),
     }
 }
 

@@ -9,14 +9,13 @@ ghost use Rattle.scrib_core.specs.declared.step.Step.TheVariants as steps;
 ghost use Rattle.scrib_core.specs.Answers.{initial, initial_under, IsAnswered, IsDue, AnswersAsDue};
 ghost use Rattle.scrib_core.specs.Held.{state_of, LeavesRefused, AnswersHeld, IsViewed};
 ghost use Rattle.scrib_core.specs.Runs.{PermitsRuns};
-ghost use Rattle.scrib_core.specs.ReplyValues.{reply_of, profile_reply_of};
 
 use crate::conversation_steps::{ask, note, open, turn};
-use crate::reply::{Edit, Refusal, Reply};
+use crate::reply::{
+    Edit, Refusal, Reply, edit_reply, note_reply, open_reply, profile_reply, verdict_reply,
+};
 use crate::step::Step;
 use indexmap::IndexMap;
-use scrib_library::changes::Changes;
-use scrib_library::fault::EditFault;
 use scrib_library::library::Library;
 use scrib_record::comparison::Comparison;
 use scrib_record::record::{MAX_EVENTS, Record};
@@ -203,14 +202,14 @@ impl Core {
         ensures refused { LeavesRefused result self.old self.new }
     {
         self.library.are_numbered();
-        open(
-            self.alloc,
+        let opened = open(
             &self.library,
             &mut self.records,
             MAX_CONVERSATIONS,
             id,
             name,
-        )
+        );
+        open_reply(id, opened)
     }
 
     #[inline(always)]
@@ -220,13 +219,14 @@ impl Core {
         ensures refused { LeavesRefused result self.old self.new }
     {
         self.library.are_numbered();
-        note(
+        let noted = note(
             &self.library,
             &mut self.records,
             Comparison::Numbers,
             id,
             event,
-        )
+        );
+        note_reply(id, noted)
     }
 
     fn turn(&mut self, id: u32) -> Reply
@@ -235,7 +235,8 @@ impl Core {
         ensures refused { LeavesRefused result self.old self.new }
     {
         self.library.are_numbered();
-        turn(&self.library, &mut self.records, Comparison::Numbers, id)
+        let turned = turn(&self.library, &mut self.records, Comparison::Numbers, id);
+        verdict_reply(id, turned)
     }
 
     fn ask(&self, id: u32) -> Reply
@@ -244,7 +245,8 @@ impl Core {
         ensures refused { LeavesRefused result self.now self.now }
     {
         self.library.are_numbered();
-        ask(&self.library, &self.records, Comparison::Numbers, id)
+        let asked = ask(&self.library, &self.records, Comparison::Numbers, id);
+        verdict_reply(id, asked)
     }
 }
 
@@ -255,27 +257,5 @@ fn protocol_of<'a>(library: &'a Library, name: &Dotted) -> Option<&'a Protocol>
     match library.present(name) {
         None => None,
         Some(version) => Some(version.protocol()),
-    }
-}
-
-// Returns the reply to an edit.
-fn edit_reply(edit: Edit, edited: Result<Changes, EditFault>) -> Reply
-    ensures { result ≡ reply_of edit edited }
-{
-    match edited {
-        Ok(changes) => Reply::Edited { edit, changes },
-        Err(EditFault::OutOfMemory) => Reply::Refused(Refusal::OutOfMemory),
-        Err(fault) => Reply::Refused(Refusal::Edit(fault)),
-    }
-}
-
-// Returns the reply to a change of the profile.
-fn profile_reply(profile: Profile, changed: Result<(), EditFault>) -> Reply
-    ensures { result ≡ profile_reply_of profile changed }
-{
-    match changed {
-        Ok(()) => Reply::Profiled { profile },
-        Err(EditFault::OutOfMemory) => Reply::Refused(Refusal::OutOfMemory),
-        Err(fault) => Reply::Refused(Refusal::Edit(fault)),
     }
 }

@@ -1,5 +1,9 @@
-//! The replies to steps.
+//! The replies to steps, and the reply to a step of this outcome.
 
+ghost use Rattle.std.specs.Prelude.{◌≡◌};
+ghost use Rattle.scrib_core.specs.ReplyValues.{edit_reply_of, profile_reply_of, open_reply_of, note_reply_of, verdict_reply_of};
+
+use crate::conversation_steps::{Judged, Noted};
 use scrib_library::changes::Changes;
 use scrib_library::fault::EditFault;
 use scrib_types::event::Told;
@@ -64,4 +68,62 @@ pub enum Reply {
     },
     /// The step was refused and nothing changed.
     Refused(Refusal),
+}
+
+/// Returns the reply to an edit of this outcome.
+pub fn edit_reply(edit: Edit, outcome: Result<Changes, EditFault>) -> Reply
+    ensures { result ≡ edit_reply_of edit outcome }
+{
+    match outcome {
+        Ok(changes) => Reply::Edited { edit, changes },
+        Err(EditFault::OutOfMemory) => Reply::Refused(Refusal::OutOfMemory),
+        Err(fault) => Reply::Refused(Refusal::Edit(fault)),
+    }
+}
+
+/// Returns the reply to a change of the profile of this outcome.
+pub fn profile_reply(profile: Profile, outcome: Result<(), EditFault>) -> Reply
+    ensures { result ≡ profile_reply_of profile outcome }
+{
+    match outcome {
+        Ok(()) => Reply::Profiled { profile },
+        Err(EditFault::OutOfMemory) => Reply::Refused(Refusal::OutOfMemory),
+        Err(fault) => Reply::Refused(Refusal::Edit(fault)),
+    }
+}
+
+/// Returns the reply to an opening of the conversation `id` with this outcome.
+pub fn open_reply(id: u32, outcome: Result<Dotted, Refusal>) -> Reply
+    ensures { result ≡ open_reply_of id outcome }
+{
+    match outcome {
+        Ok(name) => Reply::Opened { id, name },
+        Err(refusal) => Reply::Refused(refusal),
+    }
+}
+
+/// Returns the reply to a note in the conversation `id` with this outcome.
+#[inline(always)]
+pub fn note_reply(id: u32, outcome: Result<Noted, Refusal>) -> Reply
+    ensures { result ≡ note_reply_of id outcome }
+{
+    match outcome {
+        Ok(Noted { place, told }) => Reply::Noted { id, place, told },
+        Err(refusal) => Reply::Refused(refusal),
+    }
+}
+
+/// Returns the reply to a turn or a question in the conversation `id` with this outcome.
+pub fn verdict_reply(id: u32, outcome: Result<Judged, Refusal>) -> Reply
+    ensures { result ≡ verdict_reply_of id outcome }
+{
+    match outcome {
+        Ok(Judged { name, events, told }) => Reply::Judged {
+            id,
+            name,
+            events,
+            told,
+        },
+        Err(refusal) => Reply::Refused(refusal),
+    }
 }

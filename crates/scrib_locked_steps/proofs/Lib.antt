@@ -9,3 +9,4 @@ pub mod ReceiptLemmas
 pub mod MismatchLemmas
 pub mod SweepLemmas
 pub mod StaleListLemmas
+pub mod StepReplies

@@ -12,10 +12,11 @@ use Rattle.std.proofs.lemmas.Map.Entries.{lookup-filter-values, option_filter}
 use Rattle.std.proofs.lemmas.Map.Made.{is_some-lookup}
 use Rattle.std.proofs.lemmas.Map.Views.{Contains-from_any, list_any-from_Contains}
 use Rattle.scrib_static_checks.specs.Names.{dotted_eq}
+use Rattle.scrib_static_checks.proofs.NameLemmas.{dotted_eq-Decides}
 use Rattle.scrib_record.specs.Stale.{Recorded}
 use Rattle.scrib_core.specs.Held.{Records, record_at}
 use Rattle.scrib_locked_steps.specs.declared.index.ProtocolName.{ProtocolName}
-use Rattle.scrib_locked_steps.specs.Indexing.{Listing, listed, ids_in, only_under, ids_of, IsIndex, dotted_eq-Decides}
+use Rattle.scrib_locked_steps.specs.Indexing.{Listing, listed_ids, ids_in, only_under, ids_of, IsIndex}
 
 -- ---- the lists after one is written
 
@@ -36,32 +37,32 @@ other_name a b f = by (dotted_eq b a) refl
     by false e = refl
     by true e = absurd (true≢false (sym (eq_of_same a b (sym (same_name b a e))) ∙ f))
 
-pub listed_kept : (old new : Listing) (key : List (List ℕ)) (w : Vec ℕ Global) → IsWritten old new key w → w.items ≡ listed key old → (n : List (List ℕ)) → listed n new ≡ listed n old
+pub listed_kept : (old new : Listing) (key : List (List ℕ)) (w : Vec ℕ Global) → IsWritten old new key w → w.items ≡ listed_ids key old → (n : List (List ℕ)) → listed_ids n new ≡ listed_ids n old
 listed_kept old new key w written is n = by (dotted_eq key n) refl
   where
-    at : (b : Bool) → dotted_eq key n ≡ b → listed n new ≡ ids_in (cond b (Some w) (lookup (λ k. dotted_eq n k.name) old))
+    at : (b : Bool) → dotted_eq key n ≡ b → listed_ids n new ≡ ids_in (cond b (Some w) (lookup (λ k. dotted_eq n k.name) old))
     at b e = ap ids_in (written (record { name = n })) ∙ ap (λ (t : Bool). ids_in (cond t (Some w) (lookup (λ k. dotted_eq n k.name) old))) e
 
-    by : (b : Bool) → dotted_eq key n ≡ b → listed n new ≡ listed n old
-    by true e = at true e ∙ is ∙ ap (λ (m : List (List ℕ)). listed m old) (same_name key n e)
+    by : (b : Bool) → dotted_eq key n ≡ b → listed_ids n new ≡ listed_ids n old
+    by true e = at true e ∙ is ∙ ap (λ (m : List (List ℕ)). listed_ids m old) (same_name key n e)
     by false e = at false e
 
-pub listed_more : (old new : Listing) (key name : List (List ℕ)) (id : ℕ) (w : Vec ℕ Global) → key ≡ name → IsWritten old new key w → w.items ≡ listed key old ++ id ∷ []
-    → (n : List (List ℕ)) → listed n new ≡ listed n old ++ only_under name n id
+pub listed_more : (old new : Listing) (key name : List (List ℕ)) (id : ℕ) (w : Vec ℕ Global) → key ≡ name → IsWritten old new key w → w.items ≡ listed_ids key old ++ id ∷ []
+    → (n : List (List ℕ)) → listed_ids n new ≡ listed_ids n old ++ only_under name n id
 listed_more old new key name id w same written is n = by (dotted_eq key n) refl
   where
-    at : (b : Bool) → dotted_eq key n ≡ b → listed n new ≡ ids_in (cond b (Some w) (lookup (λ k. dotted_eq n k.name) old))
+    at : (b : Bool) → dotted_eq key n ≡ b → listed_ids n new ≡ ids_in (cond b (Some w) (lookup (λ k. dotted_eq n k.name) old))
     at b e = ap ids_in (written (record { name = n })) ∙ ap (λ (t : Bool). ids_in (cond t (Some w) (lookup (λ k. dotted_eq n k.name) old))) e
 
-    by : (b : Bool) → dotted_eq key n ≡ b → listed n new ≡ listed n old ++ only_under name n id
+    by : (b : Bool) → dotted_eq key n ≡ b → listed_ids n new ≡ listed_ids n old ++ only_under name n id
     by true e =
         let here : dotted_eq n name ≡ true = eq_of_same n name (sym (same_name key n e) ∙ same) in
         at true e ∙ is
-        ∙ ap (λ (m : List (List ℕ)). listed m old ++ id ∷ []) (same_name key n e)
-        ∙ ap (λ (t : Bool). listed n old ++ cond t (id ∷ []) []) (sym here)
+        ∙ ap (λ (m : List (List ℕ)). listed_ids m old ++ id ∷ []) (same_name key n e)
+        ∙ ap (λ (t : Bool). listed_ids n old ++ cond t (id ∷ []) []) (sym here)
     by false e =
         let there : dotted_eq n name ≡ false = subst (λ (m : List (List ℕ)). dotted_eq n m ≡ false) same (other_name key n e) in
-        at false e ∙ sym (append-nil (listed n old)) ∙ ap (λ (t : Bool). listed n old ++ cond t (id ∷ []) []) (sym there)
+        at false e ∙ sym (append-nil (listed_ids n old)) ∙ ap (λ (t : Bool). listed_ids n old ++ cond t (id ∷ []) []) (sym there)
 
 -- ---- the records by name
 
@@ -99,13 +100,13 @@ ids_set name ((k, x) ∷ rs) id r s there named = by (nat_eq id k) (λ e. ids_se
 pub index_none : IsIndex [] []
 index_none name = refl
 
-pub index_push : (es fs : Listing) (rs : Records) (id : ℕ) (r : Recorded) → ((n : List (List ℕ)) → listed n fs ≡ listed n es ++ only_under r.name n id) → IsIndex es rs → IsIndex fs (rs ++ (id, r) ∷ [])
+pub index_push : (es fs : Listing) (rs : Records) (id : ℕ) (r : Recorded) → ((n : List (List ℕ)) → listed_ids n fs ≡ listed_ids n es ++ only_under r.name n id) → IsIndex es rs → IsIndex fs (rs ++ (id, r) ∷ [])
 index_push es fs rs id r more index n = more n ∙ ap (λ (ids : List ℕ). ids ++ only_under r.name n id) (index n) ∙ sym (ids_push n rs id r)
 
 pub index_set : (es : Listing) (rs : Records) (id : ℕ) (r s : Recorded) → record_at rs id ≡ Some r → s.name ≡ r.name → IsIndex es rs → IsIndex es (set_value (nat_eq id) rs s)
 index_set es rs id r s there named index n = index n ∙ sym (ids_set n rs id r s there named)
 
-pub index_kept : (es fs : Listing) (rs : Records) → ((n : List (List ℕ)) → listed n fs ≡ listed n es) → IsIndex es rs → IsIndex fs rs
+pub index_kept : (es fs : Listing) (rs : Records) → ((n : List (List ℕ)) → listed_ids n fs ≡ listed_ids n es) → IsIndex es rs → IsIndex fs rs
 index_kept es fs rs same index n = same n ∙ index n
 
 -- ---- the ids of a name

@@ -10,13 +10,13 @@ use Rattle.scrib_library.specs.Holdings.{Holdings}
 use Rattle.scrib_core.specs.Held.{Records, record_at}
 use Rattle.scrib_core.specs.ConversationSteps.{IsPresent}
 use Rattle.scrib_locked_steps.specs.declared.pass_calls.PassRefusal.{PassRefusal}
-use Rattle.scrib_locked_steps.specs.declared.step_results.Noted.{Noted}
+use Rattle.scrib_core.specs.declared.conversation_steps.Noted.{Noted}
 use Rattle.scrib_locked_steps.specs.Indexing.{Listing}
 use Rattle.scrib_locked_steps.specs.Noting.{AnswersIn}
 use Rattle.scrib_locked_steps.specs.OneByOne.{OneByOne}
 use Rattle.scrib_locked_steps.specs.Passes.{PassHeld}
-use Rattle.scrib_locked_steps.specs.Passing.{AnswersBy, notes_of}
-use Rattle.scrib_locked_steps.specs.Shards.{IsStored}
+use Rattle.scrib_locked_steps.specs.Passing.{AnswersBy, added_notes}
+use Rattle.scrib_locked_steps.specs.Shards.{IsShardStored}
 use Rattle.scrib_locked_steps.proofs.ShardLemmas.{stored_same, pass_note_keeps}
 use Rattle.scrib_locked_steps.proofs.Notes.{answered_there, same_after, same_state}
 use Rattle.scrib_locked_steps.proofs.SweepLemmas.{at_itself}
@@ -52,16 +52,16 @@ all_answered_there h present rs id s t (e ∷ es) (x ∷ xs) at there is all =
 -- ---- how many entries are added
 
 pub one_keeps : (capacity : ℕ) (h : Holdings) (s t : Records × PassHeld) (e : Event) (x : Result Noted PassRefusal) (index : Listing) (book : ℕ) → AnswersBy h s e x t
-    → IsStored capacity s.0 index book → IsStored capacity t.0 index (book + notes_of x)
+    → IsShardStored capacity s.0 index book → IsShardStored capacity t.0 index (book + added_notes x)
 one_keeps capacity h s t e (Ok n) index book x stored = pass_note_keeps capacity h s.0 s.1.conversation e (Ok n) t.0 index book x.1 tt stored
 one_keeps capacity h s t e (Err f) index book x stored = pass_note_keeps capacity h s.0 s.1.conversation e (Err f) t.0 index book tt (ap (λ (w : Records × PassHeld). w.0) x.1) stored
 
 pub all_keep : (capacity : ℕ) (h : Holdings) (s t : Records × PassHeld) (es : List Event) (xs : List (Result Noted PassRefusal)) (index : Listing) (book : ℕ) → OneByOne (AnswersBy h) s es xs t
-    → IsStored capacity s.0 index book → IsStored capacity t.0 index (book + sum_by notes_of xs)
+    → IsShardStored capacity s.0 index book → IsShardStored capacity t.0 index (book + sum_by added_notes xs)
 all_keep capacity h s t [] [] index book same stored =
-    subst (IsStored capacity t.0 index) (omega arith) (stored_same capacity s.0 t.0 index book (ap (λ (w : Records × PassHeld). w.0) same) stored)
+    subst (IsShardStored capacity t.0 index) (omega arith) (stored_same capacity s.0 t.0 index book (ap (λ (w : Records × PassHeld). w.0) same) stored)
 all_keep capacity h s t [] (x ∷ xs) index book all stored = absurd all
 all_keep capacity h s t (e ∷ es) [] index book all stored = absurd all
 all_keep capacity h s t (e ∷ es) (x ∷ xs) index book all stored =
-    subst (IsStored capacity t.0 index) (omega (arith, sum_by-cons notes_of x xs))
-    (all_keep capacity h all.0 t es xs index (book + notes_of x) all.2 (one_keeps capacity h s all.0 e x index book all.1 stored))
+    subst (IsShardStored capacity t.0 index) (omega (arith, sum_by-cons added_notes x xs))
+    (all_keep capacity h all.0 t es xs index (book + added_notes x) all.2 (one_keeps capacity h s all.0 e x index book all.1 stored))

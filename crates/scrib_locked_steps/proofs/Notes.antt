@@ -13,13 +13,13 @@ use Rattle.scrib_core.specs.Held.{Records, record_at}
 use Rattle.scrib_core.specs.ConversationSteps.{IsNotedAt, IsPresent, NoteFails}
 use Rattle.scrib_locked_steps.specs.declared.pass.Receipt.{Receipt}
 use Rattle.scrib_locked_steps.specs.declared.pass_calls.PassRefusal.{PassRefusal}
-use Rattle.scrib_locked_steps.specs.declared.step_results.Noted.{Noted}
+use Rattle.scrib_core.specs.declared.conversation_steps.Noted.{Noted}
 use Rattle.scrib_locked_steps.specs.Shards.{ShardHeld, log_in, log_at}
 use Rattle.scrib_locked_steps.specs.Receipts.{AgreesWith, IsFirstMismatch}
 use Rattle.scrib_locked_steps.specs.Passes.{PassHeld, IsReceipted, newest_of}
 use Rattle.scrib_locked_steps.specs.declared.pass_calls.PassRefusal.TheVariants.{Mismatch, Step}
 use Rattle.scrib_locked_steps.specs.Passing.{NewestAgrees, IsNotedBy, PassNoteFails, AnswersBy}
-use Rattle.scrib_locked_steps.specs.Noting.{IsNotedIn, FailsIn, AnswersIn, refusal_of}
+use Rattle.scrib_locked_steps.specs.Noting.{IsNotedIn, FailsIn, AnswersIn, note_refusal}
 
 noted_at : (h : Holdings) (present : Option Version) (rs new : Records) (id : ℕ) (before after : Recorded) (e : Event) (n : Noted) → record_at rs id ≡ Some before → new ≡ set_value (nat_eq id) rs after
     → IsPresent h before.name present → IsNotedIn present before e n after → IsNotedAt h rs id e n.place n.told new
@@ -50,7 +50,7 @@ compared_none rs p id newest o absent at newest_is x =
     subst (λ (l : List Event). IsFirstMismatch l (newest_of p.receipts) o) (sym (ap log_in here)) (subst (λ (xs : List Receipt). IsFirstMismatch [] xs o) newest_is x)
 
 -- the reasons why the record refuses a note
-fails_at : (rs : Records) (id : ℕ) (r : Recorded) (f : NoteFault) → record_at rs id ≡ Some r → record_spec.NoteFails r f → NoteFails rs id (refusal_of f)
+fails_at : (rs : Records) (id : ℕ) (r : Recorded) (f : NoteFault) → record_at rs id ≡ Some r → record_spec.NoteFails r f → NoteFails rs id (note_refusal f)
 fails_at rs id r fault.LogFull there x = (r, there, x)
 fails_at rs id r fault.OutOfMemory there x = (r, there, x)
 

@@ -1,9 +1,9 @@
 -- The record at an index in the order of opening: its id finds it, and a write at the index is one under the id.
-use Rattle.std.proofs.Common.{◌≡◌, ◌<◌, ◌∙◌, ℕ, zero, suc, Bool, true, false, [], ◌∷◌, Option, Some, None, length, slice_get, get_or, position, nat_eq, option_map, IfSome, refl, sym, ap, eqb-true, eq-eqb, true≢false, arith}
+use Rattle.std.proofs.Common.{◌≡◌, ◌<◌, ◌∙◌, ℕ, zero, suc, Bool, true, false, [], ◌∷◌, Option, Some, None, length, slice_get, get_or, position, nat_eq, IfSome, refl, sym, ap, eqb-true, eq-eqb, true≢false, arith}
 use Rattle.std.specs.List.{IsDistinct}
-use Rattle.std.specs.Map.{keys_of, values_of, set_value}
+use Rattle.std.specs.Map.{keys_of, set_value}
 use Rattle.std.specs.Cmp.{nat_eq_equiv}
-use Rattle.std.proofs.lemmas.Option.{slice_get-map, slice_get_within, get_or_from_slice_get, same_Some}
+use Rattle.std.proofs.lemmas.Option.{slice_get_within, get_or_from_slice_get, same_Some}
 use Rattle.std.proofs.lemmas.Map.Entries.{lookup_from_place}
 use Rattle.std.proofs.lemmas.Map.Keys.{apart_from_distinct}
 use Rattle.indexmap.specs.IndexMap.{set_value_at}
@@ -48,7 +48,16 @@ set_there rs at id w distinct is_there =
     first_set rs at id w (eq-eqb id (get_or (keys_of rs) at 0) (sym here))
     (λ k below. apart (get_or (keys_of rs) k 0) id (ap (nat_eq (get_or (keys_of rs) k 0)) (sym here) ∙ apart_from_distinct nat_eq (keys_of rs) k at 0 distinct below within))
 
-pub there_at : (rs : Records) (at id : ℕ) (r : Recorded) → IsDistinct nat_eq (keys_of rs) → IsRecordAt rs at id → slice_get (values_of rs) at ≡ Some r → record_at rs id ≡ Some r
-there_at rs at id r distinct is_there value =
-    let held : slice_get (values_of rs) at ≡ Some is_there.0 = slice_get-map (λ (e : ℕ × Recorded). e.1) rs at ∙ ap (option_map (λ (e : ℕ × Recorded). e.1)) is_there.1 in
-    lookup_from_place nat_eq_equiv rs at id is_there.0 distinct is_there.1 ∙ ap Some (same_Some is_there.0 r (sym held ∙ value))
+-- the record that was read at the index of an id is that of the id
+pub there_read : (rs : Records) (at id key : ℕ) (r : Recorded) → IsDistinct nat_eq (keys_of rs) → IsRecordAt rs at id → slice_get rs at ≡ Some (key, r) → record_at rs id ≡ Some r
+there_read rs at id key r distinct is_there value =
+    let held : ℕ × Recorded = (id, is_there.0) in
+    let read : ℕ × Recorded = (key, r) in
+    let same : held ≡ read = same_Some held read (sym is_there.1 ∙ value) in
+    lookup_from_place nat_eq_equiv rs at id is_there.0 distinct is_there.1 ∙ ap (λ (e : ℕ × Recorded). Some e.1) same
+
+-- the index of an id is below the number of records
+pub within_records : (rs : Records) (at id : ℕ) → IsRecordAt rs at id → at < length rs
+within_records rs at id is_there =
+    let held : ℕ × Recorded = (id, is_there.0) in
+    slice_get_within rs at held is_there.1

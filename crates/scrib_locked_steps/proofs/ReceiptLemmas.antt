@@ -15,7 +15,7 @@ use Rattle.scrib_record.specs.Versions.{meaning_of}
 use Rattle.scrib_library.specs.Holdings.{Holdings}
 use Rattle.scrib_core.specs.Held.{Records, record_at}
 use Rattle.scrib_locked_steps.specs.declared.pass.Receipt.{Receipt}
-use Rattle.scrib_locked_steps.specs.declared.step_results.Noted.{Noted}
+use Rattle.scrib_core.specs.declared.conversation_steps.Noted.{Noted}
 use Rattle.scrib_locked_steps.specs.Shards.{log_at, log_in}
 use Rattle.scrib_locked_steps.specs.Receipts.{entry_at, AgreesWith}
 use Rattle.scrib_locked_steps.specs.Passes.{PassHeld, rises, newest_of, IsVerdictOn, IsReceipted, IsAnsweredOn}

@@ -9,6 +9,7 @@ use Rattle.std.proofs.lemmas.Map.{length-set_value}
 use Rattle.std.proofs.lemmas.Map.Entries.{sum_by-set_value, length-values_of}
 use Rattle.std.proofs.lemmas.Map.Views.{All-values-set_value, IfSome-lookup_from_All}
 use Rattle.scrib_types.specs.declared.event.Event.{Event}
+use Rattle.scrib_types.specs.declared.event.Told.{Told}
 use Rattle.scrib_global.proofs.JudgementLemmas.{permitted_none}
 use Rattle.scrib_record.specs.declared.version.Version.{Version}
 use Rattle.scrib_record.specs.Stale.{Recorded}
@@ -16,148 +17,121 @@ use Rattle.scrib_record.specs.Turns.{new_record}
 use Rattle.scrib_record.specs.Versions.{meaning_of}
 use Rattle.scrib_library.specs.Holdings.{Holdings}
 use Rattle.scrib_library.specs.Modules.{MeansProtocols}
-use Rattle.scrib_core.specs.declared.reply.Reply.{Reply}
-use Rattle.scrib_core.specs.declared.reply.Reply.TheVariants as reply
+use Rattle.scrib_core.specs.declared.conversation_steps.Judged.{Judged}
+use Rattle.scrib_core.specs.declared.reply.Refusal.{Refusal}
 use Rattle.scrib_core.specs.declared.reply.Refusal.TheVariants.{OutOfMemory}
 use Rattle.scrib_core.specs.Held.{Records, record_at}
-use Rattle.scrib_core.specs.ConversationSteps.{IsOpened, IsNotedAt, AnswersOpen, AnswersNote, AnswersTurn}
+use Rattle.scrib_core.specs.ConversationSteps.{IsOpened, OpenFails, IsNotedAt, IsTurnedAt}
 use Rattle.scrib_locked_steps.specs.declared.pass_calls.PassRefusal.{PassRefusal}
-use Rattle.scrib_locked_steps.specs.declared.step_results.Noted.{Noted}
-use Rattle.scrib_locked_steps.specs.Indexing.{Listing, listed, only_under}
-use Rattle.scrib_locked_steps.specs.Shards.{IsWithin, AreWithin, IsStored}
-use Rattle.scrib_locked_steps.specs.Locked.{entries_of}
-use Rattle.scrib_locked_steps.specs.Passing.{notes_of}
+use Rattle.scrib_core.specs.declared.conversation_steps.Noted.{Noted}
+use Rattle.scrib_locked_steps.specs.Indexing.{Listing, listed_ids, only_under}
+use Rattle.scrib_locked_steps.specs.Shards.{IsRecordWithin, AreWithin, IsShardStored}
+use Rattle.scrib_locked_steps.specs.Passing.{added_notes}
 use Rattle.scrib_locked_steps.proofs.NameIndexLemmas.{index_none, index_push, index_set, index_kept}
 
 abbrev events_in : Recorded → ℕ
 events_in r = length r.log
 
 -- the book fits into its integer type
-pub book_small : (capacity : ℕ) (rs : Records) (es : Listing) (book : ℕ) → IsStored capacity rs es book → book ≤ 68719476736
+pub book_small : (capacity : ℕ) (rs : Records) (es : Listing) (book : ℕ) → IsShardStored capacity rs es book → book ≤ 68719476736
 book_small capacity rs es book s =
     let sum = sum_by-le events_in 1048576 (values_of rs) (λ k d h. (s.lawful k d h).1) in
     omega (arith, sum, length-values_of rs, s.counted, s.limited, s.few)
 
-pub entries_few : (answer : Reply) → entries_of answer ≤ 1
-entries_few (reply.Edited e changes) = omega arith
-entries_few (reply.Profiled p) = omega arith
-entries_few (reply.Opened i n) = omega arith
-entries_few (reply.Noted i place told) = omega arith
-entries_few (reply.Judged i n events told) = omega arith
-entries_few (reply.Refused f) = omega arith
+pub stored_none : (capacity : ℕ) → capacity ≤ 65536 → IsShardStored capacity [] [] 0
+stored_none capacity few = record { counted = refl; indexed = index_none; lawful = All-nil IsRecordWithin; limited = omega arith; few = few }
 
-pub stored_none : (capacity : ℕ) → capacity ≤ 65536 → IsStored capacity [] [] 0
-stored_none capacity few = record { counted = refl; indexed = index_none; lawful = All-nil IsWithin; limited = omega arith; few = few }
-
-pub stored_same : (capacity : ℕ) (old new : Records) (es : Listing) (book : ℕ) → new ≡ old → IsStored capacity old es book → IsStored capacity new es book
-stored_same capacity old new es book e s = subst (λ (rs : Records). IsStored capacity rs es book) (sym e) s
+pub stored_same : (capacity : ℕ) (old new : Records) (es : Listing) (book : ℕ) → new ≡ old → IsShardStored capacity old es book → IsShardStored capacity new es book
+stored_same capacity old new es book e s = subst (λ (rs : Records). IsShardStored capacity rs es book) (sym e) s
 
 -- one record is written, with so many more entries
-stored_set : (capacity : ℕ) (old : Records) (es : Listing) (book more id : ℕ) (r s : Recorded) → record_at old id ≡ Some r → IsWithin s → length s.log ≡ length r.log + more → s.name ≡ r.name
-    → IsStored capacity old es book → IsStored capacity (set_value (nat_eq id) old s) es (book + more)
+stored_set : (capacity : ℕ) (old : Records) (es : Listing) (book more id : ℕ) (r s : Recorded) → record_at old id ≡ Some r → IsRecordWithin s → length s.log ≡ length r.log + more → s.name ≡ r.name
+    → IsShardStored capacity old es book → IsShardStored capacity (set_value (nat_eq id) old s) es (book + more)
 stored_set capacity old es book more id r s there within longer named stored = record {
   indexed = index_set es old id r s there named stored.indexed;
   counted = omega (arith, sum_by-set_value events_in (nat_eq id) old r s there, stored.counted, longer);
-  lawful = All-values-set_value (nat_eq id) IsWithin old s stored.lawful within;
+  lawful = All-values-set_value (nat_eq id) IsRecordWithin old s stored.lawful within;
   limited = omega (arith, length-set_value (nat_eq id) old s, stored.limited);
   few = stored.few;
 }
 
--- one empty record is added and listed
-stored_push : (capacity : ℕ) (old : Records) (es fs : Listing) (book id : ℕ) (s : Recorded) → IsWithin s → length s.log ≡ 0 → length old < capacity
-    → ((n : List (List ℕ)) → listed n fs ≡ listed n es ++ only_under s.name n id)
-    → IsStored capacity old es book → IsStored capacity (old ++ (id, s) ∷ []) fs book
+-- one empty record is added and listed_ids
+stored_push : (capacity : ℕ) (old : Records) (es fs : Listing) (book id : ℕ) (s : Recorded) → IsRecordWithin s → length s.log ≡ 0 → length old < capacity
+    → ((n : List (List ℕ)) → listed_ids n fs ≡ listed_ids n es ++ only_under s.name n id)
+    → IsShardStored capacity old es book → IsShardStored capacity (old ++ (id, s) ∷ []) fs book
 stored_push capacity old es fs book id s within empty room more stored =
     let pushed : values_of (old ++ (id, s) ∷ []) ≡ values_of old ++ s ∷ [] = map-append (λ (e : ℕ × Recorded). e.1) old ((id, s) ∷ []) in
     record {
       indexed = index_push es fs old id s more stored.indexed;
       counted = stored.counted ∙ sym (ap (sum_by events_in) pushed ∙ sum_by_push events_in (values_of old) s ∙ omega (arith, empty));
-      lawful = subst (All IsWithin) (sym pushed) (All-push IsWithin (values_of old) s stored.lawful within);
+      lawful = subst (All IsRecordWithin) (sym pushed) (All-push IsRecordWithin (values_of old) s stored.lawful within);
       limited = omega (arith, length-append old ((id, s) ∷ []), room);
       few = stored.few;
     }
 
-new_within : (h : Holdings) (name : List (List ℕ)) (v : Version) (old new : Records) (id capacity : ℕ) → MeansProtocols h.modules → (o : IsOpened capacity h old id name new) → IsWithin (new_record name o.version)
+new_within : (h : Holdings) (name : List (List ℕ)) (v : Version) (old new : Records) (id capacity : ℕ) → MeansProtocols h.modules → (o : IsOpened capacity h old id name new) → IsRecordWithin (new_record name o.version)
 new_within h name v old new id capacity protocols o =
     (record { within = omega arith; judges = permitted_none (meaning_of o.version) (protocols name (meaning_of o.version) o.present.meaning) }, omega arith)
 
--- a conversation was opened and listed
-pub open_keeps : (capacity : ℕ) (h : Holdings) (old : Records) (id : ℕ) (name : List (List ℕ)) (i : ℕ) (n : List (List ℕ)) (new : Records) (es fs : Listing) (book : ℕ) → MeansProtocols h.modules
-    → AnswersOpen capacity h old id name (reply.Opened i n) new → ((m : List (List ℕ)) → listed m fs ≡ listed m es ++ only_under name m id)
-    → IsStored capacity old es book → IsStored capacity new fs book
-open_keeps capacity h old id name i n new es fs book protocols x more s =
-    let o = x.2 in
+-- a conversation was opened and listed_ids
+pub open_keeps : (capacity : ℕ) (h : Holdings) (old : Records) (id : ℕ) (name : List (List ℕ)) (new : Records) (es fs : Listing) (book : ℕ) → MeansProtocols h.modules
+    → IsOpened capacity h old id name new → ((m : List (List ℕ)) → listed_ids m fs ≡ listed_ids m es ++ only_under name m id)
+    → IsShardStored capacity old es book → IsShardStored capacity new fs book
+open_keeps capacity h old id name new es fs book protocols o more s =
     stored_same capacity (old ++ (id, new_record name o.version) ∷ []) new fs book o.added
     (stored_push capacity old es fs book id (new_record name o.version) (new_within h name o.version old new id capacity protocols o) refl o.room more s)
 
-pub listed_same : (capacity : ℕ) (rs : Records) (es fs : Listing) (book : ℕ) → ((m : List (List ℕ)) → listed m fs ≡ listed m es) → IsStored capacity rs es book → IsStored capacity rs fs book
+pub listed_same : (capacity : ℕ) (rs : Records) (es fs : Listing) (book : ℕ) → ((m : List (List ℕ)) → listed_ids m fs ≡ listed_ids m es) → IsShardStored capacity rs es book → IsShardStored capacity rs fs book
 listed_same capacity rs es fs book same s =
     record { counted = s.counted; indexed = index_kept es fs rs same s.indexed; lawful = s.lawful; limited = s.limited; few = s.few }
 
+pub opened_some : (capacity : ℕ) (h : Holdings) (old : Records) (id : ℕ) (name : List (List ℕ)) (new : Records) → IsOpened capacity h old id name new → 0 < length new
+opened_some capacity h old id name new o = omega (arith, ap length o.added, length-append old ((id, new_record name o.version) ∷ []))
+
 -- the conversation opened last is removed again
-pub taken_back : (capacity : ℕ) (h : Holdings) (old : Records) (id : ℕ) (name : List (List ℕ)) (i : ℕ) (n : List (List ℕ)) (new left : Records) (last : Option (ℕ × Recorded))
-    → AnswersOpen capacity h old id name (reply.Opened i n) new → new ≡ left ++ option_to_list last → IsSome last → left ≡ old
-taken_back capacity h old id name i n new left None x e some = absurd (true≢false (sym some))
-taken_back capacity h old id name i n new left (Some p) x e some =
-    let both : left ++ p ∷ [] ≡ old ++ (id, new_record name x.2.version) ∷ [] = sym e ∙ x.2.added in
-    (same_from_push left old p (id, new_record name x.2.version) both).0
+pub taken_back : (capacity : ℕ) (h : Holdings) (old : Records) (id : ℕ) (name : List (List ℕ)) (new left : Records) (last : Option (ℕ × Recorded))
+    → IsOpened capacity h old id name new → new ≡ left ++ option_to_list last → IsSome last → left ≡ old
+taken_back capacity h old id name new left None o e some = absurd (true≢false (sym some))
+taken_back capacity h old id name new left (Some p) o e some =
+    let both : left ++ p ∷ [] ≡ old ++ (id, new_record name o.version) ∷ [] = sym e ∙ o.added in
+    (same_from_push left old p (id, new_record name o.version) both).0
 
 -- so the opening is refused with `OutOfMemory`
-pub open_refused : (capacity : ℕ) (h : Holdings) (old : Records) (id : ℕ) (name : List (List ℕ)) (i : ℕ) (n : List (List ℕ)) (new left : Records)
-    → AnswersOpen capacity h old id name (reply.Opened i n) new → left ≡ old → AnswersOpen capacity h old id name (reply.Refused OutOfMemory) left
-open_refused capacity h old id name i n new left x back = ((x.2.absent, (meaning_of x.2.version, x.2.present.meaning), x.2.room), back)
+pub unlisted_refused : (capacity : ℕ) (h : Holdings) (old : Records) (id : ℕ) (name : List (List ℕ)) (new : Records) → IsOpened capacity h old id name new → OpenFails capacity h old id name OutOfMemory
+unlisted_refused capacity h old id name new o = (o.absent, (meaning_of o.version, o.present.meaning), o.room)
 
--- any other reply leaves the records
-pub open_leaves : (capacity : ℕ) (h : Holdings) (old : Records) (id : ℕ) (name : List (List ℕ)) (answer : Reply) (new : Records) (es : Listing) (book : ℕ)
-    → ((i : ℕ) (n : List (List ℕ)) → answer ≡ reply.Opened i n → ⊥) → AnswersOpen capacity h old id name answer new → IsStored capacity old es book → IsStored capacity new es book
-open_leaves capacity h old id name (reply.Opened i n) new es book not x s = absurd (not i n refl)
-open_leaves capacity h old id name (reply.Refused f) new es book not x s = stored_same capacity old new es book x.1 s
-open_leaves capacity h old id name (reply.Edited e changes) new es book not x s = absurd x
-open_leaves capacity h old id name (reply.Profiled p) new es book not x s = absurd x
-open_leaves capacity h old id name (reply.Noted i place told) new es book not x s = absurd x
-open_leaves capacity h old id name (reply.Judged i n events told) new es book not x s = absurd x
+none_more : (capacity : ℕ) (new : Records) (es : Listing) (book : ℕ) → IsShardStored capacity new es book → IsShardStored capacity new es (book + 0)
+none_more capacity new es book s = subst (IsShardStored capacity new es) (omega arith) s
 
-none_more : (capacity : ℕ) (new : Records) (es : Listing) (book : ℕ) → IsStored capacity new es book → IsStored capacity new es (book + 0)
-none_more capacity new es book s = subst (IsStored capacity new es) (omega arith) s
-
-pub note_keeps : (capacity : ℕ) (h : Holdings) (old : Records) (id : ℕ) (e : Event) (answer : Reply) (new : Records) (es : Listing) (book : ℕ)
-    → AnswersNote h old id e answer new → IsStored capacity old es book → IsStored capacity new es (book + entries_of answer)
-note_keeps capacity h old id e (reply.Noted i place told) new es book x s =
-    let n = x.1 in
+-- an event was noted
+pub note_keeps : (capacity : ℕ) (h : Holdings) (old : Records) (id : ℕ) (e : Event) (place : ℕ) (told : Told) (new : Records) (es : Listing) (book : ℕ)
+    → IsNotedAt h old id e place told new → IsShardStored capacity old es book → IsShardStored capacity new es (book + 1)
+note_keeps capacity h old id e place told new es book n s =
     let longer : length n.after.log ≡ length n.before.log + 1 = ap length n.noted.log ∙ length-append n.before.log (e ∷ []) in
     stored_same capacity (set_value (nat_eq id) old n.after) new es (book + 1) n.put
     (stored_set capacity old es book 1 id n.before n.after n.there (n.lawful, omega (arith, longer, n.room)) longer n.noted.name s)
-note_keeps capacity h old id e (reply.Refused f) new es book x s = none_more capacity new es book (stored_same capacity old new es book x.1 s)
-note_keeps capacity h old id e (reply.Edited d changes) new es book x s = absurd x
-note_keeps capacity h old id e (reply.Profiled p) new es book x s = absurd x
-note_keeps capacity h old id e (reply.Opened i n) new es book x s = absurd x
-note_keeps capacity h old id e (reply.Judged i n events told) new es book x s = absurd x
 
-pub notes_few : (answer : Result Noted PassRefusal) → notes_of answer ≤ 1
+pub notes_few : (answer : Result Noted PassRefusal) → added_notes answer ≤ 1
 notes_few (Ok n) = omega arith
 notes_few (Err f) = omega arith
 
--- the same for a result in place of a reply
+-- a note by a pass succeeded or was refused
 pub pass_note_keeps : (capacity : ℕ) (h : Holdings) (old : Records) (id : ℕ) (e : Event) (answer : Result Noted PassRefusal) (new : Records) (es : Listing) (book : ℕ)
-    → IfOk answer (λ n. IsNotedAt h old id e n.place n.told new) → OnErr answer (new ≡ old) → IsStored capacity old es book → IsStored capacity new es (book + notes_of answer)
-pass_note_keeps capacity h old id e (Ok n) new es book noted same s = note_keeps capacity h old id e (reply.Noted id n.place n.told) new es book (refl, noted) s
+    → IfOk answer (λ n. IsNotedAt h old id e n.place n.told new) → OnErr answer (new ≡ old) → IsShardStored capacity old es book → IsShardStored capacity new es (book + added_notes answer)
+pass_note_keeps capacity h old id e (Ok n) new es book noted same s = note_keeps capacity h old id e n.place n.told new es book noted s
 pass_note_keeps capacity h old id e (Err f) new es book noted same s = none_more capacity new es book (stored_same capacity old new es book same s)
 
 -- an existing record is lawful and within the limit
-pub within_at : (rs : Records) (id : ℕ) (r : Recorded) → AreWithin rs → record_at rs id ≡ Some r → IsWithin r
-within_at rs id r all there = subst (λ (o : Option Recorded). IfSome o IsWithin) there (IfSome-lookup_from_All IsWithin (nat_eq id) rs all)
+pub within_at : (rs : Records) (id : ℕ) (r : Recorded) → AreWithin rs → record_at rs id ≡ Some r → IsRecordWithin r
+within_at rs id r all there = subst (λ (o : Option Recorded). IfSome o IsRecordWithin) there (IfSome-lookup_from_All IsRecordWithin (nat_eq id) rs all)
 
-pub turn_keeps : (capacity : ℕ) (h : Holdings) (old : Records) (id : ℕ) (answer : Reply) (new : Records) (es : Listing) (book : ℕ)
-    → AnswersTurn h old id answer new → IsStored capacity old es book → IsStored capacity new es book
-turn_keeps capacity h old id (reply.Judged i n events told) new es book x s =
-    let t = x.1 in
-    let same : length t.after.log ≡ length t.before.log + 0 = ap length t.turned.log ∙ omega arith in
+-- a turn succeeded or was refused
+pub turn_keeps : (capacity : ℕ) (h : Holdings) (old : Records) (id : ℕ) (r : Result Judged Refusal) (new : Records) (es : Listing) (book : ℕ)
+    → IfOk r (λ j. IsTurnedAt h old id j.name j.events j.told new) → OnErr r (new ≡ old) → IsShardStored capacity old es book → IsShardStored capacity new es book
+turn_keeps capacity h old id (Ok j) new es book t same s =
+    let as_long : length t.after.log ≡ length t.before.log + 0 = ap length t.turned.log ∙ omega arith in
     let short = (within_at old id t.before s.lawful t.there).1 in
-    subst (IsStored capacity new es) (omega arith)
+    subst (IsShardStored capacity new es) (omega arith)
     (stored_same capacity (set_value (nat_eq id) old t.after) new es (book + 0) t.put
-    (stored_set capacity old es book 0 id t.before t.after t.there (t.lawful, omega (arith, same, short)) same t.turned.name s))
-turn_keeps capacity h old id (reply.Refused f) new es book x s = stored_same capacity old new es book x.1 s
-turn_keeps capacity h old id (reply.Edited d changes) new es book x s = absurd x
-turn_keeps capacity h old id (reply.Profiled p) new es book x s = absurd x
-turn_keeps capacity h old id (reply.Opened i n) new es book x s = absurd x
-turn_keeps capacity h old id (reply.Noted i place told) new es book x s = absurd x
+    (stored_set capacity old es book 0 id t.before t.after t.there (t.lawful, omega (arith, as_long, short)) as_long t.turned.name s))
+turn_keeps capacity h old id (Err f) new es book t same s = stored_same capacity old new es book same s

@@ -19,25 +19,26 @@ use Rattle.std.proofs.lemmas.List.Kept.{AllPairs-filter}
 use Rattle.std.proofs.lemmas.List.{append-nil, append_assoc}
 use Rattle.std.proofs.lemmas.Option.{slice_get_within, slice_get-map, get_or_from_slice_get}
 use Rattle.scrib_static_checks.specs.Names.{dotted_eq}
+use Rattle.scrib_static_checks.proofs.NameLemmas.{dotted_eq-Decides}
 use Rattle.scrib_record.specs.declared.version.Version.{Version}
 use Rattle.scrib_record.specs.Stale.{Recorded, is_stale}
 use Rattle.scrib_library.specs.Holdings.{Holdings}
 use Rattle.scrib_core.specs.Held.{Records, record_at}
 use Rattle.scrib_core.specs.ConversationSteps.{IsPresent}
 use Rattle.scrib_locked_steps.specs.declared.index.ProtocolName.{ProtocolName}
-use Rattle.scrib_locked_steps.specs.Indexing.{Listing, IsIndex, listed, ids_in, ids_of, name_of, dotted_eq-Decides}
+use Rattle.scrib_locked_steps.specs.Indexing.{Listing, IsIndex, listed_ids, ids_in, ids_of, key_name}
 use Rattle.scrib_locked_steps.specs.Sweeping.{IsStaleNow, IsFreshNow, IsStaleAt, AreStaleIds, is_stale_of, stale_ids_of}
 use Rattle.scrib_locked_steps.proofs.NameIndexLemmas.{id_there, there_id}
 
 same_some : {X : Type 0} (x y : X) → Some x ≡ Some y → x ≡ y
 same_some x y e = cc
 
--- the name of the record under the id is listed below this place, and the record is stale
+-- the name of the record under the id is listed_ids below this place, and the record is stale
 abbrev pub IsStaleUnder : Holdings → Records → Listing → ℕ → ℕ → Type 0
 IsStaleUnder h rs es n id =
     (k : ℕ) × (key : ProtocolName) × (v : Vec ℕ Global) × (r : Recorded) × (k < n) × (slice_get es k ≡ Some (key, v)) × (record_at rs id ≡ Some r) × (key.name ≡ r.name) × IsStaleNow h r
 
--- exactly the stale records of the first names are listed
+-- exactly the stale records of the first names are listed_ids
 pub record AreTouchedUnder (h : Holdings) (rs : Records) (es : Listing) (n : ℕ) (ids : List ℕ) : Type 0 where
   pub distinct : IsDistinct nat_eq ids
   pub stale : All (IsStaleUnder h rs es n) ids
@@ -54,13 +55,13 @@ abbrev names_equal : ProtocolName → ProtocolName → Bool
 names_equal a b = dotted_eq a.name b.name
 
 names_equiv : IsEquivalence names_equal
-names_equiv = on_equiv name_of (lists_equiv nat_list_eq_equiv)
+names_equiv = on_equiv key_name (lists_equiv nat_list_eq_equiv)
 
 names_alike : (a b : ProtocolName) → a.name ≡ b.name → names_equal a b ≡ true
 names_alike a b e = (dotted_eq-Decides a.name b.name).1 e
 
 -- the list at an index of the map is that of its name
-listed_at : (es : Listing) (k : ℕ) (key : ProtocolName) (v : Vec ℕ Global) → IsDistinct names_equal (keys_of es) → slice_get es k ≡ Some (key, v) → listed key.name es ≡ v.items
+listed_at : (es : Listing) (k : ℕ) (key : ProtocolName) (v : Vec ℕ Global) → IsDistinct names_equal (keys_of es) → slice_get es k ≡ Some (key, v) → listed_ids key.name es ≡ v.items
 listed_at es k key v distinct at = ap ids_in (lookup_from_place names_equiv es k key v distinct at)
 
 -- entries of one name are at one index
@@ -71,7 +72,7 @@ apart_names es k n key other v w distinct at there below same =
     let second : get_or (keys_of es) n key ≡ other = get_or_from_slice_get (keys_of es) n other key (key_at n other w there) in
     let within : n < length (keys_of es) = slice_get_within (keys_of es) n other (key_at n other w there) in
     let differ : names_equal (get_or (keys_of es) k key) (get_or (keys_of es) n key) ≡ false = apart_from_distinct names_equal (keys_of es) k n key distinct below within in
-    true≢false (sym (names_alike (get_or (keys_of es) k key) (get_or (keys_of es) n key) (ap name_of first ∙ same ∙ ap name_of (sym second))) ∙ differ)
+    true≢false (sym (names_alike (get_or (keys_of es) k key) (get_or (keys_of es) n key) (ap key_name first ∙ same ∙ ap key_name (sym second))) ∙ differ)
   where
     key_at : (i : ℕ) (x : ProtocolName) (y : Vec ℕ Global) → slice_get es i ≡ Some (x, y) → slice_get (keys_of es) i ≡ Some x
     key_at i x y h = slice_get-map (λ (e : ProtocolName × Vec ℕ Global). e.0) es i ∙ ap (option_map (λ (e : ProtocolName × Vec ℕ Global). e.0)) h
@@ -185,7 +186,7 @@ touched_all h rs es n ids sorted distinct index end touched moved order = record
   rise = IsStrictlyIncreasing-from_distinct sorted order (IsDistinct-IsPermutation nat_eq nat_eq_equiv.symm ids sorted moved touched.distinct);
   stale = All-permutation (IsStaleAt h rs) ids sorted moved (λ k d below. found (get_or ids k d) (touched.stale k d below));
   others = λ id r e.
-      let has : Contains (listed r.name es) id = subst (λ (xs : List ℕ). Contains xs id) (sym (index r.name)) (id_there r.name rs id r distinct e refl) in
+      let has : Contains (listed_ids r.name es) id = subst (λ (xs : List ℕ). Contains xs id) (sym (index r.name)) (id_there r.name rs id r distinct e refl) in
       let at = place id r (lookup (λ k. dotted_eq r.name k.name) es) refl has in
       elim (touched.others at.0 at.1 at.2 id r (let within = slice_get_within es at.0 (at.1, at.2) at.3 in omega (arith, within, end)) at.3 e at.4) [
         | inl has ↦ inl (Contains-permutation ids sorted id moved has)

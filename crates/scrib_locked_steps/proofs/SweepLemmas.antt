@@ -4,7 +4,7 @@ use Rattle.std.specs.List.{IsDistinct, list_any}
 use Rattle.std.specs.List.Sorted.{IsStrictlyIncreasing}
 use Rattle.std.specs.Map.{set_value}
 use Rattle.std.specs.Cmp.{nat_eq_equiv}
-use Rattle.std.proofs.lemmas.Bool.{cases_eq}
+use Rattle.std.proofs.lemmas.Bool.{cases_eq, cases_lt}
 use Rattle.std.proofs.lemmas.Bool.Decides.{Decides-eqb, nat_tests}
 use Rattle.std.proofs.lemmas.List.{get_or_default}
 use Rattle.std.proofs.lemmas.List.Kept.{AllPairs-from_increasing}
@@ -170,7 +170,7 @@ stale_more h turns present before after answer numbered once here t stale so_far
     far (inr s) = let same = under_alike h before s.present present numbered once s.here here in omega (arith, s.far, same)
 
 -- after 4,096 turns no log has unjudged events
-pub no_more : (h : Holdings) (id : ℕ) (old now : Records) → AreWithin old → IsSwept h id 4096 old now → ⊥
+no_more : (h : Holdings) (id : ℕ) (old now : Records) → AreWithin old → IsSwept h id 4096 old now → ⊥
 no_more h id old now within s =
     let q = s.but.same.each id s.of s.there in
     let short = (within_at old id q.0 within q.1).1 in
@@ -179,6 +179,14 @@ no_more h id old now within s =
       | inl none ↦ absurd (omega (arith, none))
       | inr a ↦ omega (arith, a.far, unjudged a.present s.of a.stale a.held, log, short)
     ]
+
+-- so a conversation that is still stale had fewer turns
+pub fewer_turns : (h : Holdings) (id turns : ℕ) (old now : Records) → AreWithin old → turns ≤ 4096 → IsSwept h id turns old now → turns < 4096
+fewer_turns h id turns old now within few s = elim (cases_lt turns 4096) [
+  | inl fewer ↦ fewer
+  | inr more ↦ (let end : turns ≡ 4096 = omega (arith, few, more) in
+      absurd (no_more h id old now within (subst (λ (n : ℕ). IsSwept h id n old now) end s)))
+]
 
 module _ (h : Holdings) (id turns : ℕ) (old now new : Records) (numbered : AreNumbered h) (once : MeansOnce h.modules) (s : IsSwept h id turns old now) where
   -- a turn writes the record

@@ -1,18 +1,17 @@
 -- The index of a shard, from protocol names to conversations (this project's own).
-use Rattle.std.specs.Prelude.{◌≡◌, ℕ, true, List, [], ◌∷◌, cond, Option, Some, None, Vec, refl}
+use Rattle.std.specs.Prelude.{◌≡◌, ℕ, true, List, [], ◌∷◌, cond, Option, Some, None, Vec}
 use Rattle.std.specs.declared.alloc.Global.{Global}
-use Rattle.std.specs.Bool.{Decides}
 use Rattle.std.specs.List.{filter, flat_map}
 use Rattle.std.specs.Map.{keys_of, lookup}
 use Rattle.std.specs.Hash as fed
-use Rattle.std.proofs.lemmas.Slice.Eq.{bytes_eq-Decides, slice_eq-Decides}
 use Rattle.scrib_static_checks.specs.Names.{dotted_eq}
+use Rattle.scrib_static_checks.proofs.NameLemmas.{dotted_eq-Decides}
 use Rattle.scrib_core.specs.Held.{Records}
 use Rattle.scrib_locked_steps.specs.declared.index.ProtocolName.{ProtocolName}
 
 -- the name of a key
-abbrev pub name_of : ProtocolName → List (List ℕ)
-name_of k = k.name
+abbrev pub key_name : ProtocolName → List (List ℕ)
+key_name k = k.name
 
 -- the contents of an index: lists of ids, by name
 abbrev pub Listing : Type 0
@@ -24,8 +23,8 @@ ids_in None = []
 ids_in (Some ids) = ids.items
 
 -- the ids that the index lists under the name
-abbrev pub listed : List (List ℕ) → Listing → List ℕ
-listed name es = ids_in (lookup (λ k. dotted_eq name k.name) es)
+abbrev pub listed_ids : List (List ℕ) → Listing → List ℕ
+listed_ids name es = ids_in (lookup (λ k. dotted_eq name k.name) es)
 
 -- the id alone if the names are equal, else none
 abbrev pub only_under : List (List ℕ) → List (List ℕ) → ℕ → List ℕ
@@ -37,10 +36,7 @@ ids_of name rs = keys_of (filter (λ e. dotted_eq name e.1.name) rs)
 
 -- the index lists exactly the records by name
 abbrev pub IsIndex : Listing → Records → Type 0
-IsIndex es rs = (name : List (List ℕ)) → listed name es ≡ ids_of name rs
-
-pub dotted_eq-Decides : (a b : List (List ℕ)) → Decides (dotted_eq a b) (a ≡ b)
-dotted_eq-Decides a b = slice_eq-Decides bytes_eq-Decides a b (dotted_eq a b) refl
+IsIndex es rs = (name : List (List ℕ)) → listed_ids name es ≡ ids_of name rs
 
 -- equal names have equal hashes
 pub same_named : (a b : ProtocolName) → dotted_eq a.name b.name ≡ true

@@ -1,13 +1,14 @@
--- Passes to the conversations of a shard, and entries of its logs (this project's own).
+-- The replies of the calls under the locks, and passes to the conversations of a shard (this project's own).
 use Rattle.std.specs.Prelude.{◌≡◌, ℕ, List, [], IsSome, None}
+use Rattle.scrib_types.specs.declared.event.Event.{Event}
 use Rattle.scrib_types.specs.declared.event.Told.{Told}
 use Rattle.scrib_library.specs.Holdings.{Holdings}
 use Rattle.scrib_core.specs.declared.reply.Refusal.{Refusal}
-use Rattle.scrib_core.specs.declared.reply.Refusal.TheVariants.{AlreadyOpen, UnknownProtocol, TooManyConversations, NoConversation, Edit, LogFull, OutOfMemory}
+use Rattle.scrib_core.specs.declared.reply.Refusal.TheVariants.{NoConversation}
 use Rattle.scrib_core.specs.declared.reply.Reply.{Reply}
 use Rattle.scrib_core.specs.declared.reply.Reply.TheVariants as reply
 use Rattle.scrib_core.specs.Held.{Records, record_at}
-use Rattle.scrib_core.specs.ConversationSteps.{IsTurnedAt, IsAskedAt}
+use Rattle.scrib_core.specs.ConversationSteps.{IsOpened, OpenFails, IsNotedAt, NoteFails, IsTurnedAt, IsAskedAt, VerdictFails}
 use Rattle.scrib_locked_steps.specs.Passes.{PassHeld}
 
 -- the conversation is open, and its pass has no receipt
@@ -16,22 +17,8 @@ IsConnected rs id p = IsSome (record_at rs id) × (p ≡ record { conversation =
 
 -- the pass is refused because the conversation is not open
 abbrev pub ConnectFails : Records → ℕ → Refusal → Type 0
-ConnectFails rs id AlreadyOpen = ⊥
-ConnectFails rs id UnknownProtocol = ⊥
-ConnectFails rs id TooManyConversations = ⊥
 ConnectFails rs id NoConversation = record_at rs id ≡ None
-ConnectFails rs id (Edit f) = ⊥
-ConnectFails rs id LogFull = ⊥
-ConnectFails rs id OutOfMemory = ⊥
-
--- the number of entries that a step added to a log, by its reply
-abbrev pub entries_of : Reply → ℕ
-entries_of (reply.Edited e changes) = 0
-entries_of (reply.Profiled p) = 0
-entries_of (reply.Opened i n) = 0
-entries_of (reply.Noted i place told) = 1
-entries_of (reply.Judged i n events told) = 0
-entries_of (reply.Refused f) = 0
+ConnectFails rs id _ = ⊥
 
 -- the record of the id makes a turn, with this verdict
 abbrev pub IsTurnedFor : Holdings → Records → ℕ → Told → Records → Type 0
@@ -40,3 +27,27 @@ IsTurnedFor h old id answer new = (name : List (List ℕ)) × (events : ℕ) × 
 -- the verdict of the record of the id
 abbrev pub IsAskedFor : Holdings → Records → ℕ → Told → Type 0
 IsAskedFor h rs id answer = (name : List (List ℕ)) × (events : ℕ) × IsAskedAt h rs id name events answer
+
+-- the reply to an opening, and the records after it; a refusal leaves them unchanged
+abbrev pub AnswersOpen : (limit : ℕ) → Holdings → Records → ℕ → List (List ℕ) → Reply → Records → Type 0
+AnswersOpen limit h old id name (reply.Opened i n) new = (i ≡ id) × (n ≡ name) × IsOpened limit h old id name new
+AnswersOpen limit h old id name (reply.Refused f) new = OpenFails limit h old id name f × (new ≡ old)
+AnswersOpen limit h old id name _ new = ⊥
+
+-- the reply to a note, and the records after it
+abbrev pub AnswersNote : Holdings → Records → ℕ → Event → Reply → Records → Type 0
+AnswersNote h old id e (reply.Noted i place answer) new = (i ≡ id) × IsNotedAt h old id e place answer new
+AnswersNote h old id e (reply.Refused f) new = NoteFails old id f × (new ≡ old)
+AnswersNote h old id e _ new = ⊥
+
+-- the reply to a turn, and the records after it
+abbrev pub AnswersTurn : Holdings → Records → ℕ → Reply → Records → Type 0
+AnswersTurn h old id (reply.Judged i name events answer) new = (i ≡ id) × IsTurnedAt h old id name events answer new
+AnswersTurn h old id (reply.Refused f) new = VerdictFails old id f × (new ≡ old)
+AnswersTurn h old id _ new = ⊥
+
+-- the reply to a question
+abbrev pub AnswersAsk : Holdings → Records → ℕ → Reply → Type 0
+AnswersAsk h rs id (reply.Judged i name events answer) = (i ≡ id) × IsAskedAt h rs id name events answer
+AnswersAsk h rs id (reply.Refused f) = VerdictFails rs id f
+AnswersAsk h rs id _ = ⊥

@@ -10,11 +10,12 @@ use Rattle.scrib_record.specs.Told.{IsNoted, NoteFails}
 use Rattle.scrib_core.specs.declared.reply.Refusal.{Refusal}
 use Rattle.scrib_core.specs.declared.reply.Refusal.TheVariants.{LogFull, OutOfMemory}
 use Rattle.scrib_core.specs.Held.{Records}
-use Rattle.scrib_locked_steps.specs.declared.step_results.Noted.{Noted}
+use Rattle.scrib_core.specs.declared.conversation_steps.Noted.{Noted}
 use Rattle.scrib_locked_steps.specs.declared.pass_calls.PassRefusal.{PassRefusal}
 use Rattle.scrib_locked_steps.specs.declared.pass_calls.PassRefusal.TheVariants.{Mismatch, Step}
 use Rattle.scrib_locked_steps.specs.Receipts.{AgreesWith, IsFirstMismatch}
 use Rattle.scrib_locked_steps.specs.Passes.{PassHeld, IsReceipted, newest_of}
+use Rattle.scrib_record.specs.declared.record.TheConstants.{MAX_EVENTS}
 
 -- the record at the index, from 0 in the order of opening, has the id
 abbrev pub IsRecordAt : Records → (at id : ℕ) → Type 0
@@ -24,21 +25,21 @@ IsRecordAt rs at id = (r : Recorded) × (slice_get rs at ≡ Some (id, r))
 -- any
 pub record IsNotedIn (present : Option Version) (before : Recorded) (e : Event) (n : Noted)
     (after : Recorded) : Type 0 where
-  pub room : length before.log < 1048576
+  pub room : length before.log < MAX_EVENTS
   pub noted : IsNoted present before e after n.told
   pub lawful : IsLawful after
   pub place_is : n.place ≡ length after.log
 
 -- the refusal of a step whose note has this fault
-abbrev pub refusal_of : NoteFault → Refusal
-refusal_of fault.LogFull = LogFull
-refusal_of fault.OutOfMemory = OutOfMemory
+abbrev pub note_refusal : NoteFault → Refusal
+note_refusal fault.LogFull = LogFull
+note_refusal fault.OutOfMemory = OutOfMemory
 
 -- a note by the pass is refused in the record: its newest receipt differs, or else the record refuses it
 abbrev pub FailsIn : Recorded → PassHeld → PassRefusal → Type 0
 FailsIn r p (Mismatch id place) = (id ≡ p.conversation) × IsFirstMismatch r.log (newest_of p.receipts) (Some place)
 FailsIn r p (Step f) =
-    All (AgreesWith r.log) (newest_of p.receipts) × ((g : NoteFault) × (f ≡ refusal_of g) × NoteFails r g)
+    All (AgreesWith r.log) (newest_of p.receipts) × ((g : NoteFault) × (f ≡ note_refusal g) × NoteFails r g)
 
 -- the reply to a note by the pass in the record, and the record and the pass after it
 abbrev pub AnswersIn : Option Version → Recorded × PassHeld → Event → Result Noted PassRefusal → Recorded × PassHeld

@@ -6,7 +6,7 @@ use Rattle.scrib_types.specs.declared.event.Told.TheVariants.{Stale, Judged}
 use Rattle.scrib_types.specs.Agreement.{Agreement}
 use Rattle.scrib_types.specs.Judgement.{Judges}
 use Rattle.scrib_locked_steps.specs.declared.pass.Receipt.{Receipt}
-use Rattle.scrib_locked_steps.specs.declared.step_results.Noted.{Noted}
+use Rattle.scrib_core.specs.declared.conversation_steps.Noted.{Noted}
 use Rattle.scrib_locked_steps.specs.Receipts.{entry_at, AgreesWith}
 
 -- the conversation of a pass, and its receipts, oldest first

@@ -5,7 +5,7 @@ use Rattle.scrib_types.specs.declared.event.Told.{Told}
 use Rattle.scrib_library.specs.Holdings.{Holdings}
 use Rattle.scrib_core.specs.Held.{Records}
 use Rattle.scrib_core.specs.ConversationSteps.{IsNotedAt, NoteFails, VerdictFails}
-use Rattle.scrib_locked_steps.specs.declared.step_results.Noted.{Noted}
+use Rattle.scrib_core.specs.declared.conversation_steps.Noted.{Noted}
 use Rattle.scrib_locked_steps.specs.declared.pass_calls.PassRefusal.{PassRefusal}
 use Rattle.scrib_locked_steps.specs.declared.pass_calls.PassRefusal.TheVariants.{Mismatch, Step}
 use Rattle.scrib_locked_steps.specs.Shards.{ShardHeld, log_at}
@@ -49,6 +49,6 @@ AnswersBy h s e (Ok n) t =
 AnswersBy h s e (Err f) t = PassNoteFails s.0 s.1 f × (t ≡ s)
 
 -- the number of entries that a note by a pass adds to a log
-abbrev pub notes_of : Result Noted PassRefusal → ℕ
-notes_of (Ok n) = 1
-notes_of (Err f) = 0
+abbrev pub added_notes : Result Noted PassRefusal → ℕ
+added_notes (Ok n) = 1
+added_notes (Err f) = 0

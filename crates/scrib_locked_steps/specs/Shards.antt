@@ -6,6 +6,8 @@ use Rattle.scrib_types.specs.declared.event.Event.{Event}
 use Rattle.scrib_record.specs.Stale.{Recorded, IsLawful}
 use Rattle.scrib_core.specs.Held.{Records, record_at}
 use Rattle.scrib_locked_steps.specs.Indexing.{Listing, IsIndex}
+use Rattle.scrib_record.specs.declared.record.TheConstants.{MAX_EVENTS}
+use Rattle.scrib_core.specs.declared.monitor.TheConstants.{MAX_CONVERSATIONS}
 
 -- the maximal number of conversations, and the records by id, in the order of opening
 pub record ShardHeld : Type 0 where
@@ -26,24 +28,24 @@ abbrev pub book_of : Records → ℕ
 book_of rs = sum_by (λ r. length r.log) (values_of rs)
 
 -- a record that is lawful and within the limit of a log
-abbrev pub IsWithin : Recorded → Type 0
-IsWithin r = IsLawful r × (length r.log ≤ 1048576)
+abbrev pub IsRecordWithin : Recorded → Type 0
+IsRecordWithin r = IsLawful r × (length r.log ≤ MAX_EVENTS)
 
 -- each record is lawful and within the limit of a log
 abbrev pub AreWithin : Records → Type 0
-AreWithin rs = All IsWithin (values_of rs)
+AreWithin rs = All IsRecordWithin (values_of rs)
 
 -- The invariants of a shard: ids are distinct, its conversations are within its limit, and its records are lawful.
-pub record IsKept (s : ShardHeld) : Type 0 where
+pub record IsLawfulShard (s : ShardHeld) : Type 0 where
   pub distinct : IsDistinct nat_eq (keys_of s.records)
   pub lawful : AreWithin s.records
   pub limited : length s.records ≤ s.capacity
-  pub few : s.capacity ≤ 65536
+  pub few : s.capacity ≤ MAX_CONVERSATIONS
 
 -- the limit, the index and the book agree with the records
-pub record IsStored (capacity : ℕ) (rs : Records) (index : Listing) (book : ℕ) : Type 0 where
+pub record IsShardStored (capacity : ℕ) (rs : Records) (index : Listing) (book : ℕ) : Type 0 where
   pub counted : book ≡ book_of rs
   pub indexed : IsIndex index rs
   pub lawful : AreWithin rs
   pub limited : length rs ≤ capacity
-  pub few : capacity ≤ 65536
+  pub few : capacity ≤ MAX_CONVERSATIONS

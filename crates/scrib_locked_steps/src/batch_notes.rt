@@ -1,13 +1,13 @@
 //! Several notes by a pass under one holding of the locks.
 
-ghost use Rattle.std.specs.Prelude.{◌≡◌, ◌<◌, ◌≤◌, ◌^◌, [], None, vec_len, vec_capacity};
+ghost use Rattle.std.specs.Prelude.{◌≡◌, ◌<◌, ◌≤◌, ◌^◌, None, vec_len, vec_capacity};
 ghost use Rattle.std.specs.List.{sum_by};
 ghost use Rattle.std.specs.Option.{option_copied};
 ghost use Rattle.scrib_library.specs.Holdings.{Holdings};
 ghost use Rattle.scrib_core.specs.Held.{Records, record_at};
-ghost use Rattle.scrib_locked_steps.specs.Noting.{AnswersIn, IsRecordAt};
+ghost use Rattle.scrib_locked_steps.specs.Noting.{AnswersIn};
 ghost use Rattle.scrib_locked_steps.specs.OneByOne.{OneByOne};
-ghost use Rattle.scrib_locked_steps.specs.Passing.{AnswersBy, notes_of};
+ghost use Rattle.scrib_locked_steps.specs.Passing.{AnswersBy, added_notes};
 
 use crate::pass::Pass;
 use crate::pass_calls::{PassReply, notes_of, unopened_refusal};
@@ -20,23 +20,29 @@ use scrib_record::record::Record;
 use scrib_record::version::Version;
 use scrib_types::shared_event::SharedEvent;
 
+/// Events to note, and an empty list with room for the reply to each.
+#[derive(Drop)]
+pub struct Batch {
+    pub events: Vec<SharedEvent>,
+    pub room: Vec<PassReply>,
+    pub ghost empty: { vec_len room ≡ 0 },
+    pub ghost enough: { vec_len events ≤ vec_capacity room },
+}
+
 /// Appends the events one after another to the log of the pass's conversation, as calls of `note_by_pass` would without
-/// other calls between them. Returns the reply to each, in order, in the list `room`, which has capacity for them. The
-/// record and the version are looked up once, and the newest receipt is compared once.
+/// other calls between them. Returns the reply to each, in order, in the list of the batch. The record and the version
+/// are looked up once, and the newest receipt is compared once.
 pub fn note_all_by_pass(
     library: &Library,
     shard: &mut Shard,
     pass: &mut Pass,
-    events: Vec<SharedEvent>,
-    room: Vec<PassReply>,
+    batch: Batch,
 ) -> Vec<PassReply>
-    requires empty { room.items ≡ [] }
-    requires room { vec_len events ≤ vec_capacity room }
-    ensures answered { OneByOne (AnswersBy library.now) (shard.old.records, pass.old) events.items result.items
+    ensures answered { OneByOne (AnswersBy library.now) (shard.old.records, pass.old) batch.events.items result.items
         (shard.new.records, pass.new) }
     ensures limit { shard.new.capacity ≡ shard.old.capacity }
 {
-    let answers = note_all_in_records(library, &mut shard.records, pass, events, room);
+    let answers = note_all_in_records(library, &mut shard.records, pass, batch);
     shard.book += notes_in(&answers);
     answers
 }
@@ -46,43 +52,18 @@ fn note_all_in_records(
     library: &Library,
     records: &mut IndexMap<u32, Record>,
     pass: &mut Pass,
-    events: Vec<SharedEvent>,
-    room: Vec<PassReply>,
+    batch: Batch,
 ) -> Vec<PassReply>
-    requires empty { room.items ≡ [] }
-    requires room { vec_len events ≤ vec_capacity room }
-    ensures { OneByOne (AnswersBy library.now) (records.old.entries, pass.old) events.items result.items
+    ensures { OneByOne (AnswersBy library.now) (records.old.entries, pass.old) batch.events.items result.items
         (records.new.entries, pass.new) }
 {
-    match place_at_hint(records, pass.hint(), pass.conversation()) {
-        Some(at) => {
-            pass.set_hint(at);
-            note_all_at_index(library, records, at, pass, events, room)
-        }
-        None => refuse_all(pass, events, room),
-    }
-}
-
-// Appends the events to the log of the record at this index.
-fn note_all_at_index(
-    library: &Library,
-    records: &mut IndexMap<u32, Record>,
-    at: usize,
-    pass: &mut Pass,
-    events: Vec<SharedEvent>,
-    room: Vec<PassReply>,
-) -> Vec<PassReply>
-    requires there { IsRecordAt records.old.entries at pass.old.conversation }
-    requires empty { room.items ≡ [] }
-    requires room { vec_len events ≤ vec_capacity room }
-    ensures { OneByOne (AnswersBy library.now) (records.old.entries, pass.old) events.items result.items
-        (records.new.entries, pass.new) }
-{
-    let Some(conversation) = records.get_index_mut(at) else {
-        unreachable!()
+    let Some(at) = place_at_hint(records, pass.hint(), pass.conversation()) else {
+        return refuse_all(pass, batch);
     };
+    pass.set_hint(at);
+    let (_, conversation) = records.pair_mut(at);
     let present = present_of(library, conversation);
-    note_all_in_record(present, conversation, pass, events, room)
+    note_all_in_record(present, conversation, pass, batch)
 }
 
 // Appends the events to the log of the pass's conversation. `present` is the present version of its protocol, if it has
@@ -91,15 +72,13 @@ fn note_all_in_record(
     present: Option<&Version>,
     conversation: &mut Record,
     pass: &mut Pass,
-    events: Vec<SharedEvent>,
-    room: Vec<PassReply>,
+    batch: Batch,
 ) -> Vec<PassReply>
-    requires empty { room.items ≡ [] }
-    requires room { vec_len events ≤ vec_capacity room }
-    ensures { OneByOne (AnswersIn (option_copied present.entry)) (conversation.old, pass.old) events.items result.items
-        (conversation.new, pass.new) }
+    ensures { OneByOne (AnswersIn (option_copied present.entry)) (conversation.old, pass.old) batch.events.items
+        result.items (conversation.new, pass.new) }
 {
     let mismatch = first_mismatch(conversation.log(), pass.newest());
+    let Batch { events, room } = batch;
     let mut answers = room;
     for event in events {
         let answer = note_unless_mismatch(mismatch, present, conversation, pass, event);
@@ -109,12 +88,11 @@ fn note_all_in_record(
 }
 
 // Refuses each event, since no conversation is open for the pass.
-fn refuse_all(pass: &Pass, events: Vec<SharedEvent>, room: Vec<PassReply>) -> Vec<PassReply>
-    requires empty { room.items ≡ [] }
-    requires room { vec_len events ≤ vec_capacity room }
+fn refuse_all(pass: &Pass, batch: Batch) -> Vec<PassReply>
     ensures { (h : Holdings) (rs : Records) → record_at rs pass.now.conversation ≡ None
-        → OneByOne (AnswersBy h) (rs, pass.now) events.items result.items (rs, pass.now) }
+        → OneByOne (AnswersBy h) (rs, pass.now) batch.events.items result.items (rs, pass.now) }
 {
+    let Batch { events, room } = batch;
     let mut answers = room;
     for event in events {
         let answer = refuse(pass, event);
@@ -133,8 +111,8 @@ fn refuse(pass: &Pass, _event: SharedEvent) -> PassReply
 
 // Returns the number of entries that the notes added to a log.
 fn notes_in(answers: &[PassReply]) -> u64
-    requires { sum_by notes_of answers.now < 2 ^ 64 }
-    ensures { result ≡ sum_by notes_of answers.now }
+    requires { sum_by added_notes answers.now < 2 ^ 64 }
+    ensures { result ≡ sum_by added_notes answers.now }
 {
     let mut notes = 0;
     for answer in answers {

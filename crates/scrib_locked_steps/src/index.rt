@@ -1,7 +1,7 @@
 //! The index of a shard: the ids of its conversations, by the full name of their protocol.
 
 ghost use Rattle.std.specs.Prelude.{◌≡◌, ◌++◌, ℕ, List, OnOk, OnErr};
-ghost use Rattle.scrib_locked_steps.specs.Indexing.{listed, only_under};
+ghost use Rattle.scrib_locked_steps.specs.Indexing.{listed_ids, only_under};
 
 use indexmap::IndexMap;
 use scrib_types::name::Dotted;
@@ -18,11 +18,11 @@ impl PartialEq for ProtocolName {
     ghost use Rattle.std.specs.Cmp.{partial_equiv_from_equiv};
     ghost use Rattle.std.proofs.lemmas.Cmp.{on_equiv, lists_equiv, nat_list_eq_equiv};
     ghost use Rattle.scrib_static_checks.specs.Names.{dotted_eq};
-    ghost use Rattle.scrib_locked_steps.specs.Indexing.{name_of};
+    ghost use Rattle.scrib_locked_steps.specs.Indexing.{key_name};
 
     ghost eq = { λ a b. dotted_eq a.name b.name };
 
-    ghost laws = { partial_equiv_from_equiv (on_equiv name_of (lists_equiv nat_list_eq_equiv)) };
+    ghost laws = { partial_equiv_from_equiv (on_equiv key_name (lists_equiv nat_list_eq_equiv)) };
 
     fn eq(&self, other: &ProtocolName) -> bool {
         self.name.equal(&other.name)
@@ -31,9 +31,9 @@ impl PartialEq for ProtocolName {
 
 impl Eq for ProtocolName {
     ghost use Rattle.std.proofs.lemmas.Cmp.{on_equiv, lists_equiv, nat_list_eq_equiv};
-    ghost use Rattle.scrib_locked_steps.specs.Indexing.{name_of};
+    ghost use Rattle.scrib_locked_steps.specs.Indexing.{key_name};
 
-    ghost laws = { on_equiv name_of (lists_equiv nat_list_eq_equiv) };
+    ghost laws = { on_equiv key_name (lists_equiv nat_list_eq_equiv) };
 }
 
 impl Hash for ProtocolName {
@@ -64,8 +64,8 @@ pub(crate) fn list(
     id: u32,
 ) -> Result<(), AllocError>
     ensures ok { OnOk result ((n : List (List ℕ))
-        → listed n index.new.entries ≡ listed n index.old.entries ++ only_under name.now n id) }
-    ensures err { OnErr result ((n : List (List ℕ)) → listed n index.new.entries ≡ listed n index.old.entries) }
+        → listed_ids n index.new.entries ≡ listed_ids n index.old.entries ++ only_under name.now n id) }
+    ensures err { OnErr result ((n : List (List ℕ)) → listed_ids n index.new.entries ≡ listed_ids n index.old.entries) }
 {
     let key = ProtocolName { name: name.copy()? };
     match index.get_mut(&key) {

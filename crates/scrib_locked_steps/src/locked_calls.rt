@@ -3,19 +3,16 @@
 //! `note_by_pass` and `note_all_by_pass`, which compare a receipt first.
 
 ghost use Rattle.std.specs.Prelude.{◌≡◌, [], ℕ, IfOk, IfErr};
-ghost use Rattle.scrib_core.specs.ConversationSteps.{AnswersOpen, AnswersNote, AnswersTurn, AnswersAsk};
-ghost use Rattle.scrib_locked_steps.specs.Locked.{ConnectFails, IsConnected, entries_of};
+ghost use Rattle.scrib_locked_steps.specs.Locked.{AnswersOpen, AnswersNote, AnswersTurn, AnswersAsk, ConnectFails, IsConnected};
 ghost use Rattle.scrib_locked_steps.specs.Receipts.{IsFirstMismatch};
 ghost use Rattle.scrib_locked_steps.specs.Shards.{log_at};
 
-use crate::index::list;
 use crate::pass::{Pass, Receipt};
 use crate::receipt_check::first_mismatch;
 use crate::shard::Shard;
-use scrib_core::conversation_steps::{ask, note, open, turn};
-use scrib_core::reply::{Refusal, Reply};
+use crate::step_results::{ask_step, note_step, open_step, turn_step};
+use scrib_core::reply::{Refusal, Reply, note_reply, open_reply, verdict_reply};
 use scrib_library::library::Library;
-use scrib_record::comparison::Comparison;
 use scrib_types::name::Dotted;
 use scrib_types::shared_event::SharedEvent;
 
@@ -27,24 +24,7 @@ pub fn open_locked(library: &Library, shard: &mut Shard, id: u32, name: &Dotted)
         shard.new.records }
     ensures limit { shard.new.capacity ≡ shard.old.capacity }
 {
-    library.means_protocols();
-    let reply = open(
-        shard.alloc,
-        library,
-        &mut shard.records,
-        shard.capacity,
-        id,
-        name,
-    );
-    let Reply::Opened { .. } = &reply else {
-        return reply;
-    };
-    if list(&mut shard.index, shard.alloc, name, id).is_err() {
-        // A conversation that the index does not list is not opened.
-        shard.records.pop();
-        return Reply::Refused(Refusal::OutOfMemory);
-    }
-    reply
+    open_reply(id, open_step(library, shard, id, name))
 }
 
 /// Appends the event to the conversation's log and returns `Noted`. Otherwise it returns the first refusal that applies
@@ -53,9 +33,7 @@ pub fn note_locked(library: &Library, shard: &mut Shard, id: u32, event: SharedE
     ensures answered { AnswersNote library.now shard.old.records id event result shard.new.records }
     ensures limit { shard.new.capacity ≡ shard.old.capacity }
 {
-    let reply = note(library, &mut shard.records, Comparison::Whole, id, event);
-    shard.book += entries_of(&reply);
-    reply
+    note_reply(id, note_step(library, shard, id, event))
 }
 
 /// Judges up to 256 further events of a conversation with a stale verdict, and returns `Judged`. Otherwise it returns
@@ -64,7 +42,7 @@ pub fn turn_locked(library: &Library, shard: &mut Shard, id: u32) -> Reply
     ensures answered { AnswersTurn library.now shard.old.records id result shard.new.records }
     ensures limit { shard.new.capacity ≡ shard.old.capacity }
 {
-    turn(library, &mut shard.records, Comparison::Whole, id)
+    verdict_reply(id, turn_step(library, shard, id))
 }
 
 /// Returns `Judged` with the verdict on a conversation, or with `Stale`. Otherwise it returns `NoConversation` or
@@ -72,7 +50,7 @@ pub fn turn_locked(library: &Library, shard: &mut Shard, id: u32) -> Reply
 pub fn ask_locked(library: &Library, shard: &Shard, id: u32) -> Reply
     ensures { AnswersAsk library.now shard.now.records id result }
 {
-    ask(library, &shard.records, Comparison::Whole, id)
+    verdict_reply(id, ask_step(library, shard, id))
 }
 
 /// Returns a pass to a conversation, without receipts.
@@ -98,15 +76,5 @@ pub fn stands_locked(shard: &Shard, id: u32, receipts: &[Receipt]) -> Option<usi
     match shard.records.get(&id) {
         Some(record) => first_mismatch(record.log(), receipts),
         None => first_mismatch(&[], receipts),
-    }
-}
-
-// Returns the number of entries that the step added to a log.
-fn entries_of(reply: &Reply) -> u64
-    ensures { result ≡ entries_of reply.now }
-{
-    match reply {
-        Reply::Noted { .. } => 1,
-        _ => 0,
     }
 }

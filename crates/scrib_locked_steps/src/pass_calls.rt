@@ -2,9 +2,8 @@
 
 ghost use Rattle.std.specs.Prelude.{◌≡◌, None, IfOk, IfErr, OnErr};
 ghost use Rattle.scrib_core.specs.Held.{Records, record_at};
-ghost use Rattle.scrib_locked_steps.specs.Noting.{IsRecordAt};
 ghost use Rattle.scrib_locked_steps.specs.Passes.{PassHeld, IsReceipted, IsAnsweredOn, newest_of};
-ghost use Rattle.scrib_locked_steps.specs.Passing.{AnswersBy, IsNotedBy, PassNoteFails, IsAskedBy, PassAskFails, notes_of};
+ghost use Rattle.scrib_locked_steps.specs.Passing.{AnswersBy, IsNotedBy, PassNoteFails, IsAskedBy, PassAskFails, added_notes};
 
 use crate::locked_calls::stands_locked;
 use crate::pass::{Pass, Receipt};
@@ -71,12 +70,13 @@ pub fn ask_by_pass(library: &Library, shard: &Shard, pass: &Pass) -> Result<Told
         });
     }
     match ask_step(library, shard, id) {
-        Ok(verdict) => Ok(verdict),
+        Ok(judged) => Ok(judged.told),
         Err(refusal) => Err(PassRefusal::Step(refusal)),
     }
 }
 
-// Looks up the record of the pass's conversation, first where it was last, and appends the event.
+// Looks up the record of the pass's conversation, first where it was last. Appends the event, unless the pass's newest
+// receipt differs from the log.
 #[inline(always)]
 fn note_in_records(
     library: &Library,
@@ -87,30 +87,11 @@ fn note_in_records(
     ensures { AnswersBy library.now (records.old.entries, pass.old) event result (records.new.entries, pass.new) }
 {
     let id = pass.conversation();
-    match place_at_hint(records, pass.hint(), id) {
-        Some(at) => {
-            pass.set_hint(at);
-            note_at_index(library, records, at, pass, event)
-        }
-        None => Err(unopened_refusal(id, pass.newest())),
-    }
-}
-
-// Appends the event to the log of the record at this index, unless the pass's newest receipt differs from it.
-#[inline(always)]
-fn note_at_index(
-    library: &Library,
-    records: &mut IndexMap<u32, Record>,
-    at: usize,
-    pass: &mut Pass,
-    event: SharedEvent,
-) -> PassReply
-    requires { IsRecordAt records.old.entries at pass.old.conversation }
-    ensures { AnswersBy library.now (records.old.entries, pass.old) event result (records.new.entries, pass.new) }
-{
-    let Some(conversation) = records.get_index_mut(at) else {
-        unreachable!()
+    let Some(at) = place_at_hint(records, pass.hint(), id) else {
+        return Err(unopened_refusal(id, pass.newest()));
     };
+    pass.set_hint(at);
+    let (_, conversation) = records.pair_mut(at);
     let mismatch = first_mismatch(conversation.log(), pass.newest());
     let present = present_of(library, conversation);
     note_unless_mismatch(mismatch, present, conversation, pass, event)
@@ -132,7 +113,7 @@ pub(crate) fn unopened_refusal(id: u32, newest: &[Receipt]) -> PassRefusal
 
 /// Returns the number of entries that the note added to a log.
 pub(crate) fn notes_of(noted: &PassReply) -> u64
-    ensures { result ≡ notes_of noted.now }
+    ensures { result ≡ added_notes noted.now }
 {
     match noted {
         Ok(_) => 1,

@@ -5,7 +5,7 @@ ghost use Rattle.std.specs.Option.{option_copied};
 ghost use Rattle.scrib_record.specs.Told as record_spec;
 ghost use Rattle.scrib_core.specs.Held.{record_at};
 ghost use Rattle.scrib_core.specs.ConversationSteps.{IsPresent};
-ghost use Rattle.scrib_locked_steps.specs.Noting.{AnswersIn, IsNotedIn, IsRecordAt, refusal_of};
+ghost use Rattle.scrib_locked_steps.specs.Noting.{AnswersIn, IsNotedIn, IsRecordAt, note_refusal};
 ghost use Rattle.scrib_locked_steps.specs.Passes.{newest_of};
 ghost use Rattle.scrib_locked_steps.specs.Receipts.{IsFirstMismatch, AgreesWith};
 
@@ -135,7 +135,7 @@ fn memory_fault(conversation: &Record) -> NoteFault
 
 // Returns the refusal of a step whose note has this fault.
 fn refusal_of(fault: NoteFault) -> Refusal
-    ensures { result ≡ refusal_of fault }
+    ensures { result ≡ note_refusal fault }
 {
     match fault {
         NoteFault::LogFull => Refusal::LogFull,

@@ -4,7 +4,7 @@ ghost use Rattle.std.specs.Prelude.{◌≡◌, ◌<◌, ◌≤◌, ◌^◌, [], 
 ghost use Rattle.std.specs.Option.{option_copied};
 ghost use Rattle.scrib_record.specs.Stale.{Recorded};
 ghost use Rattle.scrib_core.specs.Held.{record_at};
-ghost use Rattle.scrib_locked_steps.specs.Shards.{IsKept, book_of};
+ghost use Rattle.scrib_locked_steps.specs.Shards.{IsLawfulShard, book_of};
 
 use crate::index::ProtocolName;
 use indexmap::IndexMap;
@@ -26,7 +26,7 @@ pub struct Shard {
 impl Model for Shard {
     ghost use Rattle.scrib_record.specs.contracts.version.Edition as version;
     ghost use Rattle.std.specs.Coded.{codes};
-    ghost use Rattle.scrib_locked_steps.specs.Shards.{ShardHeld, IsStored};
+    ghost use Rattle.scrib_locked_steps.specs.Shards.{ShardHeld, IsShardStored};
 
     ghost Value = { ShardHeld };
 
@@ -34,7 +34,7 @@ impl Model for Shard {
 
     ghost view = { λ s. record { capacity = s.capacity; records = s.records.entries } };
 
-    ghost invariant = { λ s. IsStored s.capacity s.records.entries s.index.entries s.book };
+    ghost invariant = { λ s. IsShardStored s.capacity s.records.entries s.index.entries s.book };
 }
 
 impl Shard {
@@ -63,7 +63,7 @@ impl Shard {
     /// Returns the number of conversations.
     pub fn len(&self) -> usize
         ensures len { result ≡ length self.now.records }
-        ensures kept { IsKept self.now }
+        ensures kept { IsLawfulShard self.now }
     {
         self.records.len()
     }
@@ -73,10 +73,7 @@ impl Shard {
         requires { index < length self.now.records }
         ensures { slice_get self.now.records index ≡ Some (result.0, result.1.now) }
     {
-        match self.records.get_index(index) {
-            Some((id, record)) => (*id, record),
-            None => unreachable!(),
-        }
+        (self.records.keys()[index], &self.records[index])
     }
 
     /// Returns the index of a conversation in the order of opening, from 0.

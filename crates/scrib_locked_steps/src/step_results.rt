@@ -1,25 +1,20 @@
-//! The steps on a shard's conversations, with results in place of replies.
+//! The steps on a shard's conversations. Each is one step of the core on the conversation of its id, and leaves every
+//! other conversation unchanged.
 
 ghost use Rattle.std.specs.Prelude.{◌≡◌, IfOk, IfErr, OnOk, OnErr};
-ghost use Rattle.scrib_core.specs.ConversationSteps.{IsOpened, OpenFails, NoteFails, IsNotedAt, VerdictFails};
-ghost use Rattle.scrib_locked_steps.specs.Locked.{IsTurnedFor, IsAskedFor};
+ghost use Rattle.scrib_core.specs.ConversationSteps.{IsOpened, OpenFails, IsNotedAt, NoteFails, IsTurnedAt, IsAskedAt, VerdictFails};
 
-use crate::locked_calls::{ask_locked, note_locked, open_locked, turn_locked};
+use crate::index::list;
 use crate::shard::Shard;
-use scrib_core::reply::{Refusal, Reply};
+pub use scrib_core::conversation_steps::{Judged, Noted};
+use scrib_core::conversation_steps::{ask, note, open, turn};
+use scrib_core::reply::Refusal;
 use scrib_library::library::Library;
-use scrib_types::event::Told;
+use scrib_record::comparison::Comparison;
 use scrib_types::name::Dotted;
 use scrib_types::shared_event::SharedEvent;
 
-/// The place of a noted event, from 1, and the verdict on the log that ends with it, or `Stale`.
-#[derive(Drop)]
-pub struct Noted {
-    pub place: usize,
-    pub told: Told,
-}
-
-/// Opens a conversation of the protocol.
+/// Opens a conversation of the protocol, within the shard's own limit. Returns the protocol's name.
 ///
 /// # Errors
 /// `AlreadyOpen`, `UnknownProtocol`, `TooManyConversations` or `OutOfMemory`, whichever applies first. Nothing changes
@@ -29,20 +24,21 @@ pub fn open_step(
     shard: &mut Shard,
     id: u32,
     name: &Dotted,
-) -> Result<(), Refusal>
+) -> Result<Dotted, Refusal>
+    ensures name { IfOk result (λ n. n ≡ name.now) }
     ensures ok { OnOk result (IsOpened shard.old.capacity library.now shard.old.records id name.now shard.new.records) }
     ensures fault { IfErr result (OpenFails shard.old.capacity library.now shard.old.records id name.now) }
     ensures err { OnErr result (shard.new.records ≡ shard.old.records) }
     ensures limit { shard.new.capacity ≡ shard.old.capacity }
 {
-    match open_locked(library, shard, id, name) {
-        Reply::Opened { .. } => Ok(()),
-        Reply::Refused(refusal) => Err(refusal),
-        Reply::Edited { .. }
-        | Reply::Profiled { .. }
-        | Reply::Noted { .. }
-        | Reply::Judged { .. } => unreachable!(),
+    library.means_protocols();
+    let opened = open(library, &mut shard.records, shard.capacity, id, name)?;
+    if list(&mut shard.index, shard.alloc, name, id).is_err() {
+        // A conversation that the index does not list is not opened.
+        shard.records.pop();
+        return Err(Refusal::OutOfMemory);
     }
+    Ok(opened)
 }
 
 /// Appends the event to the conversation's log.
@@ -60,50 +56,32 @@ pub fn note_step(
     ensures err { OnErr result (shard.new.records ≡ shard.old.records) }
     ensures limit { shard.new.capacity ≡ shard.old.capacity }
 {
-    match note_locked(library, shard, id, event) {
-        Reply::Noted { place, told, .. } => Ok(Noted { place, told }),
-        Reply::Refused(refusal) => Err(refusal),
-        Reply::Edited { .. }
-        | Reply::Profiled { .. }
-        | Reply::Opened { .. }
-        | Reply::Judged { .. } => unreachable!(),
-    }
+    let noted = note(library, &mut shard.records, Comparison::Whole, id, event)?;
+    shard.book += 1;
+    Ok(noted)
 }
 
 /// Judges up to 256 further events of a conversation with a stale verdict.
 ///
 /// # Errors
 /// `NoConversation` or `OutOfMemory`. Nothing changes then.
-pub fn turn_step(library: &Library, shard: &mut Shard, id: u32) -> Result<Told, Refusal>
-    ensures ok { IfOk result (λ t. IsTurnedFor library.now shard.old.records id t shard.new.records) }
+pub fn turn_step(library: &Library, shard: &mut Shard, id: u32) -> Result<Judged, Refusal>
+    ensures ok { IfOk result (λ j.
+        IsTurnedAt library.now shard.old.records id j.name j.events j.told shard.new.records) }
     ensures fault { IfErr result (VerdictFails shard.old.records id) }
     ensures err { OnErr result (shard.new.records ≡ shard.old.records) }
     ensures limit { shard.new.capacity ≡ shard.old.capacity }
 {
-    match turn_locked(library, shard, id) {
-        Reply::Judged { told, .. } => Ok(told),
-        Reply::Refused(refusal) => Err(refusal),
-        Reply::Edited { .. }
-        | Reply::Profiled { .. }
-        | Reply::Opened { .. }
-        | Reply::Noted { .. } => unreachable!(),
-    }
+    turn(library, &mut shard.records, Comparison::Whole, id)
 }
 
 /// Returns the verdict on a conversation, or `Stale`.
 ///
 /// # Errors
 /// `NoConversation` or `OutOfMemory`.
-pub fn ask_step(library: &Library, shard: &Shard, id: u32) -> Result<Told, Refusal>
-    ensures ok { IfOk result (IsAskedFor library.now shard.now.records id) }
+pub fn ask_step(library: &Library, shard: &Shard, id: u32) -> Result<Judged, Refusal>
+    ensures ok { IfOk result (λ j. IsAskedAt library.now shard.now.records id j.name j.events j.told) }
     ensures fault { IfErr result (VerdictFails shard.now.records id) }
 {
-    match ask_locked(library, shard, id) {
-        Reply::Judged { told, .. } => Ok(told),
-        Reply::Refused(refusal) => Err(refusal),
-        Reply::Edited { .. }
-        | Reply::Profiled { .. }
-        | Reply::Opened { .. }
-        | Reply::Noted { .. } => unreachable!(),
-    }
+    ask(library, &shard.records, Comparison::Whole, id)
 }

@@ -104,18 +104,19 @@ fn sweep_conversation(library: &Library, shard: &mut Shard, id: u32) -> Result<u
 {
     library.are_numbered();
     let _conversations = shard.len();
-    for turn in 0..MAX_TURNS {
-        let verdict = match turn_step(library, shard, id) {
-            Ok(verdict) => verdict,
+    let mut turns = 0;
+    loop {
+        let told = match turn_step(library, shard, id) {
+            Ok(judged) => judged.told,
             // The conversation exists, so memory was refused.
             Err(_) => return Err(AllocError),
         };
-        match verdict {
+        turns += 1;
+        match told {
             Told::Stale => {}
-            Told::Judged(_) => return Ok(turn + 1),
+            Told::Judged(_) => return Ok(turns),
         }
     }
-    unreachable!()
 }
 
 // Whether the record exists and its verdict is stale. `present` is the present version of its protocol, if it has one.

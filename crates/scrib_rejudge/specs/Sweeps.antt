@@ -29,5 +29,5 @@ pub record IsShardSwept (s : Swept) : Type 0 where
   pub judged : s.judged ≤ length ids
 
 -- at most as many verdicts were renewed as turns were made
-abbrev pub IsCounted : Result Swept AllocError → Type 0
-IsCounted r = IfOk r (λ s. s.judged ≤ s.turns)
+abbrev pub IsSweepCounted : Result Swept AllocError → Type 0
+IsSweepCounted r = IfOk r (λ s. s.judged ≤ s.turns)

@@ -1,7 +1,7 @@
 //! Sweeps by workers: threads that divide the shards among them.
 
 ghost use Rattle.std.specs.Prelude.{◌≡◌, ◌⊎◌, ◌↔◌, ◌<◌, ◌≤◌, IfOk, IsErrOf, All};
-ghost use Rattle.scrib_rejudge.specs.Sweeps.{shards_of, IsCounted};
+ghost use Rattle.scrib_rejudge.specs.Sweeps.{shards_of, IsSweepCounted};
 
 use crate::turns::{NO_TURNS, sum_swept, sweep_shard};
 use scrib_locked_steps::sweep::Swept;
@@ -45,20 +45,26 @@ pub fn shards_of(
         .collect(alloc)
 }
 
+// One of the workers of a sweep: its number, from 0, and the number of workers.
+#[derive(Clone, Copy)]
+struct Worker {
+    number: usize,
+    of: usize,
+}
+
 // Sweeps the worker's shards, one after the other.
 fn run_worker<G: Gate>(
     rt: &impl Wait,
     alloc: Global,
     service: &Service,
     gate: &G,
-    worker: usize,
-    workers: usize,
+    worker: Worker,
 ) -> Result<Swept, AllocError>
-    requires { 0 < workers }
-    ensures { IsCounted result }
+    requires { 0 < worker.of }
+    ensures { IsSweepCounted result }
 {
     let mut swept = NO_TURNS;
-    for shard in &shards_of(alloc, worker, workers, service.shards())? {
+    for shard in &shards_of(alloc, worker.number, worker.of, service.shards())? {
         swept = sum_swept(swept, sweep_shard(rt, service, *shard, gate)?);
     }
     Ok(swept)
@@ -73,13 +79,22 @@ fn run_workers<R: Threads + Wait + Sync, G: Gate + Sync>(
     workers: usize,
 ) -> Result<Vec<Result<Swept, AllocError>>, AllocError>
     requires { 0 < workers }
-    ensures { IfOk result (λ all. All IsCounted all.items) }
+    ensures { IfOk result (λ all. All IsSweepCounted all.items) }
 {
     thread::map_indices(
         rt,
         alloc,
         workers,
-        &|worker| run_worker(rt, alloc, service, gate, worker, workers),
+        &|number| run_worker(
+            rt,
+            alloc,
+            service,
+            gate,
+            Worker {
+                number,
+                of: workers,
+            },
+        ),
     )
 }
 

@@ -18,7 +18,7 @@ use Rattle.scrib_library.specs.Holdings.{Holdings}
 use Rattle.scrib_core.specs.Held.{Records, record_at}
 use Rattle.scrib_locked_steps.specs.Shards.{ShardHeld}
 use Rattle.scrib_settlement.specs.Shares.{records_at, AreDistinct}
-use Rattle.scrib_settlement.specs.Mismatches.{conversation_of, own_shard}
+use Rattle.scrib_settlement.specs.Mismatches.{conversation_record, own_shard}
 use Rattle.scrib_settlement.specs.Settled.{IsEnded, IsEndedIn, IsEndedOf, AreEnded, IsListed}
 use Rattle.scrib_core.specs.declared.ended.Ended.{Ended}
 use Rattle.scrib_settlement.proofs.ShardTallyLemmas.{take_step}
@@ -164,7 +164,7 @@ listed h shards list distinct home all each order = record {
   each = λ i d below. own (get_or list i d) (each i d below);
 }
   where
-    own : (e : Ended) → IsEndedOf h shards e → (r : Recorded) × (conversation_of shards e.id ≡ Some r) × IsEnded h r e
+    own : (e : Ended) → IsEndedOf h shards e → (r : Recorded) × (conversation_record shards e.id ≡ Some r) × IsEnded h r e
     own e x =
         let at : x.0 ≡ own_shard shards e.id = home e.id x.0 x.1 (ap is_some x.2.1) in
         (x.2.0, subst (λ (k : ℕ). record_at (records_at shards k) e.id ≡ Some x.2.0) at x.2.1, x.2.2)

@@ -14,7 +14,7 @@ use Rattle.scrib_locked_steps.specs.Shards.{ShardHeld}
 use Rattle.scrib_locked_steps.specs.Receipts.{entry_at}
 use Rattle.scrib_locked_steps.specs.Passes.{PassHeld}
 use Rattle.scrib_settlement.specs.Shares.{no_shard, records_at, AreDistinct}
-use Rattle.scrib_settlement.specs.Mismatches.{IsLeast, IsThere, PlaceAgrees, PlaceAgreesInShard, conversation_of, own_shard, receipts_of, events_at, earlier_of}
+use Rattle.scrib_settlement.specs.Mismatches.{IsLeast, IsThere, PlaceAgrees, PlaceAgreesInShard, conversation_record, own_shard, receipts_of, events_at, earlier_of}
 use Rattle.scrib_settlement.specs.declared.mismatch_place.MismatchPlace.{MismatchPlace}
 use Rattle.scrib_settlement.proofs.LeastPlaceLemmas.{least_both, least_same}
 use Rattle.scrib_settlement.proofs.ShardTallyLemmas.{take_step}
@@ -34,16 +34,16 @@ All-end P xs x all = subst P (get_or_push xs x x (length xs) refl) (all (length 
 
 -- one pass finds its conversation
 abbrev pub OneIsThere : List ShardHeld → PassHeld → ℕ → ℕ → Type 0
-OneIsThere shards p id place = place ≡ 1 → p.conversation ≡ id → IsSome (conversation_of shards id)
+OneIsThere shards p id place = place ≡ 1 → p.conversation ≡ id → IsSome (conversation_record shards id)
 
 pub there_more : (shards : List ShardHeld) (ps : List PassHeld) (i : ℕ) (p : PassHeld) (a b : Option MismatchPlace) → i < length ps → p ≡ get_or ps i p
     → IsLeast (IsThere shards (take i ps)) a → IsLeast (OneIsThere shards p) b → IsLeast (IsThere shards (take (i + 1) ps)) (earlier_of a b)
 there_more shards ps i p a b within is before last =
     rw (take_step ps i p within is) (least_same _ (IsThere shards (take i ps ++ p ∷ [])) (earlier_of a b)
-    (λ id place both first. All-push (λ (q : PassHeld). q.conversation ≡ id → IsSome (conversation_of shards id)) (take i ps) p (both.0 first) (both.1 first))
+    (λ id place both first. All-push (λ (q : PassHeld). q.conversation ≡ id → IsSome (conversation_record shards id)) (take i ps) p (both.0 first) (both.1 first))
     (λ id place all. (
-      λ first. All-front (λ (q : PassHeld). q.conversation ≡ id → IsSome (conversation_of shards id)) (take i ps) p (all first),
-      λ first. All-end (λ (q : PassHeld). q.conversation ≡ id → IsSome (conversation_of shards id)) (take i ps) p (all first),
+      λ first. All-front (λ (q : PassHeld). q.conversation ≡ id → IsSome (conversation_record shards id)) (take i ps) p (all first),
+      λ first. All-end (λ (q : PassHeld). q.conversation ≡ id → IsSome (conversation_record shards id)) (take i ps) p (all first),
     ))
     (least_both (IsThere shards (take i ps)) (OneIsThere shards p) a b before last))
 
@@ -85,10 +85,10 @@ index_at rs id r e =
     (at.0, at.2 ∙ ap (λ (i : ℕ). let o : Option (ℕ × Recorded) = Some (i, r) in o) same)
 
 agrees_events : (shards : List ShardHeld) (passes : List PassHeld) (id place : ℕ) → own_shard shards id < length shards
-    → PlaceAgreesSoFar (length shards) shards passes id place → IfSome (conversation_of shards id) (λ r. events_at place (receipts_of id passes) ≡ entry_at place r.log)
-agrees_events shards passes id place within all = by (conversation_of shards id) refl
+    → PlaceAgreesSoFar (length shards) shards passes id place → IfSome (conversation_record shards id) (λ r. events_at place (receipts_of id passes) ≡ entry_at place r.log)
+agrees_events shards passes id place within all = by (conversation_record shards id) refl
   where
-    by : (o : Option Recorded) → conversation_of shards id ≡ o → IfSome o (λ r. events_at place (receipts_of id passes) ≡ entry_at place r.log)
+    by : (o : Option Recorded) → conversation_record shards id ≡ o → IfSome o (λ r. events_at place (receipts_of id passes) ≡ entry_at place r.log)
     by None e = tt
     by (Some r) e =
         let at = index_at (records_at shards (own_shard shards id)) id r e in
@@ -117,8 +117,8 @@ agrees_in shards passes id place k distinct within agrees index r here = (told, 
     told : nat_eq (id % length shards) k ≡ true → events_at place (receipts_of id passes) ≡ entry_at place r.log
     told b =
         let own : own_shard shards id ≡ k = eqb-true (id % length shards) k b in
-        let mine : conversation_of shards id ≡ Some r = ap (λ (j : ℕ). record_at (records_at shards j) id) own ∙ found in
-        subst (λ (o : Option Recorded). IfSome o (λ s. events_at place (receipts_of id passes) ≡ entry_at place s.log)) mine agrees.told
+        let mine : conversation_record shards id ≡ Some r = ap (λ (j : ℕ). record_at (records_at shards j) id) own ∙ found in
+        subst (λ (o : Option Recorded). IfSome o (λ s. events_at place (receipts_of id passes) ≡ entry_at place s.log)) mine agrees.entries
 
     home : nat_eq (id % length shards) k ≡ false → place ≡ 1 → ⊥
     home b first =
@@ -130,7 +130,7 @@ pub agrees_all : (shards : List ShardHeld) (passes : List PassHeld) (o : Option 
 agrees_all shards passes o some distinct least =
     least_same (PlaceAgreesSoFar (length shards) shards passes) (PlaceAgrees shards passes) o
     (λ id place all. record {
-      told = agrees_events shards passes id place (omega arith) all;
+      entries = agrees_events shards passes id place (omega arith) all;
       there = all.0;
       home = agrees_home shards passes id place all;
     })

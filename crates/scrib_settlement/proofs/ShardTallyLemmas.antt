@@ -11,7 +11,7 @@ use Rattle.scrib_core.specs.Held.{Records}
 use Rattle.scrib_locked_steps.specs.Passes.{PassHeld}
 use Rattle.scrib_locked_steps.specs.Receipts.{entry_at}
 use Rattle.scrib_settlement.specs.Mismatches.{receipts_of, events_at, PlaceAgreesIn, PlaceAgreesInShard, IsLeast, earlier_of}
-use Rattle.scrib_settlement.specs.Tallies.{Counts, AreTallies, PlaceAgreesBelow, IsFirstDifference, placed_in}
+use Rattle.scrib_settlement.specs.Tallies.{IsTallyOf, AreTallies, PlaceAgreesBelow, IsFirstDifference, placed_in}
 use Rattle.scrib_settlement.specs.declared.mismatch_place.MismatchPlace.{MismatchPlace}
 use Rattle.scrib_settlement.specs.declared.tally.Tally.{Tally}
 use Rattle.scrib_settlement.proofs.LeastPlaceLemmas.{IsFirst, least_both, least_same, least_one}
@@ -59,23 +59,23 @@ receipts_other id ps p differs = receipts_push id ps p ∙ ap (λ (b : Bool). re
 -- tallies without receipts, for the shard's first conversations
 pub record AreNew (n : ℕ) (es : Records) (ts : List Tally) : Type 0 where
   pub size : length ts ≡ n
-  pub each : (k id : ℕ) (c : Recorded) (t : Tally) → slice_get es k ≡ Some (id, c) → slice_get ts k ≡ Some t → Counts c.log [] t.due.items t.wrong
+  pub each : (k id : ℕ) (c : Recorded) (t : Tally) → slice_get es k ≡ Some (id, c) → slice_get ts k ≡ Some t → IsTallyOf c.log [] t.due.items t.wrong
 
 pub new_push : (n : ℕ) (es : Records) (ts : List Tally) (t : Tally) (id : ℕ) (c : Recorded)
-    → AreNew n es ts → slice_get es n ≡ Some (id, c) → Counts c.log [] t.due.items t.wrong → AreNew (n + 1) es (ts ++ t ∷ [])
+    → AreNew n es ts → slice_get es n ≡ Some (id, c) → IsTallyOf c.log [] t.due.items t.wrong → AreNew (n + 1) es (ts ++ t ∷ [])
 new_push n es ts t id c new at counts = record {
   size = length-append ts (t ∷ []) ∙ ap (λ (k : ℕ). k + 1) new.size;
   each = each;
 }
   where
-    each : (k i : ℕ) (d : Recorded) (u : Tally) → slice_get es k ≡ Some (i, d) → slice_get (ts ++ t ∷ []) k ≡ Some u → Counts d.log [] u.due.items u.wrong
+    each : (k i : ℕ) (d : Recorded) (u : Tally) → slice_get es k ≡ Some (i, d) → slice_get (ts ++ t ∷ []) k ≡ Some u → IsTallyOf d.log [] u.due.items u.wrong
     each k i d u e s = elim (slice_get_push ts t k u s) [
       | inl before ↦ new.each k i d u e before
       | inr last ↦
           (let place : k ≡ n = last.0 ∙ new.size in
           let both : ◌≡◌ {A = Option (ℕ × Recorded)} (Some (id, c)) (Some (i, d)) = sym at ∙ ap (λ (j : ℕ). slice_get es j) (sym place) ∙ e in
           let parts = some_pair_parts id i c d both in
-          subst (λ (v : Tally). Counts d.log [] v.due.items v.wrong) last.1 (subst (λ (x : Recorded). Counts x.log [] t.due.items t.wrong) parts.1 counts))
+          subst (λ (v : Tally). IsTallyOf d.log [] v.due.items v.wrong) last.1 (subst (λ (x : Recorded). IsTallyOf x.log [] t.due.items t.wrong) parts.1 counts))
     ]
 
 -- the case of a pass to no conversation that belongs to the shard and is there
@@ -84,7 +84,7 @@ pub tallied_none : (count at : ℕ) (es : Records) (ps : List PassHeld) (p : Pas
     → AreTallies count at es (ps ++ p ∷ []) ts
 tallied_none count at es ps p ts tallies none = record {
   size = tallies.size;
-  each = λ k id c t e s own. subst (λ (rs : List Receipt). Counts c.log rs t.due.items t.wrong)
+  each = λ k id c t e s own. subst (λ (rs : List Receipt). IsTallyOf c.log rs t.due.items t.wrong)
       (sym (receipts_other id ps p (λ same. none k c (e ∙ ap (λ (i : ℕ). let o : Option (ℕ × Recorded) = Some (i, c) in o) (sym same)) (ap (λ (i : ℕ). i % count) same ∙ own))))
       (tallies.each k id c t e s own);
 }
@@ -93,27 +93,27 @@ tallied_none count at es ps p ts tallies none = record {
 pub tallied_one : (count at : ℕ) (es : Records) (ps : List PassHeld) (p : PassHeld) (ts : List Tally) (j : ℕ) (x : Recorded) (t u : Tally)
     → AreTallies count at es ps ts → slice_get es j ≡ Some (p.conversation, x) → p.conversation % count ≡ at
     → ((k : ℕ) (c : Recorded) → slice_get es k ≡ Some (p.conversation, c) → k ≡ j)
-    → slice_get ts j ≡ Some t → ((seen : List Receipt) → Counts x.log seen t.due.items t.wrong → Counts x.log (seen ++ p.receipts) u.due.items u.wrong)
+    → slice_get ts j ≡ Some t → ((seen : List Receipt) → IsTallyOf x.log seen t.due.items t.wrong → IsTallyOf x.log (seen ++ p.receipts) u.due.items u.wrong)
     → AreTallies count at es (ps ++ p ∷ []) (set ts j u)
 tallied_one count at es ps p ts j x t u tallies here own only tally counted = record {
   size = length-set ts j u ∙ tallies.size;
   each = λ k id c v e s own_k. each k id c v e own_k (slice_get_set ts j u k v s);
 }
   where
-    now : Counts x.log (receipts_of p.conversation (ps ++ p ∷ [])) u.due.items u.wrong
-    now = subst (λ (rs : List Receipt). Counts x.log rs u.due.items u.wrong) (sym (receipts_same p.conversation ps p refl))
+    now : IsTallyOf x.log (receipts_of p.conversation (ps ++ p ∷ [])) u.due.items u.wrong
+    now = subst (λ (rs : List Receipt). IsTallyOf x.log rs u.due.items u.wrong) (sym (receipts_same p.conversation ps p refl))
         (counted (receipts_of p.conversation ps) (tallies.each j p.conversation x t here tally own))
 
     each : (k id : ℕ) (c : Recorded) (v : Tally) → slice_get es k ≡ Some (id, c) → id % count ≡ at
-        → ((k ≡ j) × (u ≡ v)) ⊎ ((k ≡ j → ⊥) × (slice_get ts k ≡ Some v)) → Counts c.log (receipts_of id (ps ++ p ∷ [])) v.due.items v.wrong
+        → ((k ≡ j) × (u ≡ v)) ⊎ ((k ≡ j → ⊥) × (slice_get ts k ≡ Some v)) → IsTallyOf c.log (receipts_of id (ps ++ p ∷ [])) v.due.items v.wrong
     each k id c v e own_k (inl same) =
         let both : ◌≡◌ {A = Option (ℕ × Recorded)} (Some (p.conversation, x)) (Some (id, c)) = sym here ∙ ap (λ (i : ℕ). slice_get es i) (sym same.0) ∙ e in
         let parts = some_pair_parts p.conversation id x c both in
-        subst (λ (w : Tally). Counts c.log (receipts_of id (ps ++ p ∷ [])) w.due.items w.wrong) same.1
-        (subst (λ (i : ℕ). Counts c.log (receipts_of i (ps ++ p ∷ [])) u.due.items u.wrong) parts.0
-        (subst (λ (y : Recorded). Counts y.log (receipts_of p.conversation (ps ++ p ∷ [])) u.due.items u.wrong) parts.1 now))
+        subst (λ (w : Tally). IsTallyOf c.log (receipts_of id (ps ++ p ∷ [])) w.due.items w.wrong) same.1
+        (subst (λ (i : ℕ). IsTallyOf c.log (receipts_of i (ps ++ p ∷ [])) u.due.items u.wrong) parts.0
+        (subst (λ (y : Recorded). IsTallyOf y.log (receipts_of p.conversation (ps ++ p ∷ [])) u.due.items u.wrong) parts.1 now))
     each k id c v e own_k (inr other) =
-        subst (λ (rs : List Receipt). Counts c.log rs v.due.items v.wrong)
+        subst (λ (rs : List Receipt). IsTallyOf c.log rs v.due.items v.wrong)
         (sym (receipts_other id ps p (λ same. other.0 (only k c (e ∙ ap (λ (i : ℕ). let o : Option (ℕ × Recorded) = Some (i, c) in o) (sym same))))))
         (tallies.each k id c v e other.1 own_k)
 

@@ -8,7 +8,7 @@ use Rattle.scrib_types.specs.declared.event.Event.{Event}
 use Rattle.scrib_locked_steps.specs.declared.pass.Receipt.{Receipt}
 use Rattle.scrib_locked_steps.specs.Receipts.{entry_at, min_place}
 use Rattle.scrib_settlement.specs.Mismatches.{events_at}
-use Rattle.scrib_settlement.specs.Tallies.{Counts, IsBelow, IsFirstDifference, IsFirstDue, is_due, events_so_far, lesser}
+use Rattle.scrib_settlement.specs.Tallies.{IsTallyOf, IsBelow, IsFirstDifference, IsFirstDue, is_due, events_so_far, lesser}
 
 -- the events of one receipt for a place
 abbrev events_of : ℕ → Receipt → List Event
@@ -55,8 +55,8 @@ no_longer xs ys x e =
 
 -- the case of a receipt for an entry that is due
 pub counted_right : (log : List Event) (rs : List Receipt) (r : Receipt) (due : List Bool) (wrong : Option ℕ)
-    → Counts log rs due wrong → is_due r.place due ≡ true → r.place < length due → entry_at r.place log ≡ r.event ∷ []
-    → Counts log (rs ++ r ∷ []) (set due r.place false) wrong
+    → IsTallyOf log rs due wrong → is_due r.place due ≡ true → r.place < length due → entry_at r.place log ≡ r.event ∷ []
+    → IsTallyOf log (rs ++ r ∷ []) (set due r.place false) wrong
 counted_right log rs r due wrong counts is within entry = record {
   size = length-set due r.place false ∙ counts.size;
   owed = λ n p. still n p (cases_eq r.place n);
@@ -103,8 +103,8 @@ alone x (y ∷ ys) xs short e = let long = ap length e in absurd (omega (arith, 
 
 -- the case of a receipt that differs from the entry, or whose place already has one or does not exist
 pub counted_wrong : (log : List Event) (rs : List Receipt) (r : Receipt) (due : List Bool) (wrong : Option ℕ)
-    → Counts log rs due wrong → (is_due r.place due ≡ true → entry_at r.place log ≢ r.event ∷ [])
-    → Counts log (rs ++ r ∷ []) due (Some (min_place r.place wrong))
+    → IsTallyOf log rs due wrong → (is_due r.place due ≡ true → entry_at r.place log ≢ r.event ∷ [])
+    → IsTallyOf log (rs ++ r ∷ []) due (Some (min_place r.place wrong))
 counted_wrong log rs r due wrong counts bad = record {
   size = counts.size;
   owed = counts.owed;
@@ -137,7 +137,7 @@ counted_wrong log rs r due wrong counts bad = record {
 
 -- a due place stays due until it has a receipt, so the first mismatch is the least wrong or due place
 pub first_is : (log : List Event) (rs : List Receipt) (due : List Bool) (wrong unmatched : Option ℕ)
-    → Counts log rs due wrong → IsFirstDue due unmatched → IsFirstDifference log rs (lesser wrong unmatched)
+    → IsTallyOf log rs due wrong → IsFirstDue due unmatched → IsFirstDifference log rs (lesser wrong unmatched)
 first_is log rs due wrong unmatched counts first = by wrong unmatched counts.so_far counts.never first
   where
     clear : (n : ℕ) → events_at n rs ≡ events_so_far n log due → is_due n due ≡ false → events_at n rs ≡ entry_at n log
@@ -160,7 +160,7 @@ first_is log rs due wrong unmatched counts first = by wrong unmatched counts.so_
     ]
 
 -- without receipts, each place of the log is due
-pub counted_none : (log : List Event) (all : List Bool) → all ≡ replicate (length log + 1) true → Counts log [] (set all 0 false) None
+pub counted_none : (log : List Event) (all : List Bool) → all ≡ replicate (length log + 1) true → IsTallyOf log [] (set all 0 false) None
 counted_none log all is = record {
   size = length-set all 0 false ∙ ap length is ∙ length-replicate (length log + 1) true;
   owed = owed;

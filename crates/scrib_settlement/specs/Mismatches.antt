@@ -24,17 +24,19 @@ abbrev pub own_shard : List ShardHeld → ℕ → ℕ
 own_shard shards id = id % length shards
 
 -- the record of the conversation in its own shard
-abbrev pub conversation_of : List ShardHeld → ℕ → Option Recorded
-conversation_of shards id = record_at (records_at shards (own_shard shards id)) id
+abbrev pub conversation_record : List ShardHeld → ℕ → Option Recorded
+conversation_record shards id = record_at (records_at shards (own_shard shards id)) id
 
 -- for place 1: each pass to the conversation finds it in its own shard
 abbrev pub IsThere : List ShardHeld → List PassHeld → (id place : ℕ) → Type 0
-IsThere shards passes id place = place ≡ 1 → All (λ p. p.conversation ≡ id → IsSome (conversation_of shards id)) passes
+IsThere shards passes id place =
+    place ≡ 1 → All (λ p. p.conversation ≡ id → IsSome (conversation_record shards id)) passes
 
 -- A place of a conversation agrees: its receipts are its entry and no more. At place 1 also each pass to the
 -- conversation finds it in its own shard, and no other shard has it.
 pub record PlaceAgrees (shards : List ShardHeld) (passes : List PassHeld) (id place : ℕ) : Type 0 where
-  pub told : IfSome (conversation_of shards id) (λ r. events_at place (receipts_of id passes) ≡ entry_at place r.log)
+  pub entries : IfSome (conversation_record shards id) (λ r.
+      events_at place (receipts_of id passes) ≡ entry_at place r.log)
   pub there : IsThere shards passes id place
   pub home : place ≡ 1 → (k : ℕ) → k < length shards → IsSome (record_at (records_at shards k) id)
       → k ≡ own_shard shards id
@@ -71,12 +73,13 @@ earlier_of (Some a) None = Some a
 earlier_of (Some a) (Some b) = cond (is_before b a) (Some b) (Some a)
 
 -- the result for the shard of this number: its first mismatch, if any, or `AllocError`
-abbrev pub IsFound : List ShardHeld → List PassHeld → ℕ → Result (Option MismatchPlace) AllocError → Type 0
-IsFound shards passes k found = IfOk found (IsLeast (PlaceAgreesInShard (length shards) k (records_at shards k) passes))
+abbrev pub IsFoundMismatch : List ShardHeld → List PassHeld → ℕ → Result (Option MismatchPlace) AllocError → Type 0
+IsFoundMismatch shards passes k found =
+    IfOk found (IsLeast (PlaceAgreesInShard (length shards) k (records_at shards k) passes))
 
 -- the result for each shard, in order
 pub record AreFound (shards : List ShardHeld) (passes : List PassHeld)
     (found : List (Result (Option MismatchPlace) AllocError)) : Type 0 where
   pub all : length found ≡ length shards
   pub each : (k : ℕ) (d : Result (Option MismatchPlace) AllocError) → k < length shards
-      → IsFound shards passes k (slice_index_or found k d)
+      → IsFoundMismatch shards passes k (slice_index_or found k d)

@@ -15,7 +15,7 @@ use Rattle.scrib_core.specs.declared.ended.Ended.{Ended}
 use Rattle.scrib_settlement.specs.declared.fault.SettleFault.{SettleFault}
 use Rattle.scrib_settlement.specs.declared.fault.SettleFault.TheVariants.{PassesMissing, Mismatch, OutOfMemory}
 use Rattle.scrib_settlement.specs.Shares.{records_at, AllAddUp, IsFirstIncomplete}
-use Rattle.scrib_settlement.specs.Mismatches.{conversation_of, PlaceAgrees, IsLeast}
+use Rattle.scrib_settlement.specs.Mismatches.{conversation_record, PlaceAgrees, IsLeast}
 
 -- the entry of a record: its name, the length of its log, and its verdict
 pub record IsEnded (h : Holdings) (r : Recorded) (e : Ended) : Type 0 where
@@ -44,7 +44,7 @@ pub record AreEnded (h : Holdings) (rs : Records) (old new : List Ended) : Type 
 pub record IsListed (h : Holdings) (shards : List ShardHeld) (list : List Ended) : Type 0 where
   pub all : IsPermutation (flat_map (λ s. keys_of s.records) shards) (map (λ e. e.id) list)
   pub rise : IsStrictlyIncreasing (map (λ e. e.id) list)
-  pub each : All (λ e. (r : Recorded) × (conversation_of shards e.id ≡ Some r) × IsEnded h r e) list
+  pub each : All (λ e. (r : Recorded) × (conversation_record shards e.id ≡ Some r) × IsEnded h r e) list
 
 -- why the service is not settled; `OutOfMemory` implies that no pass is missing
 abbrev pub IsFault : List ShardHeld → List PassHeld → SettleFault → Type 0

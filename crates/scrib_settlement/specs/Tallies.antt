@@ -25,7 +25,7 @@ IsBelow place wrong = IfSome wrong (λ w. place < w)
 
 -- The tally of these receipts against this log: `due` marks the places that still need a receipt. `wrong` is the least
 -- place that no further receipt can repair.
-pub record Counts (log : List Event) (receipts : List Receipt) (due : List Bool) (wrong : Option ℕ) : Type 0 where
+pub record IsTallyOf (log : List Event) (receipts : List Receipt) (due : List Bool) (wrong : Option ℕ) : Type 0 where
   pub size : length due ≡ length log + 1
   pub owed : (place : ℕ) → is_due place due ≡ true → entry_at place log ≢ []
   pub so_far : (place : ℕ) → IsBelow place wrong → events_at place receipts ≡ events_so_far place log due
@@ -58,7 +58,7 @@ pub record AreTallies (count at : ℕ) (rs : Records) (passes : List PassHeld) (
   pub size : length ts ≡ length rs
   pub each : (k id : ℕ) (r : Recorded) (t : Tally) → slice_get rs k ≡ Some (id, r) → slice_get ts k ≡ Some t
       → id % count ≡ at
-      → Counts r.log (receipts_of id passes) t.due.items t.wrong
+      → IsTallyOf r.log (receipts_of id passes) t.due.items t.wrong
 
 -- the place with its conversation, if there is a place
 abbrev pub placed_in : ℕ → Option ℕ → Option MismatchPlace

@@ -7,10 +7,9 @@ ghost use Rattle.scrib_core.specs.Held.{record_at};
 ghost use Rattle.scrib_settlement.specs.Settled.{IsEndedIn, IsEndedOf, AreEnded};
 
 pub use scrib_core::ended::Ended;
-use scrib_core::reply::Reply;
 use scrib_library::library::Library;
-use scrib_locked_steps::locked_calls::ask_locked;
 use scrib_locked_steps::shard::Shard;
+use scrib_locked_steps::step_results::{Judged, ask_step};
 use std::alloc::{AllocError, Global};
 
 /// Returns every conversation of the shards, by rising id.
@@ -53,18 +52,14 @@ fn ended_of(library: &Library, shard: &Shard, id: u32) -> Result<Ended, AllocErr
     ensures id { IfOk result (λ e. e.id ≡ id) }
     ensures ended { IfOk result (IsEndedIn library.now shard.now.records) }
 {
-    match ask_locked(library, shard, id) {
-        Reply::Judged {
-            id,
-            name,
-            events,
-            told,
-        } => Ok(Ended {
-            id,
-            name,
-            events,
-            told,
-        }),
-        _ => Err(AllocError),
-    }
+    // The conversation exists, so only memory can be refused.
+    let Ok(Judged { name, events, told }) = ask_step(library, shard, id) else {
+        return Err(AllocError);
+    };
+    Ok(Ended {
+        id,
+        name,
+        events,
+        told,
+    })
 }

@@ -1,7 +1,7 @@
 //! Settling.
 
 ghost use Rattle.std.specs.Prelude.{◌≡◌, ◌<◌, ◌≤◌, ℕ, Err, IfOk, IfErr, IsErrAnd, OnOk, IsSome, Some, length};
-ghost use Rattle.scrib_settlement.specs.Mismatches.{AreFound, IsLeast, IsThere, PlaceAgrees, conversation_of};
+ghost use Rattle.scrib_settlement.specs.Mismatches.{AreFound, IsLeast, IsThere, PlaceAgrees, conversation_record};
 ghost use Rattle.scrib_settlement.specs.Settled.{IsFault, IsSettled, Names};
 ghost use Rattle.scrib_settlement.specs.declared.mismatch_place.MismatchPlace.{MismatchPlace};
 ghost use Rattle.scrib_settlement.specs.Shares.{AllAddUp, AreDistinct, IsFirstIncomplete};
@@ -119,7 +119,7 @@ fn first_missing_conversation(shards: &[Shard], passes: &[Pass]) -> Option<Misma
 fn missing_conversation(shards: &[Shard], pass: &Pass) -> Option<MismatchPlace>
     requires { 0 < length shards.now }
     ensures { IsLeast (λ id place. place ≡ 1 → pass.now.conversation ≡ id
-        → IsSome (conversation_of shards.now id)) result }
+        → IsSome (conversation_record shards.now id)) result }
 {
     let id = pass.conversation();
     match shards[id as usize % shards.len()].record(id) {

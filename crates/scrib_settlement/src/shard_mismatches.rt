@@ -1,7 +1,7 @@
 //! The comparison of each shard by itself.
 
 ghost use Rattle.std.specs.Prelude.{◌<◌, IfOk, length};
-ghost use Rattle.scrib_settlement.specs.Mismatches.{AreFound, IsFound};
+ghost use Rattle.scrib_settlement.specs.Mismatches.{AreFound, IsFoundMismatch};
 
 use crate::mismatch_place::MismatchPlace;
 use crate::shard_tallies::first_in_shard;
@@ -19,7 +19,7 @@ pub type Found = Result<Option<MismatchPlace>, AllocError>;
 /// `AllocError` if memory was refused.
 pub fn found_in(alloc: Global, shards: &[Shard], passes: &[Pass], at: usize) -> Found
     requires { at < length shards.now }
-    ensures { IsFound shards.now passes.now at result }
+    ensures { IsFoundMismatch shards.now passes.now at result }
 {
     first_in_shard(alloc, &shards[at], shards.len(), at, passes)
 }

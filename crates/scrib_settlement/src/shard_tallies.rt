@@ -4,7 +4,7 @@ ghost use Rattle.std.specs.Prelude.{◌≡◌, ◌<◌, ◌++◌, ◌∷◌, ◌
 ghost use Rattle.scrib_record.specs.Stale.{Recorded};
 ghost use Rattle.scrib_locked_steps.specs.Passes.{PassHeld};
 ghost use Rattle.scrib_settlement.specs.Mismatches.{IsLeast, PlaceAgreesIn, PlaceAgreesInShard, receipts_of};
-ghost use Rattle.scrib_settlement.specs.Tallies.{Counts, AreTallies, placed_in};
+ghost use Rattle.scrib_settlement.specs.Tallies.{IsTallyOf, AreTallies, placed_in};
 
 use crate::mismatch_place::{MismatchPlace, earlier};
 use crate::tally::Tally;
@@ -101,7 +101,7 @@ fn first_of(
     requires some { 0 < count }
     requires within { index < length shard.now.records }
     ensures { (passes : List PassHeld) (id : ℕ) (r : Recorded) → slice_get shard.now.records index ≡ Some (id, r)
-        → (id % count ≡ at → Counts r.log (receipts_of id passes) tally.now.due.items tally.now.wrong)
+        → (id % count ≡ at → IsTallyOf r.log (receipts_of id passes) tally.now.due.items tally.now.wrong)
         → IsLeast (λ i place. i ≡ id → PlaceAgreesIn count at passes id place r) result }
 {
     let (id, _) = shard.at(index);

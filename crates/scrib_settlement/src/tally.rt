@@ -3,7 +3,7 @@
 ghost use Rattle.std.specs.Prelude.{◌≡◌, ◌++◌, ◌∷◌, ◌<◌, [], IfOk, IsTrue, List, length};
 ghost use Rattle.scrib_types.specs.declared.event.Event.{Event};
 ghost use Rattle.scrib_locked_steps.specs.declared.pass.Receipt.{Receipt};
-ghost use Rattle.scrib_settlement.specs.Tallies.{Counts, IsFirstDifference, IsFirstDue, is_due};
+ghost use Rattle.scrib_settlement.specs.Tallies.{IsTallyOf, IsFirstDifference, IsFirstDue, is_due};
 
 use scrib_locked_steps::pass::Receipt;
 use scrib_locked_steps::receipt_check::{is_entry, min_place};
@@ -24,7 +24,7 @@ impl Tally {
     /// # Errors
     /// `AllocError` if memory was refused.
     pub fn new(alloc: Global, log: &[SharedEvent]) -> Result<Tally, AllocError>
-        ensures { IfOk result (λ t. Counts log.now [] t.due.items t.wrong) }
+        ensures { IfOk result (λ t. IsTallyOf log.now [] t.due.items t.wrong) }
     {
         let mut due = vec![in alloc; true; log.len() + 1]?;
         due[0] = false;
@@ -33,8 +33,8 @@ impl Tally {
 
     /// Counts one more receipt.
     pub fn count(&mut self, log: &[SharedEvent], receipt: &Receipt)
-        ensures { (seen : List Receipt) → Counts log.now seen self.old.due.items self.old.wrong
-            → Counts log.now (seen ++ receipt.now ∷ []) self.new.due.items self.new.wrong }
+        ensures { (seen : List Receipt) → IsTallyOf log.now seen self.old.due.items self.old.wrong
+            → IsTallyOf log.now (seen ++ receipt.now ∷ []) self.new.due.items self.new.wrong }
     {
         let place = receipt.place;
         if self.is_due(place) && is_entry(log, place, &receipt.event) {
@@ -46,8 +46,8 @@ impl Tally {
 
     /// Counts several more receipts.
     pub fn count_all(&mut self, log: &[SharedEvent], receipts: &[Receipt])
-        ensures { (seen : List Receipt) → Counts log.now seen self.old.due.items self.old.wrong
-            → Counts log.now (seen ++ receipts.now) self.new.due.items self.new.wrong }
+        ensures { (seen : List Receipt) → IsTallyOf log.now seen self.old.due.items self.old.wrong
+            → IsTallyOf log.now (seen ++ receipts.now) self.new.due.items self.new.wrong }
     {
         for receipt in receipts {
             self.count(log, receipt);
@@ -56,7 +56,7 @@ impl Tally {
 
     /// Returns the least place at which the receipts differ from the log.
     pub fn first(&self) -> Option<usize>
-        ensures { (log : List Event) (seen : List Receipt) → Counts log seen self.now.due.items self.now.wrong
+        ensures { (log : List Event) (seen : List Receipt) → IsTallyOf log seen self.now.due.items self.now.wrong
             → IsFirstDifference log seen result }
     {
         match (self.wrong, self.first_due()) {

@@ -15,8 +15,8 @@ use Rattle.scrib_core.specs.declared.reply.Refusal.{Refusal}
 use Rattle.scrib_core.specs.Held.{Records}
 use Rattle.scrib_core.specs.ConversationSteps.{IsOpened, OpenFails, VerdictFails}
 use Rattle.scrib_locked_steps.specs.declared.pass_calls.PassRefusal.{PassRefusal}
-use Rattle.scrib_locked_steps.specs.declared.step_results.Noted.{Noted}
-use Rattle.scrib_locked_steps.specs.Shards.{ShardHeld, IsKept}
+use Rattle.scrib_core.specs.declared.conversation_steps.Noted.{Noted}
+use Rattle.scrib_locked_steps.specs.Shards.{ShardHeld, IsLawfulShard}
 use Rattle.scrib_locked_steps.specs.Locked.{IsConnected, ConnectFails, IsTurnedFor}
 use Rattle.scrib_locked_steps.specs.Passes.{PassHeld}
 use Rattle.scrib_locked_steps.specs.OneByOne.{OneByOne}
@@ -71,13 +71,13 @@ pub record IsOpenedSome (id : ℕ) (name : List (List ℕ)) : Type 0 where
   pub shard : ShardHeld
   pub new : Records
   pub accepting : IsAccepting library
-  pub kept : IsKept shard
+  pub kept : IsLawfulShard shard
   pub opened : IsOpened shard.capacity library shard.records id name new
 
 -- the opening is refused for this in some shard under some library
 abbrev pub OpenFailsSome : ℕ → List (List ℕ) → Refusal → Type 0
 OpenFailsSome id name f =
-    (h : Holdings) × (s : ShardHeld) × IsAccepting h × IsKept s × OpenFails s.capacity h s.records id name f
+    (h : Holdings) × (s : ShardHeld) × IsAccepting h × IsLawfulShard s × OpenFails s.capacity h s.records id name f
 
 -- a new pass to a conversation of some records
 abbrev pub IsConnectedSome : ℕ → PassHeld → Type 0
@@ -90,7 +90,8 @@ ConnectFailsSome id f = (rs : Records) × ConnectFails rs id f
 -- the event was noted by the pass in some shard under some library
 abbrev pub IsNotedSome : PassHeld → Event → Noted → Type 0
 IsNotedSome p e n =
-    (h : Holdings) × (old : ShardHeld) × (new : ShardHeld) × IsAccepting h × IsKept old × IsNotedBy h old p e n new
+    (h : Holdings) × (old : ShardHeld) × (new : ShardHeld) × IsAccepting h × IsLawfulShard old
+    × IsNotedBy h old p e n new
 
 -- the note by the pass is refused for this in some records
 abbrev pub NoteFailsSome : PassHeld → PassRefusal → Type 0

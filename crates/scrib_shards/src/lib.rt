@@ -6,6 +6,9 @@ pub mod gate;
 pub mod service;
 pub mod settled;
 pub mod sweeping;
+mod unlocked;
 
-pub use scrib_locked_steps::{locked_calls, pass, pass_calls, shard, step_results, sweep};
+pub use scrib_locked_steps::{
+    batch_notes, locked_calls, pass, pass_calls, shard, step_results, sweep,
+};
 pub use scrib_settlement::{ended, fault, settle};

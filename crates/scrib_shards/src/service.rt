@@ -12,7 +12,7 @@ use scrib_core::reply::Refusal;
 use scrib_library::changes::Changes;
 use scrib_library::fault::EditFault;
 use scrib_library::library::Library;
-use scrib_locked_steps::batch_notes::note_all_by_pass;
+use scrib_locked_steps::batch_notes::{Batch, note_all_by_pass};
 use scrib_locked_steps::locked_calls::connect_locked;
 use scrib_locked_steps::pass::Pass;
 use scrib_locked_steps::pass_calls::{PassRefusal, PassReply, ask_by_pass, note_by_pass};
@@ -168,7 +168,8 @@ impl Service {
         let mut shard = self.shards[at].lock(rt);
         library.is_accepting();
         let _conversations = shard.len();
-        open_step(library, &mut shard, id, name)
+        open_step(library, &mut shard, id, name)?;
+        Ok(())
     }
 
     /// Returns a pass to a conversation, without receipts.
@@ -217,26 +218,23 @@ impl Service {
 
     /// Appends the events one after another to the log of the pass's conversation, as calls of `note` would without
     /// other calls between them. The locks are taken once, so a caller with many events should pass a few at a time.
-    /// Returns the reply to each, in order, in the list `room`, which has capacity for them. A refused event changes
-    /// neither the service nor the pass.
+    /// Returns the reply to each, in order, in the list of the batch. A refused event changes neither the service nor
+    /// the pass.
     pub fn note_all<G: Gate>(
         &self,
         rt: &impl Wait,
         pass: &mut Pass,
-        events: Vec<SharedEvent>,
-        room: Vec<PassReply>,
+        batch: Batch,
         gate: &G,
     ) -> Vec<PassReply>
-        requires empty { room.items ≡ [] }
-        requires room { vec_len events ≤ vec_capacity room }
-        ensures { AreAnsweredSome pass.old events.items result.items pass.new }
+        ensures { AreAnsweredSome pass.old batch.events.items result.items pass.new }
     {
         let at = self.shard_of(pass.conversation());
         let guard = self.library.read(rt, at);
         let library = &*guard;
         let mut shard = self.shards[at].lock(rt);
         library.is_accepting();
-        let answers = note_all_by_pass(library, &mut shard, pass, events, room);
+        let answers = note_all_by_pass(library, &mut shard, pass, batch);
         gate.hold(at);
         answers
     }
@@ -256,7 +254,7 @@ impl Service {
         library.is_accepting();
         let turned = turn_step(library, &mut shard, id);
         gate.hold(at);
-        turned
+        Ok(turned?.told)
     }
 
     /// Returns the verdict on the pass's conversation, whose log has all its receipts, or `Stale`.

@@ -1,6 +1,6 @@
 //! The end of a service.
 
-ghost use Rattle.std.specs.Prelude.{◌≡◌, ◌<◌, ◌≤◌, IfOk, IfErr, length, vec_len, vec_capacity};
+ghost use Rattle.std.specs.Prelude.{◌≡◌, ◌<◌, ◌≤◌, IfOk, IfErr, length, vec_len};
 ghost use Rattle.std.specs.Option.{option_map};
 ghost use Rattle.scrib_record.specs.Versions.{meaning_of, number_of};
 ghost use Rattle.scrib_library.specs.Holdings.{IsNumber};
@@ -9,7 +9,8 @@ ghost use Rattle.scrib_settlement.specs.Mismatches.{AreFound};
 ghost use Rattle.scrib_settlement.specs.Settled.{IsFault, IsSettled};
 ghost use Rattle.scrib_shards.specs.Settling.{IsSettledSome, IsFaultSome};
 
-use crate::service::{Service, ShardLock, service_of, shard_lock};
+use crate::service::{Service, service_of};
+use crate::unlocked::{Unlocked, lock_all, unlock};
 use crossbeam_utils::sync::ShardedLock;
 use scrib_core::ended::Ended;
 use scrib_library::library::Library;
@@ -60,15 +61,13 @@ impl Service {
         ensures shards { IfErr result (λ e. vec_len e.1.shards ≡ vec_len self.shards) }
         ensures passes { IfErr result (λ e. e.2 ≡ passes) }
     {
-        let Service {
-            alloc,
-            library,
-            shards,
-            spare,
-        } = self;
-        let (values, locks) = unlock_all(shards, spare);
-        let found = found_in_each(alloc, values.as_slice(), passes.as_slice());
-        settle_unlocked(alloc, library, values, locks, passes, found)
+        let unlocked = unlock(self);
+        let found = found_in_each(
+            unlocked.alloc,
+            unlocked.shards.as_slice(),
+            passes.as_slice(),
+        );
+        settle_unlocked(unlocked, passes, found)
     }
 
     /// Ends the service as `settle` does. The logs of each shard are compared with the receipts on a thread of its own.
@@ -88,15 +87,14 @@ impl Service {
         ensures shards { IfErr result (λ e. vec_len e.1.shards ≡ vec_len self.shards) }
         ensures passes { IfErr result (λ e. e.2 ≡ passes) }
     {
-        let Service {
-            alloc,
-            library,
-            shards,
-            spare,
-        } = self;
-        let (values, locks) = unlock_all(shards, spare);
-        let found = found_on_threads(rt, alloc, values.as_slice(), passes.as_slice());
-        settle_unlocked(alloc, library, values, locks, passes, found)
+        let unlocked = unlock(self);
+        let found = found_on_threads(
+            rt,
+            unlocked.alloc,
+            unlocked.shards.as_slice(),
+            passes.as_slice(),
+        );
+        settle_unlocked(unlocked, passes, found)
     }
 }
 
@@ -119,26 +117,24 @@ fn found_on_threads<R: Threads + Sync>(
 
 // Settles the shards by the result for each. After a fault they are put behind locks again, for which room exists.
 fn settle_unlocked(
-    alloc: Global,
-    library: ShardedLock<Library>,
-    shards: Vec<Shard>,
-    locks: Vec<ShardLock>,
+    unlocked: Unlocked,
     passes: Vec<Pass>,
     found: Result<Vec<Found>, AllocError>,
 ) -> Result<Settled, (SettleFault, Service, Vec<Pass>)>
-    requires some { 0 < vec_len shards }
-    requires few { vec_len shards ≤ 64 }
-    requires back { vec_len shards ≤ vec_capacity shards }
-    requires empty { vec_len locks ≡ 0 }
-    requires room { vec_len shards ≤ vec_capacity locks }
-    requires found { IfOk found (λ all. AreFound shards.items passes.items all.items) }
-    ensures settled { IfOk result (λ s. IsSettledSome (vec_len shards) s.library s.shards.items s.passes.items
-        s.list.items) }
+    requires found { IfOk found (λ all. AreFound unlocked.shards.items passes.items all.items) }
+    ensures settled { IfOk result (λ s. IsSettledSome (vec_len unlocked.shards) s.library s.shards.items
+        s.passes.items s.list.items) }
     ensures given { IfOk result (λ s. s.passes ≡ passes) }
-    ensures fault { IfErr result (λ e. IsFaultSome (vec_len shards) passes.items e.0) }
-    ensures shards { IfErr result (λ e. vec_len e.1.shards ≡ vec_len shards) }
+    ensures fault { IfErr result (λ e. IsFaultSome (vec_len unlocked.shards) passes.items e.0) }
+    ensures shards { IfErr result (λ e. vec_len e.1.shards ≡ vec_len unlocked.shards) }
     ensures passes { IfErr result (λ e. e.2 ≡ passes) }
 {
+    let Unlocked {
+        alloc,
+        library,
+        shards,
+        locks,
+    } = unlocked;
     match settle_values(alloc, &library, shards.as_slice(), passes.as_slice(), found) {
         Ok((library, list)) => Ok(Settled {
             library,
@@ -178,36 +174,4 @@ fn settle_values(
     let list = settle_found(alloc, &library, shards, passes, found)?;
     let library = mem::replace(&mut *library, Library::new(alloc));
     Ok((library, list))
-}
-
-// Returns the values behind the locks, in order, and the emptied list of locks. `values` has room for them.
-fn unlock_all(mut locks: Vec<ShardLock>, mut values: Vec<Shard>) -> (Vec<Shard>, Vec<ShardLock>)
-    requires empty { vec_len values ≡ 0 }
-    requires room { vec_len locks ≤ vec_capacity values }
-    ensures all { vec_len result.0 ≡ vec_len locks }
-    ensures values { vec_len locks ≤ vec_capacity result.0 }
-    ensures empty { vec_len result.1 ≡ 0 }
-    ensures room { vec_len locks ≤ vec_capacity result.1 }
-{
-    while let Some(lock) = locks.pop() {
-        values.push_reserved(lock.into_inner().into_inner());
-    }
-    values.reverse();
-    (values, locks)
-}
-
-// Returns locks of the values, in order, and the emptied list of values. `locks` has room for them.
-fn lock_all(mut locks: Vec<ShardLock>, mut values: Vec<Shard>) -> (Vec<ShardLock>, Vec<Shard>)
-    requires empty { vec_len locks ≡ 0 }
-    requires room { vec_len values ≤ vec_capacity locks }
-    requires back { vec_len values ≤ vec_capacity values }
-    ensures all { vec_len result.0 ≡ vec_len values }
-    ensures empty { vec_len result.1 ≡ 0 }
-    ensures room { vec_len values ≤ vec_capacity result.1 }
-{
-    values.reverse();
-    while let Some(value) = values.pop() {
-        locks.push_reserved(shard_lock(value));
-    }
-    (locks, values)
 }

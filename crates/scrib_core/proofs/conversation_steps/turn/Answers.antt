@@ -14,12 +14,22 @@ turn-requires c =
     let here = subst (λ (n : List (List ℕ)). IsPresent c.args.library.now n (option_copied c.present-present.result)) name (present_copied c.args.library.now c.in-Ok.name c.present-present.result c.present-present.ensures.meaning c.present-present.ensures.number) in
     serves_for c.args.comparison c.args.library.now c.args.records.now.entries c.args.id c.in-Some.record.now (option_copied c.present-present.result) c.requires there here
 
-pub returns-in_default-copy : goal.returns-in_default-copy
-returns-in_default-copy c =
+pub returns-in_default-copy-clause-fault : goal.returns-in_default-copy-clause-fault
+returns-in_default-copy-clause-fault c =
     let there : record_at c.args.records.now.entries c.args.id ≡ Some c.in-Some.record.now = sym c.get_mut.ensures.value ∙ ap option_copied_mut c.in-Some.is in
-    (some_there c.args.records.now.entries c.args.id c.in-Some.record.now there, kept c.args.records.now.entries _ c.args.id c.in-Some.record.now c.in-Some.record.now there (c.get_mut.follows.holds c.in-Some.record.now).0 refl)
+    some_there c.args.records.now.entries c.args.id c.in-Some.record.now there
 
-pub returns-in-Err : goal.returns-in-Err
-returns-in-Err c =
+pub returns-in_default-copy-clause-err : goal.returns-in_default-copy-clause-err
+returns-in_default-copy-clause-err c =
     let there : record_at c.args.records.now.entries c.args.id ≡ Some c.in-Some.record.now = sym c.get_mut.ensures.value ∙ ap option_copied_mut c.in-Some.is in
-    (some_there c.args.records.now.entries c.args.id c.in-Some.record.now there, kept c.args.records.now.entries _ c.args.id c.in-Some.record.now c.turn.new.self there (c.get_mut.follows.holds c.turn.new.self).0 c.in-Err.ensures.err)
+    kept c.args.records.now.entries _ c.args.id c.in-Some.record.now c.in-Some.record.now there (c.get_mut.follows.holds c.in-Some.record.now).0 refl
+
+pub returns-in-Err-clause-fault : goal.returns-in-Err-clause-fault
+returns-in-Err-clause-fault c =
+    let there : record_at c.args.records.now.entries c.args.id ≡ Some c.in-Some.record.now = sym c.get_mut.ensures.value ∙ ap option_copied_mut c.in-Some.is in
+    some_there c.args.records.now.entries c.args.id c.in-Some.record.now there
+
+pub returns-in-Err-clause-err : goal.returns-in-Err-clause-err
+returns-in-Err-clause-err c =
+    let there : record_at c.args.records.now.entries c.args.id ≡ Some c.in-Some.record.now = sym c.get_mut.ensures.value ∙ ap option_copied_mut c.in-Some.is in
+    kept c.args.records.now.entries _ c.args.id c.in-Some.record.now c.turn.new.self there (c.get_mut.follows.holds c.turn.new.self).0 c.in-Err.ensures.err

@@ -1,8 +1,8 @@
 use Rattle.std.proofs.Common.{◌+◌, ◌∙◌, ℕ, sym, ap, subst, arith}
 use Rattle.std.specs.List.{sum_by}
 use Rattle.scrib_locked_steps.specs.OneByOne.{OneByOne}
-use Rattle.scrib_locked_steps.specs.Passing.{AnswersBy, notes_of}
-use Rattle.scrib_locked_steps.specs.Shards.{ShardHeld, IsStored}
+use Rattle.scrib_locked_steps.specs.Passing.{AnswersBy, added_notes}
+use Rattle.scrib_locked_steps.specs.Shards.{ShardHeld, IsShardStored}
 use Rattle.scrib_locked_steps.proofs.NoteAllLemmas.{all_keep}
 use Rattle.scrib_locked_steps.proofs.ShardLemmas.{book_small}
 use Rattle.scrib_locked_steps.proofs.batch_notes.note_all_by_pass.Goals as goal
@@ -11,26 +11,26 @@ pub notes_in-requires : goal.notes_in-requires
 notes_in-requires c =
     let s = c.shard.inside in
     let noted = c.note_all_in_records-answers in
-    let kept = all_keep s.capacity c.args.library.now (s.records.entries, c.args.pass.now) (noted.new.records.entries, noted.new.pass) c.args.events.items noted.result.items s.index.entries s.book noted.ensures c.shard.invariant in
-    let small = book_small s.capacity noted.new.records.entries s.index.entries (s.book + sum_by notes_of noted.result.items) kept in
-    omega (arith, small, ap (sum_by notes_of) c.deref.ensures.value)
+    let kept = all_keep s.capacity c.args.library.now (s.records.entries, c.args.pass.now) (noted.new.records.entries, noted.new.pass) c.args.batch.events.items noted.result.items s.index.entries s.book noted.ensures c.shard.invariant in
+    let small = book_small s.capacity noted.new.records.entries s.index.entries (s.book + sum_by added_notes noted.result.items) kept in
+    omega (arith, small, ap (sum_by added_notes) c.deref.ensures.value)
 
 pub overflow_add-shard : goal.overflow_add-shard
 overflow_add-shard c =
     let s = c.shard.inside in
     let noted = c.note_all_in_records-answers in
-    let kept = all_keep s.capacity c.args.library.now (s.records.entries, c.args.pass.now) (noted.new.records.entries, noted.new.pass) c.args.events.items noted.result.items s.index.entries s.book noted.ensures c.shard.invariant in
-    let small = book_small s.capacity noted.new.records.entries s.index.entries (s.book + sum_by notes_of noted.result.items) kept in
-    omega (arith, small, c.notes_in.ensures, ap (sum_by notes_of) c.deref.ensures.value)
+    let kept = all_keep s.capacity c.args.library.now (s.records.entries, c.args.pass.now) (noted.new.records.entries, noted.new.pass) c.args.batch.events.items noted.result.items s.index.entries s.book noted.ensures c.shard.invariant in
+    let small = book_small s.capacity noted.new.records.entries s.index.entries (s.book + sum_by added_notes noted.result.items) kept in
+    omega (arith, small, c.notes_in.ensures, ap (sum_by added_notes) c.deref.ensures.value)
 
 pub invariant_of-shard : goal.invariant_of-shard
 invariant_of-shard c =
     let s = c.shard.inside in
     let noted = c.note_all_in_records-answers in
-    subst (λ (n : ℕ). IsStored s.capacity noted.new.records.entries s.index.entries (s.book + n)) (sym (c.notes_in.ensures ∙ ap (sum_by notes_of) c.deref.ensures.value))
-    (all_keep s.capacity c.args.library.now (s.records.entries, c.args.pass.now) (noted.new.records.entries, noted.new.pass) c.args.events.items noted.result.items s.index.entries s.book noted.ensures c.shard.invariant)
+    subst (λ (n : ℕ). IsShardStored s.capacity noted.new.records.entries s.index.entries (s.book + n)) (sym (c.notes_in.ensures ∙ ap (sum_by added_notes) c.deref.ensures.value))
+    (all_keep s.capacity c.args.library.now (s.records.entries, c.args.pass.now) (noted.new.records.entries, noted.new.pass) c.args.batch.events.items noted.result.items s.index.entries s.book noted.ensures c.shard.invariant)
 
 pub returns-clause-answered : goal.returns-clause-answered
 returns-clause-answered c =
     let noted = c.note_all_in_records-answers in
-    subst (λ (s : ShardHeld). OneByOne (AnswersBy c.args.library.now) (s.records, c.args.pass.now) c.args.events.items noted.result.items (noted.new.records.entries, noted.new.pass)) c.shard.view_is noted.ensures
+    subst (λ (s : ShardHeld). OneByOne (AnswersBy c.args.library.now) (s.records, c.args.pass.now) c.args.batch.events.items noted.result.items (noted.new.records.entries, noted.new.pass)) c.shard.view_is noted.ensures

@@ -1,12 +1,23 @@
-use Rattle.std.proofs.Common.{◌∙◌, ◌++◌, ◌∷◌, [], List, Result, sym, ap, subst, length, arith}
+use Rattle.std.proofs.Common.{◌≡◌, ◌∙◌, ◌++◌, ◌∷◌, [], List, Result, refl, sym, ap, subst, length, arith}
 use Rattle.std.specs.Option.{option_copied}
 use Rattle.std.proofs.lemmas.List.{length_push}
 use Rattle.scrib_locked_steps.specs.declared.pass_calls.PassRefusal.{PassRefusal}
-use Rattle.scrib_locked_steps.specs.declared.step_results.Noted.{Noted}
+use Rattle.scrib_core.specs.declared.conversation_steps.Noted.{Noted}
 use Rattle.scrib_locked_steps.specs.Noting.{AnswersIn}
 use Rattle.scrib_locked_steps.specs.OneByOne.{OneByOne}
-use Rattle.scrib_locked_steps.proofs.OneByOne.{one_more}
+use Rattle.scrib_locked_steps.proofs.Notes.{compared_in}
+use Rattle.scrib_locked_steps.proofs.OneByOne.{none_yet, one_more}
 use Rattle.scrib_locked_steps.proofs.batch_notes.note_all_in_record.Goals as goal
+
+pub loop-event-init : goal.loop-event-init
+loop-event-init c =
+    let none : length c.args.batch.room.items ≡ 0 = omega (arith, c.args.batch.room.ok.0, c.args.batch.empty) in
+    record {
+      answered = none_yet (AnswersIn (option_copied c.args.present)) (c.args.conversation.now, c.args.pass.now) c.args.batch.room.items none;
+      mismatch = compared_in c.args.pass.now c.args.conversation.now c.log.result.now c.newest.result.now c.first_mismatch-mismatch.result c.log.ensures.log c.newest.ensures c.first_mismatch-mismatch.ensures;
+      each = none;
+      room = refl;
+    }
 
 pub loop-event-preserved : goal.loop-event-preserved
 loop-event-preserved c =

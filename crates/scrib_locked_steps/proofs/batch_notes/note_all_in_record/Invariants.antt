@@ -12,5 +12,5 @@ invariant-loop-event l = record {
   answered : OneByOne (AnswersIn (option_copied l.present)) (l.initial.conversation, l.initial.pass) l.yielded l.answers.items (l.conversation, l.pass);
   mismatch : IsFirstMismatch l.conversation.log (newest_of l.pass.receipts) l.mismatch;
   each : length l.answers.items ≡ length l.yielded;
-  room : vec_capacity l.answers ≡ vec_capacity l.fn.room;
+  room : vec_capacity l.answers ≡ vec_capacity l.fn.batch.room;
 }

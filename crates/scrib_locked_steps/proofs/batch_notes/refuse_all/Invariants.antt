@@ -10,5 +10,5 @@ abbrev pub invariant-loop-event : goal.invariant-loop-event
 invariant-loop-event l = record {
   answered : (h : Holdings) (rs : Records) → record_at rs l.pass.conversation ≡ None → OneByOne (AnswersBy h) (rs, l.pass) l.yielded l.answers.items (rs, l.pass);
   each : length l.answers.items ≡ length l.yielded;
-  room : vec_capacity l.answers ≡ vec_capacity l.fn.room;
+  room : vec_capacity l.answers ≡ vec_capacity l.fn.batch.room;
 }

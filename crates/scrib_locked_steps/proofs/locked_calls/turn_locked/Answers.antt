@@ -1,5 +1,5 @@
-use Rattle.scrib_locked_steps.proofs.ShardLemmas.{turn_keeps}
+use Rattle.scrib_locked_steps.proofs.StepReplies.{turn_answers}
 use Rattle.scrib_locked_steps.proofs.locked_calls.turn_locked.Goals as goal
 
-pub invariant_of-shard : goal.invariant_of-shard
-invariant_of-shard c = turn_keeps c.shard.inside.capacity c.args.library.now c.shard.inside.records.entries c.args.id c.turn.result c.turn.new.records.entries c.shard.inside.index.entries c.shard.inside.book c.turn.ensures c.shard.invariant
+pub returns-clause-answered : goal.returns-clause-answered
+returns-clause-answered c = rw c.verdict_reply.ensures (turn_answers c.args.library.now c.args.shard.now.records c.turn_step.new.shard.records c.args.id c.turn_step.result c.turn_step.ensures.ok c.turn_step.ensures.fault c.turn_step.ensures.err)

@@ -1,5 +1,5 @@
 use Rattle.std.proofs.Common.{IfOk, IfErr, refl, subst, arith}
-use Rattle.scrib_locked_steps.specs.declared.step_results.Noted.{Noted}
+use Rattle.scrib_core.specs.declared.conversation_steps.Noted.{Noted}
 use Rattle.scrib_locked_steps.specs.Passing.{IsNotedBy, PassNoteFails}
 use Rattle.scrib_locked_steps.specs.Shards.{ShardHeld}
 use Rattle.scrib_locked_steps.proofs.NoteAllLemmas.{one_keeps}

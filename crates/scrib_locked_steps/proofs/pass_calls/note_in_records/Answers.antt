@@ -1,8 +1,40 @@
-use Rattle.std.proofs.Common.{subst}
-use Rattle.scrib_locked_steps.specs.Passes.{PassHeld}
+use Rattle.std.proofs.Common.{◌≡◌, ◌∙◌, Some, refl, sym, ap, subst}
+use Rattle.std.specs.Option.{option_copied}
+use Rattle.indexmap.specs.IndexMap.{set_value_at}
+use Rattle.scrib_record.specs.Stale.{Recorded}
+use Rattle.scrib_core.specs.ConversationSteps.{IsPresent}
+use Rattle.scrib_core.specs.Held.{Records, record_at}
+use Rattle.scrib_locked_steps.specs.Noting.{IsRecordAt}
+use Rattle.scrib_locked_steps.specs.Passes.{PassHeld, newest_of}
 use Rattle.scrib_locked_steps.specs.Passing.{AnswersBy}
+use Rattle.scrib_locked_steps.specs.Receipts.{IsFirstMismatch}
+use Rattle.scrib_locked_steps.proofs.Notes.{compared_in, answered_there}
+use Rattle.scrib_locked_steps.proofs.Places.{set_there, there_read, within_records}
 use Rattle.scrib_locked_steps.proofs.pass_calls.note_in_records.Goals as goal
 
-pub returns-in-Some : goal.returns-in-Some
-returns-in-Some c =
-    subst (λ (p : PassHeld). AnswersBy c.args.library.now (c.args.records.now.entries, p) c.args.event c.note_at_index.result (c.note_at_index.new.records.entries, c.note_at_index.new.pass)) c.set_hint.ensures c.note_at_index.ensures
+pub pair_mut-conversation-requires : goal.pair_mut-conversation-requires
+pair_mut-conversation-requires c = within_records c.args.records.now.entries c.in-Some.at c.conversation-id.result c.in-Some.ensures.found
+
+pub note_unless_mismatch-requires : goal.note_unless_mismatch-requires
+note_unless_mismatch-requires c =
+    let p = c.set_hint.new.self in
+    subst (λ (w : Recorded). IsFirstMismatch w.log (newest_of p.receipts) c.first_mismatch-mismatch.result) (sym c.present_of-present.ensures.same)
+    (compared_in p c.pair_mut-conversation.result.1.now c.log.result.now c.newest-2.result.now c.first_mismatch-mismatch.result c.log.ensures.log c.newest-2.ensures c.first_mismatch-mismatch.ensures)
+
+pub returns : goal.returns
+returns c =
+    let rs = c.args.records.now.entries in
+    let p = c.set_hint.new.self in
+    let r = c.pair_mut-conversation.result.1.now in
+    let u = c.present_of-present.new.conversation in
+    let after = c.note_unless_mismatch.new.conversation in
+    let q = c.note_unless_mismatch.new.pass in
+    let id : c.conversation-id.result ≡ p.conversation = c.conversation-id.ensures ∙ ap (λ (x : PassHeld). x.conversation) (sym c.set_hint.ensures) in
+    let at : IsRecordAt rs c.in-Some.at p.conversation = subst (IsRecordAt rs c.in-Some.at) id c.in-Some.ensures.found in
+    let there = there_read rs c.in-Some.at p.conversation c.pair_mut-conversation.result.0.now r c.pair_mut-conversation.ensures.unique at c.pair_mut-conversation.ensures.value in
+    let u_there : record_at rs p.conversation ≡ Some u = there ∙ ap Some (sym c.present_of-present.ensures.same) in
+    let is : IsPresent c.args.library.now u.name (option_copied c.present_of-present.result) =
+    subst (λ (w : Recorded). IsPresent c.args.library.now w.name (option_copied c.present_of-present.result)) (sym c.present_of-present.ensures.same) c.present_of-present.ensures.present in
+    subst (λ (x : PassHeld). AnswersBy c.args.library.now (rs, x) c.args.event c.note_unless_mismatch.result (set_value_at rs c.in-Some.at after, q)) c.set_hint.ensures
+    (subst (λ (l : Records). AnswersBy c.args.library.now (rs, p) c.args.event c.note_unless_mismatch.result (l, q)) (sym (set_there rs c.in-Some.at p.conversation after c.pair_mut-conversation.ensures.unique at))
+    (answered_there c.args.library.now (option_copied c.present_of-present.result) rs p.conversation (u, p) (after, q) c.args.event c.note_unless_mismatch.result refl u_there is c.note_unless_mismatch.ensures.answered))

@@ -1,7 +1,16 @@
 use Rattle.std.proofs.Common.{◌≡◌, ◌∙◌, sym}
 use Rattle.scrib_client.specs.ConnectionPasses.{pass_of}
-use Rattle.scrib_client.proofs.PassLemmas.{own_pass, pass_read}
+use Rattle.scrib_client.proofs.PassLemmas.{own_pass, own_set, own_there, pass_there, pass_set, value_read}
 use Rattle.scrib_client.proofs.passes.Passes.ask.Goals as goal
+
+pub invariant_of-self : goal.invariant_of-self
+invariant_of-self g c =
+    let kept = c.find_or_connect.new.self.by_id.entries in
+    let p = c.pair_mut-pass.result.1.now in
+    let value = value_read c.args.id kept c.in-Ok.at c.pair_mut-pass.result.0.now p c.pair_mut-pass.ensures.value in
+    record {
+      own = own_set c.args.id kept c.in-Ok.at p c.find_or_connect.new.self.own c.in-Ok.ensures.found (own_there c.args.id kept c.in-Ok.at p c.find_or_connect.new.self.own c.in-Ok.ensures.found value);
+    }
 
 pub returns-in-Err-clause-own : goal.returns-in-Err-clause-own
 returns-in-Err-clause-own g c = own_pass c.args.id c.args.self.now.by_id.entries c.args.self.now.own
@@ -11,14 +20,24 @@ returns-clause-own g c = own_pass c.args.id c.args.self.now.by_id.entries c.args
 
 pub returns-clause-asked : goal.returns-clause-asked
 returns-clause-asked g c =
-    let p = c.in-Some.pass.now in
-    let before : pass_of c.args.self.now.by_id.entries c.args.id ≡ p = sym c.in-Ok.ensures.kept
-    ∙ pass_read c.args.id c.find_or_connect.new.self.by_id.entries c.in-Ok.at c.in-Some.field-0-0.now p c.in-Some.ensures.entry c.in-Some.ensures.value c.in-Ok.ensures.found in
+    let kept = c.find_or_connect.new.self.by_id.entries in
+    let p = c.pair_mut-pass.result.1.now in
+    let value = value_read c.args.id kept c.in-Ok.at c.pair_mut-pass.result.0.now p c.pair_mut-pass.ensures.value in
+    let before : pass_of c.args.self.now.by_id.entries c.args.id ≡ p = sym c.in-Ok.ensures.kept ∙ pass_there c.args.id kept c.in-Ok.at p c.pair_mut-pass.ensures.unique c.in-Ok.ensures.found value in
     rw before c.ask.ensures.ok
 
 pub returns-clause-answered : goal.returns-clause-answered
 returns-clause-answered g c =
-    let p = c.in-Some.pass.now in
-    let before : pass_of c.args.self.now.by_id.entries c.args.id ≡ p = sym c.in-Ok.ensures.kept
-    ∙ pass_read c.args.id c.find_or_connect.new.self.by_id.entries c.in-Ok.at c.in-Some.field-0-0.now p c.in-Some.ensures.entry c.in-Some.ensures.value c.in-Ok.ensures.found in
+    let kept = c.find_or_connect.new.self.by_id.entries in
+    let p = c.pair_mut-pass.result.1.now in
+    let value = value_read c.args.id kept c.in-Ok.at c.pair_mut-pass.result.0.now p c.pair_mut-pass.ensures.value in
+    let before : pass_of c.args.self.now.by_id.entries c.args.id ≡ p = sym c.in-Ok.ensures.kept ∙ pass_there c.args.id kept c.in-Ok.at p c.pair_mut-pass.ensures.unique c.in-Ok.ensures.found value in
     rw before c.ask.ensures.answered
+
+pub returns-clause-kept : goal.returns-clause-kept
+returns-clause-kept g c =
+    let kept = c.find_or_connect.new.self.by_id.entries in
+    let p = c.pair_mut-pass.result.1.now in
+    let value = value_read c.args.id kept c.in-Ok.at c.pair_mut-pass.result.0.now p c.pair_mut-pass.ensures.value in
+    let before : pass_of c.args.self.now.by_id.entries c.args.id ≡ p = sym c.in-Ok.ensures.kept ∙ pass_there c.args.id kept c.in-Ok.at p c.pair_mut-pass.ensures.unique c.in-Ok.ensures.found value in
+    pass_set c.args.id kept c.in-Ok.at p c.pair_mut-pass.ensures.unique c.in-Ok.ensures.found ∙ sym before

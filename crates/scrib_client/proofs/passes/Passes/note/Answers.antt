@@ -1,15 +1,13 @@
-use Rattle.std.proofs.Common.{◌≡◌, ◌∙◌, Some, slice_get, sym, ap}
-use Rattle.std.specs.Option.{option_copied_mut}
-use Rattle.std.specs.Map.{values_of}
+use Rattle.std.proofs.Common.{◌≡◌, ◌∙◌, sym}
 use Rattle.scrib_client.specs.ConnectionPasses.{pass_of}
-use Rattle.scrib_client.proofs.PassLemmas.{conversation_kept, own_pass, own_set, own_there, pass_there, pass_set}
+use Rattle.scrib_client.proofs.PassLemmas.{conversation_kept, own_pass, own_set, own_there, pass_there, pass_set, value_read}
 use Rattle.scrib_client.proofs.passes.Passes.note.Goals as goal
 
 pub invariant_of-self : goal.invariant_of-self
 invariant_of-self g c =
     let kept = c.find_or_connect.new.self.by_id.entries in
-    let p = c.in-Some.pass.now in
-    let value : slice_get (values_of kept) c.in-Ok.at ≡ Some p = sym c.get_index_mut.ensures.value ∙ ap option_copied_mut c.in-Some.is in
+    let p = c.pair_mut-pass.result.1.now in
+    let value = value_read c.args.id kept c.in-Ok.at c.pair_mut-pass.result.0.now p c.pair_mut-pass.ensures.value in
     record {
       own = own_set c.args.id kept c.in-Ok.at c.note.new.pass c.find_or_connect.new.self.own c.in-Ok.ensures.found
           (conversation_kept p c.note.new.pass c.args.event c.note.result c.note.ensures.receipted c.note.ensures.err ∙ own_there c.args.id kept c.in-Ok.at p c.find_or_connect.new.self.own c.in-Ok.ensures.found value);
@@ -21,11 +19,11 @@ returns-in-Err-clause-own g c = own_pass c.args.id c.args.self.now.by_id.entries
 pub returns : goal.returns
 returns g c =
     let kept = c.find_or_connect.new.self.by_id.entries in
-    let p = c.in-Some.pass.now in
+    let p = c.pair_mut-pass.result.1.now in
     let q = c.note.new.pass in
-    let value : slice_get (values_of kept) c.in-Ok.at ≡ Some p = sym c.get_index_mut.ensures.value ∙ ap option_copied_mut c.in-Some.is in
-    let before : pass_of c.args.self.now.by_id.entries c.args.id ≡ p = sym c.in-Ok.ensures.kept ∙ pass_there c.args.id kept c.in-Ok.at p c.get_index_mut.ensures.unique c.in-Ok.ensures.found value in
-    let after = pass_set c.args.id kept c.in-Ok.at q c.get_index_mut.ensures.unique c.in-Ok.ensures.found in
+    let value = value_read c.args.id kept c.in-Ok.at c.pair_mut-pass.result.0.now p c.pair_mut-pass.ensures.value in
+    let before : pass_of c.args.self.now.by_id.entries c.args.id ≡ p = sym c.in-Ok.ensures.kept ∙ pass_there c.args.id kept c.in-Ok.at p c.pair_mut-pass.ensures.unique c.in-Ok.ensures.found value in
+    let after = pass_set c.args.id kept c.in-Ok.at q c.pair_mut-pass.ensures.unique c.in-Ok.ensures.found in
     record {
       own = own_pass c.args.id c.args.self.now.by_id.entries c.args.self.now.own;
       noted = rw before c.note.ensures.ok;

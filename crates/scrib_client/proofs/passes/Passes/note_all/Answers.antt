@@ -1,19 +1,17 @@
-use Rattle.std.proofs.Common.{◌≡◌, ◌∙◌, Some, slice_get, sym, ap, arith}
-use Rattle.std.specs.Option.{option_copied_mut}
-use Rattle.std.specs.Map.{values_of}
+use Rattle.std.proofs.Common.{◌≡◌, ◌∙◌, sym, arith}
 use Rattle.scrib_client.specs.ConnectionPasses.{pass_of}
-use Rattle.scrib_client.proofs.PassLemmas.{replies_each, conversation_kept_by_all, own_pass, own_set, own_there, pass_there, pass_set}
+use Rattle.scrib_client.proofs.PassLemmas.{replies_each, conversation_kept_by_all, own_pass, own_set, own_there, pass_there, pass_set, value_read}
 use Rattle.scrib_client.proofs.passes.Passes.note_all.Goals as goal
 
 pub invariant_of-self : goal.invariant_of-self
 invariant_of-self g c =
     let kept = c.find_or_connect.new.self.by_id.entries in
-    let p = c.in-Some.pass.now in
+    let p = c.pair_mut-pass.result.1.now in
     let q = c.note_all.new.pass in
-    let value : slice_get (values_of kept) c.in-Ok.at ≡ Some p = sym c.get_index_mut.ensures.value ∙ ap option_copied_mut c.in-Some.is in
+    let value = value_read c.args.id kept c.in-Ok.at c.pair_mut-pass.result.0.now p c.pair_mut-pass.ensures.value in
     record {
       own = own_set c.args.id kept c.in-Ok.at q c.find_or_connect.new.self.own c.in-Ok.ensures.found
-          (conversation_kept_by_all p q c.args.events.items c.note_all.result.items c.note_all.ensures ∙ own_there c.args.id kept c.in-Ok.at p c.find_or_connect.new.self.own c.in-Ok.ensures.found value);
+          (conversation_kept_by_all p q c.args.batch.events.items c.note_all.result.items c.note_all.ensures ∙ own_there c.args.id kept c.in-Ok.at p c.find_or_connect.new.self.own c.in-Ok.ensures.found value);
     }
 
 pub returns-in_default-clause-own : goal.returns-in_default-clause-own
@@ -25,13 +23,13 @@ returns-clause-own g c = own_pass c.args.id c.args.self.now.by_id.entries c.args
 pub returns-clause-answered : goal.returns-clause-answered
 returns-clause-answered g c =
     let kept = c.find_or_connect.new.self.by_id.entries in
-    let p = c.in-Some.pass.now in
+    let p = c.pair_mut-pass.result.1.now in
     let q = c.note_all.new.pass in
-    let value : slice_get (values_of kept) c.in-Ok.at ≡ Some p = sym c.get_index_mut.ensures.value ∙ ap option_copied_mut c.in-Some.is in
-    let before : pass_of c.args.self.now.by_id.entries c.args.id ≡ p = sym c.in-Ok.ensures.kept ∙ pass_there c.args.id kept c.in-Ok.at p c.get_index_mut.ensures.unique c.in-Ok.ensures.found value in
-    let after = pass_set c.args.id kept c.in-Ok.at q c.get_index_mut.ensures.unique c.in-Ok.ensures.found in
+    let value = value_read c.args.id kept c.in-Ok.at c.pair_mut-pass.result.0.now p c.pair_mut-pass.ensures.value in
+    let before : pass_of c.args.self.now.by_id.entries c.args.id ≡ p = sym c.in-Ok.ensures.kept ∙ pass_there c.args.id kept c.in-Ok.at p c.pair_mut-pass.ensures.unique c.in-Ok.ensures.found value in
+    let after = pass_set c.args.id kept c.in-Ok.at q c.pair_mut-pass.ensures.unique c.in-Ok.ensures.found in
     rw (before, after) c.note_all.ensures
 
 pub returns-clause-each : goal.returns-clause-each
 returns-clause-each g c =
-    omega (arith, replies_each c.in-Some.pass.now c.note_all.new.pass c.args.events.items c.note_all.result.items c.note_all.ensures, c.args.events.ok.0, c.note_all.result.ok.0)
+    omega (arith, replies_each c.pair_mut-pass.result.1.now c.note_all.new.pass c.args.batch.events.items c.note_all.result.items c.note_all.ensures, c.args.batch.events.ok.0, c.note_all.result.ok.0)

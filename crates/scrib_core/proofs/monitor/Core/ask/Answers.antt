@@ -4,15 +4,15 @@ use Rattle.scrib_core.proofs.monitor.Core.ask.Goals as goal
 
 pub returns-clause-answered : goal.returns-clause-answered
 returns-clause-answered c =
-    let made = ask_answered c.self.inside.library c.self.inside.records.entries c.are_numbered.ensures.numbers c.are_numbered.ensures.once c.self.invariant c.args.id c.ask.result c.ask.ensures in
-    rw (sym c.self.view_is) made.answered
+    let made = ask_answered c.self.inside.library c.self.inside.records.entries c.are_numbered.ensures.numbers c.are_numbered.ensures.once c.self.invariant c.args.id c.ask-asked.result c.ask-asked.ensures.ok c.ask-asked.ensures.fault in
+    rw (sym c.self.view_is, c.verdict_reply.ensures) made.answered
 
 pub returns-clause-memory : goal.returns-clause-memory
 returns-clause-memory c =
-    let made = ask_answered c.self.inside.library c.self.inside.records.entries c.are_numbered.ensures.numbers c.are_numbered.ensures.once c.self.invariant c.args.id c.ask.result c.ask.ensures in
-    rw (sym c.self.view_is) made.due
+    let made = ask_answered c.self.inside.library c.self.inside.records.entries c.are_numbered.ensures.numbers c.are_numbered.ensures.once c.self.invariant c.args.id c.ask-asked.result c.ask-asked.ensures.ok c.ask-asked.ensures.fault in
+    rw (sym c.self.view_is, c.verdict_reply.ensures) made.due
 
 pub returns-clause-refused : goal.returns-clause-refused
 returns-clause-refused c =
-    let made = ask_answered c.self.inside.library c.self.inside.records.entries c.are_numbered.ensures.numbers c.are_numbered.ensures.once c.self.invariant c.args.id c.ask.result c.ask.ensures in
-    rw (sym c.self.view_is) made.left
+    let made = ask_answered c.self.inside.library c.self.inside.records.entries c.are_numbered.ensures.numbers c.are_numbered.ensures.once c.self.invariant c.args.id c.ask-asked.result c.ask-asked.ensures.ok c.ask-asked.ensures.fault in
+    rw (sym c.self.view_is, c.verdict_reply.ensures) made.left

@@ -1,6 +1,6 @@
 use Rattle.std.proofs.Common.{◌≡◌, Bool, true, false, sym, refl}
 use Rattle.std.specs.Bool.{Decides}
-use Rattle.scrib_locked_steps.specs.Indexing.{dotted_eq-Decides}
+use Rattle.scrib_static_checks.proofs.NameLemmas.{dotted_eq-Decides}
 use Rattle.scrib_locked_steps.proofs.index.ProtocolNamePartialEq.eq.Goals as goal
 
 same_test : {P : Type 0} (a b : Bool) → (a ≡ true → P) → (P → a ≡ true) → Decides b P → a ≡ b
