@@ -5,7 +5,7 @@ use Rattle.std.specs.Io.KnownBytes.{Appends}
 use Rattle.scrib_core.specs.declared.step.Step.TheVariants.{Put}
 use Rattle.scrib_core.specs.declared.reply.Reply.{Reply}
 use Rattle.scrib_core.specs.Answers.{State, IsAnswered}
-use Rattle.scrib_report.specs.ReplyTexts.{reply_line}
+use Rattle.scrib_report.specs.LineOutput.{reply_line}
 use Rattle.scrib_script_io.specs.Writes.{AppendsPart}
 use Rattle.scrib_cli.specs.Checks.{is_accepted, IsPutAnswered, IsChecked, IsPartChecked}
 

@@ -5,13 +5,13 @@ use Rattle.std.specs.Io.KnownBytes.{Appends, Consumes, IsAtEnd, Keeps}
 use Rattle.std.proofs.lemmas.List.{append_assoc, append-nil}
 use Rattle.scrib_core.specs.Answers.{State}
 use Rattle.scrib_core.specs.declared.format.Format.{Format}
-use Rattle.scrib_script_reader.specs.Limits.{of_scripts, IsWithin}
+use Rattle.scrib_script_reader.specs.Limits.{of_scripts, IsWithinLimits}
 use Rattle.scrib_cli.specs.declared.run.ScriptRun.{ScriptRun}
 use Rattle.scrib_cli.specs.declared.output_mode.OutputMode.{OutputMode}
 use Rattle.scrib_cli.specs.declared.output_mode.OutputMode.TheVariants.{Printed}
 use Rattle.scrib_script_io.specs.Writes.{AppendsPart}
 use Rattle.scrib_cli.specs.Scripts.{IsOutput}
-use Rattle.scrib_cli.specs.Progress.{IsWholeOutput, RunFailsOn, RunSucceeds, RunFails, HasProgressed, IsNew, Advances, PieceFails, EndSucceeds, EndFails, items_shown}
+use Rattle.scrib_cli.specs.Progress.{IsWholeOutput, RunFailsOn, RunSucceeds, RunFails, HasProgressed, IsNew, RunAdvances, PieceFails, EndSucceeds, EndFails, items_shown}
 use Rattle.scrib_script_io.proofs.WriterLemmas.{appends_kept, consumes_none, consumes_more, consumes_kept}
 use Rattle.scrib_cli.proofs.RunLemmas.{failed_after}
 
@@ -60,7 +60,7 @@ reaches_end t run r0 r r' w0 w n piece h read none =
       progress = h.progress;
     }
 
-pub reaches_went : (t : OutputMode) (run new : ScriptRun) (r0 r r' w0 w w' : Option (List ℕ)) (piece : List ℕ) → HasReadAll t run r0 r w0 w → Consumes r r' piece → Advances run new piece w w' → HasReadAll t new r0 r' w0 w'
+pub reaches_went : (t : OutputMode) (run new : ScriptRun) (r0 r r' w0 w w' : Option (List ℕ)) (piece : List ℕ) → HasReadAll t run r0 r w0 w → Consumes r r' piece → RunAdvances run new piece w w' → HasReadAll t new r0 r' w0 w'
 reaches_went t run new r0 r r' w0 w w' piece h read went = record {
   seen = h.seen ++ piece;
   read = consumes_more r0 r r' h.seen piece h.read read;
@@ -78,10 +78,10 @@ reached_end t run v (Some input) None w0 w w' h at_end ended = absurd h.read
 reached_end t run v (Some input) (Some left) w0 w w' h at_end ended =
     let p = ended.so t h.seen w0 h.progress in
     let all : h.seen ≡ input = at_end_is input h.seen left h.read at_end in
-    (p.0, subst (λ (u : List ℕ). IsWholeOutput t u v p.0) all p.1, p.2, subst (λ (u : List ℕ). IsWithin of_scripts u) all p.3)
+    (p.0, subst (λ (u : List ℕ). IsWholeOutput t u v p.0) all p.1, p.2, subst (λ (u : List ℕ). IsWithinLimits of_scripts u) all p.3)
 
 -- a script that was run is within the limits
-pub ran_within : (t : OutputMode) (r : Option (List ℕ)) (v : State) (was now : Option (List ℕ)) → RunSucceeds t r v was now → IfSome r (λ input. IsWithin of_scripts input)
+pub ran_within : (t : OutputMode) (r : Option (List ℕ)) (v : State) (was now : Option (List ℕ)) → RunSucceeds t r v was now → IfSome r (λ input. IsWithinLimits of_scripts input)
 ran_within t None v was now h = search rules
 ran_within t (Some input) v was now h = h.3
 

@@ -13,26 +13,26 @@ use Rattle.scrib_cli.specs.declared.output_mode.OutputMode.{OutputMode}
 use Rattle.scrib_cli.specs.declared.output_mode.OutputMode.TheVariants.{Printed, Silent}
 use Rattle.scrib_report.specs.ReplyTexts.{reply_format, reply_text}
 use Rattle.scrib_script_io.specs.Writes.{AppendsPart}
-use Rattle.scrib_cli.specs.Progress.{StepSucceeds, StepFails, IsCarriedOut, IsPartCarriedOut, reply_shown, bad_line_shown, end_shown}
+use Rattle.scrib_cli.specs.Progress.{IsReplyShown, IsReplyPartShown, IsCarriedOut, IsPartCarriedOut, reply_shown, bad_line_shown, end_shown}
 use Rattle.scrib_script_io.proofs.WriterLemmas.{appends_none}
 
-module _ (t : OutputMode) (f : Format) (w v : State) (s : Step) (r : Reply) (was now : Option (List ℕ)) (answered : IsAnswered w s r v) where
-  pub answered_silently : t ≡ Silent → r ≢ Refused OutOfMemory → StepSucceeds t f w s v was was
-  answered_silently e ne = subst (λ (u : OutputMode). StepSucceeds u f w s v was was) (sym e) (r, answered, ne, appends_none was)
+module _ (t : OutputMode) (f : Format) (r : Reply) (was now : Option (List ℕ)) where
+  pub shown_silently : t ≡ Silent → r ≢ Refused OutOfMemory → IsReplyShown t f r was was
+  shown_silently e ne = subst (λ (u : OutputMode). IsReplyShown u f r was was) (sym e) (ne, appends_none was)
 
-  pub part_printed : (o x : Format) → t ≡ Printed o → x ≡ reply_format o f → AppendsPart was now (reply_text x r) → StepFails t f w s v was now
+  pub part_printed : (o x : Format) → t ≡ Printed o → x ≡ reply_format o f → AppendsPart was now (reply_text x r) → IsReplyPartShown t f r was now
   part_printed o x e format_is part =
       let part_as : AppendsPart was now (reply_text (reply_format o f) r) = subst (λ (y : Format). AppendsPart was now (reply_text y r)) format_is part in
-      subst (λ (u : OutputMode). StepFails u f w s v was now) (sym e) (inr (r, answered, tt, part_as))
+      subst (λ (u : OutputMode). IsReplyPartShown u f r was now) (sym e) (inr (tt, part_as))
 
 -- An item that is carried out, wholly or in part.
 module _ (t : OutputMode) (i : Item) (w v : State) (was now : Option (List ℕ)) where
-  pub step_written : (f : Format) (s : Step) → i ≡ item.Step f s → StepSucceeds t f w s v was now → IsCarriedOut t i w v was now
-  step_written f s e a = subst (λ (j : Item). IsCarriedOut t j w v was now) (sym e) (a.0 ∷ [], reply_shown t f a.0, (a.0, refl, a.1, a.2, refl), a.3)
+  pub step_written : (f : Format) (s : Step) (r : Reply) → i ≡ item.Step f s → IsAnswered w s r v → IsReplyShown t f r was now → IsCarriedOut t i w v was now
+  step_written f s r e answered a = subst (λ (j : Item). IsCarriedOut t j w v was now) (sym e) (r ∷ [], reply_shown t f r, (r, refl, answered, a.0, refl), a.1)
 
-  pub step_part : (f : Format) (s : Step) → i ≡ item.Step f s → StepFails t f w s v was now → IsPartCarriedOut t i w was now
-  step_part f s e (inl none) = inl none
-  step_part f s e (inr a) = subst (λ (j : Item). IsPartCarriedOut t j w was now) (sym e) (inr (a.0 ∷ [], v, reply_shown t f a.0, (a.0, refl, a.1, a.2, refl), a.3))
+  pub step_part : (f : Format) (s : Step) (r : Reply) → i ≡ item.Step f s → IsAnswered w s r v → IsReplyPartShown t f r was now → IsPartCarriedOut t i w was now
+  step_part f s r e answered (inl none) = inl none
+  step_part f s r e answered (inr a) = subst (λ (j : Item). IsPartCarriedOut t j w was now) (sym e) (inr (r ∷ [], v, reply_shown t f r, (r, refl, answered, a.0, refl), a.1))
 
   pub bad_line_written : (n : ℕ) → i ≡ item.BadLine n → Appends was now (bad_line_shown t n) → IsCarriedOut t i w w was now
   bad_line_written n e a = subst (λ (j : Item). IsCarriedOut t j w w was now) (sym e) ([], bad_line_shown t n, (refl, refl, refl), a)

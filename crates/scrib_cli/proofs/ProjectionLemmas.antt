@@ -21,7 +21,7 @@ use Rattle.scrib_lexer.specs.Tokens.{IsTokens}
 use Rattle.scrib_parser.specs.declared.fault.ParseFault.{ParseFault}
 use Rattle.scrib_parser.specs.declared.fault.ParseFault.TheVariants as parse
 use Rattle.scrib_parser.specs.declared.tree.ModuleTree.{ModuleTree}
-use Rattle.scrib_parser.specs.Grammar.{IsFaultOf}
+use Rattle.scrib_parser.specs.Grammar.{IsParseFault}
 use Rattle.scrib_static_checks.specs.Elaboration.{Elaborates, nodes, branch_nodes}
 use Rattle.scrib_elaborate.specs.Sound.{is_sound}
 use Rattle.scrib_library.specs.declared.fault.EditFault.{EditFault}
@@ -32,25 +32,24 @@ use Rattle.scrib_script_reader.proofs.Pieces.{dotted-pieces}
 use Rattle.scrib_script_io.specs.declared.fault.ScriptFault.{ScriptFault}
 use Rattle.scrib_cli.specs.declared.full_name.FullName.{FullName}
 use Rattle.scrib_cli.specs.declared.projection.Projection.{Projection}
-use Rattle.scrib_cli.specs.declared.projection.Projection.TheVariants.{Projects, NoProtocol, NoRole, Refused}
-use Rattle.scrib_cli.specs.Projections.{IsFullName, AreAdded, IsNoModule, IsProjection, undeclared, unmerged, does}
-use Rattle.scrib_cli.specs.ProjectionSteps.{IsUnreadOrRefused, IsRoleProjection, IsRefusalPlaced}
+use Rattle.scrib_cli.specs.Projections.{IsFullName, AreAdded, IsNoModule, has_no_tokens, has_no_tree, IsProjection, undeclared, unmerged, does}
+use Rattle.scrib_cli.specs.ProjectionSteps.{IsUnreadOrRefused, IsRoleProjection, role_projects, role_undeclared, role_unmerged, IsRefusalPlaced}
 
 -- why the text has no tokens
-pub lex_refused : (text : List ℕ) (f : LexFault) → tokens.FailsAt text f → IsUnreadOrRefused text (edit_fault_of_lex f)
+pub lex_refused : (text : List ℕ) (f : LexFault) → tokens.LexFailsAt text f → IsUnreadOrRefused text (edit_fault_of_lex f)
 lex_refused text lex.OutOfMemory h = inl refl
-lex_refused text lex.TextTooLong h = inr h
-lex_refused text (lex.BadByte at) h = inr h
-lex_refused text (lex.OpenComment at) h = inr h
-lex_refused text (lex.OpenString at) h = inr h
-lex_refused text (lex.LongName at) h = inr h
+lex_refused text lex.TextTooLong h = inr (has_no_tokens lex.TextTooLong h)
+lex_refused text (lex.BadByte at) h = inr (has_no_tokens (lex.BadByte at) h)
+lex_refused text (lex.OpenComment at) h = inr (has_no_tokens (lex.OpenComment at) h)
+lex_refused text (lex.OpenString at) h = inr (has_no_tokens (lex.OpenString at) h)
+lex_refused text (lex.LongName at) h = inr (has_no_tokens (lex.LongName at) h)
 
-pub parse_refused : (text : List ℕ) (ts : List Lexeme) (f : ParseFault) → IsTokens text ts → IsFaultOf ts f → IsUnreadOrRefused text (edit_fault_of_parse f)
+pub parse_refused : (text : List ℕ) (ts : List Lexeme) (f : ParseFault) → IsTokens text ts → IsParseFault ts f → IsUnreadOrRefused text (edit_fault_of_parse f)
 parse_refused text ts parse.OutOfMemory t h = inl refl
-parse_refused text ts parse.EndOfText t h = inr (ts, t, h)
-parse_refused text ts (parse.Unexpected at) t h = inr (ts, t, h)
-parse_refused text ts (parse.LeftOut word at) t h = inr (ts, t, h)
-parse_refused text ts (parse.TooDeep at) t h = inr (ts, t, h)
+parse_refused text ts parse.EndOfText t h = inr (has_no_tree ts parse.EndOfText t h)
+parse_refused text ts (parse.Unexpected at) t h = inr (has_no_tree ts (parse.Unexpected at) t h)
+parse_refused text ts (parse.LeftOut word at) t h = inr (has_no_tree ts (parse.LeftOut word at) t h)
+parse_refused text ts (parse.TooDeep at) t h = inr (has_no_tree ts (parse.TooDeep at) t h)
 
 pub unread_for : (text : List ℕ) (f : EditFault) → IsUnreadOrRefused text f → (f ≡ edit.OutOfMemory → ⊥) → IsNoModule text f
 unread_for text f (inl e) ne = absurd (ne e)
@@ -73,21 +72,9 @@ alone bytes names last h e name k =
 -- where the protocol can be elaborated, the result is that of the role
 on_role : (profile : Profile) (texts : List (Option (List ℕ))) (protocol role : List ℕ) (name : FullName) (modules : List ModuleTree) (a : Agreement) (p : Projection)
     → IsFullName protocol name → AreAdded [] texts modules → Elaborates modules name.home name.protocol a → IsRoleProjection profile a role p → IsRefusalPlaced profile modules name.home name.protocol a.global p → IsProjection profile texts protocol role p
-on_role profile texts protocol role name modules a (Projects l) n m e h at = does name modules a l n m e h.0 h.1
-on_role profile texts protocol role name modules a NoProtocol n m e h at = absurd h
-on_role profile texts protocol role name modules a NoRole n m e h at = undeclared name modules a n m e h
-on_role profile texts protocol role name modules a (Refused (edit.Project u)) n m e h at = unmerged name modules a u n m e h.0 h.1 at
-on_role profile texts protocol role name modules a (Refused edit.UnknownModule) n m e h at = absurd h
-on_role profile texts protocol role name modules a (Refused edit.TooManyModules) n m e h at = absurd h
-on_role profile texts protocol role name modules a (Refused (edit.StillImported other)) n m e h at = absurd h
-on_role profile texts protocol role name modules a (Refused edit.VersionsFull) n m e h at = absurd h
-on_role profile texts protocol role name modules a (Refused (edit.ImportMissing other)) n m e h at = absurd h
-on_role profile texts protocol role name modules a (Refused edit.TooManyProtocols) n m e h at = absurd h
-on_role profile texts protocol role name modules a (Refused (edit.Elaborate f)) n m e h at = absurd h
-on_role profile texts protocol role name modules a (Refused (edit.Lex f)) n m e h at = absurd h
-on_role profile texts protocol role name modules a (Refused (edit.Parse f)) n m e h at = absurd h
-on_role profile texts protocol role name modules a (Refused (edit.NeedsReception other)) n m e h at = absurd h
-on_role profile texts protocol role name modules a (Refused edit.OutOfMemory) n m e h at = absurd h
+on_role profile texts protocol role name modules a _ n m e (role_projects l is p) at = does name modules a l n m e is p
+on_role profile texts protocol role name modules a _ n m e (role_undeclared none) at = undeclared name modules a n m e none
+on_role profile texts protocol role name modules a _ n m e (role_unmerged u is h) at = unmerged name modules a u n m e is h at
 
 pub ok_role : (profile : Profile) (texts : List (Option (List ℕ))) (protocol role : List ℕ) (name : FullName) (modules : List ModuleTree) (a : Agreement) (r : Result Projection ScriptFault)
     → IsFullName protocol name → AreAdded [] texts modules → Elaborates modules name.home name.protocol a → IfOk r (IsRoleProjection profile a role) → IfOk r (IsRefusalPlaced profile modules name.home name.protocol a.global) → IfOk r (IsProjection profile texts protocol role)
@@ -108,8 +95,8 @@ declared_later roles i name role h here other after =
     sym (ap (λ (b : Bool). b || has_role name (drop (i + 1) roles)) not_here) ∙ sym (at_drop_more (has_role name) roles i role h) ∙ after
 
 -- the rest of a list begins with the value at its place
-pub front_is : {A : Type 0} (xs : List (Option A)) (i : ℕ) (x : Option A) (a : A) → i < length xs → x ≡ get_or xs i x → x ≡ Some a → drop i xs ≡ Some a ∷ drop (i + 1) xs
-front_is xs i x a h e s = at_drop_more (λ l. l) xs i x h ∙ ap (λ y. y ∷ drop (i + 1) xs) (sym e ∙ s)
+pub front_is : {A : Type 0} (xs : List A) (i : ℕ) (x y : A) → i < length xs → x ≡ get_or xs i x → x ≡ y → drop i xs ≡ y ∷ drop (i + 1) xs
+front_is xs i x y h e s = at_drop_more (λ l. l) xs i x h ∙ ap (λ z. z ∷ drop (i + 1) xs) (sym e ∙ s)
 
 -- the two counts of a global type's nodes agree
 mutual

@@ -18,8 +18,8 @@ use Rattle.scrib_core.specs.declared.format.Format.{Format}
 use Rattle.scrib_script_reader.specs.declared.item.Item.{Item}
 use Rattle.scrib_script_reader.specs.declared.item.Item.TheVariants as item
 use Rattle.scrib_script_reader.specs.declared.script.Script.{Script}
-use Rattle.scrib_script_reader.specs.Scripts.{Spells, lines, steps_of, listed}
-use Rattle.scrib_script_reader.specs.Positions.{Holds, Takes, TakesFront, PassesLimits, EndsIn, Read}
+use Rattle.scrib_script_reader.specs.Scripts.{Spells, lines, steps_of, item_list}
+use Rattle.scrib_script_reader.specs.Positions.{Holds, TakesBytes, TakesFront, PassesLimits, EndSpells, HasConsumed}
 use Rattle.scrib_script_reader.specs.Limits.{of_scripts, IsPast}
 use Rattle.scrib_script_reader.proofs.PositionLemmas.{are_spelled}
 use Rattle.scrib_script_reader.proofs.ScriptLemmas.{read_none, read_more, read_all, read_first, read_past}
@@ -28,7 +28,7 @@ use Rattle.scrib_cli.specs.declared.output_mode.OutputMode.{OutputMode}
 use Rattle.scrib_cli.specs.declared.output_mode.OutputMode.TheVariants.{Printed, Silent}
 use Rattle.scrib_report.specs.ReplyTexts.{bad_line, end_of_text, reply_format, reply_text}
 use Rattle.scrib_cli.specs.Scripts.{written}
-use Rattle.scrib_cli.specs.Progress.{IsPartOutput, RunFailsOn, RunFails, HasProgressed, IsNew, Advances, PieceFails, PassesLimitIn, EndSucceeds, EndFails, ItemDoes, IsCarriedOut, IsPartCarriedOut, shown, items_shown, output_format, reply_shown, GoesOn}
+use Rattle.scrib_cli.specs.Progress.{IsPartOutput, RunFailsOn, RunFails, HasProgressed, IsNew, RunAdvances, PieceFails, PassesLimitIn, EndSucceeds, EndFails, ItemDoes, IsCarriedOut, IsPartCarriedOut, shown_bytes, items_shown, output_format, reply_shown, GoesOn}
 use Rattle.scrib_script_io.proofs.WriterLemmas.{appends_none, appends_more}
 
 -- any step may be refused memory
@@ -77,11 +77,11 @@ written_more o (item.EndOfText ∷ items) more rs qs w v a =
     let text = end_of_text o in
     ap (λ (u : List ℕ). text ++ u) (written_more o items more rs qs w v a) ∙ sym (append_assoc text (written o items rs) (written o more qs))
 
-shown_both : (t : OutputMode) (a b : List ℕ) → shown t (a ++ b) ≡ shown t a ++ shown t b
+shown_both : (t : OutputMode) (a b : List ℕ) → shown_bytes t (a ++ b) ≡ shown_bytes t a ++ shown_bytes t b
 shown_both (Printed o) a b = refl
 shown_both Silent a b = refl
 
-shown_none : (t : OutputMode) → [] ≡ shown t []
+shown_none : (t : OutputMode) → [] ≡ shown_bytes t []
 shown_none (Printed o) = refl
 shown_none Silent = refl
 
@@ -89,16 +89,16 @@ pub items_shown_more : (t : OutputMode) (items more : List Item) (rs qs : List R
     → items_shown t (items ++ more) (rs ++ qs) ≡ items_shown t items rs ++ items_shown t more qs
 items_shown_more t items more rs qs w v a =
     let o = output_format t in
-    ap (shown t) (written_more (output_format t) items more rs qs w v a) ∙ shown_both t (written o items rs) (written o more qs)
+    ap (shown_bytes t) (written_more (output_format t) items more rs qs w v a) ∙ shown_both t (written o items rs) (written o more qs)
 
 -- what is written for an item is what is written for the list of it
 does_shown : (t : OutputMode) (i : Item) (w v : State) (rs : List Reply) (out : List ℕ) → ItemDoes t i w rs v out → out ≡ items_shown t (i ∷ []) rs
 does_shown t (item.Step f s) w v rs out d =
     let text = reply_text (reply_format (output_format t) f) d.0 in
-    let one : items_shown t (item.Step f s ∷ []) (d.0 ∷ []) ≡ reply_shown t f d.0 = ap (shown t) (append-nil text) in
+    let one : items_shown t (item.Step f s ∷ []) (d.0 ∷ []) ≡ reply_shown t f d.0 = ap (shown_bytes t) (append-nil text) in
     d.4 ∙ sym one ∙ ap (items_shown t (item.Step f s ∷ [])) (sym d.1)
-does_shown t (item.BadLine n) w v rs out d = d.2 ∙ ap (shown t) (sym (append-nil (bad_line (output_format t) n)))
-does_shown t item.EndOfText w v rs out d = d.2 ∙ ap (shown t) (sym (append-nil (end_of_text (output_format t))))
+does_shown t (item.BadLine n) w v rs out d = d.2 ∙ ap (shown_bytes t) (sym (append-nil (bad_line (output_format t) n)))
+does_shown t item.EndOfText w v rs out d = d.2 ∙ ap (shown_bytes t) (sym (append-nil (end_of_text (output_format t))))
 
 does_answers : (t : OutputMode) (i : Item) (w v : State) (rs : List Reply) (out : List ℕ) → ItemDoes t i w rs v out → Answers w (steps_of (i ∷ [])) rs v
 does_answers t (item.Step f s) w v rs out d = subst (λ (qs : List Reply). Answers w (s ∷ []) qs v) (sym d.1) (v, d.2, refl)
@@ -129,7 +129,7 @@ written_further t items i w v replies rs x out answered on is d = record {
 
 -- the progress of a run, one item further
 progressed_item : (t : OutputMode) (old new : ScriptRun) (seen more : List ℕ) (i : Item) (w0 w w' : Option (List ℕ)) → (c : HasProgressed t old seen w0 w) → new.output_mode ≡ old.output_mode
-    → Read of_scripts new.script (seen ++ more) (c.items ++ i ∷ []) → IsCarriedOut t i (state_of old.core) (state_of new.core) w w' → HasProgressed t new (seen ++ more) w0 w'
+    → HasConsumed of_scripts new.script (seen ++ more) (c.items ++ i ∷ []) → IsCarriedOut t i (state_of old.core) (state_of new.core) w w' → HasProgressed t new (seen ++ more) w0 w'
 progressed_item t old new seen more i w0 w w' c output_mode read it =
     let x = items_shown t c.items c.replies in
     let further = written_further t c.items i (state_of old.core) (state_of new.core) c.replies it.0 x it.1 c.answered c.goes_on refl it.2 in
@@ -217,7 +217,7 @@ is_new t run output_mode holds no_lines no_bytes limits no_state = record {
 pub record ConsumedFront (old new : ScriptRun) (piece rest : List ℕ) (was now : Option (List ℕ)) : Type 0 where
   pub done : List ℕ
   pub is : piece ≡ done ++ rest
-  pub went : Advances old new done was now
+  pub went : RunAdvances old new done was now
 
 pub took_none : (run : ScriptRun) (piece : List ℕ) (w : Option (List ℕ)) → ConsumedFront run run piece piece w w
 took_none run piece w = record {
@@ -233,9 +233,9 @@ WasCarriedOut t (Some i) w v was now = IsCarriedOut t i w v was now
 
 -- nothing, or one item more
 progressed_listed : (t : OutputMode) (old new : ScriptRun) (seen front : List ℕ) (o : Option Item) (w0 w w' : Option (List ℕ)) → HasProgressed t old seen w0 w → new.output_mode ≡ old.output_mode
-    → Takes old.script new.script front (listed o) → WasCarriedOut t o (state_of old.core) (state_of new.core) w w' → HasProgressed t new (seen ++ front) w0 w'
+    → TakesBytes old.script new.script front (item_list o) → WasCarriedOut t o (state_of old.core) (state_of new.core) w w' → HasProgressed t new (seen ++ front) w0 w'
 progressed_listed t old new seen front None w0 w w' c output_mode takes carried =
-    let read = subst (λ (items : List Item). Read of_scripts new.script (seen ++ front) items) (append-nil c.items) (read_more of_scripts old.script new.script seen front c.items [] c.read takes) in
+    let read = subst (λ (items : List Item). HasConsumed of_scripts new.script (seen ++ front) items) (append-nil c.items) (read_more of_scripts old.script new.script seen front c.items [] c.read takes) in
     record {
       output_mode = output_mode ∙ c.output_mode;
       items = c.items;
@@ -249,7 +249,7 @@ progressed_listed t old new seen front (Some i) w0 w w' c output_mode takes carr
     progressed_item t old new seen front i w0 w w' c output_mode (read_more of_scripts old.script new.script seen front c.items (i ∷ []) c.read takes) carried
 
 pub took_item : (old mid new : ScriptRun) (piece rest after : List ℕ) (o : Option Item) (w0 w1 w2 : Option (List ℕ)) → ConsumedFront old mid piece rest w0 w1 → new.output_mode ≡ mid.output_mode
-    → TakesFront mid.script new.script rest after (listed o) → WasCarriedOut mid.output_mode o (state_of mid.core) (state_of new.core) w1 w2 → ConsumedFront old new piece after w0 w2
+    → TakesFront mid.script new.script rest after (item_list o) → WasCarriedOut mid.output_mode o (state_of mid.core) (state_of new.core) w1 w2 → ConsumedFront old new piece after w0 w2
 took_item old mid new piece rest after o w0 w1 w2 k output_mode takes carried =
     let front = takes.0 in
     record {
@@ -267,11 +267,11 @@ no_items : (xs : List ℕ) → length xs ≡ 0 → xs ≡ []
 no_items [] e = refl
 no_items (x ∷ xs) e = absurd (omega arith)
 
-pub took_all : (old new : ScriptRun) (piece rest : List ℕ) (w0 w : Option (List ℕ)) → ConsumedFront old new piece rest w0 w → true ≡ eqb (length rest) 0 → Advances old new piece w0 w
+pub took_all : (old new : ScriptRun) (piece rest : List ℕ) (w0 w : Option (List ℕ)) → ConsumedFront old new piece rest w0 w → true ≡ eqb (length rest) 0 → RunAdvances old new piece w0 w
 took_all old new piece rest w0 w k e =
     let none = no_items rest (eqb-true (length rest) 0 (sym e)) in
     let all : piece ≡ k.done = k.is ∙ ap (λ (u : List ℕ). k.done ++ u) none ∙ append-nil k.done in
-    subst (λ (u : List ℕ). Advances old new u w0 w) (sym all) k.went
+    subst (λ (u : List ℕ). RunAdvances old new u w0 w) (sym all) k.went
 
 -- the consumed bytes and those that follow
 ahead : (seen done rest more : List ℕ) (piece : List ℕ) → piece ≡ done ++ rest → (seen ++ done) ++ (rest ++ more) ≡ seen ++ (piece ++ more)
@@ -332,10 +332,10 @@ stopped_past old mid piece rest w0 w k passes = record {
 }
 
 -- the end of the script spells no item
-pub ended_none : (run : ScriptRun) (o : Option Item) (w : Option (List ℕ)) → o ≡ None → EndsIn run.script (listed o) → EndSucceeds run (state_of run.core) w w
+pub ended_none : (run : ScriptRun) (o : Option Item) (w : Option (List ℕ)) → o ≡ None → EndSpells run.script (item_list o) → EndSucceeds run (state_of run.core) w w
 ended_none run o w none ends = record {
   so = λ t seen w0 c.
-      let all = read_all of_scripts run.script seen c.items [] c.read (subst (λ (x : Option Item). EndsIn run.script (listed x)) none ends) in (
+      let all = read_all of_scripts run.script seen c.items [] c.read (subst (λ (x : Option Item). EndSpells run.script (item_list x)) none ends) in (
         items_shown t c.items c.replies,
         record {
           items = c.items;
@@ -351,7 +351,7 @@ ended_none run o w none ends = record {
 }
 
 -- the end of the script spells an item, which was written
-pub ended_item : (run : ScriptRun) (i : Item) (v : State) (w w' : Option (List ℕ)) → EndsIn run.script (i ∷ []) → IsCarriedOut run.output_mode i (state_of run.core) v w w' → EndSucceeds run v w w'
+pub ended_item : (run : ScriptRun) (i : Item) (v : State) (w w' : Option (List ℕ)) → EndSpells run.script (i ∷ []) → IsCarriedOut run.output_mode i (state_of run.core) v w w' → EndSucceeds run v w w'
 ended_item run i v w w' ends it = record {
   so = λ t seen w0 c.
       let here = subst (λ (m : OutputMode). IsCarriedOut m i (state_of run.core) v w w') c.output_mode it in
@@ -372,7 +372,7 @@ ended_item run i v w w' ends it = record {
 }
 
 -- the end of the script spells an item, which failed
-pub failed_last : (run : ScriptRun) (i : Item) (w w' : Option (List ℕ)) → EndsIn run.script (i ∷ []) → IsPartCarriedOut run.output_mode i (state_of run.core) w w' → EndFails run w w'
+pub failed_last : (run : ScriptRun) (i : Item) (w w' : Option (List ℕ)) → EndSpells run.script (i ∷ []) → IsPartCarriedOut run.output_mode i (state_of run.core) w w' → EndFails run w w'
 failed_last run i w w' ends part = record {
   so = λ t seen w0 c.
       let here = subst (λ (m : OutputMode). IsPartCarriedOut m i (state_of run.core) w w') c.output_mode part in

@@ -5,7 +5,7 @@ use Rattle.scrib_core.specs.declared.step.Step.TheVariants.{Put}
 use Rattle.scrib_core.specs.declared.reply.Reply.{Reply}
 use Rattle.scrib_core.specs.declared.reply.Reply.TheVariants.{Edited, Profiled, Opened, Noted, Judged, Refused}
 use Rattle.scrib_core.specs.Answers.{State, IsAnswered}
-use Rattle.scrib_report.specs.ReplyTexts.{reply_line}
+use Rattle.scrib_report.specs.LineOutput.{reply_line}
 use Rattle.scrib_script_io.specs.Writes.{AppendsPart}
 
 -- whether the reply accepts an edit

@@ -1,17 +1,16 @@
 -- What the commands do with their files, and the exit status (this project's own). `text` maps a path to the contents
 -- of its file, where they are known.
-use Rattle.std.specs.Prelude.{◌≡◌, ◌⊎◌, ⊤, ℕ, Bool, true, false, ◌&&◌, List, [], ◌∷◌, take, Option, Some, None, Result, Ok, Err, IfSome, codes}
+use Rattle.std.specs.Prelude.{◌≡◌, ◌⊎◌, ℕ, Bool, true, false, ◌&&◌, List, [], ◌∷◌, take, Option, Some, None, Result, Ok, Err, IfSome, codes}
 use Rattle.std.specs.Borrow.{Bor}
 use Rattle.std.specs.Io.KnownBytes.{Appends}
-use Rattle.scrib_types.specs.declared.profile.Profile.{Profile}
 use Rattle.scrib_core.specs.declared.format.Format.{Format}
 use Rattle.scrib_core.specs.Answers.{State}
 use Rattle.scrib_cli.specs.Checks.{IsChecked, IsPartChecked}
 use Rattle.scrib_cli.specs.Explanations.{IsExplanation}
-use Rattle.scrib_cli.specs.Projections.{IsAnswer}
+use Rattle.scrib_cli.specs.Projections.{IsQueryOutput}
 use Rattle.scrib_script_io.specs.Writes.{AppendsPart}
 use Rattle.scrib_cli.specs.Scripts.{IsOutput}
-use Rattle.scrib_cli.specs.declared.form.Form.{Form}
+use Rattle.scrib_cli.specs.declared.role_query.RoleQuery.{RoleQuery}
 use Rattle.scrib_cli.specs.declared.explanation.Explained.{Explained}
 use Rattle.scrib_cli.specs.declared.explanation.Explained.TheVariants.{Flights, Refused}
 use Rattle.scrib_script_io.specs.declared.fault.ScriptFault.{ScriptFault}
@@ -40,29 +39,29 @@ ArePartChecked text (p ∷ ps) w was now =
     × ArePartChecked text ps v mid now)
 
 -- the first 1,048,577 bytes of each of these files, up to the first that can't be opened or read, which is `None`
-abbrev pub AreRead : (text : List ℕ → Option (List ℕ)) → (paths : List (Bor (List ℕ)))
-    → List (Option (List ℕ)) → Type 0
-AreRead text [] [] = ⊤
-AreRead text [] (t ∷ ts) = ⊥
-AreRead text (p ∷ ps) [] = ⊥
-AreRead text (p ∷ ps) (None ∷ ts) = ts ≡ []
-AreRead text (p ∷ ps) (Some t ∷ ts) = IfSome (text p.now) (λ input. t ≡ take 1_048_577 input) × AreRead text ps ts
+pub data AreRead (text : List ℕ → Option (List ℕ)) : (paths : List (Bor (List ℕ)))
+    → List (Option (List ℕ)) → Type 0 where
+  reads_none : AreRead text [] []
+  reads_no_more : (p : Bor (List ℕ)) (ps : List (Bor (List ℕ))) → AreRead text (p ∷ ps) (None ∷ [])
+  reads_next : (p : Bor (List ℕ)) (ps : List (Bor (List ℕ))) (t : List ℕ) (ts : List (Option (List ℕ)))
+      → IfSome (text p.now) (λ input. t ≡ take 1_048_577 input) → AreRead text ps ts
+      → AreRead text (p ∷ ps) (Some t ∷ ts)
 
--- the output of `project` or `machine` over the module texts of these files was written
-abbrev pub IsAnswered : Form → Profile → (text : List ℕ → Option (List ℕ)) → (paths : List (Bor (List ℕ)))
-    → (protocol role : List ℕ) → Bool → (was now : Option (List ℕ)) → Type 0
-IsAnswered form profile text paths protocol role has_projection was now =
+-- the output for the query over the module texts of these files was written
+abbrev pub IsQueryWritten : RoleQuery → (text : List ℕ → Option (List ℕ)) → (paths : List (Bor (List ℕ)))
+    → Bool → (was now : Option (List ℕ)) → Type 0
+IsQueryWritten q text paths has_projection was now =
     (texts : List (Option (List ℕ))) × AreRead text paths texts
-    × ((written : List ℕ) × IsAnswer form profile texts protocol role has_projection written × Appends was now written)
+    × ((written : List ℕ) × IsQueryOutput q texts has_projection written × Appends was now written)
 
 -- nothing or a prefix of that output was written
-abbrev pub IsPartAnswered : Form → Profile → (text : List ℕ → Option (List ℕ)) → (paths : List (Bor (List ℕ)))
-    → (protocol role : List ℕ) → (was now : Option (List ℕ)) → Type 0
-IsPartAnswered form profile text paths protocol role was now =
+abbrev pub IsQueryPartWritten : RoleQuery → (text : List ℕ → Option (List ℕ)) → (paths : List (Bor (List ℕ)))
+    → (was now : Option (List ℕ)) → Type 0
+IsQueryPartWritten q text paths was now =
     Appends was now []
     ⊎ ((texts : List (Option (List ℕ))) × AreRead text paths texts
     × ((has_projection : Bool) × (written : List ℕ)
-    × IsAnswer form profile texts protocol role has_projection written × AppendsPart was now written))
+    × IsQueryOutput q texts has_projection written × AppendsPart was now written))
 
 -- the script, where it is known: the file of this path, or the input where no path is given
 abbrev pub source : (text : List ℕ → Option (List ℕ)) → (path : Option (List ℕ)) → (input : Option (List ℕ))
@@ -107,8 +106,8 @@ status_of (Ok false) = 1
 status_of (Err f) = 1
 
 -- the fixed line that standard error gets for a fault
-abbrev pub fault_text : ScriptFault → List ℕ
-fault_text fault.Read = codes "scribmon: read fault"
-fault_text fault.Write = codes "scribmon: write fault"
-fault_text fault.Settle = codes "scribmon: settle fault"
-fault_text fault.OutOfMemory = codes "scribmon: out of memory"
+abbrev pub fault_line : ScriptFault → List ℕ
+fault_line fault.Read = codes "scribmon: read fault"
+fault_line fault.Write = codes "scribmon: write fault"
+fault_line fault.Settle = codes "scribmon: settle fault"
+fault_line fault.OutOfMemory = codes "scribmon: out of memory"

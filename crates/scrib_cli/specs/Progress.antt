@@ -5,7 +5,6 @@ use Rattle.std.specs.Io.KnownBytes.{Appends}
 use Rattle.scrib_core.specs.declared.reply.Reply.{Reply}
 use Rattle.scrib_core.specs.declared.reply.Reply.TheVariants.{Refused}
 use Rattle.scrib_core.specs.declared.reply.Refusal.TheVariants.{OutOfMemory}
-use Rattle.scrib_core.specs.declared.step.Step.{Step}
 use Rattle.scrib_core.specs.Answers.{State, initial, IsAnswered, Answers}
 use Rattle.scrib_core.specs.Held.{state_of}
 use Rattle.scrib_core.specs.declared.format.Format.{Format}
@@ -13,19 +12,20 @@ use Rattle.scrib_core.specs.declared.format.Format.TheVariants as format
 use Rattle.scrib_script_reader.specs.declared.item.Item.{Item}
 use Rattle.scrib_script_reader.specs.declared.item.Item.TheVariants as item
 use Rattle.scrib_script_reader.specs.Scripts.{Spells, lines, steps_of}
-use Rattle.scrib_script_reader.specs.Limits.{of_scripts, IsWithin, IsPast}
-use Rattle.scrib_script_reader.specs.Positions.{Read}
+use Rattle.scrib_script_reader.specs.Limits.{of_scripts, IsWithinLimits, IsPast}
+use Rattle.scrib_script_reader.specs.Positions.{HasConsumed}
 use Rattle.scrib_cli.specs.declared.run.ScriptRun.{ScriptRun}
 use Rattle.scrib_cli.specs.declared.output_mode.OutputMode.{OutputMode}
 use Rattle.scrib_cli.specs.declared.output_mode.OutputMode.TheVariants.{Printed, Silent}
-use Rattle.scrib_report.specs.ReplyTexts.{bad_line, end_of_text, reply_format, reply_text}
+use Rattle.scrib_report.specs.Parts.{Part, bad_part, end_part}
+use Rattle.scrib_report.specs.ReplyTexts.{part_text, reply_format, reply_text}
 use Rattle.scrib_script_io.specs.Writes.{AppendsPart}
 use Rattle.scrib_cli.specs.Scripts.{written}
 
 -- the bytes that are written for these: in silent mode none
-abbrev pub shown : OutputMode → List ℕ → List ℕ
-shown (Printed o) bytes = bytes
-shown Silent bytes = []
+abbrev pub shown_bytes : OutputMode → List ℕ → List ℕ
+shown_bytes (Printed o) bytes = bytes
+shown_bytes Silent bytes = []
 
 -- the format of the output; in silent mode it does not matter
 abbrev pub output_format : OutputMode → Format
@@ -34,19 +34,23 @@ output_format Silent = format.Line
 
 -- what is written for a reply whose line asks for this format
 abbrev pub reply_shown : OutputMode → Format → Reply → List ℕ
-reply_shown t f r = shown t (reply_text (reply_format (output_format t) f) r)
+reply_shown t f r = shown_bytes t (reply_text (reply_format (output_format t) f) r)
+
+-- what is written for a part in the format of the output
+abbrev pub part_shown : OutputMode → Part → List ℕ
+part_shown t p = shown_bytes t (part_text (output_format t) p)
 
 -- what is written for a bad line
 abbrev pub bad_line_shown : OutputMode → ℕ → List ℕ
-bad_line_shown t n = shown t (bad_line (output_format t) n)
+bad_line_shown t n = part_shown t (bad_part n)
 
 -- what is written for an end inside a module text
 abbrev pub end_shown : OutputMode → List ℕ
-end_shown t = shown t (end_of_text (output_format t))
+end_shown t = part_shown t end_part
 
 -- what is written for these items, whose steps have these replies
 abbrev pub items_shown : OutputMode → List Item → List Reply → List ℕ
-items_shown t items replies = shown t (written (output_format t) items replies)
+items_shown t items replies = shown_bytes t (written (output_format t) items replies)
 
 -- a run continues after this reply; in silent mode it does not where the step was refused memory
 abbrev pub GoesOn : OutputMode → Reply → Type 0
@@ -83,7 +87,7 @@ RunFailsOn t input was now = (part : List ℕ) × IsPartOutput t input part × A
 abbrev pub RunSucceeds : OutputMode → Option (List ℕ) → State → Option (List ℕ) → Option (List ℕ) → Type 0
 RunSucceeds t r after was now =
     IfSome r (λ input. (output : List ℕ)
-    × IsWholeOutput t input after output × Appends was now output × IsWithin of_scripts input)
+    × IsWholeOutput t input after output × Appends was now output × IsWithinLimits of_scripts input)
 
 -- a run of the script, where it is known, failed
 abbrev pub RunFails : OutputMode → Option (List ℕ) → Option (List ℕ) → Option (List ℕ) → Type 0
@@ -94,7 +98,7 @@ pub record HasProgressed (t : OutputMode) (run : ScriptRun) (seen : List ℕ) (w
   pub output_mode : run.output_mode ≡ t
   pub items : List Item
   pub replies : List Reply
-  pub read : Read of_scripts run.script seen items
+  pub read : HasConsumed of_scripts run.script seen items
   pub answered : Answers initial (steps_of items) replies (state_of run.core)
   pub goes_on : All (GoesOn t) replies
   pub appends : Appends was now (items_shown t items replies)
@@ -104,7 +108,7 @@ pub record IsNew (t : OutputMode) (run : ScriptRun) : Type 0 where
   pub progress : (w : Option (List ℕ)) → HasProgressed t run [] w w
 
 -- the run consumed the bytes, and wrote the output of their items
-pub record Advances (old new : ScriptRun) (bytes : List ℕ) (was now : Option (List ℕ)) : Type 0 where
+pub record RunAdvances (old new : ScriptRun) (bytes : List ℕ) (was now : Option (List ℕ)) : Type 0 where
   pub goes : (t : OutputMode) (seen : List ℕ) (w : Option (List ℕ)) → HasProgressed t old seen w was
       → HasProgressed t new (seen ++ bytes) w now
 
@@ -124,7 +128,7 @@ pub record PassesLimitIn (old : ScriptRun) (bytes : List ℕ) (was now : Option 
 -- the run wrote all of its output, the script is within the limits, and this is the state after it
 pub record EndSucceeds (old : ScriptRun) (after : State) (was now : Option (List ℕ)) : Type 0 where
   pub so : (t : OutputMode) (seen : List ℕ) (w : Option (List ℕ)) → HasProgressed t old seen w was
-      → (output : List ℕ) × IsWholeOutput t seen after output × Appends w now output × IsWithin of_scripts seen
+      → (output : List ℕ) × IsWholeOutput t seen after output × Appends w now output × IsWithinLimits of_scripts seen
 
 -- the run failed at its end
 pub record EndFails (old : ScriptRun) (was now : Option (List ℕ)) : Type 0 where
@@ -149,15 +153,10 @@ IsPartCarriedOut t i w was now =
     Appends was now []
     ⊎ ((replies : List Reply) × (v : State) × (out : List ℕ) × ItemDoes t i w replies v out × AppendsPart was now out)
 
--- the step was made, and its reply to a line that asks for this format was written
-abbrev pub StepSucceeds : OutputMode → Format → State → Step → State → Option (List ℕ) → Option (List ℕ) → Type 0
-StepSucceeds t f w s v was now = (r : Reply) × IsAnswered w s r v × GoesOn t r × Appends was now (reply_shown t f r)
+-- the reply to a step was written, where its line asks for this format, and the run continues
+abbrev pub IsReplyShown : OutputMode → Format → Reply → (was now : Option (List ℕ)) → Type 0
+IsReplyShown t f r was now = GoesOn t r × Appends was now (reply_shown t f r)
 
--- the step was made, and a prefix of its reply was written
-abbrev pub StepPartWritten : OutputMode → Format → State → Step → State → Option (List ℕ) → Option (List ℕ) → Type 0
-StepPartWritten t f w s v was now =
-    (r : Reply) × IsAnswered w s r v × GoesOn t r × AppendsPart was now (reply_shown t f r)
-
--- the step failed: nothing or a prefix of its reply was written
-abbrev pub StepFails : OutputMode → Format → State → Step → State → Option (List ℕ) → Option (List ℕ) → Type 0
-StepFails t f w s v was now = Appends was now [] ⊎ StepPartWritten t f w s v was now
+-- writing the reply failed: nothing was written, or a prefix of it and the run continues
+abbrev pub IsReplyPartShown : OutputMode → Format → Reply → (was now : Option (List ℕ)) → Type 0
+IsReplyPartShown t f r was now = Appends was now [] ⊎ (GoesOn t r × AppendsPart was now (reply_shown t f r))

@@ -3,12 +3,14 @@
 use Rattle.std.specs.Prelude.{◌≡◌, ◌⊎◌, ⊤, ℕ, true, false, List, Option, Some, None}
 use Rattle.scrib_types.specs.Agreement.{Agreement}
 use Rattle.scrib_types.specs.LocalView.{local_of}
+use Rattle.scrib_types.specs.declared.local.Local.{Local}
 use Rattle.scrib_types.specs.Trees.{GlobalTree}
 use Rattle.scrib_types.specs.declared.profile.Profile.{Profile}
 use Rattle.scrib_types.specs.Projection.{projection}
 use Rattle.scrib_types.specs.WellFormed.{has_role}
 use Rattle.scrib_machine.specs.Compilable.{IsCompilable}
 use Rattle.scrib_parser.specs.declared.tree.ModuleTree.{ModuleTree}
+use Rattle.scrib_project.specs.declared.fault.Unmergeable.{Unmergeable}
 use Rattle.scrib_project.specs.Faults.{IsUnmergeable, IsPlaced}
 use Rattle.scrib_library.specs.declared.fault.EditFault.{EditFault}
 use Rattle.scrib_library.specs.declared.fault.EditFault.TheVariants as edit
@@ -38,40 +40,26 @@ AreAddedOrFail before texts after (Some f) = FailsAmong texts f
 -- the first text that is no module can't be read, or memory was refused
 abbrev pub StopsAmong : List (Option (List ℕ)) → ScriptFault → Type 0
 StopsAmong texts fault.Read = StopsUnread texts
-StopsAmong texts fault.Write = ⊥
-StopsAmong texts fault.Settle = ⊥
 StopsAmong texts fault.OutOfMemory = ⊤
+StopsAmong texts _ = ⊥
 
 -- the protocol has a full name and the first text that is no module can't be read, or memory was refused
 abbrev pub StopsReading : (texts : List (Option (List ℕ))) (protocol : List ℕ) → ScriptFault → Type 0
 StopsReading texts protocol fault.Read = ((name : FullName) × IsFullName protocol name) × StopsUnread texts
-StopsReading texts protocol fault.Write = ⊥
-StopsReading texts protocol fault.Settle = ⊥
 StopsReading texts protocol fault.OutOfMemory = ⊤
+StopsReading texts protocol _ = ⊥
 
 -- the name is one of the roles
 abbrev pub IsDeclared : List (List ℕ) → (name role : List ℕ) → Type 0
 IsDeclared roles name role = (role ≡ name) × (has_role name roles ≡ true)
 
 -- the projection on the role of a protocol with this meaning, under the profile
-abbrev pub IsRoleProjection : Profile → Agreement → List ℕ → Projection → Type 0
-IsRoleProjection profile a role (Projects l) =
-    (has_role role a.roles ≡ true) × (projection profile role a.global ≡ Some (local_of l))
-IsRoleProjection profile a role NoProtocol = ⊥
-IsRoleProjection profile a role NoRole = has_role role a.roles ≡ false
-IsRoleProjection profile a role (Refused (edit.Project u)) =
-    (has_role role a.roles ≡ true) × IsUnmergeable profile a.global role u
-IsRoleProjection profile a role (Refused edit.UnknownModule) = ⊥
-IsRoleProjection profile a role (Refused edit.TooManyModules) = ⊥
-IsRoleProjection profile a role (Refused (edit.StillImported name)) = ⊥
-IsRoleProjection profile a role (Refused edit.VersionsFull) = ⊥
-IsRoleProjection profile a role (Refused (edit.ImportMissing name)) = ⊥
-IsRoleProjection profile a role (Refused edit.TooManyProtocols) = ⊥
-IsRoleProjection profile a role (Refused (edit.Elaborate f)) = ⊥
-IsRoleProjection profile a role (Refused (edit.Lex f)) = ⊥
-IsRoleProjection profile a role (Refused (edit.Parse f)) = ⊥
-IsRoleProjection profile a role (Refused (edit.NeedsReception name)) = ⊥
-IsRoleProjection profile a role (Refused edit.OutOfMemory) = ⊥
+pub data IsRoleProjection (profile : Profile) (a : Agreement) (role : List ℕ) : Projection → Type 0 where
+  role_projects : (l : Local) → has_role role a.roles ≡ true → projection profile role a.global ≡ Some (local_of l)
+      → IsRoleProjection profile a role (Projects l)
+  role_undeclared : has_role role a.roles ≡ false → IsRoleProjection profile a role NoRole
+  role_unmerged : (u : Unmergeable) → has_role role a.roles ≡ true → IsUnmergeable profile a.global role u
+      → IsRoleProjection profile a role (Refused (edit.Project u))
 
 -- where the protocol, in the module `home`, has no projection, the refusal's place is that of a choice without one
 abbrev pub IsRefusalPlaced : Profile → List ModuleTree → (home : List (List ℕ)) (name : List ℕ) → GlobalTree

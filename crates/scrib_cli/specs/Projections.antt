@@ -1,5 +1,5 @@
 -- The output of `project` and `machine` (this project's own).
-use Rattle.std.specs.Prelude.{◌≡◌, ◌⊎◌, ⊤, ℕ, ◌<◌, Bool, true, false, List, [], ◌∷◌, ◌++◌, length, Option, Some, None, codes}
+use Rattle.std.specs.Prelude.{◌≡◌, ⊤, ℕ, ◌<◌, Bool, true, false, List, [], ◌∷◌, ◌++◌, length, Option, Some, None, codes}
 use Rattle.scrib_types.specs.Agreement.{Agreement}
 use Rattle.scrib_types.specs.LocalView.{local_of}
 use Rattle.scrib_types.specs.declared.profile.Profile.{Profile}
@@ -7,8 +7,10 @@ use Rattle.scrib_types.specs.Projection.{projection}
 use Rattle.scrib_types.specs.WellFormed.{has_role}
 use Rattle.scrib_types.specs.Trees.{LocalTree}
 use Rattle.scrib_types.specs.declared.local.Local.{Local}
+use Rattle.scrib_lexer.specs.declared.fault.LexFault.{LexFault}
 use Rattle.scrib_lexer.specs.Lexeme.{Lexeme}
 use Rattle.scrib_lexer.specs.Tokens.{IsTokens}
+use Rattle.scrib_parser.specs.declared.fault.ParseFault.{ParseFault}
 use Rattle.scrib_parser.specs.declared.tree.ModuleTree.{ModuleTree}
 use Rattle.scrib_static_checks.specs.declared.fault.Fault.{Fault}
 use Rattle.scrib_static_checks.specs.Names.{with_module}
@@ -18,7 +20,7 @@ use Rattle.scrib_project.specs.declared.fault.Unmergeable.{Unmergeable}
 use Rattle.scrib_project.specs.Faults.{IsUnmergeable, IsPlaced}
 use Rattle.scrib_projection.specs.Text.{local_text}
 use Rattle.scrib_machine.specs.declared.machine.Edge.{Edge}
-use Rattle.scrib_machine.specs.Machines.{IsMachine, IsSystemOf, Follows}
+use Rattle.scrib_machine.specs.Machines.{IsMachine, IsSystemOf, HasTracesOf}
 use Rattle.scrib_machine.specs.Graph.{graph_text}
 use Rattle.scrib_library.specs.declared.fault.EditFault.{EditFault}
 use Rattle.scrib_library.specs.declared.fault.EditFault.TheVariants as edit
@@ -26,7 +28,7 @@ use Rattle.scrib_library.specs.Edits.{Reads, ReportsLex, ReportsParse}
 use Rattle.scrib_core.specs.declared.reply.Reply.TheVariants as reply
 use Rattle.scrib_core.specs.declared.reply.Refusal.TheVariants as refusal
 use Rattle.scrib_script_reader.specs.Fields.{IsDottedText}
-use Rattle.scrib_report.specs.ReplyTexts.{reply_line}
+use Rattle.scrib_report.specs.LineOutput.{reply_line}
 use Rattle.scrib_cli.specs.Explanations.{refusal_line}
 use Rattle.scrib_script_io.specs.declared.fault.ScriptFault.{ScriptFault}
 use Rattle.scrib_script_io.specs.declared.fault.ScriptFault.TheVariants as fault
@@ -35,48 +37,40 @@ use Rattle.scrib_cli.specs.declared.form.Form.TheVariants.{Text, Graph}
 use Rattle.scrib_cli.specs.declared.full_name.FullName.{FullName}
 use Rattle.scrib_cli.specs.declared.projection.Projection.{Projection}
 use Rattle.scrib_cli.specs.declared.projection.Projection.TheVariants.{Projects, NoProtocol, NoRole, Refused}
+use Rattle.scrib_cli.specs.declared.role_query.RoleQuery.{RoleQuery}
 
 -- the bytes are two or more names joined by dots, and the last is the protocol's
 abbrev pub IsFullName : List ℕ → FullName → Type 0
 IsFullName bytes name = IsDottedText bytes (name.home ++ name.protocol ∷ []) × (0 < length name.home)
 
 -- The texts are modules, and each replaces the one of its name or is added last. An unreadable text is no module.
-abbrev pub AreAdded : (before : List ModuleTree) → List (Option (List ℕ)) → (after : List ModuleTree) → Type 0
-AreAdded before [] after = after ≡ before
-AreAdded before (None ∷ ts) after = ⊥
-AreAdded before (Some t ∷ ts) after = (m : ModuleTree) × Reads t m × AreAdded (with_module m before) ts after
+pub data AreAdded : (before : List ModuleTree) → List (Option (List ℕ)) → (after : List ModuleTree) → Type 0 where
+  adds_none : (ms : List ModuleTree) → AreAdded ms [] ms
+  adds_next : (before after : List ModuleTree) (t : List ℕ) (ts : List (Option (List ℕ))) (m : ModuleTree)
+      → Reads t m → AreAdded (with_module m before) ts after → AreAdded before (Some t ∷ ts) after
 
 -- the text is no module, for this reason
-abbrev pub IsNoModule : List ℕ → EditFault → Type 0
-IsNoModule t (edit.Lex f) = ReportsLex t f
-IsNoModule t (edit.Parse f) = (ts : List Lexeme) × IsTokens t ts × ReportsParse ts f
-IsNoModule t edit.UnknownModule = ⊥
-IsNoModule t edit.TooManyModules = ⊥
-IsNoModule t (edit.StillImported name) = ⊥
-IsNoModule t edit.VersionsFull = ⊥
-IsNoModule t (edit.ImportMissing name) = ⊥
-IsNoModule t edit.TooManyProtocols = ⊥
-IsNoModule t (edit.Elaborate f) = ⊥
-IsNoModule t (edit.Project u) = ⊥
-IsNoModule t (edit.NeedsReception name) = ⊥
-IsNoModule t edit.OutOfMemory = ⊥
+pub data IsNoModule (t : List ℕ) : EditFault → Type 0 where
+  has_no_tokens : (f : LexFault) → ReportsLex t f → IsNoModule t (edit.Lex f)
+  has_no_tree : (ts : List Lexeme) (f : ParseFault) → IsTokens t ts → ReportsParse ts f → IsNoModule t (edit.Parse f)
 
 -- the first text that is no module has this fault, and the texts before it are modules
-abbrev pub FailsAmong : List (Option (List ℕ)) → EditFault → Type 0
-FailsAmong [] f = ⊥
-FailsAmong (None ∷ ts) f = ⊥
-FailsAmong (Some t ∷ ts) f = IsNoModule t f ⊎ ((m : ModuleTree) × Reads t m × FailsAmong ts f)
+pub data FailsAmong : List (Option (List ℕ)) → EditFault → Type 0 where
+  fails_first : (t : List ℕ) (ts : List (Option (List ℕ))) (f : EditFault) → IsNoModule t f → FailsAmong (Some t ∷ ts) f
+  fails_later : (t : List ℕ) (ts : List (Option (List ℕ))) (f : EditFault) (m : ModuleTree)
+      → Reads t m → FailsAmong ts f → FailsAmong (Some t ∷ ts) f
 
 -- the first text that is no module can't be read, and the texts before it are modules
-abbrev pub StopsUnread : List (Option (List ℕ)) → Type 0
-StopsUnread [] = ⊥
-StopsUnread (None ∷ ts) = ⊤
-StopsUnread (Some t ∷ ts) = (m : ModuleTree) × Reads t m × StopsUnread ts
+pub data StopsUnread : List (Option (List ℕ)) → Type 0 where
+  stops_first : (ts : List (Option (List ℕ))) → StopsUnread (None ∷ ts)
+  stops_later : (t : List ℕ) (ts : List (Option (List ℕ))) (m : ModuleTree)
+      → Reads t m → StopsUnread ts → StopsUnread (Some t ∷ ts)
 
 -- The projection of a protocol of module texts on a role under a profile, or the first refusal. The refusals: the name
 -- is no full name; a text is no module; the protocol has no meaning; it does not declare the role; it has no projection
 -- on the role. The place of the last is that of a choice whose branches do not merge for the role.
-pub data IsProjection (profile : Profile) (texts : List (Option (List ℕ))) (protocol role : List ℕ) : Projection → Type 0 where
+pub data IsProjection (profile : Profile) (texts : List (Option (List ℕ))) (protocol role : List ℕ)
+    : Projection → Type 0 where
   unnamed : ((name : FullName) → IsFullName protocol name → ⊥) → IsProjection profile texts protocol role NoProtocol
   unread : (name : FullName) (f : EditFault) → IsFullName protocol name → FailsAmong texts f
       → IsProjection profile texts protocol role (Refused f)
@@ -100,11 +94,11 @@ pub data IsProjection (profile : Profile) (texts : List (Option (List ℕ))) (pr
       → IsProjection profile texts protocol role (Projects l)
 
 -- whether the result is a projection
-abbrev pub projects : Projection → Bool
-projects (Projects l) = true
-projects NoProtocol = false
-projects NoRole = false
-projects (Refused f) = false
+abbrev pub is_projection : Projection → Bool
+is_projection (Projects l) = true
+is_projection NoProtocol = false
+is_projection NoRole = false
+is_projection (Refused f) = false
 
 -- The text is the graph of a machine. The machine is the transition system of the local type, and its paths from the
 -- start are the type's traces.
@@ -112,7 +106,7 @@ pub record IsGraphOf (l : LocalTree) (text : List ℕ) : Type 0 where
   pub rows : List (List Edge)
   pub machine : IsMachine rows
   pub system : IsSystemOf l rows
-  pub follows : Follows l rows
+  pub follows : HasTracesOf l rows
   pub written : text ≡ graph_text rows
 
 -- the text of a local type in this form: the type in a line, or the graph of its machine
@@ -127,19 +121,16 @@ IsTextOf form NoProtocol text = text ≡ refusal_line (codes "NoProtocol")
 IsTextOf form NoRole text = text ≡ refusal_line (codes "NoRole")
 IsTextOf form (Refused f) text = text ≡ reply_line (reply.Refused (refusal.Edit f))
 
--- the output of `project` or `machine` is this text, and the flag says whether it is a projection
-abbrev pub IsAnswer : Form → Profile → (texts : List (Option (List ℕ))) (protocol role : List ℕ)
-    → Bool → List ℕ → Type 0
-IsAnswer form profile texts protocol role has_projection text =
-    (p : Projection) × IsProjection profile texts protocol role p × (has_projection ≡ projects p) × IsTextOf form p text
+-- the output for the query is this text, and the flag says whether it is a projection
+abbrev pub IsQueryOutput : RoleQuery → (texts : List (Option (List ℕ))) → Bool → List ℕ → Type 0
+IsQueryOutput q texts has_projection text =
+    (p : Projection) × IsProjection q.profile texts q.protocol.now q.role.now p
+    × (has_projection ≡ is_projection p) × IsTextOf q.form p text
 
 -- What a fault implies for the input. After a read fault the protocol has a full name, and the first text that is no
 -- module can't be read. After a write fault there is a text to write. Memory may be refused at any input.
-abbrev pub FaultImplies : Form → Profile → (texts : List (Option (List ℕ))) (protocol role : List ℕ)
-    → ScriptFault → Type 0
-FaultImplies form profile texts protocol role fault.Read =
-    ((name : FullName) × IsFullName protocol name) × StopsUnread texts
-FaultImplies form profile texts protocol role fault.Write =
-    (has_projection : Bool) × (text : List ℕ) × IsAnswer form profile texts protocol role has_projection text
-FaultImplies form profile texts protocol role fault.Settle = ⊥
-FaultImplies form profile texts protocol role fault.OutOfMemory = ⊤
+abbrev pub FaultImplies : RoleQuery → (texts : List (Option (List ℕ))) → ScriptFault → Type 0
+FaultImplies q texts fault.Read = ((name : FullName) × IsFullName q.protocol.now name) × StopsUnread texts
+FaultImplies q texts fault.Write = (has_projection : Bool) × (text : List ℕ) × IsQueryOutput q texts has_projection text
+FaultImplies q texts fault.Settle = ⊥
+FaultImplies q texts fault.OutOfMemory = ⊤

@@ -5,15 +5,16 @@ ghost use Rattle.std.specs.Io.KnownBytes.{Appends};
 ghost use Rattle.scrib_core.specs.Held.{state_of};
 ghost use Rattle.scrib_cli.specs.Checks.{IsChecked, IsPartChecked, is_accepted};
 ghost use Rattle.scrib_script_io.specs.Faults.{of_output, of_script};
-ghost use Rattle.scrib_report.specs.ReplyTexts.{reply_line};
+ghost use Rattle.scrib_report.specs.LineOutput.{reply_line};
 ghost use Rattle.scrib_script_io.specs.Writes.{AppendsPart};
 
-use crate::printing::write_reply;
+use crate::printing::write_part;
 use crate::reading::read_text;
 use scrib_core::format::Format;
 pub use scrib_core::monitor::Core;
 use scrib_core::reply::Reply;
 use scrib_core::step::Step;
+use scrib_report::part::OutputPart;
 pub use scrib_script_io::fault::ScriptFault;
 use scrib_script_io::writing::flush_out;
 use std::alloc::Global;
@@ -60,7 +61,8 @@ fn write_put_reply<W: Write>(
     ensures fault { IfErr result (λ e. of_output e ≡ true) }
 {
     let mut buffer = Vec::new(alloc);
-    write_reply(&mut buffer, reply, Format::Line, writer)?;
+    let part = OutputPart::Reply(reply);
+    write_part(&mut buffer, &part, Format::Line, writer)?;
     flush_out(writer)?;
     Ok(is_accepted(reply))
 }

@@ -8,7 +8,7 @@ ghost use Rattle.scrib_script_io.specs.Faults.{of_script};
 ghost use Rattle.scrib_cli.specs.Explanations.{Explanation, IsExplanation};
 ghost use Rattle.scrib_cli.specs.Progress.{RunSucceeds};
 ghost use Rattle.scrib_cli.specs.declared.output_mode.OutputMode.TheVariants.{Silent};
-ghost use Rattle.scrib_script_reader.specs.Limits.{of_scripts, IsWithin};
+ghost use Rattle.scrib_script_reader.specs.Limits.{of_scripts, IsWithinLimits};
 ghost use Rattle.scrib_cli.specs.declared.explanation.Explained as declared;
 
 pub use crate::explanation::Explained;
@@ -47,7 +47,7 @@ pub fn explain_script<R: Read, W: Write>(
         ⊎ ((explained : declared.Explained) × (output : List ℕ) × IsExplanation input id explained output
         × AppendsPart (W.contents writer.old) (W.contents writer.new) output))) }
     ensures fault { IfErr result (λ e. of_script e ≡ true) }
-    ensures within { OnOk result (IfSome (R.remaining reader.old) (λ input. IsWithin of_scripts input)) }
+    ensures within { OnOk result (IfSome (R.remaining reader.old) (λ input. IsWithinLimits of_scripts input)) }
 {
     let (explained, text) = run_silently(alloc, reader, id, writer)?;
     write_out(writer, text.as_slice())?;

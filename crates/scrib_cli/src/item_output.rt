@@ -4,42 +4,41 @@ ghost use Rattle.std.specs.Prelude.{◌≡◌, ◌≢◌, true, IfErr, OnOk, OnE
 ghost use Rattle.scrib_core.specs.Held.{state_of};
 ghost use Rattle.scrib_core.specs.declared.reply.Reply.TheVariants.{Refused};
 ghost use Rattle.scrib_core.specs.declared.reply.Refusal.TheVariants.{OutOfMemory};
-ghost use Rattle.scrib_cli.specs.Progress.{StepSucceeds, StepFails, IsCarriedOut, IsPartCarriedOut};
+ghost use Rattle.scrib_cli.specs.Progress.{IsReplyShown, IsReplyPartShown, IsCarriedOut, IsPartCarriedOut};
 ghost use Rattle.scrib_script_io.specs.Faults.{of_output};
 
 use crate::output_mode::OutputMode;
-use crate::printing::{write_bad_line, write_end, write_reply};
+use crate::printing::{write_part, write_shown};
 use scrib_core::format::Format;
 use scrib_core::monitor::Core;
 use scrib_core::reply::{Refusal, Reply};
-use scrib_core::step::Step;
+use scrib_report::part::OutputPart;
 use scrib_report::printing::reply_format;
 use scrib_script_io::fault::ScriptFault;
 use scrib_script_reader::item::Item;
 use std::io::Write;
 
-// Makes the step. Writes its reply in the line's format, or in silent mode fails where memory is refused.
+// Writes the reply to a step whose line asks for this format. In silent mode fails where the step was refused memory.
 #[inline(always)]
-fn make_step<W: Write>(
+fn write_reply<W: Write>(
     buffer: &mut Vec<u8>,
-    core: &mut Core,
-    step: Step,
-    format: Format,
+    reply: &Reply,
+    asked: Format,
     output_mode: OutputMode,
     writer: &mut W,
 ) -> Result<(), ScriptFault>
-    ensures ok { OnOk result (StepSucceeds output_mode format
-        (state_of core.old) step (state_of core.new) (W.contents writer.old) (W.contents writer.new)) }
-    ensures err { OnErr result (StepFails output_mode format
-        (state_of core.old) step (state_of core.new) (W.contents writer.old) (W.contents writer.new)) }
+    ensures ok { OnOk result
+        (IsReplyShown output_mode asked reply.now (W.contents writer.old) (W.contents writer.new)) }
+    ensures err { OnErr result
+        (IsReplyPartShown output_mode asked reply.now (W.contents writer.old) (W.contents writer.new)) }
     ensures fault { IfErr result (λ e. of_output e ≡ true) }
 {
-    let reply = core.apply(step);
     match output_mode {
         OutputMode::Printed(output) => {
-            write_reply(buffer, &reply, reply_format(output, format), writer)
+            let format = reply_format(output, asked);
+            write_part(buffer, &OutputPart::Reply(reply), format, writer)
         }
-        OutputMode::Silent => check_memory(&reply),
+        OutputMode::Silent => check_memory(reply),
     }
 }
 
@@ -57,7 +56,7 @@ fn check_memory(reply: &Reply) -> Result<(), ScriptFault>
 
 /// Makes the item's step and writes its reply; or writes a bad line, or an end inside a module text.
 ///
-/// The text of a reply is made in `buffer`.
+/// The text is made in `buffer`.
 ///
 /// # Errors
 /// After an error, nothing or a prefix of the item's output is written.
@@ -78,8 +77,13 @@ pub fn write_item<W: Write>(
     ensures fault { IfErr result (λ e. of_output e ≡ true) }
 {
     match item {
-        Item::Step(format, step) => make_step(buffer, core, step, format, output_mode, writer),
-        Item::BadLine(number) => write_bad_line(*buffer.allocator(), number, output_mode, writer),
-        Item::EndOfText => write_end(output_mode, writer),
+        Item::Step(asked, step) => {
+            let reply = core.apply(step);
+            write_reply(buffer, &reply, asked, output_mode, writer)
+        }
+        Item::BadLine(number) => {
+            write_shown(buffer, &OutputPart::BadLine(number), output_mode, writer)
+        }
+        Item::EndOfText => write_shown(buffer, &OutputPart::EndOfText, output_mode, writer),
     }
 }

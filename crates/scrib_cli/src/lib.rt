@@ -1,7 +1,6 @@
 //! Runs scripts over one monitor, and the commands of the program.
 #![tactic(auto)]
 
-mod answer;
 pub mod check;
 pub mod commands;
 pub mod explain_script;
@@ -10,12 +9,11 @@ mod form;
 mod full_name;
 pub mod id;
 mod item_output;
-pub mod machine;
 mod modules;
 pub mod output_mode;
 pub mod printing;
-pub mod project;
 mod projection;
 pub mod reading;
+pub mod role_query;
 mod run;
 pub mod run_script;

@@ -4,7 +4,7 @@ ghost use Rattle.std.specs.Prelude.{◌≡◌, ◌≤◌, ℕ, false, List, IfOk
 ghost use Rattle.scrib_types.specs.WellFormed.{has_role};
 ghost use Rattle.scrib_parser.specs.declared.tree.ModuleTree.{ModuleTree};
 ghost use Rattle.scrib_static_checks.specs.Elaboration.{nodes};
-ghost use Rattle.scrib_elaborate.specs.Meaning.{meaning_of};
+ghost use Rattle.scrib_elaborate.specs.Meaning.{elaborated_meaning};
 ghost use Rattle.scrib_elaborate.specs.Sites.{AreSites};
 ghost use Rattle.scrib_script_io.specs.declared.fault.ScriptFault.TheVariants.{OutOfMemory};
 ghost use Rattle.scrib_cli.specs.Projections.{IsProjection};
@@ -78,11 +78,11 @@ fn projection_on(
     elaborated: &Elaborated,
     role: &str,
 ) -> Result<Projection, ScriptFault>
-    requires { nodes (meaning_of elaborated.now).global ≤ 65536 }
-    ensures ok { IfOk result (IsRoleProjection profile (meaning_of elaborated.now) role.now) }
+    requires { nodes (elaborated_meaning elaborated.now).global ≤ 65536 }
+    ensures ok { IfOk result (IsRoleProjection profile (elaborated_meaning elaborated.now) role.now) }
     ensures place { (modules : List ModuleTree) (home : List (List ℕ)) (name : List ℕ)
         → AreSites modules home name elaborated.now
-        → IfOk result (IsRefusalPlaced profile modules home name (meaning_of elaborated.now).global) }
+        → IfOk result (IsRefusalPlaced profile modules home name (elaborated_meaning elaborated.now).global) }
     ensures machine { IfOk result HasMachine }
     ensures fault { IfErr result (λ e. e ≡ OutOfMemory) }
 {

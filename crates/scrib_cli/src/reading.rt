@@ -4,10 +4,11 @@ ghost use Rattle.std.specs.Prelude.{◌≡◌, ◌<◌, true, IfOk, IfErr, IfSom
 ghost use Rattle.scrib_script_io.specs.Faults.{of_script};
 
 use scrib_script_io::fault::ScriptFault;
+use scrib_script_io::reading::read_piece;
 use scrib_script_reader::kept_bytes::{KEPT_TEXT_BYTES, append_up_to};
 pub use scrib_types::containers::Items;
 use std::alloc::Global;
-use std::io::{ErrorKind, Read};
+use std::io::Read;
 
 // The number of bytes that one read asks for.
 const PIECE_BYTES: usize = 8192;
@@ -37,15 +38,7 @@ fn read_by_pieces<R: Read>(
 {
     let mut text = Vec::new(alloc);
     for _ in 0..u64::MAX {
-        let n = match reader.read(piece) {
-            Ok(n) => n,
-            Err(e) => {
-                if e.kind() == ErrorKind::Interrupted {
-                    continue;
-                }
-                return Err(ScriptFault::Read);
-            }
-        };
+        let n = read_piece(reader, piece)?;
         if n == 0 {
             return Ok(text);
         }

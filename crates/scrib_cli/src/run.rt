@@ -22,7 +22,7 @@ impl ScriptRun {
     ghost use Rattle.std.specs.Prelude.{◌≡◌, true, IfErr, OnOk, OnErr};
     ghost use Rattle.scrib_core.specs.Held.{state_of};
     ghost use Rattle.scrib_script_io.specs.Faults.{of_output, of_script};
-    ghost use Rattle.scrib_cli.specs.Progress.{IsNew, Advances, PieceFails, PassesLimitIn, EndSucceeds, EndFails};
+    ghost use Rattle.scrib_cli.specs.Progress.{IsNew, RunAdvances, PieceFails, PassesLimitIn, EndSucceeds, EndFails};
     ghost use Rattle.scrib_script_io.specs.declared.fault.ScriptFault.TheVariants as fault;
 
     /// Returns a run before the first byte of its script.
@@ -52,7 +52,7 @@ impl ScriptRun {
     /// - `OutOfMemory` where there is no memory for a line or a text, or in silent mode for a step.
     pub fn take_piece<W: Write>(&mut self, writer: &mut W, piece: &[u8]) -> Result<(), ScriptFault>
         ensures ok { OnOk result
-            (Advances self.old self.new piece.now (W.contents writer.old) (W.contents writer.new)) }
+            (RunAdvances self.old self.new piece.now (W.contents writer.old) (W.contents writer.new)) }
         ensures err { OnErr result (PieceFails self.old piece.now (W.contents writer.old) (W.contents writer.new)) }
         ensures fault { IfErr result (λ e. of_script e ≡ true) }
         ensures limit { IfErr result (λ e. e ≡ fault.Read

@@ -7,16 +7,17 @@ ghost use Rattle.scrib_script_io.specs.Writes.{AppendsPart};
 ghost use Rattle.scrib_cli.specs.Scripts.{IsOutput};
 ghost use Rattle.scrib_script_io.specs.Faults.{of_script};
 ghost use Rattle.scrib_cli.specs.Progress.{IsNew, RunSucceeds, RunFails};
-ghost use Rattle.scrib_script_reader.specs.Limits.{of_scripts, IsWithin};
+ghost use Rattle.scrib_script_reader.specs.Limits.{of_scripts, IsWithinLimits};
 
 use crate::output_mode::OutputMode;
 use crate::run::ScriptRun;
 pub use scrib_core::format::Format;
 use scrib_core::monitor::Core;
 pub use scrib_script_io::fault::ScriptFault;
+use scrib_script_io::reading::read_piece;
 use scrib_script_io::writing::flush_out;
 use std::alloc::Global;
-use std::io::{ErrorKind, Read, Write};
+use std::io::{Read, Write};
 use std::mem::forget;
 
 // The number of bytes that one read asks for.
@@ -50,7 +51,7 @@ pub fn run_script<R: Read, W: Write>(
         × IsOutput format input output
         × AppendsPart (W.contents writer.old) (W.contents writer.new) output)) }
     ensures fault { IfErr result (λ e. of_script e ≡ true) }
-    ensures within { OnOk result (IfSome (R.remaining reader.old) (λ input. IsWithin of_scripts input)) }
+    ensures within { OnOk result (IfSome (R.remaining reader.old) (λ input. IsWithinLimits of_scripts input)) }
 {
     let core = run_whole(alloc, OutputMode::Printed(format), reader, writer)?;
     // Freeing long logs, event by event, takes up to a tenth of a run, and the process ends here.
@@ -71,30 +72,14 @@ pub(crate) fn run_whole<R: Read, W: Write>(
         (RunFails output_mode (R.remaining reader.old) (W.contents writer.old) (W.contents writer.new)) }
     ensures fault { IfErr result (λ e. of_script e ≡ true) }
 {
+    let mut piece = vec![in alloc; 0u8; SCRIPT_PIECE_BYTES]?;
     let mut run = ScriptRun::new(alloc, output_mode);
-    run_through(alloc, &mut run, reader, writer)?;
+    run_by_pieces(&mut run, reader, writer, piece.as_mut_slice())?;
     Ok(run.into_core())
 }
 
-// Reads a whole script into a run that has read nothing yet.
-fn run_through<R: Read, W: Write>(
-    alloc: Global,
-    run: &mut ScriptRun,
-    reader: &mut R,
-    writer: &mut W,
-) -> Result<(), ScriptFault>
-    requires { IsNew run.old.output_mode run.old }
-    ensures ok { OnOk result (RunSucceeds run.old.output_mode (R.remaining reader.old)
-        (state_of run.new.core) (W.contents writer.old) (W.contents writer.new)) }
-    ensures err { OnErr result
-        (RunFails run.old.output_mode (R.remaining reader.old) (W.contents writer.old) (W.contents writer.new)) }
-    ensures fault { IfErr result (λ e. of_script e ≡ true) }
-{
-    let mut piece = vec![in alloc; 0u8; SCRIPT_PIECE_BYTES]?;
-    run_by_pieces(run, reader, writer, piece.as_mut_slice())
-}
-
-// The same with `piece` as the buffer of the reads. The replies of a piece are flushed before the next is read.
+// Reads a whole script into a run that has read nothing yet, with `piece` as the buffer of the reads. The replies of a
+// piece are flushed before the next is read.
 fn run_by_pieces<R: Read, W: Write>(
     run: &mut ScriptRun,
     reader: &mut R,
@@ -110,15 +95,7 @@ fn run_by_pieces<R: Read, W: Write>(
     ensures fault { IfErr result (λ e. of_script e ≡ true) }
 {
     for _ in 0..u64::MAX {
-        let n = match reader.read(piece) {
-            Ok(n) => n,
-            Err(e) => {
-                if e.kind() == ErrorKind::Interrupted {
-                    continue;
-                }
-                return Err(ScriptFault::Read);
-            }
-        };
+        let n = read_piece(reader, piece)?;
         if n == 0 {
             run.finish(writer)?;
             return Ok(());

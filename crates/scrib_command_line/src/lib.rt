@@ -1,8 +1,6 @@
-//! The command line of the program: its commands and options, its help, and how they are run.
+//! Runs the commands of the command line.
 #![tactic(auto)]
 
-mod arguments;
-mod help;
 mod outcomes;
 mod request;
 pub mod run_command_line;

@@ -1,9 +1,9 @@
 //! Prints faults and usage at the end of a command line, and returns its exit status.
 
-use crate::arguments::command;
 use crate::run_command_line::Streams;
 use clap::Error;
 use clap::error::ErrorKind;
+use scrib_arguments::arguments::command;
 use scrib_cli::commands::fault::CommandFault;
 use scrib_cli::commands::status::{fault_text, status_of};
 use std::alloc::{AllocError, Global};

@@ -2,6 +2,7 @@
 
 use clap::ArgMatches;
 use scrib_cli::id::id_of;
+use scrib_cli::role_query::{Form, RoleQuery};
 use scrib_core::format::Format;
 use scrib_run_service::shape::{Shape, ShapeFault};
 use scrib_types::profile::Profile;
@@ -21,6 +22,16 @@ pub(crate) fn profile_of(matches: &ArgMatches) -> Profile {
         Profile::Reception
     } else {
         Profile::Plain
+    }
+}
+
+// The question of `project` or `machine`, whose projection is printed in this form.
+pub(crate) fn query_of<'a>(matches: &ArgMatches<'a>, form: Form) -> RoleQuery<'a> {
+    RoleQuery {
+        form,
+        profile: profile_of(matches),
+        protocol: matches.get_str("PROTOCOL").unwrap_or(""),
+        role: matches.get_str("ROLE").unwrap_or(""),
     }
 }
 

@@ -1,9 +1,9 @@
 //! Runs a command line.
 
-use crate::arguments::command;
 use crate::outcomes::{REFUSED_STATUS, flush_and_print_fault, print_fault, print_usage};
 use crate::subcommands::{explain_by_id, run_over_service, run_simple_command};
 use clap::ArgMatches;
+use scrib_arguments::arguments::command;
 use scrib_cli::commands::fault::CommandFault;
 use scrib_cli::commands::status::fault_text;
 use std::io;

@@ -15,6 +15,14 @@ use std::marker::Send;
 use std::sync::Wait;
 use std::thread::Threads;
 
+/// The scripts of a run: the paths of their files in the folder.
+#[derive(Clone, Copy)]
+pub struct RunScripts<'a, 'b, F> {
+    pub folder: &'b F,
+    pub setup: &'a str,
+    pub connections: &'b [&'a str],
+}
+
 /// Runs the scripts of these files as `run_service` does. Returns true: their refusals are replies to steps.
 ///
 /// # Errors
@@ -26,15 +34,18 @@ pub fn run_files<'a, R: Threads + Wait + Sync, P: Progress + Sync, F: Folder, W:
     rt: &R,
     alloc: Global,
     options: &Options<P>,
-    folder: &F,
-    setup: &'a str,
-    connections: &[&'a str],
+    scripts: &RunScripts<'a, '_, F>,
     writer: &mut W,
 ) -> Result<bool, CommandFault<'a>>
 where
     F::File: Send,
     ensures done { IfOk result (λ done. done ≡ true) }
 {
+    let RunScripts {
+        folder,
+        setup,
+        connections,
+    } = *scripts;
     let mut first = Observed::new(folder.open(setup)?);
     let readers = open_all(alloc, folder, connections)?;
     match run_service(rt, alloc, options, &mut first, readers, writer) {

@@ -1,18 +1,19 @@
 //! Runs the commands of the program.
 
 use crate::outcomes::{flush_and_print_fault, refuse_value};
-use crate::request::{format_of, profile_of, shape_of};
+use crate::request::{format_of, profile_of, query_of, shape_of};
 use crate::run_command_line::Streams;
-use crate::run_files::run_files;
+use crate::run_files::{RunScripts, run_files};
 use clap::ArgMatches;
 use scrib_cli::commands::check::check_files;
 use scrib_cli::commands::explain::explain;
 use scrib_cli::commands::fault::CommandFault;
 use scrib_cli::commands::folder::SystemFiles;
-use scrib_cli::commands::machine::machine_files;
-use scrib_cli::commands::project::project_files;
+use scrib_cli::commands::role_query::query_files;
+use scrib_cli::commands::script_input::ScriptInput;
 use scrib_cli::commands::watch::watch;
 use scrib_cli::id::id_of;
+use scrib_cli::role_query::Form;
 use scrib_run_service::options::Options;
 use scrib_run_service::progress::StandardError;
 use std::io::{Input, Write};
@@ -34,34 +35,23 @@ pub(crate) fn run_simple_command<'a, R: Files + AllocGlobal, I: Input, W: Write,
         input: streams.input,
     };
     let paths = matches.get_strs("FILE").unwrap_or(&[]);
-    let protocol = matches.get_str("PROTOCOL").unwrap_or("");
-    let role = matches.get_str("ROLE").unwrap_or("");
-    let profile = profile_of(matches);
     match name {
-        "check" => check_files(alloc, profile, &files, paths, streams.output),
-        "project" => project_files(
-            alloc,
-            profile,
-            protocol,
-            role,
-            &files,
-            paths,
-            streams.output,
-        ),
-        "machine" => machine_files(
-            alloc,
-            profile,
-            protocol,
-            role,
-            &files,
-            paths,
-            streams.output,
-        ),
+        "check" => check_files(alloc, profile_of(matches), &files, paths, streams.output),
+        "project" => {
+            let query = query_of(matches, Form::Text);
+            query_files(alloc, &query, &files, paths, streams.output)
+        }
+        "machine" => {
+            let query = query_of(matches, Form::Graph);
+            query_files(alloc, &query, &files, paths, streams.output)
+        }
         _ => {
-            let path = matches.get_str("FILE");
-            let format = format_of(matches);
-            let mut reader = streams.input.reader();
-            watch(alloc, format, &files, path, &mut reader, streams.output)
+            let input = ScriptInput {
+                folder: &files,
+                path: matches.get_str("FILE"),
+                reader: streams.input.reader(),
+            };
+            watch(alloc, format_of(matches), input, streams.output)
         }
     }
 }
@@ -81,9 +71,12 @@ pub(crate) fn explain_by_id<R: Files + AllocGlobal, I: Input, W: Write, E: Print
         files: system,
         input: streams.input,
     };
-    let path = matches.get_str("FILE");
-    let mut reader = streams.input.reader();
-    let explained = explain(alloc, id, &files, path, &mut reader, streams.output);
+    let input = ScriptInput {
+        folder: &files,
+        path: matches.get_str("FILE"),
+        reader: streams.input.reader(),
+    };
+    let explained = explain(alloc, id, input, streams.output);
     flush_and_print_fault(streams, &explained)
 }
 
@@ -113,16 +106,11 @@ where
         files: system,
         input: streams.input,
     };
-    let setup = matches.get_str("SETUP").unwrap_or("");
-    let connections = matches.get_strs("CONNECTION").unwrap_or(&[]);
-    let ran = run_files(
-        system,
-        alloc,
-        &options,
-        &files,
-        setup,
-        connections,
-        streams.output,
-    );
+    let scripts = RunScripts {
+        folder: &files,
+        setup: matches.get_str("SETUP").unwrap_or(""),
+        connections: matches.get_strs("CONNECTION").unwrap_or(&[]),
+    };
+    let ran = run_files(system, alloc, &options, &scripts, streams.output);
     flush_and_print_fault(streams, &ran)
 }

@@ -1,5 +1,7 @@
 pub mod Json
 pub mod Lines
 pub mod Table
-pub mod Services
+pub mod Parts
+pub mod LineOutput
+pub mod JsonOutput
 pub mod ReplyTexts

@@ -35,5 +35,5 @@ total_text conversations events =
     codes "total " ++ decimal conversations ++ codes " conversations, " ++ decimal events ++ codes " events\n"
 
 -- the whole table: the rows, then the last line
-abbrev pub table_text : List Ended → List ℕ
-table_text list = rows_text list ++ total_text (length list) (events_of list)
+abbrev pub table_lines : List Ended → List ℕ
+table_lines list = rows_text list ++ total_text (length list) (events_of list)

@@ -212,25 +212,23 @@ pub fn json(alloc: Global, reply: &Reply) -> Result<Vec<u8>, AllocError>
     reply_value(alloc, reply)?.to_vec(alloc)
 }
 
-/// Returns a service's reply to a turn or a question about the conversation `id`, in the form of [`json`]:
-/// `{"conversation":3,"verdict":"permitted"}`.
-///
-/// # Errors
-/// `AllocError` where memory for the text is refused.
+// A service's reply to a turn or a question about the conversation `id`, in the form of `json`:
+// `{"conversation":3,"verdict":"permitted"}`.
 #[tactic(auto, using(crate::proofs::Members::verdict_object_has_no_float))]
-pub fn judged_json(alloc: Global, id: u32, verdict: &Told) -> Result<Vec<u8>, AllocError>
+pub(crate) fn judged_json(alloc: Global, id: u32, verdict: &Told) -> Result<Vec<u8>, AllocError>
     ensures { IfOk result (λ text. text.items ≡ objects.judged_json id verdict.now) }
 {
     verdict_value(alloc, id, verdict)?.to_vec(alloc)
 }
 
-/// Returns the refusal of a pass whose receipt differs from the log of `conversation` at `place`, in the form of
-/// [`json`]: `{"conversation":1,"place":3,"refused":"Mismatch"}`.
-///
-/// # Errors
-/// `AllocError` where memory for the text is refused.
+// The refusal of a pass whose receipt differs from the log of `conversation` at `place`, in the form of `json`:
+// `{"conversation":1,"place":3,"refused":"Mismatch"}`.
 #[tactic(auto, using(crate::proofs::Members::mismatch_has_no_float))]
-pub fn mismatch_json(alloc: Global, conversation: u32, place: usize) -> Result<Vec<u8>, AllocError>
+pub(crate) fn mismatch_json(
+    alloc: Global,
+    conversation: u32,
+    place: usize,
+) -> Result<Vec<u8>, AllocError>
     ensures { IfOk result (λ text. text.items ≡ objects.mismatch_json conversation place) }
 {
     mismatch_value(alloc, conversation, place)?.to_vec(alloc)

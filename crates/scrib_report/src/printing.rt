@@ -1,61 +1,56 @@
-//! The texts of an output: replies, bad lines, and an end inside a module text, as lines of text or as JSON.
+//! The text of an output, part by part, as lines of text or as JSON.
 
-ghost use Rattle.std.specs.Prelude.{◌≡◌, ◌++◌, IfOk, OnOk, string_bytes};
-ghost use Rattle.scrib_report.specs.ReplyTexts.{bad_line, end_of_text, reply_format, reply_text};
+ghost use Rattle.std.specs.Prelude.{◌≡◌, ◌++◌, IfOk, OnOk};
+ghost use Rattle.scrib_report.specs.Parts.{part_of};
+ghost use Rattle.scrib_report.specs.ReplyTexts.{part_text, reply_format};
 
-use crate::json::json;
-use crate::line::push_whole_line;
+use crate::json_output::push_json_part;
+use crate::line_output::push_line_part;
+use crate::part::OutputPart;
 use scrib_core::format::Format;
-use scrib_core::reply::Reply;
-use scrib_types::text::push_bytes;
 use std::alloc::{AllocError, Global};
 
 /// Returns the format of a reply, from those of the output and of its line: JSON where either is.
 pub fn reply_format(output: Format, asked: Format) -> Format
     ensures { result ≡ reply_format output asked }
 {
-    match output {
-        Format::Line => asked,
-        Format::Json => Format::Json,
+    if matches!(output, Format::Json) {
+        Format::Json
+    } else {
+        asked
     }
 }
 
-/// Appends the reply in this format and an LF.
+/// Appends the part in this format: one line with its LF, or of a table all lines.
 ///
 /// # Errors
 /// `AllocError` where memory is refused.
-pub fn push_reply(text: &mut Vec<u8>, reply: &Reply, format: Format) -> Result<(), AllocError>
-    ensures { OnOk result (text.new.items ≡ text.old.items ++ reply_text format reply.now) }
+#[inline(always)]
+pub fn push_part(
+    text: &mut Vec<u8>,
+    part: &OutputPart<'_>,
+    format: Format,
+) -> Result<(), AllocError>
+    ensures { OnOk result (text.new.items ≡ text.old.items ++ part_text format (part_of part.now)) }
 {
     match format {
-        Format::Line => push_whole_line(text, reply),
-        Format::Json => {
-            let object = json(*text.allocator(), reply)?;
-            push_bytes(text, object.as_slice())?;
-            push_bytes(text, b"\n")
-        }
+        Format::Line => push_line_part(text, part),
+        Format::Json => push_json_part(text, part),
     }
 }
 
-/// Returns the text in this format for a bad line of this number.
+/// Returns the text of the part in this format, as [`push_part`] appends it.
 ///
 /// # Errors
 /// `AllocError` where memory is refused.
-pub fn bad_line(alloc: Global, number: u32, format: Format) -> Result<String, AllocError>
-    ensures { IfOk result (λ text. string_bytes text ≡ bad_line format number) }
+pub fn text_of_part(
+    alloc: Global,
+    part: &OutputPart<'_>,
+    format: Format,
+) -> Result<Vec<u8>, AllocError>
+    ensures { IfOk result (λ text. text.items ≡ part_text format (part_of part.now)) }
 {
-    match format {
-        Format::Line => format!(in alloc; "refused BadLine {number}\n"),
-        Format::Json => format!(in alloc; "{{\"line\":{number},\"refused\":\"BadLine\"}}\n"),
-    }
-}
-
-/// Returns the text in this format for a script that ends inside a module text.
-pub fn end_of_text(format: Format) -> &'static [u8]
-    ensures { result.now ≡ end_of_text format }
-{
-    match format {
-        Format::Line => b"refused EndOfText\n",
-        Format::Json => b"{\"refused\":\"EndOfText\"}\n",
-    }
+    let mut text = Vec::new(alloc);
+    push_part(&mut text, part, format)?;
+    Ok(text)
 }

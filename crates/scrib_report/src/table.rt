@@ -2,10 +2,8 @@
 
 ghost use Rattle.std.specs.Prelude.{◌≡◌, ◌++◌, IfOk, OnOk, replicate};
 ghost use Rattle.std.specs.Fmt.{decimal};
-ghost use Rattle.scrib_report.specs.Json as objects;
 ghost use Rattle.scrib_report.specs.Table as rows;
 
-use crate::json::ended_json;
 use crate::verdict::verdict_word;
 use scrib_core::ended::Ended;
 use scrib_types::text::{push_bytes, push_dotted};
@@ -69,7 +67,7 @@ fn push_rows(out: &mut Vec<u8>, list: &[Ended]) -> Result<(), AllocError>
 }
 
 // The number of events of all logs together.
-fn events_of(list: &[Ended]) -> u128
+pub(crate) fn events_of(list: &[Ended]) -> u128
     ensures { result ≡ rows.events_of list.now }
 {
     let mut events = 0;
@@ -80,7 +78,7 @@ fn events_of(list: &[Ended]) -> u128
 }
 
 // Appends the number and the text after it.
-fn push_count(out: &mut Vec<u8>, count: u128, what: &[u8]) -> Result<(), AllocError>
+pub(crate) fn push_count(out: &mut Vec<u8>, count: u128, what: &[u8]) -> Result<(), AllocError>
     ensures { OnOk result (out.new.items ≡ out.old.items ++ (decimal count ++ what.now)) }
 {
     let digits = count.to_string(*out.allocator())?;
@@ -96,6 +94,14 @@ fn push_total(out: &mut Vec<u8>, conversations: usize, events: u128) -> Result<(
     push_count(out, events, b" events\n")
 }
 
+// Appends the table of settled conversations.
+pub(crate) fn push_table(out: &mut Vec<u8>, list: &[Ended]) -> Result<(), AllocError>
+    ensures { OnOk result (out.new.items ≡ out.old.items ++ rows.table_lines list.now) }
+{
+    push_rows(out, list)?;
+    push_total(out, list.len(), events_of(list))
+}
+
 /// Returns the table of settled conversations, in ASCII bytes, with a line for each in the order of the list.
 ///
 /// A line has the id, the number of events, the verdict in one word, and the full name of the protocol. The last line
@@ -104,45 +110,9 @@ fn push_total(out: &mut Vec<u8>, conversations: usize, events: u128) -> Result<(
 /// # Errors
 /// `AllocError` where memory for the text is refused.
 pub fn table(alloc: Global, list: &[Ended]) -> Result<Vec<u8>, AllocError>
-    ensures { IfOk result (λ text. text.items ≡ rows.table_text list.now) }
+    ensures { IfOk result (λ text. text.items ≡ rows.table_lines list.now) }
 {
     let mut out = Vec::new(alloc);
-    push_rows(&mut out, list)?;
-    push_total(&mut out, list.len(), events_of(list))?;
-    Ok(out)
-}
-
-fn push_json_rows(out: &mut Vec<u8>, list: &[Ended]) -> Result<(), AllocError>
-    ensures { OnOk result (out.new.items ≡ out.old.items ++ objects.ended_lines list.now) }
-{
-    let alloc = *out.allocator();
-    for ended in list {
-        push_bytes(out, ended_json(alloc, ended)?.as_slice())?;
-        push_bytes(out, b"\n")?;
-    }
-    Ok(())
-}
-
-fn push_json_total(out: &mut Vec<u8>, conversations: usize, events: u128) -> Result<(), AllocError>
-    ensures { OnOk result (out.new.items ≡ out.old.items ++ objects.total_line conversations events) }
-{
-    push_bytes(out, b"{\"conversations\":")?;
-    push_count(out, conversations as u128, b",\"events\":")?;
-    push_count(out, events, b"}\n")
-}
-
-/// Returns the table of settled conversations as lines of JSON, each with a line feed.
-///
-/// For each conversation, in the order of the list, the line is that of `json` for the reply to a question about it.
-/// The last line is as `{"conversations":2,"events":2000}`.
-///
-/// # Errors
-/// `AllocError` where memory for the text is refused.
-pub fn table_json(alloc: Global, list: &[Ended]) -> Result<Vec<u8>, AllocError>
-    ensures { IfOk result (λ text. text.items ≡ objects.table_json list.now) }
-{
-    let mut out = Vec::new(alloc);
-    push_json_rows(&mut out, list)?;
-    push_json_total(&mut out, list.len(), events_of(list))?;
+    push_table(&mut out, list)?;
     Ok(out)
 }

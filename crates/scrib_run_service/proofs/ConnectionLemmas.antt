@@ -14,12 +14,12 @@ use Rattle.scrib_types.specs.declared.event.Event.{Event}
 use Rattle.scrib_library.specs.Holdings.{Holdings, IsAccepting}
 use Rattle.scrib_core.specs.Held.{Records}
 use Rattle.scrib_locked_steps.specs.declared.pass_calls.PassRefusal.{PassRefusal}
-use Rattle.scrib_locked_steps.specs.declared.step_results.Noted.{Noted}
+use Rattle.scrib_core.specs.declared.conversation_steps.Noted.{Noted}
 use Rattle.scrib_locked_steps.specs.OneByOne.{OneByOne}
 use Rattle.scrib_locked_steps.specs.Passes.{PassHeld}
 use Rattle.scrib_locked_steps.specs.Passing.{AnswersBy}
 use Rattle.scrib_shards.specs.Called.{AreAnsweredSome}
-use Rattle.scrib_run_service.specs.Outcomes.{Outcome, outcome_text, outcomes_text, count_one, count_all, IsOutcome, notes_of, noted_outcomes, pending_items, Adds, Yields, Takes, Appends}
+use Rattle.scrib_run_service.specs.Outcomes.{Outcome, outcome_text, outcomes_text, count_one, count_all, IsOutcome, note_items, noted_outcomes, pending_items, Adds, Yields, TakesItems, Appends}
 
 text_more : (o : Format) (xs ys : List Outcome) → outcomes_text o (xs ++ ys) ≡ outcomes_text o xs ++ outcomes_text o ys
 text_more o [] ys = refl
@@ -40,7 +40,7 @@ matched_more [] js (x ∷ xs) ys p q = absurd p
 matched_more (i ∷ is) js [] ys p q = absurd p
 matched_more (i ∷ is) js (x ∷ xs) ys p q = (p.0, matched_more is js xs ys p.1 q)
 
-pub notes_more : (id : ℕ) (es fs : List Event) → notes_of id (es ++ fs) ≡ notes_of id es ++ notes_of id fs
+pub notes_more : (id : ℕ) (es fs : List Event) → note_items id (es ++ fs) ≡ note_items id es ++ note_items id fs
 notes_more id [] fs = refl
 notes_more id (e ∷ es) fs = ap (λ (t : List Item). item.Step format.Line (step.Note id e) ∷ t) (notes_more id es fs)
 
@@ -66,7 +66,7 @@ yields_more a b c is js p q = record {
   adds = adds_more a b c p.outcomes q.outcomes p.adds q.adds;
 }
 
-pub takes_none : (c : Connection) → Takes c c []
+pub takes_none : (c : Connection) → TakesItems c c []
 takes_none c = record {
   done = [];
   outcomes = [];
@@ -77,7 +77,7 @@ takes_none c = record {
   noted = refl;
 }
 
-pub takes_more : (a b c : Connection) (is js : List Item) → Takes a b is → Takes b c js → Takes a c (is ++ js)
+pub takes_more : (a b c : Connection) (is js : List Item) → TakesItems a b is → TakesItems b c js → TakesItems a c (is ++ js)
 takes_more a b c is js p q = record {
   done = p.done ++ q.done;
   outcomes = p.outcomes ++ q.outcomes;
@@ -90,10 +90,10 @@ takes_more a b c is js p q = record {
 }
 
 none_pending : (c : Connection) → c.pending.items ≡ [] → pending_items c ≡ []
-none_pending c none = ap (notes_of c.pending_id) none
+none_pending c none = ap (note_items c.pending_id) none
 
 -- items that have outcomes were taken, if the buffer was empty
-pub takes_yielded : (a b : Connection) (is : List Item) → a.pending.items ≡ [] → Yields a b is → Takes a b is
+pub takes_yielded : (a b : Connection) (is : List Item) → a.pending.items ≡ [] → Yields a b is → TakesItems a b is
 takes_yielded a b is none h =
     let before = none_pending a none in
     let after = none_pending b (h.adds.pending ∙ none) in
@@ -108,7 +108,7 @@ takes_yielded a b is none h =
     }
 
 -- the buffer was emptied and its events noted
-pub takes_flushed : (a m b : Connection) → m.format ≡ a.format → m.lines.items ≡ a.lines.items → m.noted ≡ a.noted → m.pending.items ≡ [] → Yields m b (pending_items a) → Takes a b []
+pub takes_flushed : (a m b : Connection) → m.format ≡ a.format → m.lines.items ≡ a.lines.items → m.noted ≡ a.noted → m.pending.items ≡ [] → Yields m b (pending_items a) → TakesItems a b []
 takes_flushed a m b format lines noted none h =
     let after = none_pending b (h.adds.pending ∙ none) in
     record {
@@ -126,7 +126,7 @@ pub none_flushed : (m b : Connection) (is : List Item) → m.pending.items ≡ [
 none_flushed m b is none h = h.adds.pending ∙ none
 
 -- an empty buffer may change its conversation
-pub takes_turned : (a m b : Connection) (is : List Item) → Takes a m is → m.pending.items ≡ [] → b.pending.items ≡ [] → b.format ≡ m.format → b.lines.items ≡ m.lines.items → b.noted ≡ m.noted → Takes a b is
+pub takes_turned : (a m b : Connection) (is : List Item) → TakesItems a m is → m.pending.items ≡ [] → b.pending.items ≡ [] → b.format ≡ m.format → b.lines.items ≡ m.lines.items → b.noted ≡ m.noted → TakesItems a b is
 takes_turned a m b is h none still format lines noted = record {
   done = h.done;
   outcomes = h.outcomes;
@@ -139,14 +139,14 @@ takes_turned a m b is h none still format lines noted = record {
 
 -- an event was put into the buffer
 pub takes_pushed : (a b : Connection) (id : ℕ) (e : Event) → a.pending_id ≡ id → b.pending_id ≡ id → b.pending.items ≡ a.pending.items ++ e ∷ [] → b.format ≡ a.format → b.lines.items ≡ a.lines.items → b.noted ≡ a.noted
-    → Takes a b (notes_of id (e ∷ []))
+    → TakesItems a b (note_items id (e ∷ []))
 takes_pushed a b id e was is pushed format lines noted =
-    let before : pending_items a ≡ notes_of id a.pending.items = ap (λ (n : ℕ). notes_of n a.pending.items) was in
-    let after : pending_items b ≡ notes_of id (a.pending.items ++ e ∷ []) = λ i. notes_of (is i) (pushed i) in
+    let before : pending_items a ≡ note_items id a.pending.items = ap (λ (n : ℕ). note_items n a.pending.items) was in
+    let after : pending_items b ≡ note_items id (a.pending.items ++ e ∷ []) = λ i. note_items (is i) (pushed i) in
     record {
       done = [];
       outcomes = [];
-      order = ap (λ (t : List Item). t ++ notes_of id (e ∷ [])) before ∙ sym (notes_more id a.pending.items (e ∷ [])) ∙ sym after;
+      order = ap (λ (t : List Item). t ++ note_items id (e ∷ [])) before ∙ sym (notes_more id a.pending.items (e ∷ [])) ∙ sym after;
       matched = tt;
       format = format;
       lines = lines ∙ sym (append-nil a.lines.items);
@@ -175,7 +175,7 @@ pub yields_one : {T E : Type 0} (r : Result T E) (a m b : Connection) (i : Item)
 yields_one (Ok v) a m b i x is same h = record { outcomes = x ∷ []; matched = (is, tt); adds = adds_from a m b (x ∷ []) same h }
 yields_one (Err e) a m b i x is same h = tt
 
-replies_among : (id : ℕ) (h : Holdings) (s t : Records × PassHeld) (es : List Event) (rs : List (Result Noted PassRefusal)) → IsAccepting h → OneByOne (AnswersBy h) s es rs t → AllZip IsOutcome (notes_of id es) (noted_outcomes id rs)
+replies_among : (id : ℕ) (h : Holdings) (s t : Records × PassHeld) (es : List Event) (rs : List (Result Noted PassRefusal)) → IsAccepting h → OneByOne (AnswersBy h) s es rs t → AllZip IsOutcome (note_items id es) (noted_outcomes id rs)
 replies_among id h s t [] [] accepting x = tt
 replies_among id h s t [] (r ∷ rs) accepting x = absurd x
 replies_among id h s t (e ∷ es) [] accepting x = absurd x
@@ -183,19 +183,19 @@ replies_among id h s t (e ∷ es) (r ∷ rs) accepting x = ((refl, refl, inr (r,
 
 -- the notes of events have outcomes, if a call that returned `Ok` added the replies to them, made together
 pub yields_among : {T E : Type 0} (r : Result T E) (a m b : Connection) (id : ℕ) (p q : PassHeld) (es : List Event) (rs : List (Result Noted PassRefusal)) → AreAnsweredSome p es rs q → DifferInPasses a m → OnOk r (Adds m b (noted_outcomes id rs))
-    → OnOk r (Yields a b (notes_of id es))
+    → OnOk r (Yields a b (note_items id es))
 yields_among (Ok v) a m b id p q es rs is same h = record { outcomes = noted_outcomes id rs; matched = replies_among id is.0 (is.1, p) (is.2, q) es rs is.3 is.4; adds = adds_from a m b (noted_outcomes id rs) same h }
 yields_among (Err e) a m b id p q es rs is same h = tt
 
 -- after a flush, one more item is taken
-pub takes_one : {T E : Type 0} (r : Result T E) (a m b : Connection) (is : List Item) → Takes a m [] → m.pending.items ≡ [] → OnOk r (Yields m b is) → OnOk r (Takes a b is)
+pub takes_one : {T E : Type 0} (r : Result T E) (a m b : Connection) (is : List Item) → TakesItems a m [] → m.pending.items ≡ [] → OnOk r (Yields m b is) → OnOk r (TakesItems a b is)
 takes_one (Ok v) a m b is before none h = takes_more a m b [] is before (takes_yielded m b is none h)
 takes_one (Err e) a m b is before none h = tt
 
 -- a larger capacity of the buffer changes nothing
-pub takes_renewed : (a m b : Connection) (is : List Item) → m.format ≡ a.format → m.lines.items ≡ a.lines.items → m.noted ≡ a.noted → m.pending_id ≡ a.pending_id → m.pending.items ≡ a.pending.items → Takes m b is → Takes a b is
+pub takes_renewed : (a m b : Connection) (is : List Item) → m.format ≡ a.format → m.lines.items ≡ a.lines.items → m.noted ≡ a.noted → m.pending_id ≡ a.pending_id → m.pending.items ≡ a.pending.items → TakesItems m b is → TakesItems a b is
 takes_renewed a m b is format lines noted id pending h =
-    let same : pending_items m ≡ pending_items a = λ i. notes_of (id i) (pending i) in
+    let same : pending_items m ≡ pending_items a = λ i. note_items (id i) (pending i) in
     record {
       done = h.done;
       outcomes = h.outcomes;
@@ -224,7 +224,7 @@ all_done is done before after none left order =
     sym (append-nil done) ∙ ap (λ (t : List Item). done ++ t) (sym left) ∙ sym order ∙ ap (λ (t : List Item). t ++ (is ++ [])) none ∙ append-nil is
 
 -- items were taken, and then the buffer was flushed
-pub appends_taken : (a m b : Connection) (is : List Item) → a.pending.items ≡ [] → Takes a m is → Takes m b [] → b.pending.items ≡ [] → Appends a b is
+pub appends_taken : (a m b : Connection) (is : List Item) → a.pending.items ≡ [] → TakesItems a m is → TakesItems m b [] → b.pending.items ≡ [] → Appends a b is
 appends_taken a m b is none took flushed left =
     let t = takes_more a m b is [] took flushed in
     let all : t.done ≡ is = all_done is t.done (pending_items a) (pending_items b) (none_pending a none) (none_pending b left) t.order in

@@ -16,15 +16,16 @@ use Rattle.scrib_run_service.specs.declared.connection.Connection.{Connection}
 use Rattle.scrib_run_service.specs.declared.connection.Closed.{Closed}
 use Rattle.scrib_run_service.specs.Outcomes.{outcomes_text}
 use Rattle.scrib_run_service.specs.Reading.{of_reading, Ran, RanPart}
-use Rattle.scrib_run_service.specs.Outputs.{connections_text, read_fault_line, IsTranscript, IsFirstOf, IsConnectionText, WritesAll, WritesFirst, WritesPart, first_fault, Prints, PrintsPart, PrintsRun, PrintsRunPart}
-use Rattle.scrib_run_service.specs.ConnectionResults.{IsClosed, AreClosed, AreTexts}
+use Rattle.scrib_report.specs.ReplyTexts.{read_fault_line}
+use Rattle.scrib_run_service.specs.Outputs.{connections_text, IsTranscript, IsTranscriptStart, IsConnectionText, WritesAll, WritesFirst, WritesPart, first_fault, Prints, PrintsPart, PrintsRun, PrintsRunPart}
+use Rattle.scrib_run_service.specs.ConnectionResults.{IsConnectionClosed, AreClosed, AreTexts}
 use Rattle.scrib_run_service.proofs.PartialWriteLemmas.{part_after}
 
 all_are_first : (r : Option (List ℕ)) (items : List Item) → IfSome r (λ input. Spells 1 None (lines input) items) → IfSome r (λ input. (rest : List Item) × Spells 1 None (lines input) (items ++ rest))
 all_are_first None items spelled = tt
 all_are_first (Some input) items spelled = ([], subst (λ (is : List Item). Spells 1 None (lines input) is) (sym (append-nil items)) spelled)
 
-pub whole_first : (f : Format) (r : Option (List ℕ)) (text : List ℕ) → IsTranscript f r text → IsFirstOf f r text
+pub whole_first : (f : Format) (r : Option (List ℕ)) (text : List ℕ) → IsTranscript f r text → IsTranscriptStart f r text
 whole_first f r text h = record { items = h.items; outcomes = h.outcomes; spelled = all_are_first r h.items h.spelled; matched = h.matched; is = h.is }
 
 module _ (f : Format) (r : Option (List ℕ)) (a b : Connection) (empty : a.lines.items ≡ []) (format : a.format ≡ f) where
@@ -38,7 +39,7 @@ module _ (f : Format) (r : Option (List ℕ)) (a b : Connection) (empty : a.line
     is = h.appends.lines ∙ (λ i. empty i ++ outcomes_text (format i) h.appends.outcomes);
   }
 
-  pub first_of : RanPart a b r → IsFirstOf f r b.lines.items
+  pub first_of : RanPart a b r → IsTranscriptStart f r b.lines.items
   first_of h = record {
     items = h.items;
     outcomes = h.appends.outcomes;
@@ -58,7 +59,7 @@ module _ (f : Format) (r : Option (List ℕ)) (a b : Connection) (empty : a.line
   transcript_on (Ok v) h = transcript h
   transcript_on (Err e) h = tt
 
-  pub first_on : {T : Type 0} (x : Result T ScriptFault) → IfErr x (λ e. e ≡ fault.Read → RanPart a b r) → IfErr x (λ e. e ≡ fault.Read → IsFirstOf f r b.lines.items)
+  pub first_on : {T : Type 0} (x : Result T ScriptFault) → IfErr x (λ e. e ≡ fault.Read → RanPart a b r) → IfErr x (λ e. e ≡ fault.Read → IsTranscriptStart f r b.lines.items)
   first_on (Ok v) h = tt
   first_on (Err e) h = λ is. first_of (h is)
 
@@ -70,7 +71,7 @@ pub record ScriptEnds (f : Format) (r was now : Option (List ℕ)) (x : Result (
   pub fault : IfErr x (λ e. of_script e ≡ true)
 
 module _ (f : Format) (r was now : Option (List ℕ)) (text : List ℕ) where
-  script_cut : (g : ScriptFault) → g ≡ fault.Write → IsFirstOf f r text → AppendsPart was now text → ScriptEnds f r was now (Err g)
+  script_cut : (g : ScriptFault) → g ≡ fault.Write → IsTranscriptStart f r text → AppendsPart was now text → ScriptEnds f r was now (Err g)
   script_cut g is first part = record {
     ok = tt;
     read = λ read. let same : fault.Write ≡ fault.Read = sym is ∙ read in absurd (cc same);
@@ -78,7 +79,7 @@ module _ (f : Format) (r was now : Option (List ℕ)) (text : List ℕ) where
     fault = ap of_script is;
   }
 
-  pub script_ends : (ran written : Result (Unit {0}) ScriptFault) → OnOk ran (IsTranscript f r text) → IfErr ran (λ e. e ≡ fault.Read → IsFirstOf f r text) → IfErr ran (λ e. of_reading e ≡ true)
+  pub script_ends : (ran written : Result (Unit {0}) ScriptFault) → OnOk ran (IsTranscript f r text) → IfErr ran (λ e. e ≡ fault.Read → IsTranscriptStart f r text) → IfErr ran (λ e. of_reading e ≡ true)
       → OnOk written (Appends was now text) → OnErr written (AppendsPart was now text) → IfErr written (λ e. e ≡ fault.Write) → ScriptEnds f r was now (first_fault ran written)
   script_ends (Ok x) (Ok y) all first reading wrote part writing = record { ok = (text, all, wrote); read = tt; write = tt; fault = tt }
   script_ends (Ok x) (Err g) all first reading wrote part writing = script_cut g writing (whole_first f r text all) part
@@ -99,7 +100,7 @@ module _ (f : Format) (r was now : Option (List ℕ)) (text : List ℕ) where
   }
 
 -- a closed connection has the lines that the connection had
-pub closed_text : {E : Type 0} (x : Result Closed E) (f : Format) (r : Option (List ℕ)) (lines : Vec ℕ Global) → IfOk x (λ closed. closed.lines ≡ lines) → IsConnectionText f r lines.items → IsClosed f r x
+pub closed_text : {E : Type 0} (x : Result Closed E) (f : Format) (r : Option (List ℕ)) (lines : Vec ℕ Global) → IfOk x (λ closed. closed.lines ≡ lines) → IsConnectionText f r lines.items → IsConnectionClosed f r x
 closed_text (Ok closed) f r lines same text = subst (λ (v : Vec ℕ Global). IsConnectionText f r v.items) (sym same) text
 closed_text (Err e) f r lines same text = tt
 

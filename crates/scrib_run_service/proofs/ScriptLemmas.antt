@@ -9,15 +9,15 @@ use Rattle.scrib_script_reader.specs.declared.fault.SpellFault.TheVariants as sp
 use Rattle.scrib_script_reader.specs.declared.item.Item.{Item}
 use Rattle.scrib_script_reader.specs.declared.script.Script.{Script}
 use Rattle.scrib_script_reader.specs.Limits.{of_scripts}
-use Rattle.scrib_script_reader.specs.Scripts.{Spells, lines, listed}
-use Rattle.scrib_script_reader.specs.Positions.{Holds, TakesFront, PassesLimits, EndsIn, Read}
+use Rattle.scrib_script_reader.specs.Scripts.{Spells, lines, item_list}
+use Rattle.scrib_script_reader.specs.Positions.{Holds, TakesFront, PassesLimits, EndSpells, HasConsumed}
 use Rattle.scrib_script_reader.proofs.ScriptLemmas.{takes_then, takes_same, read_none, read_more, read_all, read_first}
 use Rattle.scrib_script_io.specs.declared.fault.ScriptFault.{ScriptFault}
 use Rattle.scrib_script_io.specs.declared.fault.ScriptFault.TheVariants as fault
 use Rattle.scrib_script_io.specs.Faults.{fault_of}
 use Rattle.scrib_script_io.proofs.WriterLemmas.{consumes_none, consumes_more, consumes_kept}
 use Rattle.scrib_run_service.specs.declared.connection.Connection.{Connection}
-use Rattle.scrib_run_service.specs.Outcomes.{Takes, Appends}
+use Rattle.scrib_run_service.specs.Outcomes.{TakesItems, Appends}
 use Rattle.scrib_run_service.specs.Reading.{of_reading, Carries, CarriesFront, AppendsSpelled, AppendsFront, AppendsEnd, Ran, RanPart}
 use Rattle.scrib_run_service.proofs.ConnectionLemmas.{takes_none, takes_more, appends_taken, appends_none, appends_more, appends_counted}
 
@@ -34,15 +34,15 @@ submitted_none c s piece = record {
   carries = record { items = []; spelled = takes_same s [] (λ i. []) (All-nil (λ b. b ≢ 10)); took = takes_none c };
 }
 
-pub submitted_any : (a b c : Connection) (was s t : Script) (piece rest after : List ℕ) (o : Option Item) → Submitted a b was s piece rest → TakesFront s t rest after (listed o) → Takes b c (listed o)
+pub submitted_any : (a b c : Connection) (was s t : Script) (piece rest after : List ℕ) (o : Option Item) → Submitted a b was s piece rest → TakesFront s t rest after (item_list o) → TakesItems b c (item_list o)
     → Submitted a c was t piece after
 submitted_any a b c was s t piece rest after o k takes took = record {
   done = k.done ++ takes.0;
   is = k.is ∙ ap (λ (u : List ℕ). k.done ++ u) takes.1 ∙ sym (append_assoc k.done takes.0 after);
   carries = record {
-    items = k.carries.items ++ listed o;
-    spelled = takes_then was s t k.done takes.0 k.carries.items (listed o) k.carries.spelled takes.2;
-    took = takes_more a b c k.carries.items (listed o) k.carries.took took;
+    items = k.carries.items ++ item_list o;
+    spelled = takes_then was s t k.done takes.0 k.carries.items (item_list o) k.carries.spelled takes.2;
+    took = takes_more a b c k.carries.items (item_list o) k.carries.took took;
   };
 }
 
@@ -85,7 +85,7 @@ memory_not_read f is = λ read. let same : fault.OutOfMemory ≡ fault.Read = sy
 pub memory_of_spelling : (e : SpellFault) (f : ScriptFault) → f ≡ fault_of e → e ≡ spell.OutOfMemory → f ≡ fault.OutOfMemory
 memory_of_spelling e f is memory = is ∙ ap fault_of memory
 
-module _ (a m b : Connection) (none : a.pending.items ≡ []) (flushed : Takes m b []) (left : b.pending.items ≡ []) where
+module _ (a m b : Connection) (none : a.pending.items ≡ []) (flushed : TakesItems m b []) (left : b.pending.items ≡ []) where
   spelled_flushed : (was now : Script) (bytes : List ℕ) → Carries a m was now bytes → AppendsSpelled a b was now bytes
   spelled_flushed was now bytes h = record { items = h.items; spelled = h.spelled; appends = appends_taken a m b h.items none h.took flushed left }
 
@@ -102,8 +102,8 @@ module _ (a m b : Connection) (none : a.pending.items ≡ []) (flushed : Takes m
       record { front = k.front; rest = k.rest; is = k.is; now = k.now; appends = spelled_flushed was k.now k.front k.carries }
 
 -- the item at the end of the script was taken, and then the buffer was flushed
-pub end_taken : {T E : Type 0} (r : Result T E) (a m b : Connection) (was : Script) (o : Option Item) → a.pending.items ≡ [] → EndsIn was (listed o) → Takes a m (listed o) → OnOk r (Takes m b []) → OnOk r (b.pending.items ≡ []) → OnOk r (AppendsEnd a b was)
-end_taken (Ok v) a m b was o none ends took flushed left = record { items = listed o; spelled = ends; appends = appends_taken a m b (listed o) none took flushed left }
+pub end_taken : {T E : Type 0} (r : Result T E) (a m b : Connection) (was : Script) (o : Option Item) → a.pending.items ≡ [] → EndSpells was (item_list o) → TakesItems a m (item_list o) → OnOk r (TakesItems m b []) → OnOk r (b.pending.items ≡ []) → OnOk r (AppendsEnd a b was)
+end_taken (Ok v) a m b was o none ends took flushed left = record { items = item_list o; spelled = ends; appends = appends_taken a m b (item_list o) none took flushed left }
 end_taken (Err e) a m b was o none ends took flushed left = tt
 
 -- A connection has the lines of all items that were read so far.
@@ -111,7 +111,7 @@ pub record Reached (a b : Connection) (s : Script) (r0 r : Option (List ℕ)) : 
   pub seen : List ℕ
   pub items : List Item
   pub consumed : Consumes r0 r seen
-  pub read : Read of_scripts s seen items
+  pub read : HasConsumed of_scripts s seen items
   pub appends : Appends a b items
 
 pub reached_none : (c : Connection) (s : Script) (r : Option (List ℕ)) → c.pending.items ≡ [] → Holds s None [] → s.lines ≡ 0 → s.bytes ≡ 0 → s.limits ≡ of_scripts → Reached c c s r r
@@ -139,7 +139,7 @@ reached_more a b c d s t r0 r r' piece h read k format lines pending = record {
 }
 
 -- the bytes that were read so far, and those that the reader has left
-first_known : (a b : Connection) (r0 r : Option (List ℕ)) (seen more : List ℕ) (s : Script) (items : List Item) → ((left : List ℕ) → r ≡ Some left → (end : List ℕ) × (left ≡ more ++ end)) → Consumes r0 r seen → Read of_scripts s (seen ++ more) items → Appends a b items → RanPart a b r0
+first_known : (a b : Connection) (r0 r : Option (List ℕ)) (seen more : List ℕ) (s : Script) (items : List Item) → ((left : List ℕ) → r ≡ Some left → (end : List ℕ) × (left ≡ more ++ end)) → Consumes r0 r seen → HasConsumed of_scripts s (seen ++ more) items → Appends a b items → RanPart a b r0
 first_known a b None r seen more s items front consumed read appends = record { items = items; appends = appends; spelled = tt }
 first_known a b (Some input) None seen more s items front consumed read appends = absurd consumed
 first_known a b (Some input) (Some left) seen more s items front consumed read appends =
@@ -151,7 +151,7 @@ first_known a b (Some input) (Some left) seen more s items front consumed read a
 -- the reader failed
 pub reader_failed : (a b : Connection) (s : Script) (r0 r : Option (List ℕ)) → Reached a b s r0 r → RanPart a b r0
 reader_failed a b s r0 r h =
-    first_known a b r0 r h.seen [] s h.items (λ left is. (left, λ i. left)) h.consumed (subst (λ (u : List ℕ). Read of_scripts s u h.items) (sym (append-nil h.seen)) h.read) h.appends
+    first_known a b r0 r h.seen [] s h.items (λ left is. (left, λ i. left)) h.consumed (subst (λ (u : List ℕ). HasConsumed of_scripts s u h.items) (sym (append-nil h.seen)) h.read) h.appends
 
 front_left : (r r' : Option (List ℕ)) (piece front rest : List ℕ) → Consumes r r' piece → piece ≡ front ++ rest → (left : List ℕ) → r ≡ Some left → (end : List ℕ) × (left ≡ front ++ end)
 front_left None r' piece front rest read is left same = cc same

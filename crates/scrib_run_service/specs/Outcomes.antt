@@ -7,7 +7,7 @@ use Rattle.scrib_core.specs.declared.step.Step.{Step}
 use Rattle.scrib_core.specs.declared.step.Step.TheVariants as step
 use Rattle.scrib_core.specs.Held.{Records}
 use Rattle.scrib_locked_steps.specs.declared.pass_calls.PassRefusal.{PassRefusal}
-use Rattle.scrib_locked_steps.specs.declared.step_results.Noted.{Noted}
+use Rattle.scrib_core.specs.declared.conversation_steps.Noted.{Noted}
 use Rattle.scrib_locked_steps.specs.Passes.{PassHeld}
 use Rattle.scrib_locked_steps.specs.Passing.{AnswersBy}
 use Rattle.scrib_core.specs.declared.format.Format.{Format}
@@ -69,13 +69,8 @@ IsReplySome e r =
 
 -- the reply to a note that was made together with others; no other step is made so
 abbrev pub IsReplyAmong : Step → ServiceReply → Type 0
-IsReplyAmong (step.Put text) a = ⊥
-IsReplyAmong (step.Withdraw name) a = ⊥
-IsReplyAmong (step.Profile p) a = ⊥
-IsReplyAmong (step.Open id name) a = ⊥
 IsReplyAmong (step.Note id e) a = (r : Result Noted PassRefusal) × (a ≡ noted_reply id r) × IsReplySome e r
-IsReplyAmong (step.Turn id) a = ⊥
-IsReplyAmong (step.Ask id) a = ⊥
+IsReplyAmong _ a = ⊥
 
 -- the reply to the step, made by itself or together with others
 abbrev pub IsReply : Step → ServiceReply → Type 0
@@ -85,17 +80,13 @@ IsReply s a = ((kept : List (ℕ × PassHeld)) × IsMadeSome kept s a) ⊎ IsRep
 abbrev pub IsOutcome : Item → Outcome → Type 0
 IsOutcome (item.Step f s) (replied g a) = (g ≡ f) × (is_bad_step f s ≡ false) × IsReply s a
 IsOutcome (item.Step f s) (bad n) = is_bad_step f s ≡ true
-IsOutcome (item.Step f s) ended = ⊥
-IsOutcome (item.BadLine n) (replied g a) = ⊥
 IsOutcome (item.BadLine n) (bad m) = m ≡ n
-IsOutcome (item.BadLine n) ended = ⊥
-IsOutcome item.EndOfText (replied g a) = ⊥
-IsOutcome item.EndOfText (bad m) = ⊥
 IsOutcome item.EndOfText ended = ⊤
+IsOutcome _ _ = ⊥
 
 -- the items of lines that note these events in the conversation
-abbrev pub notes_of : ℕ → List Event → List Item
-notes_of id events = map (λ e. item.Step format.Line (step.Note id e)) events
+abbrev pub note_items : ℕ → List Event → List Item
+note_items id events = map (λ e. item.Step format.Line (step.Note id e)) events
 
 -- the outcomes of notes in the conversation that have these replies
 abbrev pub noted_outcomes : ℕ → List (Result Noted PassRefusal) → List Outcome
@@ -103,7 +94,7 @@ noted_outcomes id rs = map (λ r. replied format.Line (noted_reply id r)) rs
 
 -- the items whose events are in the connection's buffer
 abbrev pub pending_items : Connection → List Item
-pending_items c = notes_of c.pending_id c.pending.items
+pending_items c = note_items c.pending_id c.pending.items
 
 -- The connection appended the lines of these outcomes and counted their noted events. Its buffer is unchanged.
 pub record Adds (old new : Connection) (outcomes : List Outcome) : Type 0 where
@@ -121,7 +112,7 @@ pub record Yields (old new : Connection) (items : List Item) : Type 0 where
 
 -- The connection took these items. In order, it added the outcomes of the items that were in its buffer and of these,
 -- except for the items that are in its buffer now.
-pub record Takes (old new : Connection) (items : List Item) : Type 0 where
+pub record TakesItems (old new : Connection) (items : List Item) : Type 0 where
   pub done : List Item
   pub outcomes : List Outcome
   pub order : pending_items old ++ items ≡ done ++ pending_items new

@@ -1,8 +1,7 @@
 -- The output of a run (this project's own). `r` holds the bytes that a reader has left, where they are known, and `was`
 -- and `now` the bytes that the writer holds.
-use Rattle.std.specs.Prelude.{◌≡◌, ◌⊎◌, ℕ, ◌+◌, List, [], ◌∷◌, ◌++◌, Option, None, Result, Ok, Err, IfSome, codes}
+use Rattle.std.specs.Prelude.{◌≡◌, ◌⊎◌, ℕ, ◌+◌, List, [], ◌∷◌, ◌++◌, Option, None, Result, Ok, Err, IfSome}
 use Rattle.std.specs.List.{AllZip}
-use Rattle.std.specs.Fmt.{decimal}
 use Rattle.std.specs.Io.KnownBytes.{Appends}
 use Rattle.scrib_library.specs.Holdings.{Holdings}
 use Rattle.scrib_locked_steps.specs.Passes.{PassHeld}
@@ -10,10 +9,8 @@ use Rattle.scrib_locked_steps.specs.Shards.{ShardHeld}
 use Rattle.scrib_core.specs.declared.ended.Ended.{Ended}
 use Rattle.scrib_settlement.specs.declared.fault.SettleFault.{SettleFault}
 use Rattle.scrib_shards.specs.Settling.{IsSettledSome, IsFaultSome}
-use Rattle.scrib_report.specs.Json.{table_json}
-use Rattle.scrib_report.specs.Table as rows
+use Rattle.scrib_report.specs.ReplyTexts.{heading, printed_table, read_fault_line}
 use Rattle.scrib_core.specs.declared.format.Format.{Format}
-use Rattle.scrib_core.specs.declared.format.Format.TheVariants as format
 use Rattle.scrib_script_reader.specs.declared.item.Item.{Item}
 use Rattle.scrib_script_reader.specs.Scripts.{Spells, lines}
 use Rattle.scrib_script_io.specs.declared.fault.ScriptFault.{ScriptFault}
@@ -21,20 +18,10 @@ use Rattle.scrib_script_io.specs.declared.fault.ScriptFault.TheVariants as fault
 use Rattle.scrib_script_io.specs.Writes.{AppendsPart}
 use Rattle.scrib_run_service.specs.Outcomes.{Outcome, outcomes_text, IsOutcome}
 
--- the line before those of the connection of this number
-abbrev pub heading : Format → ℕ → List ℕ
-heading format.Line n = codes "connection " ++ decimal n ++ codes "\n"
-heading format.Json n = codes "{\"connection\":" ++ decimal n ++ codes "}\n"
-
 -- the lines of the connections, each after its heading; the first has this number
 abbrev pub connections_text : Format → ℕ → List (List ℕ) → List ℕ
 connections_text f n [] = []
 connections_text f n (text ∷ more) = (heading f n ++ text) ++ connections_text f (n + 1) more
-
--- the last line of a connection whose reader failed
-abbrev pub read_fault_line : Format → List ℕ
-read_fault_line format.Line = codes "read fault\n"
-read_fault_line format.Json = codes "{\"fault\":\"read\"}\n"
 
 -- the text has the lines of the outcomes of all items of a script
 pub record IsTranscript (f : Format) (r : Option (List ℕ)) (text : List ℕ) : Type 0 where
@@ -45,7 +32,7 @@ pub record IsTranscript (f : Format) (r : Option (List ℕ)) (text : List ℕ) :
   pub is : text ≡ outcomes_text f outcomes
 
 -- the text has the lines of the outcomes of a script's first items
-pub record IsFirstOf (f : Format) (r : Option (List ℕ)) (text : List ℕ) : Type 0 where
+pub record IsTranscriptStart (f : Format) (r : Option (List ℕ)) (text : List ℕ) : Type 0 where
   pub items : List Item
   pub outcomes : List Outcome
   pub spelled : IfSome r (λ input. (rest : List Item) × Spells 1 None (lines input) (items ++ rest))
@@ -55,7 +42,7 @@ pub record IsFirstOf (f : Format) (r : Option (List ℕ)) (text : List ℕ) : Ty
 -- the text of a connection: the lines of its script, or those of its first items and the line of a failed reader
 abbrev pub IsConnectionText : Format → Option (List ℕ) → List ℕ → Type 0
 IsConnectionText f r text =
-    IsTranscript f r text ⊎ ((part : List ℕ) × IsFirstOf f r part × (text ≡ part ++ read_fault_line f))
+    IsTranscript f r text ⊎ ((part : List ℕ) × IsTranscriptStart f r part × (text ≡ part ++ read_fault_line f))
 
 -- all lines of a script were written
 abbrev pub WritesAll : Format → Option (List ℕ) → (was now : Option (List ℕ)) → Type 0
@@ -63,11 +50,11 @@ WritesAll f r was now = (text : List ℕ) × IsTranscript f r text × Appends wa
 
 -- the lines of a script's first items were written
 abbrev pub WritesFirst : Format → Option (List ℕ) → (was now : Option (List ℕ)) → Type 0
-WritesFirst f r was now = (text : List ℕ) × IsFirstOf f r text × Appends was now text
+WritesFirst f r was now = (text : List ℕ) × IsTranscriptStart f r text × Appends was now text
 
 -- a beginning of the lines of a script's first items was written
 abbrev pub WritesPart : Format → Option (List ℕ) → (was now : Option (List ℕ)) → Type 0
-WritesPart f r was now = (text : List ℕ) × IsFirstOf f r text × AppendsPart was now text
+WritesPart f r was now = (text : List ℕ) × IsTranscriptStart f r text × AppendsPart was now text
 
 -- the fault of the writer if there is one, and else this fault
 abbrev pub or_fault : ScriptFault → Result (Unit {0}) ScriptFault → Result (Unit {0}) ScriptFault
@@ -83,16 +70,11 @@ first_fault (Err fault.Write) written = or_fault fault.Write written
 first_fault (Err fault.Settle) written = or_fault fault.Settle written
 first_fault (Err fault.OutOfMemory) written = Err fault.OutOfMemory
 
--- the table of settled conversations
-abbrev pub table_text : Format → List Ended → List ℕ
-table_text format.Line list = rows.table_text list
-table_text format.Json list = table_json list
-
 -- the text is the table of `count` shards that these passes settle
-abbrev pub IsTable : Format → ℕ → List PassHeld → List ℕ → Type 0
-IsTable f count passes text =
+abbrev pub IsRunTable : Format → ℕ → List PassHeld → List ℕ → Type 0
+IsRunTable f count passes text =
     (h : Holdings) × (shards : List ShardHeld) × (list : List Ended)
-    × IsSettledSome count h shards passes list × (text ≡ table_text f list)
+    × IsSettledSome count h shards passes list × (text ≡ printed_table f list)
 
 -- the passes do not settle some values of `count` shards
 abbrev pub IsUnsettled : ℕ → List PassHeld → Type 0
@@ -101,12 +83,12 @@ IsUnsettled count passes = (f : SettleFault) × IsFaultSome count passes f
 -- the lines of the connections and a table were written
 abbrev pub Prints : Format → List (List ℕ) → ℕ → List PassHeld → (was now : Option (List ℕ)) → Type 0
 Prints f texts count passes was now =
-    (table : List ℕ) × IsTable f count passes table × Appends was now (connections_text f 1 texts ++ table)
+    (table : List ℕ) × IsRunTable f count passes table × Appends was now (connections_text f 1 texts ++ table)
 
 -- a beginning of the lines of the connections and of a table was written; there may be no table
 abbrev pub PrintsPart : Format → List (List ℕ) → ℕ → List PassHeld → (was now : Option (List ℕ)) → Type 0
 PrintsPart f texts count passes was now =
-    (table : List ℕ) × ((table ≡ []) ⊎ IsTable f count passes table)
+    (table : List ℕ) × ((table ≡ []) ⊎ IsRunTable f count passes table)
     × AppendsPart was now (connections_text f 1 texts ++ table)
 
 -- the whole output of a run was written: the lines of the setup, those of the connections, a table of `count` shards
@@ -114,7 +96,7 @@ abbrev pub PrintsRun : Format → ℕ → Option (List ℕ) → List (Option (Li
     → Type 0
 PrintsRun f count setup readers was now =
     (first : List ℕ) × (texts : List (List ℕ)) × (passes : List PassHeld) × (table : List ℕ)
-    × IsTranscript f setup first × AllZip (IsConnectionText f) readers texts × IsTable f count passes table
+    × IsTranscript f setup first × AllZip (IsConnectionText f) readers texts × IsRunTable f count passes table
     × Appends was now (first ++ (connections_text f 1 texts ++ table))
 
 -- A beginning of the output of a run was written: a beginning of the setup's lines, or all of these and a beginning of
@@ -125,5 +107,5 @@ PrintsRunPart f count setup readers was now =
     WritesPart f setup was now
     ⊎ ((first : List ℕ) × (texts : List (List ℕ)) × (passes : List PassHeld) × (table : List ℕ)
     × IsTranscript f setup first × AllZip (IsConnectionText f) readers texts
-    × ((table ≡ []) ⊎ IsTable f count passes table)
+    × ((table ≡ []) ⊎ IsRunTable f count passes table)
     × AppendsPart was now (first ++ (connections_text f 1 texts ++ table)))

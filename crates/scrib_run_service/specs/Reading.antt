@@ -4,11 +4,11 @@ use Rattle.std.specs.Prelude.{◌≡◌, ℕ, Bool, true, false, List, ◌++◌,
 use Rattle.scrib_script_reader.specs.declared.item.Item.{Item}
 use Rattle.scrib_script_reader.specs.declared.script.Script.{Script}
 use Rattle.scrib_script_reader.specs.Scripts.{Spells, lines}
-use Rattle.scrib_script_reader.specs.Positions.{EndsIn, Takes as Spelled}
+use Rattle.scrib_script_reader.specs.Positions.{EndSpells, TakesBytes}
 use Rattle.scrib_script_io.specs.declared.fault.ScriptFault.{ScriptFault}
 use Rattle.scrib_script_io.specs.declared.fault.ScriptFault.TheVariants as fault
 use Rattle.scrib_run_service.specs.declared.connection.Connection.{Connection}
-use Rattle.scrib_run_service.specs.Outcomes.{Takes, Appends}
+use Rattle.scrib_run_service.specs.Outcomes.{TakesItems, Appends}
 
 -- whether the fault comes from reading or from refused memory
 abbrev pub of_reading : ScriptFault → Bool
@@ -20,8 +20,8 @@ of_reading fault.OutOfMemory = true
 -- the script consumed these bytes, and the connection took the items that they spell
 pub record Carries (old new : Connection) (was now : Script) (bytes : List ℕ) : Type 0 where
   pub items : List Item
-  pub spelled : Spelled was now bytes items
-  pub took : Takes old new items
+  pub spelled : TakesBytes was now bytes items
+  pub took : TakesItems old new items
 
 -- the same of a beginning of the bytes, which ends at a fault
 pub record CarriesFront (old new : Connection) (was : Script) (piece : List ℕ) : Type 0 where
@@ -34,7 +34,7 @@ pub record CarriesFront (old new : Connection) (was : Script) (piece : List ℕ)
 -- the script consumed these bytes, and the connection appended the lines of the outcomes of the items that they spell
 pub record AppendsSpelled (old new : Connection) (was now : Script) (bytes : List ℕ) : Type 0 where
   pub items : List Item
-  pub spelled : Spelled was now bytes items
+  pub spelled : TakesBytes was now bytes items
   pub appends : Appends old new items
 
 -- the same of a beginning of the bytes, which ends at a fault
@@ -48,7 +48,7 @@ pub record AppendsFront (old new : Connection) (was : Script) (piece : List ℕ)
 -- the connection appended the lines of the outcomes of the items that the end of the script spells
 pub record AppendsEnd (old new : Connection) (was : Script) : Type 0 where
   pub items : List Item
-  pub spelled : EndsIn was items
+  pub spelled : EndSpells was items
   pub appends : Appends old new items
 
 -- the connection appended the lines of the outcomes of all items of the script

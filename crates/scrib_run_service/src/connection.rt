@@ -9,14 +9,15 @@ use scrib_client::steps::make_step;
 use scrib_core::format::Format;
 use scrib_core::step::Step;
 use scrib_rejudge::notices::Notice;
-use scrib_report::printing::{bad_line, end_of_text, reply_format};
+use scrib_report::part::OutputPart;
+use scrib_report::printing::{push_part, reply_format};
 use scrib_script_io::fault::ScriptFault;
 use scrib_script_reader::item::Item;
+use scrib_shards::batch_notes::Batch;
 use scrib_shards::pass::Pass;
 use scrib_shards::pass_calls::PassReply;
 use scrib_shards::service::Service;
 use scrib_types::shared_event::SharedEvent;
-use scrib_types::text::push_bytes;
 use std::alloc::{AllocError, Global};
 use std::mem::replace;
 use std::sync::Wait;
@@ -49,14 +50,14 @@ pub(crate) struct Closed {
 }
 
 impl<'a> Connection<'a> {
-    ghost use Rattle.std.specs.Prelude.{◌≡◌, ◌≤◌, ◌++◌, [], ◌∷◌, false, OnOk, IfOk, IfErr, vec_len, vec_capacity};
+    ghost use Rattle.std.specs.Prelude.{◌≡◌, ◌≤◌, ◌++◌, [], ◌∷◌, false, OnOk, IfOk, IfErr, vec_len};
     ghost use Rattle.std.specs.HashMap.{values};
     ghost use Rattle.scrib_core.specs.declared.format.Format.TheVariants as format;
     ghost use Rattle.scrib_script_reader.specs.declared.item.Item.TheVariants as item;
     ghost use Rattle.scrib_script_io.specs.declared.fault.ScriptFault.TheVariants as fault;
     ghost use Rattle.scrib_client.specs.ServiceReplies.{noted_reply};
-    ghost use Rattle.scrib_run_service.specs.Outcomes.{replied, bad, ended, Adds, Yields, Takes, is_bad_step, notes_of, noted_outcomes};
-    ghost use Rattle.scrib_run_service.specs.Outputs.{read_fault_line};
+    ghost use Rattle.scrib_run_service.specs.Outcomes.{replied, bad, ended, Adds, Yields, TakesItems, is_bad_step, note_items, noted_outcomes};
+    ghost use Rattle.scrib_report.specs.ReplyTexts.{read_fault_line};
 
     /// Returns a connection with no passes and no lines. Its replies are in the format of the run.
     pub(crate) fn new<P>(
@@ -126,7 +127,7 @@ impl<'a> Connection<'a> {
         item: Item,
         number: u32,
     ) -> Result<(), ScriptFault>
-        ensures took { OnOk result (Takes self.old self.new (item ∷ [])) }
+        ensures took { OnOk result (TakesItems self.old self.new (item ∷ [])) }
         ensures fault { IfErr result (λ e. e ≡ fault.OutOfMemory) }
     {
         match item {
@@ -137,7 +138,7 @@ impl<'a> Connection<'a> {
 
     // As `submit`, for an item that is not buffered.
     fn submit_alone(&mut self, rt: &impl Wait, item: Item, number: u32) -> Result<(), ScriptFault>
-        ensures took { OnOk result (Takes self.old self.new (item ∷ [])) }
+        ensures took { OnOk result (TakesItems self.old self.new (item ∷ [])) }
         ensures fault { IfErr result (λ e. e ≡ fault.OutOfMemory) }
     {
         self.flush(rt)?;
@@ -149,7 +150,7 @@ impl<'a> Connection<'a> {
     /// # Errors
     /// `OutOfMemory` where memory is refused.
     pub(crate) fn flush(&mut self, rt: &impl Wait) -> Result<(), ScriptFault>
-        ensures took { OnOk result (Takes self.old self.new []) }
+        ensures took { OnOk result (TakesItems self.old self.new []) }
         ensures none { OnOk result (self.new.pending.items ≡ []) }
         ensures fault { IfErr result (λ e. e ≡ fault.OutOfMemory) }
     {
@@ -158,7 +159,7 @@ impl<'a> Connection<'a> {
         }
         let events = replace(&mut self.pending, Vec::new(self.alloc));
         match Vec::with_capacity(self.alloc, events.len()) {
-            Ok(room) => self.note_all(rt, self.pending_id, events, room),
+            Ok(room) => self.note_all(rt, self.pending_id, Batch { events, room }),
             Err(_) => self.note_each(rt, self.pending_id, events),
         }
     }
@@ -166,7 +167,7 @@ impl<'a> Connection<'a> {
     // Buffers the event. Where memory for that is refused, it is noted now.
     #[inline(always)]
     fn buffer(&mut self, rt: &impl Wait, id: u32, event: SharedEvent) -> Result<(), ScriptFault>
-        ensures took { OnOk result (Takes self.old self.new (notes_of id (event ∷ []))) }
+        ensures took { OnOk result (TakesItems self.old self.new (note_items id (event ∷ []))) }
         ensures fault { IfErr result (λ e. e ≡ fault.OutOfMemory) }
     {
         self.turn_to(rt, id)?;
@@ -181,7 +182,7 @@ impl<'a> Connection<'a> {
     // Prepares the buffer for an event of the conversation `id`. Flushes it if it is full or of another conversation.
     #[inline(always)]
     fn turn_to(&mut self, rt: &impl Wait, id: u32) -> Result<(), ScriptFault>
-        ensures took { OnOk result (Takes self.old self.new []) }
+        ensures took { OnOk result (TakesItems self.old self.new []) }
         ensures pending_id { OnOk result (self.new.pending_id ≡ id) }
         ensures fault { IfErr result (λ e. e ≡ fault.OutOfMemory) }
     {
@@ -193,22 +194,14 @@ impl<'a> Connection<'a> {
         Ok(())
     }
 
-    // Notes the events of the conversation by one call. `room` has the capacity for their replies.
-    fn note_all(
-        &mut self,
-        rt: &impl Wait,
-        id: u32,
-        events: Vec<SharedEvent>,
-        room: Vec<PassReply>,
-    ) -> Result<(), ScriptFault>
-        requires empty { room.items ≡ [] }
-        requires room { vec_len events ≤ vec_capacity room }
-        ensures yielded { OnOk result (Yields self.old self.new (notes_of id events.items)) }
+    // Notes the events of the conversation by one call.
+    fn note_all(&mut self, rt: &impl Wait, id: u32, batch: Batch) -> Result<(), ScriptFault>
+        ensures yielded { OnOk result (Yields self.old self.new (note_items id batch.events.items)) }
         ensures fault { IfErr result (λ e. e ≡ fault.OutOfMemory) }
     {
-        match self.passes.note_all(rt, self.service, id, events, room) {
+        match self.passes.note_all(rt, self.service, id, batch) {
             Ok(replies) => self.append_replies(id, replies),
-            Err(events) => self.note_each(rt, id, events),
+            Err(Batch { events, .. }) => self.note_each(rt, id, events),
         }
     }
 
@@ -239,7 +232,7 @@ impl<'a> Connection<'a> {
         id: u32,
         events: Vec<SharedEvent>,
     ) -> Result<(), ScriptFault>
-        ensures yielded { OnOk result (Yields self.old self.new (notes_of id events.items)) }
+        ensures yielded { OnOk result (Yields self.old self.new (note_items id events.items)) }
         ensures fault { IfErr result (λ e. e ≡ fault.OutOfMemory) }
     {
         for event in events {
@@ -250,7 +243,7 @@ impl<'a> Connection<'a> {
 
     // Notes the event, and appends the line of its reply.
     fn note_now(&mut self, rt: &impl Wait, id: u32, event: SharedEvent) -> Result<(), ScriptFault>
-        ensures yielded { OnOk result (Yields self.old self.new (notes_of id (event ∷ []))) }
+        ensures yielded { OnOk result (Yields self.old self.new (note_items id (event ∷ []))) }
         ensures fault { IfErr result (λ e. e ≡ fault.OutOfMemory) }
     {
         let reply = self.passes.note(rt, self.service, id, event);
@@ -306,11 +299,7 @@ impl<'a> Connection<'a> {
     pub(crate) fn append_read_fault(&mut self) -> Result<(), AllocError>
         ensures { OnOk result (self.new.lines.items ≡ self.old.lines.items ++ read_fault_line self.old.format) }
     {
-        let line: &[u8] = match self.format {
-            Format::Line => b"read fault\n",
-            Format::Json => b"{\"fault\":\"read\"}\n",
-        };
-        push_bytes(&mut self.lines, line)
+        push_part(&mut self.lines, &OutputPart::ReadFault, self.format)
     }
 
     // Appends the line that reports a bad line of this number.
@@ -318,8 +307,7 @@ impl<'a> Connection<'a> {
         ensures added { OnOk result (Adds self.old self.new (bad number ∷ [])) }
         ensures fault { IfErr result (λ e. e ≡ fault.OutOfMemory) }
     {
-        let line = bad_line(self.alloc, number, self.format)?;
-        push_bytes(&mut self.lines, line.as_bytes())?;
+        push_part(&mut self.lines, &OutputPart::BadLine(number), self.format)?;
         Ok(())
     }
 
@@ -328,7 +316,7 @@ impl<'a> Connection<'a> {
         ensures added { OnOk result (Adds self.old self.new (ended ∷ [])) }
         ensures fault { IfErr result (λ e. e ≡ fault.OutOfMemory) }
     {
-        push_bytes(&mut self.lines, end_of_text(self.format))?;
+        push_part(&mut self.lines, &OutputPart::EndOfText, self.format)?;
         Ok(())
     }
 

@@ -1,7 +1,7 @@
 //! Runs connections on threads, beside workers that renew stale verdicts.
 
 ghost use Rattle.std.specs.Prelude.{◌≡◌, ◌<◌, ℕ, length, map, IfOk, vec_len, slice_index_or};
-ghost use Rattle.scrib_run_service.specs.ConnectionResults.{IsClosed, AreClosed};
+ghost use Rattle.scrib_run_service.specs.ConnectionResults.{IsConnectionClosed, AreClosed};
 
 use crate::common::Common;
 use crate::connection::{Closed, Connection};
@@ -31,7 +31,7 @@ fn run_connection<C: Read, P: Progress>(
 ) -> Ran
 where
     C: Drop,
-    ensures { IsClosed common.now.format (C.remaining reader) result }
+    ensures { IsConnectionClosed common.now.format (C.remaining reader) result }
 {
     let mut connection = Connection::new(common, Some(outbox));
     match run_script(rt, common, &mut connection, &mut reader) {
@@ -51,7 +51,8 @@ fn run_each<R: Threads + Wait + Sync, C: Read + Send + Drop, P: Progress + Sync>
 ) -> Result<Vec<Ran>, AllocError>
     ensures len { IfOk result (λ all. vec_len all ≡ vec_len readers) }
     ensures each { IfOk result (λ all. (i : ℕ) (d : _) (c : C) → i < length readers.items →
-        IsClosed common.now.format (C.remaining (slice_index_or readers.items i c)) (slice_index_or all.items i d)) }
+        IsConnectionClosed common.now.format (C.remaining (slice_index_or readers.items i c))
+        (slice_index_or all.items i d)) }
 {
     thread::map_vec(
         rt,

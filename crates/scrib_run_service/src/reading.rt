@@ -1,18 +1,19 @@
 //! Reads the script of a connection.
 
 ghost use Rattle.std.specs.Prelude.{◌≡◌, ◌<◌, true, [], OnOk, IfErr, length};
-ghost use Rattle.scrib_script_reader.specs.Scripts.{listed};
+ghost use Rattle.scrib_script_reader.specs.Scripts.{item_list};
 ghost use Rattle.scrib_script_io.specs.declared.fault.ScriptFault.TheVariants as fault;
-ghost use Rattle.scrib_run_service.specs.Outcomes.{Takes};
+ghost use Rattle.scrib_run_service.specs.Outcomes.{TakesItems};
 ghost use Rattle.scrib_run_service.specs.Reading.{of_reading, Carries, CarriesFront, AppendsSpelled, AppendsFront, AppendsEnd, Ran, RanPart};
 
 use crate::common::Common;
 use crate::connection::Connection;
 use crate::progress::Progress;
 use scrib_script_io::fault::ScriptFault;
+use scrib_script_io::reading::read_piece;
 use scrib_script_reader::item::Item;
 use scrib_script_reader::script::Script;
-use std::io::{ErrorKind, Read};
+use std::io::Read;
 use std::sync::Wait;
 
 // How many bytes of a script are read at once.
@@ -56,15 +57,7 @@ fn run_by_pieces<R: Read, P: Progress>(
 {
     let mut script = Script::new(common.alloc);
     for _ in 0..u64::MAX {
-        let n = match reader.read(piece) {
-            Ok(n) => n,
-            Err(e) => {
-                if e.kind() == ErrorKind::Interrupted {
-                    continue;
-                }
-                return Err(ScriptFault::Read);
-            }
-        };
+        let n = read_piece(reader, piece)?;
         if n == 0 {
             end_script(rt, connection, &mut script)?;
             common.tally.add(connection.take_noted());
@@ -76,8 +69,8 @@ fn run_by_pieces<R: Read, P: Progress>(
     Err(ScriptFault::Read)
 }
 
-// Consumes the next bytes of the script, and carries out the items that they spell. At a fault, it carries out the items
-// before it.
+// Consumes the next bytes of the script, and carries out the items that they spell. At a fault, it carries out the
+// items before it.
 fn take_piece(
     rt: &impl Wait,
     connection: &mut Connection<'_>,
@@ -125,7 +118,7 @@ fn submit_any(
     item: Option<Item>,
     number: u32,
 ) -> Result<(), ScriptFault>
-    ensures took { OnOk result (Takes connection.old connection.new (listed item)) }
+    ensures took { OnOk result (TakesItems connection.old connection.new (item_list item)) }
     ensures fault { IfErr result (λ e. e ≡ fault.OutOfMemory) }
 {
     match item {

@@ -2,13 +2,14 @@
 
 ghost use Rattle.std.specs.Prelude.{◌≡◌, ◌≢◌, ◌++◌, true, map, flat_map, IfOk, IfErr, IfSome, OnOk, OnErr, vec_len};
 ghost use Rattle.std.specs.Io.KnownBytes.{Appends};
+ghost use Rattle.scrib_report.specs.ReplyTexts.{heading};
 ghost use Rattle.scrib_shards.specs.Settling.{IsSettledSome};
 ghost use Rattle.scrib_script_io.specs.Writes.{AppendsPart};
 ghost use Rattle.scrib_script_io.specs.Faults.{of_output, of_script};
 ghost use Rattle.scrib_script_io.specs.declared.fault.ScriptFault.TheVariants as fault;
 ghost use Rattle.scrib_run_service.specs.ConnectionResults.{AreClosed, AreTexts};
 ghost use Rattle.scrib_run_service.specs.Outputs as outputs;
-ghost use Rattle.scrib_run_service.specs.Outputs.{connections_text, IsTable, IsUnsettled, Prints, PrintsPart, PrintsRun, PrintsRunPart, WritesAll, WritesFirst, WritesPart};
+ghost use Rattle.scrib_run_service.specs.Outputs.{connections_text, IsRunTable, IsUnsettled, Prints, PrintsPart, PrintsRun, PrintsRunPart, WritesAll, WritesFirst, WritesPart};
 
 use crate::common::Common;
 use crate::connection::{Closed, Connection};
@@ -16,10 +17,10 @@ use crate::connections::{Ran, run_connections};
 use crate::options::Options;
 use crate::progress::{Phase, Progress, Tally};
 use crate::reading::run_script;
-use scrib_core::ended::Ended;
 use scrib_core::format::Format;
 use scrib_rejudge::workers::sweep;
-use scrib_report::table::{table, table_json};
+use scrib_report::part::OutputPart;
+use scrib_report::printing::text_of_part;
 pub use scrib_script_io::fault::ScriptFault;
 use scrib_script_io::writing::{flush_out, write_out};
 use scrib_settlement::fault::SettleFault;
@@ -27,7 +28,6 @@ use scrib_shards::gate::OpenGate;
 use scrib_shards::pass::Pass;
 use scrib_shards::service::Service;
 use scrib_shards::settled::Settled;
-use scrib_types::text::{push_bytes, push_number};
 use std::alloc::{AllocError, Global};
 use std::io::{Read, Write};
 use std::marker::Send;
@@ -195,21 +195,6 @@ fn all_closed(alloc: Global, ran: Vec<Ran>) -> Result<Vec<Closed>, AllocError>
     Ok(closed)
 }
 
-// Returns the line before those of the connection of this number.
-fn heading(alloc: Global, format: Format, number: u64) -> Result<Vec<u8>, AllocError>
-    ensures { IfOk result (λ line. line.items ≡ outputs.heading format number) }
-{
-    let (before, after): (&[u8], &[u8]) = match format {
-        Format::Line => (b"connection ", b"\n"),
-        Format::Json => (b"{\"connection\":", b"}\n"),
-    };
-    let mut line = Vec::new(alloc);
-    push_bytes(&mut line, before)?;
-    push_number(&mut line, number)?;
-    push_bytes(&mut line, after)?;
-    Ok(line)
-}
-
 // Writes the heading of the connection of this number, and then its lines.
 fn write_connection<W: Write>(
     alloc: Global,
@@ -219,12 +204,12 @@ fn write_connection<W: Write>(
     writer: &mut W,
 ) -> Result<(), ScriptFault>
     ensures ok { OnOk result (
-        Appends (W.contents writer.old) (W.contents writer.new) (outputs.heading format number ++ lines.now)) }
+        Appends (W.contents writer.old) (W.contents writer.new) (heading format number ++ lines.now)) }
     ensures err { OnErr result (
-        AppendsPart (W.contents writer.old) (W.contents writer.new) (outputs.heading format number ++ lines.now)) }
+        AppendsPart (W.contents writer.old) (W.contents writer.new) (heading format number ++ lines.now)) }
     ensures fault { IfErr result (λ e. of_output e ≡ true) }
 {
-    let heading = heading(alloc, format, number)?;
+    let heading = text_of_part(alloc, &OutputPart::Connection(number), format)?;
     write_out(writer, heading.as_slice())?;
     write_out(writer, lines)
 }
@@ -281,7 +266,7 @@ fn settle_beside<R: Threads + Sync, W: Write>(
     writer: &mut W,
 ) -> (Result<Vec<u8>, ScriptFault>, Result<(), ScriptFault>)
     ensures table { IfOk result.0 (λ text.
-        IsTable unsettled.format (vec_len unsettled.service.shards) unsettled.passes.items text.items) }
+        IsRunTable unsettled.format (vec_len unsettled.service.shards) unsettled.passes.items text.items) }
     ensures settle { IfErr result.0 (λ e. e ≡ fault.Settle →
         IsUnsettled (vec_len unsettled.service.shards) unsettled.passes.items) }
     ensures fault { IfErr result.0 (λ e. e ≢ fault.Read) }
@@ -329,7 +314,7 @@ fn settled_table<R: Threads + Sync>(
     unsettled: &mut Option<Unsettled>,
 ) -> Result<Vec<u8>, ScriptFault>
     ensures table { IfOk result (λ text. IfSome unsettled.old (λ u.
-        IsTable u.format (vec_len u.service.shards) u.passes.items text.items)) }
+        IsRunTable u.format (vec_len u.service.shards) u.passes.items text.items)) }
     ensures settle { IfErr result (λ e. e ≡ fault.Settle → IfSome unsettled.old (λ u.
         IsUnsettled (vec_len u.service.shards) u.passes.items)) }
     ensures fault { IfErr result (λ e. e ≢ fault.Read) }
@@ -343,7 +328,7 @@ fn settled_table<R: Threads + Sync>(
 // Settles the service, and returns the text of its table.
 fn table_of<R: Threads + Sync>(rt: &R, unsettled: Unsettled) -> Result<Vec<u8>, ScriptFault>
     ensures table { IfOk result (λ text.
-        IsTable unsettled.format (vec_len unsettled.service.shards) unsettled.passes.items text.items) }
+        IsRunTable unsettled.format (vec_len unsettled.service.shards) unsettled.passes.items text.items) }
     ensures settle { IfErr result (λ e. e ≡ fault.Settle →
         IsUnsettled (vec_len unsettled.service.shards) unsettled.passes.items) }
     ensures fault { IfErr result (λ e. e ≢ fault.Read) }
@@ -355,7 +340,7 @@ fn table_of<R: Threads + Sync>(rt: &R, unsettled: Unsettled) -> Result<Vec<u8>, 
         passes,
     } = unsettled;
     let settled = settled(rt, service, passes)?;
-    let table = table_text(alloc, format, settled.list.as_slice())?;
+    let table = text_of_part(alloc, &OutputPart::Table(settled.list.as_slice()), format)?;
     // Freeing the memory of long logs, event by event, takes a tenth of a run, and the process ends soon.
     forget(settled);
     Ok(table)
@@ -376,15 +361,5 @@ fn settled<R: Threads + Sync>(
         Ok(settled) => Ok(settled),
         Err((SettleFault::OutOfMemory, _, _)) => Err(ScriptFault::OutOfMemory),
         Err(_) => Err(ScriptFault::Settle),
-    }
-}
-
-// Returns the text of the table in this format.
-fn table_text(alloc: Global, format: Format, list: &[Ended]) -> Result<Vec<u8>, AllocError>
-    ensures { IfOk result (λ text. text.items ≡ outputs.table_text format list.now) }
-{
-    match format {
-        Format::Line => table(alloc, list),
-        Format::Json => table_json(alloc, list),
     }
 }

@@ -4,7 +4,7 @@ use Rattle.std.specs.Prelude.{OnOk, is_ok, if◌then◌else◌}
 use Rattle.std.proofs.lemmas.Bool.{cases_lt, ne_eqb}
 use Rattle.std.proofs.lemmas.List.{append_assoc, take_all, length-take, length-append, get_or_at}
 use Rattle.std.proofs.lemmas.List.Elements.{All-head, All-tail}
-use Rattle.scrib_script_reader.specs.Scripts.{NoLf, joined, lines, is_end, bare, text_end}
+use Rattle.scrib_script_reader.specs.Scripts.{NoLf, with_byte, lines, is_end, bare, text_end}
 
 -- bytes with no LF, and then an LF, are the first line
 pub lines_lf : (k more : List ℕ) → NoLf k → lines (k ++ 10 ∷ more) ≡ (k ++ 10 ∷ []) ∷ lines more
@@ -16,7 +16,7 @@ lines_lf (b ∷ k) more h =
 pub lines_last : (b : ℕ) (k : List ℕ) → NoLf (b ∷ k) → lines (b ∷ k) ≡ (b ∷ k) ∷ []
 lines_last b [] h = rw (ne_eqb b 10 (All-head (λ x. x ≢ 10) b [] h)) refl
 lines_last b (c ∷ k) h =
-    rw (ne_eqb b 10 (All-head (λ x. x ≢ 10) b (c ∷ k) h)) (ap (joined b) (lines_last c k (All-tail (λ x. x ≢ 10) b (c ∷ k) h)))
+    rw (ne_eqb b 10 (All-head (λ x. x ≢ 10) b (c ∷ k) h)) (ap (with_byte b) (lines_last c k (All-tail (λ x. x ≢ 10) b (c ∷ k) h)))
 
 -- three or more bytes are no line end
 long_is_no_end : (b c d : ℕ) (xs ys : List ℕ) → is_end (b ∷ c ∷ (xs ++ d ∷ ys)) ≡ false

@@ -21,8 +21,8 @@ use Rattle.scrib_core.specs.declared.format.Format.{Format}
 use Rattle.scrib_core.specs.declared.format.Format.TheVariants as format
 use Rattle.scrib_script_reader.specs.declared.line.Line.{Line}
 use Rattle.scrib_script_reader.specs.declared.line.Line.TheVariants as line
-use Rattle.scrib_script_reader.specs.Fields.{fields, Finds, IsNumber, is_dotted, IsDottedText, IsMessageText, IsOperatorText, IsPayloadText, IsCut}
-use Rattle.scrib_script_reader.specs.Steps.{IsExchange, Makes, Edits, MakesStep}
+use Rattle.scrib_script_reader.specs.Fields.{fields, Finds, IsNumberText, is_dotted, IsDottedText, IsMessageText, IsOperatorText, IsPayloadText, IsCut}
+use Rattle.scrib_script_reader.specs.Steps.{IsExchange, MakesWithId, Edits, MakesStep}
 use Rattle.scrib_script_reader.specs.Says.{Says, IsSkipped, IsPutLine, Asks}
 use Rattle.scrib_script_reader.proofs.Pieces.{pieces, dotted-pieces, dotted-read, payload-pieces, payload-read}
 use Rattle.scrib_script_reader.proofs.Formats.{no_put, no_step}
@@ -69,7 +69,7 @@ all_digits [] = inl tt
 all_digits (b ∷ bs) = both (at_most (suc (digit_value b)) 10) (all_digits bs)
 
 -- the number that the bytes are
-number_found : (bytes : List ℕ) → Found (IsNumber bytes)
+number_found : (bytes : List ℕ) → Found (IsNumberText bytes)
 number_found bytes =
     let value = digits_value 10 bytes in
     elim (both (both (all_digits bytes) (at_most 1 (length bytes))) (both (at_most (length bytes) 10) (at_most (suc (digits_value 10 bytes)) (2 ^ 32)))) [
@@ -292,36 +292,36 @@ joins_found (role ∷ []) = elim (is_true (is_name role)) [
 joins_found (a ∷ b ∷ fs) = (None, λ role h. omega (arith, ap length h.0))
 
 module _ (id : ℕ) (fs : List (List ℕ)) where
-  open_step : (o : Option (List (List ℕ))) → Finds (Opens fs) o → Found (Makes (codes "open") id fs)
+  open_step : (o : Option (List (List ℕ))) → Finds (Opens fs) o → Found (MakesWithId (codes "open") id fs)
   open_step None none = (None, no-open id fs none)
   open_step (Some name) h = (Some (step.Open id name), (refl, refl, h))
 
-  join_step : (o : Option (List ℕ)) → Finds (Joins fs) o → Found (Makes (codes "join") id fs)
+  join_step : (o : Option (List ℕ)) → Finds (Joins fs) o → Found (MakesWithId (codes "join") id fs)
   join_step None none = (None, no-join id fs none)
   join_step (Some role) h = (Some (step.Note id (event.Join role)), (refl, refl, h.0, h.1))
 
-  send_step : (o : Option (List ℕ × List ℕ × Message)) → Finds (EventCache fs) o → Found (Makes (codes "send") id fs)
+  send_step : (o : Option (List ℕ × List ℕ × Message)) → Finds (EventCache fs) o → Found (MakesWithId (codes "send") id fs)
   send_step None none = (None, no-send id fs (λ from to m h. none (from, to, m) h))
   send_step (Some e) h = (Some (step.Note id (event.Sent e.0 e.1 e.2)), (refl, refl, h))
 
-  recv_step : (o : Option (List ℕ × List ℕ × Message)) → Finds (EventCache fs) o → Found (Makes (codes "recv") id fs)
+  recv_step : (o : Option (List ℕ × List ℕ × Message)) → Finds (EventCache fs) o → Found (MakesWithId (codes "recv") id fs)
   recv_step None none = (None, no-recv id fs (λ from to m h. none (from, to, m) h))
   recv_step (Some e) h = (Some (step.Note id (event.Received e.0 e.1 e.2)), (refl, refl, h))
 
-turn_step : (id : ℕ) (fs : List (List ℕ)) → Found (Makes (codes "turn") id fs)
+turn_step : (id : ℕ) (fs : List (List ℕ)) → Found (MakesWithId (codes "turn") id fs)
 turn_step id [] = (Some (step.Turn id), (refl, refl, refl))
 turn_step id (f ∷ fs) = (None, no-turn id (f ∷ fs) (λ e. cc))
 
-ask_step : (id : ℕ) (fs : List (List ℕ)) → Found (Makes (codes "ask") id fs)
+ask_step : (id : ℕ) (fs : List (List ℕ)) → Found (MakesWithId (codes "ask") id fs)
 ask_step id [] = (Some (step.Ask id), (refl, refl, refl))
 ask_step id (f ∷ fs) = (None, no-ask id (f ∷ fs) (λ e. cc))
 
 -- the step of a word that equals the known one
-worded : (word known : List ℕ) (id : ℕ) (fs : List (List ℕ)) → word ≡ known → Found (Makes known id fs) → Found (Makes word id fs)
-worded word known id fs e found = (found.0, subst (λ (w : List ℕ). Finds (Makes w id fs) found.0) (sym e) found.1)
+worded : (word known : List ℕ) (id : ℕ) (fs : List (List ℕ)) → word ≡ known → Found (MakesWithId known id fs) → Found (MakesWithId word id fs)
+worded word known id fs e found = (found.0, subst (λ (w : List ℕ). Finds (MakesWithId w id fs) found.0) (sym e) found.1)
 
 -- the step that a word makes with an id and the fields after them
-word_step : (word : List ℕ) (id : ℕ) (fs : List (List ℕ)) → Found (Makes word id fs)
+word_step : (word : List ℕ) (id : ℕ) (fs : List (List ℕ)) → Found (MakesWithId word id fs)
 word_step word id fs = elim (same_bytes word (codes "open")) [
   | inl e ↦ let opens = opens_found fs in worded word (codes "open") id fs e (open_step id fs opens.0 opens.1)
   | inr open_no ↦ elim (same_bytes word (codes "join")) [
@@ -342,7 +342,7 @@ word_step word id fs = elim (same_bytes word (codes "open")) [
   ]
 ]
 
-step_from : (word number : List ℕ) (fs : List (List ℕ)) → (word ≡ codes "withdraw" → ⊥) → (word ≡ codes "profile" → ⊥) → (o : Option ℕ) → Finds (IsNumber number) o → Found (MakesStep (word ∷ number ∷ fs))
+step_from : (word number : List ℕ) (fs : List (List ℕ)) → (word ≡ codes "withdraw" → ⊥) → (word ≡ codes "profile" → ⊥) → (o : Option ℕ) → Finds (IsNumberText number) o → Found (MakesStep (word ∷ number ∷ fs))
 step_from word number fs withdraws profiles None none = (None, no-number word number fs withdraws profiles none)
 step_from word number fs withdraws profiles (Some id) n =
     let made = word_step word id fs in (made.0, found-step word number fs id withdraws profiles n made.0 made.1)

@@ -4,7 +4,7 @@ use Rattle.std.specs.Char.{digit_value}
 use Rattle.std.specs.Str.Parse.{AllDigits}
 use Rattle.std.proofs.Math.Nat.{pow-suc}
 use Rattle.std.proofs.lemmas.Bool.Decides.{nat_tests}
-use Rattle.scrib_script_reader.specs.Fields.{IsNumber}
+use Rattle.scrib_script_reader.specs.Fields.{IsNumberText}
 
 -- the bytes `0` to `9`
 pub decimal : (b : ℕ) → digit_value b < 10 → (48 ≤ b) × (b ≤ 57)
@@ -22,5 +22,5 @@ digit-at (b ∷ bs) (suc i) l h = digit-at bs i (omega arith) h.1
 pub power_more : (value d i : ℕ) → value < 10 ^ i → d ≤ 9 → value * 10 + d < 10 ^ (i + 1)
 power_more value d i h k = rw (add-one, pow-suc) (omega arith)
 
-pub same_number : (bytes : List ℕ) (m n : ℕ) → IsNumber bytes m → IsNumber bytes n → m ≡ n
+pub same_number : (bytes : List ℕ) (m n : ℕ) → IsNumberText bytes m → IsNumberText bytes n → m ≡ n
 same_number bytes m n h k = h.value ∙ sym k.value

@@ -17,8 +17,8 @@ use Rattle.scrib_script_reader.specs.declared.direction.Direction.TheVariants as
 use Rattle.scrib_core.specs.declared.format.Format.TheVariants as format
 use Rattle.scrib_script_reader.specs.declared.line.Line.TheVariants as line
 use Rattle.scrib_core.specs.declared.step.Step.TheVariants as step
-use Rattle.scrib_script_reader.specs.Fields.{fields, is_blank, has_bytes, IsNumber}
-use Rattle.scrib_script_reader.specs.Heads.{IsHead, SpellsEvent, SpellsExchange, direction_word, directed_event, sender_of, receiver_of, message_of}
+use Rattle.scrib_script_reader.specs.Fields.{fields, is_blank, has_bytes, IsNumberText}
+use Rattle.scrib_script_reader.specs.Heads.{IsHead, SpellsEvent, SpellsExchange, direction_word, directed_event, sender_of, receiver_of, event_message}
 use Rattle.scrib_types.specs.Texts.{message_text}
 use Rattle.scrib_script_reader.specs.Says.{IsSkipped, Says}
 use Rattle.scrib_script_reader.specs.Steps.{IsExchange}
@@ -59,12 +59,12 @@ first-field-cut x xs rest h =
     let some : has_bytes (x ∷ xs) ≡ true = grind (arith, nat_tests) in
     ap (filter has_bytes) (slice_split_at is_blank (x ∷ xs) 32 rest h refl) ∙ ap (λ t. if t then (x ∷ xs) ∷ filter has_bytes (slice_split is_blank rest) else filter has_bytes (slice_split is_blank rest)) some
 
-number-cut : (digits rest : List ℕ) (n : ℕ) → IsNumber digits n → fields (digits ++ 32 ∷ rest) ≡ digits ∷ fields rest
+number-cut : (digits rest : List ℕ) (n : ℕ) → IsNumberText digits n → fields (digits ++ 32 ∷ rest) ≡ digits ∷ fields rest
 number-cut [] rest n h = absurd (omega (arith, h.some))
 number-cut (d ∷ ds) rest n h = first-field-cut d ds rest (digits-no-blank (d ∷ ds) h.digits)
 
 -- a number is one field
-number-alone : (digits : List ℕ) (n : ℕ) → IsNumber digits n → fields digits ≡ digits ∷ []
+number-alone : (digits : List ℕ) (n : ℕ) → IsNumberText digits n → fields digits ≡ digits ∷ []
 unfolding fields
 number-alone [] n h = absurd (omega (arith, h.some))
 number-alone (d ∷ ds) n h =
@@ -115,25 +115,25 @@ exchange-says bytes text direction.Receive id from to m h e =
 
 pub head-says : (bytes text : List ℕ) (a : Direction) (id : ℕ) (e : Event) → IsHead bytes a id text → SpellsEvent text a e → Says bytes (line.Step format.Line (step.Note id e))
 head-says bytes text a id e h s =
-    subst (λ (x : Event). Says bytes (line.Step format.Line (step.Note id x))) (sym s.0) (exchange-says bytes text a id (sender_of e) (receiver_of e) (message_of e) h s.1)
+    subst (λ (x : Event). Says bytes (line.Step format.Line (step.Note id x))) (sym s.0) (exchange-says bytes text a id (sender_of e) (receiver_of e) (event_message e) h s.1)
 
 -- the fields of an `ask` line
-ask-fields : (digits : List ℕ) (id : ℕ) → IsNumber digits id → fields (codes "ask" ++ 32 ∷ digits) ≡ codes "ask" ∷ digits ∷ []
+ask-fields : (digits : List ℕ) (id : ℕ) → IsNumberText digits id → fields (codes "ask" ++ 32 ∷ digits) ≡ codes "ask" ∷ digits ∷ []
 ask-fields digits id h = first-field-cut 97 (codes "sk") digits ask-no-blank ∙ ap (λ fs. codes "ask" ∷ fs) (number-alone digits id h)
 
 -- an `ask` line means a question
-pub ask_says : (bytes digits : List ℕ) (id : ℕ) → bytes ≡ codes "ask" ++ 32 ∷ digits → IsNumber digits id → Says bytes (line.Step format.Line (step.Ask id))
+pub ask_says : (bytes digits : List ℕ) (id : ℕ) → bytes ≡ codes "ask" ++ 32 ∷ digits → IsNumberText digits id → Says bytes (line.Step format.Line (step.Ask id))
 ask_says bytes digits id e h =
     let is = ap fields e ∙ ask-fields digits id h in
     let short : length bytes ≤ 131072 = omega (arith, ap length e, h.most) in
     (short, (fields bytes, (refl, λ more k. apart (codes "ask") (codes "json") refl (head-of-fields _ _ _ _ (sym is ∙ k))), rw is (inr (id, h, (refl, refl, refl)))))
 
 -- the fields of a `turn` line
-turn-fields : (digits : List ℕ) (id : ℕ) → IsNumber digits id → fields (codes "turn" ++ 32 ∷ digits) ≡ codes "turn" ∷ digits ∷ []
+turn-fields : (digits : List ℕ) (id : ℕ) → IsNumberText digits id → fields (codes "turn" ++ 32 ∷ digits) ≡ codes "turn" ∷ digits ∷ []
 turn-fields digits id h = first-field-cut 116 (codes "urn") digits turn-no-blank ∙ ap (λ fs. codes "turn" ∷ fs) (number-alone digits id h)
 
 -- a `turn` line means a turn
-pub turn_says : (bytes digits : List ℕ) (id : ℕ) → bytes ≡ codes "turn" ++ 32 ∷ digits → IsNumber digits id → Says bytes (line.Step format.Line (step.Turn id))
+pub turn_says : (bytes digits : List ℕ) (id : ℕ) → bytes ≡ codes "turn" ++ 32 ∷ digits → IsNumberText digits id → Says bytes (line.Step format.Line (step.Turn id))
 turn_says bytes digits id e h =
     let is = ap fields e ∙ turn-fields digits id h in
     let short : length bytes ≤ 131072 = omega (arith, ap length e, h.most) in

@@ -8,9 +8,9 @@ use Rattle.scrib_script_reader.specs.declared.fault.SpellFault.{SpellFault}
 use Rattle.scrib_script_reader.specs.declared.fault.SpellFault.TheVariants as fault
 use Rattle.scrib_script_reader.specs.declared.limits.Limits.{Limits}
 use Rattle.scrib_script_reader.specs.declared.script.Script.{Script}
-use Rattle.scrib_script_reader.specs.Scripts.{NoLf, joined, lines}
-use Rattle.scrib_script_reader.specs.Limits.{IsWithin, IsPast, line_feeds}
-use Rattle.scrib_script_reader.specs.Positions.{Counts, IsPastWith}
+use Rattle.scrib_script_reader.specs.Scripts.{NoLf, with_byte, lines}
+use Rattle.scrib_script_reader.specs.Limits.{IsWithinLimits, IsPast, line_feeds}
+use Rattle.scrib_script_reader.specs.Positions.{CountsBytes, IsPastWith}
 use Rattle.scrib_script_reader.proofs.Bytes.{lines_lf, lines_last}
 
 -- bytes without an LF
@@ -27,7 +27,7 @@ pub feeds_both : (a b : List ℕ) → line_feeds (a ++ b) ≡ line_feeds a + lin
 feeds_both [] b = omega arith
 feeds_both (x ∷ a) b = feeds_first (x == 10) (line_feeds (a ++ b)) (line_feeds a) (line_feeds b) (feeds_both a b)
 
-some_first : (q : Bool) (x : ℕ) (ls : List (List ℕ)) → 0 < length (if q then (x ∷ []) ∷ ls else joined x ls)
+some_first : (q : Bool) (x : ℕ) (ls : List (List ℕ)) → 0 < length (if q then (x ∷ []) ∷ ls else with_byte x ls)
 some_first true x ls = omega arith
 some_first false x [] = omega arith
 some_first false x (l ∷ ls) = omega arith
@@ -37,7 +37,7 @@ some_lines [] h = absurd (omega arith)
 some_lines (x ∷ b) h = some_first (x == 10) x (lines b)
 
 length_first : (q : Bool) (x : ℕ) (ls : List (List ℕ)) (m n : ℕ) → 0 < length ls → length ls ≡ m + n
-    → length (if q then (x ∷ []) ∷ ls else joined x ls) ≡ (if q then m + 1 else m) + n
+    → length (if q then (x ∷ []) ∷ ls else with_byte x ls) ≡ (if q then m + 1 else m) + n
 length_first true x ls m n some e = omega (arith, e)
 length_first false x [] m n some e = absurd (omega arith)
 length_first false x (l ∷ ls) m n some e = e
@@ -49,7 +49,7 @@ lines_after (x ∷ a) b some =
     length_first (x == 10) x (lines (a ++ b)) (line_feeds a) (length (lines b)) (some_lines (a ++ b) (omega (arith, length-append a b))) (lines_after a b some)
 
 few_first : (q : Bool) (x : ℕ) (ls : List (List ℕ)) (n : ℕ) → length ls ≤ n + 1
-    → length (if q then (x ∷ []) ∷ ls else joined x ls) ≤ (if q then n + 1 else n) + 1
+    → length (if q then (x ∷ []) ∷ ls else with_byte x ls) ≤ (if q then n + 1 else n) + 1
 few_first true x ls n h = omega (arith, h)
 few_first false x [] n h = omega arith
 few_first false x (l ∷ ls) n h = h
@@ -69,7 +69,7 @@ past_more m a b (inl h) = inl (omega (arith, h, lines_more a b))
 past_more m a b (inr h) = inr (omega (arith, h, length-append a b))
 
 -- no byte is consumed
-pub counts_none : (s : Script) → Counts s s []
+pub counts_none : (s : Script) → CountsBytes s s []
 counts_none s = record {
   limits = refl;
   bytes = omega arith;
@@ -78,12 +78,12 @@ counts_none s = record {
   few_lines = omega (arith, s.numbered);
 }
 
-few_then : (a b : Script) (x y : List ℕ) → Counts a b x → b.lines + length (lines y) ≤ b.limits.lines → a.lines + length (lines (x ++ y)) ≤ a.limits.lines
+few_then : (a b : Script) (x y : List ℕ) → CountsBytes a b x → b.lines + length (lines y) ≤ b.limits.lines → a.lines + length (lines (x ++ y)) ≤ a.limits.lines
 few_then a b x [] f h = subst (λ (t : List ℕ). a.lines + length (lines t) ≤ a.limits.lines) (sym (append-nil x)) f.few_lines
 few_then a b x (y ∷ ys) f h = omega (arith, lines_after x (y ∷ ys) (omega arith), f.ended, h, ap (λ (m : Limits). m.lines) f.limits)
 
 -- two stretches of bytes, one after the other
-pub counts_then : (a b c : Script) (x y : List ℕ) → Counts a b x → Counts b c y → Counts a c (x ++ y)
+pub counts_then : (a b c : Script) (x y : List ℕ) → CountsBytes a b x → CountsBytes b c y → CountsBytes a c (x ++ y)
 counts_then a b c x y f g = record {
   limits = g.limits ∙ f.limits;
   bytes = omega (arith, f.bytes, g.bytes, length-append x y);
@@ -98,7 +98,7 @@ one_last (b ∷ k) some no_lf = lines_last b k no_lf
 
 -- bytes of a line are consumed
 pub counts_part : (old new : Script) (part : List ℕ) (n : ℕ) → n ≡ length part → 0 < length part → NoLf part → new.limits ≡ old.limits → new.bytes ≡ old.bytes + n → new.bytes ≤ old.limits.bytes
-    → old.lines < old.limits.lines → new.lines ≡ old.lines → Counts old new part
+    → old.lines < old.limits.lines → new.lines ≡ old.lines → CountsBytes old new part
 counts_part old new part n long some no_lf limits bytes few_bytes few_lines same = record {
   limits = limits;
   bytes = omega (arith, bytes, long);
@@ -109,7 +109,7 @@ counts_part old new part n long some no_lf limits bytes few_bytes few_lines same
 
 -- the LF of a line is consumed
 pub counts_line : (old new : Script) (k : List ℕ) (n : ℕ) → n ≡ length k + 1 → NoLf k → new.limits ≡ old.limits → new.bytes ≡ old.bytes + n → new.bytes ≤ old.limits.bytes
-    → old.lines < old.limits.lines → new.lines ≡ old.lines + 1 → Counts old new (k ++ 10 ∷ [])
+    → old.lines < old.limits.lines → new.lines ≡ old.lines + 1 → CountsBytes old new (k ++ 10 ∷ [])
 counts_line old new k n long no_lf limits bytes few_bytes few_lines more = record {
   limits = limits;
   bytes = omega (arith, bytes, long, length-append k (10 ∷ []));
@@ -145,11 +145,11 @@ past_longer s a b (inl h) = inl (omega (arith, h, length-append a b))
 past_longer s a b (inr h) = inr h
 
 -- a script that is past its limits with the last part of a line is past them with the whole line
-past_later : (a b : Script) (x y : List ℕ) → NoLf x → Counts a b x → IsPastWith b y → IsPastWith a (x ++ y)
+past_later : (a b : Script) (x y : List ℕ) → NoLf x → CountsBytes a b x → IsPastWith b y → IsPastWith a (x ++ y)
 past_later a b x y no_lf f (inl h) = inl (omega (arith, h, f.bytes, length-append x y, ap (λ (m : Limits). m.bytes) f.limits))
 past_later a b x y no_lf f (inr h) = inr (omega (arith, h, f.ended, no_feeds x no_lf, ap (λ (m : Limits). m.lines) f.limits))
 
-pub limit_later : {T : Type 0} (r : Result T SpellFault) (a b : Script) (x y : List ℕ) → NoLf x → Counts a b x
+pub limit_later : {T : Type 0} (r : Result T SpellFault) (a b : Script) (x y : List ℕ) → NoLf x → CountsBytes a b x
     → IfErr r (λ e. e ≡ fault.TooLong → IsPastWith b y) → IfErr r (λ e. e ≡ fault.TooLong → IsPastWith a (x ++ y))
 limit_later (Ok v) a b x y no_lf f h = tt
 limit_later (Err e) a b x y no_lf f h = λ is. past_later a b x y no_lf f (h is)
@@ -173,8 +173,8 @@ within_lines m a seen [] limits ended within few = subst (λ (t : List ℕ). len
 within_lines m a seen (x ∷ part) limits ended within few = omega (arith, few, ended, lines_after seen (x ∷ part) (omega arith), ap (λ (y : Limits). y.lines) limits)
 
 -- more bytes are consumed, and the script is within its limits
-pub within_more : (m : Limits) (a b : Script) (seen part : List ℕ) → a.limits ≡ m → a.bytes ≡ length seen → a.lines ≡ line_feeds seen → IsWithin m seen → Counts a b part
-    → (b.limits ≡ m) × (b.bytes ≡ length (seen ++ part)) × (b.lines ≡ line_feeds (seen ++ part)) × IsWithin m (seen ++ part)
+pub within_more : (m : Limits) (a b : Script) (seen part : List ℕ) → a.limits ≡ m → a.bytes ≡ length seen → a.lines ≡ line_feeds seen → IsWithinLimits m seen → CountsBytes a b part
+    → (b.limits ≡ m) × (b.bytes ≡ length (seen ++ part)) × (b.lines ≡ line_feeds (seen ++ part)) × IsWithinLimits m (seen ++ part)
 within_more m a b seen part limits bytes ended within f = (
   f.limits ∙ limits,
   omega (arith, f.bytes, bytes, length-append seen part),

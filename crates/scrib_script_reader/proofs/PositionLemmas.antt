@@ -8,13 +8,13 @@ use Rattle.scrib_script_reader.specs.declared.line.Line.TheVariants as line
 use Rattle.scrib_script_reader.specs.declared.item.Item.{Item}
 use Rattle.scrib_script_reader.specs.declared.item.Item.TheVariants as item
 use Rattle.scrib_script_reader.specs.Scripts.{NoLf, Text, with_line, Spells, ends, skips, makes, is_bad, begins, goes_on, puts, stops, lines, bare, text_end}
-use Rattle.scrib_script_reader.specs.Positions.{Position, SpellsFrom, Leads, spelled_of, begun_text, items_of}
+use Rattle.scrib_script_reader.specs.Positions.{Position, SpellsFrom, LeadsFrom, begun_text, items_of}
 use Rattle.scrib_script_reader.proofs.Decisions.{same_bytes, line_decided}
 use Rattle.scrib_script_reader.proofs.Bytes.{lines_lf, lines_last}
 
 -- a line outside module texts
 pub spells_line : (n : ℕ) (l : List ℕ) (ls : List (List ℕ)) (word : Line) (rest : List Item) → Says (bare l) word
-    → Spells (n + 1) (begun_text (spelled_of n word)) ls rest → Spells n None (l ∷ ls) (items_of (spelled_of n word) ++ rest)
+    → Spells (n + 1) (begun_text word) ls rest → Spells n None (l ∷ ls) (items_of n word ++ rest)
 spells_line n l ls line.Skipped rest says more = skips n l ls rest says more
 spells_line n l ls (line.Put f) rest says more = begins n l ls rest f says more
 spells_line n l ls (line.Step f s) rest says more = makes n l ls rest f s says more
@@ -41,16 +41,16 @@ are_spelled (l ∷ ls) =
     λ n text. elim text as (λ t. (items : List Item) × Spells n t (l ∷ ls) items) [
       | None ↦
           let p = line_decided (bare l) in
-          let q = more (n + 1) (begun_text (spelled_of n p.0)) in
-          (items_of (spelled_of n p.0) ++ q.0, spells_line n l ls p.0 q.0 p.1 q.1)
+          let q = more (n + 1) (begun_text p.0) in
+          (items_of n p.0 ++ q.0, spells_line n l ls p.0 q.0 p.1 q.1)
       | Some t ↦ spelled_inside l ls more n t
     ]
 
 -- No bytes lead from a position to itself.
-pub leads_none : (p : Position) → Leads p [] [] p
+pub leads_none : (p : Position) → LeadsFrom p [] [] p
 leads_none p = λ more rest h. h
 
-pub leads_then : (p q r : Position) (a b : List ℕ) (x y : List Item) → Leads p a x q → Leads q b y r → Leads p (a ++ b) (x ++ y) r
+pub leads_then : (p q r : Position) (a b : List ℕ) (x y : List Item) → LeadsFrom p a x q → LeadsFrom q b y r → LeadsFrom p (a ++ b) (x ++ y) r
 leads_then p q r a b x y f g = λ more rest h.
     let all : SpellsFrom p (a ++ (b ++ more)) (x ++ (y ++ rest)) = f (b ++ more) (y ++ rest) (g more rest h) in
     let at_bytes : SpellsFrom p (a ++ b ++ more) (x ++ (y ++ rest)) = subst (λ (u : List ℕ). SpellsFrom p u (x ++ (y ++ rest))) (sym (append_assoc a b more)) all in
@@ -60,13 +60,13 @@ abbrev pub at : ℕ → Option Text → List ℕ → Position
 at n text k = record { number = n; text = text; line = k }
 
 -- bytes of a line
-pub leads_part : (n : ℕ) (text : Option Text) (k part : List ℕ) → Leads (at n text k) part [] (at n text (k ++ part))
+pub leads_part : (n : ℕ) (text : Option Text) (k part : List ℕ) → LeadsFrom (at n text k) part [] (at n text (k ++ part))
 leads_part n text k part = λ more rest h. subst (λ (u : List ℕ). Spells n text (lines u) rest) (append_assoc k part more) h
 
 -- the end of a line
 pub leads_line : (n : ℕ) (text next : Option Text) (k : List ℕ) (items : List Item) → NoLf k
     → ((ls : List (List ℕ)) (rest : List Item) → Spells (n + 1) next ls rest → Spells n text ((k ++ 10 ∷ []) ∷ ls) (items ++ rest))
-    → Leads (at n text k) (10 ∷ []) items (at (n + 1) next [])
+    → LeadsFrom (at n text k) (10 ∷ []) items (at (n + 1) next [])
 leads_line n text next k items no_lf step = λ more rest h.
     subst (λ (ls : List (List ℕ)). Spells n text ls (items ++ rest)) (sym (lines_lf k more no_lf)) (step (lines more) rest h)
 

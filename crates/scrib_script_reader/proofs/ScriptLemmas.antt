@@ -12,11 +12,9 @@ use Rattle.scrib_script_reader.specs.declared.line.Line.TheVariants as line
 use Rattle.scrib_script_reader.specs.declared.item.Item.{Item}
 use Rattle.scrib_script_reader.specs.declared.item.Item.TheVariants as item
 use Rattle.scrib_script_reader.specs.declared.kept_bytes.KeptText.{KeptText}
-use Rattle.scrib_script_reader.specs.declared.spelling.Spelled.{Spelled}
-use Rattle.scrib_script_reader.specs.declared.spelling.Spelled.TheVariants as spelled
 use Rattle.scrib_script_reader.specs.declared.script.Script.{Script}
-use Rattle.scrib_script_reader.specs.Scripts.{NoLf, listed, Text, empty_text, with_line, Spells, ends, goes_on, puts, stops, lines, bare, text_end}
-use Rattle.scrib_script_reader.specs.Positions.{Position, SpellsFrom, Leads, capacity, cut, as_text, text_of, Holds, position, start, Counts, Takes, TakesFront, IsPastWith, PassesLimits, EndsIn, Read, LineEnded, spelled_of, begun_text, items_of, TextGives}
+use Rattle.scrib_script_reader.specs.Scripts.{NoLf, item_list, Text, empty_text, with_line, Spells, ends, goes_on, puts, stops, lines, bare, text_end}
+use Rattle.scrib_script_reader.specs.Positions.{Position, SpellsFrom, LeadsFrom, capacity, cut, as_text, text_of, Holds, position, start, CountsBytes, TakesBytes, TakesFront, IsPastWith, PassesLimits, EndSpells, HasConsumed, LineEnded, begun_text, items_of, last_items, TextGives}
 use Rattle.scrib_script_reader.proofs.Bytes.{bare_last, length-bare, all_or_most, take_kept, take_kept_line, take_of_none, end_of_kept, end_is_kept, last_of_kept, last_is_kept}
 use Rattle.scrib_script_reader.specs.declared.limits.Limits.{Limits}
 use Rattle.scrib_script_reader.specs.Limits.{IsPast}
@@ -76,13 +74,14 @@ text_inside s kept e = ap (option_map as_text) e
 pub text_outside : (s : Script) → s.text ≡ None → text_of s ≡ None
 text_outside s e = ap (option_map as_text) e
 
-begun_text_kept : (s : Spelled) → begun_text s ≡ option_map cut (begun_text s)
-begun_text_kept spelled.Nothing = refl
-begun_text_kept (spelled.Text f) = ap (λ (bytes : List ℕ). Some (record { bytes = bytes; format = f })) (sym (take_of_none 1048577))
-begun_text_kept (spelled.Item i) = refl
+begun_text_kept : (word : Line) → begun_text word ≡ option_map cut (begun_text word)
+begun_text_kept line.Skipped = refl
+begun_text_kept (line.Put f) = ap (λ (bytes : List ℕ). Some (record { bytes = bytes; format = f })) (sym (take_of_none 1048577))
+begun_text_kept (line.Step f s) = refl
+begun_text_kept line.Bad = refl
 
 -- two stretches of bytes, one after the other
-pub takes_then : (a b c : Script) (x y : List ℕ) (i j : List Item) → Takes a b x i → Takes b c y j → Takes a c (x ++ y) (i ++ j)
+pub takes_then : (a b c : Script) (x y : List ℕ) (i j : List Item) → TakesBytes a b x i → TakesBytes b c y j → TakesBytes a c (x ++ y) (i ++ j)
 takes_then a b c x y i j f g = record {
   counts = counts_then a b c x y f.counts g.counts;
   goes = λ text line h.
@@ -92,8 +91,8 @@ takes_then a b c x y i j f g = record {
 }
 
 -- bytes of a line are consumed
-pub takes_part : (old new : Script) (part : List ℕ) → Counts old new part → text_of new ≡ text_of old → new.lines ≡ old.lines
-    → (length old.line.items ≤ capacity (text_of old) → new.line.items ≡ take (capacity (text_of old)) (old.line.items ++ part)) → NoLf part → Takes old new part []
+pub takes_part : (old new : Script) (part : List ℕ) → CountsBytes old new part → text_of new ≡ text_of old → new.lines ≡ old.lines
+    → (length old.line.items ≤ capacity (text_of old) → new.line.items ≡ take (capacity (text_of old)) (old.line.items ++ part)) → NoLf part → TakesBytes old new part []
 takes_part old new part counts text_is lines_is line_is no_lf = record {
   counts = counts;
   goes = λ text line h.
@@ -106,19 +105,19 @@ takes_part old new part counts text_is lines_is line_is no_lf = record {
         kept_line = kept;
         no_lf = All-append (λ b. b ≢ 10) line part h.no_lf no_lf;
       } in
-      let leads : Leads (position old text line) part [] (at (old.lines + 1) text (line ++ part)) = leads_part (old.lines + 1) text line part in
-      (text, line ++ part, holds, subst (λ (i : ℕ). Leads (position old text line) part [] (at (i + 1) text (line ++ part))) (sym lines_is) leads);
+      let leads : LeadsFrom (position old text line) part [] (at (old.lines + 1) text (line ++ part)) = leads_part (old.lines + 1) text line part in
+      (text, line ++ part, holds, subst (λ (i : ℕ). LeadsFrom (position old text line) part [] (at (i + 1) text (line ++ part))) (sym lines_is) leads);
 }
 
-pub takes_same : (s : Script) (part : List ℕ) → part ≡ [] → NoLf part → Takes s s part []
+pub takes_same : (s : Script) (part : List ℕ) → part ≡ [] → NoLf part → TakesBytes s s part []
 takes_same s part e no_lf =
-    takes_part s s part (subst (λ (t : List ℕ). Counts s s t) (sym e) (counts_none s)) refl refl (λ h. sym (ap (λ (t : List ℕ). take (capacity (text_of s)) (s.line.items ++ t)) e ∙ ap (take (capacity (text_of s))) (append-nil s.line.items) ∙ take_all (capacity (text_of s)) s.line.items h)) no_lf
+    takes_part s s part (subst (λ (t : List ℕ). CountsBytes s s t) (sym e) (counts_none s)) refl refl (λ h. sym (ap (λ (t : List ℕ). take (capacity (text_of s)) (s.line.items ++ t)) e ∙ ap (take (capacity (text_of s))) (append-nil s.line.items) ∙ take_all (capacity (text_of s)) s.line.items h)) no_lf
 
 no_items : (xs : List ℕ) → length xs ≡ 0 → xs ≡ []
 no_items [] e = refl
 no_items (x ∷ xs) e = absurd (omega arith)
 
-pub takes_none : (s : Script) (part : List ℕ) → true ≡ eqb (length part) 0 → NoLf part → Takes s s part []
+pub takes_none : (s : Script) (part : List ℕ) → true ≡ eqb (length part) 0 → NoLf part → TakesBytes s s part []
 takes_none s part e no_lf = takes_same s part (no_items part (eqb-true (length part) 0 (sym e))) no_lf
 
 pub line_is_empty : (v : Vec ℕ Global) → true ≡ eqb (vec_len v) 0 → v.items ≡ []
@@ -131,24 +130,23 @@ line_is_some v e h = eqb-false (vec_len v) 0 (sym e) (v.ok.0 ∙ ap length h)
 module _ (old : Script) where
   outer_at : (word : Line) → text_of old ≡ None → Says (bare (old.line.items ++ 10 ∷ [])) word
       → (text : Option Text) (line : List ℕ) → Holds old text line
-      → (next : Option Text) × (begun_text (spelled_of (old.lines + 1) word) ≡ option_map cut next)
-      × Leads (position old text line) (10 ∷ []) (items_of (spelled_of (old.lines + 1) word)) (at (old.lines + 1 + 1) next [])
+      → (next : Option Text) × (begun_text word ≡ option_map cut next)
+      × LeadsFrom (position old text line) (10 ∷ []) (items_of (old.lines + 1) word) (at (old.lines + 1 + 1) next [])
   outer_at word outside meaning None line h =
       let n = old.lines + 1 in
-      let s = spelled_of n word in
       let says : Says (bare (line ++ 10 ∷ [])) word = says_kept line word (subst (λ (t : List ℕ). Says (bare (t ++ 10 ∷ [])) word) h.kept_line meaning) in
-      let leads = leads_line n None (begun_text s) line (items_of s) h.no_lf (λ ls rest more. spells_line n (line ++ 10 ∷ []) ls word rest says more) in
-      (begun_text s, begun_text_kept s, leads)
+      let leads = leads_line n None (begun_text word) line (items_of n word) h.no_lf (λ ls rest more. spells_line n (line ++ 10 ∷ []) ls word rest says more) in
+      (begun_text word, begun_text_kept word, leads)
   outer_at word outside meaning (Some t) line h = absurd (none_some (cut t) (sym outside ∙ h.kept_text))
 
   pub ended_outer : (word : Line) → text_of old ≡ None → Says (bare (old.line.items ++ 10 ∷ [])) word
-      → LineEnded old (begun_text (spelled_of (old.lines + 1) word)) (items_of (spelled_of (old.lines + 1) word))
+      → LineEnded old (begun_text word) (items_of (old.lines + 1) word)
   ended_outer word outside meaning = record { goes = outer_at word outside meaning }
 
   inner_at : (kept : Text) (after : Option Text) (items : List Item) → text_of old ≡ Some kept → TextGives kept old.line.items after items
       → (text : Option Text) (line : List ℕ) → Holds old text line
       → (next : Option Text) × (after ≡ option_map cut next)
-      × Leads (position old text line) (10 ∷ []) items (at (old.lines + 1 + 1) next [])
+      × LeadsFrom (position old text line) (10 ∷ []) items (at (old.lines + 1 + 1) next [])
   inner_at kept after items inside given None line h = absurd (none_some kept (sym h.kept_text ∙ inside))
   inner_at kept None items inside given (Some t) line h =
       let n = old.lines + 1 in
@@ -157,7 +155,7 @@ module _ (old : Script) where
       let put = item.Step t.format (Put (take 1048577 t.bytes)) ∷ [] in
       let items_are : items ≡ item.Step t.format (Put (take 1048577 t.bytes)) ∷ [] = subst (λ (x : Text). items ≡ item.Step x.format (Put x.bytes) ∷ []) same given.1 in
       let leads = leads_line n (Some t) None line put h.no_lf (λ ls rest more. puts n t (line ++ 10 ∷ []) ls rest is_end more) in
-      (None, refl, subst (λ (x : List Item). Leads (position old (Some t) line) (10 ∷ []) x (at (old.lines + 1 + 1) None [])) (sym items_are) leads)
+      (None, refl, subst (λ (x : List Item). LeadsFrom (position old (Some t) line) (10 ∷ []) x (at (old.lines + 1 + 1) None [])) (sym items_are) leads)
   inner_at kept (Some after) items inside given (Some t) line h =
       let n = old.lines + 1 in
       let same : kept ≡ cut t = some_same kept (cut t) (sym inside ∙ h.kept_text) in
@@ -170,7 +168,7 @@ module _ (old : Script) where
       let leads = leads_line n (Some t) (Some (with_line t (line ++ 10 ∷ []))) line [] h.no_lf (λ ls rest more. goes_on n t (line ++ 10 ∷ []) ls rest ne more) in (
         Some (with_line t (line ++ 10 ∷ [])),
         ap Some after_is,
-        subst (λ (x : List Item). Leads (position old (Some t) line) (10 ∷ []) x (at (old.lines + 1 + 1) (Some (with_line t (line ++ 10 ∷ []))) [])) (sym given.2) leads,
+        subst (λ (x : List Item). LeadsFrom (position old (Some t) line) (10 ∷ []) x (at (old.lines + 1 + 1) (Some (with_line t (line ++ 10 ∷ []))) [])) (sym given.2) leads,
       )
 
   pub ended_inner : (kept : Text) (after : Option Text) (items : List Item) → text_of old ≡ Some kept → TextGives kept old.line.items after items → LineEnded old after items
@@ -179,28 +177,27 @@ module _ (old : Script) where
 -- A line that is whole in its piece, outside module texts.
 module _ (old : Script) (k : List ℕ) (outside : text_of old ≡ None) (empty : old.line.items ≡ []) (no_lf : NoLf k) where
   -- what leads to its end also leads there from the position in front of it
-  from_empty : (line : List ℕ) (items : List Item) (q : Position) → take 131074 line ≡ [] → Leads (at (old.lines + 1) None k) (10 ∷ []) items q
-      → Leads (at (old.lines + 1) None line) (k ++ 10 ∷ []) items q
+  from_empty : (line : List ℕ) (items : List Item) (q : Position) → take 131074 line ≡ [] → LeadsFrom (at (old.lines + 1) None k) (10 ∷ []) items q
+      → LeadsFrom (at (old.lines + 1) None line) (k ++ 10 ∷ []) items q
   from_empty line items q none leads =
       let n = old.lines + 1 in
-      let begins : Leads (at (old.lines + 1) None line) k [] (at (old.lines + 1) None k) =
-      subst (λ (l : List ℕ). Leads (at (old.lines + 1) None line) k [] (at (old.lines + 1) None l)) (ap (λ (l : List ℕ). l ++ k) (none_kept 131074 line (lit≤ tt) none)) (leads_part n None line k) in
+      let begins : LeadsFrom (at (old.lines + 1) None line) k [] (at (old.lines + 1) None k) =
+      subst (λ (l : List ℕ). LeadsFrom (at (old.lines + 1) None line) k [] (at (old.lines + 1) None l)) (ap (λ (l : List ℕ). l ++ k) (none_kept 131074 line (lit≤ tt) none)) (leads_part n None line k) in
       leads_then (at n None line) (at n None k) q k (10 ∷ []) [] items begins leads
 
   whole_at : (word : Line) → Says (bare (k ++ 10 ∷ [])) word
       → (text : Option Text) (line : List ℕ) → Holds old text line
-      → (next : Option Text) × (begun_text (spelled_of (old.lines + 1) word) ≡ option_map cut next)
-      × Leads (position old text line) (k ++ 10 ∷ []) (items_of (spelled_of (old.lines + 1) word)) (at (old.lines + 1 + 1) next [])
+      → (next : Option Text) × (begun_text word ≡ option_map cut next)
+      × LeadsFrom (position old text line) (k ++ 10 ∷ []) (items_of (old.lines + 1) word) (at (old.lines + 1 + 1) next [])
   whole_at word says None line h =
       let n = old.lines + 1 in
-      let s = spelled_of n word in
-      let leads = leads_line n None (begun_text s) k (items_of s) no_lf (λ ls rest more. spells_line n (k ++ 10 ∷ []) ls word rest says more) in
-      (begun_text s, begun_text_kept s, from_empty line (items_of s) (at (old.lines + 1 + 1) (begun_text s) []) (sym h.kept_line ∙ empty) leads)
+      let leads = leads_line n None (begun_text word) k (items_of n word) no_lf (λ ls rest more. spells_line n (k ++ 10 ∷ []) ls word rest says more) in
+      (begun_text word, begun_text_kept word, from_empty line (items_of n word) (at (old.lines + 1 + 1) (begun_text word) []) (sym h.kept_line ∙ empty) leads)
   whole_at word says (Some t) line h = absurd (none_some (cut t) (sym outside ∙ h.kept_text))
 
-  pub takes_whole : (new : Script) (word : Line) → Counts old new (k ++ 10 ∷ []) → Says (bare (k ++ 10 ∷ [])) word
-      → text_of new ≡ begun_text (spelled_of (old.lines + 1) word) → new.line.items ≡ [] → new.lines ≡ old.lines + 1
-      → Takes old new (k ++ 10 ∷ []) (items_of (spelled_of (old.lines + 1) word))
+  pub takes_whole : (new : Script) (word : Line) → CountsBytes old new (k ++ 10 ∷ []) → Says (bare (k ++ 10 ∷ [])) word
+      → text_of new ≡ begun_text word → new.line.items ≡ [] → new.lines ≡ old.lines + 1
+      → TakesBytes old new (k ++ 10 ∷ []) (items_of (old.lines + 1) word)
   takes_whole new word counts says text_is line_is lines_is = record {
     counts = counts;
     goes = λ text line h.
@@ -210,13 +207,13 @@ module _ (old : Script) (k : List ℕ) (outside : text_of old ≡ None) (empty :
           kept_line = line_is ∙ sym (take_of_none (capacity p.0));
           no_lf = All-nil (λ b. b ≢ 10);
         } in
-        (p.0, [], holds, subst (λ (i : ℕ). Leads (position old text line) (k ++ 10 ∷ []) (items_of (spelled_of (old.lines + 1) word)) (at (i + 1) p.0 [])) (sym lines_is) p.2);
+        (p.0, [], holds, subst (λ (i : ℕ). LeadsFrom (position old text line) (k ++ 10 ∷ []) (items_of (old.lines + 1) word) (at (i + 1) p.0 [])) (sym lines_is) p.2);
   }
 
 -- the position after a consumed LF is the start of the next line
 pub takes_line : (old new : Script) (after : Option Text) (items : List Item) → LineEnded old after items
     → text_of new ≡ after → new.line.items ≡ [] → new.lines ≡ old.lines + 1 → new.limits ≡ old.limits → new.bytes ≡ old.bytes + 1 → new.bytes ≤ old.limits.bytes
-    → old.lines < old.limits.lines → Takes old new (10 ∷ []) items
+    → old.lines < old.limits.lines → TakesBytes old new (10 ∷ []) items
 takes_line old new after items ended text_is line_is lines_is limits bytes few_bytes few_lines = record {
   counts = counts_line old new [] 1 (omega arith) (All-nil (λ b. b ≢ 10)) limits bytes few_bytes few_lines lines_is;
   goes = λ text line h.
@@ -226,7 +223,7 @@ takes_line old new after items ended text_is line_is lines_is limits bytes few_b
         kept_line = line_is ∙ sym (take_of_none (capacity p.0));
         no_lf = All-nil (λ b. b ≢ 10);
       } in
-      (p.0, [], holds, subst (λ (i : ℕ). Leads (position old text line) (10 ∷ []) items (at (i + 1) p.0 [])) (sym lines_is) p.2);
+      (p.0, [], holds, subst (λ (i : ℕ). LeadsFrom (position old text line) (10 ∷ []) items (at (i + 1) p.0 [])) (sym lines_is) p.2);
 }
 
 pub front_none : (s : Script) (piece : List ℕ) → TakesFront s s piece piece []
@@ -243,7 +240,7 @@ at_lf rest i h e = subst (λ (n : ℕ). rest ≡ take i rest ++ 10 ∷ drop n re
 
 -- one more line of a piece
 pub front_line : (old mid new : Script) (piece rest : List ℕ) (i : ℕ) (items : List Item) → TakesFront old mid piece rest [] → i < length rest → get_or rest i 0 ≡ 10
-    → Takes mid new (take i rest ++ 10 ∷ []) items → TakesFront old new piece (drop (i + 1) rest) items
+    → TakesBytes mid new (take i rest ++ 10 ∷ []) items → TakesFront old new piece (drop (i + 1) rest) items
 front_line old mid new piece rest i items t within lf more =
     let line = take i rest in
     let after = drop (i + 1) rest in
@@ -254,7 +251,7 @@ front_line old mid new piece rest i items t within lf more =
     )
 
 -- the last part of a piece
-pub front_all : (old mid new : Script) (piece rest : List ℕ) → TakesFront old mid piece rest [] → Takes mid new rest [] → TakesFront old new piece [] []
+pub front_all : (old mid new : Script) (piece rest : List ℕ) → TakesFront old mid piece rest [] → TakesBytes mid new rest [] → TakesFront old new piece [] []
 front_all old mid new piece rest t last =
     (t.0 ++ rest, t.1 ∙ sym (append-nil (t.0 ++ rest)), takes_then old mid new t.0 rest [] [] t.2 last)
 
@@ -288,16 +285,11 @@ passes_part old mid piece rest t one past = record {
 pub slice_rest : (i : ℕ) (xs : List ℕ) → take (length xs - i) (drop i xs) ≡ drop i xs
 slice_rest i xs = take_all (length xs - i) (drop i xs) (omega (arith, length-drop i xs))
 
--- the items of the last line, and of the end after it
-abbrev pub tail : Spelled → List Item
-tail spelled.Nothing = []
-tail (spelled.Text f) = item.EndOfText ∷ []
-tail (spelled.Item i) = i ∷ []
-
-spells_tail : (n : ℕ) (s : Spelled) → (rest : List Item) × Spells n (begun_text s) [] rest × (tail s ≡ items_of s ++ rest)
-spells_tail n spelled.Nothing = ([], ends n, refl)
-spells_tail n (spelled.Text f) = (item.EndOfText ∷ [], stops n (empty_text f), refl)
-spells_tail n (spelled.Item i) = ([], ends n, refl)
+spells_end : (next n : ℕ) (word : Line) → (rest : List Item) × Spells next (begun_text word) [] rest × (last_items n word ≡ items_of n word ++ rest)
+spells_end next n line.Skipped = ([], ends next, refl)
+spells_end next n (line.Put f) = (item.EndOfText ∷ [], stops next (empty_text f), refl)
+spells_end next n (line.Step f s) = ([], ends next, refl)
+spells_end next n line.Bad = ([], ends next, refl)
 
 -- a module text that does not end spells `EndOfText`
 unended : (n : ℕ) (t : Text) (k : List ℕ) → NoLf k → k ≢ text_end → SpellsFrom (at n (Some t) k) [] (item.EndOfText ∷ [])
@@ -315,7 +307,7 @@ module _ (old : Script) where
       subst (λ (k : List ℕ). SpellsFrom (at (old.lines + 1) None k) [] []) (sym line_is) (ends n)
   empty_at outside no_line (Some t) line h = absurd (none_some (cut t) (sym outside ∙ h.kept_text))
 
-  pub ends_empty : text_of old ≡ None → old.line.items ≡ [] → EndsIn old []
+  pub ends_empty : text_of old ≡ None → old.line.items ≡ [] → EndSpells old []
   ends_empty outside no_line = record { ends = empty_at outside no_line }
 
   -- a line is left
@@ -323,17 +315,17 @@ module _ (old : Script) where
   some_line line some kept e = some (kept ∙ ap (take 131074) e)
 
   last_at : (word : Line) → text_of old ≡ None → (old.line.items ≡ [] → ⊥) → Says old.line.items word
-      → (text : Option Text) (line : List ℕ) → Holds old text line → SpellsFrom (position old text line) [] (tail (spelled_of (old.lines + 1) word))
+      → (text : Option Text) (line : List ℕ) → Holds old text line → SpellsFrom (position old text line) [] (last_items (old.lines + 1) word)
   last_at word outside some meaning None line h =
       let n = old.lines + 1 in
       let says : Says (bare line) word = says_last line word h.no_lf (subst (λ (t : List ℕ). Says t word) h.kept_line meaning) in
-      let p = spells_tail (n + 1) (spelled_of n word) in
+      let p = spells_end (n + 1) n word in
       let whole = spells_line n line [] word p.0 says p.1 in
-      let all : SpellsFrom (at (old.lines + 1) None line) [] (items_of (spelled_of (old.lines + 1) word) ++ p.0) = spells_last n None line (items_of (spelled_of n word) ++ p.0) h.no_lf (some_line line some h.kept_line) whole in
+      let all : SpellsFrom (at (old.lines + 1) None line) [] (items_of (old.lines + 1) word ++ p.0) = spells_last n None line (items_of n word ++ p.0) h.no_lf (some_line line some h.kept_line) whole in
       subst (λ (x : List Item). SpellsFrom (at (old.lines + 1) None line) [] x) (sym p.2) all
   last_at word outside some meaning (Some t) line h = absurd (none_some (cut t) (sym outside ∙ h.kept_text))
 
-  pub ends_outer : (word : Line) → text_of old ≡ None → (old.line.items ≡ [] → ⊥) → Says old.line.items word → EndsIn old (tail (spelled_of (old.lines + 1) word))
+  pub ends_outer : (word : Line) → text_of old ≡ None → (old.line.items ≡ [] → ⊥) → Says old.line.items word → EndSpells old (last_items (old.lines + 1) word)
   ends_outer word outside some meaning = record { ends = last_at word outside some meaning }
 
   -- the last line continues a module text
@@ -344,7 +336,7 @@ module _ (old : Script) where
       let ne_line : line ≢ text_end = λ e. ne (h.kept_line ∙ last_is_kept 1048577 line few e) in
       unended (old.lines + 1) t line h.no_lf ne_line
 
-  pub ends_inside : (kept : Text) → text_of old ≡ Some kept → old.line.items ≢ text_end → EndsIn old (item.EndOfText ∷ [])
+  pub ends_inside : (kept : Text) → text_of old ≡ Some kept → old.line.items ≢ text_end → EndSpells old (item.EndOfText ∷ [])
   ends_inside kept inside ne = record { ends = inside_at kept inside ne }
 
   -- the last line ends a module text
@@ -361,11 +353,11 @@ module _ (old : Script) where
       (puts n t line [] [] bare_ends (ends (n + 1))) in
       subst (λ (x : Text). SpellsFrom (at (old.lines + 1) (Some t) line) [] (item.Step x.format (Put x.bytes) ∷ [])) (sym same) whole
 
-  pub ends_put : (kept : Text) → text_of old ≡ Some kept → old.line.items ≡ text_end → EndsIn old (item.Step kept.format (Put kept.bytes) ∷ [])
+  pub ends_put : (kept : Text) → text_of old ≡ Some kept → old.line.items ≡ text_end → EndSpells old (item.Step kept.format (Put kept.bytes) ∷ [])
   ends_put kept inside is_end = record { ends = put_at kept inside is_end }
 
 -- For those who read a script: nothing is consumed yet.
-pub read_none : (m : Limits) (s : Script) → Holds s None [] → s.lines ≡ 0 → s.bytes ≡ 0 → s.limits ≡ m → Read m s [] []
+pub read_none : (m : Limits) (s : Script) → Holds s None [] → s.lines ≡ 0 → s.bytes ≡ 0 → s.limits ≡ m → HasConsumed m s [] []
 read_none m s holds no_lines no_bytes limits = record {
   limits = limits;
   bytes = no_bytes;
@@ -374,69 +366,67 @@ read_none m s holds no_lines no_bytes limits = record {
   text = None;
   line = [];
   holds = holds;
-  leads = subst (λ (i : ℕ). Leads start [] [] (at (i + 1) None [])) (sym no_lines) (leads_none start);
+  leads = subst (λ (i : ℕ). LeadsFrom start [] [] (at (i + 1) None [])) (sym no_lines) (leads_none start);
 }
 
 -- One more stretch is consumed.
-pub read_more : (m : Limits) (a b : Script) (seen bytes : List ℕ) (items more : List Item) → Read m a seen items → Takes a b bytes more → Read m b (seen ++ bytes) (items ++ more)
+pub read_more : (m : Limits) (a b : Script) (seen bytes : List ℕ) (items more : List Item) → HasConsumed m a seen items → TakesBytes a b bytes more → HasConsumed m b (seen ++ bytes) (items ++ more)
 read_more m a b seen bytes items more r t =
     let p = t.goes r.text r.line r.holds in
     let q = within_more m a b seen bytes r.limits r.bytes r.ended r.within t.counts in
     record { limits = q.0; bytes = q.1; ended = q.2; within = q.3; text = p.0; line = p.1; holds = p.2; leads = leads_then start (position a r.text r.line) (position b p.0 p.1) seen bytes items more r.leads p.3 }
 
 -- All is consumed, and the last item is returned.
-pub read_all : (m : Limits) (s : Script) (seen : List ℕ) (items last : List Item) → Read m s seen items → EndsIn s last → Spells 1 None (lines seen) (items ++ last)
+pub read_all : (m : Limits) (s : Script) (seen : List ℕ) (items last : List Item) → HasConsumed m s seen items → EndSpells s last → Spells 1 None (lines seen) (items ++ last)
 read_all m s seen items last r e =
     let all : SpellsFrom start (seen ++ []) (items ++ last) = r.leads [] last (e.ends r.text r.line r.holds) in
     subst (λ (u : List ℕ). Spells 1 None (lines u) (items ++ last)) (append-nil seen) all
 
 -- Whatever follows, the script spells these items first.
-pub read_first : (m : Limits) (s : Script) (seen : List ℕ) (items : List Item) → Read m s seen items → (more : List ℕ) → (rest : List Item) × Spells 1 None (lines (seen ++ more)) (items ++ rest)
+pub read_first : (m : Limits) (s : Script) (seen : List ℕ) (items : List Item) → HasConsumed m s seen items → (more : List ℕ) → (rest : List Item) × Spells 1 None (lines (seen ++ more)) (items ++ rest)
 read_first m s seen items r more =
     let p = are_spelled (lines (r.line ++ more)) (s.lines + 1) r.text in
     (p.0, r.leads more p.0 p.1)
 
 -- Where the limits are passed, the bytes before the line are consumed, and with the line the script is past them.
-pub read_past : (m : Limits) (s : Script) (seen piece : List ℕ) (items : List Item) → Read m s seen items → (p : PassesLimits s piece)
-    → Read m p.mid (seen ++ p.before.0) items × IsPast m ((seen ++ p.before.0) ++ p.line)
+pub read_past : (m : Limits) (s : Script) (seen piece : List ℕ) (items : List Item) → HasConsumed m s seen items → (p : PassesLimits s piece)
+    → HasConsumed m p.mid (seen ++ p.before.0) items × IsPast m ((seen ++ p.before.0) ++ p.line)
 read_past m s seen piece items r p =
     let t = p.before in
-    let read = subst (λ (x : List Item). Read m p.mid (seen ++ p.before.0) x) (append-nil items) (read_more m s p.mid seen t.0 items [] r t.2) in
+    let read = subst (λ (x : List Item). HasConsumed m p.mid (seen ++ p.before.0) x) (append-nil items) (read_more m s p.mid seen t.0 items [] r t.2) in
     (read, past_line m p.mid (seen ++ p.before.0) p.line p.rest read.limits read.bytes read.ended p.first p.past)
 
 -- For the proofs of functions: a line that an LF ended, inside a module text.
 pub ended_text : {E : Type 0} (r : Result (Option Item × Option KeptText) E) (old : Script) (kept : Text) (l : List ℕ) → text_of old ≡ Some kept → l ≡ old.line.items
-    → IfOk r (λ p. TextGives kept l (option_map as_text p.1) (listed p.0)) → IfOk r (λ p. LineEnded old (option_map as_text p.1) (listed p.0))
+    → IfOk r (λ p. TextGives kept l (option_map as_text p.1) (item_list p.0)) → IfOk r (λ p. LineEnded old (option_map as_text p.1) (item_list p.0))
 ended_text (Ok p) old kept l inside same given =
-    ended_inner old kept (option_map as_text p.1) (listed p.0) inside (subst (λ (t : List ℕ). TextGives kept t (option_map as_text p.1) (listed p.0)) same given)
+    ended_inner old kept (option_map as_text p.1) (item_list p.0) inside (subst (λ (t : List ℕ). TextGives kept t (option_map as_text p.1) (item_list p.0)) same given)
 ended_text (Err e) old kept l inside same given = tt
 
 -- A line outside module texts, from the parts of what it spells.
-pub ended_line : (old : Script) (word : Line) (s : Spelled) (after : Option Text) (items : List Item) (l : List ℕ) → text_of old ≡ None → l ≡ bare (old.line.items ++ 10 ∷ []) → Says l word
-    → s ≡ spelled_of (old.lines + 1) word → after ≡ begun_text s → items ≡ items_of s → LineEnded old after items
-ended_line old word s after items l outside l_is meaning s_is after_is items_are =
-    rw (after_is, items_are, s_is) (ended_outer old word outside (subst (λ (t : List ℕ). Says t word) l_is meaning))
+pub ended_line : (old : Script) (word : Line) (after : Option Text) (items : List Item) (l : List ℕ) → text_of old ≡ None → l ≡ bare (old.line.items ++ 10 ∷ []) → Says l word
+    → after ≡ begun_text word → items ≡ items_of (old.lines + 1) word → LineEnded old after items
+ended_line old word after items l outside l_is meaning after_is items_are =
+    rw (after_is, items_are) (ended_outer old word outside (subst (λ (t : List ℕ). Says t word) l_is meaning))
 
 -- A line that is whole in its piece.
-pub passed : (old new : Script) (k : List ℕ) (word : Line) (s : Spelled) (items : List Item) (l : List ℕ) → Counts old new (k ++ 10 ∷ []) → text_of old ≡ None → old.line.items ≡ [] → NoLf k → l ≡ bare (k ++ 10 ∷ []) → Says l word
-    → s ≡ spelled_of (old.lines + 1) word → text_of new ≡ begun_text s → items ≡ items_of s → new.line.items ≡ [] → new.lines ≡ old.lines + 1 → Takes old new (k ++ 10 ∷ []) items
-passed old new k word s items l counts outside empty no_lf l_is meaning s_is text_is items_are line_is lines_is =
-    let text_new : text_of new ≡ begun_text (spelled_of (old.lines + 1) word) = text_is ∙ ap begun_text s_is in
-    let items_new : items ≡ items_of (spelled_of (old.lines + 1) word) = items_are ∙ ap items_of s_is in
-    subst (λ (x : List Item). Takes old new (k ++ 10 ∷ []) x) (sym items_new)
-    (takes_whole old k outside empty no_lf new word counts (subst (λ (t : List ℕ). Says t word) l_is meaning) text_new line_is lines_is)
+pub passed : (old new : Script) (k : List ℕ) (word : Line) (items : List Item) (l : List ℕ) → CountsBytes old new (k ++ 10 ∷ []) → text_of old ≡ None → old.line.items ≡ [] → NoLf k → l ≡ bare (k ++ 10 ∷ []) → Says l word
+    → text_of new ≡ begun_text word → items ≡ items_of (old.lines + 1) word → new.line.items ≡ [] → new.lines ≡ old.lines + 1 → TakesBytes old new (k ++ 10 ∷ []) items
+passed old new k word items l counts outside empty no_lf l_is meaning text_is items_are line_is lines_is =
+    subst (λ (x : List Item). TakesBytes old new (k ++ 10 ∷ []) x) (sym items_are)
+    (takes_whole old k outside empty no_lf new word counts (subst (λ (t : List ℕ). Says t word) l_is meaning) text_is line_is lines_is)
 
 -- A line of which a part is consumed already.
-pub taken_then : {E : Type 0} (r : Result (Option Item) E) (a b c : Script) (x y : List ℕ) → Takes a b x [] → IfOk r (λ item. Takes b c y (listed item)) → IfOk r (λ item. Takes a c (x ++ y) (listed item))
-taken_then (Ok o) a b c x y f g = takes_then a b c x y [] (listed o) f g
+pub taken_then : {E : Type 0} (r : Result (Option Item) E) (a b c : Script) (x y : List ℕ) → TakesBytes a b x [] → IfOk r (λ item. TakesBytes b c y (item_list item)) → IfOk r (λ item. TakesBytes a c (x ++ y) (item_list item))
+taken_then (Ok o) a b c x y f g = takes_then a b c x y [] (item_list o) f g
 taken_then (Err e) a b c x y f g = tt
 
 -- The last line.
-pub last_line : (old : Script) (word : Line) (s : Spelled) (items : List Item) (l : List ℕ) → text_of old ≡ None → (old.line.items ≡ [] → ⊥) → l ≡ old.line.items → Says l word
-    → s ≡ spelled_of (old.lines + 1) word → items ≡ tail s → EndsIn old items
-last_line old word s items l outside some l_is meaning s_is items_are =
-    subst (λ (x : List Item). EndsIn old x) (sym (items_are ∙ ap tail s_is)) (ends_outer old word outside some (subst (λ (t : List ℕ). Says t word) l_is meaning))
+pub last_line : (old : Script) (word : Line) (items : List Item) (l : List ℕ) → text_of old ≡ None → (old.line.items ≡ [] → ⊥) → l ≡ old.line.items → Says l word
+    → items ≡ last_items (old.lines + 1) word → EndSpells old items
+last_line old word items l outside some l_is meaning items_are =
+    subst (λ (x : List Item). EndSpells old x) (sym items_are) (ends_outer old word outside some (subst (λ (t : List ℕ). Says t word) l_is meaning))
 
-pub listed_none : (o : Option Item) → false ≡ is_some o → listed o ≡ []
+pub listed_none : (o : Option Item) → false ≡ is_some o → item_list o ≡ []
 listed_none None e = refl
 listed_none (Some i) e = cc

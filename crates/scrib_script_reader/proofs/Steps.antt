@@ -9,15 +9,15 @@ use Rattle.scrib_types.specs.declared.event.Event.TheVariants as event
 use Rattle.scrib_types.specs.Names.{is_name}
 use Rattle.scrib_core.specs.declared.step.Step.{Step}
 use Rattle.scrib_core.specs.declared.step.Step.TheVariants as step
-use Rattle.scrib_script_reader.specs.Fields.{Finds, IsNumber, IsDottedText}
-use Rattle.scrib_script_reader.specs.Steps.{IsExchange, Makes, Edits, MakesStep}
+use Rattle.scrib_script_reader.specs.Fields.{Finds, IsNumberText, IsDottedText}
+use Rattle.scrib_script_reader.specs.Steps.{IsExchange, MakesWithId, Edits, MakesStep}
 use Rattle.scrib_script_reader.proofs.Digits.{same_number}
 
 apart : (xs ys : List ℕ) → bytes_eq xs ys ≡ false → xs ≡ ys → ⊥
 apart xs ys f e = false≢true (sym f ∙ (bytes_eq-Decides xs ys).1 e)
 
 -- fields that are no exchange make no send and no reception
-pub no-send : (id : ℕ) (fs : List (List ℕ)) → ((from to : List ℕ) (m : Message) → IsExchange fs from to m → ⊥) → (s : Step) → Makes (codes "send") id fs s → ⊥
+pub no-send : (id : ℕ) (fs : List (List ℕ)) → ((from to : List ℕ) (m : Message) → IsExchange fs from to m → ⊥) → (s : Step) → MakesWithId (codes "send") id fs s → ⊥
 no-send id fs none (step.Put text) h = h
 no-send id fs none (step.Withdraw name) h = h
 no-send id fs none (step.Profile p) h = h
@@ -28,7 +28,7 @@ no-send id fs none (step.Note i (event.Received from to m)) h = apart (codes "se
 no-send id fs none (step.Turn i) h = apart (codes "send") (codes "turn") refl h.0
 no-send id fs none (step.Ask i) h = apart (codes "send") (codes "ask") refl h.0
 
-pub no-recv : (id : ℕ) (fs : List (List ℕ)) → ((from to : List ℕ) (m : Message) → IsExchange fs from to m → ⊥) → (s : Step) → Makes (codes "recv") id fs s → ⊥
+pub no-recv : (id : ℕ) (fs : List (List ℕ)) → ((from to : List ℕ) (m : Message) → IsExchange fs from to m → ⊥) → (s : Step) → MakesWithId (codes "recv") id fs s → ⊥
 no-recv id fs none (step.Put text) h = h
 no-recv id fs none (step.Withdraw name) h = h
 no-recv id fs none (step.Profile p) h = h
@@ -40,7 +40,7 @@ no-recv id fs none (step.Turn i) h = apart (codes "recv") (codes "turn") refl h.
 no-recv id fs none (step.Ask i) h = apart (codes "recv") (codes "ask") refl h.0
 
 -- a field that is no dotted text makes no opening
-pub no-open : (id : ℕ) (fs : List (List ℕ)) → ((name : List (List ℕ)) → (text : List ℕ) × (fs ≡ text ∷ []) × IsDottedText text name → ⊥) → (s : Step) → Makes (codes "open") id fs s → ⊥
+pub no-open : (id : ℕ) (fs : List (List ℕ)) → ((name : List (List ℕ)) → (text : List ℕ) × (fs ≡ text ∷ []) × IsDottedText text name → ⊥) → (s : Step) → MakesWithId (codes "open") id fs s → ⊥
 no-open id fs none (step.Put text) h = h
 no-open id fs none (step.Withdraw name) h = h
 no-open id fs none (step.Profile p) h = h
@@ -51,7 +51,7 @@ no-open id fs none (step.Note i (event.Received from to m)) h = apart (codes "op
 no-open id fs none (step.Turn i) h = apart (codes "open") (codes "turn") refl h.0
 no-open id fs none (step.Ask i) h = apart (codes "open") (codes "ask") refl h.0
 
-pub no-join : (id : ℕ) (fs : List (List ℕ)) → ((role : List ℕ) → (fs ≡ role ∷ []) × (is_name role ≡ true) → ⊥) → (s : Step) → Makes (codes "join") id fs s → ⊥
+pub no-join : (id : ℕ) (fs : List (List ℕ)) → ((role : List ℕ) → (fs ≡ role ∷ []) × (is_name role ≡ true) → ⊥) → (s : Step) → MakesWithId (codes "join") id fs s → ⊥
 no-join id fs none (step.Put text) h = h
 no-join id fs none (step.Withdraw name) h = h
 no-join id fs none (step.Profile p) h = h
@@ -62,7 +62,7 @@ no-join id fs none (step.Note i (event.Received from to m)) h = apart (codes "jo
 no-join id fs none (step.Turn i) h = apart (codes "join") (codes "turn") refl h.0
 no-join id fs none (step.Ask i) h = apart (codes "join") (codes "ask") refl h.0
 
-pub no-ask : (id : ℕ) (fs : List (List ℕ)) → (fs ≡ [] → ⊥) → (s : Step) → Makes (codes "ask") id fs s → ⊥
+pub no-ask : (id : ℕ) (fs : List (List ℕ)) → (fs ≡ [] → ⊥) → (s : Step) → MakesWithId (codes "ask") id fs s → ⊥
 no-ask id fs none (step.Put text) h = h
 no-ask id fs none (step.Withdraw name) h = h
 no-ask id fs none (step.Profile p) h = h
@@ -73,7 +73,7 @@ no-ask id fs none (step.Note i (event.Received from to m)) h = apart (codes "ask
 no-ask id fs none (step.Turn i) h = apart (codes "ask") (codes "turn") refl h.0
 no-ask id fs none (step.Ask i) h = none h.2
 
-pub no-turn : (id : ℕ) (fs : List (List ℕ)) → (fs ≡ [] → ⊥) → (s : Step) → Makes (codes "turn") id fs s → ⊥
+pub no-turn : (id : ℕ) (fs : List (List ℕ)) → (fs ≡ [] → ⊥) → (s : Step) → MakesWithId (codes "turn") id fs s → ⊥
 no-turn id fs none (step.Put text) h = h
 no-turn id fs none (step.Withdraw name) h = h
 no-turn id fs none (step.Profile p) h = h
@@ -86,7 +86,7 @@ no-turn id fs none (step.Ask i) h = apart (codes "turn") (codes "ask") refl h.0
 
 -- another word makes no step
 pub no-word : (word : List ℕ) (id : ℕ) (fs : List (List ℕ)) → (word ≡ codes "open" → ⊥) → (word ≡ codes "join" → ⊥) → (word ≡ codes "send" → ⊥) → (word ≡ codes "recv" → ⊥) → (word ≡ codes "turn" → ⊥) → (word ≡ codes "ask" → ⊥)
-    → (s : Step) → Makes word id fs s → ⊥
+    → (s : Step) → MakesWithId word id fs s → ⊥
 no-word word id fs opens joins sends receives turns asks (step.Put text) h = h
 no-word word id fs opens joins sends receives turns asks (step.Withdraw name) h = h
 no-word word id fs opens joins sends receives turns asks (step.Profile p) h = h
@@ -124,17 +124,17 @@ pub two-fields : {A B : Type 0} (f : A → B) (xs : List A) (d : A) → 2 ≤ le
 two-fields f xs d l = front f xs d l ∙ ap (λ ys. f (get_or xs 0 d) ∷ f (get_or xs 1 d) ∷ map f ys) (sym (take_rest xs 2))
 
 -- `withdraw` and `profile` make no step with a number
-pub no-withdraw : (id : ℕ) (fs : List (List ℕ)) (s : Step) → Makes (codes "withdraw") id fs s → ⊥
+pub no-withdraw : (id : ℕ) (fs : List (List ℕ)) (s : Step) → MakesWithId (codes "withdraw") id fs s → ⊥
 no-withdraw id fs = no-word (codes "withdraw") id fs (apart (codes "withdraw") (codes "open") refl) (apart (codes "withdraw") (codes "join") refl) (apart (codes "withdraw") (codes "send") refl) (apart (codes "withdraw") (codes "recv") refl) (apart (codes "withdraw") (codes "turn") refl) (apart (codes "withdraw") (codes "ask") refl)
 
-pub no-profile : (id : ℕ) (fs : List (List ℕ)) (s : Step) → Makes (codes "profile") id fs s → ⊥
+pub no-profile : (id : ℕ) (fs : List (List ℕ)) (s : Step) → MakesWithId (codes "profile") id fs s → ⊥
 no-profile id fs = no-word (codes "profile") id fs (apart (codes "profile") (codes "open") refl) (apart (codes "profile") (codes "join") refl) (apart (codes "profile") (codes "send") refl) (apart (codes "profile") (codes "recv") refl) (apart (codes "profile") (codes "turn") refl) (apart (codes "profile") (codes "ask") refl)
 
 -- the step of `withdraw` or `profile`
-pub found-edit : (known word first : List ℕ) (fs : List (List ℕ)) → ((id : ℕ) (gs : List (List ℕ)) (s : Step) → Makes known id gs s → ⊥) → word ≡ known → (o : Option Step) → Finds (Edits known first fs) o → Finds (MakesStep (word ∷ first ∷ fs)) o
+pub found-edit : (known word first : List ℕ) (fs : List (List ℕ)) → ((id : ℕ) (gs : List (List ℕ)) (s : Step) → MakesWithId known id gs s → ⊥) → word ≡ known → (o : Option Step) → Finds (Edits known first fs) o → Finds (MakesStep (word ∷ first ∷ fs)) o
 found-edit known word first fs numberless e None none = λ s h. elim h [
   | inl w ↦ none s (subst (λ (x : List ℕ). Edits x first fs s) e w)
-  | inr k ↦ numberless k.0 fs s (subst (λ (x : List ℕ). Makes x k.0 fs s) e k.2)
+  | inr k ↦ numberless k.0 fs s (subst (λ (x : List ℕ). MakesWithId x k.0 fs s) e k.2)
 ]
 found-edit known word first fs numberless e (Some s) h = inl (subst (λ (x : List ℕ). Edits x first fs s) (sym e) h)
 
@@ -149,16 +149,16 @@ no-edit word first fs withdraws profiles (step.Turn i) h = h
 no-edit word first fs withdraws profiles (step.Ask i) h = h
 
 -- another word and no number make no step
-pub no-number : (word first : List ℕ) (fs : List (List ℕ)) → (word ≡ codes "withdraw" → ⊥) → (word ≡ codes "profile" → ⊥) → ((id : ℕ) → IsNumber first id → ⊥) → (s : Step) → MakesStep (word ∷ first ∷ fs) s → ⊥
+pub no-number : (word first : List ℕ) (fs : List (List ℕ)) → (word ≡ codes "withdraw" → ⊥) → (word ≡ codes "profile" → ⊥) → ((id : ℕ) → IsNumberText first id → ⊥) → (s : Step) → MakesStep (word ∷ first ∷ fs) s → ⊥
 no-number word first fs withdraws profiles none s h = elim h [
   | inl w ↦ no-edit word first fs withdraws profiles s w
   | inr k ↦ none k.0 k.1
 ]
 
 -- the step of another word and a number
-pub found-step : (word number : List ℕ) (fs : List (List ℕ)) (id : ℕ) → (word ≡ codes "withdraw" → ⊥) → (word ≡ codes "profile" → ⊥) → IsNumber number id → (o : Option Step) → Finds (Makes word id fs) o → Finds (MakesStep (word ∷ number ∷ fs)) o
+pub found-step : (word number : List ℕ) (fs : List (List ℕ)) (id : ℕ) → (word ≡ codes "withdraw" → ⊥) → (word ≡ codes "profile" → ⊥) → IsNumberText number id → (o : Option Step) → Finds (MakesWithId word id fs) o → Finds (MakesStep (word ∷ number ∷ fs)) o
 found-step word number fs id withdraws profiles n None none = λ s h. elim h [
   | inl w ↦ no-edit word number fs withdraws profiles s w
-  | inr k ↦ none s (subst (λ (i : ℕ). Makes word i fs s) (same_number number k.0 id k.1 n) k.2)
+  | inr k ↦ none s (subst (λ (i : ℕ). MakesWithId word i fs s) (same_number number k.0 id k.1 n) k.2)
 ]
 found-step word number fs id withdraws profiles n (Some s) h = inr (id, n, h)

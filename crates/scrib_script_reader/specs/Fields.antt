@@ -23,7 +23,7 @@ abbrev pub Finds : {A : Type 0} → (A → Type 0) → Option A → Type 0
 Finds {A} P found = MatchOption found ((x : A) → P x → ⊥) P
 
 -- the bytes are 1 to 10 decimal digits, and their value is below 2 ^ 32
-pub record IsNumber (bytes : List ℕ) (n : ℕ) : Type 0 where
+pub record IsNumberText (bytes : List ℕ) (n : ℕ) : Type 0 where
   pub digits : AllDigits 10 bytes
   pub some : 0 < length bytes
   pub most : length bytes ≤ 10

@@ -8,7 +8,7 @@ use Rattle.scrib_types.specs.declared.event.Event.{Event}
 use Rattle.scrib_types.specs.declared.event.Event.TheVariants as event
 use Rattle.scrib_types.specs.Names.{is_name}
 use Rattle.scrib_types.specs.Texts.{message_text}
-use Rattle.scrib_script_reader.specs.Fields.{IsNumber, fields, is_operator, is_dotted}
+use Rattle.scrib_script_reader.specs.Fields.{IsNumberText, fields, is_operator, is_dotted}
 
 -- the word of a direction: `send` or `recv`
 abbrev pub direction_word : Direction → List ℕ
@@ -19,7 +19,7 @@ direction_word direction.Receive = codes "recv"
 abbrev pub IsHead : List ℕ → Direction → ℕ → List ℕ → Type 0
 IsHead bytes d id text =
     (length bytes ≤ 131072)
-    × ((digits : List ℕ) × (bytes ≡ direction_word d ++ 32 ∷ digits ++ 32 ∷ text) × IsNumber digits id)
+    × ((digits : List ℕ) × (bytes ≡ direction_word d ++ 32 ∷ digits ++ 32 ∷ text) × IsNumberText digits id)
 
 -- the event of an exchange in a direction
 abbrev pub directed_event : Direction → (from to : List ℕ) → Message → Event
@@ -45,13 +45,13 @@ receiver_of (event.Sent p q m) = q
 receiver_of (event.Received p q m) = q
 
 -- an event's message; empty for a join
-abbrev pub message_of : Event → Message
-message_of (event.Join r) = record { op = None; payload = [] }
-message_of (event.Sent p q m) = m
-message_of (event.Received p q m) = m
+abbrev pub event_message : Event → Message
+event_message (event.Join r) = record { op = None; payload = [] }
+event_message (event.Sent p q m) = m
+event_message (event.Received p q m) = m
 
 -- the fields of the text are an exchange, and the event is that of the exchange in this direction
 abbrev pub SpellsEvent : List ℕ → Direction → Event → Type 0
 SpellsEvent text d e =
-    (e ≡ directed_event d (sender_of e) (receiver_of e) (message_of e))
-    × SpellsExchange text (sender_of e) (receiver_of e) (message_of e)
+    (e ≡ directed_event d (sender_of e) (receiver_of e) (event_message e))
+    × SpellsExchange text (sender_of e) (receiver_of e) (event_message e)

@@ -8,8 +8,8 @@ abbrev pub of_scripts : Limits
 of_scripts = record { lines = 16777216; bytes = 1099511627776 }
 
 -- a script of these bytes is within the limits
-abbrev pub IsWithin : Limits → List ℕ → Type 0
-IsWithin m script = (length (lines script) ≤ m.lines) × (length script ≤ m.bytes)
+abbrev pub IsWithinLimits : Limits → List ℕ → Type 0
+IsWithinLimits m script = (length (lines script) ≤ m.lines) × (length script ≤ m.bytes)
 
 -- a script of these bytes is past the limits
 abbrev pub IsPast : Limits → List ℕ → Type 0

@@ -6,12 +6,10 @@ use Rattle.scrib_script_reader.specs.declared.line.Line.TheVariants as line
 use Rattle.scrib_script_reader.specs.declared.item.Item.{Item}
 use Rattle.scrib_script_reader.specs.declared.item.Item.TheVariants as item
 use Rattle.scrib_script_reader.specs.declared.kept_bytes.KeptText.{KeptText}
-use Rattle.scrib_script_reader.specs.declared.spelling.Spelled.{Spelled}
-use Rattle.scrib_script_reader.specs.declared.spelling.Spelled.TheVariants as spelled
 use Rattle.scrib_script_reader.specs.declared.script.Script.{Script}
 use Rattle.scrib_script_reader.specs.declared.limits.Limits.{Limits}
 use Rattle.scrib_script_reader.specs.Scripts.{NoLf, Text, empty_text, with_line, Spells, lines, bare, text_end}
-use Rattle.scrib_script_reader.specs.Limits.{IsWithin, line_feeds}
+use Rattle.scrib_script_reader.specs.Limits.{IsWithinLimits, line_feeds}
 
 -- A position in a script: the number of the current line, the module text so far, if inside one, and the current line
 -- so far.
@@ -29,8 +27,8 @@ abbrev pub SpellsFrom : Position → List ℕ → List Item → Type 0
 SpellsFrom p bytes items = Spells p.number p.text (lines (p.line ++ bytes)) items
 
 -- the bytes lead from position p to position q, and spell these items on the way
-abbrev pub Leads : Position → List ℕ → List Item → Position → Type 0
-Leads p bytes items q =
+abbrev pub LeadsFrom : Position → List ℕ → List Item → Position → Type 0
+LeadsFrom p bytes items q =
     (more : List ℕ) (rest : List Item) → SpellsFrom q more rest → SpellsFrom p (bytes ++ more) (items ++ rest)
 
 -- the most bytes of a line that are kept: outside module texts its limit, one byte more, and a CR
@@ -61,7 +59,7 @@ abbrev pub position : Script → Option Text → List ℕ → Position
 position s text line = record { number = s.lines + 1; text = text; line = line }
 
 -- the bytes were consumed and counted, and with them the script is within its limits
-pub record Counts (old new : Script) (part : List ℕ) : Type 0 where
+pub record CountsBytes (old new : Script) (part : List ℕ) : Type 0 where
   pub limits : new.limits ≡ old.limits
   pub bytes : new.bytes ≡ old.bytes + length part
   pub ended : new.lines ≡ old.lines + line_feeds part
@@ -69,15 +67,15 @@ pub record Counts (old new : Script) (part : List ℕ) : Type 0 where
   pub few_lines : old.lines + length (lines part) ≤ old.limits.lines
 
 -- the bytes were consumed, and spell these items
-pub record Takes (old new : Script) (bytes : List ℕ) (items : List Item) : Type 0 where
-  pub counts : Counts old new bytes
+pub record TakesBytes (old new : Script) (bytes : List ℕ) (items : List Item) : Type 0 where
+  pub counts : CountsBytes old new bytes
   pub goes : (text : Option Text) (line : List ℕ) → Holds old text line
       → (new_text : Option Text) × (new_line : List ℕ) × Holds new new_text new_line
-      × Leads (position old text line) bytes items (position new new_text new_line)
+      × LeadsFrom (position old text line) bytes items (position new new_text new_line)
 
 -- all of the piece but the rest was consumed, and spells these items
 abbrev pub TakesFront : (old new : Script) → List ℕ → List ℕ → List Item → Type 0
-TakesFront old new piece rest items = (front : List ℕ) × (piece ≡ front ++ rest) × Takes old new front items
+TakesFront old new piece rest items = (front : List ℕ) × (piece ≡ front ++ rest) × TakesBytes old new front items
 
 -- the bytes are one line, or a part of one
 abbrev pub IsOneLine : List ℕ → Type 0
@@ -97,44 +95,47 @@ pub record PassesLimits (old : Script) (piece : List ℕ) : Type 0 where
   pub past : IsPastWith mid line
 
 -- where the whole script was consumed, its end spells these items
-pub record EndsIn (s : Script) (items : List Item) : Type 0 where
+pub record EndSpells (s : Script) (items : List Item) : Type 0 where
   pub ends : (text : Option Text) (line : List ℕ) → Holds s text line → SpellsFrom (position s text line) [] items
 
 -- the bytes seen so far were consumed, spell these items and are within the limits
-pub record Read (m : Limits) (s : Script) (seen : List ℕ) (items : List Item) : Type 0 where
+pub record HasConsumed (m : Limits) (s : Script) (seen : List ℕ) (items : List Item) : Type 0 where
   pub limits : s.limits ≡ m
   pub bytes : s.bytes ≡ length seen
   pub ended : s.lines ≡ line_feeds seen
-  pub within : IsWithin m seen
+  pub within : IsWithinLimits m seen
   pub text : Option Text
   pub line : List ℕ
   pub holds : Holds s text line
-  pub leads : Leads start seen items (position s text line)
+  pub leads : LeadsFrom start seen items (position s text line)
 
 -- the line that an LF ended spells these items, and this is kept of the module text after it
 pub record LineEnded (old : Script) (after : Option Text) (items : List Item) : Type 0 where
   pub goes : (text : Option Text) (line : List ℕ) → Holds old text line
       → (next : Option Text) × (after ≡ option_map cut next)
-      × Leads (position old text line) (10 ∷ []) items (record { number = old.lines + 1 + 1; text = next; line = [] })
+      × LeadsFrom (position old text line) (10 ∷ []) items
+      (record { number = old.lines + 1 + 1; text = next; line = [] })
 
--- what a line of this number and meaning spells
-abbrev pub spelled_of : ℕ → Line → Spelled
-spelled_of n line.Skipped = spelled.Nothing
-spelled_of n (line.Put f) = spelled.Text f
-spelled_of n (line.Step f s) = spelled.Item (item.Step f s)
-spelled_of n line.Bad = spelled.Item (item.BadLine n)
+-- the module text that begins after a line of this meaning, if one does
+abbrev pub begun_text : Line → Option Text
+begun_text line.Skipped = None
+begun_text (line.Put f) = Some (empty_text f)
+begun_text (line.Step f s) = None
+begun_text line.Bad = None
 
--- the module text that begins after the line, if one does
-abbrev pub begun_text : Spelled → Option Text
-begun_text spelled.Nothing = None
-begun_text (spelled.Text f) = Some (empty_text f)
-begun_text (spelled.Item i) = None
+-- the items that a line of this number and meaning spells: one, or none
+abbrev pub items_of : ℕ → Line → List Item
+items_of n line.Skipped = []
+items_of n (line.Put f) = []
+items_of n (line.Step f s) = item.Step f s ∷ []
+items_of n line.Bad = item.BadLine n ∷ []
 
--- the items of what a line spells: one, or none
-abbrev pub items_of : Spelled → List Item
-items_of spelled.Nothing = []
-items_of (spelled.Text f) = []
-items_of (spelled.Item i) = i ∷ []
+-- the items that it spells where it is the last line: a module text that begins after it does not end
+abbrev pub last_items : ℕ → Line → List Item
+last_items n line.Skipped = []
+last_items n (line.Put f) = item.EndOfText ∷ []
+last_items n (line.Step f s) = item.Step f s ∷ []
+last_items n line.Bad = item.BadLine n ∷ []
 
 -- After a line inside a module text, of which this much is kept: the line ends the text, which is put, or the text
 -- continues with the line and its LF.

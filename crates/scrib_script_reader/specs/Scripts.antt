@@ -13,19 +13,19 @@ abbrev pub NoLf : List ℕ → Type 0
 NoLf bytes = All (λ b. b ≢ 10) bytes
 
 -- the list of the item, if there is one
-abbrev pub listed : Option Item → List Item
-listed None = []
-listed (Some i) = i ∷ []
+abbrev pub item_list : Option Item → List Item
+item_list None = []
+item_list (Some i) = i ∷ []
 
 -- the lines, with the byte in front of the first one
-abbrev pub joined : ℕ → List (List ℕ) → List (List ℕ)
-joined b [] = (b ∷ []) ∷ []
-joined b (l ∷ ls) = (b ∷ l) ∷ ls
+abbrev pub with_byte : ℕ → List (List ℕ) → List (List ℕ)
+with_byte b [] = (b ∷ []) ∷ []
+with_byte b (l ∷ ls) = (b ∷ l) ∷ ls
 
 -- the lines of the bytes, each with its LF, which the last may lack
 abbrev pub lines : List ℕ → List (List ℕ)
 lines [] = []
-lines (b ∷ bs) = if b == 10 then (b ∷ []) ∷ lines bs else joined b (lines bs)
+lines (b ∷ bs) = if b == 10 then (b ∷ []) ∷ lines bs else with_byte b (lines bs)
 
 -- an end of a line: LF, or CR and LF
 abbrev pub is_end : List ℕ → Bool

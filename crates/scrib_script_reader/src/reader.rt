@@ -1,7 +1,7 @@
 //! Parses the lines of a script one after another, with a cache of events.
 
 ghost use Rattle.std.specs.Prelude.{◌≡◌, ◌<◌, ◌++◌, ◌∷◌, ℕ, List, IfOk, IfSome, MatchOption, length, slice_index};
-ghost use Rattle.scrib_script_reader.specs.Fields.{IsNumber};
+ghost use Rattle.scrib_script_reader.specs.Fields.{IsNumberText};
 ghost use Rattle.scrib_script_reader.specs.Says.{Says};
 ghost use Rattle.scrib_script_reader.specs.Heads.{IsHead, direction_word};
 

@@ -7,7 +7,7 @@ use crate::item::Item;
 use crate::kept_bytes::{KEPT_TEXT_BYTES, KeptText, append_up_to, next_lf, without_cr};
 use crate::limits::Limits;
 use crate::reader::Reader;
-use crate::spelling::{Spelled, is_text_end, put_of, spell_text_line, spelling_of};
+use crate::spelling::{is_text_end, last_spelling_of, put_of, spell_text_line, spelling_of};
 use std::alloc::{AllocError, Global};
 
 // The bytes that are kept of a line outside module texts: its limit, one byte to see that it is longer, and a CR.
@@ -36,9 +36,9 @@ pub struct Script {
 
 impl Script {
     ghost use Rattle.std.specs.Prelude.{◌≡◌, ◌<◌, ◌+◌, ◌⊎◌, ◌∷◌, ◌++◌, [], ℕ, List, Option, None, IfOk, IfErr, OnOk, OnErr, length, option_map};
-    ghost use Rattle.scrib_script_reader.specs.Scripts.{NoLf, listed};
+    ghost use Rattle.scrib_script_reader.specs.Scripts.{NoLf, item_list};
     ghost use Rattle.scrib_script_reader.specs.Limits.{of_scripts};
-    ghost use Rattle.scrib_script_reader.specs.Positions.{as_text, Holds, Takes, TakesFront, IsOneLine, IsPastWith, PassesLimits, EndsIn, LineEnded};
+    ghost use Rattle.scrib_script_reader.specs.Positions.{as_text, Holds, TakesBytes, TakesFront, IsOneLine, IsPastWith, PassesLimits, EndSpells, LineEnded};
     ghost use Rattle.scrib_script_reader.specs.declared.fault.SpellFault.TheVariants as fault;
 
     /// Returns the state before the first byte of a script of at most 16,777,216 lines and 1,099,511,627,776 bytes.
@@ -88,7 +88,7 @@ impl Script {
     ///   16,777,216 lines and 1,099,511,627,776 bytes unless `with_limits` set others.
     /// - `OutOfMemory` where memory for a line, a text or a step is refused.
     pub fn next_item<'a>(&mut self, piece: &'a [u8]) -> Result<(Option<Item>, &'a [u8]), SpellFault>
-        ensures taken { IfOk result (λ r. TakesFront self.old self.new piece.now r.1.now (listed r.0)) }
+        ensures taken { IfOk result (λ r. TakesFront self.old self.new piece.now r.1.now (item_list r.0)) }
         ensures shorter { IfOk result (λ r. 0 < length piece.now → length r.1.now < length piece.now) }
         ensures limit { IfErr result (λ e. e ≡ fault.TooLong → PassesLimits self.old piece.now) }
     {
@@ -111,7 +111,7 @@ impl Script {
     /// # Errors
     /// `OutOfMemory` where memory for the step is refused.
     pub fn last_item(&mut self) -> Result<Option<Item>, SpellFault>
-        ensures ends { IfOk result (λ item. EndsIn self.old (listed item)) }
+        ensures ends { IfOk result (λ item. EndSpells self.old (item_list item)) }
         ensures limit { IfErr result (λ e. e ≡ fault.OutOfMemory) }
     {
         let Some(text) = self.text.take() else {
@@ -119,11 +119,7 @@ impl Script {
                 return Ok(None);
             }
             let line = self.reader.line(self.line.as_slice())?;
-            return Ok(match spelling_of(line, self.lines + 1) {
-                Spelled::Nothing => None,
-                Spelled::Text(_) => Some(Item::EndOfText),
-                Spelled::Item(item) => Some(item),
-            });
+            return Ok(last_spelling_of(line, self.lines + 1));
         };
         if is_text_end(self.line.as_slice()) {
             return Ok(Some(put_of(text)));
@@ -134,7 +130,7 @@ impl Script {
     // Consumes the last bytes of a line and its LF. Returns the item that the line spells.
     fn take_line(&mut self, part: &[u8]) -> Result<Option<Item>, SpellFault>
         requires { NoLf part.now }
-        ensures taken { IfOk result (λ item. Takes self.old self.new (part.now ++ 10 ∷ []) (listed item)) }
+        ensures taken { IfOk result (λ item. TakesBytes self.old self.new (part.now ++ 10 ∷ []) (item_list item)) }
         ensures limit { IfErr result (λ e. e ≡ fault.TooLong → IsPastWith self.old (part.now ++ 10 ∷ [])) }
     {
         if self.text.is_none() && self.line.is_empty() {
@@ -149,12 +145,12 @@ impl Script {
         requires text { self.old.text ≡ None }
         requires line { self.old.line.items ≡ [] }
         requires no_lf { NoLf line.now }
-        ensures taken { IfOk result (λ item. Takes self.old self.new (line.now ++ 10 ∷ []) (listed item)) }
+        ensures taken { IfOk result (λ item. TakesBytes self.old self.new (line.now ++ 10 ∷ []) (item_list item)) }
         ensures limit { IfErr result (λ e. e ≡ fault.TooLong → IsPastWith self.old (line.now ++ 10 ∷ [])) }
     {
         self.bytes = self.counted(line.len() + 1)?;
         let meaning = self.reader.line(without_cr(line))?;
-        let (item, text) = spelling_of(meaning, self.lines + 1).parts(self.alloc);
+        let (item, text) = spelling_of(meaning, self.lines + 1, self.alloc);
         self.text = text;
         self.lines += 1;
         Ok(item)
@@ -163,7 +159,7 @@ impl Script {
     // Consumes bytes of a line, without its LF.
     fn take_part(&mut self, part: &[u8]) -> Result<(), SpellFault>
         requires { NoLf part.now }
-        ensures taken { OnOk result (Takes self.old self.new part.now []) }
+        ensures taken { OnOk result (TakesBytes self.old self.new part.now []) }
         ensures limit { IfErr result (λ e. e ≡ fault.TooLong → IsOneLine part.now × IsPastWith self.old part.now) }
     {
         if part.is_empty() {
@@ -181,7 +177,7 @@ impl Script {
 
     // Consumes an LF. Returns the item that the line before it spells.
     fn end_line(&mut self) -> Result<Option<Item>, SpellFault>
-        ensures taken { IfOk result (λ item. Takes self.old self.new (10 ∷ []) (listed item)) }
+        ensures taken { IfOk result (λ item. TakesBytes self.old self.new (10 ∷ []) (item_list item)) }
         ensures limit { IfErr result (λ e. e ≡ fault.TooLong → IsPastWith self.old (10 ∷ [])) }
     {
         let bytes = self.counted(1)?;
@@ -196,7 +192,7 @@ impl Script {
     // The item that the ended line spells, and the module text that continues after it, if one does.
     fn spell_line(&mut self) -> Result<(Option<Item>, Option<KeptText>), AllocError>
         requires { self.old.lines < self.old.limits.lines }
-        ensures ended { IfOk result (λ r. LineEnded self.old (option_map as_text r.1) (listed r.0)) }
+        ensures ended { IfOk result (λ r. LineEnded self.old (option_map as_text r.1) (item_list r.0)) }
         ensures lines { OnOk result (self.new.lines ≡ self.old.lines) }
         ensures bytes { OnOk result (self.new.bytes ≡ self.old.bytes) }
         ensures limits { OnOk result (self.new.limits ≡ self.old.limits) }
@@ -205,7 +201,7 @@ impl Script {
             Some(text) => spell_text_line(text, self.line.as_slice()),
             None => {
                 let line = self.reader.line(without_cr(self.line.as_slice()))?;
-                Ok(spelling_of(line, self.lines + 1).parts(self.alloc))
+                Ok(spelling_of(line, self.lines + 1, self.alloc))
             }
         }
     }

@@ -2,8 +2,8 @@
 
 ghost use Rattle.std.specs.Prelude.{◌≡◌, ◌↔◌, ◌∷◌, [], IsTrue, IfOk, option_map};
 ghost use Rattle.scrib_core.specs.declared.step.Step.TheVariants.{Put};
-ghost use Rattle.scrib_script_reader.specs.Scripts.{text_end, listed};
-ghost use Rattle.scrib_script_reader.specs.Positions.{as_text, begun_text, items_of, spelled_of, TextGives};
+ghost use Rattle.scrib_script_reader.specs.Scripts.{text_end, item_list};
+ghost use Rattle.scrib_script_reader.specs.Positions.{as_text, begun_text, items_of, last_items, TextGives};
 ghost use Rattle.scrib_script_reader.specs.declared.item.Item.TheVariants as item;
 
 use crate::item::Item;
@@ -14,41 +14,36 @@ use scrib_core::step::Step;
 use scrib_types::containers::Items;
 use std::alloc::{AllocError, Global};
 
-// What a line outside module texts spells.
-#[derive(Drop)]
-pub(crate) enum Spelled {
-    Nothing,
-    // A module text begins after the line; the reply to its put is printed in this format.
-    Text(Format),
-    Item(Item),
-}
-
-impl Spelled {
-    // The item, and the module text that begins, which is still empty.
-    pub(crate) fn parts(self, alloc: Global) -> (Option<Item>, Option<KeptText>)
-        ensures text { option_map as_text result.1 ≡ begun_text self }
-        ensures item { listed result.0 ≡ items_of self }
-    {
-        match self {
-            Spelled::Nothing => (None, None),
-            Spelled::Item(item) => (Some(item), None),
-            Spelled::Text(format) => {
-                let bytes = Vec::new(alloc);
-                (None, Some(KeptText { bytes, format }))
-            }
+// The item that a line of this meaning and number spells, and the module text that begins after it, which is still
+// empty.
+pub(crate) fn spelling_of(
+    line: Line,
+    number: u32,
+    alloc: Global,
+) -> (Option<Item>, Option<KeptText>)
+    ensures text { option_map as_text result.1 ≡ begun_text line }
+    ensures item { item_list result.0 ≡ items_of number line }
+{
+    match line {
+        Line::Skipped => (None, None),
+        Line::Put(format) => {
+            let bytes = Vec::new(alloc);
+            (None, Some(KeptText { bytes, format }))
         }
+        Line::Step(format, step) => (Some(Item::Step(format, step)), None),
+        Line::Bad => (Some(Item::BadLine(number)), None),
     }
 }
 
-// What a line of this meaning and number spells.
-pub(crate) fn spelling_of(line: Line, number: u32) -> Spelled
-    ensures { result ≡ spelled_of number line }
+// The item that the last line spells. A module text that begins after it does not end.
+pub(crate) fn last_spelling_of(line: Line, number: u32) -> Option<Item>
+    ensures { item_list result ≡ last_items number line }
 {
     match line {
-        Line::Skipped => Spelled::Nothing,
-        Line::Put(format) => Spelled::Text(format),
-        Line::Step(format, step) => Spelled::Item(Item::Step(format, step)),
-        Line::Bad => Spelled::Item(Item::BadLine(number)),
+        Line::Skipped => None,
+        Line::Put(_) => Some(Item::EndOfText),
+        Line::Step(format, step) => Some(Item::Step(format, step)),
+        Line::Bad => Some(Item::BadLine(number)),
     }
 }
 
@@ -73,7 +68,7 @@ pub(crate) fn spell_text_line(
     mut text: KeptText,
     line: &[u8],
 ) -> Result<(Option<Item>, Option<KeptText>), AllocError>
-    ensures { IfOk result (λ r. TextGives (as_text text) line.now (option_map as_text r.1) (listed r.0)) }
+    ensures { IfOk result (λ r. TextGives (as_text text) line.now (option_map as_text r.1) (item_list r.0)) }
 {
     if is_text_end(without_cr(line)) {
         return Ok((Some(put_of(text)), None));

@@ -3,7 +3,7 @@
 ghost use Rattle.std.specs.Prelude.{◌≡◌, IfOk, map, codes};
 ghost use Rattle.scrib_types.specs.Texts.{profile_word};
 ghost use Rattle.scrib_script_reader.specs.Fields.{Finds};
-ghost use Rattle.scrib_script_reader.specs.Steps.{Makes, Edits, MakesStep};
+ghost use Rattle.scrib_script_reader.specs.Steps.{MakesWithId, Edits, MakesStep};
 
 use crate::exchange::{Exchange, exchange_of};
 use crate::text::{dotted_of, number_of};
@@ -40,7 +40,7 @@ fn step_with(
     id: u32,
     fields: &[&[u8]],
 ) -> Result<Option<Step>, AllocError>
-    ensures { IfOk result (Finds (Makes word.now id (map (λ field. field.now) fields.now))) }
+    ensures { IfOk result (Finds (MakesWithId word.now id (map (λ field. field.now) fields.now))) }
 {
     if word == b"open".as_slice() {
         return open_of(alloc, id, fields);
@@ -101,7 +101,7 @@ fn profile_named(text: &[u8]) -> Option<Profile>
 }
 
 fn open_of(alloc: Global, id: u32, fields: &[&[u8]]) -> Result<Option<Step>, AllocError>
-    ensures { IfOk result (Finds (Makes (codes "open") id (map (λ field. field.now) fields.now))) }
+    ensures { IfOk result (Finds (MakesWithId (codes "open") id (map (λ field. field.now) fields.now))) }
 {
     let [text] = fields else {
         return Ok(None);
@@ -113,7 +113,7 @@ fn open_of(alloc: Global, id: u32, fields: &[&[u8]]) -> Result<Option<Step>, All
 }
 
 fn join_of(alloc: Global, id: u32, fields: &[&[u8]]) -> Result<Option<Step>, AllocError>
-    ensures { IfOk result (Finds (Makes (codes "join") id (map (λ field. field.now) fields.now))) }
+    ensures { IfOk result (Finds (MakesWithId (codes "join") id (map (λ field. field.now) fields.now))) }
 {
     let [role] = fields else {
         return Ok(None);
@@ -126,7 +126,7 @@ fn join_of(alloc: Global, id: u32, fields: &[&[u8]]) -> Result<Option<Step>, All
 }
 
 fn send_of(alloc: Global, id: u32, fields: &[&[u8]]) -> Result<Option<Step>, AllocError>
-    ensures { IfOk result (Finds (Makes (codes "send") id (map (λ field. field.now) fields.now))) }
+    ensures { IfOk result (Finds (MakesWithId (codes "send") id (map (λ field. field.now) fields.now))) }
 {
     let Some(exchange) = exchange_of(alloc, fields)? else {
         return Ok(None);
@@ -137,7 +137,7 @@ fn send_of(alloc: Global, id: u32, fields: &[&[u8]]) -> Result<Option<Step>, All
 }
 
 fn recv_of(alloc: Global, id: u32, fields: &[&[u8]]) -> Result<Option<Step>, AllocError>
-    ensures { IfOk result (Finds (Makes (codes "recv") id (map (λ field. field.now) fields.now))) }
+    ensures { IfOk result (Finds (MakesWithId (codes "recv") id (map (λ field. field.now) fields.now))) }
 {
     let Some(exchange) = exchange_of(alloc, fields)? else {
         return Ok(None);

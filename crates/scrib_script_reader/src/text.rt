@@ -1,7 +1,7 @@
 //! Parses single fields: numbers, dotted names and messages.
 
 ghost use Rattle.std.specs.Prelude.{ℕ, List, IfOk, MatchOption};
-ghost use Rattle.scrib_script_reader.specs.Fields.{Finds, IsNumber, IsDottedText, IsOperatorText, IsPayloadText, IsMessageText, IsCut};
+ghost use Rattle.scrib_script_reader.specs.Fields.{Finds, IsNumberText, IsDottedText, IsOperatorText, IsPayloadText, IsMessageText, IsCut};
 
 use scrib_types::message::{Message, Payload};
 use scrib_types::name::{Dotted, Name};
@@ -13,7 +13,7 @@ const MAX_DIGITS: usize = 10;
 
 // The number of 1 to 10 decimal digits, if the bytes are such and it fits in 32 bits.
 pub(crate) fn number_of(bytes: &[u8]) -> Option<u32>
-    ensures { Finds (IsNumber bytes.now) result }
+    ensures { Finds (IsNumberText bytes.now) result }
 {
     if bytes.is_empty() || bytes.len() > MAX_DIGITS {
         return None;

@@ -5,45 +5,50 @@ ghost use Rattle.std.specs.Option.{option_copied};
 ghost use Rattle.scrib_cli.specs.Commands.{source, IsScriptExplained, IsScriptPartExplained};
 ghost use Rattle.scrib_script_io.specs.Faults.{of_script};
 ghost use Rattle.scrib_cli.specs.Faults.{script_fault};
-ghost use Rattle.scrib_script_reader.specs.Limits.{of_scripts, IsWithin};
+ghost use Rattle.scrib_script_reader.specs.Limits.{of_scripts, IsWithinLimits};
 
 use crate::commands::fault::CommandFault;
 use crate::commands::folder::Folder;
 use crate::commands::observed::Observed;
+use crate::commands::script_input::ScriptInput;
 use crate::commands::source::Source;
 use crate::explain_script::{Explained, explain_script};
 use std::alloc::Global;
 use std::io::{Read, Write};
 
-/// Explains a conversation of a script as `explain_script` does.
-///
-/// The script is the file of `path`, or where no path is given what the reader reads. Returns whether it wrote the
-/// messages in flight, and not a refusal line.
+/// Explains a conversation of the input's script as `explain_script` does. Returns whether it wrote the messages in
+/// flight, and not a refusal line.
 ///
 /// # Errors
 /// After an error, nothing or a prefix of the output is written.
 /// - `Unopened` where the file can't be opened.
 /// - `Unread` and `TooLong` where `explain_script` returns `Read`.
 /// - `Unwritten` and `OutOfMemory` where `explain_script` returns `Write` and `OutOfMemory`.
-pub fn explain<'a, F: Folder, R: Read, W: Write>(
+pub fn explain<'a, F: Folder, R: Read + Drop, W: Write>(
     alloc: Global,
     id: u32,
-    folder: &F,
-    path: Option<&'a str>,
-    reader: &mut R,
+    input: ScriptInput<'a, '_, F, R>,
     writer: &mut W,
 ) -> Result<bool, CommandFault<'a>>
     ensures ok { IfOk result (λ flights.
-        IsScriptExplained id (source (F.text folder.now) (option_copied path.entry) (R.remaining reader.old)) flights
-        (W.contents writer.old) (W.contents writer.new)) }
+        IsScriptExplained id
+        (source (F.text input.entry.folder.now) (option_copied input.entry.path) (R.remaining input.entry.reader))
+        flights (W.contents writer.old) (W.contents writer.new)) }
     ensures err { OnErr result
-        (IsScriptPartExplained id (source (F.text folder.now) (option_copied path.entry) (R.remaining reader.old))
+        (IsScriptPartExplained id
+        (source (F.text input.entry.folder.now) (option_copied input.entry.path) (R.remaining input.entry.reader))
         (W.contents writer.old) (W.contents writer.new)) }
     ensures fault { IfErr result (λ e. of_script (script_fault e) ≡ true) }
     ensures within { OnOk result
-        (IfSome (source (F.text folder.now) (option_copied path.entry) (R.remaining reader.old))
-        (λ input. IsWithin of_scripts input)) }
+        (IfSome
+        (source (F.text input.entry.folder.now) (option_copied input.entry.path) (R.remaining input.entry.reader))
+        (λ input. IsWithinLimits of_scripts input)) }
 {
+    let ScriptInput {
+        folder,
+        path,
+        reader,
+    } = input;
     match path {
         None => explain_source(alloc, id, Source::StandardInput, reader, writer),
         Some(path) => {
@@ -66,7 +71,7 @@ fn explain_source<'a, R: Read + Drop, W: Write>(
     ensures err { OnErr result
         (IsScriptPartExplained id (R.remaining reader) (W.contents writer.old) (W.contents writer.new)) }
     ensures fault { IfErr result (λ e. of_script (script_fault e) ≡ true) }
-    ensures within { OnOk result (IfSome (R.remaining reader) (λ input. IsWithin of_scripts input)) }
+    ensures within { OnOk result (IfSome (R.remaining reader) (λ input. IsWithinLimits of_scripts input)) }
 {
     let mut reader = Observed::new(reader);
     match explain_script(alloc, &mut reader, id, writer) {

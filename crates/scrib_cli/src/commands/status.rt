@@ -1,7 +1,7 @@
 //! The exit status of the program and the fixed line of a fault.
 
 ghost use Rattle.std.specs.Prelude.{◌≡◌};
-ghost use Rattle.scrib_cli.specs.Commands.{status_of, fault_text};
+ghost use Rattle.scrib_cli.specs.Commands.{status_of, fault_line};
 ghost use Rattle.scrib_cli.specs.Faults.{script_fault};
 
 use crate::commands::fault::CommandFault;
@@ -19,7 +19,7 @@ pub fn status_of(answer: &Result<bool, CommandFault<'_>>) -> u8
 /// Returns the fixed line that standard error gets for a fault. The line after it is the fault's own text with its
 /// cause.
 pub fn fault_text(fault: &CommandFault<'_>) -> &'static str
-    ensures { result.now ≡ fault_text (script_fault fault.now) }
+    ensures { result.now ≡ fault_line (script_fault fault.now) }
 {
     match fault {
         CommandFault::Unopened(_) | CommandFault::Unread(_) | CommandFault::TooLong(_) => {

@@ -1,6 +1,6 @@
 use Rattle.std.proofs.Common.{[], sym, subst}
 use Rattle.scrib_static_checks.specs.declared.fault.Fault.{Fault}
-use Rattle.scrib_elaborate.specs.Meaning.{meaning_of}
+use Rattle.scrib_elaborate.specs.Meaning.{elaborated_meaning}
 use Rattle.scrib_static_checks.specs.Elaboration.{Elaborates}
 use Rattle.scrib_static_checks.specs.Faults.{IsBroken}
 use Rattle.scrib_elaborate.specs.Sites.{AreSites}
@@ -23,9 +23,9 @@ pub returns-in-Ok-clause-ok : goal.returns-in-Ok-clause-ok
 returns-in-Ok-clause-ok c =
     let named : IsFullName c.args.protocol.now c.in-Some.name = rw c.in-Some.is at c.in_ok-name.ensures in
     let added : AreAdded [] c.args.texts.now c.add_texts.new.modules = rw (c.in_default-2.is, c.new-modules.ensures) at c.in_ok-fault.ensures.ok in
-    let means : Elaborates c.add_texts.new.modules c.in-Some.name.home c.in-Some.name.protocol (meaning_of c.in-Ok.elaborated) = c.in-Ok.ensures.ok in
+    let means : Elaborates c.add_texts.new.modules c.in-Some.name.home c.in-Some.name.protocol (elaborated_meaning c.in-Ok.elaborated) = c.in-Ok.ensures.ok in
     let sites : AreSites c.add_texts.new.modules c.in-Some.name.home c.in-Some.name.protocol c.in-Ok.elaborated = c.in-Ok.ensures.sites in
-    ok_role c.args.profile c.args.texts.now c.args.protocol.now c.args.role.now c.in-Some.name c.add_texts.new.modules (meaning_of c.in-Ok.elaborated) c.projection_on.result named added means
+    ok_role c.args.profile c.args.texts.now c.args.protocol.now c.args.role.now c.in-Some.name c.add_texts.new.modules (elaborated_meaning c.in-Ok.elaborated) c.projection_on.result named added means
     c.projection_on.ensures.ok (c.projection_on.ensures.place c.add_texts.new.modules c.in-Some.name.home c.in-Some.name.protocol sites)
 
 pub returns-in-Err-Broken-clause-ok : goal.returns-in-Err-Broken-clause-ok

@@ -1,5 +1,5 @@
 use Rattle.std.proofs.Common.{◌≡◌, ◌∙◌}
-use Rattle.scrib_run_service.specs.Outputs.{heading}
+use Rattle.scrib_report.specs.ReplyTexts.{heading}
 use Rattle.scrib_run_service.proofs.ResultLemmas.{on_err_any}
 use Rattle.scrib_run_service.proofs.PartialWriteLemmas.{part_before, failed_after}
 use Rattle.scrib_run_service.proofs.run_service.write_connection.Goals as goal

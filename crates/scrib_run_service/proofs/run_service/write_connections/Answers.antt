@@ -1,7 +1,8 @@
 use Rattle.std.proofs.Common.{ℕ, ◌+◌, List, ◌++◌, map, drop, subst, sym, ap}
 use Rattle.std.specs.Io.KnownBytes.{Appends}
 use Rattle.scrib_script_io.specs.Writes.{AppendsPart}
-use Rattle.scrib_run_service.specs.Outputs.{heading, connections_text}
+use Rattle.scrib_report.specs.ReplyTexts.{heading}
+use Rattle.scrib_run_service.specs.Outputs.{connections_text}
 use Rattle.scrib_run_service.proofs.ResultLemmas.{on_err_any}
 use Rattle.scrib_script_io.proofs.WriterLemmas.{appends_more}
 use Rattle.scrib_run_service.proofs.PartialWriteLemmas.{part_before, part_after, texts_at}

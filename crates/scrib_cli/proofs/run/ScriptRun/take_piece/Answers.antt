@@ -2,7 +2,7 @@ use Rattle.std.proofs.Common.{◌∙◌, Option, Some, refl, sym, subst}
 use Rattle.std.proofs.lemmas.Result.{err_from_is_err_and}
 use Rattle.scrib_core.specs.Held.{state_of}
 use Rattle.scrib_script_reader.specs.declared.item.Item.{Item}
-use Rattle.scrib_script_reader.specs.Scripts.{listed}
+use Rattle.scrib_script_reader.specs.Scripts.{item_list}
 use Rattle.scrib_script_reader.specs.Positions.{TakesFront}
 use Rattle.scrib_script_io.proofs.FaultLemmas.{limit_reported, output_not_read}
 use Rattle.scrib_cli.proofs.Results.{on_err_any}
@@ -15,14 +15,14 @@ returns-in_err-item-clause-err g c =
 
 pub returns-in_err-write_item-clause-err : goal.returns-in_err-write_item-clause-err
 returns-in_err-write_item-clause-err g c =
-    let takes = subst (λ (o : Option Item). TakesFront c.loop-rest.self.script c.next_item.new.self c.loop-rest.rest.now c.in_ok-item.after.now (listed o)) c.in-Some.is c.in_ok-item.ensures.taken in
+    let takes = subst (λ (o : Option Item). TakesFront c.loop-rest.self.script c.next_item.new.self c.loop-rest.rest.now c.in_ok-item.after.now (item_list o)) c.in-Some.is c.in_ok-item.ensures.taken in
     on_err_any c.from_residual-in_err-write_item.result
     (stopped_item c.args.self.now c.loop-rest.self c.next_item.new.self c.args.piece.now c.loop-rest.rest.now c.in_ok-item.after.now c.in-Some.item (g.W.Write.contents c.args.writer.now) (g.W.Write.contents c.loop-rest.writer) (g.W.Write.contents c.write_item.new.writer)
     c.loop-rest.invariant takes c.in_err-write_item.ensures.err)
 
 pub loop-rest-preserved-in_ok-write_item : goal.loop-rest-preserved-in_ok-write_item
 loop-rest-preserved-in_ok-write_item g c =
-    let takes = subst (λ (o : Option Item). TakesFront c.loop-rest.self.script c.next_item.new.self c.loop-rest.rest.now c.in_ok-item.after.now (listed o)) c.in-Some.is c.in_ok-item.ensures.taken in
+    let takes = subst (λ (o : Option Item). TakesFront c.loop-rest.self.script c.next_item.new.self c.loop-rest.rest.now c.in_ok-item.after.now (item_list o)) c.in-Some.is c.in_ok-item.ensures.taken in
     took_item c.args.self.now c.loop-rest.self _ c.args.piece.now c.loop-rest.rest.now c.in_ok-item.after.now (Some c.in-Some.item) (g.W.Write.contents c.args.writer.now) (g.W.Write.contents c.loop-rest.writer) (g.W.Write.contents c.write_item.new.writer)
     c.loop-rest.invariant refl takes c.in_ok-write_item.ensures.ok
 

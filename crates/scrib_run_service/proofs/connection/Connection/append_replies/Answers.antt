@@ -2,7 +2,7 @@ use Rattle.std.proofs.Common.{◌≡◌, List, [], ◌∷◌, Result, sym, subst
 use Rattle.std.specs.Vec.Iter.{into_iter_items}
 use Rattle.scrib_core.specs.declared.format.Format.TheVariants as format
 use Rattle.scrib_locked_steps.specs.declared.pass_calls.PassRefusal.{PassRefusal}
-use Rattle.scrib_locked_steps.specs.declared.step_results.Noted.{Noted}
+use Rattle.scrib_core.specs.declared.conversation_steps.Noted.{Noted}
 use Rattle.scrib_client.specs.ServiceReplies.{noted_reply}
 use Rattle.scrib_run_service.specs.Outcomes.{Adds, replied, noted_outcomes}
 use Rattle.scrib_run_service.proofs.ConnectionLemmas.{adds_none, adds_next, none_left}

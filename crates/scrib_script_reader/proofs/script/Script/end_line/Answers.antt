@@ -1,7 +1,7 @@
 use Rattle.std.proofs.Common.{◌+◌, ◌∷◌, [], ℕ, refl, ap}
 use Rattle.std.specs.Prelude.{option_map}
 use Rattle.std.proofs.lemmas.Result.{err_from_is_err_and}
-use Rattle.scrib_script_reader.specs.Scripts.{listed}
+use Rattle.scrib_script_reader.specs.Scripts.{item_list}
 use Rattle.scrib_script_reader.specs.Positions.{as_text}
 use Rattle.scrib_script_reader.proofs.LimitLemmas.{memory_is_other, past_with}
 use Rattle.scrib_script_reader.proofs.ScriptLemmas.{takes_line}
@@ -19,5 +19,5 @@ returns-in_err-item-clause-limit c =
 
 pub returns-clause-taken : goal.returns-clause-taken
 returns-clause-taken c =
-    takes_line c.args.self.now _ (option_map as_text c.in_ok-item.text) (listed c.in_ok-item.item) c.in_ok-item.ensures.ended refl c.clear.ensures.items
+    takes_line c.args.self.now _ (option_map as_text c.in_ok-item.text) (item_list c.in_ok-item.item) c.in_ok-item.ensures.ended refl c.clear.ensures.items
     (ap (λ (n : ℕ). n + 1) c.in_ok-item.ensures.lines) c.in_ok-item.ensures.limits c.in_ok-bytes.ensures.bytes c.in_ok-bytes.ensures.few_bytes c.in_ok-bytes.ensures.few_lines

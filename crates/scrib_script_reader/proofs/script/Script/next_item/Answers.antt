@@ -1,7 +1,7 @@
 use Rattle.std.proofs.Common.{◌∙◌, ◌+◌, ℕ, List, [], drop, length, sym, ap, subst, arith}
 use Rattle.std.proofs.lemmas.List.{length-drop}
 use Rattle.scrib_script_reader.specs.declared.item.Item.{Item}
-use Rattle.scrib_script_reader.specs.Scripts.{listed}
+use Rattle.scrib_script_reader.specs.Scripts.{item_list}
 use Rattle.scrib_script_reader.specs.Positions.{TakesFront}
 use Rattle.std.proofs.lemmas.Result.{err_from_is_err_and}
 use Rattle.scrib_script_reader.proofs.ScriptLemmas.{passes_line, passes_part, front_line, front_all, slice_rest, listed_none}
@@ -9,13 +9,13 @@ use Rattle.scrib_script_reader.proofs.script.Script.next_item.Goals as goal
 
 pub returns-then-is_some-clause-taken : goal.returns-then-is_some-clause-taken
 returns-then-is_some-clause-taken c =
-    let front = front_line c.args.self.now c.loop-at.self c.take_line.new.self c.args.piece.now c.loop-at.rest.now c.in-Some.at (listed c.in_ok-item.item)
+    let front = front_line c.args.self.now c.loop-at.self c.take_line.new.self c.args.piece.now c.loop-at.rest.now c.in-Some.at (item_list c.in_ok-item.item)
     c.loop-at.invariant.taken c.in-Some.ensures.within c.in-Some.ensures.lf c.in_ok-item.ensures.taken in
-    subst (λ (t : List ℕ). TakesFront c.args.self.now c.take_line.new.self c.args.piece.now t (listed c.in_ok-item.item)) (sym (slice_rest (c.in-Some.at + 1) c.loop-at.rest.now)) front
+    subst (λ (t : List ℕ). TakesFront c.args.self.now c.take_line.new.self c.args.piece.now t (item_list c.in_ok-item.item)) (sym (slice_rest (c.in-Some.at + 1) c.loop-at.rest.now)) front
 
 pub loop-at-preserved : goal.loop-at-preserved
 loop-at-preserved c =
-    let front = front_line c.args.self.now c.loop-at.self c.take_line.new.self c.args.piece.now c.loop-at.rest.now c.in-Some.at (listed c.in_ok-item.item)
+    let front = front_line c.args.self.now c.loop-at.self c.take_line.new.self c.args.piece.now c.loop-at.rest.now c.in-Some.at (item_list c.in_ok-item.item)
     c.loop-at.invariant.taken c.in-Some.ensures.within c.in-Some.ensures.lf c.in_ok-item.ensures.taken in
     let front_none = subst (λ (items : List Item). TakesFront c.args.self.now c.take_line.new.self c.args.piece.now (drop (c.in-Some.at + 1) c.loop-at.rest.now) items) (listed_none c.in_ok-item.item c.if-is_some.ensures) front in
     record {

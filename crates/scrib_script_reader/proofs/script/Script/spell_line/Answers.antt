@@ -13,4 +13,4 @@ pub returns-in_ok-line-in-None-clause-ended : goal.returns-in_ok-line-in-None-cl
 returns-in_ok-line-in-None-clause-ended c =
     let outside : text_of c.args.self.now ≡ None = text_outside c.args.self.now (sym c.take.ensures.value ∙ c.in-None.is) in
     let bytes : c.without_cr.result.now ≡ bare (c.args.self.now.line.items ++ 10 ∷ []) = c.without_cr.ensures ∙ ap (λ (t : List ℕ). bare (t ++ 10 ∷ [])) c.as_slice-in-None.ensures.value in
-    ended_line c.args.self.now c.in_ok-line-in-None.line c.spelling_of.result _ _ c.without_cr.result.now outside bytes c.in_ok-line-in-None.ensures c.spelling_of.ensures c.parts.ensures.text c.parts.ensures.item
+    ended_line c.args.self.now c.in_ok-line-in-None.line _ _ c.without_cr.result.now outside bytes c.in_ok-line-in-None.ensures c.spelling_of.ensures.text c.spelling_of.ensures.item

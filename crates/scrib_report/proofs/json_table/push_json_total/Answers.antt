@@ -1,6 +1,6 @@
 use Rattle.std.proofs.lemmas.Result.{on_ok_weaker}
 use Rattle.scrib_report.proofs.Totals.{json_total_joined}
-use Rattle.scrib_report.proofs.table.push_json_total.Goals as goal
+use Rattle.scrib_report.proofs.json_table.push_json_total.Goals as goal
 
 pub returns : goal.returns
 returns c = on_ok_weaker c.push_count-2.result

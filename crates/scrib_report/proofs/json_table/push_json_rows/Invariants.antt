@@ -1,6 +1,6 @@
 use Rattle.std.proofs.Common.{◌≡◌, ◌++◌, drop}
 use Rattle.scrib_report.specs.Json.{ended_lines}
-use Rattle.scrib_report.proofs.table.push_json_rows.Given as goal
+use Rattle.scrib_report.proofs.json_table.push_json_rows.Given as goal
 
 abbrev pub invariant-loop-ended : goal.invariant-loop-ended
 invariant-loop-ended l =

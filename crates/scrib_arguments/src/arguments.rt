@@ -175,8 +175,11 @@ fn with_script_commands<'a>(alloc: Global, line: Command<'a>) -> Result<Command<
     with_command(line, run_command(alloc))
 }
 
-// The command line of the program. Fails where memory is refused.
-pub(crate) fn command<'a>(alloc: Global) -> Result<Command<'a>, AllocError> {
+/// Returns the command line of the program: its commands, their options and their help.
+///
+/// # Errors
+/// `AllocError` where memory is refused.
+pub fn command<'a>(alloc: Global) -> Result<Command<'a>, AllocError> {
     let line = Command::new(alloc, "scribmon")
         .version("0.1.0")
         .about("Judges running conversations against Scribble protocols")

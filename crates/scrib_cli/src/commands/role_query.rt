@@ -1,18 +1,16 @@
-//! The command `project`: prints the projection on a role of a protocol of some files.
+//! The commands `project` and `machine`: print the projection on a role of a protocol of some files.
 
 ghost use Rattle.std.specs.Prelude.{IfOk, OnErr};
-ghost use Rattle.scrib_cli.specs.Commands.{IsAnswered, IsPartAnswered};
-ghost use Rattle.scrib_cli.specs.declared.form.Form.TheVariants as form;
+ghost use Rattle.scrib_cli.specs.Commands.{IsQueryWritten, IsQueryPartWritten};
 
 use crate::commands::fault::CommandFault;
 use crate::commands::folder::Folder;
 use crate::commands::reading::read_files;
-use crate::project::project_text;
-use scrib_types::profile::Profile;
+use crate::role_query::{RoleQuery, write_projection};
 use std::alloc::Global;
 use std::io::Write;
 
-/// Does what `project_text` does, over the module texts of these files. Returns whether it wrote a projection.
+/// Does what `write_projection` does, over the module texts of these files. Returns whether it wrote a projection.
 ///
 /// # Errors
 /// After an error, nothing or a prefix of the output is written.
@@ -20,33 +18,23 @@ use std::io::Write;
 ///   or read.
 /// - `Unwritten` where the writer fails.
 /// - `OutOfMemory` where memory is refused.
-pub fn project_files<'a, F: Folder, W: Write>(
+pub fn query_files<'a, F: Folder, W: Write>(
     alloc: Global,
-    profile: Profile,
-    protocol: &str,
-    role: &str,
+    query: &RoleQuery<'_>,
     folder: &F,
     paths: &[&'a str],
     writer: &mut W,
 ) -> Result<bool, CommandFault<'a>>
     ensures ok { IfOk result (λ has_projection.
-        IsAnswered form.Text profile (F.text folder.now) paths.now protocol.now role.now has_projection
+        IsQueryWritten query.now (F.text folder.now) paths.now has_projection
         (W.contents writer.old) (W.contents writer.new)) }
     ensures err { OnErr result
-        (IsPartAnswered form.Text profile (F.text folder.now) paths.now protocol.now role.now
-        (W.contents writer.old) (W.contents writer.new)) }
+        (IsQueryPartWritten query.now (F.text folder.now) paths.now (W.contents writer.old) (W.contents writer.new)) }
 {
     let Ok(read) = read_files(alloc, folder, paths) else {
         return Err(CommandFault::OutOfMemory);
     };
-    match project_text(
-        alloc,
-        profile,
-        protocol,
-        role,
-        read.texts.as_slice(),
-        writer,
-    ) {
+    match write_projection(alloc, query, read.texts.as_slice(), writer) {
         Ok(has_projection) => Ok(has_projection),
         Err(fault) => Err(read.fault_of(&fault)),
     }
