@@ -13,7 +13,7 @@ use std::io::ErrorKind;
 /// Why the examples end early.
 #[derive(Drop)]
 pub(crate) enum RowsFault {
-    /// An example, or a command line, that doesn't say what to do.
+    /// An example, or a command line, without a known command.
     BadRow,
     /// An answer isn't the example's, a call was refused that is not to be, or something changed that was to stay.
     Wrong,
@@ -76,7 +76,7 @@ impl From<EditFault> for RowsFault {
 impl From<Refusal> for RowsFault {
     fn from(refusal: Refusal) -> RowsFault {
         match refusal {
-            Refusal::OutOfMemory => RowsFault::Memory,
+            Refusal::OutOfMemory | Refusal::Edit(EditFault::OutOfMemory) => RowsFault::Memory,
             _ => RowsFault::Wrong,
         }
     }
@@ -108,7 +108,7 @@ pub(crate) fn second<T>(answer: Result<T, RowsFault>) -> Result<T, RowsFault> {
     }
 }
 
-/// Refuses the example where what it says doesn't hold.
+/// Refuses the example where this doesn't hold.
 pub(crate) fn check(holds: bool) -> Result<(), RowsFault> {
     if holds { Ok(()) } else { Err(RowsFault::Wrong) }
 }

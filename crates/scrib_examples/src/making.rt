@@ -1,14 +1,22 @@
 //! What examples are made of.
 
 use crate::fault::RowsFault;
+use scrib_cli::run_script::run_script;
 use scrib_core::format::Format;
 use scrib_core::step::Step;
+use scrib_run_service::options::Options;
 use scrib_run_service::progress::{Mark, Progress};
+use scrib_run_service::run_service::run_service;
+use scrib_run_service::shape::Shape;
+use scrib_script_reader::item::Item;
 use scrib_script_reader::line::{Line, line_of};
+use scrib_script_reader::script::Script;
 use scrib_types::containers::Items;
 use scrib_types::name::Dotted;
 use scrib_types::shared_event::SharedEvent;
 use std::alloc::Global;
+use std::sync::Wait;
+use std::thread::Threads;
 
 /// A protocol of two messages.
 pub(crate) const DEMO: &str =
@@ -22,15 +30,18 @@ pub(crate) const LOOP: &str =
 pub(crate) const CHOICE: &str =
     "module k; global protocol K(role A, role B) { rec X { choice at A { a() from A to B; continue X; } or { b() from A to B; continue X; } } }";
 
-/// The step that a line of a script says, and the format of its reply.
+/// The step that a line of a script contains, or `put` and a module text, and the format of its reply.
 pub(crate) fn formatted_step_of(alloc: Global, text: &str) -> Result<(Format, Step), RowsFault> {
+    if let Some(text) = text.strip_prefix("put ") {
+        return Ok((Format::Line, put(alloc, text)?));
+    }
     match line_of(alloc, text.as_bytes())? {
         Line::Step(format, step) => Ok((format, step)),
         _ => Err(RowsFault::BadRow),
     }
 }
 
-/// The step that a line of a script says.
+/// The step that a line of a script contains, or `put` and a module text.
 pub(crate) fn step_of(alloc: Global, text: &str) -> Result<Step, RowsFault> {
     let (_, step) = formatted_step_of(alloc, text)?;
     Ok(step)
@@ -59,10 +70,61 @@ pub(crate) fn put(alloc: Global, text: &str) -> Result<Step, RowsFault> {
     Ok(Step::Put { text })
 }
 
-/// Nobody is told how far a run is.
+// Adds the step that the item is, if it is one.
+fn push_step(steps: &mut Vec<Step>, item: Option<Item>) -> Result<(), RowsFault> {
+    if let Some(Item::Step(_, step)) = item {
+        steps.push(step)?;
+    }
+    Ok(())
+}
+
+/// The steps of a script. Lines that are no steps are left out.
+pub(crate) fn steps_of(alloc: Global, script: &[u8]) -> Result<Vec<Step>, RowsFault> {
+    let mut steps = Vec::new(alloc);
+    let mut reading = Script::new(alloc);
+    let mut rest = script;
+    while !rest.is_empty() {
+        let Ok((item, after)) = reading.next_item(rest) else {
+            return Err(RowsFault::Wrong);
+        };
+        push_step(&mut steps, item)?;
+        rest = after;
+    }
+    let Ok(item) = reading.last_item() else {
+        return Err(RowsFault::Wrong);
+    };
+    push_step(&mut steps, item)?;
+    Ok(steps)
+}
+
+/// What one monitor prints for the script, in this format.
+pub(crate) fn watched(alloc: Global, format: Format, script: &str) -> Result<String, RowsFault> {
+    let mut printed = Vec::new(alloc);
+    run_script(alloc, format, &mut script.as_bytes(), &mut printed)?;
+    String::from_utf8(printed).ok().ok_or(RowsFault::Wrong)
+}
+
+// The progress of a run is not shown.
 #[derive(Clone, Copy)]
-pub(crate) struct Unwatched;
+struct Unwatched;
 
 impl Progress for Unwatched {
     fn report(&self, _mark: Mark) {}
+}
+
+/// Runs a setup and scripts of connections over a service of two shards and two workers, and adds what is printed.
+pub(crate) fn run_connections<R: Threads + Wait + Sync>(
+    rt: &R,
+    alloc: Global,
+    format: Format,
+    (setup, connections): (&str, Vec<&[u8]>),
+    out: &mut Vec<u8>,
+) -> Result<(), RowsFault> {
+    let options = Options {
+        shape: Shape::new(2, 2).ok().ok_or(RowsFault::BadRow)?,
+        format,
+        progress: None::<Unwatched>,
+    };
+    run_service(rt, alloc, &options, &mut setup.as_bytes(), connections, out)?;
+    Ok(())
 }

@@ -1,7 +1,6 @@
-//! Worked examples as calls of which one is to be refused memory. Where a call is that works on a core, what stood before
-//! it is compared with what stands after it, and the call is made once more on the same; one on a service or queues is
-//! made once more; where a call is that makes a value from others, the row is run once more. The answers are those of the
-//! example.
+//! Worked examples as calls of which one is to be refused memory. At a call that works on a core, the core is compared
+//! with what it was before, and the call is made once more on the same; one on a service or queues is made once more;
+//! at a call that makes a value from others, the row is run once more. The answers are those of the example.
 
 mod core_rows;
 mod front_rows;
@@ -16,7 +15,7 @@ use crate::memory::core_rows::{run_at_once, run_calls};
 use crate::memory::front_rows::{run_copies, run_front_end, run_queues};
 use crate::memory::making::repeated;
 use crate::memory::rows::Call;
-use crate::memory::run_rows::run_connections;
+use crate::memory::run_rows::run_over_service;
 use crate::memory::script_rows::{run_as_script, run_explained};
 use crate::memory::service_rows::run_passes;
 use std::alloc::Global;
@@ -67,7 +66,7 @@ fn run_row<R: Threads + Wait + Sync>(rt: &R, alloc: Global, name: &str) -> Resul
             run_explained(alloc, rows::IN_FLIGHT, rows::FLIGHTS)
         }
         "passes" => run_passes(rt, alloc),
-        "run" => run_connections(rt, alloc),
+        "run" => run_over_service(rt, alloc),
         "front-end" => run_front_end(alloc),
         "queues" => run_queues(alloc),
         "copies" => run_copies(alloc),
@@ -75,20 +74,8 @@ fn run_row<R: Threads + Wait + Sync>(rt: &R, alloc: Global, name: &str) -> Resul
     }
 }
 
-// Runs the row, and once more where memory is refused to a call that makes a value.
-fn run_row_again<R: Threads + Wait + Sync>(
-    rt: &R,
-    alloc: Global,
-    name: &str,
-) -> Result<(), RowsFault> {
-    match run_row(rt, alloc, name) {
-        Err(RowsFault::Memory) => second(run_row(rt, alloc, name)),
-        answer => answer,
-    }
-}
-
-/// Runs the row of this name, or each row where it is `all`, and writes the name of each that was run. A name that no row
-/// has is refused.
+/// Runs the row of this name, or each row where it is `all`, and writes the name of each that was run. A row is run
+/// once more where memory is refused to a call that makes a value. A name that no row has is refused.
 pub(crate) fn run_refused<R: Threads + Wait + Sync, W: Write>(
     rt: &R,
     alloc: Global,
@@ -99,7 +86,10 @@ pub(crate) fn run_refused<R: Threads + Wait + Sync, W: Write>(
     for name in NAMES {
         if wanted == "all" || *name == wanted {
             is_known = true;
-            run_row_again(rt, alloc, name)?;
+            match run_row(rt, alloc, name) {
+                Err(RowsFault::Memory) => second(run_row(rt, alloc, name))?,
+                answer => answer?,
+            }
             writer.write_all(name.as_bytes())?;
             writer.write_all(b"\n")?;
         }

@@ -1,81 +1,91 @@
 //! Worked examples of the service and of its sweeps, with threads and beside a core.
 
-mod connected;
+mod crossing;
 mod example;
 mod lines;
-mod longest;
 mod making;
 mod meeting;
 mod notes;
 mod parts;
+mod refusals;
 mod script;
-mod several;
 mod sweeps;
-mod threads;
 
 use crate::fault::RowsFault;
 use crate::service::example::push_example;
-use crate::service::longest::push_longest_log;
+pub(crate) use crate::service::lines::push_settling_twice;
 use crate::service::meeting::push_meeting;
-use crate::service::notes::{push_asked, push_many};
+use crate::service::notes::{Editing, Ending, Plan, Row, push_asked, push_row};
 use crate::service::parts::push_parts;
-use crate::service::script::run_script;
-use crate::service::several::{push_full_shard, push_strangers};
-use crate::service::sweeps::{
-    push_noticed, push_numbers_of_workers, push_one_worker, push_swept, push_two_workers,
-};
-use crate::service::threads::{push_threads, push_threads_swept};
+use crate::service::refusals::{push_full_shard, push_longest_log, push_strangers};
+use crate::service::script::push_script;
+use crate::service::sweeps::{push_noticed, push_numbers_of_workers, push_swept, push_two_workers};
 use std::alloc::Global;
 use std::io::Write;
 use std::sync::Wait;
 use std::thread::Threads;
 
-// Obeys the word over what follows the line.
-fn obey<R: Threads + Wait + Sync>(
-    rt: &R,
-    alloc: Global,
-    (word, number): (&str, usize),
-    body: &str,
-    out: &mut Vec<u8>,
-) -> Result<(), RowsFault> {
-    match word {
-        "script" => run_script(rt, alloc, number, body, out),
-        "full" => push_full_shard(rt, alloc, number, out),
-        "strangers" => push_strangers(rt, alloc, number, out),
-        "parts" => push_parts(alloc, number, out),
-        "swept" => push_swept(rt, alloc, number, out),
-        "example" => push_example(rt, alloc, number, out),
-        "threads" => push_threads(rt, alloc, number, out),
-        "meeting" => push_meeting(rt, alloc, number, out),
-        "one-worker" => push_one_worker(rt, alloc, number, out),
-        "numbers-of-workers" => push_numbers_of_workers(rt, alloc, number, out),
-        "longest-log" => push_longest_log(rt, alloc, number, out),
-        "notices" => push_noticed(rt, alloc, number, out),
-        "two-workers" => push_two_workers(rt, alloc, number, out),
-        "threads-swept" => push_threads_swept(rt, alloc, number, out),
-        "many-threads" => push_many(rt, alloc, number, out),
-        _ => Err(RowsFault::BadRow),
-    }
+// The row of the word with this number: two threads with a pass each note while a third edits, or so many threads note.
+fn row_of(word: &str, number: usize) -> Option<Row> {
+    let (shards, ending) = match word {
+        "threads" => (number, Ending::TurnAndSettleTwice),
+        "threads-swept" => (2, Ending::Sweep(number)),
+        "many-threads" => (64, Ending::Settle),
+        _ => return None,
+    };
+    let plan = match word {
+        "many-threads" => Plan {
+            threads: number,
+            notes: 8_000,
+            editing: Editing::Nothing,
+        },
+        _ => Plan {
+            threads: 2,
+            notes: 2_000,
+            editing: Editing::TheirModule,
+        },
+    };
+    Some(Row {
+        shards,
+        plan,
+        ending,
+    })
 }
 
 /// Obeys the command, a word and a number, over what follows its line. `script` runs the script on a service of so many
-/// shards, on one thread, beside a core; what the others do is said where they stand.
-pub(crate) fn obey_service<R: Threads + Wait + Sync, W: Write>(
+/// shards, on one thread, beside a core; the functions of the others have their meaning.
+pub(crate) fn obey_service<R: Threads + Wait + Sync>(
     rt: &R,
     alloc: Global,
     command: &str,
     body: &str,
-    writer: &mut W,
+    out: &mut Vec<u8>,
 ) -> Result<(), RowsFault> {
     let (word, number) = command.split_once(' ').ok_or(RowsFault::BadRow)?;
-    let number = number.parse().ok().ok_or(RowsFault::BadRow)?;
-    let mut out = Vec::new(alloc);
-    obey(rt, alloc, (word, number), body, &mut out)?;
-    writer.write_all(out.as_slice())?;
-    Ok(())
+    let number: usize = number.parse().ok().ok_or(RowsFault::BadRow)?;
+    match word {
+        "script" => push_script(rt, alloc, number, body, out),
+        "full" => push_full_shard(rt, alloc, number, out),
+        "strangers" => push_strangers(rt, alloc, number, out),
+        "parts" => push_parts(alloc, number, out),
+        "swept" => push_swept(rt, alloc, number, 0, out),
+        "example" => push_example(rt, alloc, number, out),
+        "meeting" => push_meeting(rt, alloc, number, out),
+        "one-worker" => push_swept(rt, alloc, number, 1, out),
+        "numbers-of-workers" => push_numbers_of_workers(rt, alloc, number, out),
+        "longest-log" => push_longest_log(rt, alloc, number, out),
+        "notices" => push_noticed(rt, alloc, number, out),
+        "two-workers" => push_two_workers(rt, alloc, number, out),
+        _ => push_row(
+            rt,
+            alloc,
+            row_of(word, number).ok_or(RowsFault::BadRow)?,
+            out,
+        ),
+    }
 }
 
-/// Does the task of `notes` with these numbers.
+/// Does the task of `notes` with these numbers, and writes what comes of it.
 pub(crate) fn run_task<R: Threads + Wait + Sync, W: Write>(
     rt: &R,
     alloc: Global,

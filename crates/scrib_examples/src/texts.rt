@@ -1,28 +1,25 @@
-//! Commands over texts: the script, or the module texts, that stand behind the command.
+//! Commands over texts: the script, or the module texts, that follow the command.
 
 mod beside;
 mod past;
-mod profiles;
 mod repeated;
 mod whole;
 
 use crate::fault::RowsFault;
-pub(crate) use crate::texts::beside::tell_runs;
-pub(crate) use crate::texts::past::tell_past;
-use crate::texts::profiles::tell_wider;
-pub(crate) use crate::texts::repeated::tell_repeated;
-use crate::texts::whole::tell_judgements;
+pub(crate) use crate::texts::beside::push_runs;
+pub(crate) use crate::texts::past::push_past;
+pub(crate) use crate::texts::repeated::push_repeated;
+use crate::texts::whole::push_judgements;
 use scrib_cli::explain_script::explain_script;
 use scrib_cli::id::id_of;
-use scrib_cli::machine::machine_text;
-use scrib_cli::project::project_text;
+use scrib_cli::role_query::{Form, RoleQuery, write_projection};
 use scrib_cli::run_script::{Format, run_script};
 use scrib_types::containers::Items;
 use scrib_types::profile::Profile;
+use scrib_types::text::push_bytes;
 use std::alloc::{AllocError, Global};
-use std::io::Write;
 
-// The module texts, which are parted by lines `%%`.
+// The module texts, with lines `%%` between them.
 fn texts_of(alloc: Global, body: &str) -> Result<Vec<Option<Items<u8>>>, AllocError> {
     let mut texts = Vec::new(alloc);
     for text in body.split("\n%%\n") {
@@ -31,64 +28,99 @@ fn texts_of(alloc: Global, body: &str) -> Result<Vec<Option<Items<u8>>>, AllocEr
     Ok(texts)
 }
 
-// What a role does in a protocol of the modules that the body is, as the word says: its projection, or its machine.
-fn tell_role<W: Write>(
-    alloc: Global,
-    profile: Profile,
-    word: &str,
-    (protocol, role): (&str, &str),
-    body: &str,
-    writer: &mut W,
-) -> Result<(), RowsFault> {
-    let texts = texts_of(alloc, body)?;
+// The form of a role's projection that the command of this word prints.
+fn form_of(word: &str) -> Result<Form, RowsFault> {
     match word {
-        "project" => project_text(alloc, profile, protocol, role, &texts, writer)?,
-        "machine" => machine_text(alloc, profile, protocol, role, &texts, writer)?,
-        _ => return Err(RowsFault::BadRow),
-    };
-    Ok(())
-}
-
-fn tell_explained<W: Write>(
-    alloc: Global,
-    id: &str,
-    mut reader: &[u8],
-    writer: &mut W,
-) -> Result<(), RowsFault> {
-    let id = id_of(id).ok_or(RowsFault::BadRow)?;
-    explain_script(alloc, &mut reader, id, writer)?;
-    Ok(())
-}
-
-// Runs the command over what follows its line. A role does what it does under this profile.
-fn obey<W: Write>(
-    alloc: Global,
-    profile: Profile,
-    command: &str,
-    body: &str,
-    writer: &mut W,
-) -> Result<(), RowsFault> {
-    let mut words = command.split_whitespace();
-    let mut reader = body.as_bytes();
-    match (words.next(), words.next(), words.next()) {
-        (Some("watch"), None, None) => Ok(run_script(alloc, Format::Line, &mut reader, writer)?),
-        (Some("judge"), None, None) => tell_judgements(alloc, reader, writer),
-        (Some("explain"), Some(id), None) => tell_explained(alloc, id, reader, writer),
-        (Some(word), Some(protocol), Some(role)) => {
-            tell_role(alloc, profile, word, (protocol, role), body, writer)
-        }
+        "project" => Ok(Form::Text),
+        "machine" => Ok(Form::Graph),
         _ => Err(RowsFault::BadRow),
     }
 }
 
-/// Runs the command over what follows its line, and tells what it writes where receptions merge, where that is something
-/// else.
-pub(crate) fn tell_texts<W: Write>(
+/// Adds the role's projection, or its machine, from the module texts of the body.
+pub(crate) fn push_role(
+    alloc: Global,
+    query: &RoleQuery<'_>,
+    body: &str,
+    out: &mut Vec<u8>,
+) -> Result<(), RowsFault> {
+    let texts = texts_of(alloc, body)?;
+    write_projection(alloc, query, &texts, out)?;
+    Ok(())
+}
+
+// Runs the command over what follows its line, and adds what it prints under this profile for roles.
+fn obey(
+    alloc: Global,
+    profile: Profile,
+    command: &str,
+    body: &str,
+    out: &mut Vec<u8>,
+) -> Result<(), RowsFault> {
+    let mut words = command.split_whitespace();
+    let mut reader = body.as_bytes();
+    match (words.next(), words.next(), words.next()) {
+        (Some("watch"), None, None) => run_script(alloc, Format::Line, &mut reader, out)?,
+        (Some("judge"), None, None) => push_judgements(alloc, reader, out)?,
+        (Some("explain"), Some(id), None) => {
+            let id = id_of(id).ok_or(RowsFault::BadRow)?;
+            explain_script(alloc, &mut reader, id, out)?;
+        }
+        (Some(word), Some(protocol), Some(role)) => {
+            let query = RoleQuery {
+                form: form_of(word)?,
+                profile,
+                protocol,
+                role,
+            };
+            push_role(alloc, &query, body, out)?;
+        }
+        _ => return Err(RowsFault::BadRow),
+    }
+    Ok(())
+}
+
+// What the command prints under this profile. A script has the line in front of it.
+fn printed_under(
+    alloc: Global,
+    profile: Profile,
+    line: &str,
+    command: &str,
+    body: &str,
+) -> Result<Vec<u8>, RowsFault> {
+    let line = match command.split(' ').next() {
+        Some("watch" | "judge" | "explain") => line,
+        _ => "",
+    };
+    let text = format!(in alloc; "{line}{body}")?;
+    let mut out = Vec::new(alloc);
+    obey(alloc, profile, command, text.as_str(), &mut out)?;
+    Ok(out)
+}
+
+/// Runs the command over what follows its line, and adds what it prints; then also what it prints where receptions
+/// merge, where that is something else.
+pub(crate) fn push_texts(
     alloc: Global,
     command: &str,
     body: &str,
-    writer: &mut W,
+    out: &mut Vec<u8>,
 ) -> Result<(), RowsFault> {
-    obey(alloc, Profile::Plain, command, body, writer)?;
-    tell_wider(alloc, command, body, writer)
+    obey(alloc, Profile::Plain, command, body, out)?;
+    let plain = printed_under(alloc, Profile::Plain, "#\n", command, body)?;
+    let line = "profile reception\n";
+    let wider = printed_under(alloc, Profile::Reception, line, command, body)?;
+    push_other(plain.as_slice(), wider.as_slice(), out)
+}
+
+// Adds what was printed where receptions merge, where that is something else than this.
+fn push_other(plain: &[u8], wider: &[u8], out: &mut Vec<u8>) -> Result<(), RowsFault> {
+    let wider = wider
+        .strip_prefix(b"profile reception\n".as_slice())
+        .unwrap_or(wider);
+    if wider != plain {
+        push_bytes(out, b"-- where receptions merge\n")?;
+        push_bytes(out, wider)?;
+    }
+    Ok(())
 }

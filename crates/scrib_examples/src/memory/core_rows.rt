@@ -1,7 +1,7 @@
 //! Rows of calls of a core.
 
 use crate::fault::{RowsFault, check, second};
-use crate::memory::making::call_of;
+use crate::making::{formatted_step_of, step_of};
 use crate::memory::rows::Call;
 use scrib_core::format::Format;
 use scrib_core::monitor::Core;
@@ -13,11 +13,6 @@ use scrib_types::protocol::Protocol;
 use scrib_types::shared_event::SharedEvent;
 use std::alloc::Global;
 
-/// Whether memory was refused.
-pub(crate) fn is_refused(reply: &Reply) -> bool {
-    matches!(reply, Reply::Refused(Refusal::OutOfMemory))
-}
-
 fn same_log(a: &[SharedEvent], b: &[SharedEvent]) -> bool {
     for (a, b) in a.iter().zip(b) {
         if !a.equal(b) {
@@ -27,20 +22,13 @@ fn same_log(a: &[SharedEvent], b: &[SharedEvent]) -> bool {
     a.len() == b.len()
 }
 
-fn same_protocol(a: Option<&Protocol>, b: Option<&Protocol>) -> bool {
-    match (a, b) {
-        (None, None) => true,
-        (Some(a), Some(b)) => Protocol::same_meaning(a, b),
-        _ => false,
-    }
-}
-
 // Whether both have the conversation, with the same protocol and log, or neither has it.
 fn same_view(a: &Core, b: &Core, id: u32) -> bool {
     match (a.view(id), b.view(id)) {
         (None, None) => true,
-        (Some((protocol_a, log_a)), Some((protocol_b, log_b))) => {
-            same_protocol(protocol_a, protocol_b) && same_log(log_a, log_b)
+        (Some((None, log_a)), Some((None, log_b))) => same_log(log_a, log_b),
+        (Some((Some(a), log_a)), Some((Some(b), log_b))) => {
+            Protocol::same_meaning(a, b) && same_log(log_a, log_b)
         }
         _ => false,
     }
@@ -50,25 +38,28 @@ fn same_line(alloc: Global, a: &Reply, b: &Reply) -> Result<bool, RowsFault> {
     Ok(line(alloc, a)?.as_slice() == line(alloc, b)?.as_slice())
 }
 
-// What the core tells of the conversation.
-fn told(alloc: Global, core: &mut Core, id: u32) -> Result<Vec<u8>, RowsFault> {
-    let reply = core.apply(Step::Ask { id });
-    Ok(line(alloc, &reply)?)
-}
-
-// Both have the conversation as it is told and viewed, or neither has it.
+// Both have the conversation, with the same verdict, protocol and log, or neither has it.
 fn check_conversation(alloc: Global, a: &mut Core, b: &mut Core, id: u32) -> Result<(), RowsFault> {
-    let is_same = told(alloc, a, id)?.as_slice() == told(alloc, b, id)?.as_slice();
+    let told = a.apply(Step::Ask { id });
+    let is_same = same_line(alloc, &told, &b.apply(Step::Ask { id }))?;
     check(is_same && same_view(a, b, id))
 }
 
-/// The reply to the step.
-pub(crate) fn made(alloc: Global, core: &mut Core, step: &str) -> Result<Reply, RowsFault> {
-    Ok(core.apply(step_in(alloc, step)?))
+/// The reply to the step, and its format; `Memory` where memory is refused.
+pub(crate) fn made(
+    alloc: Global,
+    core: &mut Core,
+    step: &str,
+) -> Result<(Format, Reply), RowsFault> {
+    let (format, step) = formatted_step_of(alloc, step)?;
+    match core.apply(step) {
+        Reply::Refused(Refusal::OutOfMemory) => Err(RowsFault::Memory),
+        reply => Ok((format, reply)),
+    }
 }
 
-// The core that made these calls.
-fn core_after(alloc: Global, calls: &[Call]) -> Result<Core, RowsFault> {
+/// The core that made these calls.
+pub(crate) fn core_after(alloc: Global, calls: &[Call]) -> Result<Core, RowsFault> {
     let mut core = Core::new(alloc);
     for (step, _) in calls {
         made(alloc, &mut core, step)?;
@@ -76,35 +67,14 @@ fn core_after(alloc: Global, calls: &[Call]) -> Result<Core, RowsFault> {
     Ok(core)
 }
 
-// The core is to stand as one that made these calls.
+// The core is to be as one that made these calls.
 fn check_core(alloc: Global, core: &mut Core, calls: &[Call]) -> Result<(), RowsFault> {
     let mut other = core_after(alloc, calls)?;
     check_conversation(alloc, core, &mut other, 1)?;
     check_conversation(alloc, core, &mut other, 2)
 }
 
-// The reply to the step, which is made once more, since memory was refused to it after these calls.
-fn second_reply(
-    alloc: Global,
-    core: &mut Core,
-    before: &[Call],
-    step: &str,
-) -> Result<Reply, RowsFault> {
-    check_core(alloc, core, before)?;
-    made(alloc, core, step)
-}
-
-// The reply to the step, unless memory is refused to it.
-fn granted(core: &mut Core, step: Step) -> Option<Reply> {
-    let reply = core.apply(step);
-    if is_refused(&reply) {
-        None
-    } else {
-        Some(reply)
-    }
-}
-
-// The reply to the step, which comes after these calls. Where memory is refused, the core is to stand as one that made
+// The reply to the step, which comes after these calls. Where memory is refused, the core is to be as one that made
 // those calls, and the step is made once more.
 fn reply_to(
     alloc: Global,
@@ -112,23 +82,13 @@ fn reply_to(
     before: &[Call],
     step: &str,
 ) -> Result<(Format, Reply), RowsFault> {
-    let (format, first) = call_of(alloc, step)?;
-    let reply = match granted(core, first) {
-        Some(reply) => reply,
-        None => second(second_reply(alloc, core, before, step))?,
-    };
-    Ok((format, reply))
-}
-
-// The line of the reply to the step, which comes after these calls.
-fn answer_to(
-    alloc: Global,
-    core: &mut Core,
-    before: &[Call],
-    step: &str,
-) -> Result<Vec<u8>, RowsFault> {
-    let (format, reply) = reply_to(alloc, core, before, step)?;
-    text_of(alloc, format, &reply)
+    match made(alloc, core, step) {
+        Err(RowsFault::Memory) => {
+            second(check_core(alloc, core, before))?;
+            second(made(alloc, core, step))
+        }
+        answer => answer,
+    }
 }
 
 // Makes the call, which comes after those, and compares the line of its reply.
@@ -138,8 +98,16 @@ fn check_call(
     before: &[Call],
     (step, answer): &Call,
 ) -> Result<(), RowsFault> {
-    let text = answer_to(alloc, core, before, step)?;
-    check(is_answer(answer, text.as_slice()))
+    let (format, reply) = reply_to(alloc, core, before, step)?;
+    let text = match format {
+        Format::Line => line(alloc, &reply)?,
+        Format::Json => json(alloc, &reply)?,
+    };
+    if answer.starts_with(' ') {
+        check(text.ends_with(answer.as_bytes()))
+    } else {
+        check(text.as_slice() == answer.as_bytes())
+    }
 }
 
 /// Makes the calls of a row, and compares the lines of their replies.
@@ -151,39 +119,6 @@ pub(crate) fn run_calls(alloc: Global, calls: &[Call]) -> Result<(), RowsFault> 
     Ok(())
 }
 
-// The reply's line, in this format.
-fn text_of(alloc: Global, format: Format, reply: &Reply) -> Result<Vec<u8>, RowsFault> {
-    match format {
-        Format::Line => Ok(line(alloc, reply)?),
-        Format::Json => Ok(json(alloc, reply)?),
-    }
-}
-
-fn is_answer(answer: &str, text: &[u8]) -> bool {
-    if answer.starts_with(' ') {
-        text.ends_with(answer.as_bytes())
-    } else {
-        text == answer.as_bytes()
-    }
-}
-
-fn has_refused(replies: &[Reply]) -> bool {
-    for reply in replies {
-        if is_refused(reply) {
-            return true;
-        }
-    }
-    false
-}
-
-// The step's reply; the step is made once more where memory is refused to it.
-fn reply_alone(alloc: Global, core: &mut Core, step: &str) -> Result<Reply, RowsFault> {
-    match granted(core, step_in(alloc, step)?) {
-        Some(reply) => Ok(reply),
-        None => second(made(alloc, core, step)),
-    }
-}
-
 // Compares the reply with that which a core gives to the step, but for one that memory was refused.
 fn check_reply(
     alloc: Global,
@@ -191,10 +126,10 @@ fn check_reply(
     step: &str,
     reply: &Reply,
 ) -> Result<(), RowsFault> {
-    if is_refused(reply) {
+    if matches!(reply, Reply::Refused(Refusal::OutOfMemory)) {
         return Ok(());
     }
-    let alone = reply_alone(alloc, other, step)?;
+    let (_, alone) = made(alloc, other, step)?;
     check(same_line(alloc, reply, &alone)?)
 }
 
@@ -207,39 +142,28 @@ fn check_replies(alloc: Global, calls: &[Call], replies: &[Reply]) -> Result<(),
     Ok(())
 }
 
-// Where there was no room for the replies, no step was made, and the calls are made once more.
-fn run_at_once_again(
-    alloc: Global,
-    core: &mut Core,
-    calls: &[Call],
-    steps: &[Step],
-) -> Result<(), RowsFault> {
-    check_core(alloc, core, &[])?;
-    let replies = core.run(steps)?;
-    check_replies(alloc, calls, &replies)
-}
-
-/// Makes the calls of a row at once. Where there is no room for the replies, no step is made, and the calls are made
-/// once more; where one of them is refused memory, the others are answered as without it.
-pub(crate) fn run_at_once(alloc: Global, calls: &[Call]) -> Result<(), RowsFault> {
-    let steps = steps_of(alloc, calls)?;
-    let mut core = Core::new(alloc);
-    match core.run(&steps) {
-        Ok(replies) if has_refused(&replies) => second(check_replies(alloc, calls, &replies)),
-        Ok(replies) => check_replies(alloc, calls, &replies),
-        Err(_) => second(run_at_once_again(alloc, &mut core, calls, &steps)),
-    }
-}
-
-fn step_in(alloc: Global, text: &str) -> Result<Step, RowsFault> {
-    let (_, step) = call_of(alloc, text)?;
-    Ok(step)
-}
-
 fn steps_of(alloc: Global, calls: &[Call]) -> Result<Vec<Step>, RowsFault> {
     let mut steps = Vec::new(alloc);
     for (text, _) in calls {
-        steps.push(step_in(alloc, text)?)?;
+        steps.push(step_of(alloc, text)?)?;
     }
     Ok(steps)
+}
+
+// The replies to the steps of a new core. Where there is no room for them, no step is made, and the steps are made once
+// more.
+fn replies_to(alloc: Global, steps: &[Step]) -> Result<Vec<Reply>, RowsFault> {
+    let mut core = Core::new(alloc);
+    if let Ok(replies) = core.run(steps) {
+        return Ok(replies);
+    }
+    second(check_core(alloc, &mut core, &[]))?;
+    core.run(steps).ok().ok_or(RowsFault::Again)
+}
+
+/// Makes the calls of a row at once. Where one of them is refused memory, the others are answered as without it.
+pub(crate) fn run_at_once(alloc: Global, calls: &[Call]) -> Result<(), RowsFault> {
+    let steps = steps_of(alloc, calls)?;
+    let replies = replies_to(alloc, steps.as_slice())?;
+    check_replies(alloc, calls, replies.as_slice())
 }

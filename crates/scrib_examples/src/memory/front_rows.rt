@@ -4,11 +4,11 @@ ghost use Rattle.std.specs.Prelude.{◌≡◌, IfOk};
 
 use crate::fault::{RowsFault, check};
 use crate::making::{DEMO, event_of, name_of};
-use crate::memory::core_rows::{is_refused, made};
-use crate::memory::rows::{PUT_DEMO, PUT_TWO_OF_THREE};
+use crate::memory::core_rows::core_after;
+use crate::memory::rows;
 use crate::memory::script_rows::page;
-use scrib_cli::machine::machine_text;
-use scrib_cli::project::project_text;
+use crate::texts::push_role;
+use scrib_cli::role_query::{Form, RoleQuery};
 use scrib_core::monitor::Core;
 use scrib_elaborate::elaborate::elaborate;
 use scrib_lexer::fault::LexFault;
@@ -18,9 +18,7 @@ use scrib_parser::interner::Interner;
 use scrib_parser::parse::parse;
 use scrib_project::protocol::protocol;
 use scrib_queues::queues::Queues;
-use scrib_script_io::fault::ScriptFault;
 use scrib_static_checks::modules::Modules;
-use scrib_types::containers::Items;
 use scrib_types::event::Event;
 use scrib_types::global::GlobalType;
 use scrib_types::name::{Dotted, Name};
@@ -29,7 +27,14 @@ use scrib_types::protocol::Protocol;
 use scrib_types::shared_message::SharedMessage;
 use std::alloc::Global;
 
-// The machine of A in the demonstration.
+// What is printed of the demonstration: the form, the role, and the text.
+const PRINTED: [(Form, &str, &str); 3] = [
+    (Form::Text, "A", "B!hello().B?bye().end\n"),
+    (Form::Text, "B", "A?hello().A!bye().end\n"),
+    (Form::Graph, "A", MACHINE),
+];
+
+// The machine of A.
 const MACHINE: &str =
     "digraph machine {\n  rankdir=LR;\n  node [shape=circle];\n  start [shape=point];\n  start -> 0;\n  0;\n  1;\n  2 [shape=doublecircle];\n  0 -> 1 [label=\"B!hello()\"];\n  1 -> 2 [label=\"B?bye()\"];\n}\n";
 
@@ -41,73 +46,22 @@ fn check_tokens(alloc: Global) -> Result<(), RowsFault> {
     }
 }
 
-fn texts(alloc: Global) -> Result<Vec<Option<Items<u8>>>, RowsFault> {
-    let mut texts = Vec::with_capacity(alloc, 1)?;
-    texts.push(Some(Items::from_slice(alloc, DEMO.as_bytes())?))?;
-    Ok(texts)
-}
-
-// What was to be written is written, or nothing where memory is refused.
-fn check_written(
-    answered: Result<bool, ScriptFault>,
-    written: &[u8],
-    want: &str,
-) -> Result<(), RowsFault> {
-    match answered {
-        Ok(_) => check(written == want.as_bytes()),
-        Err(ScriptFault::OutOfMemory) => {
-            check(written.is_empty())?;
-            Err(RowsFault::Memory)
-        }
-        Err(_) => Err(RowsFault::Wrong),
-    }
-}
-
-// What the role's projection prints.
-fn check_projection(alloc: Global, role: &str, want: &str) -> Result<(), RowsFault> {
-    let texts = texts(alloc)?;
-    let mut written = page(alloc)?;
-    let answered = project_text(
-        alloc,
-        Profile::Plain,
-        "demo.Hello",
+// What is printed about the role in this form; nothing where memory is refused.
+fn check_role(alloc: Global, (form, role, want): (Form, &str, &str)) -> Result<(), RowsFault> {
+    let query = RoleQuery {
+        form,
+        profile: Profile::Plain,
+        protocol: "demo.Hello",
         role,
-        &texts,
-        &mut written,
-    );
-    check_written(answered, &written, want)
-}
-
-// What the machine of A prints.
-fn check_machine(alloc: Global) -> Result<(), RowsFault> {
-    let texts = texts(alloc)?;
+    };
     let mut written = page(alloc)?;
-    let answered = machine_text(
-        alloc,
-        Profile::Plain,
-        "demo.Hello",
-        "A",
-        &texts,
-        &mut written,
-    );
-    check_written(answered, &written, MACHINE)
-}
-
-// Makes the step, which may be refused memory.
-fn make(alloc: Global, core: &mut Core, text: &str) -> Result<(), RowsFault> {
-    let reply = made(alloc, core, text)?;
-    if is_refused(&reply) {
-        return Err(RowsFault::Memory);
+    match push_role(alloc, &query, DEMO, &mut written) {
+        Ok(()) => check(written.as_slice() == want.as_bytes()),
+        fault => {
+            check(written.is_empty())?;
+            fault
+        }
     }
-    Ok(())
-}
-
-// A core with a conversation of the one protocol of the module.
-fn core_of(alloc: Global, module: &str, opening: &str) -> Result<Core, RowsFault> {
-    let mut core = Core::new(alloc);
-    make(alloc, &mut core, module)?;
-    make(alloc, &mut core, opening)?;
-    Ok(core)
 }
 
 fn protocol_of(core: &Core) -> Result<&Protocol, RowsFault> {
@@ -137,7 +91,7 @@ fn check_protocol(alloc: Global) -> Result<(), RowsFault> {
     let module = name_of(alloc, "demo")?;
     let name = name_of(alloc, "Hello")?;
     let agreed = agreed(alloc, &module, &name.as_slice()[0])?;
-    let core = core_of(alloc, PUT_DEMO, "open 1 demo.Hello")?;
+    let core = core_after(alloc, rows::DEMO_OPENED)?;
     check(Protocol::same_meaning(&agreed, protocol_of(&core)?))
 }
 
@@ -145,9 +99,10 @@ fn check_protocol(alloc: Global) -> Result<(), RowsFault> {
 pub(crate) fn run_front_end(alloc: Global) -> Result<(), RowsFault> {
     check_tokens(alloc)?;
     check_protocol(alloc)?;
-    check_projection(alloc, "A", "B!hello().B?bye().end\n")?;
-    check_projection(alloc, "B", "A?hello().A!bye().end\n")?;
-    check_machine(alloc)
+    for printed in PRINTED {
+        check_role(alloc, printed)?;
+    }
+    Ok(())
 }
 
 fn message_of(alloc: Global) -> Result<SharedMessage, RowsFault> {
@@ -189,7 +144,7 @@ fn copied(alloc: Global, queues: &Queues) -> Result<Queues, RowsFault>
     queues.copy(alloc).ok().ok_or(RowsFault::Again)
 }
 
-// The message stands in the queues and in their copy, and nothing else does.
+// The message is in the queues and in their copy, and nothing else is.
 fn check_queues(
     alloc: Global,
     queues: &mut Queues,
@@ -211,13 +166,10 @@ pub(crate) fn run_queues(alloc: Global) -> Result<(), RowsFault> {
     check_queues(alloc, &mut queues, &message)
 }
 
-fn check_copy(alloc: Global, global: &GlobalType) -> Result<(), RowsFault> {
-    let copy = GlobalType::copy(alloc, global)?;
-    check(GlobalType::equal(&copy, global))
-}
-
 /// A global type and its copy.
 pub(crate) fn run_copies(alloc: Global) -> Result<(), RowsFault> {
-    let core = core_of(alloc, PUT_TWO_OF_THREE, "open 1 v.V")?;
-    check_copy(alloc, protocol_of(&core)?.global())
+    let core = core_after(alloc, rows::TWO_OF_THREE)?;
+    let global = protocol_of(&core)?.global();
+    let copy = GlobalType::copy(alloc, global)?;
+    check(GlobalType::equal(&copy, global))
 }

@@ -1,19 +1,8 @@
 //! What rows are made of.
 
 use crate::fault::RowsFault;
-use crate::making::{formatted_step_of, put};
 use crate::memory::rows::Call;
-use scrib_core::format::Format;
-use scrib_core::step::Step;
 use std::alloc::Global;
-
-/// The step that a line of a script says, or `put` and a module text, and the format of its reply.
-pub(crate) fn call_of(alloc: Global, text: &str) -> Result<(Format, Step), RowsFault> {
-    match text.strip_prefix("put ") {
-        Some(text) => Ok((Format::Line, put(alloc, text)?)),
-        None => formatted_step_of(alloc, text),
-    }
-}
 
 /// Calls before and after one that is made so often.
 pub(crate) fn repeated(

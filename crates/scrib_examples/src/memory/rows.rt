@@ -1,25 +1,38 @@
 //! The calls of the rows, each with its answer.
 
-/// A step of a core: a line of a script, or `put` and a module text; and the line of its reply, or how that ends where it
-/// begins with a space.
+/// A step of a core: a line of a script, or `put` and a module text; and the line of its reply, or how that ends where
+/// it begins with a space.
 pub(crate) type Call = (&'static str, &'static str);
 
-/// The put of a module with a protocol of two messages.
-pub(crate) const PUT_DEMO: &str =
+// The put of a module with a protocol of two messages.
+const PUT_DEMO: &str =
     "put module demo; global protocol Hello(role A, role B) { hello() from A to B; bye() from B to A; }";
 
 const PUT_DEMO_INT: &str =
     "put module demo; global protocol Hello(role A, role B) { hello(Int) from A to B; bye() from B to A; }";
 
-const PUT_LOOP: &str =
+/// The put of a module with a protocol of one message, over and over.
+pub(crate) const PUT_LOOP: &str =
     "put module k; global protocol K(role A, role B) { rec X { a() from A to B; continue X; } }";
 
-const PUT_CHOICE: &str =
+/// The put of the same with a choice of two messages.
+pub(crate) const PUT_CHOICE: &str =
     "put module k; global protocol K(role A, role B) { rec X { choice at A { a() from A to B; continue X; } or { b() from A to B; continue X; } } }";
 
-/// A protocol of three roles, of which one does nothing.
-pub(crate) const PUT_TWO_OF_THREE: &str =
-    "put module v; global protocol V(role A, role B, role C) { rec X { a() from A to B; continue X; } }";
+/// A conversation of the protocol of two messages.
+pub(crate) const DEMO_OPENED: &[Call] = &[
+    (PUT_DEMO, "put demo: +demo.Hello"),
+    ("open 1 demo.Hello", "open 1: demo.Hello"),
+];
+
+/// A conversation of a protocol of three roles, of which one does nothing.
+pub(crate) const TWO_OF_THREE: &[Call] = &[
+    (
+        "put module v; global protocol V(role A, role B, role C) { rec X { a() from A to B; continue X; } }",
+        "put v: +v.V",
+    ),
+    ("open 1 v.V", "open 1: v.V"),
+];
 
 /// A whole conversation.
 pub(crate) const CONVERSATION: &[Call] = &[

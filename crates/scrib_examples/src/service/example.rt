@@ -1,10 +1,10 @@
-//! A service in use: the example of `docs/EMBEDDING.md`. Two threads note what the roles of one conversation do, each by a
-//! pass of its own; then the service is settled, and the table of its conversations is told.
+//! A service in use: the example of `docs/EMBEDDING.md`. Two threads note what the roles of one conversation do, each
+//! by a pass of its own; then the service is settled, and the table of its conversations is added.
 
 use crate::fault::RowsFault;
 use crate::making::event_of;
 use crate::service::lines::{push_line, push_settling};
-use crate::service::making::{both, open, service};
+use crate::service::making::{both, service};
 use scrib_report::verdict::verdict;
 use scrib_shards::gate::OpenGate;
 use scrib_shards::pass::Pass;
@@ -15,8 +15,9 @@ use std::sync::Wait;
 use std::thread;
 use std::thread::Threads;
 
-const MODULE: &str =
-    "module demo; global protocol Pairs(role A, role B, role C, role D) { rec X { a() from A to B; c() from C to D; continue X; } }";
+// Puts the module and opens the conversation.
+const SETUP: &str =
+    "put\nmodule demo; global protocol Pairs(role A, role B, role C, role D) { rec X { a() from A to B; c() from C to D; continue X; } }\n%%\nopen 0 demo.Pairs\n";
 
 // What the first connection reports, and what the second: neither waits for the other.
 const FIRST: [&str; 5] = [
@@ -45,7 +46,7 @@ fn report(
     Ok(service.ask(rt, pass)?)
 }
 
-// What a thread gives back: its pass, without which the service can't be settled, and what it was told.
+// What a thread returns: its pass, without which the service can't be settled, and the verdict that it was answered.
 #[derive(Drop)]
 struct Connection {
     pass: Pass,
@@ -78,21 +79,20 @@ fn serve_both<R: Threads + Wait + Sync>(
     )
 }
 
-// Adds the line of what a thread was told, and gives its pass back.
+// Adds the line of the verdict that a thread was answered, and returns its pass.
 fn push_told(alloc: Global, connection: Connection, out: &mut Vec<u8>) -> Result<Pass, RowsFault> {
     let Connection { pass, told } = connection;
     push_line(out, verdict(alloc, &told?)?.as_slice())?;
     Ok(pass)
 }
 
-// Opens the conversation and has it reported; gives the passes back.
+// Has the conversation reported; returns the passes.
 fn converse<R: Threads + Wait + Sync>(
     rt: &R,
     alloc: Global,
     service: &Service,
     out: &mut Vec<u8>,
 ) -> Result<Vec<Pass>, RowsFault> {
-    open(rt, alloc, service, 0, "demo.Pairs")?;
     let first = service.connect(rt, 0)?;
     let second = service.connect(rt, 0)?;
     let (first, second) = serve_both(rt, alloc, service, first, second);
@@ -100,14 +100,14 @@ fn converse<R: Threads + Wait + Sync>(
     both(alloc, first, push_told(alloc, second, out)?)
 }
 
-/// Tells what the threads were told, and what is settled, over a service of so many shards.
+/// Adds the verdicts that the threads were answered, and the table of a service of so many shards.
 pub(crate) fn push_example<R: Threads + Wait + Sync>(
     rt: &R,
     alloc: Global,
     shards: usize,
     out: &mut Vec<u8>,
 ) -> Result<(), RowsFault> {
-    let service = service(rt, alloc, shards, MODULE)?;
+    let service = service(rt, alloc, shards, SETUP)?;
     let passes = converse(rt, alloc, &service, out)?;
     push_settling(alloc, service, passes, out)
 }

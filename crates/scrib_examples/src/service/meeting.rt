@@ -1,125 +1,86 @@
 //! A note that stays in its gate while another shard answers.
 
 use crate::fault::RowsFault;
-use crate::making::{DEMO, event_of};
+use crate::making::event_of;
+use crate::service::crossing::Crossing;
 use crate::service::lines::{push_line, push_settling};
-use crate::service::making::{both, opened, service};
-use scrib_shards::gate::{Gate, OpenGate};
+use crate::service::making::service;
+use scrib_shards::gate::OpenGate;
 use scrib_shards::pass::Pass;
 use scrib_shards::service::Service;
-use std::alloc::Global;
+use std::alloc::{AllocError, Global};
 use std::sync::Wait;
-use std::sync::atomic::{AtomicU64, Ordering};
+use std::sync::atomic::Ordering;
 use std::thread;
 use std::thread::Threads;
 
-// How often a thread looks for another before it goes on alone.
-const LOOKS: u64 = 10_000_000;
+const OPENED: &str =
+    "put\nmodule demo; global protocol Hello(role A, role B) { hello() from A to B; bye() from B to A; }\n%%\nopen 0 demo.Hello\nopen 1 demo.Hello\n";
 
-// Where two notes meet: the one holds the lock of shard 0 until the other was answered, which begins once the lock is
-// held.
-#[derive(Drop)]
-struct Meeting {
-    entered: AtomicU64,
-    answered: AtomicU64,
-    seen: AtomicU64,
-}
-
-/// Looks until the flag is set, and counts that in `seen`.
-pub(crate) fn look_for(flag: &AtomicU64, seen: &AtomicU64) {
-    for _ in 0..LOOKS {
-        if flag.load(Ordering::SeqCst) == 1 {
-            seen.fetch_add(1, Ordering::SeqCst);
-            return;
-        }
-        thread::yield_now();
-    }
-}
-
-impl Gate for Meeting {
-    fn hold(&self, shard: usize) {
-        if shard == 0 {
-            self.entered.store(1, Ordering::SeqCst);
-            look_for(&self.answered, &self.seen);
-        }
-    }
-}
-
-// Notes that A joins, within the gate.
-fn note_held(
+// Notes that A joins. The first thread does so in conversation 0, and stays in the gate until the other was answered.
+// The other does so in conversation 1, once the gate was entered.
+fn note_one(
     rt: &impl Wait,
     alloc: Global,
     service: &Service,
-    meeting: &Meeting,
-    mut pass: Pass,
-) -> Pass {
-    if let Ok(event) = event_of(alloc, "join 0 A") {
-        let _ = service.note(rt, &mut pass, event, meeting);
+    crossing: &Crossing,
+    thread: usize,
+) -> Result<Pass, RowsFault> {
+    let event = event_of(alloc, "join 0 A")?;
+    if thread == 0 {
+        let mut pass = service.connect(rt, 0)?;
+        service.note(rt, &mut pass, event, crossing)?;
+        return Ok(pass);
     }
-    pass
+    let mut pass = service.connect(rt, 1)?;
+    crossing.look_for(&crossing.first);
+    service.note(rt, &mut pass, event, &OpenGate)?;
+    crossing.second.store(1, Ordering::SeqCst);
+    Ok(pass)
 }
 
-// Notes that A joins, once the gate was entered.
-fn note_free(
-    rt: &impl Wait,
-    alloc: Global,
-    service: &Service,
-    meeting: &Meeting,
-    mut pass: Pass,
-) -> Pass {
-    look_for(&meeting.entered, &meeting.seen);
-    if let Ok(event) = event_of(alloc, "join 1 A") {
-        if service.note(rt, &mut pass, event, &OpenGate).is_ok() {
-            meeting.answered.store(1, Ordering::SeqCst);
-        }
-    }
-    pass
-}
-
-fn meet<R: Threads + Wait + Sync>(
+// Runs the two threads, and returns their passes.
+fn note_both<R: Threads + Wait + Sync>(
     rt: &R,
     alloc: Global,
     service: &Service,
-    meeting: &Meeting,
-    first: Pass,
-    second: Pass,
-) -> (Pass, Pass) {
-    thread::join(
+    crossing: &Crossing,
+) -> Result<Vec<Result<Pass, RowsFault>>, AllocError> {
+    thread::map_indices(
         rt,
-        || note_held(rt, alloc, service, meeting, first),
-        || note_free(rt, alloc, service, meeting, second),
+        alloc,
+        2,
+        &|thread| note_one(rt, alloc, service, crossing, thread),
     )
 }
 
-// Runs the threads, and adds a line where each found what it waited for. Gives their passes back.
+// Has an event noted in each conversation, and adds a line where each thread found what it waited for.
 fn push_met<R: Threads + Wait + Sync>(
     rt: &R,
     alloc: Global,
     service: &Service,
     out: &mut Vec<u8>,
 ) -> Result<Vec<Pass>, RowsFault> {
-    let (first, second) = opened(rt, alloc, service, "demo.Hello")?;
-    let meeting = Meeting {
-        entered: AtomicU64::new(0),
-        answered: AtomicU64::new(0),
-        seen: AtomicU64::new(0),
-    };
-    let (first, second) = meet(rt, alloc, service, &meeting, first, second);
-    if meeting.seen.load(Ordering::SeqCst) == 2 {
+    let crossing = Crossing::new();
+    let mut passes = Vec::new(alloc);
+    for pass in note_both(rt, alloc, service, &crossing)? {
+        passes.push(pass?)?;
+    }
+    if crossing.met.load(Ordering::SeqCst) == 2 {
         push_line(out, b"each saw the other")?;
     }
-    both(alloc, first, second)
+    Ok(passes)
 }
 
-/// Two threads note an event each, in shards 0 and 1, where each waits for the other. Tells how many of the two looks
-/// found what they waited for, and the table.
+/// Two threads note an event each, in shards 0 and 1, where each waits for the other. Adds a line where both found what
+/// they waited for, and the table.
 pub(crate) fn push_meeting<R: Threads + Wait + Sync>(
     rt: &R,
     alloc: Global,
     shards: usize,
     out: &mut Vec<u8>,
 ) -> Result<(), RowsFault> {
-    let service = service(rt, alloc, shards, DEMO)?;
+    let service = service(rt, alloc, shards, OPENED)?;
     let passes = push_met(rt, alloc, &service, out)?;
     push_settling(alloc, service, passes, out)
 }

@@ -1,76 +1,93 @@
-//! Many notes in many threads: a row, and what the command line asks for where times are taken.
+//! Many notes in many threads: rows, and what the command line asks for where times are taken.
 
 mod alone;
 mod events;
 mod threads;
 
 use crate::fault::RowsFault;
-use crate::service::lines::{push_line, push_settling};
+use crate::service::lines::{push_line, push_settling, push_settling_twice};
 use crate::service::notes::alone::apply;
 use crate::service::notes::threads::run_threads;
+pub(crate) use crate::service::notes::threads::{Editing, Plan};
+use crate::service::sweeps::swept;
+use scrib_shards::gate::OpenGate;
 use scrib_shards::pass::Pass;
 use scrib_shards::service::Service;
-use scrib_types::text::push_number;
 use std::alloc::Global;
 use std::sync::Wait;
 use std::thread::Threads;
-
-// The row's shards, and its notes.
-const SHARDS: usize = 64;
-
-const NOTES: usize = 8_000;
 
 fn id_of(number: usize) -> Result<u32, RowsFault> {
     u32::try_from(number).ok().ok_or(RowsFault::BadRow)
 }
 
-// How many events the passes were told of.
-fn noted(passes: &[Pass]) -> usize {
-    let mut noted: usize = 0;
+// Adds how many receipts the passes have.
+fn push_count(alloc: Global, passes: &[Pass], out: &mut Vec<u8>) -> Result<(), RowsFault> {
+    let mut count: usize = 0;
     for pass in passes {
-        noted = noted.saturating_add(pass.receipts().len());
+        count = count.saturating_add(pass.receipts().len());
     }
-    noted
+    let line = format!(in alloc; "{count}")?;
+    push_line(out, line.as_bytes())
 }
 
-fn push_count(count: usize, out: &mut Vec<u8>) -> Result<(), RowsFault> {
-    push_number(out, count as u64)?;
-    push_line(out, b"")
+// Judges up to 1,024 further events of the conversations 0 and 1.
+fn turn_both(rt: &impl Wait, service: &Service) -> Result<(), RowsFault> {
+    for _ in 0..4 {
+        service.turn(rt, 0, &OpenGate)?;
+        service.turn(rt, 1, &OpenGate)?;
+    }
+    Ok(())
 }
 
-// So many threads note so many events in all, and what comes of it is settled.
-fn push_settled<R: Threads + Wait + Sync>(
+/// What is done when all threads have ended.
+#[derive(Clone, Copy)]
+pub(crate) enum Ending {
+    /// The receipts are counted.
+    Count,
+    /// The service is settled.
+    Settle,
+    /// It is swept by so many workers, or by one thread that has it alone where there are none, and then settled.
+    Sweep(usize),
+    /// Turns bring the verdicts of two conversations up to date. Settling is refused without the last pass, and granted
+    /// with all.
+    TurnAndSettleTwice,
+}
+
+/// A service of so many shards, the threads that use it, and the ending.
+#[derive(Clone, Copy)]
+pub(crate) struct Row {
+    pub(crate) shards: usize,
+    pub(crate) plan: Plan,
+    pub(crate) ending: Ending,
+}
+
+/// Runs the row, and adds what comes of its ending.
+pub(crate) fn push_row<R: Threads + Wait + Sync>(
     rt: &R,
     alloc: Global,
-    [threads, shards, notes]: [usize; 3],
+    row: Row,
     out: &mut Vec<u8>,
 ) -> Result<(), RowsFault> {
-    let service = Service::new(alloc, shards)?;
-    let passes = run_threads(rt, alloc, &service, [threads, 0, notes])?;
+    let Row {
+        shards,
+        plan,
+        ending,
+    } = row;
+    let mut service = Service::new(alloc, shards)?;
+    let passes = run_threads(rt, alloc, &service, plan)?;
+    match ending {
+        Ending::Count => return push_count(alloc, passes.as_slice(), out),
+        Ending::Settle => {}
+        Ending::Sweep(workers) => {
+            swept(rt, alloc, &mut service, workers)?;
+        }
+        Ending::TurnAndSettleTwice => {
+            turn_both(rt, &service)?;
+            return push_settling_twice(alloc, service, passes, out);
+        }
+    }
     push_settling(alloc, service, passes, out)
-}
-
-// So many threads note so many events in all, beside so many that put a module without pause; how many were noted.
-fn push_noted<R: Threads + Wait + Sync>(
-    rt: &R,
-    alloc: Global,
-    [threads, shards, notes]: [usize; 3],
-    editors: usize,
-    out: &mut Vec<u8>,
-) -> Result<(), RowsFault> {
-    let service = Service::new(alloc, shards)?;
-    let passes = run_threads(rt, alloc, &service, [threads, editors, notes])?;
-    push_count(noted(passes.as_slice()), out)
-}
-
-/// So many threads note events in conversations of their own, which are settled.
-pub(crate) fn push_many<R: Threads + Wait + Sync>(
-    rt: &R,
-    alloc: Global,
-    threads: usize,
-    out: &mut Vec<u8>,
-) -> Result<(), RowsFault> {
-    push_settled(rt, alloc, [threads, SHARDS, NOTES], out)
 }
 
 /// Does what the words of the command line ask for, a task and numbers:
@@ -87,17 +104,29 @@ pub(crate) fn push_asked<R: Threads + Wait + Sync>(
     numbers: &[usize],
     out: &mut Vec<u8>,
 ) -> Result<(), RowsFault> {
-    match (task, numbers) {
-        ("apply", [notes]) => push_count(apply(alloc, *notes)?, out),
-        ("settle", [threads, shards, notes]) => {
-            push_settled(rt, alloc, [*threads, *shards, *notes], out)
+    let (threads, shards, notes) = match (task, numbers) {
+        ("apply", [notes]) => {
+            let line = format!(in alloc; "{}", apply(alloc, *notes)?)?;
+            return push_line(out, line.as_bytes());
         }
-        ("notes", [threads, shards, notes]) => {
-            push_noted(rt, alloc, [*threads, *shards, *notes], 0, out)
-        }
-        ("edited", [threads, shards, notes]) => {
-            push_noted(rt, alloc, [*threads, *shards, *notes], 1, out)
-        }
-        _ => Err(RowsFault::BadRow),
-    }
+        (_, [threads, shards, notes]) => (*threads, *shards, *notes),
+        _ => return Err(RowsFault::BadRow),
+    };
+    let (editing, ending) = match task {
+        "settle" => (Editing::Nothing, Ending::Settle),
+        "notes" => (Editing::Nothing, Ending::Count),
+        "edited" => (Editing::AnotherModule, Ending::Count),
+        _ => return Err(RowsFault::BadRow),
+    };
+    let plan = Plan {
+        threads,
+        notes,
+        editing,
+    };
+    let row = Row {
+        shards,
+        plan,
+        ending,
+    };
+    push_row(rt, alloc, row, out)
 }

@@ -31,7 +31,7 @@ fn push_settling(
     }
 }
 
-// Notes the event of this line in conversation 0, and adds the line of what is told.
+// Notes the event of this line in conversation 0, and adds the line of the reply.
 fn push_noted(
     alloc: Global,
     library: &Library,
@@ -49,25 +49,16 @@ fn push_noted(
     push_line(out, line(alloc, &reply)?.as_slice())
 }
 
-// Notes two events, by no pass.
-fn push_both(
-    alloc: Global,
-    library: &Library,
-    shard: &mut Shard,
-    out: &mut Vec<u8>,
-) -> Result<(), RowsFault> {
-    push_noted(alloc, library, shard, "join 0 A", out)?;
-    push_noted(alloc, library, shard, "send 0 A B b()", out)
-}
-
 /// Opens a conversation in a shard of at most so many, settles it, notes two events and settles it again, which is
-/// refused, since no pass has their receipts. Adds what is told.
+/// refused, since no pass has their receipts. Adds the line of each reply.
 pub(crate) fn push_parts(alloc: Global, most: usize, out: &mut Vec<u8>) -> Result<(), RowsFault> {
     let mut library = Library::new(alloc);
     library.put(LOOP.as_bytes())?;
     let mut shard = Shard::new(alloc, most.min(MAX_CONVERSATIONS));
     open_step(&library, &mut shard, 0, &name_of(alloc, "k.K")?)?;
     push_settling(alloc, &library, &shard, out)?;
-    push_both(alloc, &library, &mut shard, out)?;
+    for text in ["join 0 A", "send 0 A B b()"] {
+        push_noted(alloc, &library, &mut shard, text, out)?;
+    }
     push_settling(alloc, &library, &shard, out)
 }

@@ -1,13 +1,10 @@
 //! Edits by one connection beside the notes of four others.
 
 use crate::fault::RowsFault;
-use crate::making::{LOOP, Unwatched};
-use scrib_cli::run_script::{Format, run_script};
-use scrib_run_service::options::Options;
-use scrib_run_service::run_service::run_service;
-use scrib_run_service::shape::Shape;
+use crate::making::{run_connections, watched};
+use scrib_core::format::Format;
+use scrib_types::text::push_bytes;
 use std::alloc::Global;
-use std::io::Write;
 use std::sync::Wait;
 use std::thread::Threads;
 
@@ -19,12 +16,19 @@ const EVENTS: usize = 100;
 
 const EDITS: usize = 12;
 
-// What the protocol is in turn.
-const TEXTS: [&str; 3] = [
-    LOOP,
-    "module k; global protocol K(role A, role B) { a() from A to B; b() from B to A; }",
-    "module k; global protocol K(role A, role B) { rec X { choice at A { a() from A to B; continue X; } or { b() from A to B; } } }",
+// A script that puts the first text and opens the conversations.
+const SETUP: &str =
+    "put\nmodule k; global protocol K(role A, role B) { rec X { a() from A to B; continue X; } }\n%%\nopen 0 k.K\nopen 1 k.K\nopen 2 k.K\nopen 3 k.K\n";
+
+// Puts of what the protocol is in turn.
+const PUTS: [&str; 3] = [
+    "put\nmodule k; global protocol K(role A, role B) { rec X { a() from A to B; continue X; } }\n%%\n",
+    "put\nmodule k; global protocol K(role A, role B) { a() from A to B; b() from B to A; }\n%%\n",
+    "put\nmodule k; global protocol K(role A, role B) { rec X { choice at A { a() from A to B; continue X; } or { b() from A to B; } } }\n%%\n",
 ];
+
+// A question about each conversation.
+const ASKS: &str = "ask 0\nask 1\nask 2\nask 3\n";
 
 // Numbers without a pattern that matters: x = 1664525 x + 1013904223 modulo 2^32, of which the upper half counts.
 #[derive(Drop)]
@@ -40,52 +44,20 @@ impl Numbers {
             .wrapping_add(1_013_904_223);
         ((self.last >> 16) as usize).checked_rem(count).unwrap_or(0)
     }
-
-    fn one_of(&mut self, texts: &[&'static str]) -> Result<&'static str, RowsFault> {
-        let at = self.below(texts.len());
-        texts.get(at).copied().ok_or(RowsFault::BadRow)
-    }
-}
-
-// The scripts of a run.
-#[derive(Drop)]
-struct Scripts {
-    setup: String,
-    edits: String,
-    notes: Vec<String>,
-}
-
-fn push_put(script: &mut String, text: &str) -> Result<(), RowsFault> {
-    script.push_str("put\n")?;
-    script.push_str(text)?;
-    script.push_str("\n%%\n")?;
-    Ok(())
 }
 
 // A script that puts each of the texts, and then some of them again.
 fn edits_of(alloc: Global, numbers: &mut Numbers) -> Result<String, RowsFault> {
     let mut script = String::new(alloc);
     for made in 0..EDITS {
-        let text = match TEXTS.get(made) {
-            Some(text) => *text,
-            None => numbers.one_of(&TEXTS)?,
+        let at = if made < PUTS.len() {
+            made
+        } else {
+            numbers.below(PUTS.len())
         };
-        push_put(&mut script, text)?;
+        script.push_str(PUTS.get(at).copied().unwrap_or(""))?;
     }
     Ok(script)
-}
-
-// Adds an event of this conversation.
-fn push_event(
-    alloc: Global,
-    script: &mut String,
-    word: &str,
-    id: usize,
-    label: &str,
-) -> Result<(), RowsFault> {
-    let line = format!(in alloc; "{word} {id} A B {label}()\n")?;
-    script.push_str(&line)?;
-    Ok(())
 }
 
 // A script whose lines are all events of this conversation: sends and receives in order, but for one in sixty.
@@ -102,159 +74,90 @@ fn notes_of(alloc: Global, numbers: &mut Numbers, id: usize) -> Result<String, R
             flying = flying.saturating_sub(1);
             ("recv", "a")
         };
-        push_event(alloc, &mut script, word, id, label)?;
+        let line = format!(in alloc; "{word} {id} A B {label}()\n")?;
+        script.push_str(&line)?;
     }
     Ok(script)
 }
 
-fn push_open(alloc: Global, script: &mut String, id: usize) -> Result<(), RowsFault> {
-    let line = format!(in alloc; "open {id} k.K\n")?;
-    script.push_str(&line)?;
-    Ok(())
-}
-
-// A script that puts the first text and opens the conversations.
-fn setup_of(alloc: Global) -> Result<String, RowsFault> {
-    let mut setup = String::new(alloc);
-    push_put(&mut setup, TEXTS[0])?;
-    for id in 0..CONVERSATIONS {
-        push_open(alloc, &mut setup, id)?;
-    }
-    Ok(setup)
-}
-
-// A script of notes for each conversation.
-fn all_notes(alloc: Global, numbers: &mut Numbers) -> Result<Vec<String>, RowsFault> {
-    let mut notes = Vec::new(alloc);
-    for id in 0..CONVERSATIONS {
-        notes.push(notes_of(alloc, numbers, id)?)?;
-    }
-    Ok(notes)
+// The scripts of a run: one of edits, and one of notes for each conversation.
+#[derive(Drop)]
+struct Scripts {
+    edits: String,
+    notes: Vec<String>,
 }
 
 fn scripts_of(alloc: Global, seed: u32) -> Result<Scripts, RowsFault> {
     let mut numbers = Numbers { last: seed };
-    let setup = setup_of(alloc)?;
-    let notes = all_notes(alloc, &mut numbers)?;
-    let edits = edits_of(alloc, &mut numbers)?;
-    Ok(Scripts {
-        setup,
-        edits,
-        notes,
-    })
-}
-
-// What the connections read: each but the last notes, and that one edits.
-fn readers_of(alloc: Global, scripts: &Scripts) -> Result<Vec<&[u8]>, RowsFault> {
-    let mut readers = Vec::new(alloc);
-    for notes in &scripts.notes {
-        readers.push(notes.as_bytes())?;
+    let mut notes = Vec::new(alloc);
+    for id in 0..CONVERSATIONS {
+        notes.push(notes_of(alloc, &mut numbers, id)?)?;
     }
-    readers.push(scripts.edits.as_bytes())?;
-    Ok(readers)
+    let edits = edits_of(alloc, &mut numbers)?;
+    Ok(Scripts { edits, notes })
 }
 
-// What the scripts are answered over a service.
+// What the scripts are answered over a service, where the last connection is the one that edits.
 fn run_beside<R: Threads + Wait + Sync>(
     rt: &R,
     alloc: Global,
     scripts: &Scripts,
-) -> Result<String, RowsFault> {
-    let options = Options {
-        shape: Shape::new(2, 2).ok().ok_or(RowsFault::BadRow)?,
-        format: Format::Json,
-        progress: None::<Unwatched>,
-    };
-    let readers = readers_of(alloc, scripts)?;
-    let mut output = Vec::new(alloc);
-    let setup = &mut scripts.setup.as_bytes();
-    run_service(rt, alloc, &options, setup, readers, &mut output)?;
-    String::from_utf8(output).ok().ok_or(RowsFault::Io)
-}
-
-// What one monitor answers to the script.
-fn watched(alloc: Global, script: &str) -> Result<String, RowsFault> {
-    let mut output = Vec::new(alloc);
-    run_script(alloc, Format::Json, &mut script.as_bytes(), &mut output)?;
-    String::from_utf8(output).ok().ok_or(RowsFault::Io)
-}
-
-// What one monitor answers to the notes, on the library that the text makes.
-fn judged_on(alloc: Global, text: &str, id: usize, notes: &str) -> Result<String, RowsFault> {
-    let mut script = String::new(alloc);
-    push_put(&mut script, text)?;
-    push_open(alloc, &mut script, id)?;
-    script.push_str(notes)?;
-    watched(alloc, &script)
+) -> Result<Vec<u8>, RowsFault> {
+    let mut connections = Vec::new(alloc);
+    for notes in &scripts.notes {
+        connections.push(notes.as_bytes())?;
+    }
+    connections.push(scripts.edits.as_bytes())?;
+    let mut out = Vec::new(alloc);
+    run_connections(rt, alloc, Format::Json, (SETUP, connections), &mut out)?;
+    Ok(out)
 }
 
 // What one monitor answers to the notes, on the library that each text makes.
 fn judged_on_each(alloc: Global, id: usize, notes: &str) -> Result<Vec<String>, RowsFault> {
     let mut outputs = Vec::new(alloc);
-    for text in &TEXTS {
-        outputs.push(judged_on(alloc, text, id, notes)?)?;
+    for put in PUTS {
+        let script = format!(in alloc; "{put}open {id} k.K\n{notes}")?;
+        outputs.push(watched(alloc, Format::Json, script.as_str())?)?;
     }
     Ok(outputs)
 }
 
-// The lines of each output.
-fn lines_of(alloc: Global, outputs: &[String]) -> Result<Vec<Vec<&str>>, RowsFault> {
-    let mut lists = Vec::new(alloc);
+// Whether one of the outputs has this line at this place, from 0.
+fn is_among(outputs: &[String], place: usize, line: &str) -> bool {
     for output in outputs {
-        let lines: Vec<&str> = output.lines().collect(alloc)?;
-        lists.push(lines)?;
+        if output.lines().nth(place) == Some(line) {
+            return true;
+        }
     }
-    Ok(lists)
+    false
 }
 
-// Whether a line of a connection tells at its place, from 1, what one of the lists has there, behind two lines of edits,
-// or that the verdict is out of date.
-fn is_judged(
-    alloc: Global,
-    id: usize,
-    place: usize,
-    line: &str,
-    lists: &[Vec<&str>],
-) -> Result<bool, RowsFault> {
-    let stale = format!(in alloc;
-        "{{\"conversation\":{id},\"place\":{place},\"verdict\":\"stale\"}}"
-    )?;
-    Ok(line == stale.as_str() || is_among(lists, place.saturating_add(1), line))
-}
-
-// Whether each line of a connection is judged on one of the libraries, of which these are the outputs, or out of date.
+// Whether each line of a connection has at its place, from 1, what one of the outputs has there, behind two lines of
+// edits, or is the line of a verdict that is out of date.
 fn are_judged(
     alloc: Global,
     id: usize,
     lines: &str,
     outputs: &[String],
 ) -> Result<bool, RowsFault> {
-    let lists = lines_of(alloc, outputs)?;
     let mut place = 0usize;
     for line in lines.lines() {
         place = place.saturating_add(1);
-        if !is_judged(alloc, id, place, line, &lists)? {
+        let stale = format!(in alloc;
+            "{{\"conversation\":{id},\"place\":{place},\"verdict\":\"stale\"}}"
+        )?;
+        if line != stale.as_str() && !is_among(outputs, place.saturating_add(1), line) {
             return Ok(false);
         }
     }
     Ok(place == EVENTS + 2)
 }
 
-// Whether one of the lists has this line at this place, from 0.
-fn is_among(lists: &[Vec<&str>], place: usize, line: &str) -> bool {
-    for list in lists {
-        match list.get(place) {
-            Some(told) if *told == line => return true,
-            _ => {}
-        }
-    }
-    false
-}
-
 // Whether what each connection that notes is answered is judged on one of the libraries, or out of date.
-fn are_all_judged(alloc: Global, scripts: &Scripts, output: &str) -> Result<bool, RowsFault> {
+fn are_all_judged(alloc: Global, notes: &[String], output: &str) -> Result<bool, RowsFault> {
     let mut parts = output.split("{\"connection\":").skip(1);
-    for (id, notes) in scripts.notes.iter().enumerate() {
+    for (id, notes) in notes.iter().enumerate() {
         let part = parts.next().ok_or(RowsFault::BadRow)?;
         let (_, lines) = part.split_once('\n').ok_or(RowsFault::BadRow)?;
         if !are_judged(alloc, id, lines, &judged_on_each(alloc, id, notes)?)? {
@@ -264,45 +167,31 @@ fn are_all_judged(alloc: Global, scripts: &Scripts, output: &str) -> Result<bool
     Ok(true)
 }
 
-// Adds a line of this word, which is a turn or a question.
-fn push_about(alloc: Global, script: &mut String, word: &str, id: usize) -> Result<(), RowsFault> {
-    let line = format!(in alloc; "{word} {id}\n")?;
-    script.push_str(&line)?;
-    Ok(())
-}
-
 // A script that makes the edits first and then all notes, with a turn of each conversation.
 fn edits_then_notes(alloc: Global, scripts: &Scripts) -> Result<String, RowsFault> {
-    let mut script = String::new(alloc);
-    script.push_str(&scripts.setup)?;
-    script.push_str(&scripts.edits)?;
+    let mut script = format!(in alloc; "{SETUP}{}", scripts.edits)?;
     for (id, notes) in scripts.notes.iter().enumerate() {
-        script.push_str(notes)?;
-        push_about(alloc, &mut script, "turn", id)?;
+        let part = format!(in alloc; "{notes}turn {id}\n")?;
+        script.push_str(&part)?;
     }
     Ok(script)
 }
 
-// The table of one monitor to which the edits were made first and then all notes, with a turn of each conversation.
-fn table_of(alloc: Global, scripts: &Scripts) -> Result<String, RowsFault> {
-    let mut script = edits_then_notes(alloc, scripts)?;
-    let before = watched(alloc, &script)?;
-    for id in 0..CONVERSATIONS {
-        push_about(alloc, &mut script, "ask", id)?;
-    }
-    let after = watched(alloc, &script)?;
-    table_behind(alloc, before.as_str(), after.as_str())
-}
-
-// The table of which the answers to questions are the rows: what was answered behind this.
-fn table_behind(alloc: Global, before: &str, after: &str) -> Result<String, RowsFault> {
-    let rows = after.strip_prefix(before).ok_or(RowsFault::BadRow)?;
+// The table of one monitor after these steps: its answers to questions, which follow the answers to the steps, and the
+// line of the totals.
+fn table_after(alloc: Global, script: &str) -> Result<String, RowsFault> {
+    let questions = format!(in alloc; "{script}{ASKS}")?;
+    let before = watched(alloc, Format::Json, script)?;
+    let after = watched(alloc, Format::Json, questions.as_str())?;
+    let rows = after
+        .strip_prefix(before.as_str())
+        .ok_or(RowsFault::BadRow)?;
     let events = CONVERSATIONS * (EVENTS + 2);
     Ok(format!(in alloc; "{rows}{{\"conversations\":{CONVERSATIONS},\"events\":{events}}}\n")?)
 }
 
-// Runs the scripts of this seed over a service, and answers whether what the connections were answered is as it must be,
-// and whether the table is.
+// Runs the scripts of this seed over a service, and answers whether what the connections were answered is as it must
+// be, and whether the table is.
 fn judge_run<R: Threads + Wait + Sync>(
     rt: &R,
     alloc: Global,
@@ -310,38 +199,27 @@ fn judge_run<R: Threads + Wait + Sync>(
 ) -> Result<(bool, bool), RowsFault> {
     let scripts = scripts_of(alloc, seed)?;
     let output = run_beside(rt, alloc, &scripts)?;
-    let judged = are_all_judged(alloc, &scripts, &output)?;
-    let table = table_of(alloc, &scripts)?;
-    Ok((judged, output.as_str().ends_with(table.as_str())))
+    let output = std::str::from_utf8(&output).ok().ok_or(RowsFault::Wrong)?;
+    let judged = are_all_judged(alloc, &scripts.notes, output)?;
+    let table = table_after(alloc, edits_then_notes(alloc, &scripts)?.as_str())?;
+    Ok((judged, output.ends_with(table.as_str())))
 }
 
-// Runs the scripts of this seed, and tells where what comes of it isn't as it must be.
-fn tell_run<R: Threads + Wait + Sync, W: Write>(
+/// Runs scripts with so many seeds over a service, and adds a line for each run where what the connections were
+/// answered or the table isn't as it must be; and how many runs there were.
+pub(crate) fn push_runs<R: Threads + Wait + Sync>(
     rt: &R,
     alloc: Global,
-    seed: u32,
-    writer: &mut W,
-) -> Result<(), RowsFault> {
-    let (judged, settled) = judge_run(rt, alloc, seed)?;
-    if judged && settled {
-        return Ok(());
-    }
-    let line = format!(in alloc; "run {seed}: judged {judged}, settled {settled}\n")?;
-    writer.write_all(line.as_bytes())?;
-    Ok(())
-}
-
-/// Runs scripts with so many seeds over a service, and tells of each run where what the connections were answered or the
-/// table isn't as it must be; and how many runs there were.
-pub(crate) fn tell_runs<R: Threads + Wait + Sync, W: Write>(
-    rt: &R,
-    alloc: Global,
-    writer: &mut W,
+    out: &mut Vec<u8>,
 ) -> Result<(), RowsFault> {
     for seed in 0..RUNS {
-        tell_run(rt, alloc, seed, writer)?;
+        let (judged, settled) = judge_run(rt, alloc, seed)?;
+        if !judged || !settled {
+            let line = format!(in alloc; "run {seed}: judged {judged}, settled {settled}\n")?;
+            push_bytes(out, line.as_bytes())?;
+        }
     }
     let line = format!(in alloc; "{RUNS} runs\n")?;
-    writer.write_all(line.as_bytes())?;
+    push_bytes(out, line.as_bytes())?;
     Ok(())
 }

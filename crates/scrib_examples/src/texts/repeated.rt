@@ -1,9 +1,10 @@
 //! Scripts that are too large to be written down.
 
 use crate::fault::RowsFault;
-use scrib_cli::run_script::{Format, run_script};
+use crate::making::watched;
+use scrib_core::format::Format;
+use scrib_types::text::push_bytes;
 use std::alloc::Global;
-use std::io::Write;
 
 // Adds the text, with the number in place of each `@`, and the next one in place of `@+`.
 fn push_numbered(
@@ -66,61 +67,44 @@ struct Stretch<'a> {
     lines: u64,
 }
 
-impl<'a> Stretch<'a> {
-    fn new(line: &'a str) -> Stretch<'a> {
-        Stretch {
-            first: line,
-            last: line,
-            lines: 1,
-        }
-    }
-
-    fn with(self, line: &'a str) -> Stretch<'a> {
-        Stretch {
-            last: line,
-            lines: self.lines.saturating_add(1),
-            ..self
-        }
-    }
-
-    // Writes the first and the last line, and how many lines stand between them.
-    fn tell<W: Write>(self, alloc: Global, writer: &mut W) -> Result<(), RowsFault> {
-        let Stretch { first, last, lines } = self;
-        let text = match lines {
-            1 => format!(in alloc; "{first}\n")?,
-            2 => format!(in alloc; "{first}\n{last}\n")?,
-            _ => format!(in alloc; "{first}\n({} lines)\n{last}\n", lines.saturating_sub(2))?,
-        };
-        writer.write_all(text.as_bytes())?;
-        Ok(())
-    }
+// Adds the first and the last line, and how many lines are between them.
+fn push_stretch(alloc: Global, stretch: Stretch<'_>, out: &mut Vec<u8>) -> Result<(), RowsFault> {
+    let Stretch { first, last, lines } = stretch;
+    let text = match lines {
+        0 => return Ok(()),
+        1 => format!(in alloc; "{first}\n")?,
+        2 => format!(in alloc; "{first}\n{last}\n")?,
+        _ => format!(in alloc; "{first}\n({} lines)\n{last}\n", lines.saturating_sub(2))?,
+    };
+    push_bytes(out, text.as_bytes())?;
+    Ok(())
 }
 
-// Writes the lines of the output, with the first and the last of those that are alike.
-fn tell_folded<W: Write>(alloc: Global, output: &str, writer: &mut W) -> Result<(), RowsFault> {
-    let mut lines = output.lines();
-    let mut stretch = Stretch::new(lines.next().unwrap_or(""));
-    for line in lines {
-        if are_alike(stretch.last, line) {
-            stretch = stretch.with(line);
-        } else {
-            stretch.tell(alloc, writer)?;
-            stretch = Stretch::new(line);
+// Adds the lines of the output, with the first and the last of those that are alike.
+fn push_folded(alloc: Global, output: &str, out: &mut Vec<u8>) -> Result<(), RowsFault> {
+    let mut stretch = Stretch {
+        first: "",
+        last: "",
+        lines: 0,
+    };
+    for line in output.lines() {
+        if !are_alike(stretch.last, line) {
+            push_stretch(alloc, stretch, out)?;
+            stretch.lines = 0;
         }
+        if stretch.lines == 0 {
+            stretch.first = line;
+        }
+        stretch.last = line;
+        stretch.lines = stretch.lines.saturating_add(1);
     }
-    stretch.tell(alloc, writer)
+    push_stretch(alloc, stretch, out)
 }
 
-/// Runs the script that the body is, with its blocks repeated. Tells what is written, but of lines that follow one
-/// another and differ in digits alone the first and the last, and how many stand between them.
-pub(crate) fn tell_repeated<W: Write>(
-    alloc: Global,
-    body: &str,
-    writer: &mut W,
-) -> Result<(), RowsFault> {
+/// Runs the script of the body, with its blocks repeated. Adds what is printed, but of lines that follow one another
+/// and differ in digits alone the first, the last and how many are between them.
+pub(crate) fn push_repeated(alloc: Global, body: &str, out: &mut Vec<u8>) -> Result<(), RowsFault> {
     let script = expanded(alloc, body)?;
-    let mut written = Vec::new(alloc);
-    run_script(alloc, Format::Line, &mut script.as_bytes(), &mut written)?;
-    let output = String::from_utf8(written).ok().ok_or(RowsFault::Wrong)?;
-    tell_folded(alloc, &output, writer)
+    let output = watched(alloc, Format::Line, script.as_str())?;
+    push_folded(alloc, output.as_str(), out)
 }

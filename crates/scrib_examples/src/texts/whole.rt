@@ -1,45 +1,17 @@
 //! Scripts whose verdicts are compared with the judgement of the whole log, by the definitions.
 
 use crate::fault::RowsFault;
+use crate::making::steps_of;
 use scrib_core::monitor::Core;
 use scrib_core::reply::Reply;
 use scrib_core::step::Step;
 use scrib_global::judge::judge_whole;
 use scrib_report::verdict::verdict;
-use scrib_script_reader::item::Item;
-use scrib_script_reader::script::Script;
 use scrib_types::event::{Told, Verdict};
+use scrib_types::text::push_bytes;
 use std::alloc::{AllocError, Global};
-use std::io::Write;
 
-// Adds the step that the item is, if it is one.
-fn push_step(steps: &mut Vec<Step>, item: Option<Item>) -> Result<(), RowsFault> {
-    if let Some(Item::Step(_, step)) = item {
-        steps.push(step)?;
-    }
-    Ok(())
-}
-
-// The steps that a script spells; what says nothing is left out.
-fn steps_of(alloc: Global, script: &[u8]) -> Result<Vec<Step>, RowsFault> {
-    let mut steps = Vec::new(alloc);
-    let mut reading = Script::new(alloc);
-    let mut rest = script;
-    while !rest.is_empty() {
-        let Ok((item, after)) = reading.next_item(rest) else {
-            return Err(RowsFault::Wrong);
-        };
-        push_step(&mut steps, item)?;
-        rest = after;
-    }
-    let Ok(item) = reading.last_item() else {
-        return Err(RowsFault::Wrong);
-    };
-    push_step(&mut steps, item)?;
-    Ok(steps)
-}
-
-// The conversation of which the reply tells a verdict that isn't out of date, and that verdict as it is printed.
+// The conversation of which the reply has a verdict that isn't out of date, and that verdict as it is printed.
 fn fresh_verdict(alloc: Global, reply: &Reply) -> Result<Option<(u32, Vec<u8>)>, AllocError> {
     match reply {
         Reply::Noted { id, told, .. } | Reply::Judged { id, told, .. } => match told {
@@ -59,20 +31,11 @@ fn judged_whole(alloc: Global, core: &Core, id: u32) -> Result<Vec<u8>, AllocErr
     verdict(alloc, &Told::Judged(judged))
 }
 
-// Makes the step; what `fresh_verdict` is of its reply.
-fn verdict_after(
-    alloc: Global,
-    core: &mut Core,
-    step: Step,
-) -> Result<Option<(u32, Vec<u8>)>, AllocError> {
-    let reply = core.apply(step);
-    fresh_verdict(alloc, &reply)
-}
-
 // Makes the step. Where it comes to a verdict that isn't out of date, whether the text is that of the judgement of the
 // whole log.
-fn agrees(alloc: Global, core: &mut Core, step: Step) -> Result<Option<bool>, RowsFault> {
-    let Some((id, told)) = verdict_after(alloc, core, step)? else {
+fn agrees(alloc: Global, core: &mut Core, step: Step) -> Result<Option<bool>, AllocError> {
+    let reply = core.apply(step);
+    let Some((id, told)) = fresh_verdict(alloc, &reply)? else {
         return Ok(None);
     };
     let whole = judged_whole(alloc, core, id)?;
@@ -80,7 +43,7 @@ fn agrees(alloc: Global, core: &mut Core, step: Step) -> Result<Option<bool>, Ro
 }
 
 // Makes the steps; of how many verdicts the text is that of the judgement of the whole log, and how many there are.
-fn count_agreed(alloc: Global, steps: Vec<Step>) -> Result<(u64, u64), RowsFault> {
+fn count_agreed(alloc: Global, steps: Vec<Step>) -> Result<(u64, u64), AllocError> {
     let mut core = Core::new(alloc);
     let (mut agreed, mut verdicts) = (0u64, 0u64);
     for step in steps {
@@ -92,16 +55,16 @@ fn count_agreed(alloc: Global, steps: Vec<Step>) -> Result<(u64, u64), RowsFault
     Ok((agreed, verdicts))
 }
 
-/// Makes the steps of the script, and tells how many verdicts came that weren't out of date, and of how many the text
-/// is that of the judgement of the whole log.
-pub(crate) fn tell_judgements<W: Write>(
+/// Makes the steps of the script, and adds how many verdicts came that weren't out of date, and of how many the text is
+/// that of the judgement of the whole log.
+pub(crate) fn push_judgements(
     alloc: Global,
     script: &[u8],
-    writer: &mut W,
+    out: &mut Vec<u8>,
 ) -> Result<(), RowsFault> {
     let steps = steps_of(alloc, script)?;
     let (agreed, verdicts) = count_agreed(alloc, steps)?;
     let line = format!(in alloc; "{agreed} of {verdicts} verdicts are those on the whole logs\n")?;
-    writer.write_all(line.as_bytes())?;
+    push_bytes(out, line.as_bytes())?;
     Ok(())
 }

@@ -11,6 +11,12 @@ use scrib_types::name::Dotted;
 use scrib_types::shared_event::SharedEvent;
 use std::alloc::Global;
 
+fn core_with(alloc: Global, module: &str) -> Result<Core, RowsFault> {
+    let mut core = Core::new(alloc);
+    core.apply(put(alloc, module)?);
+    Ok(core)
+}
+
 fn open(core: &mut Core, id: u32, name: &Dotted) -> Result<(), RowsFault> {
     let name = name.copy()?;
     core.apply(Step::Open { id, name });
@@ -23,46 +29,30 @@ fn notes(core: &mut Core, id: u32, event: SharedEvent) -> bool {
     matches!(reply, Reply::Noted { .. })
 }
 
-// Notes the event of this place by the core, and opens a conversation for it where the last one is full. Tells whether
-// it was noted.
-fn apply_at(
-    core: &mut Core,
-    (name, events): (&Dotted, &Events),
-    place: usize,
-) -> Result<bool, RowsFault> {
-    let id = id_of(place / PER_LOG)?;
-    if place % PER_LOG == 0 {
-        open(core, id, name)?;
-    }
-    let event = events.at(place % PER_LOG)?;
-    Ok(notes(core, id, event))
-}
-
-// Notes so many events by the core; how many were noted.
+// Notes so many events by the core, with a further conversation for each full log; how many were noted.
 fn apply_all(
     core: &mut Core,
-    (name, events): (&Dotted, &Events),
-    notes: usize,
+    name: &Dotted,
+    events: &Events,
+    count: usize,
 ) -> Result<usize, RowsFault> {
     let mut noted: usize = 0;
-    for place in 0..notes {
-        if apply_at(core, (name, events), place)? {
+    for place in 0..count {
+        let id = id_of(place / PER_LOG)?;
+        if place % PER_LOG == 0 {
+            open(core, id, name)?;
+        }
+        if notes(core, id, events.at(place % PER_LOG)?) {
             noted = noted.saturating_add(1);
         }
     }
     Ok(noted)
 }
 
-fn core_with(alloc: Global, module: &str) -> Result<Core, RowsFault> {
-    let mut core = Core::new(alloc);
-    core.apply(put(alloc, module)?);
-    Ok(core)
-}
-
 /// Notes so many events by a core; how many were noted.
-pub(crate) fn apply(alloc: Global, notes: usize) -> Result<usize, RowsFault> {
+pub(crate) fn apply(alloc: Global, count: usize) -> Result<usize, RowsFault> {
     let events = Events::new(alloc)?;
     let name = name_of(alloc, "k.K")?;
     let mut core = core_with(alloc, LOOP)?;
-    apply_all(&mut core, (&name, &events), notes)
+    apply_all(&mut core, &name, &events, count)
 }
