@@ -9,6 +9,7 @@ needs 2 GB of memory, and is no test. Status: 0 fine, 1 a script was not written
 """
 
 import argparse
+import itertools
 import os
 import subprocess
 import sys
@@ -58,10 +59,49 @@ def wide_choice():
     return put("module c;\nglobal protocol C(role R0, role R1) { choice at R0 %s }\n" % branches)
 
 
-def choice_of_one_hash():
-    """One choice of 18,000 messages whose operators have one hash: `Ab` and `BA` hash alike."""
-    operators = ("".join(("Ab", "BA")[i >> k & 1] for k in range(15)) for i in range(18_000))
-    branches = " or ".join("{ %s() from R0 to R1; }" % operator for operator in operators)
+# The hash of names, as in crates/scrib_types/src/hashing.rt.
+MULTIPLIER = 0x9E37_79B9_7F4A_7C15
+LETTERS = b"ABCDEFGHIJKLMNOPQRSTUVWXYZ_abcdefghijklmnopqrstuvwxyz0123456789"
+
+
+def mix(before, word):
+    """The hash with the word after it."""
+    return ((((before << 5) | (before >> 59)) & (2**64 - 1)) ^ word) * MULTIPLIER % 2**64
+
+
+def hash_of(name):
+    """The hash of a name whose length is a multiple of four."""
+    found = 0
+    for at in range(0, len(name), 4):
+        found = mix(found, int.from_bytes(name[at : at + 4], "little"))
+    return found
+
+
+def same_slot(prefix, slots):
+    """The names of the prefix and four letters whose slot is the first, out of so many (a power of two)."""
+    before = hash_of(prefix)
+    turned = ((before << 5) | (before >> 59)) & (2**64 - 1)
+    low, high = turned & 0xFFFF, turned ^ (turned & 0xFFFF)
+    by_slot = {}
+    for c in LETTERS:
+        for d in LETTERS:
+            product = (high ^ (c << 16 | d << 24)) * MULTIPLIER
+            by_slot.setdefault((product >> 32) % slots, []).append(bytes([c, d]))
+    for a in LETTERS:
+        for b in LETTERS:
+            product = (low ^ (a | b << 8)) * MULTIPLIER
+            # the lower halves of the two products may carry one into the slot
+            for carry in (0, 1):
+                for end in by_slot.get((-(product >> 32) - carry) % slots, ()):
+                    name = prefix + bytes([a, b]) + end
+                    if (hash_of(name) >> 32) % slots == 0:
+                        yield name.decode()
+
+
+def choice_of_one_slot():
+    """One choice of 18,000 messages whose operators have one slot of the 32,768 that their table has."""
+    operators = (name for i in range(18_000) for name in same_slot(b"operator_%015d" % i, 32_768))
+    branches = " or ".join("{ %s() from R0 to R1; }" % name for name in itertools.islice(operators, 18_000))
     return put("module h;\nglobal protocol H(role R0, role R1) { choice at R0 %s }\n" % branches)
 
 
@@ -141,7 +181,7 @@ def main():
     cost(program, "wide types", lambda: wide_protocols(64, 16))
     cost(program, "many loops", many_loops)
     cost(program, "one wide choice", wide_choice)
-    cost(program, "choice, one hash", choice_of_one_hash)
+    cost(program, "choice, one slot", choice_of_one_slot)
     cost(program, "learned choice", learned_choice)
     cost(program, "long types", lambda: long_protocols(1024, 16))
     cost(program, "large modules", large_modules)

@@ -20,7 +20,7 @@ from generated_parts import TOP, Part, crates, run
 PAGE = Part("DEFINITIONS.md", "definitions.py")
 PROOFS = TOP / "docs" / "PROOFS.md"
 
-DEFINITION = re.compile(r"^(?:abbrev |unfoldable )?pub (?:record |data |ruleset )?([A-Za-z_][A-Za-z0-9_]*)\b(?! *=)")
+DEFINITION = re.compile(r"^(?:abbrev |unfoldable )?pub (?:record |data |ruleset )?([A-Za-z_][A-Za-z0-9_-]*)(?![A-Za-z0-9_-]| *=)")
 SPEC_USE = re.compile(r"ghost use Rattle\.(scrib_\w+)\.specs\.((?:\w+\.)*\w+?)(?:\.\{([^}]*)\}| as (\w+)|);")
 SPEC_IMPORT = re.compile(r"^use Rattle\.(scrib_\w+)\.specs\.((?:\w+\.)*\w+?)\.\{([^}]*)\}", re.M)
 FUNCTION = re.compile(r"^\s*(pub(?:\([^)]*\))? )?(?:const )?(?:unsafe )?fn ")
