@@ -1,17 +1,11 @@
 -- The conversion of a record's answer.
-use Rattle.std.proofs.Common.{◌≡◌, ℕ, List, Option, Some, None, option_map, sym, subst}
-use Rattle.std.specs.Borrow.{Bor}
-use Rattle.std.specs.Option.{option_copied}
+use Rattle.std.proofs.Common.{◌≡◌, Option, sym, subst}
 use Rattle.scrib_types.specs.declared.event.Told.{Told}
 use Rattle.scrib_record.specs.declared.answer.Answer.{Answer}
 use Rattle.scrib_record.specs.declared.answer.Answer.TheVariants as answer
 use Rattle.scrib_record.specs.declared.version.Version.{Version}
 use Rattle.scrib_record.specs.Stale.{Recorded}
 use Rattle.scrib_record.specs.Told.{IsReported, IsReportedAnswer}
-use Rattle.scrib_record.specs.Versions.{meaning_of, number_of}
-use Rattle.scrib_library.specs.Holdings.{Holdings, IsNumber}
-use Rattle.scrib_library.specs.Modules.{IsMeaning}
-use Rattle.scrib_core.specs.ConversationSteps.{IsPresent}
 use Rattle.scrib_core.specs.ReplyValues.{told_of}
 
 verdict_as : (p : Option Version) (r : Recorded) (a : Answer) → IsReportedAnswer p r a → IsReported p r (told_of a)
@@ -22,7 +16,3 @@ verdict_as p r answer.Withdrawn h = (h.0, sym h.1, h.2)
 
 pub verdict_from : (p : Option Version) (r : Recorded) (a : Answer) (t : Told) → IsReportedAnswer p r a → t ≡ told_of a → IsReported p r t
 verdict_from p r a t h e = subst (IsReported p r) (sym e) (verdict_as p r a h)
-
-pub present_copied : (h : Holdings) (name : List (List ℕ)) (o : Option (Bor Version)) → IsMeaning h.modules name (option_map (λ v. meaning_of v.now) o) → IsNumber h name (option_map (λ v. number_of v.now) o) → IsPresent h name (option_copied o)
-present_copied h name None m n = record { meaning = m; number = n }
-present_copied h name (Some v) m n = record { meaning = m; number = n }

@@ -146,13 +146,16 @@ pub fn turn(
     let Ok(name) = record.name().copy() else {
         return Err(Refusal::OutOfMemory);
     };
-    let present = library.present(&name);
+    let (hint, present) = present_of(library, record, comparison);
     match record.turn(present, comparison) {
-        Ok(told) => Ok(Judged {
-            name,
-            events: record.log().len(),
-            told,
-        }),
+        Ok(told) => {
+            record.set_hint(hint);
+            Ok(Judged {
+                name,
+                events: record.log().len(),
+                told,
+            })
+        }
         Err(_) => Err(Refusal::OutOfMemory),
     }
 }
@@ -177,7 +180,8 @@ pub fn ask(
     let Ok(name) = record.name().copy() else {
         return Err(Refusal::OutOfMemory);
     };
-    let answer = record.ask(library.present(&name), comparison);
+    let (_, present) = present_of(library, record, comparison);
+    let answer = record.ask(present, comparison);
     match verdict_of(answer) {
         Ok(told) => Ok(Judged {
             name,

@@ -129,8 +129,7 @@ impl Library {
                     used,
                     changes,
                 } = plan;
-                apply_edits(&mut self.versions, &self.hints, edits);
-                self.hints.renew(&self.versions);
+                apply_edits(&mut self.versions, &mut self.hints, edits);
                 self.used = used;
                 Ok(changes)
             }
@@ -161,8 +160,7 @@ impl Library {
         let gone = &self.modules.as_slice()[at];
         let plan = plan_withdrawal(self.alloc, gone, &mut self.versions, &self.hints, self.used)?;
         let Plan { edits, changes, .. } = plan;
-        apply_edits(&mut self.versions, &self.hints, edits);
-        self.hints.renew(&self.versions);
+        apply_edits(&mut self.versions, &mut self.hints, edits);
         self.modules.take_out(at);
         Ok(changes)
     }

@@ -8,7 +8,7 @@ ghost use Rattle.scrib_library.specs.Stored.{version_names, IsVersion, IsStored}
 ghost use Rattle.scrib_library.specs.Drafts.{edit_names, IsApplied, AreApplied};
 
 use crate::changes::ChangeKind;
-use crate::hints::Hints;
+use crate::hints::{Hints, hint_slot};
 use crate::names::compare;
 use scrib_record::version::Version;
 use scrib_types::name::Dotted;
@@ -71,21 +71,21 @@ pub fn numbered_at(versions: &[NamedVersion], place: usize, number: u32) -> Opti
     }
 }
 
-/// Applies the edits, which are of different names. There must be room for the new versions.
-pub fn apply_edits(versions: &mut Vec<NamedVersion>, hints: &Hints, edits: Vec<VersionEdit>)
+/// Applies the edits, which are of different names. There must be room for the new versions. The hints are renewed.
+pub fn apply_edits(versions: &mut Vec<NamedVersion>, hints: &mut Hints, edits: Vec<VersionEdit>)
     requires versions { AreInOrder (version_names versions.old.items) }
     requires edits { AreInOrder (edit_names edits.items) }
     requires room { vec_len versions.old + vec_len edits ≤ vec_capacity versions.old }
     ensures { AreApplied versions.old.items edits.items versions.new.items }
 {
     for edit in edits {
-        let hint = hints.place_of(&edit.name);
-        apply_edit(versions, hint, edit);
+        apply_edit(versions, hints, edit);
     }
+    hints.renew();
 }
 
-// Applies the edit. There must be room for one more version. The index `hint` is tried first.
-fn apply_edit(versions: &mut Vec<NamedVersion>, hint: usize, edit: VersionEdit)
+// Applies the edit. There must be room for one more version. The index that the hints give is tried first.
+fn apply_edit(versions: &mut Vec<NamedVersion>, hints: &mut Hints, edit: VersionEdit)
     requires versions { AreInOrder (version_names versions.old.items) }
     requires room { vec_len versions.old < vec_capacity versions.old }
     ensures made { IsApplied versions.old.items edit versions.new.items }
@@ -93,15 +93,21 @@ fn apply_edit(versions: &mut Vec<NamedVersion>, hint: usize, edit: VersionEdit)
     ensures room { vec_capacity versions.new ≡ vec_capacity versions.old }
 {
     let VersionEdit { name, version, .. } = edit;
-    match (place_at_hint(versions, hint, &name), version) {
+    let slot = hint_slot(&name);
+    match (
+        place_at_hint(versions, hints.place_in(slot), &name),
+        version,
+    ) {
         (Ok(at), Some(version)) => {
             let _before = replace(&mut versions[at], NamedVersion { name, version });
         }
         (Ok(at), None) => {
             let _before = versions.remove(at);
+            hints.remove(at);
         }
         (Err(at), Some(version)) => {
             let _ = versions.insert(at, NamedVersion { name, version });
+            hints.insert(at, slot);
         }
         (Err(_), None) => {}
     }

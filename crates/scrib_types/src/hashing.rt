@@ -11,6 +11,7 @@ use std::alloc::{AllocError, Global};
 const MULTIPLIER: u64 = 0x9e37_79b9_7f4a_7c15;
 
 /// Returns the hash with the word after it. Each bit of both affects the upper half.
+#[inline(always)]
 pub fn mix(hash: u64, word: u64) -> u64
     ensures { result ≡ spec.mix hash word }
 {

@@ -1,18 +1,19 @@
-use Rattle.std.proofs.Common.{◌≡◌, ℕ, List, Some, sym, ap, subst, refl, ◌∙◌}
+use Rattle.std.proofs.Common.{◌≡◌, Some, sym, ap, refl, ◌∙◌}
 use Rattle.std.specs.Option.{option_copied, option_copied_mut}
 use Rattle.scrib_core.specs.Held.{record_at}
-use Rattle.scrib_core.specs.ConversationSteps.{IsPresent}
-use Rattle.scrib_core.proofs.ComparisonLemmas.{serves_for}
+use Rattle.scrib_core.proofs.ComparisonLemmas.{serves_for, serves_record}
 use Rattle.scrib_core.proofs.LentRecordLemmas.{kept, some_there}
-use Rattle.scrib_core.proofs.VerdictLemmas.{present_copied}
 use Rattle.scrib_core.proofs.conversation_steps.turn.Goals as goal
+
+pub present_of-hint-requires : goal.present_of-hint-requires
+present_of-hint-requires c =
+    let there : record_at c.args.records.now.entries c.args.id ≡ Some c.in-Some.record.now = sym c.get_mut.ensures.value ∙ ap option_copied_mut c.in-Some.is in
+    serves_record c.args.comparison c.args.library.now c.args.records.now.entries c.args.id c.in-Some.record.now c.requires there
 
 pub turn-requires : goal.turn-requires
 turn-requires c =
     let there : record_at c.args.records.now.entries c.args.id ≡ Some c.in-Some.record.now = sym c.get_mut.ensures.value ∙ ap option_copied_mut c.in-Some.is in
-    let name : c.in-Ok.name ≡ c.in-Some.record.now.name = c.in-Ok.ensures ∙ c.name.ensures in
-    let here = subst (λ (n : List (List ℕ)). IsPresent c.args.library.now n (option_copied c.present-present.result)) name (present_copied c.args.library.now c.in-Ok.name c.present-present.result c.present-present.ensures.meaning c.present-present.ensures.number) in
-    serves_for c.args.comparison c.args.library.now c.args.records.now.entries c.args.id c.in-Some.record.now (option_copied c.present-present.result) c.requires there here
+    serves_for c.args.comparison c.args.library.now c.args.records.now.entries c.args.id c.in-Some.record.now (option_copied c.present_of-hint.result.1) c.requires there c.present_of-hint.ensures
 
 pub returns-in_default-copy-clause-fault : goal.returns-in_default-copy-clause-fault
 returns-in_default-copy-clause-fault c =
