@@ -6,6 +6,7 @@ pub mod Notes
 pub mod OneByOne
 pub mod Places
 pub mod ReceiptLemmas
+pub mod ServingLemmas
 pub mod MismatchLemmas
 pub mod SweepLemmas
 pub mod StaleListLemmas

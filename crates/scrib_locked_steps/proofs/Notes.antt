@@ -121,3 +121,8 @@ pub same_after : (present : Option Version) (s t : Recorded × PassHeld) (e : Ev
     → (t.1.conversation ≡ s.1.conversation) × (t.0.name ≡ s.0.name)
 same_after present s t e (Ok n) x = (ap (λ (p : PassHeld). p.conversation) x.2.added, x.1.noted.name)
 same_after present s t e (Err f) x = (ap (λ (w : Recorded × PassHeld). w.1.conversation) x.1, ap (λ (w : Recorded × PassHeld). w.0.name) x.1)
+
+-- a note leaves the version that the record holds
+pub held_after : (present : Option Version) (s t : Recorded × PassHeld) (e : Event) (x : Result Noted PassRefusal) → AnswersIn present s e x t → t.0.held ≡ s.0.held
+held_after present s t e (Ok n) x = x.1.noted.held
+held_after present s t e (Err f) x = ap (λ (w : Recorded × PassHeld). w.0.held) x.1

@@ -12,7 +12,8 @@ use Rattle.scrib_types.specs.declared.event.Event.{Event}
 use Rattle.scrib_types.specs.declared.event.Told.{Told}
 use Rattle.scrib_global.proofs.JudgementLemmas.{permitted_none}
 use Rattle.scrib_record.specs.declared.version.Version.{Version}
-use Rattle.scrib_record.specs.Stale.{Recorded}
+use Rattle.scrib_record.specs.Stale.{Recorded, IsLawful}
+use Rattle.scrib_record.specs.Told.{IsTurned}
 use Rattle.scrib_record.specs.Turns.{new_record}
 use Rattle.scrib_record.specs.Versions.{meaning_of}
 use Rattle.scrib_library.specs.Holdings.{Holdings}
@@ -27,6 +28,7 @@ use Rattle.scrib_core.specs.declared.conversation_steps.Noted.{Noted}
 use Rattle.scrib_locked_steps.specs.Indexing.{Listing, listed_ids, only_under}
 use Rattle.scrib_locked_steps.specs.Shards.{IsRecordWithin, AreWithin, IsShardStored}
 use Rattle.scrib_locked_steps.specs.Passing.{added_notes}
+use Rattle.scrib_locked_steps.specs.Sweeping.{IsTurnedUnder}
 use Rattle.scrib_locked_steps.proofs.NameIndexLemmas.{index_none, index_push, index_set, index_kept}
 
 abbrev events_in : Recorded → ℕ
@@ -125,13 +127,25 @@ pass_note_keeps capacity h old id e (Err f) new es book noted same s = none_more
 pub within_at : (rs : Records) (id : ℕ) (r : Recorded) → AreWithin rs → record_at rs id ≡ Some r → IsRecordWithin r
 within_at rs id r all there = subst (λ (o : Option Recorded). IfSome o IsRecordWithin) there (IfSome-lookup_from_All IsRecordWithin (nat_eq id) rs all)
 
+-- the record made a turn
+pub turned_keeps : (capacity : ℕ) (present : Option Version) (old : Records) (id : ℕ) (before after : Recorded) (answer : Told) (new : Records) (es : Listing) (book : ℕ)
+    → record_at old id ≡ Some before → IsTurned present before after answer → IsLawful after → new ≡ set_value (nat_eq id) old after
+    → IsShardStored capacity old es book → IsShardStored capacity new es book
+turned_keeps capacity present old id before after answer new es book there turned lawful put s =
+    let as_long : length after.log ≡ length before.log + 0 = ap length turned.log ∙ omega arith in
+    let short = (within_at old id before s.lawful there).1 in
+    subst (IsShardStored capacity new es) (omega arith)
+    (stored_same capacity (set_value (nat_eq id) old after) new es (book + 0) put
+    (stored_set capacity old es book 0 id before after there (lawful, omega (arith, as_long, short)) as_long turned.name s))
+
 -- a turn succeeded or was refused
 pub turn_keeps : (capacity : ℕ) (h : Holdings) (old : Records) (id : ℕ) (r : Result Judged Refusal) (new : Records) (es : Listing) (book : ℕ)
     → IfOk r (λ j. IsTurnedAt h old id j.name j.events j.told new) → OnErr r (new ≡ old) → IsShardStored capacity old es book → IsShardStored capacity new es book
-turn_keeps capacity h old id (Ok j) new es book t same s =
-    let as_long : length t.after.log ≡ length t.before.log + 0 = ap length t.turned.log ∙ omega arith in
-    let short = (within_at old id t.before s.lawful t.there).1 in
-    subst (IsShardStored capacity new es) (omega arith)
-    (stored_same capacity (set_value (nat_eq id) old t.after) new es (book + 0) t.put
-    (stored_set capacity old es book 0 id t.before t.after t.there (t.lawful, omega (arith, as_long, short)) as_long t.turned.name s))
+turn_keeps capacity h old id (Ok j) new es book t same s = turned_keeps capacity t.present old id t.before t.after j.told new es book t.there t.turned t.lawful t.put s
 turn_keeps capacity h old id (Err f) new es book t same s = stored_same capacity old new es book same s
+
+-- the same of a turn under a version that was looked up
+pub turn_under_keeps : {E : Type 0} (capacity : ℕ) (present : Option Version) (old : Records) (id : ℕ) (r : Result Told E) (new : Records) (es : Listing) (book : ℕ)
+    → IfOk r (λ told. IsTurnedUnder present old id told new) → OnErr r (new ≡ old) → IsShardStored capacity old es book → IsShardStored capacity new es book
+turn_under_keeps capacity present old id (Ok told) new es book t same s = turned_keeps capacity present old id t.before t.after told new es book t.there t.turned t.lawful t.put s
+turn_under_keeps capacity present old id (Err f) new es book t same s = stored_same capacity old new es book same s

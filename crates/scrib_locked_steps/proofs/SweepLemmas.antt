@@ -16,6 +16,7 @@ use Rattle.scrib_types.specs.declared.event.Told.{Told}
 use Rattle.scrib_types.specs.declared.event.Told.TheVariants.{Stale, Judged}
 use Rattle.scrib_types.specs.declared.event.Verdict.{Verdict}
 use Rattle.scrib_types.specs.declared.event.Verdict.TheVariants.{Permitted, Offence, Withdrawn}
+use Rattle.scrib_record.specs.declared.comparison.Comparison.TheVariants.{Numbers}
 use Rattle.scrib_record.specs.declared.version.Version.{Version}
 use Rattle.scrib_record.specs.Stale.{Recorded, is_stale, is_present, is_final}
 use Rattle.scrib_record.specs.Told.{IsTurned, judged_under}
@@ -27,10 +28,11 @@ use Rattle.scrib_core.specs.Held.{Records, record_at}
 use Rattle.scrib_core.specs.ConversationSteps.{IsPresent}
 use Rattle.scrib_locked_steps.specs.Locked.{IsTurnedFor}
 use Rattle.scrib_locked_steps.specs.Shards.{AreWithin}
-use Rattle.scrib_locked_steps.specs.Sweeping.{IsStaleNow, IsFreshNow, IsStaleAt, IsFreshAt, AreSame, AreSameBut, AreStaleIds, IsStaleTurn, AreTurns, AreSwept}
+use Rattle.scrib_locked_steps.specs.Sweeping.{IsStaleNow, IsFreshNow, IsStaleAt, IsFreshAt, AreSame, AreSameBut, AreStaleIds, IsStaleTurn, AreTurns, AreSwept, IsServedAt, IsTurnedUnder}
+use Rattle.scrib_locked_steps.proofs.ServingLemmas.{stamps_serve}
 use Rattle.scrib_locked_steps.proofs.ShardLemmas.{within_at}
 
-same_some : {X : Type 0} (x y : X) → Some x ≡ Some y → x ≡ y
+pub same_some : {X : Type 0} (x y : X) → Some x ≡ Some y → x ≡ y
 same_some x y e = cc
 
 -- ---- records that are written
@@ -240,6 +242,41 @@ module _ (h : Holdings) (id turns : ℕ) (old now new : Records) (numbered : Are
 pub swept_none : (h : Holdings) (id : ℕ) (rs : Records) → IsStaleAt h rs id → IsSwept h id 0 rs rs
 swept_none h id rs stale =
     record { but = same_but_itself id rs; turned = refl; of = stale.0; there = stale.1; stale = stale.2; after = inl refl }
+
+-- ---- a turn under a version that was looked up
+
+module _ (h : Holdings) (id : ℕ) (present : Option Version) (old new : Records) (answer : Told) (x : IsTurnedUnder present old id answer new) where
+  -- it is a turn for the library whose version it is
+  pub under_for : IsPresent h x.before.name present → IsTurnedFor h old id answer new
+  under_for here = (
+    x.after.name,
+    length x.after.log,
+    record {
+      before = x.before;
+      there = x.there;
+      present = present;
+      is_present = here;
+      after = x.after;
+      turned = x.turned;
+      lawful = x.lawful;
+      put = x.put;
+      name_is = refl;
+      events_are = refl;
+    },
+  )
+
+  under_there : record_at new id ≡ Some x.after
+  under_there = ap (λ (rs : Records). record_at rs id) x.put ∙ at_itself old id x.after x.before x.there
+
+  -- the version is that of the name still
+  pub under_here : IsPresent h x.before.name present → (r : Recorded) → record_at new id ≡ Some r → IsPresent h r.name present
+  under_here here r e =
+      let is : x.after ≡ r = same_some x.after r (sym under_there ∙ e) in
+      subst (λ (n : List (List ℕ)). IsPresent h n present) (sym x.turned.name ∙ ap (λ (w : Recorded). w.name) is) here
+
+  -- from then on numbers serve
+  pub under_served : IsServedAt Numbers present new id
+  under_served = (x.after, under_there, stamps_serve present x.after.held x.turned.stamp)
 
 -- ---- one conversation after another
 

@@ -1,11 +1,14 @@
 -- Conversations with stale verdicts, and sweeps, which leave none (this project's own).
-use Rattle.std.specs.Prelude.{◌≡◌, ◌⊎◌, ℕ, zero, suc, Bool, true, false, List, length, Option, Some, None, All, Contains}
+use Rattle.std.specs.Prelude.{◌≡◌, ◌⊎◌, ℕ, zero, suc, Bool, true, false, nat_eq, List, length, Option, Some, None, All, Contains}
 use Rattle.std.specs.List.{filter}
 use Rattle.std.specs.List.Sorted.{IsStrictlyIncreasing}
-use Rattle.std.specs.Map.{keys_of}
+use Rattle.std.specs.Map.{keys_of, set_value}
 use Rattle.scrib_types.specs.declared.event.Told.{Told}
+use Rattle.scrib_record.specs.declared.comparison.Comparison.{Comparison}
 use Rattle.scrib_record.specs.declared.version.Version.{Version}
-use Rattle.scrib_record.specs.Stale.{Recorded, is_stale}
+use Rattle.scrib_record.specs.Comparisons.{ServesFor}
+use Rattle.scrib_record.specs.Stale.{Recorded, IsLawful, is_stale}
+use Rattle.scrib_record.specs.Told.{IsTurned}
 use Rattle.scrib_library.specs.Holdings.{Holdings}
 use Rattle.scrib_core.specs.Held.{Records, record_at}
 use Rattle.scrib_core.specs.ConversationSteps.{IsPresent}
@@ -66,6 +69,20 @@ pub record IsStaleTurn (h : Holdings) (old new : Records) : Type 0 where
   pub answer : Told
   pub turned : IsTurnedFor h old id answer new
   pub stale : is_stale turned.2.present turned.2.before ≡ true
+
+-- the record of the id exists, and the comparison is correct for its version and this one, if there is one
+abbrev pub IsServedAt : Comparison → Option Version → Records → ℕ → Type 0
+IsServedAt c present rs id = (r : Recorded) × (record_at rs id ≡ Some r) × ServesFor c present r.held
+
+-- the record of the id makes a turn under this version, or under none
+pub record IsTurnedUnder (present : Option Version) (old : Records) (id : ℕ) (answer : Told)
+    (new : Records) : Type 0 where
+  pub before : Recorded
+  pub there : record_at old id ≡ Some before
+  pub after : Recorded
+  pub turned : IsTurned present before after answer
+  pub lawful : IsLawful after
+  pub put : new ≡ set_value (nat_eq id) old after
 
 -- so many turns, one after another, each of a stale record
 abbrev pub AreTurns : Holdings → ℕ → Records → Records → Type 0

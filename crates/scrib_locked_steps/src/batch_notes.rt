@@ -12,7 +12,9 @@ ghost use Rattle.scrib_locked_steps.specs.Passing.{AnswersBy, added_notes};
 use crate::pass::Pass;
 use crate::pass_calls::{PassReply, notes_of, unopened_refusal};
 use crate::receipt_check::first_mismatch;
-use crate::record_notes::{note_unless_mismatch, place_at_hint, present_of};
+use crate::record_notes::{
+    NoteChecks, comparison_for, note_unless_mismatch, place_at_hint, present_of,
+};
 use crate::shard::Shard;
 use indexmap::IndexMap;
 use scrib_library::library::Library;
@@ -31,7 +33,8 @@ pub struct Batch {
 
 /// Appends the events one after another to the log of the pass's conversation, as calls of `note_by_pass` would without
 /// other calls between them. Returns the reply to each, in order, in the list of the batch. The record and the version
-/// are looked up once, and the newest receipt is compared once.
+/// are looked up once. The newest receipt is compared once. So is the meaning of the held version with that of the
+/// present one, unless the record is stale.
 pub fn note_all_by_pass(
     library: &Library,
     shard: &mut Shard,
@@ -77,11 +80,14 @@ fn note_all_in_record(
     ensures { OneByOne (AnswersIn (option_copied present.entry)) (conversation.old, pass.old) batch.events.items
         result.items (conversation.new, pass.new) }
 {
-    let mismatch = first_mismatch(conversation.log(), pass.newest());
+    let checks = NoteChecks {
+        mismatch: first_mismatch(conversation.log(), pass.newest()),
+        comparison: comparison_for(present, conversation),
+    };
     let Batch { events, room } = batch;
     let mut answers = room;
     for event in events {
-        let answer = note_unless_mismatch(mismatch, present, conversation, pass, event);
+        let answer = note_unless_mismatch(checks, present, conversation, pass, event);
         answers.push_reserved(answer);
     }
     answers

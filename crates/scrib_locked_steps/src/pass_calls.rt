@@ -8,12 +8,13 @@ ghost use Rattle.scrib_locked_steps.specs.Passing.{AnswersBy, IsNotedBy, PassNot
 use crate::locked_calls::stands_locked;
 use crate::pass::{Pass, Receipt};
 use crate::receipt_check::first_mismatch;
-use crate::record_notes::{note_unless_mismatch, place_at_hint, present_of};
+use crate::record_notes::{NoteChecks, note_unless_mismatch, place_at_hint, present_of};
 use crate::shard::Shard;
 use crate::step_results::{Noted, ask_step};
 use indexmap::IndexMap;
 use scrib_core::reply::Refusal;
 use scrib_library::library::Library;
+use scrib_record::comparison::Comparison;
 use scrib_record::record::Record;
 use scrib_types::event::Told;
 use scrib_types::shared_event::SharedEvent;
@@ -92,9 +93,12 @@ fn note_in_records(
     };
     pass.set_hint(at);
     let (_, conversation) = records.pair_mut(at);
-    let mismatch = first_mismatch(conversation.log(), pass.newest());
+    let checks = NoteChecks {
+        mismatch: first_mismatch(conversation.log(), pass.newest()),
+        comparison: Comparison::Whole,
+    };
     let present = present_of(library, conversation);
-    note_unless_mismatch(mismatch, present, conversation, pass, event)
+    note_unless_mismatch(checks, present, conversation, pass, event)
 }
 
 /// Returns the refusal of a note if no conversation of the id is open.

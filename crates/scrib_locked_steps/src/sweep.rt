@@ -2,10 +2,10 @@
 
 ghost use Rattle.std.specs.Prelude.{◌≡◌, ◌≤◌, ◌*◌, ◌++◌, IfOk, OnOk, OnErr};
 ghost use Rattle.std.specs.Option.{option_copied};
-ghost use Rattle.scrib_locked_steps.specs.Sweeping.{is_stale_of, stale_ids_of, IsStaleAt, IsFreshAt, AreStaleIds, IsStaleCount, AreSame, AreSameBut, AreTurns, AreSomeTurns, AreSwept};
+ghost use Rattle.scrib_locked_steps.specs.Sweeping.{is_stale_of, stale_ids_of, IsStaleAt, IsFreshAt, AreStaleIds, IsStaleCount, AreSame, AreSameBut, AreTurns, AreSomeTurns, AreSwept, IsServedAt, IsTurnedUnder};
 
 use crate::shard::Shard;
-use crate::step_results::turn_step;
+use indexmap::IndexMap;
 use scrib_library::library::Library;
 use scrib_record::answer::Answer;
 use scrib_record::comparison::Comparison;
@@ -104,19 +104,60 @@ fn sweep_conversation(library: &Library, shard: &mut Shard, id: u32) -> Result<u
 {
     library.are_numbered();
     let _conversations = shard.len();
+    let Some(conversation) = shard.record(id) else {
+        // Not reached, since the conversation exists.
+        return Err(AllocError);
+    };
+    let present = library.present(conversation.name());
+    let mut comparison = Comparison::Whole;
     let mut turns = 0;
     loop {
-        let told = match turn_step(library, shard, id) {
-            Ok(judged) => judged.told,
-            // The conversation exists, so memory was refused.
-            Err(_) => return Err(AllocError),
-        };
+        let verdict = turn_under(present, comparison, shard, id)?;
         turns += 1;
-        match told {
+        // The record holds the present version now.
+        comparison = Comparison::Numbers;
+        match verdict {
             Told::Stale => {}
             Told::Judged(_) => return Ok(turns),
         }
     }
+}
+
+// Judges up to 256 further events of the conversation. `present` is the present version of its protocol, if it has one.
+fn turn_under(
+    present: Option<&Version>,
+    comparison: Comparison,
+    shard: &mut Shard,
+    id: u32,
+) -> Result<Told, AllocError>
+    requires { IsServedAt comparison (option_copied present) shard.old.records id }
+    ensures ok { IfOk result (λ told.
+        IsTurnedUnder (option_copied present.entry) shard.old.records id told shard.new.records) }
+    ensures err { OnErr result (shard.new.records ≡ shard.old.records) }
+    ensures limit { shard.new.capacity ≡ shard.old.capacity }
+{
+    turn_in_records(present, comparison, &mut shard.records, id)
+}
+
+// As `turn_under`, in the records of a shard.
+fn turn_in_records(
+    present: Option<&Version>,
+    comparison: Comparison,
+    records: &mut IndexMap<u32, Record>,
+    id: u32,
+) -> Result<Told, AllocError>
+    requires { IsServedAt comparison (option_copied present) records.old.entries id }
+    ensures ok { IfOk result (λ told.
+        IsTurnedUnder (option_copied present.entry) records.old.entries id told records.new.entries) }
+    ensures err { OnErr result (records.new.entries ≡ records.old.entries) }
+{
+    let Some(conversation) = records.get_mut(&id) else {
+        return Err(AllocError);
+    };
+    let told = conversation.turn(present, comparison)?;
+    // The contract of `log` says that the record is lawful.
+    let _events = conversation.log();
+    Ok(told)
 }
 
 // Whether the record exists and its verdict is stale. `present` is the present version of its protocol, if it has one.

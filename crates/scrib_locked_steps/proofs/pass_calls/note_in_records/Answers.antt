@@ -15,11 +15,11 @@ use Rattle.scrib_locked_steps.proofs.pass_calls.note_in_records.Goals as goal
 pub pair_mut-conversation-requires : goal.pair_mut-conversation-requires
 pair_mut-conversation-requires c = within_records c.args.records.now.entries c.in-Some.at c.conversation-id.result c.in-Some.ensures.found
 
-pub note_unless_mismatch-requires : goal.note_unless_mismatch-requires
-note_unless_mismatch-requires c =
+pub note_unless_mismatch-requires-clause-mismatch : goal.note_unless_mismatch-requires-clause-mismatch
+note_unless_mismatch-requires-clause-mismatch c =
     let p = c.set_hint.new.self in
-    subst (λ (w : Recorded). IsFirstMismatch w.log (newest_of p.receipts) c.first_mismatch-mismatch.result) (sym c.present_of-present.ensures.same)
-    (compared_in p c.pair_mut-conversation.result.1.now c.log.result.now c.newest-2.result.now c.first_mismatch-mismatch.result c.log.ensures.log c.newest-2.ensures c.first_mismatch-mismatch.ensures)
+    subst (λ (w : Recorded). IsFirstMismatch w.log (newest_of p.receipts) c.first_mismatch.result) (sym c.present_of-present.ensures.same)
+    (compared_in p c.pair_mut-conversation.result.1.now c.log.result.now c.newest-2.result.now c.first_mismatch.result c.log.ensures.log c.newest-2.ensures c.first_mismatch.ensures)
 
 pub returns : goal.returns
 returns c =
