@@ -4,6 +4,7 @@ use Rattle.std.specs.Fmt.{decimal}
 use Rattle.scrib_types.specs.declared.event.Told.TheVariants.{Judged}
 use Rattle.scrib_types.specs.declared.event.Verdict.TheVariants.{Permitted}
 use Rattle.scrib_core.specs.declared.reply.Reply.TheVariants.{Noted}
+use Rattle.scrib_core.specs.declared.reply.Reply.TheVariants as reply
 use Rattle.scrib_report.specs.Lines.{line_of, told_text, verdict_text}
 use Rattle.std.proofs.lemmas.Fmt.{length-decimal-le}
 use Rattle.std.proofs.lemmas.List.{drop-set}
@@ -42,3 +43,16 @@ line_and_end old id place =
     sym (append_five old (decimal id) (codes ".") (decimal place) (codes " permitted\n"))
     ∙ ap (λ rest. old ++ rest) (sym inside)
     ∙ sym (append_assoc old (numbers ++ codes " " ++ codes "permitted") end)
+
+-- Where the buffer could grow, the text ends with the piece.
+pub end_added : {E : Type 0} (r : Result (Unit {0}) E) (new old laid end : List ℕ) → laid ≡ end → new ≡ (if is_ok r then old ++ laid else old) → OnOk r (new ≡ old ++ end)
+end_added (Ok u) new old laid end e f = f ∙ ap (λ rest. old ++ rest) e
+end_added (Err u) new old laid end e f = search rules
+
+-- The id and the end are the line of a permitted verdict with its line feed.
+pub verdict_and_end : (old : List ℕ) (id : ℕ) (name : List (List ℕ)) (events : ℕ) → old ++ (decimal id ++ codes " permitted\n") ≡ old ++ line_of (reply.Judged id name events (Judged Permitted)) ++ 10 ∷ []
+unfolding line_of told_text verdict_text
+verdict_and_end old id name events =
+    let end : List ℕ = 10 ∷ [] in
+    ap (λ rest. old ++ rest) (sym (append_assoc (decimal id ++ codes " ") (codes "permitted") end ∙ append_assoc (decimal id) (codes " ") (codes "permitted" ++ end)))
+    ∙ sym (append_assoc old (decimal id ++ codes " " ++ codes "permitted") end)

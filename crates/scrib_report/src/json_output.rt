@@ -26,8 +26,8 @@ pub(crate) fn push_json_part(out: &mut Vec<u8>, part: &OutputPart<'_>) -> Result
     let alloc = *out.allocator();
     match part {
         OutputPart::Reply(reply) => push_object(out, json(alloc, reply)?.as_slice()),
-        OutputPart::Judged { id, told } => {
-            push_object(out, judged_json(alloc, *id, told)?.as_slice())
+        OutputPart::Judged { id, verdict } => {
+            push_object(out, judged_json(alloc, *id, verdict)?.as_slice())
         }
         OutputPart::Mismatch {
             conversation,

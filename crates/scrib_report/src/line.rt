@@ -1,7 +1,10 @@
 //! The line of a reply.
 
-ghost use Rattle.std.specs.Prelude.{◌≡◌, ◌++◌, ◌∷◌, [], IfOk, OnOk, codes};
+ghost use Rattle.std.specs.Prelude.{◌≡◌, ◌++◌, ◌∷◌, [], IfOk, OnOk, OnErr, codes};
 ghost use Rattle.std.specs.Fmt.{decimal};
+ghost use Rattle.scrib_types.specs.declared.event.Told.TheVariants.{Judged};
+ghost use Rattle.scrib_types.specs.declared.event.Verdict.TheVariants.{Permitted};
+ghost use Rattle.scrib_core.specs.declared.reply.Reply.TheVariants.{Noted};
 ghost use Rattle.scrib_report.specs.Lines as lines;
 
 use crate::edit::{edit_word, push_change};
@@ -17,7 +20,7 @@ use std::alloc::{AllocError, Global};
 // Room, in bytes, for the line of a permitted event and its line feed: one allocation then holds the text.
 const USUAL_BYTES: usize = 64;
 
-// The end of the line of a permitted event. The blanks before it are room for an id, a dot and a place.
+// The end of the line of a permitted event or verdict. The blanks before it are room for an id, a dot and a place.
 const PERMITTED: [u8; 48] = *b"                                      permitted\n";
 
 // The offset in `PERMITTED` at which the digits of the place end.
@@ -40,6 +43,15 @@ fn push_changes(out: &mut Vec<u8>, changes: &[Change]) -> Result<(), AllocError>
         return push_bytes(out, b" no change");
     }
     push_each_change(out, changes)
+}
+
+// Appends the line of a permitted verdict and a line feed, by one append.
+fn push_permitted_verdict(out: &mut Vec<u8>, id: u32) -> Result<(), AllocError>
+    ensures { OnOk result (out.new.items ≡ out.old.items ++ (decimal id ++ codes " permitted\n")) }
+{
+    let mut line = PERMITTED;
+    let id_at = write_digits(u64::from(id), &mut line, DIGITS_END);
+    out.extend_from_slice(&line[id_at..])
 }
 
 /// Appends the line of the reply, in ASCII bytes, without a line feed.
@@ -87,12 +99,17 @@ pub fn push_line(out: &mut Vec<u8>, reply: &Reply) -> Result<(), AllocError>
     }
 }
 
-// Appends the line of a permitted event and a line feed. The line is written from its end, so one append suffices.
+/// Appends the line of a permitted event, in ASCII bytes, and a line feed.
+///
+/// # Errors
+/// `AllocError` where memory for the longer text is refused; the text is then as it was.
 #[inline(always)]
-fn push_permitted(out: &mut Vec<u8>, id: u32, place: u64) -> Result<(), AllocError>
-    ensures { OnOk result (out.new.items
-        ≡ out.old.items ++ decimal id ++ codes "." ++ decimal place ++ codes " permitted\n") }
+pub fn push_permitted(out: &mut Vec<u8>, id: u32, place: u64) -> Result<(), AllocError>
+    ensures ok { OnOk result
+        (out.new.items ≡ out.old.items ++ lines.line_of (Noted id place (Judged Permitted)) ++ 10 ∷ []) }
+    ensures err { OnErr result (out.new.items ≡ out.old.items) }
 {
+    // The line is written from its end, so one append suffices.
     let mut line = PERMITTED;
     let place_at = write_digits(place, &mut line, DIGITS_END);
     line[place_at - 1] = b'.';
@@ -104,7 +121,7 @@ fn push_permitted(out: &mut Vec<u8>, id: u32, place: u64) -> Result<(), AllocErr
 ///
 /// # Errors
 /// `AllocError` where memory for the longer text is refused.
-#[tactic(auto, using(crate::proofs::PermittedLine::line_and_end))]
+#[tactic(auto, using(crate::proofs::PermittedLine::verdict_and_end))]
 pub fn push_whole_line(out: &mut Vec<u8>, reply: &Reply) -> Result<(), AllocError>
     ensures { OnOk result (out.new.items ≡ out.old.items ++ lines.line_of reply.now ++ 10 ∷ []) }
 {
@@ -115,6 +132,11 @@ pub fn push_whole_line(out: &mut Vec<u8>, reply: &Reply) -> Result<(), AllocErro
             place,
             told: Told::Judged(Verdict::Permitted),
         } => push_permitted(out, *id, *place as u64),
+        Reply::Judged {
+            id,
+            told: Told::Judged(Verdict::Permitted),
+            ..
+        } => push_permitted_verdict(out, *id),
         _ => {
             push_line(out, reply)?;
             push_bytes(out, b"\n")

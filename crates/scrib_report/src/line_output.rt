@@ -44,7 +44,7 @@ pub(crate) fn push_line_part(out: &mut Vec<u8>, part: &OutputPart<'_>) -> Result
 {
     match part {
         OutputPart::Reply(reply) => push_whole_line(out, reply),
-        OutputPart::Judged { id, told } => push_judged(out, *id, told),
+        OutputPart::Judged { id, verdict } => push_judged(out, *id, verdict),
         OutputPart::Mismatch {
             conversation,
             place,

@@ -10,7 +10,7 @@ pub enum OutputPart<'a> {
     /// The reply to a step.
     Reply(&'a Reply),
     /// The verdict on a conversation that a service returns for a turn or a question.
-    Judged { id: u32, told: &'a Told },
+    Judged { id: u32, verdict: &'a Told },
     /// The refusal of a pass whose receipt differs from the log of this conversation at this place.
     Mismatch { conversation: u32, place: usize },
     /// A line of this number, from 1, that is no step.

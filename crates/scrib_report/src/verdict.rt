@@ -39,10 +39,10 @@ fn push_verdict(out: &mut Vec<u8>, verdict: &Verdict) -> Result<(), AllocError>
 
 // Appends `stale`, or the verdict.
 #[tactic(auto, unfolding(crate::specs::Lines::told_text))]
-pub(crate) fn push_told(out: &mut Vec<u8>, told: &Told) -> Result<(), AllocError>
-    ensures { OnOk result (out.new.items ≡ out.old.items ++ lines.told_text told.now) }
+pub(crate) fn push_told(out: &mut Vec<u8>, answer: &Told) -> Result<(), AllocError>
+    ensures { OnOk result (out.new.items ≡ out.old.items ++ lines.told_text answer.now) }
 {
-    match told {
+    match answer {
         Told::Stale => push_bytes(out, b"stale"),
         Told::Judged(verdict) => push_verdict(out, verdict),
     }

@@ -53,13 +53,13 @@ pub comment_skipped : (bytes rest : List ℕ) → bytes ≡ 35 ∷ rest → IsSk
 comment_skipped bytes rest e = subst (λ text. IsSkipped (fields text)) (sym e) (comment-fields rest)
 
 -- a first field, and the fields after its space
-first-field-cut : (x : ℕ) (xs rest : List ℕ) → NoBlank (x ∷ xs) → fields (x ∷ xs ++ 32 ∷ rest) ≡ (x ∷ xs) ∷ fields rest
+pub first-field-cut : (x : ℕ) (xs rest : List ℕ) → NoBlank (x ∷ xs) → fields (x ∷ xs ++ 32 ∷ rest) ≡ (x ∷ xs) ∷ fields rest
 unfolding fields
 first-field-cut x xs rest h =
     let some : has_bytes (x ∷ xs) ≡ true = grind (arith, nat_tests) in
     ap (filter has_bytes) (slice_split_at is_blank (x ∷ xs) 32 rest h refl) ∙ ap (λ t. if t then (x ∷ xs) ∷ filter has_bytes (slice_split is_blank rest) else filter has_bytes (slice_split is_blank rest)) some
 
-number-cut : (digits rest : List ℕ) (n : ℕ) → IsNumberText digits n → fields (digits ++ 32 ∷ rest) ≡ digits ∷ fields rest
+pub number-cut : (digits rest : List ℕ) (n : ℕ) → IsNumberText digits n → fields (digits ++ 32 ∷ rest) ≡ digits ∷ fields rest
 number-cut [] rest n h = absurd (omega (arith, h.some))
 number-cut (d ∷ ds) rest n h = first-field-cut d ds rest (digits-no-blank (d ∷ ds) h.digits)
 
@@ -90,10 +90,10 @@ head-fields bytes text direction.Send id h =
 head-fields bytes text direction.Receive id h =
     ap fields h.1.1 ∙ first-field-cut 114 (codes "ecv") (h.1.0 ++ 32 ∷ text) recv-no-blank ∙ ap (λ fs. codes "recv" ∷ fs) (number-cut h.1.0 text id h.1.2)
 
-apart : (xs ys : List ℕ) → bytes_eq xs ys ≡ false → xs ≡ ys → ⊥
+pub apart : (xs ys : List ℕ) → bytes_eq xs ys ≡ false → xs ≡ ys → ⊥
 apart xs ys f e = false≢true (sym f ∙ (bytes_eq-Decides xs ys).1 e)
 
-head-of-fields : (x y : List ℕ) (xs ys : List (List ℕ)) → x ∷ xs ≡ y ∷ ys → x ≡ y
+pub head-of-fields : (x y : List ℕ) (xs ys : List (List ℕ)) → x ∷ xs ≡ y ∷ ys → x ≡ y
 head-of-fields x y xs ys e = cc
 
 -- the fields of a text, where they are an exchange

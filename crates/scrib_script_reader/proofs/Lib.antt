@@ -1,4 +1,6 @@
 pub mod Heads
+pub mod NamedHeads
+pub mod FirstBytes
 pub mod Bytes
 pub mod Decisions
 pub mod Digits

@@ -12,6 +12,7 @@ use Rattle.scrib_script_reader.specs.declared.line.Line.TheVariants as line
 use Rattle.scrib_script_reader.specs.declared.item.Item.{Item}
 use Rattle.scrib_script_reader.specs.declared.item.Item.TheVariants as item
 use Rattle.scrib_script_reader.specs.declared.kept_bytes.KeptText.{KeptText}
+use Rattle.scrib_script_reader.specs.declared.reader.Reader.{Reader}
 use Rattle.scrib_script_reader.specs.declared.script.Script.{Script}
 use Rattle.scrib_script_reader.specs.Scripts.{NoLf, item_list, Text, empty_text, with_line, Spells, ends, goes_on, puts, stops, lines, bare, text_end}
 use Rattle.scrib_script_reader.specs.Positions.{Position, SpellsFrom, LeadsFrom, capacity, cut, as_text, text_of, Holds, position, start, CountsBytes, TakesBytes, TakesFront, IsPastWith, PassesLimits, EndSpells, HasConsumed, LineEnded, begun_text, items_of, last_items, TextGives}
@@ -226,6 +227,21 @@ takes_line old new after items ended text_is line_is lines_is limits bytes few_b
       (p.0, [], holds, subst (λ (i : ℕ). LeadsFrom (position old text line) (10 ∷ []) items (at (i + 1) p.0 [])) (sym lines_is) p.2);
 }
 
+-- the reader of lines has another cache, and nothing is consumed
+pub front_kept : (s : Script) (r : Reader) (piece : List ℕ) → TakesFront s (record s { reader = r }) piece piece []
+front_kept s r piece =
+    let none = counts_none s in
+    let kept : length s.line.items ≤ capacity (text_of s) → s.line.items ≡ take (capacity (text_of s)) (s.line.items ++ []) =
+    λ h. sym (ap (take (capacity (text_of s))) (append-nil s.line.items) ∙ take_all (capacity (text_of s)) s.line.items h) in
+    let counts : CountsBytes s (record s { reader = r }) [] = record {
+      limits = none.limits;
+      bytes = none.bytes;
+      ended = none.ended;
+      few_bytes = none.few_bytes;
+      few_lines = none.few_lines;
+    } in
+    ([], refl, takes_part s (record s { reader = r }) [] counts refl refl kept (All-nil (λ b. b ≢ 10)))
+
 pub front_none : (s : Script) (piece : List ℕ) → TakesFront s s piece piece []
 front_none s piece = ([], refl, takes_same s [] refl (All-nil (λ b. b ≢ 10)))
 
@@ -284,6 +300,12 @@ passes_part old mid piece rest t one past = record {
 
 pub slice_rest : (i : ℕ) (xs : List ℕ) → take (length xs - i) (drop i xs) ≡ drop i xs
 slice_rest i xs = take_all (length xs - i) (drop i xs) (omega (arith, length-drop i xs))
+
+-- the first line of a piece is consumed, and its LF
+pub front_first : (old new : Script) (piece : List ℕ) (i : ℕ) (items : List Item) → i < length piece → get_or piece i 0 ≡ 10 → TakesBytes old new (take i piece ++ 10 ∷ []) items
+    → TakesFront old new piece (take (length piece - (i + 1)) (drop (i + 1) piece)) items
+front_first old new piece i items within lf taken =
+    subst (λ (rest : List ℕ). TakesFront old new piece rest items) (sym (slice_rest (i + 1) piece)) (front_line old old new piece piece i items (front_none old piece) within lf taken)
 
 spells_end : (next n : ℕ) (word : Line) → (rest : List Item) × Spells next (begun_text word) [] rest × (last_items n word ≡ items_of n word ++ rest)
 spells_end next n line.Skipped = ([], ends next, refl)

@@ -139,7 +139,7 @@ found-edit known word first fs numberless e None none = λ s h. elim h [
 found-edit known word first fs numberless e (Some s) h = inl (subst (λ (x : List ℕ). Edits x first fs s) (sym e) h)
 
 -- another word makes no edit
-no-edit : (word first : List ℕ) (fs : List (List ℕ)) → (word ≡ codes "withdraw" → ⊥) → (word ≡ codes "profile" → ⊥) → (s : Step) → Edits word first fs s → ⊥
+pub no-edit : (word first : List ℕ) (fs : List (List ℕ)) → (word ≡ codes "withdraw" → ⊥) → (word ≡ codes "profile" → ⊥) → (s : Step) → Edits word first fs s → ⊥
 no-edit word first fs withdraws profiles (step.Put text) h = h
 no-edit word first fs withdraws profiles (step.Withdraw name) h = withdraws h.0
 no-edit word first fs withdraws profiles (step.Profile p) h = profiles h.0

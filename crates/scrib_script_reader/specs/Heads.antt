@@ -21,6 +21,10 @@ IsHead bytes d id text =
     (length bytes ≤ 131072)
     × ((digits : List ℕ) × (bytes ≡ direction_word d ++ 32 ∷ digits ++ 32 ∷ text) × IsNumberText digits id)
 
+-- the bytes are the id's digits, a space and the text
+abbrev pub IsIdBefore : List ℕ → ℕ → List ℕ → Type 0
+IsIdBefore bytes id text = (digits : List ℕ) × (bytes ≡ digits ++ 32 ∷ text) × IsNumberText digits id
+
 -- the event of an exchange in a direction
 abbrev pub directed_event : Direction → (from to : List ℕ) → Message → Event
 directed_event direction.Send from to m = event.Sent from to m

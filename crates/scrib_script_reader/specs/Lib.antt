@@ -1,7 +1,9 @@
 pub mod Fields
 pub mod Steps
 pub mod Says
+pub mod FirstBytes
 pub mod Heads
+pub mod NamedHeads
 pub mod Limits
 pub mod Scripts
 pub mod Positions

@@ -4,6 +4,7 @@ ghost use Rattle.std.specs.Prelude.{◌≡◌, ◌↔◌, ◌∷◌, ◌++◌, I
 ghost use Rattle.scrib_core.specs.declared.step.Step.TheVariants.{Ask, Turn};
 ghost use Rattle.scrib_script_reader.specs.Fields.{fields};
 ghost use Rattle.scrib_script_reader.specs.Says.{Says, IsSkipped, IsPutLine, Asks};
+ghost use Rattle.scrib_script_reader.specs.FirstBytes as spec;
 ghost use Rattle.scrib_core.specs.declared.format.Format.TheVariants as format;
 ghost use Rattle.scrib_script_reader.specs.declared.line.Line.TheVariants as line;
 
@@ -49,6 +50,9 @@ pub fn line_of(alloc: Global, bytes: &[u8]) -> Result<Line, AllocError>
     if let Some(id) = turn_of(bytes) {
         return Ok(Line::Step(Format::Line, Step::Turn { id }));
     }
+    if begins_no_line(bytes) {
+        return Ok(Line::Bad);
+    }
     let fields = fields_of(alloc, bytes)?;
     let fields = fields.as_slice();
     if is_skipped(fields) {
@@ -61,6 +65,33 @@ pub fn line_of(alloc: Global, bytes: &[u8]) -> Result<Line, AllocError>
     match step_of(alloc, words)? {
         Some(step) => Ok(Line::Step(format, step)),
         None => Ok(Line::Bad),
+    }
+}
+
+// Whether the first two bytes begin no line that has a meaning.
+fn begins_no_line(bytes: &[u8]) -> bool
+    ensures { IsTrue result → Says bytes.now line.Bad }
+{
+    match bytes {
+        [first, second, ..] => !may_begin(*first, *second),
+        _ => false,
+    }
+}
+
+// Whether a line that has a meaning may begin with these two bytes: with a blank, a `#`, or the two of its word.
+fn may_begin(first: u8, second: u8) -> bool
+    ensures { result ≡ spec.may_begin first second }
+{
+    match first {
+        b' ' | b'\t' | b'#' => true,
+        b'a' => second == b's',
+        b'j' => second == b's' || second == b'o',
+        b'p' => second == b'u' || second == b'r',
+        b's' | b'r' => second == b'e',
+        b'o' => second == b'p',
+        b't' => second == b'u',
+        b'w' => second == b'i',
+        _ => false,
     }
 }
 

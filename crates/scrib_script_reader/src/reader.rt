@@ -1,40 +1,41 @@
-//! Parses the lines of a script one after another, with a cache of events.
+//! Parses the lines of a script one after another, with caches of events and names.
 
-ghost use Rattle.std.specs.Prelude.{◌≡◌, ◌<◌, ◌++◌, ◌∷◌, ℕ, List, IfOk, IfSome, MatchOption, length, slice_index};
-ghost use Rattle.scrib_script_reader.specs.Fields.{IsNumberText};
+ghost use Rattle.std.specs.Prelude.{IfOk, IfSome};
+ghost use Rattle.scrib_core.specs.declared.format.Format.TheVariants as format;
+ghost use Rattle.scrib_core.specs.declared.step.Step.TheVariants.{Note};
 ghost use Rattle.scrib_script_reader.specs.Says.{Says};
-ghost use Rattle.scrib_script_reader.specs.Heads.{IsHead, direction_word};
+ghost use Rattle.scrib_script_reader.specs.NamedHeads.{SpellsNamed};
+ghost use Rattle.scrib_script_reader.specs.declared.head.NamedWord.TheVariants.{Open, Join};
+ghost use Rattle.scrib_script_reader.specs.declared.line.Line.TheVariants as line;
 
-use crate::direction::Direction;
-use crate::event_cache::EventCache;
-use crate::line::{Line, MAX_LINE_BYTES, line_of};
-use crate::text::number_of;
+use crate::event_cache::ExchangeEvents;
+use crate::head::{NamedWord, head_of, named_head_of};
+use crate::line::{Line, line_of};
+use crate::text_cache::TextCache;
 use scrib_core::format::Format;
 use scrib_core::step::Step;
+use scrib_types::name::Dotted;
+use scrib_types::shared_event::SharedEvent;
 use std::alloc::{AllocError, Global};
 
-// A line of an exchange, parsed up to its id.
-#[derive(Clone, Copy)]
-struct Head<'a> {
-    direction: Direction,
-    id: u32,
-    // The bytes after the id and a blank.
-    text: &'a [u8],
-}
-
-/// Parses the lines of a script. The events of an exchange are parsed once and found again by its text.
+/// Parses the lines of a script. What is after a line's id is parsed once and found again by its text: the events of an
+/// exchange, the join of a role, and the name of a protocol.
 #[derive(Drop)]
 pub struct Reader {
     alloc: Global,
-    event_cache: EventCache,
+    exchanges: TextCache<ExchangeEvents>,
+    joins: TextCache<SharedEvent>,
+    names: TextCache<Dotted>,
 }
 
 impl Reader {
-    /// Returns a reader with an empty cache.
+    /// Returns a reader with empty caches.
     pub fn new(alloc: Global) -> Reader {
         Reader {
             alloc,
-            event_cache: EventCache::new(alloc),
+            exchanges: TextCache::new(alloc),
+            joins: TextCache::new(alloc),
+            names: TextCache::new(alloc),
         }
     }
 
@@ -46,48 +47,67 @@ impl Reader {
     pub fn line(&mut self, bytes: &[u8]) -> Result<Line, AllocError>
         ensures { IfOk result (Says bytes.now) }
     {
+        match self.exchange(bytes)? {
+            Some((id, event)) => Ok(Line::Step(Format::Line, Step::Note { id, event })),
+            None => self.other_line(bytes),
+        }
+    }
+
+    // The id and the event of a line that is spelled as an exchange with single blanks around its id, if it is.
+    #[inline(always)]
+    pub(crate) fn exchange(
+        &mut self,
+        bytes: &[u8],
+    ) -> Result<Option<(u32, SharedEvent)>, AllocError>
+        ensures { IfOk result (λ found. IfSome found
+            (λ note. Says bytes.now (line.Step format.Line (Note note.0 note.1)))) }
+    {
         let Some(head) = head_of(bytes) else {
+            return Ok(None);
+        };
+        let Some(event) = self.exchanges.event(head.direction, head.text)? else {
+            return Ok(None);
+        };
+        Ok(Some((head.id, event)))
+    }
+
+    // The meaning of a line that does not begin as one of an exchange.
+    #[tactic(auto, using(crate::proofs::NamedHeads::named_says))]
+    fn other_line(&mut self, bytes: &[u8]) -> Result<Line, AllocError>
+        ensures { IfOk result (Says bytes.now) }
+    {
+        let Some(head) = named_head_of(bytes) else {
             return line_of(self.alloc, bytes);
         };
-        let Some(event) = self.event_cache.read(head.direction, head.text)? else {
-            return line_of(self.alloc, bytes);
+        let step = match head.word {
+            NamedWord::Open => self.opening(head.id, head.text)?,
+            NamedWord::Join => self.joining(head.id, head.text)?,
         };
-        Ok(Line::Step(Format::Line, Step::Note { id: head.id, event }))
+        match step {
+            Some(step) => Ok(Line::Step(Format::Line, step)),
+            None => line_of(self.alloc, bytes),
+        }
     }
-}
 
-// The direction and the id that a line begins with, where it is spelled with single blanks.
-fn head_of(bytes: &[u8]) -> Option<Head<'_>>
-    ensures { IfSome result (λ head. IsHead bytes.now head.direction head.id head.text.now) }
-{
-    if bytes.len() > MAX_LINE_BYTES {
-        return None;
+    // The step that opens a conversation with this id, if the text is a protocol's name.
+    #[tactic(auto, using(crate::proofs::NamedHeads::name_opens))]
+    fn opening(&mut self, id: u32, text: &[u8]) -> Result<Option<Step>, AllocError>
+        ensures { IfOk result (λ found. IfSome found (SpellsNamed Open id text.now)) }
+    {
+        let Some(name) = self.names.name(text)? else {
+            return Ok(None);
+        };
+        Ok(Some(Step::Open { id, name }))
     }
-    let (direction, rest) = direction_of(bytes)?;
-    let at = first_blank(rest)?;
-    let id = number_of(&rest[..at])?;
-    Some(Head {
-        direction,
-        id,
-        text: &rest[at + 1..],
-    })
-}
 
-// The direction that a line begins with, and the bytes after the blank.
-fn direction_of(bytes: &[u8]) -> Option<(Direction, &[u8])>
-    ensures { IfSome result (λ cut. bytes.now ≡ direction_word cut.0 ++ 32 ∷ cut.1.now) }
-{
-    match bytes {
-        [b's', b'e', b'n', b'd', b' ', rest @ ..] => Some((Direction::Send, rest)),
-        [b'r', b'e', b'c', b'v', b' ', rest @ ..] => Some((Direction::Receive, rest)),
-        _ => None,
+    // The step that notes the join of a role, if the text is its name.
+    #[tactic(auto, using(crate::proofs::NamedHeads::join_notes))]
+    fn joining(&mut self, id: u32, text: &[u8]) -> Result<Option<Step>, AllocError>
+        ensures { IfOk result (λ found. IfSome found (SpellsNamed Join id text.now)) }
+    {
+        let Some(event) = self.joins.join(text)? else {
+            return Ok(None);
+        };
+        Ok(Some(Step::Note { id, event }))
     }
-}
-
-// The offset of the first blank.
-fn first_blank(bytes: &[u8]) -> Option<usize>
-    ensures within { IfSome result (λ at. at < length bytes.now) }
-    ensures blank { IfSome result (λ at. slice_index bytes.now at ≡ 32) }
-{
-    bytes.iter().position(|byte| *byte == b' ')
 }

@@ -1,5 +1,5 @@
 use Rattle.scrib_script_reader.proofs.Heads.{head-says}
-use Rattle.scrib_script_reader.proofs.reader.Reader.line.Goals as goal
+use Rattle.scrib_script_reader.proofs.reader.Reader.exchange.Goals as goal
 
 pub returns : goal.returns
 returns c =

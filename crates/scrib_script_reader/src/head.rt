@@ -1,0 +1,103 @@
+//! The beginnings of lines that are spelled with single blanks: a word and an id.
+
+ghost use Rattle.std.specs.Prelude.{◌≡◌, ◌<◌, ◌++◌, ◌∷◌, ℕ, List, IfSome, MatchOption, length, slice_index};
+ghost use Rattle.scrib_script_reader.specs.Fields.{IsNumberText};
+ghost use Rattle.scrib_script_reader.specs.Heads.{IsHead, IsIdBefore, direction_word};
+ghost use Rattle.scrib_script_reader.specs.NamedHeads.{IsNamedHead, named_word};
+
+use crate::direction::Direction;
+use crate::line::MAX_LINE_BYTES;
+use crate::text::number_of;
+
+// A line of an exchange, parsed up to its id.
+#[derive(Clone, Copy)]
+pub(crate) struct Head<'a> {
+    pub direction: Direction,
+    pub id: u32,
+    // The bytes after the id and a blank.
+    pub text: &'a [u8],
+}
+
+// The word of a line that names a protocol or a role.
+#[derive(Clone, Copy)]
+pub(crate) enum NamedWord {
+    Open,
+    Join,
+}
+
+// A line that names a protocol or a role, parsed up to its id.
+#[derive(Clone, Copy)]
+pub(crate) struct NamedHead<'a> {
+    pub word: NamedWord,
+    pub id: u32,
+    // The bytes after the id and a blank.
+    pub text: &'a [u8],
+}
+
+// The direction and the id that a line begins with, where it is spelled with single blanks.
+pub(crate) fn head_of(bytes: &[u8]) -> Option<Head<'_>>
+    ensures { IfSome result (λ head. IsHead bytes.now head.direction head.id head.text.now) }
+{
+    if bytes.len() > MAX_LINE_BYTES {
+        return None;
+    }
+    let (direction, rest) = direction_of(bytes)?;
+    let (id, text) = id_of(rest)?;
+    Some(Head {
+        direction,
+        id,
+        text,
+    })
+}
+
+// The word of a name and the id that a line begins with, where it is spelled with single blanks.
+pub(crate) fn named_head_of(bytes: &[u8]) -> Option<NamedHead<'_>>
+    ensures { IfSome result (λ head. IsNamedHead bytes.now head.word head.id head.text.now) }
+{
+    if bytes.len() > MAX_LINE_BYTES {
+        return None;
+    }
+    let (word, rest) = named_word_of(bytes)?;
+    let (id, text) = id_of(rest)?;
+    Some(NamedHead { word, id, text })
+}
+
+// The direction that a line begins with, and the bytes after the blank.
+fn direction_of(bytes: &[u8]) -> Option<(Direction, &[u8])>
+    ensures { IfSome result (λ cut. bytes.now ≡ direction_word cut.0 ++ 32 ∷ cut.1.now) }
+{
+    match bytes {
+        [b's', b'e', b'n', b'd', b' ', rest @ ..] => Some((Direction::Send, rest)),
+        [b'r', b'e', b'c', b'v', b' ', rest @ ..] => Some((Direction::Receive, rest)),
+        _ => None,
+    }
+}
+
+// The word of a name that a line begins with, and the bytes after the blank.
+fn named_word_of(bytes: &[u8]) -> Option<(NamedWord, &[u8])>
+    ensures { IfSome result (λ cut. bytes.now ≡ named_word cut.0 ++ 32 ∷ cut.1.now) }
+{
+    match bytes {
+        [b'o', b'p', b'e', b'n', b' ', rest @ ..] => Some((NamedWord::Open, rest)),
+        [b'j', b'o', b'i', b'n', b' ', rest @ ..] => Some((NamedWord::Join, rest)),
+        _ => None,
+    }
+}
+
+// The id that the bytes before the first blank are, and the bytes after that blank.
+#[inline(always)]
+fn id_of(bytes: &[u8]) -> Option<(u32, &[u8])>
+    ensures { IfSome result (λ cut. IsIdBefore bytes.now cut.0 cut.1.now) }
+{
+    let at = first_blank(bytes)?;
+    let id = number_of(&bytes[..at])?;
+    Some((id, &bytes[at + 1..]))
+}
+
+// The offset of the first blank.
+fn first_blank(bytes: &[u8]) -> Option<usize>
+    ensures within { IfSome result (λ at. at < length bytes.now) }
+    ensures blank { IfSome result (λ at. slice_index bytes.now at ≡ 32) }
+{
+    bytes.iter().position(|byte| *byte == b' ')
+}
