@@ -1,5 +1,6 @@
 pub mod Results
 pub mod RunLemmas
+pub mod GatherLemmas
 pub mod InputLemmas
 pub mod ItemLemmas
 pub mod ExplanationLemmas

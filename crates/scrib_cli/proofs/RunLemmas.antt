@@ -1,5 +1,5 @@
 -- What a run has written at a position of its script, and where it fails.
-use Rattle.std.proofs.Common.{◌≡◌, inl, inr, ℕ, true, List, [], ◌∷◌, ◌++◌, ◌∙◌, Option, Some, None, length, rules, refl, sym, ap, subst, arith, eqb}
+use Rattle.std.proofs.Common.{◌≡◌, ℕ, true, List, [], ◌∷◌, ◌++◌, ◌∙◌, Option, Some, None, length, rules, refl, sym, ap, subst, arith, eqb}
 use Rattle.std.specs.Prelude.{All}
 use Rattle.std.specs.Io.KnownBytes.{Appends}
 use Rattle.std.proofs.lemmas.Bool.{eqb-true}
@@ -28,7 +28,8 @@ use Rattle.scrib_cli.specs.declared.output_mode.OutputMode.{OutputMode}
 use Rattle.scrib_cli.specs.declared.output_mode.OutputMode.TheVariants.{Printed, Silent}
 use Rattle.scrib_report.specs.ReplyTexts.{bad_line, end_of_text, reply_format, reply_text}
 use Rattle.scrib_cli.specs.Scripts.{written}
-use Rattle.scrib_cli.specs.Progress.{IsPartOutput, RunFailsOn, RunFails, HasProgressed, IsNew, RunAdvances, PieceFails, PassesLimitIn, EndSucceeds, EndFails, ItemDoes, IsCarriedOut, IsPartCarriedOut, shown_bytes, items_shown, output_format, reply_shown, GoesOn}
+use Rattle.scrib_cli.specs.Progress.{IsPartOutput, RunFailsOn, RunFails, HasProgressed, IsNew, RunAdvances, PieceFails, PassesLimitIn, EndSucceeds, EndFails, ItemDoes, IsCarriedOut, WasCarriedOut, shown_bytes, items_shown, output_format, reply_shown, GoesOn}
+use Rattle.scrib_script_io.specs.Writes.{AppendsPart}
 use Rattle.scrib_script_io.proofs.WriterLemmas.{appends_none, appends_more}
 
 -- any step may be refused memory
@@ -174,23 +175,32 @@ short_first (Printed o) input part items rest v out end h e spelled =
     }
 short_first Silent input part items rest v out end h e spelled = none_before part end (sym e ∙ h.is)
 
+-- a run that progressed so far failed, and a prefix of its output is written
+pub failed_within : (t : OutputMode) (run : ScriptRun) (seen : List ℕ) (w0 w w' : Option (List ℕ)) → (c : HasProgressed t run seen w0 w) → AppendsPart w0 w' (items_shown t c.items c.replies)
+    → (more : List ℕ) → RunFailsOn t (seen ++ more) w0 w'
+failed_within t run seen w0 w w' c part more =
+    let p = read_first of_scripts run.script seen c.items c.read more in
+    let out = items_shown t c.items c.replies in (
+      part.0,
+      short_first t (seen ++ more) part.0 c.items p.0 (state_of run.core) out part.1 (record { replies = c.replies; answered = c.answered; goes_on = c.goes_on; is = refl }) part.2 p.1,
+      part.3,
+    )
+
 -- a run that progressed so far failed, and wrote nothing more
 pub failed_after : (t : OutputMode) (run : ScriptRun) (seen : List ℕ) (w0 w : Option (List ℕ)) → HasProgressed t run seen w0 w → (more : List ℕ) → RunFailsOn t (seen ++ more) w0 w
 failed_after t run seen w0 w c more =
-    let p = read_first of_scripts run.script seen c.items c.read more in
-    let out = items_shown t c.items c.replies in (
-      out,
-      short_first t (seen ++ more) out c.items p.0 (state_of run.core) out [] (record { replies = c.replies; answered = c.answered; goes_on = c.goes_on; is = refl }) (sym (append-nil out)) p.1,
-      c.appends,
-    )
+    let out = items_shown t c.items c.replies in
+    failed_within t run seen w0 w w c (out, [], sym (append-nil out), c.appends) more
+
+-- a prefix of an item's output is written
+abbrev pub IsPartCarriedOut : OutputMode → Item → State → Option (List ℕ) → Option (List ℕ) → Type 0
+IsPartCarriedOut t i w was now =
+    (replies : List Reply) × (v : State) × (out : List ℕ) × ItemDoes t i w replies v out × AppendsPart was now out
 
 -- the run failed at an item
 failed_item : (t : OutputMode) (old : ScriptRun) (seen more : List ℕ) (i : Item) (rest : List Item) (w0 w w' : Option (List ℕ)) → (c : HasProgressed t old seen w0 w)
     → Spells 1 None (lines (seen ++ more)) ((c.items ++ i ∷ []) ++ rest) → IsPartCarriedOut t i (state_of old.core) w w' → RunFailsOn t (seen ++ more) w0 w'
-failed_item t old seen more i rest w0 w w' c spelled (inl none) =
-    let p = failed_after t old seen w0 w c more in
-    (p.0, p.1, subst (λ (u : List ℕ). Appends w0 w' u) (append-nil p.0) (appends_more w0 w w' p.0 [] p.2 none))
-failed_item t old seen more i rest w0 w w' c spelled (inr q) =
+failed_item t old seen more i rest w0 w w' c spelled q =
     let x = items_shown t c.items c.replies in
     let part = q.4 in
     let further = written_further t c.items i (state_of old.core) q.1 c.replies q.0 x q.2 c.answered c.goes_on refl q.3 in (
@@ -225,11 +235,6 @@ took_none run piece w = record {
   is = refl;
   went = record { goes = λ t seen w0 c. subst (λ (u : List ℕ). HasProgressed t run u w0 w) (sym (append-nil seen)) c };
 }
-
--- what was done with the item, if there was one
-abbrev pub WasCarriedOut : OutputMode → Option Item → State → State → Option (List ℕ) → Option (List ℕ) → Type 0
-WasCarriedOut t None w v was now = (v ≡ w) × (now ≡ was)
-WasCarriedOut t (Some i) w v was now = IsCarriedOut t i w v was now
 
 -- nothing, or one item more
 progressed_listed : (t : OutputMode) (old new : ScriptRun) (seen front : List ℕ) (o : Option Item) (w0 w w' : Option (List ℕ)) → HasProgressed t old seen w0 w → new.output_mode ≡ old.output_mode
@@ -274,33 +279,9 @@ took_all old new piece rest w0 w k e =
     subst (λ (u : List ℕ). RunAdvances old new u w0 w) (sym all) k.went
 
 -- the consumed bytes and those that follow
-ahead : (seen done rest more : List ℕ) (piece : List ℕ) → piece ≡ done ++ rest → (seen ++ done) ++ (rest ++ more) ≡ seen ++ (piece ++ more)
+pub ahead : (seen done rest more : List ℕ) (piece : List ℕ) → piece ≡ done ++ rest → (seen ++ done) ++ (rest ++ more) ≡ seen ++ (piece ++ more)
 ahead seen done rest more piece e =
     append_assoc seen done (rest ++ more) ∙ ap (λ (u : List ℕ). seen ++ u) (sym (append_assoc done rest more) ∙ ap (λ (u : List ℕ). u ++ more) (sym e))
-
--- the run stopped before the next item
-pub stopped_after : (old mid : ScriptRun) (piece rest : List ℕ) (w0 w : Option (List ℕ)) → ConsumedFront old mid piece rest w0 w → PieceFails old piece w0 w
-stopped_after old mid piece rest w0 w k = record {
-  so = λ t seen v c more.
-      subst (λ (u : List ℕ). RunFailsOn t u v w) (ahead seen k.done rest more piece k.is)
-      (failed_after t mid (seen ++ k.done) v w (k.went.goes t seen v c) (rest ++ more));
-}
-
--- the run stopped in the output of an item
-pub stopped_item : (old mid : ScriptRun) (script : Script) (piece rest after : List ℕ) (i : Item) (w0 w1 w2 : Option (List ℕ)) → ConsumedFront old mid piece rest w0 w1
-    → TakesFront mid.script script rest after (i ∷ []) → IsPartCarriedOut mid.output_mode i (state_of mid.core) w1 w2 → PieceFails old piece w0 w2
-stopped_item old mid script piece rest after i w0 w1 w2 k takes part = record {
-  so = λ t seen v c more.
-      let d = k.went.goes t seen v c in
-      let here = subst (λ (m : OutputMode). IsPartCarriedOut m i (state_of mid.core) w1 w2) d.output_mode part in
-      let so_far = seen ++ k.done in
-      let read = read_more of_scripts mid.script script (seen ++ k.done) takes.0 d.items (i ∷ []) d.read takes.2 in
-      let p = read_first of_scripts script ((seen ++ k.done) ++ takes.0) (d.items ++ i ∷ []) read (after ++ more) in
-      let bytes : (so_far ++ takes.0) ++ (after ++ more) ≡ so_far ++ (rest ++ more) = ahead so_far takes.0 after more rest takes.1 in
-      let spelled = subst (λ (u : List ℕ). Spells 1 None (lines u) ((d.items ++ i ∷ []) ++ p.0)) bytes p.1 in
-      subst (λ (u : List ℕ). RunFailsOn t u v w2) (ahead seen k.done rest more piece k.is)
-      (failed_item t mid so_far (rest ++ more) i p.0 v w1 w2 d spelled here);
-}
 
 -- the run stopped at the limits
 pub stopped_past : (old mid : ScriptRun) (piece rest : List ℕ) (w0 w : Option (List ℕ)) → ConsumedFront old mid piece rest w0 w → PassesLimits mid.script rest → PassesLimitIn old piece w0 w

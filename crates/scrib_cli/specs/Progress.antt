@@ -1,6 +1,6 @@
 -- The progress of a run: what its functions promise one another (this project's own).
 -- Only contracts of private functions cite this file.
-use Rattle.std.specs.Prelude.{◌≡◌, ◌≢◌, ◌⊎◌, ℕ, List, [], ◌∷◌, ◌++◌, Option, None, All, IfSome}
+use Rattle.std.specs.Prelude.{◌≡◌, ◌≢◌, ℕ, List, [], ◌∷◌, ◌++◌, Option, Some, None, All, IfSome}
 use Rattle.std.specs.Io.KnownBytes.{Appends}
 use Rattle.scrib_core.specs.declared.reply.Reply.{Reply}
 use Rattle.scrib_core.specs.declared.reply.Reply.TheVariants.{Refused}
@@ -11,9 +11,9 @@ use Rattle.scrib_core.specs.declared.format.Format.{Format}
 use Rattle.scrib_core.specs.declared.format.Format.TheVariants as format
 use Rattle.scrib_script_reader.specs.declared.item.Item.{Item}
 use Rattle.scrib_script_reader.specs.declared.item.Item.TheVariants as item
-use Rattle.scrib_script_reader.specs.Scripts.{Spells, lines, steps_of}
+use Rattle.scrib_script_reader.specs.Scripts.{Spells, lines, steps_of, item_list}
 use Rattle.scrib_script_reader.specs.Limits.{of_scripts, IsWithinLimits, IsPast}
-use Rattle.scrib_script_reader.specs.Positions.{HasConsumed}
+use Rattle.scrib_script_reader.specs.Positions.{HasConsumed, TakesFront}
 use Rattle.scrib_cli.specs.declared.run.ScriptRun.{ScriptRun}
 use Rattle.scrib_cli.specs.declared.output_mode.OutputMode.{OutputMode}
 use Rattle.scrib_cli.specs.declared.output_mode.OutputMode.TheVariants.{Printed, Silent}
@@ -147,16 +147,27 @@ abbrev pub IsCarriedOut : OutputMode → Item → State → State → Option (Li
 IsCarriedOut t i w v was now =
     (replies : List Reply) × (out : List ℕ) × ItemDoes t i w replies v out × Appends was now out
 
--- carrying out the item failed: nothing or a prefix of its output was written
-abbrev pub IsPartCarriedOut : OutputMode → Item → State → Option (List ℕ) → Option (List ℕ) → Type 0
-IsPartCarriedOut t i w was now =
-    Appends was now []
-    ⊎ ((replies : List Reply) × (v : State) × (out : List ℕ) × ItemDoes t i w replies v out × AppendsPart was now out)
-
 -- the reply to a step was written, where its line asks for this format, and the run continues
 abbrev pub IsReplyShown : OutputMode → Format → Reply → (was now : Option (List ℕ)) → Type 0
 IsReplyShown t f r was now = GoesOn t r × Appends was now (reply_shown t f r)
 
--- writing the reply failed: nothing was written, or a prefix of it and the run continues
-abbrev pub IsReplyPartShown : OutputMode → Format → Reply → (was now : Option (List ℕ)) → Type 0
-IsReplyPartShown t f r was now = Appends was now [] ⊎ (GoesOn t r × AppendsPart was now (reply_shown t f r))
+-- what was done with the item, if there was one, and what was written for it
+abbrev pub WasCarriedOut : OutputMode → Option Item → State → State → Option (List ℕ) → Option (List ℕ) → Type 0
+WasCarriedOut t None w v was now = (v ≡ w) × (now ≡ was)
+WasCarriedOut t (Some i) w v was now = IsCarriedOut t i w v was now
+
+-- A front of the bytes was consumed, and spells one item at most. Its output was gathered.
+pub record GathersFront (old new : ScriptRun) (bytes rest : List ℕ) : Type 0 where
+  pub output_mode : new.output_mode ≡ old.output_mode
+  pub found : Option Item
+  pub takes : TakesFront old.script new.script bytes rest (item_list found)
+  pub carried : WasCarriedOut old.output_mode found (state_of old.core) (state_of new.core)
+      (Some old.gathered.bytes.items) (Some new.gathered.bytes.items)
+
+-- a front of the gathered bytes was written, and the new ones are left
+abbrev pub WritesFront : (old new : List ℕ) → (was now : Option (List ℕ)) → Type 0
+WritesFront old new was now = (front : List ℕ) × (old ≡ front ++ new) × Appends was now front
+
+-- the run failed within these bytes, where then some or all of the gathered bytes are written
+abbrev pub FailsWithin : ScriptRun → (bytes gathered : List ℕ) → (was now : Option (List ℕ)) → Type 0
+FailsWithin old bytes gathered was now = (end : Option (List ℕ)) → AppendsPart now end gathered → PieceFails old bytes was end

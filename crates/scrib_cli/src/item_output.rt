@@ -1,14 +1,15 @@
-//! Makes the step of a script's item and writes its reply.
+//! Makes the step of a script's item and gathers its reply.
 
-ghost use Rattle.std.specs.Prelude.{◌≡◌, ◌≢◌, true, IfErr, OnOk, OnErr};
+ghost use Rattle.std.specs.Prelude.{◌≡◌, ◌≢◌, ◌++◌, true, Some, IfErr, OnOk, OnErr};
 ghost use Rattle.scrib_core.specs.Held.{state_of};
 ghost use Rattle.scrib_core.specs.declared.reply.Reply.TheVariants.{Refused};
 ghost use Rattle.scrib_core.specs.declared.reply.Refusal.TheVariants.{OutOfMemory};
-ghost use Rattle.scrib_cli.specs.Progress.{IsReplyShown, IsReplyPartShown, IsCarriedOut, IsPartCarriedOut};
+ghost use Rattle.scrib_report.specs.Parts.{part_of};
+ghost use Rattle.scrib_cli.specs.Progress.{IsReplyShown, IsCarriedOut, part_shown};
 ghost use Rattle.scrib_script_io.specs.Faults.{of_output};
 
+use crate::gathered::Gathered;
 use crate::output_mode::OutputMode;
-use crate::printing::{write_part, write_shown};
 use scrib_core::format::Format;
 use scrib_core::monitor::Core;
 use scrib_core::reply::{Refusal, Reply};
@@ -16,27 +17,25 @@ use scrib_report::part::OutputPart;
 use scrib_report::printing::reply_format;
 use scrib_script_io::fault::ScriptFault;
 use scrib_script_reader::item::Item;
-use std::io::Write;
 
-// Writes the reply to a step whose line asks for this format. In silent mode fails where the step was refused memory.
+// Gathers the reply to a step whose line asks for this format. In silent mode fails where the step was refused memory.
 #[inline(always)]
-fn write_reply<W: Write>(
-    buffer: &mut Vec<u8>,
+fn gather_reply(
+    gathered: &mut Gathered,
     reply: &Reply,
     asked: Format,
     output_mode: OutputMode,
-    writer: &mut W,
 ) -> Result<(), ScriptFault>
-    ensures ok { OnOk result
-        (IsReplyShown output_mode asked reply.now (W.contents writer.old) (W.contents writer.new)) }
-    ensures err { OnErr result
-        (IsReplyPartShown output_mode asked reply.now (W.contents writer.old) (W.contents writer.new)) }
+    ensures ok { OnOk result (IsReplyShown
+        output_mode asked reply.now (Some gathered.old.bytes.items) (Some gathered.new.bytes.items)) }
+    ensures err { OnErr result (gathered.new.bytes.items ≡ gathered.old.bytes.items) }
     ensures fault { IfErr result (λ e. of_output e ≡ true) }
 {
     match output_mode {
         OutputMode::Printed(output) => {
             let format = reply_format(output, asked);
-            write_part(buffer, &OutputPart::Reply(reply), format, writer)
+            gathered.add_reply(reply, format)?;
+            Ok(())
         }
         OutputMode::Silent => check_memory(reply),
     }
@@ -54,36 +53,49 @@ fn check_memory(reply: &Reply) -> Result<(), ScriptFault>
     }
 }
 
-/// Makes the item's step and writes its reply; or writes a bad line, or an end inside a module text.
-///
-/// The text is made in `buffer`.
-///
-/// # Errors
-/// After an error, nothing or a prefix of the item's output is written.
-/// - `Write` where the writer fails.
-/// - `OutOfMemory` where there is no memory for a text, or in silent mode for the step.
+// Gathers the part in the format of the run; in silent mode gathers nothing.
+fn gather_shown(
+    gathered: &mut Gathered,
+    part: &OutputPart<'_>,
+    output_mode: OutputMode,
+) -> Result<(), ScriptFault>
+    ensures ok { OnOk result
+        (gathered.new.bytes.items ≡ gathered.old.bytes.items ++ part_shown output_mode (part_of part.now)) }
+    ensures err { OnErr result (gathered.new.bytes.items ≡ gathered.old.bytes.items) }
+    ensures fault { IfErr result (λ e. of_output e ≡ true) }
+{
+    match output_mode {
+        OutputMode::Printed(format) => {
+            gathered.add_part(part, format)?;
+            Ok(())
+        }
+        OutputMode::Silent => Ok(()),
+    }
+}
+
+// Makes the item's step and gathers its reply; or gathers a bad line, or an end inside a module text.
+//
+// Fails where there is no memory for a text, or in silent mode for the step. The gathered texts are then as they were.
 #[inline(always)]
-pub fn write_item<W: Write>(
-    buffer: &mut Vec<u8>,
+pub(crate) fn gather_item(
+    gathered: &mut Gathered,
     core: &mut Core,
     item: Item,
     output_mode: OutputMode,
-    writer: &mut W,
 ) -> Result<(), ScriptFault>
     ensures ok { OnOk result (IsCarriedOut output_mode item
-        (state_of core.old) (state_of core.new) (W.contents writer.old) (W.contents writer.new)) }
-    ensures err { OnErr result (IsPartCarriedOut output_mode item
-        (state_of core.old) (W.contents writer.old) (W.contents writer.new)) }
+        (state_of core.old) (state_of core.new) (Some gathered.old.bytes.items) (Some gathered.new.bytes.items)) }
+    ensures err { OnErr result (gathered.new.bytes.items ≡ gathered.old.bytes.items) }
     ensures fault { IfErr result (λ e. of_output e ≡ true) }
 {
     match item {
         Item::Step(asked, step) => {
             let reply = core.apply(step);
-            write_reply(buffer, &reply, asked, output_mode, writer)
+            gather_reply(gathered, &reply, asked, output_mode)
         }
         Item::BadLine(number) => {
-            write_shown(buffer, &OutputPart::BadLine(number), output_mode, writer)
+            gather_shown(gathered, &OutputPart::BadLine(number), output_mode)
         }
-        Item::EndOfText => write_shown(buffer, &OutputPart::EndOfText, output_mode, writer),
+        Item::EndOfText => gather_shown(gathered, &OutputPart::EndOfText, output_mode),
     }
 }

@@ -7,6 +7,7 @@ pub mod explain_script;
 mod explanation;
 mod form;
 mod full_name;
+mod gathered;
 pub mod id;
 mod item_output;
 mod modules;

@@ -5,10 +5,8 @@ ghost use Rattle.std.specs.Io.KnownBytes.{Appends};
 ghost use Rattle.scrib_report.specs.Parts.{part_of};
 ghost use Rattle.scrib_report.specs.ReplyTexts.{part_text};
 ghost use Rattle.scrib_script_io.specs.Writes.{AppendsPart};
-ghost use Rattle.scrib_cli.specs.Progress.{part_shown};
 ghost use Rattle.scrib_script_io.specs.Faults.{of_output};
 
-use crate::output_mode::OutputMode;
 use scrib_core::format::Format;
 use scrib_report::part::OutputPart;
 use scrib_report::printing::push_part;
@@ -36,23 +34,4 @@ pub fn write_part<W: Write>(
     buffer.clear();
     push_part(buffer, part, format)?;
     write_out(writer, buffer.as_slice())
-}
-
-// Writes the part in the format of the run; in silent mode writes nothing.
-pub(crate) fn write_shown<W: Write>(
-    buffer: &mut Vec<u8>,
-    part: &OutputPart<'_>,
-    output_mode: OutputMode,
-    writer: &mut W,
-) -> Result<(), ScriptFault>
-    ensures ok { OnOk result
-        (Appends (W.contents writer.old) (W.contents writer.new) (part_shown output_mode (part_of part.now))) }
-    ensures err { OnErr result
-        (AppendsPart (W.contents writer.old) (W.contents writer.new) (part_shown output_mode (part_of part.now))) }
-    ensures fault { IfErr result (λ e. of_output e ≡ true) }
-{
-    match output_mode {
-        OutputMode::Printed(format) => write_part(buffer, part, format, writer),
-        OutputMode::Silent => Ok(()),
-    }
 }

@@ -10,8 +10,9 @@ use std::sync::Wait;
 use std::thread::Threads;
 use std::{env, io};
 
-// The size of the output buffer, in bytes: as many as a pipe takes. Commands flush it where a reader may be waiting.
-const OUTPUT_BYTES: usize = 65_536;
+// The size of the output buffer, in bytes. It is for short writes: a longer one passes it by, as all replies to 64 KiB of
+// a script do. Commands flush it where a reader may be waiting.
+const OUTPUT_BYTES: usize = 4_096;
 
 // The words of the command line.
 fn words(rt: &(impl Env + AllocGlobal)) -> io::Result<Vec<String>> {

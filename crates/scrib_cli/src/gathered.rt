@@ -1,0 +1,123 @@
+//! Gathers the texts of an output, so that one write takes many of them.
+
+ghost use Rattle.std.specs.Prelude.{◌≡◌, ◌++◌, [], true, IfErr, OnOk, OnErr};
+ghost use Rattle.std.specs.Io.KnownBytes.{Appends};
+ghost use Rattle.scrib_core.specs.declared.format.Format.TheVariants as format;
+ghost use Rattle.scrib_report.specs.Parts.{part_of};
+ghost use Rattle.scrib_report.specs.ReplyTexts.{part_text, reply_text};
+ghost use Rattle.scrib_script_io.specs.Faults.{of_output};
+ghost use Rattle.scrib_script_io.specs.Writes.{AppendsPart};
+ghost use Rattle.scrib_cli.specs.Progress.{WritesFront};
+
+use scrib_core::format::Format;
+use scrib_core::reply::Reply;
+use scrib_report::line::push_permitted;
+use scrib_report::part::OutputPart;
+use scrib_report::printing::push_part;
+use scrib_script_io::fault::ScriptFault;
+use scrib_script_io::writing::write_out;
+use scrib_types::event::{Told, Verdict};
+use std::alloc::{AllocError, Global};
+use std::io::Write;
+
+// The number of gathered bytes past which they are written.
+const FULL_BYTES: usize = 65_536;
+
+/// Texts that are to be written, in their order.
+#[derive(Drop)]
+pub(crate) struct Gathered {
+    bytes: Vec<u8>,
+    // The buffer for one text. Where memory is refused in the midst of it, the gathered texts stay whole.
+    buffer: Vec<u8>,
+}
+
+impl Gathered {
+    // Returns a gathering of no texts.
+    pub(crate) fn new(alloc: Global) -> Gathered {
+        Gathered {
+            bytes: Vec::new(alloc),
+            buffer: Vec::new(alloc),
+        }
+    }
+
+    // Drops all texts.
+    pub(crate) fn clear(&mut self)
+        ensures { self.new.bytes.items ≡ [] }
+    {
+        self.bytes.clear();
+    }
+
+    // Adds the part in this format. Where memory is refused, the texts stay as they were.
+    pub(crate) fn add_part(
+        &mut self,
+        part: &OutputPart<'_>,
+        format: Format,
+    ) -> Result<(), AllocError>
+        ensures ok { OnOk result
+            (self.new.bytes.items ≡ self.old.bytes.items ++ part_text format (part_of part.now)) }
+        ensures err { OnErr result (self.new.bytes.items ≡ self.old.bytes.items) }
+    {
+        self.buffer.clear();
+        push_part(&mut self.buffer, part, format)?;
+        self.bytes.extend_from_slice(self.buffer.as_slice())
+    }
+
+    // Adds the reply in this format. Where memory is refused, the texts stay as they were.
+    #[inline(always)]
+    pub(crate) fn add_reply(&mut self, reply: &Reply, format: Format) -> Result<(), AllocError>
+        ensures ok { OnOk result (self.new.bytes.items ≡ self.old.bytes.items ++ reply_text format reply.now) }
+        ensures err { OnErr result (self.new.bytes.items ≡ self.old.bytes.items) }
+    {
+        match format {
+            Format::Line => self.add_line(reply),
+            Format::Json => self.add_part(&OutputPart::Reply(reply), Format::Json),
+        }
+    }
+
+    // Adds the line of the reply. Where memory is refused, the texts stay as they were.
+    #[inline(always)]
+    fn add_line(&mut self, reply: &Reply) -> Result<(), AllocError>
+        ensures ok { OnOk result (self.new.bytes.items ≡ self.old.bytes.items ++ reply_text format.Line reply.now) }
+        ensures err { OnErr result (self.new.bytes.items ≡ self.old.bytes.items) }
+    {
+        match reply {
+            // most replies of a long script
+            Reply::Noted {
+                id,
+                place,
+                told: Told::Judged(Verdict::Permitted),
+            } => push_permitted(&mut self.bytes, *id, *place as u64),
+            _ => self.add_part(&OutputPart::Reply(reply), Format::Line),
+        }
+    }
+
+    // Writes all texts and drops them. After an error, a prefix of them is written.
+    pub(crate) fn write_all<W: Write>(&mut self, writer: &mut W) -> Result<(), ScriptFault>
+        ensures none { self.new.bytes.items ≡ [] }
+        ensures ok { OnOk result (Appends (W.contents writer.old) (W.contents writer.new) self.old.bytes.items) }
+        ensures err { OnErr result
+            (AppendsPart (W.contents writer.old) (W.contents writer.new) self.old.bytes.items) }
+        ensures fault { IfErr result (λ e. of_output e ≡ true) }
+    {
+        let written = write_out(writer, self.bytes.as_slice());
+        self.bytes.clear();
+        written
+    }
+
+    // Writes all texts and drops them, where they are long. After an error, a prefix of them is written.
+    #[inline(always)]
+    pub(crate) fn write_long<W: Write>(&mut self, writer: &mut W) -> Result<(), ScriptFault>
+        ensures ok { OnOk result (WritesFront
+            self.old.bytes.items self.new.bytes.items (W.contents writer.old) (W.contents writer.new)) }
+        ensures err { OnErr result
+            (AppendsPart (W.contents writer.old) (W.contents writer.new) self.old.bytes.items) }
+        ensures none { OnErr result (self.new.bytes.items ≡ []) }
+        ensures fault { IfErr result (λ e. of_output e ≡ true) }
+    {
+        if self.bytes.len() > FULL_BYTES {
+            self.write_all(writer)
+        } else {
+            Ok(())
+        }
+    }
+}
