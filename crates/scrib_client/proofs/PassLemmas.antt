@@ -1,5 +1,5 @@
 -- The passes of a connection: each is stored under the id of its own conversation.
-use Rattle.std.proofs.Common.{◌≡◌, ◌∙◌, ℕ, zero, suc, Bool, true, false, cond, if◌then◌else◌, List, [], ◌∷◌, length, Option, Some, Result, Ok, Err, IfOk, OnOk, OnErr, slice_get, nat_eq, map, option_map, unwrap_or, refl, sym, ap, subst, eqb-true}
+use Rattle.std.proofs.Common.{◌≡◌, ◌∙◌, ◌⊎◌, inl, ℕ, zero, suc, Bool, true, false, cond, if◌then◌else◌, List, [], ◌∷◌, length, Option, Some, Result, Ok, Err, IfOk, IfErr, OnOk, OnErr, slice_get, nat_eq, map, option_map, unwrap_or, refl, sym, ap, subst, eqb-true}
 use Rattle.std.specs.List.{IsDistinct}
 use Rattle.std.specs.Map.{keys_of, values_of, lookup}
 use Rattle.std.specs.Cmp.{nat_eq_equiv}
@@ -136,3 +136,8 @@ one_by_one_length Step s t (a ∷ aa) (b ∷ bs) x = ap suc (one_by_one_length S
 -- each note has a reply
 pub replies_each : (p q : PassHeld) (es : List Event) (rs : List (Result Noted PassRefusal)) → AreAnsweredSome p es rs q → length rs ≡ length es
 replies_each p q es rs x = one_by_one_length (AnswersBy x.0) (x.1, p) (x.2, q) es rs x.4
+
+-- what refuses a call by a pass is one of two reasons
+pub refused_so : {A E : Type 0} (P Q : E → Type 0) (r : Result A E) → IfErr r P → IfErr r (λ f. P f ⊎ Q f)
+refused_so P Q (Ok v) h = tt
+refused_so P Q (Err f) h = inl h

@@ -29,7 +29,7 @@ impl Passes {
     ghost use Rattle.indexmap.specs.IndexMap.{index_map_len, keys, values};
     ghost use Rattle.scrib_locked_steps.specs.Passes.{PassHeld, IsReceipted, IsAnsweredOn};
     ghost use Rattle.scrib_shards.specs.Called.{IsNotedSome, AreAnsweredSome, IsAskedSome};
-    ghost use Rattle.scrib_client.specs.ConnectionPasses.{pass_of};
+    ghost use Rattle.scrib_client.specs.ConnectionPasses.{pass_of, IsUnconnected, IsNoteRefused, IsAskRefused};
 
     /// Returns no passes. Does not allocate.
     pub fn new(alloc: Global) -> Passes
@@ -72,6 +72,7 @@ impl Passes {
         ensures noted { IfOk result (IsNotedSome (pass_of self.old.by_id.entries id) event) }
         ensures receipted { IfOk result (λ n.
             IsReceipted (pass_of self.old.by_id.entries id) event n (pass_of self.new.by_id.entries id)) }
+        ensures fault { IfErr result (IsNoteRefused id (pass_of self.old.by_id.entries id)) }
         ensures kept { OnErr result (pass_of self.new.by_id.entries id ≡ pass_of self.old.by_id.entries id) }
     {
         let at = match self.find_or_connect(rt, service, id) {
@@ -121,6 +122,7 @@ impl Passes {
         ensures own { (pass_of self.old.by_id.entries id).conversation ≡ id }
         ensures asked { IfOk result (IsAskedSome (pass_of self.old.by_id.entries id)) }
         ensures answered { IfOk result (IsAnsweredOn (pass_of self.old.by_id.entries id).receipts) }
+        ensures fault { IfErr result (IsAskRefused id (pass_of self.old.by_id.entries id)) }
         ensures kept { pass_of self.new.by_id.entries id ≡ pass_of self.old.by_id.entries id }
     {
         let at = match self.find_or_connect(rt, service, id) {
@@ -144,6 +146,7 @@ impl Passes {
         ensures found { IfOk result (λ at. slice_get (keys self.new.by_id) at ≡ Some id) }
         ensures kept { pass_of self.new.by_id.entries id ≡ pass_of self.old.by_id.entries id }
         ensures fault { OnErr result (self.new.by_id.entries ≡ self.old.by_id.entries) }
+        ensures refused { IfErr result (IsUnconnected id) }
     {
         let at = match self.index_at_hint(id) {
             Some(at) => at,
@@ -172,6 +175,7 @@ impl Passes {
         ensures kept { IfOk result (λ at.
             pass_of self.new.by_id.entries id ≡ record { conversation = id; receipts = [] }) }
         ensures fault { OnErr result (self.new.by_id.entries ≡ self.old.by_id.entries) }
+        ensures refused { IfErr result (IsUnconnected id) }
     {
         let pass = service.connect(rt, id)?;
         match self.by_id.insert_full(id, pass) {

@@ -23,7 +23,7 @@ pub enum ServiceReply {
     /// A reply that a monitor on one thread has too.
     Reply(Reply),
     /// The verdict on a conversation after a turn or a question.
-    Judged { id: u32, told: Told },
+    Judged { id: u32, verdict: Told },
     /// A receipt of the connection's pass differs from the log of this conversation at this place.
     Mismatch { conversation: u32, place: usize },
 }
@@ -91,7 +91,7 @@ pub fn judged(id: u32, outcome: Result<Told, Refusal>) -> ServiceReply
     ensures { result ≡ turn_reply id outcome }
 {
     match outcome {
-        Ok(told) => ServiceReply::Judged { id, told },
+        Ok(verdict) => ServiceReply::Judged { id, verdict },
         Err(refusal) => refused(refusal),
     }
 }
@@ -101,7 +101,7 @@ pub fn asked(id: u32, outcome: Result<Told, PassRefusal>) -> ServiceReply
     ensures { result ≡ ask_reply id outcome }
 {
     match outcome {
-        Ok(told) => ServiceReply::Judged { id, told },
+        Ok(verdict) => ServiceReply::Judged { id, verdict },
         Err(refusal) => refused_by_pass(refusal),
     }
 }
@@ -130,7 +130,7 @@ fn part_of_reply(service_reply: &ServiceReply) -> OutputPart<'_>
 {
     match service_reply {
         ServiceReply::Reply(reply) => OutputPart::Reply(reply),
-        ServiceReply::Judged { id, told } => OutputPart::Judged { id: *id, told },
+        ServiceReply::Judged { id, verdict } => OutputPart::Judged { id: *id, verdict },
         ServiceReply::Mismatch {
             conversation,
             place,

@@ -121,6 +121,14 @@ takes_flushed a m b format lines noted none h =
       noted = h.adds.noted ∙ ap (λ (n : ℕ). count_all n h.outcomes) noted;
     }
 
+-- the one event of the buffer was taken out, and noted if the call returned `Ok`
+pub takes_single : {T E : Type 0} (r : Result T E) (a m b : Connection) (e : Event) → m.format ≡ a.format → m.lines.items ≡ a.lines.items → m.noted ≡ a.noted → m.pending.items ≡ [] → a.pending.items ≡ m.pending.items ++ e ∷ []
+    → OnOk r (Yields m b (note_items a.pending_id (e ∷ []))) → OnOk r (TakesItems a b [])
+takes_single (Ok v) a m b e format lines noted none was h =
+    let all : a.pending.items ≡ e ∷ [] = was ∙ ap (λ (xs : List Event). xs ++ e ∷ []) none in
+    takes_flushed a m b format lines noted none (subst (λ (es : List Event). Yields m b (note_items a.pending_id es)) (sym all) h)
+takes_single (Err f) a m b e format lines noted none was h = tt
+
 -- the buffer is still empty then
 pub none_flushed : (m b : Connection) (is : List Item) → m.pending.items ≡ [] → Yields m b is → b.pending.items ≡ []
 none_flushed m b is none h = h.adds.pending ∙ none

@@ -154,9 +154,22 @@ impl<'a> Connection<'a> {
         ensures none { OnOk result (self.new.pending.items ≡ []) }
         ensures fault { IfErr result (λ e. e ≡ fault.OutOfMemory) }
     {
-        if self.pending.is_empty() {
-            return Ok(());
+        if self.pending.len() > 1 {
+            return self.flush_together(rt);
         }
+        // One event needs no lists of a batch.
+        match self.pending.pop() {
+            Some(event) => self.note_now(rt, self.pending_id, event),
+            None => Ok(()),
+        }
+    }
+
+    // As `flush`. Notes the events by one call, or one by one where memory for the list of replies is refused.
+    fn flush_together(&mut self, rt: &impl Wait) -> Result<(), ScriptFault>
+        ensures took { OnOk result (TakesItems self.old self.new []) }
+        ensures none { OnOk result (self.new.pending.items ≡ []) }
+        ensures fault { IfErr result (λ e. e ≡ fault.OutOfMemory) }
+    {
         let events = replace(&mut self.pending, Vec::new(self.alloc));
         match Vec::with_capacity(self.alloc, events.len()) {
             Ok(room) => self.note_all(rt, self.pending_id, Batch { events, room }),

@@ -1,6 +1,6 @@
 use Rattle.std.proofs.Common.{◌≡◌, ◌∙◌, sym}
 use Rattle.scrib_client.specs.ConnectionPasses.{pass_of}
-use Rattle.scrib_client.proofs.PassLemmas.{own_pass, own_set, own_there, pass_there, pass_set, value_read}
+use Rattle.scrib_client.proofs.PassLemmas.{own_pass, own_set, own_there, pass_there, pass_set, refused_so, value_read}
 use Rattle.scrib_client.proofs.passes.Passes.ask.Goals as goal
 
 pub invariant_of-self : goal.invariant_of-self
@@ -41,3 +41,11 @@ returns-clause-kept g c =
     let value = value_read c.args.id kept c.in-Ok.at c.pair_mut-pass.result.0.now p c.pair_mut-pass.ensures.value in
     let before : pass_of c.args.self.now.by_id.entries c.args.id ≡ p = sym c.in-Ok.ensures.kept ∙ pass_there c.args.id kept c.in-Ok.at p c.pair_mut-pass.ensures.unique c.in-Ok.ensures.found value in
     pass_set c.args.id kept c.in-Ok.at p c.pair_mut-pass.ensures.unique c.in-Ok.ensures.found ∙ sym before
+
+pub returns-clause-fault : goal.returns-clause-fault
+returns-clause-fault g c =
+    let kept = c.find_or_connect.new.self.by_id.entries in
+    let p = c.pair_mut-pass.result.1.now in
+    let value = value_read c.args.id kept c.in-Ok.at c.pair_mut-pass.result.0.now p c.pair_mut-pass.ensures.value in
+    let before : pass_of c.args.self.now.by_id.entries c.args.id ≡ p = sym c.in-Ok.ensures.kept ∙ pass_there c.args.id kept c.in-Ok.at p c.pair_mut-pass.ensures.unique c.in-Ok.ensures.found value in
+    rw before (refused_so _ _ c.ask.result c.ask.ensures.fault)

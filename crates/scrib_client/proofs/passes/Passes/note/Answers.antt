@@ -1,6 +1,6 @@
 use Rattle.std.proofs.Common.{◌≡◌, ◌∙◌, sym}
 use Rattle.scrib_client.specs.ConnectionPasses.{pass_of}
-use Rattle.scrib_client.proofs.PassLemmas.{conversation_kept, own_pass, own_set, own_there, pass_there, pass_set, value_read}
+use Rattle.scrib_client.proofs.PassLemmas.{conversation_kept, own_pass, own_set, own_there, pass_there, pass_set, refused_so, value_read}
 use Rattle.scrib_client.proofs.passes.Passes.note.Goals as goal
 
 pub invariant_of-self : goal.invariant_of-self
@@ -28,5 +28,6 @@ returns g c =
       own = own_pass c.args.id c.args.self.now.by_id.entries c.args.self.now.own;
       noted = rw before c.note.ensures.ok;
       receipted = rw (before, after) c.note.ensures.receipted;
+      fault = rw before (refused_so _ _ c.note.result c.note.ensures.fault);
       kept = rw (before, after) c.note.ensures.err;
     }

@@ -10,4 +10,4 @@ use Rattle.scrib_run_service.proofs.connection.Connection.note_now.Goals as goal
 pub returns-clause-yielded : goal.returns-clause-yielded
 returns-clause-yielded g c =
     yields_one c.append_noted.result c.args.self.now _ c.append_noted.new.self (item.Step format.Line (step.Note c.args.id c.args.event)) (replied format.Line (noted_reply c.args.id c.note-reply.result))
-    (refl, refl, inl (c.args.self.now.passes.by_id.entries, (c.note-reply.result, refl, c.note-reply.ensures.noted))) (record { format = refl; lines = refl; noted = refl; pending = refl; pending_id = refl }) c.append_noted.ensures.added
+    (refl, refl, inl (c.args.self.now.passes.by_id.entries, (c.note-reply.result, refl, c.note-reply.ensures.noted, c.note-reply.ensures.fault))) (record { format = refl; lines = refl; noted = refl; pending = refl; pending_id = refl }) c.append_noted.ensures.added
