@@ -2,10 +2,8 @@
 
 use scrib_core::reply::Refusal;
 use scrib_library::fault::EditFault;
-use scrib_rejudge::workers::SweepFault;
 use scrib_script_io::fault::ScriptFault;
 use scrib_shards::pass_calls::PassRefusal;
-use scrib_shards::service::ServiceFault;
 use std::alloc::{AllocError, AllocFailed};
 use std::io;
 use std::io::ErrorKind;
@@ -55,24 +53,6 @@ impl From<ScriptFault> for RowsFault {
     }
 }
 
-impl From<ServiceFault> for RowsFault {
-    fn from(fault: ServiceFault) -> RowsFault {
-        match fault {
-            ServiceFault::OutOfMemory => RowsFault::Memory,
-            ServiceFault::BadShards => RowsFault::Wrong,
-        }
-    }
-}
-
-impl From<EditFault> for RowsFault {
-    fn from(fault: EditFault) -> RowsFault {
-        match fault {
-            EditFault::OutOfMemory => RowsFault::Memory,
-            _ => RowsFault::Wrong,
-        }
-    }
-}
-
 impl From<Refusal> for RowsFault {
     fn from(refusal: Refusal) -> RowsFault {
         match refusal {
@@ -87,15 +67,6 @@ impl From<PassRefusal> for RowsFault {
         match refusal {
             PassRefusal::Step(refusal) => RowsFault::from(refusal),
             PassRefusal::Mismatch { .. } => RowsFault::Wrong,
-        }
-    }
-}
-
-impl From<SweepFault> for RowsFault {
-    fn from(fault: SweepFault) -> RowsFault {
-        match fault {
-            SweepFault::OutOfMemory => RowsFault::Memory,
-            SweepFault::BadWorkers => RowsFault::Wrong,
         }
     }
 }

@@ -100,7 +100,6 @@ where
     let input = ExampleInput(bytes);
     let messages = OneStream(rt);
     let status = run_words(rt, &input, &messages, writer, words.as_slice());
-    let text = format!(in alloc; "status {status}\n")?;
-    writer.write_all(text.as_bytes())?;
+    writeln!(writer, "status {status}")?;
     Ok(())
 }

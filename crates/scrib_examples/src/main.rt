@@ -14,7 +14,7 @@
 //! - `memory` and a name of `memory`, or `all`.
 //!
 //! Where the program's command line has words, it does what they ask for and reads nothing: `memory` and a name, or a
-//! task of `service::notes`. It ends with status 1 where an example isn't answered as stored, and with 3 where memory
+//! command of `service`. It ends with status 1 where an example isn't answered as stored, and with 3 where memory
 //! was refused.
 #![tactic(auto)]
 
@@ -28,8 +28,8 @@ mod texts;
 use crate::fault::{RowsFault, second};
 use crate::files::obey_files;
 use crate::memory::run_refused;
-use crate::service::{obey_service, run_task};
-use crate::texts::{push_past, push_repeated, push_runs, push_texts};
+use crate::service::printed_service;
+use crate::texts::{printed_beside, printed_past, printed_repeated, printed_texts};
 use std::io::{BufWriter, Write};
 use std::marker::Send;
 use std::process::ExitCode;
@@ -37,23 +37,6 @@ use std::rt::{Env, Files};
 use std::sync::Wait;
 use std::thread::Threads;
 use std::{env, io};
-
-// Runs the command over what follows its line, and adds what it prints.
-fn obey<R: Threads + Wait + AllocGlobal + Sync>(
-    rt: &R,
-    command: &str,
-    body: &str,
-    out: &mut Vec<u8>,
-) -> Result<(), RowsFault> {
-    let alloc = rt.alloc();
-    match (command, command.split_once(' ')) {
-        ("edits beside notes", _) => push_runs(rt, alloc, out),
-        ("one line too many", _) => push_past(rt, alloc, body, out),
-        ("repeated", _) => push_repeated(alloc, body, out),
-        (_, Some(("service", command))) => obey_service(rt, alloc, command, body, out),
-        _ => push_texts(alloc, command, body, out),
-    }
-}
 
 // Runs one example, from its title on.
 fn run_example<R: Print + Files + Threads + Wait + AllocGlobal + Sync, W: Write>(
@@ -64,19 +47,20 @@ fn run_example<R: Print + Files + Threads + Wait + AllocGlobal + Sync, W: Write>
 where
     R::File: Send,
 {
+    let alloc = rt.alloc();
     let (title, rest) = example.split_once('\n').ok_or(RowsFault::BadRow)?;
     let (command, body) = rest.split_once('\n').ok_or(RowsFault::BadRow)?;
-    writer.write_all(b"== ")?;
-    writer.write_all(title.as_bytes())?;
-    writer.write_all(b"\n")?;
-    match command.split_once(' ') {
-        Some(("files", command)) => return obey_files(rt, command, body, writer),
-        Some(("memory", name)) => return run_refused(rt, rt.alloc(), name, writer),
-        _ => {}
-    }
-    let mut out = Vec::new(rt.alloc());
-    obey(rt, command, body, &mut out)?;
-    writer.write_all(out.as_slice())?;
+    writeln!(writer, "== {title}")?;
+    let printed = match (command, command.split_once(' ')) {
+        ("edits beside notes", _) => printed_beside(rt, alloc)?,
+        ("one line too many", _) => printed_past(rt, alloc, body)?,
+        ("repeated", _) => printed_repeated(alloc, body)?,
+        (_, Some(("files", command))) => return obey_files(rt, command, body, writer),
+        (_, Some(("memory", name))) => return run_refused(rt, alloc, name, writer),
+        (_, Some(("service", command))) => printed_service(rt, alloc, command, body)?,
+        _ => printed_texts(alloc, command, body)?,
+    };
+    writer.write_all(printed.as_slice())?;
     Ok(())
 }
 
@@ -97,13 +81,16 @@ where
     Ok(())
 }
 
-// The words of the command line behind the program's name.
-fn words(rt: &(impl Env + AllocGlobal)) -> Result<Vec<String>, RowsFault> {
-    let mut words = Vec::new(rt.alloc());
+// The words of the command line behind the program's name, with blanks between them.
+fn command_line(rt: &(impl Env + AllocGlobal)) -> Result<String, RowsFault> {
+    let mut line = String::new(rt.alloc());
     for word in env::args(rt)?.skip(1) {
-        words.push(word)?;
+        if !line.is_empty() {
+            line.push_str(" ")?;
+        }
+        line.push_str(&word)?;
     }
-    Ok(words)
+    Ok(line)
 }
 
 // Does what the words of the command line ask for; runs the examples of the input where there are none.
@@ -113,17 +100,21 @@ fn run<R: Print + Input + Files + Threads + Wait + AllocGlobal + Sync + Env>(
 where
     R::File: Send,
 {
-    let words = match words(rt) {
-        Err(RowsFault::Memory) => second(words(rt))?,
-        words => words?,
+    let line = match command_line(rt) {
+        Err(RowsFault::Memory) => second(command_line(rt))?,
+        line => line?,
     };
-    let [task, words @ ..] = words.as_slice() else {
+    if line.is_empty() {
         return run_examples(rt);
-    };
+    }
     let mut writer = io::writer(rt);
-    match (task.as_str(), words) {
-        ("memory", [name]) => run_refused(rt, rt.alloc(), name.as_str(), &mut writer),
-        (task, numbers) => run_task(rt, rt.alloc(), task, numbers, &mut writer),
+    match line.split_once(' ') {
+        Some(("memory", name)) => run_refused(rt, rt.alloc(), name, &mut writer),
+        _ => {
+            let printed = printed_service(rt, rt.alloc(), line.as_str(), "")?;
+            writer.write_all(printed.as_slice())?;
+            Ok(())
+        }
     }
 }
 

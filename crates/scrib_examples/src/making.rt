@@ -5,7 +5,7 @@ use scrib_cli::run_script::run_script;
 use scrib_core::format::Format;
 use scrib_core::step::Step;
 use scrib_run_service::options::Options;
-use scrib_run_service::progress::{Mark, Progress};
+use scrib_run_service::progress::StandardError;
 use scrib_run_service::run_service::run_service;
 use scrib_run_service::shape::Shape;
 use scrib_script_reader::item::Item;
@@ -15,6 +15,7 @@ use scrib_types::containers::Items;
 use scrib_types::name::Dotted;
 use scrib_types::shared_event::SharedEvent;
 use std::alloc::Global;
+use std::io::Stderr;
 use std::sync::Wait;
 use std::thread::Threads;
 
@@ -31,9 +32,10 @@ pub(crate) const CHOICE: &str =
     "module k; global protocol K(role A, role B) { rec X { choice at A { a() from A to B; continue X; } or { b() from A to B; continue X; } } }";
 
 /// The step that a line of a script contains, or `put` and a module text, and the format of its reply.
-pub(crate) fn formatted_step_of(alloc: Global, text: &str) -> Result<(Format, Step), RowsFault> {
+pub(crate) fn step_of(alloc: Global, text: &str) -> Result<(Format, Step), RowsFault> {
     if let Some(text) = text.strip_prefix("put ") {
-        return Ok((Format::Line, put(alloc, text)?));
+        let text = Items::from_slice(alloc, text.as_bytes())?;
+        return Ok((Format::Line, Step::Put { text }));
     }
     match line_of(alloc, text.as_bytes())? {
         Line::Step(format, step) => Ok((format, step)),
@@ -41,59 +43,41 @@ pub(crate) fn formatted_step_of(alloc: Global, text: &str) -> Result<(Format, St
     }
 }
 
-/// The step that a line of a script contains, or `put` and a module text.
-pub(crate) fn step_of(alloc: Global, text: &str) -> Result<Step, RowsFault> {
-    let (_, step) = formatted_step_of(alloc, text)?;
-    Ok(step)
-}
-
 /// The event that a line of a script notes.
 pub(crate) fn event_of(alloc: Global, text: &str) -> Result<SharedEvent, RowsFault> {
     match step_of(alloc, text)? {
-        Step::Note { event, .. } => Ok(event),
+        (_, Step::Note { event, .. }) => Ok(event),
         _ => Err(RowsFault::BadRow),
     }
 }
 
-/// The name of a protocol, from its text.
+/// The name of the protocol of which a line of a script opens a conversation.
 pub(crate) fn name_of(alloc: Global, text: &str) -> Result<Dotted, RowsFault> {
-    let line = format!(in alloc; "open 0 {text}")?;
-    match step_of(alloc, line.as_str())? {
-        Step::Open { name, .. } => Ok(name),
+    match step_of(alloc, text)? {
+        (_, Step::Open { name, .. }) => Ok(name),
         _ => Err(RowsFault::BadRow),
     }
-}
-
-/// The put of a module of this text.
-pub(crate) fn put(alloc: Global, text: &str) -> Result<Step, RowsFault> {
-    let text = Items::from_slice(alloc, text.as_bytes())?;
-    Ok(Step::Put { text })
-}
-
-// Adds the step that the item is, if it is one.
-fn push_step(steps: &mut Vec<Step>, item: Option<Item>) -> Result<(), RowsFault> {
-    if let Some(Item::Step(_, step)) = item {
-        steps.push(step)?;
-    }
-    Ok(())
 }
 
 /// The steps of a script. Lines that are no steps are left out.
-pub(crate) fn steps_of(alloc: Global, script: &[u8]) -> Result<Vec<Step>, RowsFault> {
+pub(crate) fn steps_of(alloc: Global, script: &str) -> Result<Vec<Step>, RowsFault> {
     let mut steps = Vec::new(alloc);
     let mut reading = Script::new(alloc);
-    let mut rest = script;
+    let mut rest = script.as_bytes();
     while !rest.is_empty() {
         let Ok((item, after)) = reading.next_item(rest) else {
             return Err(RowsFault::Wrong);
         };
-        push_step(&mut steps, item)?;
+        if let Some(Item::Step(_, step)) = item {
+            steps.push(step)?;
+        }
         rest = after;
     }
-    let Ok(item) = reading.last_item() else {
-        return Err(RowsFault::Wrong);
-    };
-    push_step(&mut steps, item)?;
+    match reading.last_item() {
+        Ok(Some(Item::Step(_, step))) => steps.push(step)?,
+        Ok(_) => {}
+        Err(_) => return Err(RowsFault::Wrong),
+    }
     Ok(steps)
 }
 
@@ -104,26 +88,22 @@ pub(crate) fn watched(alloc: Global, format: Format, script: &str) -> Result<Str
     String::from_utf8(printed).ok().ok_or(RowsFault::Wrong)
 }
 
-// The progress of a run is not shown.
-#[derive(Clone, Copy)]
-struct Unwatched;
-
-impl Progress for Unwatched {
-    fn report(&self, _mark: Mark) {}
-}
-
 /// Runs a setup and scripts of connections over a service of two shards and two workers, and adds what is printed.
 pub(crate) fn run_connections<R: Threads + Wait + Sync>(
     rt: &R,
     alloc: Global,
     format: Format,
-    (setup, connections): (&str, Vec<&[u8]>),
+    (setup, scripts): (&str, &[String]),
     out: &mut Vec<u8>,
 ) -> Result<(), RowsFault> {
+    let mut connections = Vec::new(alloc);
+    for script in scripts {
+        connections.push(script.as_bytes())?;
+    }
     let options = Options {
         shape: Shape::new(2, 2).ok().ok_or(RowsFault::BadRow)?,
         format,
-        progress: None::<Unwatched>,
+        progress: None::<StandardError<'_, Stderr>>,
     };
     run_service(rt, alloc, &options, &mut setup.as_bytes(), connections, out)?;
     Ok(())

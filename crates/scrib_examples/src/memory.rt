@@ -13,7 +13,6 @@ mod service_rows;
 use crate::fault::{RowsFault, second};
 use crate::memory::core_rows::{run_at_once, run_calls};
 use crate::memory::front_rows::{run_copies, run_front_end, run_queues};
-use crate::memory::making::repeated;
 use crate::memory::rows::Call;
 use crate::memory::run_rows::run_over_service;
 use crate::memory::script_rows::{run_as_script, run_explained};
@@ -39,31 +38,67 @@ const NAMES: &[&str] = &[
     "copies",
 ];
 
-// A row of calls of a core: one by one, all at once, and as a script.
-fn run_in_each_way(alloc: Global, calls: &[Call]) -> Result<(), RowsFault> {
-    run_calls(alloc, calls)?;
-    run_at_once(alloc, calls)?;
-    run_as_script(alloc, calls)
+// How the calls of a row are made.
+#[derive(Clone, Copy)]
+enum Way {
+    OneByOne,
+    AtOnce,
+    AsScript,
+    // As a script whose messages in flight are these at last.
+    Explained(&'static str),
+}
+
+const EACH_WAY: &[Way] = &[Way::OneByOne, Way::AtOnce, Way::AsScript];
+
+// The rows of calls of a core: the name, the calls, and how they are made.
+const ROWS: &[(&str, &[Call], &[Way])] = &[
+    ("conversation", rows::CONVERSATION, EACH_WAY),
+    ("called-protocol", rows::CALLED_PROTOCOL, EACH_WAY),
+    ("changed-back", rows::CHANGED_BACK, EACH_WAY),
+    ("withdrawn", rows::WITHDRAWN, EACH_WAY),
+    ("unmergeable", rows::UNMERGEABLE, EACH_WAY),
+    (
+        "json",
+        rows::OFFENCE_IN_JSON,
+        &[Way::OneByOne, Way::AsScript],
+    ),
+    (
+        "in-flight",
+        rows::IN_FLIGHT,
+        &[
+            Way::OneByOne,
+            Way::AtOnce,
+            Way::AsScript,
+            Way::Explained(rows::FLIGHTS),
+        ],
+    ),
+];
+
+// Makes the calls in each of these ways.
+fn run_each_way(alloc: Global, calls: &[Call], ways: &[Way]) -> Result<(), RowsFault> {
+    for way in ways {
+        match way {
+            Way::OneByOne => run_calls(alloc, calls)?,
+            Way::AtOnce => run_at_once(alloc, calls)?,
+            Way::AsScript => run_as_script(alloc, calls)?,
+            Way::Explained(flights) => run_explained(alloc, calls, flights)?,
+        }
+    }
+    Ok(())
 }
 
 fn run_row<R: Threads + Wait + Sync>(rt: &R, alloc: Global, name: &str) -> Result<(), RowsFault> {
+    for (row, calls, ways) in ROWS {
+        if *row == name {
+            return run_each_way(alloc, calls, ways);
+        }
+    }
     match name {
-        "conversation" => run_in_each_way(alloc, rows::CONVERSATION),
-        "called-protocol" => run_in_each_way(alloc, rows::CALLED_PROTOCOL),
-        "changed-back" => run_in_each_way(alloc, rows::CHANGED_BACK),
-        "withdrawn" => run_in_each_way(alloc, rows::WITHDRAWN),
-        "unmergeable" => run_in_each_way(alloc, rows::UNMERGEABLE),
         "turns" => {
-            let calls = repeated(alloc, rows::JOINED, rows::SENT, 511, rows::JUDGED)?;
+            let mut calls = Vec::from_slice(alloc, rows::JOINED)?;
+            calls.extend_from_slice(&[rows::SENT; 511])?;
+            calls.extend_from_slice(rows::JUDGED)?;
             run_calls(alloc, &calls)
-        }
-        "json" => {
-            run_calls(alloc, rows::OFFENCE_IN_JSON)?;
-            run_as_script(alloc, rows::OFFENCE_IN_JSON)
-        }
-        "in-flight" => {
-            run_in_each_way(alloc, rows::IN_FLIGHT)?;
-            run_explained(alloc, rows::IN_FLIGHT, rows::FLIGHTS)
         }
         "passes" => run_passes(rt, alloc),
         "run" => run_over_service(rt, alloc),

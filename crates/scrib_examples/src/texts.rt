@@ -6,9 +6,9 @@ mod repeated;
 mod whole;
 
 use crate::fault::RowsFault;
-pub(crate) use crate::texts::beside::push_runs;
-pub(crate) use crate::texts::past::push_past;
-pub(crate) use crate::texts::repeated::push_repeated;
+pub(crate) use crate::texts::beside::printed_beside;
+pub(crate) use crate::texts::past::printed_past;
+pub(crate) use crate::texts::repeated::printed_repeated;
 use crate::texts::whole::push_judgements;
 use scrib_cli::explain_script::explain_script;
 use scrib_cli::id::id_of;
@@ -16,35 +16,19 @@ use scrib_cli::role_query::{Form, RoleQuery, write_projection};
 use scrib_cli::run_script::{Format, run_script};
 use scrib_types::containers::Items;
 use scrib_types::profile::Profile;
-use scrib_types::text::push_bytes;
-use std::alloc::{AllocError, Global};
+use std::alloc::Global;
 
-// The module texts, with lines `%%` between them.
-fn texts_of(alloc: Global, body: &str) -> Result<Vec<Option<Items<u8>>>, AllocError> {
-    let mut texts = Vec::new(alloc);
-    for text in body.split("\n%%\n") {
-        texts.push(Some(Items::from_slice(alloc, text.as_bytes())?))?;
-    }
-    Ok(texts)
-}
-
-// The form of a role's projection that the command of this word prints.
-fn form_of(word: &str) -> Result<Form, RowsFault> {
-    match word {
-        "project" => Ok(Form::Text),
-        "machine" => Ok(Form::Graph),
-        _ => Err(RowsFault::BadRow),
-    }
-}
-
-/// Adds the role's projection, or its machine, from the module texts of the body.
+/// Adds the role's projection, or its machine, from the module texts of the body, with lines `%%` between them.
 pub(crate) fn push_role(
     alloc: Global,
     query: &RoleQuery<'_>,
     body: &str,
     out: &mut Vec<u8>,
 ) -> Result<(), RowsFault> {
-    let texts = texts_of(alloc, body)?;
+    let mut texts = Vec::new(alloc);
+    for text in body.split("\n%%\n") {
+        texts.push(Some(Items::from_slice(alloc, text.as_bytes())?))?;
+    }
     write_projection(alloc, query, &texts, out)?;
     Ok(())
 }
@@ -61,14 +45,19 @@ fn obey(
     let mut reader = body.as_bytes();
     match (words.next(), words.next(), words.next()) {
         (Some("watch"), None, None) => run_script(alloc, Format::Line, &mut reader, out)?,
-        (Some("judge"), None, None) => push_judgements(alloc, reader, out)?,
+        (Some("judge"), None, None) => push_judgements(alloc, body, out)?,
         (Some("explain"), Some(id), None) => {
             let id = id_of(id).ok_or(RowsFault::BadRow)?;
             explain_script(alloc, &mut reader, id, out)?;
         }
         (Some(word), Some(protocol), Some(role)) => {
+            let form = match word {
+                "project" => Form::Text,
+                "machine" => Form::Graph,
+                _ => return Err(RowsFault::BadRow),
+            };
             let query = RoleQuery {
-                form: form_of(word)?,
+                form,
                 profile,
                 protocol,
                 role,
@@ -98,29 +87,24 @@ fn printed_under(
     Ok(out)
 }
 
-/// Runs the command over what follows its line, and adds what it prints; then also what it prints where receptions
-/// merge, where that is something else.
-pub(crate) fn push_texts(
+/// What the command prints over what follows its line; then also what it prints where receptions merge, where that is
+/// something else.
+pub(crate) fn printed_texts(
     alloc: Global,
     command: &str,
     body: &str,
-    out: &mut Vec<u8>,
-) -> Result<(), RowsFault> {
-    obey(alloc, Profile::Plain, command, body, out)?;
+) -> Result<Vec<u8>, RowsFault> {
+    let mut out = Vec::new(alloc);
+    obey(alloc, Profile::Plain, command, body, &mut out)?;
     let plain = printed_under(alloc, Profile::Plain, "#\n", command, body)?;
     let line = "profile reception\n";
     let wider = printed_under(alloc, Profile::Reception, line, command, body)?;
-    push_other(plain.as_slice(), wider.as_slice(), out)
-}
-
-// Adds what was printed where receptions merge, where that is something else than this.
-fn push_other(plain: &[u8], wider: &[u8], out: &mut Vec<u8>) -> Result<(), RowsFault> {
     let wider = wider
-        .strip_prefix(b"profile reception\n".as_slice())
-        .unwrap_or(wider);
-    if wider != plain {
-        push_bytes(out, b"-- where receptions merge\n")?;
-        push_bytes(out, wider)?;
+        .strip_prefix(line.as_bytes())
+        .unwrap_or(wider.as_slice());
+    if wider != plain.as_slice() {
+        out.extend_from_slice(b"-- where receptions merge\n")?;
+        out.extend_from_slice(wider)?;
     }
-    Ok(())
+    Ok(out)
 }

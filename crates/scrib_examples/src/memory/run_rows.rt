@@ -2,7 +2,7 @@
 
 use crate::fault::{RowsFault, check};
 use crate::making::run_connections;
-use crate::memory::script_rows::{around_refusal, page};
+use crate::memory::script_rows::PAGE_BYTES;
 use scrib_core::format::Format;
 use std::alloc::Global;
 use std::sync::Wait;
@@ -25,13 +25,16 @@ pub(crate) fn run_over_service<R: Threads + Wait + Sync>(
     rt: &R,
     alloc: Global,
 ) -> Result<(), RowsFault> {
-    let connections = Vec::from_slice(alloc, &[FIRST.as_bytes(), SECOND.as_bytes()])?;
-    let mut written = page(alloc)?;
-    match run_connections(rt, alloc, Format::Line, (SETUP, connections), &mut written) {
+    let mut scripts = Vec::new(alloc);
+    for script in [FIRST, SECOND] {
+        scripts.push(String::from_str(alloc, script)?)?;
+    }
+    let mut written = Vec::with_capacity(alloc, PAGE_BYTES)?;
+    match run_connections(rt, alloc, Format::Line, (SETUP, &scripts), &mut written) {
         Ok(()) if written.as_slice() == OUTPUT.as_bytes() => Ok(()),
         Ok(()) => {
             let output = std::str::from_utf8(&written).ok().ok_or(RowsFault::Wrong)?;
-            check(around_refusal(output).is_some())
+            check(output.contains("refused OutOfMemory\n"))
         }
         Err(RowsFault::Memory) => check(OUTPUT.as_bytes().starts_with(&written)),
         fault => fault,

@@ -1,20 +1,20 @@
 //! Rows of calls of a service.
 
-use crate::fault::{RowsFault, check, second};
+use crate::fault::{RowsFault, check};
 use crate::making::{event_of, step_of};
 use crate::memory::rows::{PUT_CHOICE, PUT_LOOP};
-use crate::memory::script_rows::page;
+use crate::memory::script_rows::PAGE_BYTES;
 use crate::service::push_settling_twice;
 use scrib_client::passes::Passes;
 use scrib_client::service_reply::{ServiceReply, is_change};
 use scrib_client::steps::make_step;
 use scrib_core::reply::{Refusal, Reply};
+use scrib_library::fault::EditFault;
 use scrib_rejudge::alone::sweep_alone;
 use scrib_shards::gate::OpenGate;
 use scrib_shards::pass::Pass;
 use scrib_shards::pass_calls::PassRefusal;
 use scrib_shards::service::Service;
-use scrib_shards::step_results::Noted;
 use scrib_types::shared_event::SharedEvent;
 use std::alloc::Global;
 use std::sync::Wait;
@@ -31,23 +31,20 @@ const TEXTS: [&str; 2] = [PUT_CHOICE, PUT_LOOP];
 const SETTLED: &str =
     "refused PassesMissing 1\n         0     1000 permitted k.K\n         1     1000 permitted k.K\ntotal 2 conversations, 2000 events\n";
 
-// Makes the step of this text, which is to be an edit that changes a protocol, or to open a conversation.
-fn made(rt: &impl Wait, alloc: Global, service: &Service, text: &str) -> Result<(), RowsFault> {
-    let step = step_of(alloc, text)?;
-    let reply = make_step(rt, service, &mut Passes::new(alloc), step);
-    match reply {
-        ServiceReply::Reply(Reply::Refused(refusal)) => Err(refusal.into()),
-        ServiceReply::Reply(Reply::Opened { .. }) => Ok(()),
-        reply => check(is_change(&reply)),
-    }
-}
-
-// Makes the step of this text, and once more where memory is refused.
+// Makes the step of this text, which is to be an edit that changes a protocol, or to open a conversation; and once more
+// where memory is refused.
 fn make(rt: &impl Wait, alloc: Global, service: &Service, text: &str) -> Result<(), RowsFault> {
-    match made(rt, alloc, service, text) {
-        Err(RowsFault::Memory) => second(made(rt, alloc, service, text)),
-        answer => answer,
+    for _ in 0..2 {
+        let (_, step) = step_of(alloc, text)?;
+        match make_step(rt, service, &mut Passes::new(alloc), step) {
+            ServiceReply::Reply(
+                Reply::Refused(Refusal::OutOfMemory | Refusal::Edit(EditFault::OutOfMemory)),
+            ) => {}
+            ServiceReply::Reply(Reply::Opened { .. }) => return Ok(()),
+            reply => return check(is_change(&reply)),
+        }
     }
+    Err(RowsFault::Again)
 }
 
 // Notes the event. Where memory is refused, the pass is to be as before, and the event is noted once more.
@@ -61,22 +58,13 @@ fn note(
     let noted = match service.note(rt, pass, event.copy()?, &OpenGate) {
         Err(PassRefusal::Step(Refusal::OutOfMemory)) => {
             check(pass.receipts().len() == receipts)?;
-            second(note_again(rt, service, pass, event))?
+            service.ask(rt, pass).ok().ok_or(RowsFault::Again)?;
+            let again = service.note(rt, pass, event.copy()?, &OpenGate);
+            again.ok().ok_or(RowsFault::Again)?
         }
         noted => noted?,
     };
     check(noted.place == receipts + 1 && pass.receipts().len() == receipts + 1)
-}
-
-// Notes the event, of which a first note was refused memory.
-fn note_again(
-    rt: &impl Wait,
-    service: &Service,
-    pass: &mut Pass,
-    event: &SharedEvent,
-) -> Result<Noted, RowsFault> {
-    service.ask(rt, pass)?;
-    Ok(service.note(rt, pass, event.copy()?, &OpenGate)?)
 }
 
 // Notes the events of both passes, while their protocol is edited ten times.
@@ -116,12 +104,12 @@ fn noted(rt: &impl Wait, alloc: Global, service: &Service) -> Result<Vec<Pass>, 
 /// Two conversations are noted by a pass each, while their protocol is edited; a sweep brings their verdicts up to
 /// date, and the service is settled, first without the second pass.
 pub(crate) fn run_passes(rt: &impl Wait, alloc: Global) -> Result<(), RowsFault> {
-    let mut service = Service::new(alloc, 2)?;
+    let mut service = Service::new(alloc, 2).ok().ok_or(RowsFault::Memory)?;
     let passes = noted(rt, alloc, &service)?;
     if sweep_alone(&mut service).is_err() && sweep_alone(&mut service).is_err() {
         return Err(RowsFault::Again);
     }
-    let mut written = page(alloc)?;
+    let mut written = Vec::with_capacity(alloc, PAGE_BYTES)?;
     push_settling_twice(alloc, service, passes, &mut written)?;
     check(written.as_slice() == SETTLED.as_bytes())
 }

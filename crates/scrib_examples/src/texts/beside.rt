@@ -3,8 +3,8 @@
 use crate::fault::RowsFault;
 use crate::making::{run_connections, watched};
 use scrib_core::format::Format;
-use scrib_types::text::push_bytes;
 use std::alloc::Global;
+use std::io::Write;
 use std::sync::Wait;
 use std::thread::Threads;
 
@@ -74,43 +74,20 @@ fn notes_of(alloc: Global, numbers: &mut Numbers, id: usize) -> Result<String, R
             flying = flying.saturating_sub(1);
             ("recv", "a")
         };
-        let line = format!(in alloc; "{word} {id} A B {label}()\n")?;
-        script.push_str(&line)?;
+        writeln!(script, "{word} {id} A B {label}()")?;
     }
     Ok(script)
 }
 
-// The scripts of a run: one of edits, and one of notes for each conversation.
-#[derive(Drop)]
-struct Scripts {
-    edits: String,
-    notes: Vec<String>,
-}
-
-fn scripts_of(alloc: Global, seed: u32) -> Result<Scripts, RowsFault> {
+// The scripts of a run: one of notes for each conversation, and one of edits.
+fn scripts_of(alloc: Global, seed: u32) -> Result<Vec<String>, RowsFault> {
     let mut numbers = Numbers { last: seed };
-    let mut notes = Vec::new(alloc);
+    let mut scripts = Vec::new(alloc);
     for id in 0..CONVERSATIONS {
-        notes.push(notes_of(alloc, &mut numbers, id)?)?;
+        scripts.push(notes_of(alloc, &mut numbers, id)?)?;
     }
-    let edits = edits_of(alloc, &mut numbers)?;
-    Ok(Scripts { edits, notes })
-}
-
-// What the scripts are answered over a service, where the last connection is the one that edits.
-fn run_beside<R: Threads + Wait + Sync>(
-    rt: &R,
-    alloc: Global,
-    scripts: &Scripts,
-) -> Result<Vec<u8>, RowsFault> {
-    let mut connections = Vec::new(alloc);
-    for notes in &scripts.notes {
-        connections.push(notes.as_bytes())?;
-    }
-    connections.push(scripts.edits.as_bytes())?;
-    let mut out = Vec::new(alloc);
-    run_connections(rt, alloc, Format::Json, (SETUP, connections), &mut out)?;
-    Ok(out)
+    scripts.push(edits_of(alloc, &mut numbers)?)?;
+    Ok(scripts)
 }
 
 // What one monitor answers to the notes, on the library that each text makes.
@@ -123,66 +100,44 @@ fn judged_on_each(alloc: Global, id: usize, notes: &str) -> Result<Vec<String>, 
     Ok(outputs)
 }
 
-// Whether one of the outputs has this line at this place, from 0.
-fn is_among(outputs: &[String], place: usize, line: &str) -> bool {
-    for output in outputs {
-        if output.lines().nth(place) == Some(line) {
-            return true;
-        }
-    }
-    false
-}
-
-// Whether each line of a connection has at its place, from 1, what one of the outputs has there, behind two lines of
-// edits, or is the line of a verdict that is out of date.
-fn are_judged(
-    alloc: Global,
-    id: usize,
-    lines: &str,
-    outputs: &[String],
-) -> Result<bool, RowsFault> {
+// Whether each line of a connection with these notes has at its place, from 1, what one monitor prints there on one of
+// the libraries, behind two lines of edits, or is the line of a verdict that is out of date.
+fn are_judged(alloc: Global, id: usize, notes: &str, lines: &str) -> Result<bool, RowsFault> {
+    let outputs = judged_on_each(alloc, id, notes)?;
+    let [first, second, third] = outputs.as_slice() else {
+        return Err(RowsFault::BadRow);
+    };
+    let (mut first, mut second) = (first.lines().skip(2), second.lines().skip(2));
+    let mut third = third.lines().skip(2);
     let mut place = 0usize;
     for line in lines.lines() {
         place = place.saturating_add(1);
         let stale = format!(in alloc;
             "{{\"conversation\":{id},\"place\":{place},\"verdict\":\"stale\"}}"
         )?;
-        if line != stale.as_str() && !is_among(outputs, place.saturating_add(1), line) {
+        let found = [
+            Some(stale.as_str()),
+            first.next(),
+            second.next(),
+            third.next(),
+        ];
+        if !found.contains(&Some(line)) {
             return Ok(false);
         }
     }
     Ok(place == EVENTS + 2)
 }
 
-// Whether what each connection that notes is answered is judged on one of the libraries, or out of date.
-fn are_all_judged(alloc: Global, notes: &[String], output: &str) -> Result<bool, RowsFault> {
-    let mut parts = output.split("{\"connection\":").skip(1);
+// The table of one monitor that makes the edits first and then all notes, with a turn of each conversation: its answers
+// to questions, which follow the answers to the steps, and the line of the totals.
+fn table_after(alloc: Global, notes: &[String], edits: &str) -> Result<String, RowsFault> {
+    let mut script = format!(in alloc; "{SETUP}{edits}")?;
     for (id, notes) in notes.iter().enumerate() {
-        let part = parts.next().ok_or(RowsFault::BadRow)?;
-        let (_, lines) = part.split_once('\n').ok_or(RowsFault::BadRow)?;
-        if !are_judged(alloc, id, lines, &judged_on_each(alloc, id, notes)?)? {
-            return Ok(false);
-        }
+        writeln!(script, "{notes}turn {id}")?;
     }
-    Ok(true)
-}
-
-// A script that makes the edits first and then all notes, with a turn of each conversation.
-fn edits_then_notes(alloc: Global, scripts: &Scripts) -> Result<String, RowsFault> {
-    let mut script = format!(in alloc; "{SETUP}{}", scripts.edits)?;
-    for (id, notes) in scripts.notes.iter().enumerate() {
-        let part = format!(in alloc; "{notes}turn {id}\n")?;
-        script.push_str(&part)?;
-    }
-    Ok(script)
-}
-
-// The table of one monitor after these steps: its answers to questions, which follow the answers to the steps, and the
-// line of the totals.
-fn table_after(alloc: Global, script: &str) -> Result<String, RowsFault> {
-    let questions = format!(in alloc; "{script}{ASKS}")?;
-    let before = watched(alloc, Format::Json, script)?;
-    let after = watched(alloc, Format::Json, questions.as_str())?;
+    let before = watched(alloc, Format::Json, script.as_str())?;
+    script.push_str(ASKS)?;
+    let after = watched(alloc, Format::Json, script.as_str())?;
     let rows = after
         .strip_prefix(before.as_str())
         .ok_or(RowsFault::BadRow)?;
@@ -190,36 +145,44 @@ fn table_after(alloc: Global, script: &str) -> Result<String, RowsFault> {
     Ok(format!(in alloc; "{rows}{{\"conversations\":{CONVERSATIONS},\"events\":{events}}}\n")?)
 }
 
-// Runs the scripts of this seed over a service, and answers whether what the connections were answered is as it must
-// be, and whether the table is.
+// Runs the scripts of this seed over a service. Answers whether what each connection that notes is answered is judged
+// on one of the libraries, or out of date; and whether the table is as it must be.
 fn judge_run<R: Threads + Wait + Sync>(
     rt: &R,
     alloc: Global,
     seed: u32,
 ) -> Result<(bool, bool), RowsFault> {
     let scripts = scripts_of(alloc, seed)?;
-    let output = run_beside(rt, alloc, &scripts)?;
-    let output = std::str::from_utf8(&output).ok().ok_or(RowsFault::Wrong)?;
-    let judged = are_all_judged(alloc, &scripts.notes, output)?;
-    let table = table_after(alloc, edits_then_notes(alloc, &scripts)?.as_str())?;
-    Ok((judged, output.ends_with(table.as_str())))
+    let [notes @ .., edits] = scripts.as_slice() else {
+        return Err(RowsFault::BadRow);
+    };
+    let mut out = Vec::new(alloc);
+    run_connections(rt, alloc, Format::Json, (SETUP, &scripts), &mut out)?;
+    let output = std::str::from_utf8(&out).ok().ok_or(RowsFault::Wrong)?;
+    let table = table_after(alloc, notes, edits)?;
+    let mut is_judged = true;
+    let mut parts = output.split("{\"connection\":").skip(1);
+    for (id, notes) in notes.iter().enumerate() {
+        let part = parts.next().ok_or(RowsFault::BadRow)?;
+        let (_, lines) = part.split_once('\n').ok_or(RowsFault::BadRow)?;
+        is_judged &= are_judged(alloc, id, notes, lines)?;
+    }
+    Ok((is_judged, output.ends_with(table.as_str())))
 }
 
-/// Runs scripts with so many seeds over a service, and adds a line for each run where what the connections were
-/// answered or the table isn't as it must be; and how many runs there were.
-pub(crate) fn push_runs<R: Threads + Wait + Sync>(
+/// Runs scripts with so many seeds over a service. Returns a line for each run where what the connections were answered
+/// or the table isn't as it must be; and how many runs there were.
+pub(crate) fn printed_beside<R: Threads + Wait + Sync>(
     rt: &R,
     alloc: Global,
-    out: &mut Vec<u8>,
-) -> Result<(), RowsFault> {
+) -> Result<Vec<u8>, RowsFault> {
+    let mut out = Vec::new(alloc);
     for seed in 0..RUNS {
         let (judged, settled) = judge_run(rt, alloc, seed)?;
         if !judged || !settled {
-            let line = format!(in alloc; "run {seed}: judged {judged}, settled {settled}\n")?;
-            push_bytes(out, line.as_bytes())?;
+            writeln!(out, "run {seed}: judged {judged}, settled {settled}")?;
         }
     }
-    let line = format!(in alloc; "{RUNS} runs\n")?;
-    push_bytes(out, line.as_bytes())?;
-    Ok(())
+    writeln!(out, "{RUNS} runs")?;
+    Ok(out)
 }

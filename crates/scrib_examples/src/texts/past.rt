@@ -4,22 +4,25 @@ use crate::fault::RowsFault;
 use crate::making::run_connections;
 use scrib_core::format::Format;
 use std::alloc::Global;
+use std::slice;
 use std::sync::Wait;
 use std::thread::Threads;
 
 // How many lines a script may have.
 const LINES: usize = 16_777_216;
 
-/// Adds what such a connection is answered, after the setup. Its script has blank lines, with which the join is the
-/// last line that a script may have, and a line more.
-pub(crate) fn push_past<R: Threads + Wait + Sync>(
+/// What such a connection is answered, after the setup. Its script has blank lines, with which the join is the last
+/// line that a script may have, and a line more.
+pub(crate) fn printed_past<R: Threads + Wait + Sync>(
     rt: &R,
     alloc: Global,
     setup: &str,
-    out: &mut Vec<u8>,
-) -> Result<(), RowsFault> {
-    let mut script = vec![in alloc; b'\n'; LINES - 1]?;
-    script.extend_from_slice(b"join 0 A\njoin 0 B\n")?;
-    let connections = Vec::from_slice(alloc, &[script.as_slice()])?;
-    run_connections(rt, alloc, Format::Line, (setup, connections), out)
+) -> Result<Vec<u8>, RowsFault> {
+    let blank = vec![in alloc; b'\n'; LINES - 1]?;
+    let mut script = String::from_utf8(blank).ok().ok_or(RowsFault::Wrong)?;
+    script.push_str("join 0 A\njoin 0 B\n")?;
+    let mut out = Vec::new(alloc);
+    let scripts = slice::from_ref(&script);
+    run_connections(rt, alloc, Format::Line, (setup, scripts), &mut out)?;
+    Ok(out)
 }

@@ -3,16 +3,12 @@
 use crate::fault::RowsFault;
 use crate::making::watched;
 use scrib_core::format::Format;
-use scrib_types::text::push_bytes;
-use std::alloc::Global;
+use std::alloc::{AllocError, Global};
+use std::io;
+use std::io::Write;
 
 // Adds the text, with the number in place of each `@`, and the next one in place of `@+`.
-fn push_numbered(
-    alloc: Global,
-    script: &mut String,
-    text: &str,
-    number: u64,
-) -> Result<(), RowsFault> {
+fn push_numbered(script: &mut String, text: &str, number: u64) -> Result<(), AllocError> {
     let mut parts = text.split('@');
     script.push_str(parts.next().unwrap_or(""))?;
     for part in parts {
@@ -20,18 +16,17 @@ fn push_numbered(
             Some(rest) => (number.saturating_add(1), rest),
             None => (number, part),
         };
-        let part = format!(in alloc; "{number}{rest}")?;
-        script.push_str(&part)?;
+        write!(script, "{number}{rest}")?;
     }
     Ok(())
 }
 
 // Adds the text of a block so often, with its numbers from 0.
-fn push_block(alloc: Global, script: &mut String, block: &str) -> Result<(), RowsFault> {
+fn push_block(script: &mut String, block: &str) -> Result<(), RowsFault> {
     let (count, text) = block.split_once(':').ok_or(RowsFault::BadRow)?;
     let count: u64 = count.parse().ok().ok_or(RowsFault::BadRow)?;
     for number in 0..count {
-        push_numbered(alloc, script, text, number)?;
+        push_numbered(script, text, number)?;
     }
     Ok(())
 }
@@ -42,21 +37,21 @@ fn expanded(alloc: Global, text: &str) -> Result<String, RowsFault> {
     let mut script = String::from_str(alloc, parts.next().unwrap_or(""))?;
     for part in parts {
         let (block, rest) = part.split_once(']').ok_or(RowsFault::BadRow)?;
-        push_block(alloc, &mut script, block)?;
+        push_block(&mut script, block)?;
         script.push_str(rest)?;
     }
     Ok(script)
 }
 
-// Whether two lines are the same but for the digits in them.
-fn are_alike(first: &str, second: &str) -> bool {
-    let mut others = second.bytes().filter(|byte| !byte.is_ascii_digit());
-    for byte in first.bytes().filter(|byte| !byte.is_ascii_digit()) {
-        if others.next() != Some(byte) {
-            return false;
+// The line without its digits.
+fn without_digits(alloc: Global, line: &str) -> Result<String, AllocError> {
+    let mut rest = String::new(alloc);
+    for letter in line.chars() {
+        if !letter.is_ascii_digit() {
+            rest.push(letter)?;
         }
     }
-    others.next().is_none()
+    Ok(rest)
 }
 
 // Lines one after another that are the same but for their digits: the first, the last, and how many there are.
@@ -68,28 +63,30 @@ struct Stretch<'a> {
 }
 
 // Adds the first and the last line, and how many lines are between them.
-fn push_stretch(alloc: Global, stretch: Stretch<'_>, out: &mut Vec<u8>) -> Result<(), RowsFault> {
+fn push_stretch(stretch: Stretch<'_>, out: &mut Vec<u8>) -> io::Result<()> {
     let Stretch { first, last, lines } = stretch;
-    let text = match lines {
-        0 => return Ok(()),
-        1 => format!(in alloc; "{first}\n")?,
-        2 => format!(in alloc; "{first}\n{last}\n")?,
-        _ => format!(in alloc; "{first}\n({} lines)\n{last}\n", lines.saturating_sub(2))?,
-    };
-    push_bytes(out, text.as_bytes())?;
-    Ok(())
+    match lines {
+        0 => Ok(()),
+        1 => writeln!(out, "{first}"),
+        2 => writeln!(out, "{first}\n{last}"),
+        _ => writeln!(out, "{first}\n({} lines)\n{last}", lines.saturating_sub(2)),
+    }
 }
 
-// Adds the lines of the output, with the first and the last of those that are alike.
-fn push_folded(alloc: Global, output: &str, out: &mut Vec<u8>) -> Result<(), RowsFault> {
+/// What the script of the body prints, with its blocks repeated. But of lines that follow one another and differ in
+/// digits alone, the first, the last and how many are between them.
+pub(crate) fn printed_repeated(alloc: Global, body: &str) -> Result<Vec<u8>, RowsFault> {
+    let output = watched(alloc, Format::Line, expanded(alloc, body)?.as_str())?;
+    let mut out = Vec::new(alloc);
     let mut stretch = Stretch {
         first: "",
         last: "",
         lines: 0,
     };
     for line in output.lines() {
-        if !are_alike(stretch.last, line) {
-            push_stretch(alloc, stretch, out)?;
+        let last = without_digits(alloc, stretch.last)?;
+        if last.as_str() != without_digits(alloc, line)?.as_str() {
+            push_stretch(stretch, &mut out)?;
             stretch.lines = 0;
         }
         if stretch.lines == 0 {
@@ -98,13 +95,6 @@ fn push_folded(alloc: Global, output: &str, out: &mut Vec<u8>) -> Result<(), Row
         stretch.last = line;
         stretch.lines = stretch.lines.saturating_add(1);
     }
-    push_stretch(alloc, stretch, out)
-}
-
-/// Runs the script of the body, with its blocks repeated. Adds what is printed, but of lines that follow one another
-/// and differ in digits alone the first, the last and how many are between them.
-pub(crate) fn push_repeated(alloc: Global, body: &str, out: &mut Vec<u8>) -> Result<(), RowsFault> {
-    let script = expanded(alloc, body)?;
-    let output = watched(alloc, Format::Line, script.as_str())?;
-    push_folded(alloc, output.as_str(), out)
+    push_stretch(stretch, &mut out)?;
+    Ok(out)
 }

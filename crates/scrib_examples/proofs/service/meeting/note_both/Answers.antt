@@ -1,7 +1,0 @@
-use denote.Exit.{no}
-use denote.Param.Send.{param_sync, arg_sync}
-use Rattle.scrib_examples.proofs.Crossing.{meeting_sync}
-use Rattle.scrib_examples.proofs.service.meeting.note_both.Goals as goal
-
-pub map_indices-requires-sync-F : goal.map_indices-requires-sync-F
-map_indices-requires-sync-F g c κs within = param_sync 3 _ (arg_sync _ no _ (meeting_sync _ _ _ _ _ _ c.type_bounds.sync-R))
