@@ -4,9 +4,11 @@ PYTHON ?= python3
 PREFIX ?= /usr/local
 PROGRAM = crates/scribmon/out/scribmon
 ROWS = crates/scrib_examples/out/scrib_examples
+# Crates that the program needs, and that do not wait for those before them in the order of crates.txt.
+BESIDE = scrib_arguments scrib_record scrib_global scrib_cli
 
 .DEFAULT_GOAL := help
-.PHONY: help run try build install test checks bench prove example examples
+.PHONY: help run try build program beside install test checks bench prove example examples
 
 help: ## prints this table
 	@sed -n 's/^\([a-z]*\):.*## /\1	/p' Makefile | expand -t 12
@@ -19,7 +21,17 @@ run: ## builds without proof and runs the first example: a minute or two
 try: run ## the same as run
 
 build: ## proves and builds crates/scribmon/out/scribmon: about an hour
+	@$(MAKE) --no-print-directory -j2 program beside
+
+program:
 	cd crates/scribmon && $(RT) run -- --version
+
+# One command of the kit proves one crate after another, and each checkout takes the libraries that another one proved. So
+# what can be proved beside the others is proved in a copy.
+beside:
+	@test -e $(PROGRAM) || { copy=$$(mktemp -d) && trap 'rm -rf "$$copy"' EXIT && \
+	tar -c --exclude=out HANDLES crates.txt crates | tar -x -C "$$copy" && \
+	for crate in $(BESIDE); do (cd "$$copy/crates/$$crate" && $(RT) check > /dev/null 2>&1) || exit; done; }
 
 install: ## copies the built program and its man page below PREFIX
 	install -d $(DESTDIR)$(PREFIX)/bin $(DESTDIR)$(PREFIX)/share/man/man1
