@@ -4,7 +4,7 @@ PYTHON ?= python3
 PREFIX ?= /usr/local
 PROGRAM = crates/scribmon/out/scribmon
 ROWS = crates/scrib_examples/out/scrib_examples
-# Crates that the program needs, and that do not wait for those before them in the order of crates.txt.
+# Crates of the program that can be proved, with those below them, beside its other crates.
 BESIDE = scrib_arguments scrib_record scrib_global scrib_cli
 
 .DEFAULT_GOAL := help
@@ -31,7 +31,8 @@ program:
 beside:
 	@test -e $(PROGRAM) || { copy=$$(mktemp -d) && trap 'rm -rf "$$copy"' EXIT && \
 	tar -c --exclude=out HANDLES crates.txt crates | tar -x -C "$$copy" && \
-	for crate in $(BESIDE); do (cd "$$copy/crates/$$crate" && $(RT) check > /dev/null 2>&1) || exit; done; }
+	for crate in $(BESIDE); do (cd "$$copy/crates/$$crate" && $(RT) check > /dev/null 2>&1) || \
+	{ echo "$$crate was not proved beside the others: make prove CRATE=$$crate prints why" >&2; exit 1; }; done; }
 
 install: ## copies the built program and its man page below PREFIX
 	install -d $(DESTDIR)$(PREFIX)/bin $(DESTDIR)$(PREFIX)/share/man/man1
