@@ -1,10 +1,10 @@
 -- The flat forms of messages and of events are prefix-free codes, and so injective.
-use Rattle.std.proofs.Common.{◌≡◌, ◌↔◌, IsTrue, Bool, ℕ, zero, suc, ◌/◌, ◌%◌, ◌<◌, List, [], ◌∷◌, ◌++◌, length, replicate, Some, None, refl, sym, ap, ◌∙◌, append_assoc, arith}
+use Rattle.std.proofs.Common.{◌≡◌, ◌↔◌, IsTrue, Bool, ℕ, zero, suc, ◌/◌, ◌%◌, ◌<◌, List, [], ◌∷◌, ◌++◌, length, drop, replicate, Some, None, refl, sym, ap, ◌∙◌, append_assoc, arith}
 use Rattle.scrib_types.specs.declared.message.Message.{Message}
 use Rattle.scrib_types.specs.declared.event.Event.{Event}
 use Rattle.scrib_types.specs.declared.event.Event.TheVariants as event
 use Rattle.scrib_types.specs.Flat.{number_bytes, name_bytes, names_bytes, payload_bytes, operator_bytes, message_bytes}
-use Rattle.scrib_types.specs.FlatEvents.{event_bytes}
+use Rattle.scrib_types.specs.FlatEvents.{event_bytes, exchange_bytes}
 
 -- prefix-free: bytes that begin with a value's code determine the value and what follows
 abbrev pub IsPrefixFree : {A : Type 0} → (A → List ℕ) → Type 0
@@ -132,3 +132,14 @@ same_event r x y d e t p q = (
   λ h. event_bytes-injective d e (sym p ∙ t.0 h ∙ q),
   λ h. t.1 (p ∙ ap event_bytes h ∙ sym q),
 )
+
+-- the flat form behind the kind of event
+pub behind_kind : (e : Event) → drop 1 (event_bytes e) ≡ exchange_bytes e
+behind_kind (event.Join r) = refl
+behind_kind (event.Sent p q m) = refl
+behind_kind (event.Received p q m) = refl
+
+-- one exchange, the same roles and message
+pub exchange-injective : (p q a b : List ℕ) (m n : Message) → name_bytes p ++ name_bytes q ++ message_bytes m ≡ name_bytes a ++ name_bytes b ++ message_bytes n → (p ≡ a) × (q ≡ b) × (m ≡ n)
+exchange-injective p q a b m n e =
+    let h = roles_and_message-prefix_free p q a b m n [] [] (ap (λ x. x ++ []) e) in (h.0, h.1, h.2)

@@ -1,12 +1,13 @@
 //! Shared events, as logs, steps and receipts hold them.
 
-ghost use Rattle.std.specs.Prelude.{◌≡◌, ◌↔◌, ◌++◌, IsTrue, IfOk, OnOk};
+ghost use Rattle.std.specs.Prelude.{◌≡◌, ◌↔◌, ◌++◌, IsTrue, IfOk, OnOk, drop};
 ghost use Rattle.scrib_types.specs.Flat.{name_bytes, message_bytes};
-ghost use Rattle.scrib_types.specs.FlatEvents.{event_bytes};
+ghost use Rattle.scrib_types.specs.FlatEvents.{event_bytes, exchange_bytes};
 
 use crate::bytes::same_bytes;
 use crate::event::Event;
 use crate::flat::push_name;
+use crate::hashing::hash_bytes;
 use crate::name::Role;
 use crate::shared_message::SharedMessage;
 use crate::text::push_bytes;
@@ -17,15 +18,16 @@ use std::sync::Arc;
 // Room for the flat form of a usual event.
 const USUAL_FLAT_BYTES: usize = 48;
 
-// An event beside its flat form.
+// An event beside its flat form, and the hash of that form without the kind of event.
 #[derive(Drop)]
 struct Flattened {
     event: Event,
     flat: Vec<u8>,
+    hash: u64,
 }
 
 /// An event that its copies share by a reference count. It keeps its flat form, so that two events are compared as
-/// contiguous bytes. Contracts see the event.
+/// contiguous bytes, and a hash for tables of exchanges. Contracts see the event.
 #[derive(Drop)]
 pub struct SharedEvent {
     shared: Arc<Flattened>,
@@ -53,7 +55,8 @@ impl SharedEvent {
     {
         let mut flat = Vec::with_capacity(alloc, USUAL_FLAT_BYTES)?;
         push_event(&mut flat, &event)?;
-        let shared = Arc::new(alloc, Flattened { event, flat })?;
+        let hash = hash_bytes(0, without_kind(flat.as_slice()));
+        let shared = Arc::new(alloc, Flattened { event, flat, hash })?;
         Ok(SharedEvent { shared })
     }
 
@@ -69,6 +72,21 @@ impl SharedEvent {
         ensures { IsTrue result ↔ (self.now ≡ other.now) }
     {
         same_bytes(self.flat(), other.flat())
+    }
+
+    /// Whether the two are events of one exchange: of the same message from the same role to the same role. A send and
+    /// the reception of its message are. So are two joins of one role.
+    #[inline(always)]
+    pub fn same_exchange(&self, other: &SharedEvent) -> bool
+        ensures { IsTrue result ↔ (exchange_bytes self.now ≡ exchange_bytes other.now) }
+    {
+        same_bytes(without_kind(self.flat()), without_kind(other.flat()))
+    }
+
+    /// A hash of the event without its kind. Events of one exchange have the same.
+    #[inline(always)]
+    pub fn exchange_hash(&self) -> u64 {
+        self.shared.hash
     }
 
     /// A copy that shares the event.
@@ -87,6 +105,17 @@ impl SharedEvent {
         ensures { result.now ≡ event_bytes self.now }
     {
         self.shared.flat.as_slice()
+    }
+}
+
+// The flat form without its first byte, which is the kind of event.
+#[inline(always)]
+fn without_kind(flat: &[u8]) -> &[u8]
+    ensures { result.now ≡ drop 1 flat.now }
+{
+    match flat {
+        [_, rest @ ..] => rest,
+        [] => flat,
     }
 }
 
