@@ -1,5 +1,6 @@
-//! First-in-first-out queues of messages, one for each ordered pair of roles.
+//! First-in-first-out queues of items, one for each ordered pair of roles.
 #![tactic(auto)]
 
 mod queue;
+pub mod queued;
 pub mod queues;

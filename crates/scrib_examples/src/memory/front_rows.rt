@@ -90,7 +90,7 @@ pub(crate) fn run_front_end(alloc: Global) -> Result<(), RowsFault> {
 // The message is in the queues and in their copy, and nothing else is.
 fn check_queues(
     alloc: Global,
-    queues: &mut Queues,
+    queues: &mut Queues<SharedMessage>,
     message: &SharedMessage,
 ) -> Result<(), RowsFault>
     requires { queues.old.roles ≡ 2 }

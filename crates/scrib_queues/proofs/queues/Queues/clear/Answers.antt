@@ -2,4 +2,4 @@ use Rattle.scrib_queues.proofs.QueueViews.{none_used}
 use Rattle.scrib_queues.proofs.queues.Queues.clear.Goals as goal
 
 pub returns-clause-empty : goal.returns-clause-empty
-returns-clause-empty c = none_used _ _ _ c.clear.ensures.items
+returns-clause-empty g c = none_used _ _ _ c.clear.ensures.items
