@@ -50,7 +50,7 @@ impl Machine {
     }
 
     /// The row of edges of each state.
-    pub(crate) fn rows(&self) -> &[OneOrMany<Edge>]
+    pub fn rows(&self) -> &[OneOrMany<Edge>]
         ensures { result.now ≡ self.now }
     {
         self.rows.as_slice()

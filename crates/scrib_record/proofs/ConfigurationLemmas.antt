@@ -1,6 +1,6 @@
 -- The configuration of a conversation: what its machines and queues show of each log that leads to it, and where one
 -- more event leads.
-use Rattle.std.proofs.Common.{◌≡◌, ◌≢◌, ◌&&◌, ◌||◌, true, false, ℕ, zero, suc, ◌<◌, List, [], ◌∷◌, ◌++◌, Some, filter_map, length, set, slice_get, refl, sym, ap, subst, ◌∙◌, inl, inr, arith}
+use Rattle.std.proofs.Common.{◌≡◌, ◌≢◌, ◌&&◌, ◌||◌, true, false, ℕ, zero, suc, ◌<◌, List, [], ◌∷◌, ◌++◌, Some, All, filter_map, length, map, set, slice_get, refl, sym, ap, subst, ◌∙◌, inl, inr, arith}
 use Rattle.std.specs.Str.{bytes_eq}
 use Rattle.std.proofs.lemmas.Bool.{and_parts, and_from, and_right, cases_Bool, true≢false, or_right}
 use Rattle.std.proofs.lemmas.List.{append_cancel_left}
@@ -16,12 +16,13 @@ use Rattle.scrib_types.specs.Queues.{sent_message, received_message, sent, recei
 use Rattle.scrib_machine.specs.declared.machine.Edge.{Edge}
 use Rattle.scrib_machine.specs.Machines.{Steps, Path}
 use Rattle.scrib_machine.specs.Paths.{step_is_trace, path_push, path_within}
-use Rattle.scrib_queues.specs.Channels.{Channels, queue_of}
+use Rattle.scrib_queues.specs.Channels.{queue_of}
 use Rattle.scrib_record.specs.declared.role_state.RoleState.{RoleState}
 use Rattle.scrib_record.specs.declared.configuration.Configuration.{Configuration}
 use Rattle.scrib_record.specs.RoleMachines.{IsMachineOf, AreMachinesOf}
 use Rattle.scrib_record.specs.Following.{MayAct, IsOldest}
-use Rattle.scrib_record.specs.Configurations.{place_in, IsRoleState, AreRoleStates, AreFlying, LeadsTo, IsSameConfiguration, Others, IsAtFront}
+use Rattle.scrib_record.specs.Configurations.{IsRoleState, AreRoleStates, Flight, flight_of, exchanges_of, message_at, IsBetween, AreQueued, IsNumberedBy, AreFlying, LeadsTo, IsSameConfiguration, Others, IsAtFront}
+use Rattle.scrib_record.specs.Places.{place_in}
 use Rattle.scrib_record.proofs.Logs.{own_more, own_same, joined_on, or_false}
 use Rattle.scrib_record.proofs.Queues.{sent_on, received_on, listed, grown, led, fly_still, fly_sent, fly_taken, listed_is}
 use Rattle.scrib_record.proofs.RolePlaces.{bytes_same, bytes_itself, place_within, place_role, same_role, same_place, is_declared}
@@ -76,13 +77,13 @@ acts_from a ms log r i s m act k h =
       (step_is_trace k.runs.local m k.runs.machine k.runs.follows w s.state k.path act).1 (subst (λ x. IsTrace x (w ++ act ∷ [])) same h.trace),
     )
 
--- the front of a queue is the oldest message
-pub front_oldest : (a : Agreement) (log : List Event) (queues : Channels) (p q : List ℕ) (i j : ℕ) (m : Message) → AreFlying a log queues → place_in a.roles p ≡ Some i → place_in a.roles q ≡ Some j → IsAtFront i j m queues → IsOldest p q m log
-front_oldest a log queues p q i j m fly e f h = (h.0, fly p q i j e f ∙ ap (λ x. received p q log ++ x) h.1)
+-- the first message in flight is the oldest
+pub front_oldest : (a : Agreement) (log : List Event) (flight : Flight) (p q : List ℕ) (i j : ℕ) (m : Message) → AreFlying a log flight → place_in a.roles p ≡ Some i → place_in a.roles q ≡ Some j → IsAtFront i j m flight → IsOldest p q m log
+front_oldest a log flight p q i j m fly e f h = (h.0, fly p q i j e f ∙ ap (λ x. received p q log ++ x) h.1)
 
-pub oldest_front : (a : Agreement) (log : List Event) (queues : Channels) (p q : List ℕ) (i j : ℕ) (m : Message) → AreFlying a log queues → place_in a.roles p ≡ Some i → place_in a.roles q ≡ Some j → IsOldest p q m log → IsAtFront i j m queues
-oldest_front a log queues p q i j m fly e f h =
-    (h.0, append_cancel_left (received p q log) (queue_of queues i j) (m ∷ h.0) (sym (fly p q i j e f) ∙ h.1))
+pub oldest_front : (a : Agreement) (log : List Event) (flight : Flight) (p q : List ℕ) (i j : ℕ) (m : Message) → AreFlying a log flight → place_in a.roles p ≡ Some i → place_in a.roles q ≡ Some j → IsOldest p q m log → IsAtFront i j m flight
+oldest_front a log flight p q i j m fly e f h =
+    (h.0, append_cancel_left (received p q log) (flight i j) (m ∷ h.0) (sym (fly p q i j e f) ∙ h.1))
 
 -- states of roles
 no_action : (r : List ℕ) (e : Event) → bytes_eq r (subject_of e) ≡ false → is_action_of r e ≡ false
@@ -157,10 +158,10 @@ role_states_on a ms log old new e i s st at is k r j here =
           (t.0, ap (λ (x : List RoleState). slice_get x j) is ∙ get_set_other old i j s other ∙ t.1, role_state_still ms log e r j t.0 b t.2)
     ]
 
--- queues
-pub flying_still : (a : Agreement) (log : List Event) (r : List ℕ) (queues : Channels) → AreFlying a log queues → AreFlying a (log ++ Join r ∷ []) queues
-flying_still a log r queues fly p q i j e f =
-    rw (sent_on p q log (Join r), received_on p q log (Join r)) (fly_still (sent p q log) (received p q log) (queue_of queues i j) (fly p q i j e f))
+-- messages in flight
+pub flying_still : (a : Agreement) (log : List Event) (r : List ℕ) (flight : Flight) → AreFlying a log flight → AreFlying a (log ++ Join r ∷ []) flight
+flying_still a log r flight fly p q i j e f =
+    rw (sent_on p q log (Join r), received_on p q log (Join r)) (fly_still (sent p q log) (received p q log) (flight i j) (fly p q i j e f))
 
 -- whether two pairs of roles are equal
 elsewhere : (roles : List (List ℕ)) (p q s t : List ℕ) (i j k l : ℕ) → place_in roles p ≡ Some i → place_in roles q ≡ Some j → place_in roles s ≡ Some k → place_in roles t ≡ Some l → (bytes_eq s p && bytes_eq t q) ≡ false → ¬ ((k ≡ i) × (l ≡ j))
@@ -179,14 +180,14 @@ here roles p q s t i j k l ep eq es et b =
     let y = and_parts (bytes_eq s p) (bytes_eq t q) b in
     record { first = same_place roles s p k i (bytes_same s p y.0) es ep; second = same_place roles t q l j (bytes_same t q y.1) et eq }
 
-queue_grown : (roles : List (List ℕ)) (p q s t : List ℕ) (m : Message) (i j k l : ℕ) (old new : Channels) → place_in roles p ≡ Some i → place_in roles q ≡ Some j → place_in roles s ≡ Some k → place_in roles t ≡ Some l → queue_of new i j ≡ queue_of old i j ++ m ∷ [] → Others i j old new → queue_of new k l ≡ grown (bytes_eq s p && bytes_eq t q) (queue_of old k l) m
+queue_grown : (roles : List (List ℕ)) (p q s t : List ℕ) (m : Message) (i j k l : ℕ) (old new : Flight) → place_in roles p ≡ Some i → place_in roles q ≡ Some j → place_in roles s ≡ Some k → place_in roles t ≡ Some l → new i j ≡ old i j ++ m ∷ [] → Others i j old new → new k l ≡ grown (bytes_eq s p && bytes_eq t q) (old k l) m
 queue_grown roles p q s t m i j k l old new ep eq es et pushed others =
     elim (cases_Bool (bytes_eq s p && bytes_eq t q)) [
       | inl b ↦ let z = here roles p q s t i j k l ep eq es et b in rw (b, z.first, z.second) pushed
       | inr b ↦ rw b (others k l (elsewhere roles p q s t i j k l ep eq es et b))
     ]
 
-pub flying_sent : (a : Agreement) (log : List Event) (s u : List ℕ) (m : Message) (i j : ℕ) (old new : Channels) → AreFlying a log old → place_in a.roles s ≡ Some i → place_in a.roles u ≡ Some j → queue_of new i j ≡ queue_of old i j ++ m ∷ [] → Others i j old new → AreFlying a (log ++ Sent s u m ∷ []) new
+pub flying_sent : (a : Agreement) (log : List Event) (s u : List ℕ) (m : Message) (i j : ℕ) (old new : Flight) → AreFlying a log old → place_in a.roles s ≡ Some i → place_in a.roles u ≡ Some j → new i j ≡ old i j ++ m ∷ [] → Others i j old new → AreFlying a (log ++ Sent s u m ∷ []) new
 flying_sent a log s u m i j old new fly es eu pushed others p q k l e f =
     let ev = Sent s u m in
     let b = bytes_eq p s && bytes_eq q u in
@@ -194,33 +195,36 @@ flying_sent a log s u m i j old new fly es eu pushed others p q k l e f =
     let now = queue_grown a.roles s u p q m i j k l old new es eu e f pushed others in
     rw (sent_on p q log ev, received_on p q log ev)
     (ap (λ x. sent p q log ++ x) added
-    ∙ fly_sent b m (sent p q log) (received p q log) (queue_of old k l) (fly p q k l e f)
+    ∙ fly_sent b m (sent p q log) (received p q log) (old k l) (fly p q k l e f)
     ∙ ap (λ x. (received p q log ++ []) ++ x) (sym now))
 
-queue_led : (roles : List (List ℕ)) (p q s t : List ℕ) (m : Message) (i j k l : ℕ) (old new : Channels) → place_in roles p ≡ Some i → place_in roles q ≡ Some j → place_in roles s ≡ Some k → place_in roles t ≡ Some l → queue_of old i j ≡ m ∷ queue_of new i j → Others i j old new → queue_of old k l ≡ led (bytes_eq s p && bytes_eq t q) m (queue_of new k l)
+queue_led : (roles : List (List ℕ)) (p q s t : List ℕ) (m : Message) (i j k l : ℕ) (old new : Flight) → place_in roles p ≡ Some i → place_in roles q ≡ Some j → place_in roles s ≡ Some k → place_in roles t ≡ Some l → old i j ≡ m ∷ new i j → Others i j old new → old k l ≡ led (bytes_eq s p && bytes_eq t q) m (new k l)
 queue_led roles p q s t m i j k l old new ep eq es et popped others =
     elim (cases_Bool (bytes_eq s p && bytes_eq t q)) [
       | inl b ↦ let z = here roles p q s t i j k l ep eq es et b in rw (b, z.first, z.second) popped
       | inr b ↦ rw b (sym (others k l (elsewhere roles p q s t i j k l ep eq es et b)))
     ]
 
-pub flying_taken : (a : Agreement) (log : List Event) (s u : List ℕ) (m : Message) (i j : ℕ) (old new : Channels) → AreFlying a log old → place_in a.roles s ≡ Some i → place_in a.roles u ≡ Some j → queue_of old i j ≡ m ∷ queue_of new i j → Others i j old new → AreFlying a (log ++ Received s u m ∷ []) new
+pub flying_taken : (a : Agreement) (log : List Event) (s u : List ℕ) (m : Message) (i j : ℕ) (old new : Flight) → AreFlying a log old → place_in a.roles s ≡ Some i → place_in a.roles u ≡ Some j → old i j ≡ m ∷ new i j → Others i j old new → AreFlying a (log ++ Received s u m ∷ []) new
 flying_taken a log s u m i j old new fly es eu popped others p q k l e f =
     let ev = Received s u m in
     let b = bytes_eq p s && bytes_eq q u in
     let added : filter_map (received_message p q) (ev ∷ []) ≡ listed b m = listed_is b m (received_message p q) ev refl in
     let then = queue_led a.roles s u p q m i j k l old new es eu e f popped others in
     rw (sent_on p q log ev, received_on p q log ev)
-    (fly_taken b m (sent p q log) (received p q log) (queue_of old k l) (queue_of new k l) (fly p q k l e f) then
-    ∙ ap (λ x. (received p q log ++ x) ++ queue_of new k l) (sym added))
+    (fly_taken b m (sent p q log) (received p q log) (old k l) (new k l) (fly p q k l e f) then
+    ∙ ap (λ x. (received p q log ++ x) ++ new k l) (sym added))
 
 -- the configuration that an event leads to
-pub led_on : (a : Agreement) (ms : List (List (List Edge))) (log : List Event) (c d : Configuration) (e : Event) (i : ℕ) (s : RoleState) → LeadsTo a ms log c → place_in a.roles (subject_of e) ≡ Some i → d.role_states.items ≡ set c.role_states.items i s → IsRoleState ms (log ++ e ∷ []) (subject_of e) i s → d.queues.roles ≡ c.queues.roles → AreFlying a (log ++ e ∷ []) d.queues → LeadsTo a ms (log ++ e ∷ []) d
-led_on a ms log c d e i s st at is k roles fly = record {
+pub led_on : (a : Agreement) (ms : List (List (List Edge))) (log : List Event) (c d : Configuration) (e : Event) (i : ℕ) (s : RoleState) → LeadsTo a ms log c → place_in a.roles (subject_of e) ≡ Some i → d.role_states.items ≡ set c.role_states.items i s → IsRoleState ms (log ++ e ∷ []) (subject_of e) i s → d.queues.roles ≡ c.queues.roles → d.numbering ≡ c.numbering → AreQueued (exchanges_of c.numbering) d.queues → AreFlying a (log ++ e ∷ []) (flight_of (exchanges_of c.numbering) d.queues) → LeadsTo a ms (log ++ e ∷ []) d
+led_on a ms log c d e i s st at is k roles same queued fly = record {
   role_states = ap length is ∙ length_set c.role_states.items i s ∙ st.role_states;
   queues = roles ∙ st.queues;
   states_are = role_states_on a ms log c.role_states.items d.role_states.items e i s st.states_are at is k;
-  flying = fly;
+  follow = st.follow;
+  numbered = subst (IsNumberedBy a.roles ms) (sym same) st.numbered;
+  queued = subst (λ n. AreQueued (exchanges_of n) d.queues) (sym same) queued;
+  flying = subst (λ n. AreFlying a (log ++ e ∷ []) (flight_of (exchanges_of n) d.queues)) (sym same) fly;
 }
   where
     length_set : (xs : List RoleState) (i : ℕ) (s : RoleState) → length (set xs i s) ≡ length xs
@@ -233,5 +237,12 @@ led_same a ms log c d same st = record {
   role_states = ap length same.role_states ∙ st.role_states;
   queues = same.roles ∙ st.queues;
   states_are = subst (AreRoleStates a ms log) (sym same.role_states) st.states_are;
-  flying = λ p q i j e f. st.flying p q i j e f ∙ ap (λ x. received p q log ++ x) (sym (same.messages i j));
+  follow = st.follow;
+  numbered = subst (IsNumberedBy a.roles ms) (sym same.numbering) st.numbered;
+  queued = λ i j.
+      subst (λ n. All (IsBetween (exchanges_of n) i j) (queue_of d.queues i j)) (sym same.numbering)
+      (subst (All (IsBetween (exchanges_of c.numbering) i j)) (sym (same.messages i j)) (st.queued i j));
+  flying = λ p q i j e f.
+      subst (λ n. sent p q log ≡ received p q log ++ flight_of (exchanges_of n) d.queues i j) (sym same.numbering)
+      (st.flying p q i j e f ∙ ap (λ ks. received p q log ++ map (message_at (exchanges_of c.numbering)) ks) (sym (same.messages i j)));
 }

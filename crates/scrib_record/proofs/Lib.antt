@@ -15,3 +15,6 @@ pub mod JudgingLemmas
 pub mod ResultLemmas
 pub mod FlatFormLemmas
 pub mod ByteLemmas
+pub mod NumberingLemmas
+pub mod NumberingSteps
+pub mod FlightLemmas

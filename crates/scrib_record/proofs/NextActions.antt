@@ -18,7 +18,8 @@ use Rattle.scrib_machine.specs.Machines.{Steps}
 use Rattle.scrib_record.specs.declared.role_state.RoleState.{RoleState}
 use Rattle.scrib_record.specs.declared.configuration.Configuration.{Configuration}
 use Rattle.scrib_record.specs.Following.{MayFollow}
-use Rattle.scrib_record.specs.Configurations.{place_in, LeadsTo, IsEnabled}
+use Rattle.scrib_record.specs.Configurations.{LeadsTo, in_flight, IsEnabled}
+use Rattle.scrib_record.specs.Places.{place_in}
 use Rattle.scrib_record.proofs.RolePlaces.{place_for, is_declared}
 use Rattle.scrib_record.proofs.PermittedLogLemmas.{permitted_on, may_follow}
 use Rattle.scrib_record.proofs.Partners.{acts_among}
@@ -140,22 +141,22 @@ record IsChooser (a : Agreement) (ms : List (List (List Edge))) (log : List Even
   edges : slice_get m s.state ≡ Some es
   formed : well_formed a.roles a.global ≡ true
 
-may_from : (a : Agreement) (ms : List (List (List Edge))) (log : List Event) (c : Configuration) (r : List ℕ) (i : ℕ) (s : RoleState) (m : List (List Edge)) (es : List Edge) (act : Action) → IsChooser a ms log c r i s m es → Contains (map act_of es) act → IsEnabled a.roles c.queues i act → MayFollow a log (event_of r act)
+may_from : (a : Agreement) (ms : List (List (List Edge))) (log : List Event) (c : Configuration) (r : List ℕ) (i : ℕ) (s : RoleState) (m : List (List Edge)) (es : List Edge) (act : Action) → IsChooser a ms log c r i s m es → Contains (map act_of es) act → IsEnabled a.roles (in_flight c) i act → MayFollow a log (event_of r act)
 may_from a ms log c r i s m es Join h k u = absurd u
 may_from a ms log c r i s m es (Sends q x) h k u = acts_on a ms log r i s m (Sends q x) h.at h.joined (steps_of m s.state es (Sends q x) h.edges k)
 may_from a ms log c r i s m es (Receives p x) h k u =
-    (acts_on a ms log r i s m (Receives p x) h.at h.joined (steps_of m s.state es (Receives p x) h.edges k), front_oldest a log c.queues p r u.0 i x h.led_to.flying u.1 h.at.place u.2)
+    (acts_on a ms log r i s m (Receives p x) h.at h.joined (steps_of m s.state es (Receives p x) h.edges k), front_oldest a log (in_flight c) p r u.0 i x h.led_to.flying u.1 h.at.place u.2)
 
-due_from : (a : Agreement) (ms : List (List (List Edge))) (log : List Event) (c : Configuration) (r : List ℕ) (i : ℕ) (s : RoleState) (m : List (List Edge)) (es : List Edge) (act : Action) → IsChooser a ms log c r i s m es → MayFollow a log (event_of r act) → Contains (map act_of es) act × IsEnabled a.roles c.queues i act
+due_from : (a : Agreement) (ms : List (List (List Edge))) (log : List Event) (c : Configuration) (r : List ℕ) (i : ℕ) (s : RoleState) (m : List (List Edge)) (es : List Edge) (act : Action) → IsChooser a ms log c r i s m es → MayFollow a log (event_of r act) → Contains (map act_of es) act × IsEnabled a.roles (in_flight c) i act
 due_from a ms log c r i s m es Join h f = absurd (true≢false (sym h.joined ∙ h.at.role_state.joined ∙ f.1))
 due_from a ms log c r i s m es (Sends q x) h f =
     let w = acts_from a ms log r i s m (Sends q x) h.at f in (edges_with m s.state es (Sends q x) w.1.0 h.edges w.1.1, tt)
 due_from a ms log c r i s m es (Receives p x) h f =
     let w = acts_from a ms log r i s m (Receives p x) h.at f.0 in
     let from = place_for a.roles p (acts_among a log r (Receives p x) h.formed f.0) in
-    (edges_with m s.state es (Receives p x) w.1.0 h.edges w.1.1, (from.0, from.1, oldest_front a log c.queues p r from.0 i x h.led_to.flying from.1 h.at.place f.1))
+    (edges_with m s.state es (Receives p x) w.1.0 h.edges w.1.1, (from.0, from.1, oldest_front a log (in_flight c) p r from.0 i x h.led_to.flying from.1 h.at.place f.1))
 
-pub allowed_present : (a : Agreement) (ms : List (List (List Edge))) (log : List Event) (c : Configuration) (r : List ℕ) (i : ℕ) (s : RoleState) (m : List (List Edge)) (es : List Edge) (list : List Action) → LeadsTo a ms log c → IsAt a ms log r i s m → s.joined ≡ true → slice_get m s.state ≡ Some es → well_formed a.roles a.global ≡ true → IsPermitted a log → AllPairs ComesBefore list → ((act : Action) → Contains list act ↔ (Contains (map act_of es) act × IsEnabled a.roles c.queues i act)) → AreAllowed a log r list
+pub allowed_present : (a : Agreement) (ms : List (List (List Edge))) (log : List Event) (c : Configuration) (r : List ℕ) (i : ℕ) (s : RoleState) (m : List (List Edge)) (es : List Edge) (list : List Action) → LeadsTo a ms log c → IsAt a ms log r i s m → s.joined ≡ true → slice_get m s.state ≡ Some es → well_formed a.roles a.global ≡ true → IsPermitted a log → AllPairs ComesBefore list → ((act : Action) → Contains list act ↔ (Contains (map act_of es) act × IsEnabled a.roles (in_flight c) i act)) → AreAllowed a log r list
 allowed_present a ms log c r i s m es list st at j here f p sorted exact =
     let h : IsChooser a ms log c r i s m es = record { led_to = st; at = at; joined = j; edges = here; formed = f } in
     record {

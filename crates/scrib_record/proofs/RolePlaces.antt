@@ -8,7 +8,7 @@ use Rattle.std.proofs.lemmas.List.Quantifiers.{position-Some}
 use Rattle.std.proofs.lemmas.Option.{same_Some, slice_get-get_or}
 use Rattle.std.proofs.lemmas.Slice.Eq.{bytes_eq-Decides}
 use Rattle.scrib_types.specs.WellFormed.{has_role, distinct_roles}
-use Rattle.scrib_record.specs.Configurations.{place_in}
+use Rattle.scrib_record.specs.Places.{place_in}
 
 pub bytes_same : (p q : List ℕ) → bytes_eq p q ≡ true → p ≡ q
 bytes_same p q h = (bytes_eq-Decides p q).0 h

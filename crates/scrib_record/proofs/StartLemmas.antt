@@ -1,5 +1,5 @@
 -- The configuration before any event, and the log of no events.
-use Rattle.std.proofs.Common.{◌≡◌, false, ℕ, zero, suc, ◌+◌, ◌<◌, List, [], ◌∷◌, ◌++◌, Some, replicate, length, slice_get, refl, sym, ap, subst, ◌∙◌, arith}
+use Rattle.std.proofs.Common.{◌≡◌, false, ℕ, zero, suc, ◌+◌, ◌<◌, List, [], ◌∷◌, ◌++◌, Some, All, map, replicate, length, slice_get, refl, sym, ap, subst, ◌∙◌, arith}
 use Rattle.std.proofs.lemmas.List.{replicate_more, length-replicate}
 use Rattle.scrib_types.specs.declared.event.Event.{Event}
 use Rattle.scrib_types.specs.Agreement.{Agreement}
@@ -10,7 +10,8 @@ use Rattle.scrib_queues.specs.Channels.{AllEmpty}
 use Rattle.scrib_record.specs.declared.role_state.RoleState.{RoleState}
 use Rattle.scrib_record.specs.declared.configuration.Configuration.{Configuration}
 use Rattle.scrib_record.specs.RoleMachines.{AreMachinesOf}
-use Rattle.scrib_record.specs.Configurations.{LeadsTo}
+use Rattle.scrib_record.specs.declared.exchanges.Exchange.{Exchange}
+use Rattle.scrib_record.specs.Configurations.{LeadsTo, IsBetween, IsNumberedBy, exchanges_of, message_at}
 use Rattle.scrib_record.proofs.RolePlaces.{place_within, place_role, place_for}
 
 -- the state of a role that has not acted
@@ -30,8 +31,11 @@ some_there [] i h = absurd (omega arith)
 some_there (x ∷ xs) zero h = (x, refl)
 some_there (x ∷ xs) (suc i) h = some_there xs i (omega arith)
 
-pub led_start : (a : Agreement) (ms : List (List (List Edge))) (c : Configuration) (n : ℕ) → AreMachinesOf a ms → n ≡ length ms → c.role_states.items ≡ replicate n unmoved → c.queues.roles ≡ length ms → AllEmpty c.queues → LeadsTo a ms [] c
-led_start a ms c n w long role_states roles empty =
+no_numbers : (es : List Exchange) (i j : ℕ) → All (IsBetween es i j) []
+no_numbers es i j k d h = absurd (omega arith)
+
+pub led_start : (a : Agreement) (ms : List (List (List Edge))) (c : Configuration) (n : ℕ) → AreMachinesOf a ms → n ≡ length ms → c.role_states.items ≡ replicate n unmoved → c.queues.roles ≡ length ms → AllEmpty c.queues → IsNumberedBy a.roles ms c.numbering → LeadsTo a ms [] c
+led_start a ms c n w long role_states roles empty numbered =
     let all : length ms ≡ length a.roles = w.count in
     record {
       role_states = ap length role_states ∙ length-replicate n unmoved ∙ long ∙ all;
@@ -40,7 +44,10 @@ led_start a ms c n w long role_states roles empty =
           let in_ms : i < length ms = omega (arith, place_within a.roles r i e) in
           let m = some_there ms i in_ms in
           (unmoved, ap (λ (x : List RoleState). slice_get x i) role_states ∙ get_replicate n i unmoved (omega arith), record { machine = m.0; runs = m.1; joined = refl; led = refl });
-      flying = λ p q i j e f. sym (empty i j);
+      follow = w;
+      numbered = numbered;
+      queued = λ i j. subst (All (IsBetween (exchanges_of c.numbering) i j)) (sym (empty i j)) (no_numbers (exchanges_of c.numbering) i j);
+      flying = λ p q i j e f. sym (ap (map (message_at (exchanges_of c.numbering))) (empty i j));
     }
 
 no_event : (before : List Event) (e : Event) (after : List Event) → [] ≡ before ++ e ∷ after → ⊥

@@ -1,8 +1,10 @@
 pub mod Comparisons
 pub mod Configurations
+pub mod Exchanges
 pub mod Flat
 pub mod Following
 pub mod Judgings
+pub mod Places
 pub mod RoleMachines
 pub mod Stale
 pub mod Told

@@ -13,7 +13,6 @@ use crate::copies::copy_action;
 use crate::role_state::place_of;
 use crate::version::Version;
 use scrib_machine::machine::Edge;
-use scrib_queues::queues::Queues;
 use scrib_types::containers::Items;
 use scrib_types::event::Action;
 use scrib_types::name::Role;
@@ -46,28 +45,29 @@ pub fn choices(
         return Ok(only);
     }
     let edges = version.machines()[at].edges(role_state.state);
-    let list = allowed_actions(alloc, roles, &configuration.queues, at, edges)?;
+    let list = allowed_actions(configuration, roles, at, edges)?;
     Ok(list)
 }
 
 // Returns those of the edges' actions that the messages in flight allow the role at this place, in order.
 fn allowed_actions(
-    alloc: Global,
+    configuration: &Configuration,
     roles: &[Role],
-    queues: &Queues,
     at: usize,
     edges: &[Edge],
 ) -> Result<Items<Action>, AllocError>
-    requires roles { queues.now.roles ≡ length roles.now }
+    requires roles { configuration.now.queues.roles ≡ length roles.now }
+    requires queued { conf.AreQueued (conf.exchanges_of configuration.now.numbering) configuration.now.queues }
     requires place { at < length roles.now }
     requires order { AllPairs ComesBefore (map (λ e. e.action) edges.now) }
     ensures sorted { IfOk result (AllPairs ComesBefore) }
-    ensures exact { IfOk result (λ list. (act : Action)
-        → Contains list act ↔ (Contains (map (λ e. e.action) edges.now) act × conf.IsEnabled roles.now queues.now at act)) }
+    ensures exact { IfOk result (λ list. (act : Action) → Contains list act
+        ↔ (Contains (map (λ e. e.action) edges.now) act × conf.IsEnabled roles.now (conf.in_flight configuration.now) at act)) }
 {
+    let alloc = *configuration.role_states.allocator();
     let mut list = Items::new(alloc);
     for edge in edges {
-        if is_allowed(roles, queues, at, &edge.action) {
+        if is_allowed(configuration, roles, at, &edge.action) {
             let action = copy_action(&edge.action)?;
             list.push(action)?;
         }
@@ -77,30 +77,38 @@ fn allowed_actions(
 
 // Returns whether the messages in flight allow the role at this place this action. A reception takes the oldest
 // message.
-fn is_allowed(roles: &[Role], queues: &Queues, at: usize, action: &Action) -> bool
-    requires roles { queues.now.roles ≡ length roles.now }
+fn is_allowed(configuration: &Configuration, roles: &[Role], at: usize, action: &Action) -> bool
+    requires roles { configuration.now.queues.roles ≡ length roles.now }
+    requires queued { conf.AreQueued (conf.exchanges_of configuration.now.numbering) configuration.now.queues }
     requires place { at < length roles.now }
-    ensures { IsTrue result ↔ conf.IsEnabled roles.now queues.now at action.now }
+    ensures { IsTrue result ↔ conf.IsEnabled roles.now (conf.in_flight configuration.now) at action.now }
 {
     match action {
         // No machine has a join.
         Action::Join => false,
         Action::Sends { .. } => true,
         Action::Receives { from, message } => match place_of(roles, from) {
-            Some(sender) => is_first(queues, sender, at, message),
+            Some(sender) => is_first(configuration, sender, at, message),
             None => false,
         },
     }
 }
 
 // Returns whether the message is the oldest from `p` to `q`.
-fn is_first(queues: &Queues, p: usize, q: usize, message: &SharedMessage) -> bool
-    requires sender { p < queues.now.roles }
-    requires receiver { q < queues.now.roles }
-    ensures { IsTrue result ↔ conf.IsAtFront p q message.now queues.now }
+fn is_first(configuration: &Configuration, p: usize, q: usize, message: &SharedMessage) -> bool
+    requires queued { conf.AreQueued (conf.exchanges_of configuration.now.numbering) configuration.now.queues }
+    requires sender { p < configuration.now.queues.roles }
+    requires receiver { q < configuration.now.queues.roles }
+    ensures { IsTrue result ↔ conf.IsAtFront p q message.now (conf.in_flight configuration.now) }
 {
-    match queues.front(p, q) {
-        Some(first) => first.equal(message),
+    let Some(numbering) = &configuration.numbering else {
+        return false;
+    };
+    let Some(number) = configuration.queues.front(p, q) else {
+        return false;
+    };
+    match numbering.exchanges().get(*number) {
+        Some(exchange) => exchange.message.equal(message),
         None => false,
     }
 }

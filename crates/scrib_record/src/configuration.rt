@@ -1,31 +1,29 @@
 //! The configuration that a conversation's log leads to.
 
-ghost use Rattle.std.specs.Prelude.{◌≡◌, ◌↔◌, ◌<◌, ◌∷◌, ◌++◌, ℕ, List, [], IsTrue, IfOk, OnOk, OnErr};
+ghost use Rattle.std.specs.Prelude.{◌≡◌, [], IfOk, OnOk, OnErr};
 ghost use Rattle.scrib_types.specs.declared.event.Event.{Event};
 ghost use Rattle.scrib_types.specs.declared.event.Event.TheVariants.{Join, Sent, Received};
-ghost use Rattle.scrib_types.specs.declared.message.Message.{Message};
-ghost use Rattle.scrib_types.specs.Judgement.{AreAllowed};
 ghost use Rattle.scrib_types.specs.Permitted.{IsPermitted};
-ghost use Rattle.scrib_queues.specs.Channels.{SameQueues, queue_of};
 ghost use Rattle.scrib_record.specs.Configurations as conf;
 ghost use Rattle.scrib_record.specs.Versions.{meaning_of};
 
+use crate::numbered_edge::{after_reception, after_send};
+use crate::numbering::Numbering;
 use crate::role_state::RoleState;
 use crate::version::Version;
 use scrib_queues::queues::Queues;
-use scrib_types::containers::Items;
-use scrib_types::event::{Action, Event};
+use scrib_types::event::Event;
 use scrib_types::name::Role;
 use scrib_types::shared_event::SharedEvent;
-use scrib_types::shared_message::SharedMessage;
 use std::alloc::{AllocError, Global};
 
 /// A configuration of communicating machines (Brand and Zafiropulo, JACM 1983). It has the state of each role, in the
-/// order in which the roles are declared, and the messages in flight.
+/// order in which the roles are declared, and the messages in flight, as numbers of exchanges.
 #[derive(Drop)]
 pub struct Configuration {
     pub role_states: Vec<RoleState>,
-    pub queues: Queues,
+    pub queues: Queues<usize>,
+    pub numbering: Option<Numbering>,
 }
 
 impl Configuration {
@@ -33,11 +31,11 @@ impl Configuration {
     ///
     /// # Errors
     /// `AllocError` where memory was refused.
-    pub fn start(alloc: Global, version: &Version) -> Result<Configuration, AllocError>
-        ensures led_to { IfOk result (conf.LeadsTo (meaning_of version.now) version.now.machines []) }
-        ensures permitted { OnOk result (IsPermitted (meaning_of version.now) []) }
+    pub fn start(alloc: Global, numbering: Numbering) -> Result<Configuration, AllocError>
+        ensures led_to { IfOk result (conf.LeadsTo (meaning_of numbering.version) numbering.version.machines []) }
+        ensures permitted { OnOk result (IsPermitted (meaning_of numbering.version) []) }
     {
-        let machines = version.machines();
+        let machines = numbering.version().machines();
         let mut role_states = Vec::with_capacity(alloc, machines.len())?;
         for machine in machines {
             let state = machine.start();
@@ -50,7 +48,17 @@ impl Configuration {
         Ok(Configuration {
             role_states,
             queues,
+            numbering: Some(numbering),
         })
+    }
+
+    /// Returns a configuration without roles, for a log that is judged withdrawn.
+    pub fn none(alloc: Global) -> Configuration {
+        Configuration {
+            role_states: Vec::new(alloc),
+            queues: Queues::new(alloc, 0),
+            numbering: None,
+        }
     }
 
     /// Performs the event and returns `true` if it may follow. Otherwise it returns `false` and changes nothing.
@@ -65,8 +73,8 @@ impl Configuration {
     {
         match event.get() {
             Event::Join { role } => Ok(self.join(version, role)),
-            Event::Sent { from, to, message } => self.send(version, from, to, message),
-            Event::Received { from, to, message } => Ok(self.receive(version, from, to, message)),
+            Event::Sent { .. } => self.send(version, event),
+            Event::Received { .. } => Ok(self.receive(version, event)),
         }
     }
 
@@ -88,81 +96,65 @@ impl Configuration {
         true
     }
 
-    fn send(
-        &mut self,
-        version: &Version,
-        from: &Role,
-        to: &Role,
-        message: &SharedMessage,
-    ) -> Result<bool, AllocError>
-        requires { conf.IsReached (meaning_of version.now) version.now.machines self.old }
-        ensures ok { IfOk result (conf.Advances (meaning_of version.now) version.now.machines
-            (Sent from.now to.now message.now) self.old self.new) }
+    fn send(&mut self, _version: &Version, event: &SharedEvent) -> Result<bool, AllocError>
+        requires reached { conf.IsReached (meaning_of _version.now) _version.now.machines self.old }
+        requires sent { conf.IsSend event.now }
+        ensures ok { IfOk result (conf.Advances (meaning_of _version.now) _version.now.machines event.now self.old
+            self.new) }
         ensures err { OnErr result (conf.IsSameConfiguration self.old self.new) }
     {
-        let Some(p) = version.place_of(from) else {
+        let Some(numbering) = &self.numbering else {
             return Ok(false);
         };
-        let Some(q) = version.place_of(to) else {
+        let Some(exchange) = numbering.find(event) else {
             return Ok(false);
         };
-        let Some(state) = self.role_states[p].step_send(&version.machines()[p], to, message) else {
+        let sender = self.role_states[exchange.from];
+        if !sender.joined {
+            return Ok(false);
+        }
+        let row = numbering.row(exchange.from, sender.state);
+        let Some(state) = after_send(row, exchange.number) else {
             return Ok(false);
         };
-        enqueue(&mut self.queues, p, q, message)?;
-        self.role_states[p] = RoleState {
+        self.queues
+            .send(exchange.from, exchange.to, exchange.number)?;
+        self.role_states[exchange.from] = RoleState {
             joined: true,
             state,
         };
         Ok(true)
     }
 
-    fn receive(
-        &mut self,
-        version: &Version,
-        from: &Role,
-        to: &Role,
-        message: &SharedMessage,
-    ) -> bool
-        requires { conf.IsReached (meaning_of version.now) version.now.machines self.old }
-        ensures { conf.Advances (meaning_of version.now) version.now.machines (Received from.now to.now message.now)
-            self.old self.new result }
+    fn receive(&mut self, _version: &Version, event: &SharedEvent) -> bool
+        requires reached { conf.IsReached (meaning_of _version.now) _version.now.machines self.old }
+        requires received { conf.IsReception event.now }
+        ensures { conf.Advances (meaning_of _version.now) _version.now.machines event.now self.old self.new result }
     {
-        let Some(p) = version.place_of(from) else {
+        let Some(numbering) = &self.numbering else {
             return false;
         };
-        let Some(q) = version.place_of(to) else {
+        let Some(exchange) = numbering.find(event) else {
             return false;
         };
-        let Some(state) = self.role_states[q].step_receive(&version.machines()[q], from, message)
-        else {
-            return false;
-        };
-        if !self.queues.receive(p, q, message) {
+        let receiver = self.role_states[exchange.to];
+        if !receiver.joined {
             return false;
         }
-        self.role_states[q] = RoleState {
+        let row = numbering.row(exchange.to, receiver.state);
+        let Some(state) = after_reception(row, exchange.number) else {
+            return false;
+        };
+        if !self
+            .queues
+            .receive(exchange.from, exchange.to, &exchange.number)
+        {
+            return false;
+        }
+        self.role_states[exchange.to] = RoleState {
             joined: true,
             state,
         };
         true
     }
-}
-
-// Appends the message to the queue from `p` to `q`, or changes nothing.
-fn enqueue(
-    queues: &mut Queues,
-    p: usize,
-    q: usize,
-    message: &SharedMessage,
-) -> Result<(), AllocError>
-    requires sender { p < queues.old.roles }
-    requires receiver { q < queues.old.roles }
-    ensures roles { queues.new.roles ≡ queues.old.roles }
-    ensures pushed { OnOk result (queue_of queues.new p q ≡ queue_of queues.old p q ++ message.now ∷ []) }
-    ensures others { OnOk result (conf.Others p q queues.old queues.new) }
-    ensures err { OnErr result (SameQueues queues.old queues.new) }
-{
-    let message = message.copy()?;
-    queues.send(p, q, message)
 }

@@ -16,8 +16,8 @@ use crate::choices::choices;
 use crate::comparison::Comparison;
 use crate::configuration::Configuration;
 use crate::copies::copy_verdict;
+use crate::numbering::Numbering;
 use crate::version::Version;
-use scrib_queues::queues::Queues;
 use scrib_types::allowed::Allowed;
 use scrib_types::event::{Told, Verdict};
 use scrib_types::shared_event::SharedEvent;
@@ -50,18 +50,18 @@ pub enum Halt {
 }
 
 impl Judging {
-    /// Returns the judgement of no event under the version.
+    /// Returns the judgement of no event under the numbering's version.
     ///
     /// # Errors
     /// `AllocError` where memory was refused.
-    pub fn start(alloc: Global, version: &Version) -> Result<Judging, AllocError>
+    pub fn start(alloc: Global, numbering: Numbering) -> Result<Judging, AllocError>
         ensures kept { IfOk result (λ new. (log : List Event) → kept.IsKept log new) }
-        ensures held { IfOk result (λ new. new.held ≡ Some version.now) }
+        ensures held { IfOk result (λ new. new.held ≡ Some numbering.version) }
         ensures judged { IfOk result (λ new. new.judged ≡ 0) }
         ensures verdict { IfOk result (λ new. new.verdict ≡ Permitted) }
     {
-        let held = Some(version.share()?);
-        let configuration = Configuration::start(alloc, version)?;
+        let held = Some(numbering.version().share()?);
+        let configuration = Configuration::start(alloc, numbering)?;
         Ok(Judging {
             held,
             judged: 0,
@@ -81,10 +81,7 @@ impl Judging {
             held: None,
             judged: events,
             reached: events,
-            configuration: Configuration {
-                role_states: Vec::new(alloc),
-                queues: Queues::new(alloc, 0),
-            },
+            configuration: Configuration::none(alloc),
             verdict: Verdict::Withdrawn,
         }
     }
@@ -151,7 +148,8 @@ impl Judging {
     }
 
     /// Performs a turn. Without a present version it judges the log withdrawn. Otherwise it judges at most 256 more
-    /// events, from event 1 if another version is held.
+    /// events, from event 1 if another version is held. `known` may be any numbering: that of another conversation, which
+    /// is shared if it is of the present version.
     ///
     /// # Errors
     /// `AllocError` where memory was refused. The judgement is unchanged then.
@@ -160,6 +158,7 @@ impl Judging {
         present: Option<&Version>,
         comparison: Comparison,
         log: &[SharedEvent],
+        known: Option<Numbering>,
     ) -> Result<Told, AllocError>
         requires serves { ServesFor comparison (option_copied present) self.old.held }
         requires kept { kept.IsKept log.now self.old }
@@ -178,7 +177,8 @@ impl Judging {
         if is_present(present, &self.held, comparison) {
             return self.judge_more(log);
         }
-        let mut anew = Judging::start(alloc, version)?;
+        let numbering = Numbering::of(alloc, version, known)?;
+        let mut anew = Judging::start(alloc, numbering)?;
         let answer = anew.judge_more(log)?;
         *self = anew;
         Ok(answer)

@@ -12,6 +12,7 @@ use crate::answer::Answer;
 use crate::comparison::Comparison;
 use crate::fault::NoteFault;
 use crate::judging::Judging;
+use crate::numbering::Numbering;
 use crate::version::Version;
 use scrib_types::event::{Told, Verdict};
 use scrib_types::name::Dotted;
@@ -63,13 +64,34 @@ impl Record {
     pub fn new(alloc: Global, name: Dotted, version: &Version) -> Result<Record, AllocError>
         ensures { IfOk result (λ new. new ≡ new_record name version.now) }
     {
-        let judging = Judging::start(alloc, version)?;
+        let numbering = Numbering::new(alloc, version)?;
+        Record::with_numbering(alloc, name, numbering)
+    }
+
+    /// Returns the record of an empty log, judged under the numbering's version.
+    ///
+    /// # Errors
+    /// `AllocError` where memory was refused.
+    pub fn with_numbering(
+        alloc: Global,
+        name: Dotted,
+        numbering: Numbering,
+    ) -> Result<Record, AllocError>
+        ensures { IfOk result (λ new. new ≡ new_record name numbering.version) }
+    {
+        let judging = Judging::start(alloc, numbering)?;
         Ok(Record {
             name,
             log: Vec::new(alloc),
             judging,
             hint: 0,
         })
+    }
+
+    /// Returns the numbering of the version under which the events are judged, shared, so that other records need not
+    /// make it anew. There is none if they are judged withdrawn, or if the reference count cannot rise.
+    pub fn numbering(&self) -> Option<Numbering> {
+        self.judging.configuration.numbering.as_ref()?.share().ok()
     }
 
     /// Returns the full name of the protocol.
@@ -149,7 +171,8 @@ impl Record {
     }
 
     /// Judges a stale record again. Without a present version it is judged withdrawn at once. Otherwise at most 256
-    /// more events are judged, from event 1 if another version is held. A record that is not stale is unchanged.
+    /// more events are judged, from event 1 if another version is held. A record that is not stale is unchanged. `known`
+    /// may be any numbering: that of another record, which is shared if it is of the present version.
     ///
     /// # Errors
     /// `AllocError` where memory was refused. The record is unchanged then.
@@ -157,6 +180,7 @@ impl Record {
         &mut self,
         present: Option<&Version>,
         comparison: Comparison,
+        known: Option<Numbering>,
     ) -> Result<Told, AllocError>
         requires { ServesFor comparison (option_copied present) self.old.held }
         ensures ok { IfOk result (IsTurned (option_copied present.entry) self.old self.new) }
@@ -167,7 +191,7 @@ impl Record {
                 .judging
                 .current_verdict(present, comparison, self.log.len());
         }
-        self.judging.turn(present, comparison, &self.log)
+        self.judging.turn(present, comparison, &self.log, known)
     }
 
     /// Returns the verdict on the log, or `Stale`. `present` is the present version of the record's protocol, if there

@@ -3,7 +3,7 @@ use Rattle.scrib_types.specs.declared.event.Action.{Action}
 use Rattle.scrib_types.specs.declared.event.Action.TheVariants.{Join}
 use Rattle.scrib_types.specs.Agreement.{Agreement}
 use Rattle.scrib_types.specs.Meaning.{agreement_of}
-use Rattle.scrib_record.specs.Configurations.{IsEnabled}
+use Rattle.scrib_record.specs.Configurations.{IsEnabled, in_flight}
 use Rattle.scrib_record.specs.Versions.{meaning_of}
 use Rattle.scrib_record.proofs.AdvanceLemmas.{place_is, role_state_read, at_read, formed}
 use Rattle.scrib_record.proofs.NextActions.{act_of, allowed_nobody, allowed_absent, allowed_present}
@@ -47,6 +47,6 @@ returns c log st p =
     let place = place_is c.roles-roles.result.now a.roles c.args.role.now c.place_of.result _ roles c.place_of.ensures c.in-Some.is in
     let at = at_read a v.machines c.machines.result.now log conf c.args.role.now c.in-Some.at c.index-role_state.result.now c.index-machines-at.result c.machines.ensures.follow st place c.index-role_state.ensures c.machines.ensures.machines c.index-machines-at.is in
     let list = c.in_ok-list.list in
-    let exact = subst (λ (rs : List _). (act : Action) → Contains list act ↔ (Contains (map act_of c.edges-edges.result.now) act × IsEnabled rs conf.queues c.in-Some.at act)) roles c.in_ok-list.ensures.exact in
+    let exact = subst (λ (rs : List _). (act : Action) → Contains list act ↔ (Contains (map act_of c.edges-edges.result.now) act × IsEnabled rs (in_flight conf) c.in-Some.at act)) roles c.in_ok-list.ensures.exact in
     allowed_present a v.machines log conf c.args.role.now c.in-Some.at c.index-role_state.result.now c.index-machines-at.result c.edges-edges.result.now list st at c.if-not-role_state.false c.edges-edges.ensures.here
     (formed (agreement_of c.protocol.result.now) a c.protocol.ensures c.roles-roles.ensures.valid) p c.in_ok-list.ensures.sorted exact

@@ -22,4 +22,4 @@ returns c log st =
     let self = c.args.self.now in
     let place = sym c.place_of.ensures.place ∙ c.in-Some.is in
     let role_state = role_state_read a c.args.version.now.machines log self c.args.role.now c.in-Some.at c.index-role_state.result.now st place c.index-role_state.ensures in
-    joins a c.args.version.now.machines log self _ c.args.role.now c.in-Some.at c.index-role_state.result.now _ st place role_state c.if-role_state.false refl refl refl refl
+    joins a c.args.version.now.machines log self _ c.args.role.now c.in-Some.at c.index-role_state.result.now _ st place role_state c.if-role_state.false refl refl refl refl refl

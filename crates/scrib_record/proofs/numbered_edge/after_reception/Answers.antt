@@ -1,0 +1,6 @@
+use Rattle.std.proofs.Common.{arith}
+use Rattle.scrib_record.specs.declared.numbered_edge.NumberedEdge.TheVariants.{Receives}
+use Rattle.scrib_record.proofs.numbered_edge.after_reception.Goals as goal
+
+pub returns-clause-absent : goal.returns-clause-absent
+returns-clause-absent c e next h = c.loop-edge.invariant h.0 (Receives c.args.exchange next) (omega (arith, h.1)) next h.2

@@ -1,0 +1,103 @@
+-- Exchanges by number, and edges by the numbers of their exchanges (this project's own). Only contracts of private
+-- functions cite this file.
+use Rattle.std.specs.Prelude.{◌≡◌, ◌⊎◌, ℕ, List, [], ◌∷◌, ◌++◌, length, get_or, slice_get, Option, Some, None, Contains}
+use Rattle.std.specs.List.{AllZip}
+use Rattle.scrib_types.specs.declared.message.Message.{Message}
+use Rattle.scrib_types.specs.declared.event.Action.{Action}
+use Rattle.scrib_types.specs.declared.event.Action.TheVariants as action
+use Rattle.scrib_types.specs.declared.event.Event.{Event}
+use Rattle.scrib_types.specs.declared.event.Event.TheVariants as event
+use Rattle.scrib_types.specs.FlatEvents.{exchange_bytes}
+use Rattle.scrib_machine.specs.declared.machine.Edge.{Edge}
+use Rattle.scrib_record.specs.declared.exchanges.Exchange.{Exchange}
+use Rattle.scrib_record.specs.declared.exchanges.Located.{Located}
+use Rattle.scrib_record.specs.declared.numbered_edge.NumberedEdge.{NumberedEdge}
+use Rattle.scrib_record.specs.declared.numbered_edge.NumberedEdge.TheVariants.{Joins, Sends, Receives}
+use Rattle.scrib_record.specs.declared.version.Edition.{Edition}
+use Rattle.scrib_record.specs.Places.{place_in}
+
+abbrev pub no_exchanges : List Exchange
+no_exchanges = []
+
+-- the send of the message
+abbrev pub send_of : List ℕ → List ℕ → Message → Event
+send_of p q m = event.Sent p q m
+
+-- the exchange is that of a message between two of the roles
+pub record IsExchange (roles : List (List ℕ)) (x : Exchange) : Type 0 where
+  pub sender : List ℕ
+  pub receiver : List ℕ
+  pub send : x.send ≡ event.Sent sender receiver x.message
+  pub from : place_in roles sender ≡ Some x.from
+  pub to : place_in roles receiver ≡ Some x.to
+
+-- the exchange of this number is one of the event
+pub record IsNumberOf (es : List Exchange) (e : Event) (k : ℕ) : Type 0 where
+  pub exchange : Exchange
+  pub here : slice_get es k ≡ Some exchange
+  pub same : exchange_bytes exchange.send ≡ exchange_bytes e
+
+-- the exchange of the event, with its places
+pub record IsLocated (es : List Exchange) (e : Event) (l : Located) : Type 0 where
+  pub exchange : Exchange
+  pub here : slice_get es l.number ≡ Some exchange
+  pub same : exchange_bytes exchange.send ≡ exchange_bytes e
+  pub from : l.from ≡ exchange.from
+  pub to : l.to ≡ exchange.to
+
+-- no exchange is one of the event
+abbrev pub IsAbsent : List Exchange → Event → Type 0
+IsAbsent es e = (k : ℕ) → IsNumberOf es e k → ⊥
+
+-- the number is that of an exchange with the same bytes
+abbrev pub IsNumbered : List Exchange → Exchange → ℕ → Type 0
+IsNumbered es x k = IsNumberOf es x.send k
+
+-- the exchange was there, or it is appended and was not there
+abbrev pub AreMore : List Exchange → Exchange → List Exchange → Type 0
+AreMore old x new = (new ≡ old) ⊎ (IsAbsent old x.send × (new ≡ old ++ x ∷ []))
+
+-- each exchange is between two of the roles, and no two are the same
+pub record AreExchanges (roles : List (List ℕ)) (es : List Exchange) : Type 0 where
+  pub each : (k : ℕ) (x : Exchange) → slice_get es k ≡ Some x → IsExchange roles x
+  pub distinct : (i k : ℕ) (x : Exchange) → slice_get es i ≡ Some x → IsNumberOf es x.send k → i ≡ k
+
+-- each exchange keeps its number
+abbrev pub KeepsNumbers : List Exchange → List Exchange → Type 0
+KeepsNumbers old new = (k : ℕ) (x : Exchange) → slice_get old k ≡ Some x → slice_get new k ≡ Some x
+
+-- the numbered edge is this edge of the role's machine
+abbrev pub IsEdge : List Exchange → List ℕ → NumberedEdge → Edge → Type 0
+IsEdge es role Joins e = e.action ≡ action.Join
+IsEdge es role (Sends k n) e =
+    (q : List ℕ) × (m : Message) × (e ≡ record { action = action.Sends q m; next = n })
+    × IsNumberOf es (event.Sent role q m) k
+IsEdge es role (Receives k n) e =
+    (p : List ℕ) × (m : Message) × (e ≡ record { action = action.Receives p m; next = n })
+    × IsNumberOf es (event.Received p role m) k
+
+-- the numbered rows are those of the role's machine
+abbrev pub AreRows : List Exchange → List ℕ → List (List NumberedEdge) → List (List Edge) → Type 0
+AreRows es role rows m = AllZip (AllZip (IsEdge es role)) rows m
+
+-- the edges of the state, or none
+abbrev pub row_of : List (List NumberedEdge) → ℕ → List NumberedEdge
+row_of rows state = get_or rows state []
+
+-- the edges of the state of the machine at this place, or none
+abbrev pub row_at : List (List (List NumberedEdge)) → (place state : ℕ) → List NumberedEdge
+row_at machines place state = row_of (get_or machines place []) state
+
+-- a version, its exchanges, and the rows of each role's machine by their numbers
+pub record Numbered : Type 0 where
+  pub version : Edition
+  pub exchanges : List Exchange
+  pub machines : List (List (List NumberedEdge))
+
+-- the exchanges and edges of these machines of the roles, in the order of the roles
+pub record IsNumberingOf (roles : List (List ℕ)) (ms : List (List (List Edge))) (es : List Exchange)
+    (ns : List (List (List NumberedEdge))) : Type 0 where
+  pub exchanges : AreExchanges roles es
+  pub count : length ns ≡ length ms
+  pub rows : (i : ℕ) (role : List ℕ) (m : List (List Edge)) → slice_get roles i ≡ Some role → slice_get ms i ≡ Some m
+      → (rows : List (List NumberedEdge)) × (slice_get ns i ≡ Some rows) × AreRows es role rows m

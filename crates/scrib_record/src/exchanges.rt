@@ -1,0 +1,196 @@
+//! The exchanges of a protocol, by number.
+
+ghost use Rattle.std.specs.Prelude.{◌≡◌, IfOk, OnOk, IfSome, None};
+ghost use Rattle.scrib_record.specs.Exchanges as spec;
+
+use scrib_types::hashing::{empty_slots, slot_of};
+use scrib_types::shared_event::SharedEvent;
+use scrib_types::shared_message::SharedMessage;
+use std::alloc::{AllocError, Global};
+use std::marker::Model;
+
+// The number of slots of the first table.
+const FIRST_SLOTS: usize = 16;
+
+/// A message from one role to another: its send, and the places of its sender and its receiver among the roles.
+#[derive(Drop)]
+pub struct Exchange {
+    pub send: SharedEvent,
+    pub message: SharedMessage,
+    pub from: usize,
+    pub to: usize,
+}
+
+/// The number of an exchange, and the places of its sender and its receiver among the roles.
+#[derive(Clone, Copy)]
+pub struct Located {
+    pub number: usize,
+    pub from: usize,
+    pub to: usize,
+}
+
+/// Exchanges. The number of each is its index. They are looked up by hash. Contracts see the list.
+#[derive(Drop)]
+pub struct Exchanges {
+    list: Vec<Exchange>,
+    // The number of each exchange, in the first free slot from that of its hash on. Correctness does not depend on it.
+    slots: Vec<Option<usize>>,
+}
+
+impl Model for Exchanges {
+    ghost use Rattle.std.specs.Prelude.{List};
+    ghost use Rattle.scrib_record.specs.declared.exchanges.Exchange.{Exchange};
+
+    ghost Value = { List Exchange };
+
+    ghost view = { λ e. e.list.items };
+}
+
+impl Exchanges {
+    /// Returns no exchanges.
+    pub fn new(alloc: Global) -> Exchanges
+        ensures { result ≡ spec.no_exchanges }
+    {
+        Exchanges {
+            list: Vec::new(alloc),
+            slots: Vec::new(alloc),
+        }
+    }
+
+    /// Returns the allocator.
+    pub fn alloc(&self) -> Global {
+        *self.list.allocator()
+    }
+
+    /// Returns the exchanges, in the order of their numbers.
+    #[inline(always)]
+    pub fn as_slice(&self) -> &[Exchange]
+        ensures { result.now ≡ self.now }
+    {
+        self.list.as_slice()
+    }
+
+    /// Returns the exchange of which the event is the send or the reception, if there is one.
+    #[inline(always)]
+    pub fn find(&self, event: &SharedEvent) -> Option<Located>
+        ensures found { IfSome result (spec.IsLocated self.now event.now) }
+        ensures absent { result ≡ None → spec.IsAbsent self.now event.now }
+    {
+        if let Some(number) = self.hinted(event.exchange_hash()) {
+            if let Some(located) = located_at(&self.list, number, event) {
+                return Some(located);
+            }
+        }
+        search(&self.list, event)
+    }
+
+    // Returns the number of an exchange with this hash, if the slots have one. It is only a hint.
+    #[inline(always)]
+    fn hinted(&self, hash: u64) -> Option<usize> {
+        let mut slot = slot_of(hash, self.slots.len());
+        for _ in 0..self.slots.len() {
+            let number = (*self.slots.get(slot)?)?;
+            if self.list.get(number)?.send.exchange_hash() == hash {
+                return Some(number);
+            }
+            slot = next_slot(slot, self.slots.len());
+        }
+        None
+    }
+
+    /// Returns the number of this exchange. A new one is appended.
+    ///
+    /// # Errors
+    /// `AllocError` if memory was refused.
+    pub fn number_of(&mut self, exchange: Exchange) -> Result<usize, AllocError>
+        ensures numbered { IfOk result (spec.IsNumbered self.new exchange) }
+        ensures more { OnOk result (spec.AreMore self.old exchange self.new) }
+    {
+        if let Some(located) = self.find(&exchange.send) {
+            return Ok(located.number);
+        }
+        let number = self.list.len();
+        self.make_room()?;
+        enter(&mut self.slots, exchange.send.exchange_hash(), number);
+        self.list.push(exchange)?;
+        Ok(number)
+    }
+
+    // Doubles the slots if half of them are used, and enters all exchanges again.
+    fn make_room(&mut self) -> Result<(), AllocError>
+        ensures { self.new ≡ self.old }
+    {
+        let count = self.slots.len();
+        if self.list.len() < count / 2 {
+            return Ok(());
+        }
+        let alloc = self.alloc();
+        let count = count.saturating_mul(2).max(FIRST_SLOTS);
+        self.slots = slots_of(&self.list, empty_slots(alloc, count)?);
+        Ok(())
+    }
+}
+
+// Returns the slots with the number of each exchange.
+fn slots_of(list: &[Exchange], empty: Vec<Option<usize>>) -> Vec<Option<usize>> {
+    let mut slots = empty;
+    for (number, exchange) in list.iter().enumerate() {
+        enter(&mut slots, exchange.send.exchange_hash(), number);
+    }
+    slots
+}
+
+// Writes the number into the first free slot from that of the hash on.
+fn enter(slots: &mut Vec<Option<usize>>, hash: u64, number: usize) {
+    let count = slots.len();
+    let mut slot = slot_of(hash, count);
+    for _ in 0..count {
+        match slots.get_mut(slot) {
+            Some(free) if free.is_none() => {
+                *free = Some(number);
+                return;
+            }
+            _ => slot = next_slot(slot, count),
+        }
+    }
+}
+
+// Returns the slot after this one, in a table of `count` slots, a power of two.
+#[inline(always)]
+fn next_slot(slot: usize, count: usize) -> usize {
+    slot.wrapping_add(1) & count.saturating_sub(1)
+}
+
+// Returns the exchange of this number, if the event is its send or its reception.
+#[inline(always)]
+fn located_at(list: &[Exchange], number: usize, event: &SharedEvent) -> Option<Located>
+    ensures { IfSome result (spec.IsLocated list.now event.now) }
+{
+    let exchange = list.get(number)?;
+    if exchange.send.same_exchange(event) {
+        Some(Located {
+            number,
+            from: exchange.from,
+            to: exchange.to,
+        })
+    } else {
+        None
+    }
+}
+
+// Returns the first exchange of which the event is the send or the reception, if there is one.
+fn search(list: &[Exchange], event: &SharedEvent) -> Option<Located>
+    ensures found { IfSome result (spec.IsLocated list.now event.now) }
+    ensures absent { result ≡ None → spec.IsAbsent list.now event.now }
+{
+    for (number, exchange) in list.iter().enumerate() {
+        if exchange.send.same_exchange(event) {
+            return Some(Located {
+                number,
+                from: exchange.from,
+                to: exchange.to,
+            });
+        }
+    }
+    None
+}
