@@ -12,7 +12,7 @@ use Rattle.scrib_record.specs.declared.version.Version.{Version}
 use Rattle.scrib_record.specs.Stale.{Recorded, IsLawful}
 use Rattle.scrib_record.specs.Told.{IsNoted, IsTurned, IsReported}
 use Rattle.scrib_record.specs.Turns.{new_record}
-use Rattle.scrib_record.specs.Versions.{meaning_of, number_of}
+use Rattle.scrib_record.specs.Versions.{meaning_of, number_of, HaveSameStamp}
 use Rattle.scrib_library.specs.Holdings.{Holdings, IsNumber}
 use Rattle.scrib_library.specs.Modules.{Means, IsMeaning, MeansOnce}
 use Rattle.scrib_core.specs.declared.reply.Refusal.{Refusal}
@@ -35,6 +35,10 @@ IsSoundComparison Numbers h rs = AreKnown h rs × MeansOnce h.modules
 abbrev pub IsSoundForRecord : Comparison → Holdings → Recorded → Type 0
 IsSoundForRecord Whole h r = Unit {0}
 IsSoundForRecord Numbers h r = IsKnown h r
+
+-- the record of an empty log, judged under a version of this stamp
+abbrev pub IsBegun : (name : List (List ℕ)) → Version → Recorded → Type 0
+IsBegun name version new = (v : Version) × HaveSameStamp version v × (new ≡ new_record name v)
 
 -- The library has the protocol, the id is free, and fewer than `limit` conversations are open. One record is added.
 pub record IsOpened (limit : ℕ) (h : Holdings) (old : Records) (id : ℕ) (name : List (List ℕ))

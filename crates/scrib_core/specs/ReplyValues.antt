@@ -6,6 +6,8 @@ use Rattle.scrib_types.specs.declared.event.Told.TheVariants as tell
 use Rattle.scrib_types.specs.declared.event.Verdict.TheVariants.{Permitted, Offence, Withdrawn}
 use Rattle.scrib_record.specs.declared.answer.Answer.{Answer}
 use Rattle.scrib_record.specs.declared.answer.Answer.TheVariants as answer
+use Rattle.scrib_record.specs.declared.fault.NoteFault.{NoteFault}
+use Rattle.scrib_record.specs.declared.fault.NoteFault.TheVariants as note_fault
 use Rattle.scrib_library.specs.declared.changes.Changes.{Changes}
 use Rattle.scrib_library.specs.declared.fault.EditFault.{EditFault}
 use Rattle.scrib_library.specs.declared.fault.EditFault.TheVariants as fault
@@ -42,6 +44,11 @@ refusal_of (fault.Project u) = refusal.Edit (fault.Project u)
 refusal_of fault.VersionsFull = refusal.Edit fault.VersionsFull
 refusal_of (fault.NeedsReception name) = refusal.Edit (fault.NeedsReception name)
 refusal_of fault.OutOfMemory = refusal.OutOfMemory
+
+-- the refusal of a note of this fault
+abbrev pub note_refusal : NoteFault → Refusal
+note_refusal note_fault.LogFull = refusal.LogFull
+note_refusal note_fault.OutOfMemory = refusal.OutOfMemory
 
 -- the reply to an edit
 abbrev pub edit_reply_of : Edit → Result Changes EditFault → Reply

@@ -1,16 +1,16 @@
 //! The steps of one conversation over a library: open, note, turn and ask.
 
 ghost use Rattle.std.specs.Prelude.{◌≡◌, IfOk, IfErr, OnOk, OnErr};
-ghost use Rattle.scrib_record.specs.Turns.{new_record};
 ghost use Rattle.std.specs.Option.{option_copied};
-ghost use Rattle.scrib_core.specs.ConversationSteps.{IsOpened, OpenFails, IsNotedAt, NoteFails, IsTurnedAt, IsAskedAt, VerdictFails, IsPresent, IsSoundComparison, IsSoundForRecord};
+ghost use Rattle.scrib_core.specs.ConversationSteps.{IsOpened, OpenFails, IsNotedAt, NoteFails, IsTurnedAt, IsAskedAt, VerdictFails, IsBegun, IsPresent, IsSoundComparison, IsSoundForRecord};
 
+use crate::holders::Holders;
 use crate::reply::Refusal;
 use crate::verdicts::verdict_of;
 use indexmap::IndexMap;
 use scrib_library::library::Library;
 use scrib_record::comparison::Comparison;
-use scrib_record::fault::NoteFault;
+use scrib_record::numbering::Numbering;
 use scrib_record::record::Record;
 use scrib_record::version::Version;
 use scrib_types::event::Told;
@@ -33,7 +33,16 @@ pub struct Judged {
     pub told: Told,
 }
 
-/// Opens a conversation of the protocol, if fewer than `limit` are open. Returns the protocol's name.
+/// What is opened: a conversation of this id, under the protocol of this name, if fewer than `limit` are open.
+#[derive(Clone, Copy)]
+pub struct Opening<'a> {
+    pub limit: usize,
+    pub id: u32,
+    pub name: &'a Dotted,
+}
+
+/// Opens a conversation of the protocol, if fewer than the limit are open. Returns the protocol's name. The holders say
+/// which conversation may have the numbering of the version, and this one is noted there.
 ///
 /// # Errors
 /// `AlreadyOpen`, `UnknownProtocol`, `TooManyConversations` or `OutOfMemory`, whichever applies first. Nothing changes
@@ -41,31 +50,37 @@ pub struct Judged {
 pub fn open(
     library: &Library,
     records: &mut IndexMap<u32, Record>,
-    limit: usize,
-    id: u32,
-    name: &Dotted,
+    holders: &mut Holders,
+    opening: Opening<'_>,
 ) -> Result<Dotted, Refusal>
-    ensures name { IfOk result (λ n. n ≡ name.now) }
-    ensures ok { OnOk result (IsOpened limit library.now records.old.entries id name.now records.new.entries) }
-    ensures fault { IfErr result (OpenFails limit library.now records.old.entries id name.now) }
+    ensures name { IfOk result (λ n. n ≡ opening.entry.name.now) }
+    ensures ok { OnOk result (IsOpened opening.entry.limit library.now records.old.entries opening.entry.id
+        opening.entry.name.now records.new.entries) }
+    ensures fault { IfErr result (OpenFails opening.entry.limit library.now records.old.entries opening.entry.id
+        opening.entry.name.now) }
     ensures err { OnErr result (records.new.entries ≡ records.old.entries) }
 {
     let alloc = *records.allocator();
-    if records.contains_key(&id) {
+    let name = opening.name;
+    if records.contains_key(&opening.id) {
         return Err(Refusal::AlreadyOpen);
     }
     let Some(version) = library.present(name) else {
         return Err(Refusal::UnknownProtocol);
     };
-    if records.len() >= limit {
+    if records.len() >= opening.limit {
         return Err(Refusal::TooManyConversations);
     }
     let shared = library.shared_name(name);
-    let (Ok(record), Ok(reply_name)) = (begin(alloc, shared, version), shared.copy()) else {
+    let known = holders.numbering(records, name);
+    let (Ok(record), Ok(reply_name)) = (begin(alloc, shared, version, known), shared.copy()) else {
         return Err(Refusal::OutOfMemory);
     };
-    match records.insert(id, record) {
-        Ok(_) => Ok(reply_name),
+    match records.insert(opening.id, record) {
+        Ok(_) => {
+            holders.note(name, opening.id);
+            Ok(reply_name)
+        }
         Err(_) => Err(Refusal::OutOfMemory),
     }
 }
@@ -92,17 +107,12 @@ pub fn note(
         return Err(Refusal::NoConversation);
     };
     let (hint, present) = present_of(library, record, comparison);
-    match record.note(present, comparison, event) {
-        Ok(told) => {
-            record.set_hint(hint);
-            Ok(Noted {
-                place: record.log().len(),
-                told,
-            })
-        }
-        Err(NoteFault::LogFull) => Err(Refusal::LogFull),
-        Err(NoteFault::OutOfMemory) => Err(Refusal::OutOfMemory),
-    }
+    let verdict = record.note(present, comparison, event)?;
+    record.set_hint(hint);
+    Ok(Noted {
+        place: record.log().len(),
+        told: verdict,
+    })
 }
 
 // Returns the present version of the conversation's protocol, if it has one, and a hint for the next look-up. If
@@ -124,13 +134,15 @@ fn present_of<'a>(
     library.present_at_hint(conversation.hint(), conversation.name())
 }
 
-/// Judges up to 256 further events of a conversation with a stale verdict.
+/// Judges up to 256 further events of a conversation with a stale verdict. The holders say which conversation may have
+/// the numbering of the version, and this one is noted there if it held another version.
 ///
 /// # Errors
 /// `NoConversation` or `OutOfMemory`. Nothing changes then.
 pub fn turn(
     library: &Library,
     records: &mut IndexMap<u32, Record>,
+    holders: &mut Holders,
     comparison: Comparison,
     id: u32,
 ) -> Result<Judged, Refusal>
@@ -140,6 +152,12 @@ pub fn turn(
     ensures fault { IfErr result (VerdictFails records.old.entries id) }
     ensures err { OnErr result (records.new.entries ≡ records.old.entries) }
 {
+    let is_held = holds_present(library, records, id);
+    let known = if is_held {
+        None
+    } else {
+        known_numbering(records, holders, id)
+    };
     let Some(record) = records.get_mut(&id) else {
         return Err(Refusal::NoConversation);
     };
@@ -147,17 +165,41 @@ pub fn turn(
         return Err(Refusal::OutOfMemory);
     };
     let (hint, present) = present_of(library, record, comparison);
-    match record.turn(present, comparison) {
-        Ok(told) => {
+    match record.turn(present, comparison, known) {
+        Ok(verdict) => {
             record.set_hint(hint);
+            let events = record.log().len();
+            if !is_held {
+                holders.note(&name, id);
+            }
             Ok(Judged {
                 name,
-                events: record.log().len(),
-                told,
+                events,
+                told: verdict,
             })
         }
         Err(_) => Err(Refusal::OutOfMemory),
     }
+}
+
+// Returns whether the library has a version with the number that the conversation holds, where it had it last.
+fn holds_present(library: &Library, records: &IndexMap<u32, Record>, id: u32) -> bool {
+    let Some(record) = records.get(&id) else {
+        return false;
+    };
+    match record.held_number() {
+        Some(number) => library.numbered_at(record.hint(), number).is_some(),
+        None => false,
+    }
+}
+
+// Returns the numbering that the holders hint at for the conversation's protocol.
+fn known_numbering(
+    records: &IndexMap<u32, Record>,
+    holders: &Holders,
+    id: u32,
+) -> Option<Numbering> {
+    holders.numbering(records, records.get(&id)?.name())
 }
 
 /// Returns the verdict on a conversation, or `Stale`.
@@ -183,19 +225,25 @@ pub fn ask(
     let (_, present) = present_of(library, record, comparison);
     let answer = record.ask(present, comparison);
     match verdict_of(answer) {
-        Ok(told) => Ok(Judged {
+        Ok(verdict) => Ok(Judged {
             name,
             events: record.log().len(),
-            told,
+            told: verdict,
         }),
         Err(_) => Err(Refusal::OutOfMemory),
     }
 }
 
-// Returns the record of an empty log.
-fn begin(alloc: Global, name: &Dotted, version: &Version) -> Result<Record, AllocError>
-    ensures { IfOk result (λ new. new ≡ new_record name.now version.now) }
+// Returns the record of an empty log under the version. `known` is its numbering, or another one, or none.
+fn begin(
+    alloc: Global,
+    name: &Dotted,
+    version: &Version,
+    known: Option<Numbering>,
+) -> Result<Record, AllocError>
+    ensures { IfOk result (λ new. IsBegun name.now version.now new) }
 {
     let name = name.copy()?;
-    Record::new(alloc, name, version)
+    let numbering = Numbering::of(alloc, version, known)?;
+    Record::with_numbering(alloc, name, numbering)
 }

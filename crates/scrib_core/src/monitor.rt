@@ -8,9 +8,11 @@ ghost use Rattle.scrib_core.specs.declared.step.Step.TheVariants.{Put, Withdraw,
 ghost use Rattle.scrib_core.specs.declared.step.Step.TheVariants as steps;
 ghost use Rattle.scrib_core.specs.Answers.{initial, initial_under, IsAnswered, IsDue, AnswersAsDue};
 ghost use Rattle.scrib_core.specs.Held.{state_of, LeavesRefused, AnswersHeld, IsViewed};
+ghost use Rattle.scrib_core.specs.ReplyValues.{note_reply_of};
 ghost use Rattle.scrib_core.specs.Runs.{PermitsRuns};
 
-use crate::conversation_steps::{ask, note, open, turn};
+use crate::conversation_steps::{Noted, Opening, ask, note, open, turn};
+use crate::holders::Holders;
 use crate::reply::{
     Edit, Refusal, Reply, edit_reply, note_reply, open_reply, profile_reply, verdict_reply,
 };
@@ -36,6 +38,8 @@ pub struct Core {
     alloc: Global,
     library: Library,
     records: IndexMap<u32, Record>,
+    // Where the numbering of a version may be found. Correctness does not depend on it.
+    holders: Holders,
 }
 
 impl Model for Core {
@@ -69,6 +73,7 @@ impl Core {
             alloc,
             library: Library::with_profile(alloc, profile),
             records: IndexMap::new(alloc),
+            holders: Holders::new(),
         }
     }
 
@@ -119,6 +124,30 @@ impl Core {
         }
         self.library.means_protocols();
         Ok(replies)
+    }
+
+    /// Makes the step `Note` with this id and event. Returns the event's place in the log and the verdict, or `Stale`.
+    /// What `apply` ensures of a reply holds for the reply that `note_reply` makes of the result.
+    ///
+    /// # Errors
+    /// `NoConversation`, `LogFull` or `OutOfMemory`, whichever applies first. Nothing changes then.
+    #[inline(always)]
+    pub fn note_event(&mut self, id: u32, event: SharedEvent) -> Result<Noted, Refusal>
+        ensures answered { IsAnswered (state_of self.old) (Note id event) (note_reply_of id result)
+            (state_of self.new) }
+        ensures memory { IsDue (state_of self.old).world (Note id event) (note_reply_of id result) }
+        ensures refused { LeavesRefused (note_reply_of id result) self.old self.new }
+        ensures runs { PermitsRuns (state_of self.new).world }
+    {
+        self.library.are_numbered();
+        self.library.means_protocols();
+        note(
+            &self.library,
+            &mut self.records,
+            Comparison::Numbers,
+            id,
+            event,
+        )
     }
 
     /// Returns the protocol of a conversation, if the library has it, and the log.
@@ -202,13 +231,12 @@ impl Core {
         ensures refused { LeavesRefused result self.old self.new }
     {
         self.library.are_numbered();
-        let opened = open(
-            &self.library,
-            &mut self.records,
-            MAX_CONVERSATIONS,
+        let opening = Opening {
+            limit: MAX_CONVERSATIONS,
             id,
             name,
-        );
+        };
+        let opened = open(&self.library, &mut self.records, &mut self.holders, opening);
         open_reply(id, opened)
     }
 
@@ -218,14 +246,7 @@ impl Core {
         ensures memory { IsDue (state_of self.old).world (Note id event) result }
         ensures refused { LeavesRefused result self.old self.new }
     {
-        self.library.are_numbered();
-        let noted = note(
-            &self.library,
-            &mut self.records,
-            Comparison::Numbers,
-            id,
-            event,
-        );
+        let noted = self.note_event(id, event);
         note_reply(id, noted)
     }
 
@@ -235,7 +256,13 @@ impl Core {
         ensures refused { LeavesRefused result self.old self.new }
     {
         self.library.are_numbered();
-        let turned = turn(&self.library, &mut self.records, Comparison::Numbers, id);
+        let turned = turn(
+            &self.library,
+            &mut self.records,
+            &mut self.holders,
+            Comparison::Numbers,
+            id,
+        );
         verdict_reply(id, turned)
     }
 

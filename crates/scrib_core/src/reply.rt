@@ -6,6 +6,7 @@ ghost use Rattle.scrib_core.specs.ReplyValues.{edit_reply_of, profile_reply_of, 
 use crate::conversation_steps::{Judged, Noted};
 use scrib_library::changes::Changes;
 use scrib_library::fault::EditFault;
+use scrib_record::fault::NoteFault;
 use scrib_types::event::Told;
 use scrib_types::name::Dotted;
 use scrib_types::profile::Profile;
@@ -34,6 +35,20 @@ pub enum Refusal {
     LogFull,
     /// Memory was refused.
     OutOfMemory,
+}
+
+impl From<NoteFault> for Refusal {
+    ghost use Rattle.std.specs.Prelude.{◌≡◌};
+    ghost use Rattle.scrib_core.specs.ReplyValues.{note_refusal};
+
+    ghost from_gives = { λ fault refusal. refusal ≡ note_refusal fault };
+
+    fn from(fault: NoteFault) -> Refusal {
+        match fault {
+            NoteFault::LogFull => Refusal::LogFull,
+            NoteFault::OutOfMemory => Refusal::OutOfMemory,
+        }
+    }
 }
 
 /// The reply to a step.
