@@ -3,14 +3,12 @@ use Rattle.std.proofs.Common.{◌≡◌, ◌∙◌, ℕ, List, [], Result, Ok, E
 use Rattle.std.specs.Map.{set_value}
 use Rattle.std.proofs.lemmas.Map.Steps.{set_value_same}
 use Rattle.scrib_types.specs.declared.event.Event.{Event}
-use Rattle.scrib_record.specs.declared.fault.NoteFault.{NoteFault}
-use Rattle.scrib_record.specs.declared.fault.NoteFault.TheVariants as fault
 use Rattle.scrib_record.specs.declared.version.Version.{Version}
 use Rattle.scrib_record.specs.Stale.{Recorded}
-use Rattle.scrib_record.specs.Told as record_spec
 use Rattle.scrib_library.specs.Holdings.{Holdings}
 use Rattle.scrib_core.specs.Held.{Records, record_at}
 use Rattle.scrib_core.specs.ConversationSteps.{IsNotedAt, IsPresent, NoteFails}
+use Rattle.scrib_core.proofs.LentRecordLemmas.{fails_at}
 use Rattle.scrib_locked_steps.specs.declared.pass.Receipt.{Receipt}
 use Rattle.scrib_locked_steps.specs.declared.pass_calls.PassRefusal.{PassRefusal}
 use Rattle.scrib_core.specs.declared.conversation_steps.Noted.{Noted}
@@ -19,7 +17,7 @@ use Rattle.scrib_locked_steps.specs.Receipts.{AgreesWith, IsFirstMismatch}
 use Rattle.scrib_locked_steps.specs.Passes.{PassHeld, IsReceipted, newest_of}
 use Rattle.scrib_locked_steps.specs.declared.pass_calls.PassRefusal.TheVariants.{Mismatch, Step}
 use Rattle.scrib_locked_steps.specs.Passing.{NewestAgrees, IsNotedBy, PassNoteFails, AnswersBy}
-use Rattle.scrib_locked_steps.specs.Noting.{IsNotedIn, FailsIn, AnswersIn, note_refusal}
+use Rattle.scrib_locked_steps.specs.Noting.{IsNotedIn, FailsIn, AnswersIn}
 
 noted_at : (h : Holdings) (present : Option Version) (rs new : Records) (id : ℕ) (before after : Recorded) (e : Event) (n : Noted) → record_at rs id ≡ Some before → new ≡ set_value (nat_eq id) rs after
     → IsPresent h before.name present → IsNotedIn present before e n after → IsNotedAt h rs id e n.place n.told new
@@ -48,11 +46,6 @@ pub compared_none : (rs : Records) (p : PassHeld) (id : ℕ) (newest : List Rece
 compared_none rs p id newest o absent at newest_is x =
     let here : record_at rs p.conversation ≡ None = subst (λ (i : ℕ). record_at rs i ≡ None) (sym at) absent in
     subst (λ (l : List Event). IsFirstMismatch l (newest_of p.receipts) o) (sym (ap log_in here)) (subst (λ (xs : List Receipt). IsFirstMismatch [] xs o) newest_is x)
-
--- the reasons why the record refuses a note
-fails_at : (rs : Records) (id : ℕ) (r : Recorded) (f : NoteFault) → record_at rs id ≡ Some r → record_spec.NoteFails r f → NoteFails rs id (note_refusal f)
-fails_at rs id r fault.LogFull there x = (r, there, x)
-fails_at rs id r fault.OutOfMemory there x = (r, there, x)
 
 -- ---- the clauses of a reply
 

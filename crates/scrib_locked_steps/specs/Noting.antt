@@ -3,13 +3,11 @@
 use Rattle.std.specs.Prelude.{◌≡◌, ℕ, ◌<◌, length, Option, Some, slice_get, Result, Ok, Err, All}
 use Rattle.scrib_types.specs.declared.event.Event.{Event}
 use Rattle.scrib_record.specs.declared.fault.NoteFault.{NoteFault}
-use Rattle.scrib_record.specs.declared.fault.NoteFault.TheVariants as fault
 use Rattle.scrib_record.specs.declared.version.Version.{Version}
 use Rattle.scrib_record.specs.Stale.{Recorded, IsLawful}
 use Rattle.scrib_record.specs.Told.{IsNoted, NoteFails}
-use Rattle.scrib_core.specs.declared.reply.Refusal.{Refusal}
-use Rattle.scrib_core.specs.declared.reply.Refusal.TheVariants.{LogFull, OutOfMemory}
 use Rattle.scrib_core.specs.Held.{Records}
+use Rattle.scrib_core.specs.ReplyValues.{note_refusal}
 use Rattle.scrib_core.specs.declared.conversation_steps.Noted.{Noted}
 use Rattle.scrib_locked_steps.specs.declared.pass_calls.PassRefusal.{PassRefusal}
 use Rattle.scrib_locked_steps.specs.declared.pass_calls.PassRefusal.TheVariants.{Mismatch, Step}
@@ -29,11 +27,6 @@ pub record IsNotedIn (present : Option Version) (before : Recorded) (e : Event) 
   pub noted : IsNoted present before e after n.told
   pub lawful : IsLawful after
   pub place_is : n.place ≡ length after.log
-
--- the refusal of a step whose note has this fault
-abbrev pub note_refusal : NoteFault → Refusal
-note_refusal fault.LogFull = LogFull
-note_refusal fault.OutOfMemory = OutOfMemory
 
 -- a note by the pass is refused in the record: its newest receipt differs, or else the record refuses it
 abbrev pub FailsIn : Recorded → PassHeld → PassRefusal → Type 0

@@ -8,7 +8,7 @@ ghost use Rattle.scrib_record.specs.Stale.{is_stale};
 ghost use Rattle.scrib_record.specs.Told as record_spec;
 ghost use Rattle.scrib_core.specs.Held.{record_at};
 ghost use Rattle.scrib_core.specs.ConversationSteps.{IsPresent};
-ghost use Rattle.scrib_locked_steps.specs.Noting.{AnswersIn, IsNotedIn, IsRecordAt, note_refusal};
+ghost use Rattle.scrib_locked_steps.specs.Noting.{AnswersIn, IsNotedIn, IsRecordAt};
 ghost use Rattle.scrib_locked_steps.specs.Passes.{newest_of};
 ghost use Rattle.scrib_locked_steps.specs.Receipts.{IsFirstMismatch, AgreesWith};
 
@@ -137,7 +137,7 @@ fn note_with_receipt(
     ensures agrees { All (AgreesWith conversation.new.log) (newest_of pass.new.receipts) }
 {
     let (Ok(kept), Ok(())) = (event.copy(), pass.receipts.reserve(1)) else {
-        return Err(PassRefusal::Step(refusal_of(memory_fault(conversation))));
+        return Err(PassRefusal::Step(Refusal::from(memory_fault(conversation))));
     };
     match note_in_record(present, comparison, conversation, event) {
         Ok(noted) => {
@@ -147,7 +147,7 @@ fn note_with_receipt(
             });
             Ok(noted)
         }
-        Err(fault) => Err(PassRefusal::Step(refusal_of(fault))),
+        Err(fault) => Err(PassRefusal::Step(Refusal::from(fault))),
     }
 }
 
@@ -159,15 +159,5 @@ fn memory_fault(conversation: &Record) -> NoteFault
         NoteFault::LogFull
     } else {
         NoteFault::OutOfMemory
-    }
-}
-
-// Returns the refusal of a step whose note has this fault.
-fn refusal_of(fault: NoteFault) -> Refusal
-    ensures { result ≡ note_refusal fault }
-{
-    match fault {
-        NoteFault::LogFull => Refusal::LogFull,
-        NoteFault::OutOfMemory => Refusal::OutOfMemory,
     }
 }

@@ -7,7 +7,7 @@ ghost use Rattle.scrib_core.specs.ConversationSteps.{IsOpened, OpenFails, IsNote
 use crate::index::list;
 use crate::shard::Shard;
 pub use scrib_core::conversation_steps::{Judged, Noted};
-use scrib_core::conversation_steps::{ask, note, open, turn};
+use scrib_core::conversation_steps::{Opening, ask, note, open, turn};
 use scrib_core::reply::Refusal;
 use scrib_library::library::Library;
 use scrib_record::comparison::Comparison;
@@ -32,7 +32,12 @@ pub fn open_step(
     ensures limit { shard.new.capacity ≡ shard.old.capacity }
 {
     library.means_protocols();
-    let opened = open(library, &mut shard.records, shard.capacity, id, name)?;
+    let opening = Opening {
+        limit: shard.capacity,
+        id,
+        name,
+    };
+    let opened = open(library, &mut shard.records, &mut shard.holders, opening)?;
     if list(&mut shard.index, shard.alloc, name, id).is_err() {
         // A conversation that the index does not list is not opened.
         shard.records.pop();
@@ -72,7 +77,13 @@ pub fn turn_step(library: &Library, shard: &mut Shard, id: u32) -> Result<Judged
     ensures err { OnErr result (shard.new.records ≡ shard.old.records) }
     ensures limit { shard.new.capacity ≡ shard.old.capacity }
 {
-    turn(library, &mut shard.records, Comparison::Whole, id)
+    turn(
+        library,
+        &mut shard.records,
+        &mut shard.holders,
+        Comparison::Whole,
+        id,
+    )
 }
 
 /// Returns the verdict on a conversation, or `Stale`.

@@ -9,6 +9,7 @@ use indexmap::IndexMap;
 use scrib_library::library::Library;
 use scrib_record::answer::Answer;
 use scrib_record::comparison::Comparison;
+use scrib_record::numbering::Numbering;
 use scrib_record::record::Record;
 use scrib_record::version::Version;
 use scrib_types::event::Told;
@@ -109,13 +110,15 @@ fn sweep_conversation(library: &Library, shard: &mut Shard, id: u32) -> Result<u
         return Err(AllocError);
     };
     let present = library.present(conversation.name());
+    let mut known = shard.holders.numbering(&shard.records, conversation.name());
     let mut comparison = Comparison::Whole;
     let mut turns = 0;
     loop {
-        let verdict = turn_under(present, comparison, shard, id)?;
+        let verdict = turn_under(present, comparison, shard, id, known)?;
         turns += 1;
         // The record holds the present version now.
         comparison = Comparison::Numbers;
+        known = None;
         match verdict {
             Told::Stale => {}
             Told::Judged(_) => return Ok(turns),
@@ -124,19 +127,25 @@ fn sweep_conversation(library: &Library, shard: &mut Shard, id: u32) -> Result<u
 }
 
 // Judges up to 256 further events of the conversation. `present` is the present version of its protocol, if it has one.
+// `known` is its numbering, or another one, or none.
 fn turn_under(
     present: Option<&Version>,
     comparison: Comparison,
     shard: &mut Shard,
     id: u32,
+    known: Option<Numbering>,
 ) -> Result<Told, AllocError>
     requires { IsServedAt comparison (option_copied present) shard.old.records id }
-    ensures ok { IfOk result (λ told.
-        IsTurnedUnder (option_copied present.entry) shard.old.records id told shard.new.records) }
+    ensures ok { IfOk result (λ verdict.
+        IsTurnedUnder (option_copied present.entry) shard.old.records id verdict shard.new.records) }
     ensures err { OnErr result (shard.new.records ≡ shard.old.records) }
     ensures limit { shard.new.capacity ≡ shard.old.capacity }
 {
-    turn_in_records(present, comparison, &mut shard.records, id)
+    let verdict = turn_in_records(present, comparison, &mut shard.records, id, known)?;
+    if let Some(conversation) = shard.records.get(&id) {
+        shard.holders.note(conversation.name(), id);
+    }
+    Ok(verdict)
 }
 
 // As `turn_under`, in the records of a shard.
@@ -145,19 +154,20 @@ fn turn_in_records(
     comparison: Comparison,
     records: &mut IndexMap<u32, Record>,
     id: u32,
+    known: Option<Numbering>,
 ) -> Result<Told, AllocError>
     requires { IsServedAt comparison (option_copied present) records.old.entries id }
-    ensures ok { IfOk result (λ told.
-        IsTurnedUnder (option_copied present.entry) records.old.entries id told records.new.entries) }
+    ensures ok { IfOk result (λ verdict.
+        IsTurnedUnder (option_copied present.entry) records.old.entries id verdict records.new.entries) }
     ensures err { OnErr result (records.new.entries ≡ records.old.entries) }
 {
     let Some(conversation) = records.get_mut(&id) else {
         return Err(AllocError);
     };
-    let told = conversation.turn(present, comparison)?;
+    let verdict = conversation.turn(present, comparison, known)?;
     // The contract of `log` says that the record is lawful.
     let _events = conversation.log();
-    Ok(told)
+    Ok(verdict)
 }
 
 // Whether the record exists and its verdict is stale. `present` is the present version of its protocol, if it has one.

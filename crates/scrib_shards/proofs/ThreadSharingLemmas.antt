@@ -47,14 +47,20 @@ use Rattle.scrib_machine.proofs.machine.Machine.TheSendSync as Machines
 use Rattle.scrib_queues.proofs.queue.Queue.TheSendSync as SingleQueues
 use Rattle.scrib_queues.proofs.queues.Pair.TheSendSync as Pairs
 use Rattle.scrib_queues.proofs.queues.Queues.TheSendSync as Queuess
-use Rattle.scrib_record.proofs.configuration.Configuration.TheSendSync as Configurations
+use Rattle.scrib_record.proofs.exchanges.Exchange.TheSendSync as ExchangeEntries
+use Rattle.scrib_record.proofs.exchanges.Exchanges.TheSendSync as ExchangeTables
+use Rattle.scrib_record.proofs.numbered_edge.NumberedEdge.TheSendSync as NumberedEdges
 use Rattle.scrib_record.proofs.role_state.RoleState.TheSendSync as RoleStates
+use Rattle.scrib_core.proofs.holders.Holders.TheSendSync as Holderss
 use Rattle.crossbeam_utils.specs.contracts.cache_padded.CachePadded as CachePadded
 use Rattle.crossbeam_utils.specs.contracts.sync.sharded_lock.ShardedLock as ShardedLock
 use Rattle.scrib_types.proofs.global.GlobalType.TheLaws.TheKnot as types
 use Rattle.scrib_parser.proofs.tree.Statement.TheLaws.TheKnot as statements
 use Rattle.scrib_parser.specs.contracts.tree.ModuleTree as ModuleTree
 use Rattle.scrib_static_checks.specs.contracts.modules.Modules as Modules
+use Rattle.scrib_record.specs.contracts.configuration.Configuration as Configuration
+use Rattle.scrib_record.specs.contracts.judging.Judging as Judging
+use Rattle.scrib_record.specs.contracts.numbering.Numbering as Numbering
 use Rattle.scrib_record.specs.contracts.record.Record as Record
 use Rattle.scrib_record.specs.contracts.version.Version as Version
 use Rattle.scrib_library.specs.contracts.versions.NamedVersion as NamedVersion
@@ -169,16 +175,32 @@ ruleset plain = (
   Pairs.the_sync,
   Queuess.the_send,
   Queuess.the_sync,
-  Configurations.the_field_send,
-  Configurations.the_field_sync,
-  Configurations.the_send,
-  Configurations.the_sync,
   RoleStates.the_field_send,
   RoleStates.the_field_sync,
   RoleStates.the_send,
   RoleStates.the_sync,
   heap.crosses,
   sendable,
+)
+
+ruleset numbered = (
+  ExchangeEntries.the_field_send,
+  ExchangeEntries.the_field_sync,
+  ExchangeEntries.the_send,
+  ExchangeEntries.the_sync,
+  ExchangeTables.the_send,
+  ExchangeTables.the_sync,
+  NumberedEdges.the_field_send,
+  NumberedEdges.the_field_sync,
+  NumberedEdges.the_send,
+  NumberedEdges.the_sync,
+)
+
+ruleset held = (
+  Holderss.the_field_send,
+  Holderss.the_field_sync,
+  Holderss.the_send,
+  Holderss.the_sync,
 )
 
 version_send : IsSend Version.the_row
@@ -211,17 +233,39 @@ library_send = search (named_send, modules_send, plain) depth 60 fits 20000
 library_sync : IsSync Library.the_row
 library_sync = search (named_sync, modules_sync, plain) depth 60 fits 20000
 
+numbering_send : IsSend Numbering.the_row
+numbering_send = search (version_send, version_sync, numbered, plain) depth 60 fits 20000
+
+numbering_sync : IsSync Numbering.the_row
+numbering_sync = search (version_send, version_sync, numbered, plain) depth 60 fits 20000
+
+configuration_send : IsSend Configuration.the_row
+configuration_send = search (numbering_send, plain) depth 60 fits 20000
+
+configuration_sync : IsSync Configuration.the_row
+configuration_sync = search (numbering_sync, plain) depth 60 fits 20000
+
+judging_send : IsSend Judging.the_row
+judging_send =
+    declared_send Judging.the_type
+    (search (version_send, plain) depth 60 fits 20000, (search plain, (search plain, (configuration_send, (search plain depth 60 fits 20000, tt)))))
+
+judging_sync : IsSync Judging.the_row
+judging_sync =
+    declared_sync Judging.the_type
+    (search (version_sync, plain) depth 60 fits 20000, (search plain, (search plain, (configuration_sync, (search plain depth 60 fits 20000, tt)))))
+
 record_send : IsSend Record.the_row
-record_send = search (version_send, plain) depth 60 fits 20000
+record_send = search (declared_send, judging_send, plain) depth 60 fits 20000
 
 record_sync : IsSync Record.the_row
-record_sync = search (version_sync, plain) depth 60 fits 20000
+record_sync = search (declared_sync, judging_sync, plain) depth 60 fits 20000
 
 shard_send : IsSend Shard.the_row
-shard_send = search (record_send, plain) depth 60 fits 20000
+shard_send = search (record_send, held, plain) depth 60 fits 20000
 
 shard_sync : IsSync Shard.the_row
-shard_sync = search (record_sync, plain) depth 60 fits 20000
+shard_sync = search (record_sync, held, plain) depth 60 fits 20000
 
 library_lock : IsSync (ShardedLock.the_row Library.the_row Heap.the_row ghosts)
 library_lock = search (ShardedLocks.the_sync, library_send, library_sync, heap.crosses, sendable) depth 60 fits 20000

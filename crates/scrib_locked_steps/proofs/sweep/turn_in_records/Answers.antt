@@ -18,7 +18,7 @@ turn-requires c =
     let is : c.requires.0 ≡ c.in-Some.conversation.now = same_some c.requires.0 c.in-Some.conversation.now (sym c.requires.1 ∙ there) in
     subst (λ (r : Recorded). ServesFor c.args.comparison (option_copied c.args.present) r.held) is c.requires.2
 
-pub returns-in_err-told-clause-err : goal.returns-in_err-told-clause-err
-returns-in_err-told-clause-err c =
+pub returns-in_err-verdict-clause-err : goal.returns-in_err-verdict-clause-err
+returns-in_err-verdict-clause-err c =
     let there : record_at c.args.records.now.entries c.args.id ≡ Some c.in-Some.conversation.now = sym c.get_mut.ensures.value ∙ ap option_copied_mut c.in-Some.is in
-    on_err c.from_residual.result (kept c.args.records.now.entries _ c.args.id c.in-Some.conversation.now c.turn.new.self there (c.get_mut.follows.holds c.turn.new.self).0 c.in_err-told.ensures.err)
+    on_err c.from_residual.result (kept c.args.records.now.entries _ c.args.id c.in-Some.conversation.now c.turn.new.self there (c.get_mut.follows.holds c.turn.new.self).0 c.in_err-verdict.ensures.err)
