@@ -1,3 +1,3 @@
-mod PermittedLine
+mod EventLine
 mod Members
 mod Totals

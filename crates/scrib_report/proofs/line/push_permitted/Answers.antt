@@ -1,35 +1,8 @@
-use Rattle.std.proofs.Common.{◌≤◌, ◌-◌, ◌++◌, ◌∷◌, [], ◌∙◌, ap, codes, drop, length, set, arith}
-use Rattle.std.proofs.lemmas.List.{length-drop, length-set, take_all}
+use Rattle.std.proofs.Common.{◌∙◌}
 use Rattle.std.proofs.lemmas.Result.{on_ok_weaker}
-use Rattle.std.specs.Fmt.{decimal}
-use Rattle.scrib_report.proofs.PermittedLine.{line_added, line_and_end, two_numbers, long_digits, short_digits}
+use Rattle.scrib_report.proofs.EventLine.{line_and_end}
 use Rattle.scrib_report.proofs.line.push_permitted.Goals as goal
-
-pub write_digits-place_at-requires : goal.write_digits-place_at-requires
-write_digits-place_at-requires c =
-    let few = long_digits c.args.place c.ranges.place.fits in
-    (omega (arith, few), omega arith)
-
-pub overflow_sub-line : goal.overflow_sub-line
-overflow_sub-line c = omega (arith, long_digits c.args.place c.ranges.place.fits, c.write_digits-place_at.ensures.start)
-
-pub overflow_sub-place_at : goal.overflow_sub-place_at
-overflow_sub-place_at c = omega (arith, long_digits c.args.place c.ranges.place.fits, c.write_digits-place_at.ensures.start)
-
-pub write_digits-id_at-requires : goal.write_digits-id_at-requires
-write_digits-id_at-requires c =
-    let few : length (decimal c.from.result) ≤ 10 = rw c.from.ensures (short_digits c.args.id c.ranges.id.fits) in
-    let start = c.write_digits-place_at.ensures.start in
-    let long = length-set c.write_digits-place_at.new.buf (c.write_digits-place_at.result - 1) 46 in
-    let size = c.write_digits-place_at.auto.buf in
-    (omega (arith, few, start, long_digits c.args.place c.ranges.place.fits), omega (arith, start, long, size))
 
 pub returns-clause-ok : goal.returns-clause-ok
 returns-clause-ok c =
-    let one = c.write_digits-place_at in
-    let two = c.write_digits-id_at in
-    let at_least : 1 ≤ one.result = omega (arith, long_digits c.args.place c.ranges.place.fits, one.ensures.start) in
-    let text = two_numbers c.args.id c.args.place one.result two.result 46 one.new.buf two.new.buf (codes " permitted\n") at_least (omega (arith, at_least, one.ensures.start, one.auto.buf)) one.ensures.written (two.ensures.written ∙ ap (λ i. decimal i ++ drop (one.result - 1) (set one.new.buf (one.result - 1) 46)) c.from.ensures) in
-    let behind : length (drop two.result two.new.buf) ≤ 48 - two.result = omega (arith, length-drop two.result two.new.buf, two.auto.buf, length-set one.new.buf (one.result - 1) 46, one.auto.buf) in
-    on_ok_weaker c.extend_from_slice.result (λ e. e ∙ line_and_end c.args.out.now.items c.args.id c.args.place)
-    (line_added c.extend_from_slice.result _ _ _ (decimal c.args.id) (46 ∷ []) (decimal c.args.place) (codes " permitted\n") (take_all (48 - two.result) (drop two.result two.new.buf) behind ∙ text) c.extend_from_slice.ensures.items)
+    on_ok_weaker c.push_event.result (λ e. e ∙ line_and_end c.args.out.now.items c.args.id c.args.place) c.push_event.ensures.ok

@@ -1,12 +1,15 @@
--- The line of a permitted event, which is written from its end.
+-- The line of an event, which is written from its end.
 use Rattle.std.proofs.Common.{◌≡◌, ◌≤◌, ◌<◌, ◌+◌, ◌-◌, ◌^◌, ℕ, List, [], ◌∷◌, ◌++◌, codes, drop, length, set, sym, ap, ◌∙◌, append_assoc, Result, Ok, Err, is_ok, OnOk, if◌then◌else◌, rules, arith}
 use Rattle.std.specs.Fmt.{decimal}
 use Rattle.scrib_types.specs.declared.event.Told.TheVariants.{Judged}
-use Rattle.scrib_types.specs.declared.event.Verdict.TheVariants.{Permitted}
+use Rattle.scrib_types.specs.declared.event.Action.{Action}
+use Rattle.scrib_types.specs.declared.event.Verdict.TheVariants.{Permitted, Offence, Withdrawn}
+use Rattle.scrib_types.specs.Texts.{allowed_text}
 use Rattle.scrib_core.specs.declared.reply.Reply.TheVariants.{Noted}
 use Rattle.scrib_core.specs.declared.reply.Reply.TheVariants as reply
-use Rattle.scrib_report.specs.Lines.{line_of, told_text, verdict_text}
+use Rattle.scrib_report.specs.Lines.{line_of, told_text, verdict_text, offence_text}
 use Rattle.std.proofs.lemmas.Fmt.{length-decimal-le}
+use Rattle.std.proofs.lemmas.Grind.{common_steps}
 use Rattle.std.proofs.lemmas.List.{drop-set}
 
 -- A number of 64 bits has at most 20 digits, one of 32 bits at most 10.
@@ -33,16 +36,18 @@ pub line_added : {E : Type 0} (r : Result (Unit {0}) E) (new old laid a b c d : 
 line_added (Ok u) new old laid a b c d e f = f ∙ ap (λ rest. old ++ rest) e ∙ append_five old a b c d
 line_added (Err u) new old laid a b c d e f = search rules
 
+few_pieces : (old id dot place blank word end : List ℕ) → old ++ id ++ dot ++ place ++ (blank ++ word ++ end) ≡ old ++ (id ++ dot ++ place ++ blank ++ word) ++ end
+few_pieces old id dot place blank word end = grind (arith, common_steps)
+
 -- The four pieces are the line of a permitted event with its line feed.
 pub line_and_end : (old : List ℕ) (id place : ℕ) → old ++ decimal id ++ codes "." ++ decimal place ++ codes " permitted\n" ≡ old ++ line_of (Noted id place (Judged Permitted)) ++ 10 ∷ []
 unfolding line_of told_text verdict_text
-line_and_end old id place =
-    let numbers = decimal id ++ codes "." ++ decimal place in
-    let end : List ℕ = 10 ∷ [] in
-    let inside = append_assoc (numbers ++ codes " ") (codes "permitted") end ∙ append_assoc numbers (codes " ") (codes "permitted" ++ end) in
-    sym (append_five old (decimal id) (codes ".") (decimal place) (codes " permitted\n"))
-    ∙ ap (λ rest. old ++ rest) (sym inside)
-    ∙ sym (append_assoc old (numbers ++ codes " " ++ codes "permitted") end)
+line_and_end old id place = few_pieces old (decimal id) (codes ".") (decimal place) (codes " ") (codes "permitted") (10 ∷ [])
+
+-- The same of a log that is judged withdrawn.
+pub withdrawn_and_end : (old : List ℕ) (id place : ℕ) → old ++ decimal id ++ codes "." ++ decimal place ++ codes " withdrawn\n" ≡ old ++ line_of (Noted id place (Judged Withdrawn)) ++ 10 ∷ []
+unfolding line_of told_text verdict_text
+withdrawn_and_end old id place = few_pieces old (decimal id) (codes ".") (decimal place) (codes " ") (codes "withdrawn") (10 ∷ [])
 
 -- Where the buffer could grow, the text ends with the piece.
 pub end_added : {E : Type 0} (r : Result (Unit {0}) E) (new old laid end : List ℕ) → laid ≡ end → new ≡ (if is_ok r then old ++ laid else old) → OnOk r (new ≡ old ++ end)
@@ -56,3 +61,12 @@ verdict_and_end old id name events =
     let end : List ℕ = 10 ∷ [] in
     ap (λ rest. old ++ rest) (sym (append_assoc (decimal id ++ codes " ") (codes "permitted") end ∙ append_assoc (decimal id) (codes " ") (codes "permitted" ++ end)))
     ∙ sym (append_assoc old (decimal id ++ codes " " ++ codes "permitted") end)
+
+pieces : (old id dot place blank offence at by_ role allowed text end : List ℕ) → (((((old ++ id ++ dot ++ place ++ (blank ++ offence)) ++ (at ++ by_)) ++ role) ++ allowed) ++ text) ++ end ≡ old ++ (id ++ dot ++ place ++ blank ++ (offence ++ at ++ by_ ++ role ++ allowed ++ text)) ++ end
+pieces old id dot place blank offence at by_ role allowed text end = grind (arith, common_steps)
+
+-- The pieces are the line of an offence with its line feed.
+pub offence_and_end : (old : List ℕ) (id place at : ℕ) (role : List ℕ) (allowed : List Action) → (((((old ++ decimal id ++ codes "." ++ decimal place ++ codes " offence at ") ++ (decimal at ++ codes " by ")) ++ role) ++ codes ", allowed: ") ++ allowed_text allowed) ++ codes "\n" ≡ old ++ line_of (Noted id place (Judged (Offence at role allowed))) ++ 10 ∷ []
+unfolding line_of told_text verdict_text offence_text
+offence_and_end old id place at role allowed =
+    pieces old (decimal id) (codes ".") (decimal place) (codes " ") (codes "offence at ") (decimal at) (codes " by ") role (codes ", allowed: ") (allowed_text allowed) (10 ∷ [])
