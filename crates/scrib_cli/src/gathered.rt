@@ -2,15 +2,16 @@
 
 ghost use Rattle.std.specs.Prelude.{◌≡◌, ◌++◌, [], true, IfErr, OnOk, OnErr};
 ghost use Rattle.std.specs.Io.KnownBytes.{Appends};
-ghost use Rattle.scrib_core.specs.declared.format.Format.TheVariants as format;
+ghost use Rattle.scrib_core.specs.ReplyValues.{note_reply_of};
 ghost use Rattle.scrib_report.specs.Parts.{part_of};
 ghost use Rattle.scrib_report.specs.ReplyTexts.{part_text, reply_text};
 ghost use Rattle.scrib_script_io.specs.Faults.{of_output};
 ghost use Rattle.scrib_script_io.specs.Writes.{AppendsPart};
 ghost use Rattle.scrib_cli.specs.Progress.{WritesFront};
 
+use scrib_core::conversation_steps::Noted;
 use scrib_core::format::Format;
-use scrib_core::reply::Reply;
+use scrib_core::reply::{Refusal, Reply, note_reply};
 use scrib_report::line::push_permitted;
 use scrib_report::part::OutputPart;
 use scrib_report::printing::push_part;
@@ -62,33 +63,40 @@ impl Gathered {
         self.bytes.extend_from_slice(self.buffer.as_slice())
     }
 
-    // Adds the reply in this format. Where memory is refused, the texts stay as they were.
+    // Adds the reply to a note in the conversation `id` with this outcome, in this format. Where memory is refused, the
+    // texts stay as they were.
     #[inline(always)]
+    pub(crate) fn add_noted(
+        &mut self,
+        id: u32,
+        noted: Result<Noted, Refusal>,
+        format: Format,
+    ) -> Result<(), AllocError>
+        ensures ok { OnOk result
+            (self.new.bytes.items ≡ self.old.bytes.items ++ reply_text format (note_reply_of id noted)) }
+        ensures err { OnErr result (self.new.bytes.items ≡ self.old.bytes.items) }
+    {
+        match noted {
+            // most replies of a long script
+            Ok(
+                Noted {
+                    place,
+                    told: Told::Judged(Verdict::Permitted),
+                },
+            ) if matches!(format, Format::Line) => {
+                push_permitted(&mut self.bytes, id, place as u64)
+            }
+            noted => self.add_reply(&note_reply(id, noted), format),
+        }
+    }
+
+    // Adds the reply in this format. Where memory is refused, the texts stay as they were.
+    #[inline(never)]
     pub(crate) fn add_reply(&mut self, reply: &Reply, format: Format) -> Result<(), AllocError>
         ensures ok { OnOk result (self.new.bytes.items ≡ self.old.bytes.items ++ reply_text format reply.now) }
         ensures err { OnErr result (self.new.bytes.items ≡ self.old.bytes.items) }
     {
-        match format {
-            Format::Line => self.add_line(reply),
-            Format::Json => self.add_part(&OutputPart::Reply(reply), Format::Json),
-        }
-    }
-
-    // Adds the line of the reply. Where memory is refused, the texts stay as they were.
-    #[inline(always)]
-    fn add_line(&mut self, reply: &Reply) -> Result<(), AllocError>
-        ensures ok { OnOk result (self.new.bytes.items ≡ self.old.bytes.items ++ reply_text format.Line reply.now) }
-        ensures err { OnErr result (self.new.bytes.items ≡ self.old.bytes.items) }
-    {
-        match reply {
-            // most replies of a long script
-            Reply::Noted {
-                id,
-                place,
-                told: Told::Judged(Verdict::Permitted),
-            } => push_permitted(&mut self.bytes, *id, *place as u64),
-            _ => self.add_part(&OutputPart::Reply(reply), Format::Line),
-        }
+        self.add_part(&OutputPart::Reply(reply), format)
     }
 
     // Writes all texts and drops them. After an error, a prefix of them is written.

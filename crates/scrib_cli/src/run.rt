@@ -1,13 +1,10 @@
 //! Runs a script over a monitor, piece by piece.
 
 use crate::gathered::Gathered;
-use crate::item_output::gather_item;
+use crate::item_output::{gather_item, gather_note};
 use crate::output_mode::OutputMode;
-use scrib_core::format::Format;
 use scrib_core::monitor::Core;
-use scrib_core::step::Step;
 use scrib_script_io::fault::ScriptFault;
-use scrib_script_reader::item::Item;
 use scrib_script_reader::script::Script;
 use std::alloc::Global;
 use std::io::Write;
@@ -100,8 +97,13 @@ impl ScriptRun {
         match self.script.next_note(piece) {
             // most lines of a long script
             Some((id, event, rest)) => {
-                let item = Item::Step(Format::Line, Step::Note { id, event });
-                gather_item(&mut self.gathered, &mut self.core, item, self.output_mode)?;
+                gather_note(
+                    &mut self.gathered,
+                    &mut self.core,
+                    id,
+                    event,
+                    self.output_mode,
+                )?;
                 Ok(rest)
             }
             None => self.gather_other(piece),

@@ -18,10 +18,10 @@ returns-in-None-clause-limit c =
     (λ _ passes e. passes_after c.args.self.now.script c.next_note.new.self c.args.piece.now c.in-None.ensures.taken (passes e))
     c.gather_other.ensures.limit
 
-pub returns-in_ok-gather_item-in-Some-clause-ok : goal.returns-in_ok-gather_item-in-Some-clause-ok
-returns-in_ok-gather_item-in-Some-clause-ok c = record {
+pub returns-in_ok-gather_note-in-Some-clause-ok : goal.returns-in_ok-gather_note-in-Some-clause-ok
+returns-in_ok-gather_note-in-Some-clause-ok c = record {
   output_mode = refl;
   found = Some (item.Step format.Line (Note c.in-Some.id c.in-Some.event));
   takes = c.in-Some.ensures.taken;
-  carried = c.in_ok-gather_item-in-Some.ensures.ok;
+  carried = c.in_ok-gather_note-in-Some.ensures.ok;
 }
