@@ -20,7 +20,7 @@ use Rattle.scrib_lexer.specs.Tokens as tokens
 use Rattle.scrib_lexer.specs.Tokens.{IsTokens}
 use Rattle.scrib_parser.specs.declared.fault.ParseFault.{ParseFault}
 use Rattle.scrib_parser.specs.declared.fault.ParseFault.TheVariants as parse
-use Rattle.scrib_parser.specs.declared.tree.ModuleTree.{ModuleTree}
+use Rattle.scrib_tree.specs.declared.tree.ModuleTree.{ModuleTree}
 use Rattle.scrib_parser.specs.Grammar.{IsParseFault}
 use Rattle.scrib_static_checks.specs.Elaboration.{Elaborates, nodes, branch_nodes}
 use Rattle.scrib_elaborate.specs.Sound.{is_sound}

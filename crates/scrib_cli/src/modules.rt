@@ -8,9 +8,9 @@ use scrib_lexer::lex::lex;
 use scrib_library::fault::EditFault;
 use scrib_parser::interner::Interner;
 use scrib_parser::parse::parse;
-use scrib_parser::tree::ModuleTree;
 use scrib_script_io::fault::ScriptFault;
 use scrib_static_checks::modules::Modules;
+use scrib_tree::tree::ModuleTree;
 use scrib_types::containers::Items;
 use std::alloc::Global;
 

@@ -2,7 +2,7 @@
 
 ghost use Rattle.std.specs.Prelude.{◌≡◌, ◌≤◌, ℕ, false, List, IfOk, IfErr, MatchOption};
 ghost use Rattle.scrib_types.specs.WellFormed.{has_role};
-ghost use Rattle.scrib_parser.specs.declared.tree.ModuleTree.{ModuleTree};
+ghost use Rattle.scrib_tree.specs.declared.tree.ModuleTree.{ModuleTree};
 ghost use Rattle.scrib_static_checks.specs.Elaboration.{nodes};
 ghost use Rattle.scrib_elaborate.specs.Meaning.{elaborated_meaning};
 ghost use Rattle.scrib_elaborate.specs.Sites.{AreSites};

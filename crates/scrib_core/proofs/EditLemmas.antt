@@ -23,7 +23,7 @@ use Rattle.scrib_library.specs.declared.changes.Changes.{Changes as EditChanges}
 use Rattle.scrib_library.specs.Edits.{IsPut, IsChanges, AreVersionsUsed, IsWithdrawal, AreWithdrawn, PutFails, WithdrawFails}
 use Rattle.scrib_library.specs.declared.fault.EditFault.{EditFault}
 use Rattle.scrib_library.specs.declared.fault.EditFault.TheVariants as fault
-use Rattle.scrib_parser.specs.declared.tree.ModuleTree.{ModuleTree}
+use Rattle.scrib_tree.specs.declared.tree.ModuleTree.{ModuleTree}
 use Rattle.scrib_core.specs.declared.step.Step.{Step}
 use Rattle.scrib_core.specs.declared.step.Step.TheVariants.{Put, Withdraw}
 use Rattle.scrib_core.specs.declared.step.Step.TheVariants as step

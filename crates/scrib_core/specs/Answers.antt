@@ -7,7 +7,7 @@ use Rattle.scrib_types.specs.declared.event.Verdict.{Verdict}
 use Rattle.scrib_types.specs.declared.event.Told.TheVariants as tell
 use Rattle.scrib_types.specs.Agreement.{Agreement}
 use Rattle.scrib_types.specs.Judgement.{Judges}
-use Rattle.scrib_parser.specs.declared.tree.ModuleTree.{ModuleTree}
+use Rattle.scrib_tree.specs.declared.tree.ModuleTree.{ModuleTree}
 use Rattle.scrib_library.specs.Modules.{IsMeaning}
 use Rattle.scrib_library.specs.Edits.{Reads, IsChanges}
 use Rattle.scrib_core.specs.declared.step.Step.{Step}

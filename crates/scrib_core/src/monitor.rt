@@ -44,7 +44,7 @@ pub struct Core {
 
 impl Model for Core {
     ghost use Rattle.std.specs.Coded.{codes};
-    ghost use Rattle.scrib_parser.specs.contracts.tree.Statement as statement;
+    ghost use Rattle.scrib_tree.specs.contracts.tree.Statement as statement;
     ghost use Rattle.scrib_record.specs.contracts.version.Edition as version;
     ghost use Rattle.scrib_core.specs.Held.{Held, AreKnown};
 

@@ -1,7 +1,7 @@
 -- The faults of elaboration, from those of its parts.
 use Rattle.std.proofs.Common.{◌≡◌, ℕ, ◌<◌, true, false, List, length, None, Err, refl, sym, ap, ◌∙◌, subst, ⊎_elim, inl, inr}
 use Rattle.scrib_types.specs.Agreement.{Agreement}
-use Rattle.scrib_parser.specs.declared.tree.ModuleTree.{ModuleTree}
+use Rattle.scrib_tree.specs.declared.tree.ModuleTree.{ModuleTree}
 use Rattle.scrib_static_checks.specs.declared.declared.Declaration.{Declaration as CodeDeclaration}
 use Rattle.std.proofs.lemmas.Option.{slice_get_within}
 use Rattle.scrib_static_checks.specs.declared.checking.State.{State}

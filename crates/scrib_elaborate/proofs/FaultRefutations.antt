@@ -7,7 +7,7 @@ use Rattle.scrib_types.specs.declared.spot.Spot.{Spot}
 use Rattle.scrib_types.specs.Agreement.{Agreement}
 use Rattle.scrib_types.specs.Trees.{GlobalTree, Comm, GlobalBranches}
 use Rattle.scrib_types.specs.WellFormed.{has_role, distinct_roles, leads_to_communication, has_branches, distinct_operators}
-use Rattle.scrib_parser.specs.declared.tree.ModuleTree.{ModuleTree}
+use Rattle.scrib_tree.specs.declared.tree.ModuleTree.{ModuleTree}
 use Rattle.scrib_static_checks.specs.declared.fault.FaultKind.{FaultKind}
 use Rattle.scrib_static_checks.specs.declared.fault.FaultKind.TheVariants as kind
 use Rattle.scrib_static_checks.specs.declared.fault.Fault.{Fault}

@@ -9,7 +9,7 @@ use Rattle.scrib_types.specs.declared.message.Message.{Message}
 use Rattle.scrib_types.specs.declared.spot.Spot.{Spot}
 use Rattle.scrib_types.specs.Trees.{GlobalTree, GlobalEnd, GlobalVar, GlobalRec, Comm, Flight, GlobalBranches, NoBranch, Branch}
 use Rattle.scrib_types.specs.WellFormed.{leads_to_communication, has_operator, distinct_operators, has_branches, has_role, distinct_roles}
-use Rattle.scrib_parser.specs.declared.tree.ModuleTree.{ModuleTree}
+use Rattle.scrib_tree.specs.declared.tree.ModuleTree.{ModuleTree}
 use Rattle.scrib_type_builder.specs.declared.built_type.Origin.{Origin}
 use Rattle.scrib_static_checks.specs.Source.{Body, Blocks, NoBlock, OrBlock}
 use Rattle.scrib_static_checks.specs.SourceView.{body_of}

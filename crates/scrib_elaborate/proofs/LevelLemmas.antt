@@ -5,7 +5,7 @@ use Rattle.std.proofs.lemmas.Bool.{false≢true, both_ways, or_cases, or_left, o
 use Rattle.std.proofs.lemmas.Slice.Eq.{bytes_eq-Decides}
 use Rattle.scrib_types.specs.declared.spot.Spot.{Spot}
 use Rattle.scrib_types.specs.WellFormed.{has_role}
-use Rattle.scrib_parser.specs.declared.tree.Statement.{Statement as ParsedStatement}
+use Rattle.scrib_tree.specs.declared.tree.Statement.{Statement as ParsedStatement}
 use Rattle.scrib_static_checks.specs.Source.{Body, Then, Statement, Chooses, Repeats, Blocks, NoBlock, OrBlock}
 use Rattle.scrib_static_checks.specs.SourceView.{statement_of}
 use Rattle.scrib_static_checks.specs.Elaboration.{continues_in, continues_at, continues_some, Scope, level_of, inside}

@@ -3,7 +3,7 @@ use Rattle.std.proofs.Common.{◌≡◌, inl, inr, ℕ, zero, suc, ◌+◌, ◌-
 use Rattle.std.proofs.lemmas.Bool.{false≢true, or_cases}
 use Rattle.scrib_types.specs.declared.spot.Spot.{Spot}
 use Rattle.scrib_types.specs.Trees.{GlobalBranches}
-use Rattle.scrib_parser.specs.declared.tree.ModuleTree.{ModuleTree}
+use Rattle.scrib_tree.specs.declared.tree.ModuleTree.{ModuleTree}
 use Rattle.scrib_static_checks.specs.declared.fault.FaultKind.{FaultKind}
 use Rattle.scrib_static_checks.specs.declared.fault.FaultKind.TheVariants as kind
 use Rattle.scrib_static_checks.specs.Source.{Body, Then, Statement, Repeats, Blocks, NoBlock, OrBlock}

@@ -6,7 +6,7 @@ use Rattle.std.proofs.lemmas.Option.{slice_get-map}
 use Rattle.scrib_types.specs.declared.spot.Spot.{Spot}
 use Rattle.scrib_types.specs.Trees.{GlobalEnd, Comm}
 use Rattle.scrib_types.specs.WellFormed.{distinct_roles}
-use Rattle.scrib_parser.specs.declared.tree.ModuleTree.{ModuleTree}
+use Rattle.scrib_tree.specs.declared.tree.ModuleTree.{ModuleTree}
 use Rattle.scrib_type_builder.specs.declared.built_type.Origin.{Origin}
 use Rattle.scrib_static_checks.specs.declared.declared.Declaration.{Declaration as CodeDeclaration}
 use Rattle.scrib_static_checks.specs.declared.effect.CallEffect.{CallEffect}

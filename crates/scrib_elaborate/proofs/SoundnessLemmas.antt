@@ -11,7 +11,7 @@ use Rattle.scrib_types.specs.Agreement.{Agreement}
 use Rattle.scrib_types.specs.Trees.{GlobalTree, GlobalRec, Comm, GlobalBranches, NoBranch, Branch}
 use Rattle.scrib_types.specs.Projection.{open_depth, branches_open_depth, is_closed}
 use Rattle.scrib_types.specs.WellFormed.{has_role, distinct_roles, leads_to_communication, uses, distinct_operators, has_branches, well_formed, branches_well_formed}
-use Rattle.scrib_parser.specs.declared.tree.ModuleTree.{ModuleTree}
+use Rattle.scrib_tree.specs.declared.tree.ModuleTree.{ModuleTree}
 use Rattle.scrib_static_checks.specs.Source.{Body, Then, Statement, Sends, Calls, Blocks}
 use Rattle.scrib_static_checks.specs.SourceView.{body_of}
 use Rattle.scrib_static_checks.specs.Names.{Declaration, roles_of, find_protocol, called}

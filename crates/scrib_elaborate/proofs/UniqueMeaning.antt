@@ -3,7 +3,7 @@ use Rattle.std.proofs.Common.{◌≡◌, ℕ, true, List, map, sym, ap, ◌∙�
 use Rattle.std.proofs.lemmas.Bool.{false≢true}
 use Rattle.scrib_types.specs.Trees.{GlobalTree, GlobalVar, GlobalRec, Comm, GlobalBranches}
 use Rattle.scrib_types.specs.WellFormed.{has_branches}
-use Rattle.scrib_parser.specs.declared.tree.ModuleTree.{ModuleTree}
+use Rattle.scrib_tree.specs.declared.tree.ModuleTree.{ModuleTree}
 use Rattle.scrib_static_checks.specs.Source.{Blocks}
 use Rattle.scrib_static_checks.specs.SourceView.{body_of}
 use Rattle.scrib_static_checks.specs.Elaboration.{Scope, role_in, inside_call, Frames, Under, prefix_message, and_branches, Types, ends, closes, sends, chooses, repeats, passes, continues, calls, JoinsTo, joins_none, joins}

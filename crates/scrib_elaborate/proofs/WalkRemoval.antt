@@ -1,7 +1,7 @@
 -- No walk is under way after the walk over one protocol is removed.
 use Rattle.std.proofs.Common.{ℕ, List, set, ⊎_elim, ◌∙◌}
 use Rattle.std.proofs.lemmas.List.{length-set}
-use Rattle.scrib_parser.specs.declared.tree.ModuleTree.{ModuleTree}
+use Rattle.scrib_tree.specs.declared.tree.ModuleTree.{ModuleTree}
 use Rattle.scrib_static_checks.specs.declared.checking.State.{State}
 use Rattle.scrib_static_checks.specs.declared.checking.State.TheVariants.{Unwalked, Walking, Walked}
 use Rattle.scrib_static_checks.specs.Names.{Declaration}

@@ -6,9 +6,9 @@ use Rattle.std.proofs.lemmas.Bool.{and_parts, or_parts, cases_Bool, false_from_n
 use Rattle.std.proofs.lemmas.List.Elements.{All-nil, All-contains, Contains-push, Contains-push_cases, Contains-append_left, Contains-append_right, Contains-append_cases}
 use Rattle.scrib_types.specs.Agreement.{Agreement}
 use Rattle.scrib_types.specs.Trees.{GlobalTree, GlobalBranches}
-use Rattle.scrib_parser.specs.declared.tree.ModuleTree.{ModuleTree}
-use Rattle.scrib_parser.specs.declared.tree.Import.{Import}
-use Rattle.scrib_parser.specs.declared.tree.ProtocolDeclaration.{ProtocolDeclaration}
+use Rattle.scrib_tree.specs.declared.tree.ModuleTree.{ModuleTree}
+use Rattle.scrib_tree.specs.declared.tree.Import.{Import}
+use Rattle.scrib_tree.specs.declared.tree.ProtocolDeclaration.{ProtocolDeclaration}
 use Rattle.scrib_static_checks.specs.Source.{Body, Statement, Blocks}
 use Rattle.scrib_static_checks.specs.Names.{Declaration, dotted_eq, dotted_eq-Decides, has_name, first_where, known_by, module_names, with_module, declared_in, declarations, is_called, find_protocol, all_but_last, last_name, imported, looked_in, called}
 use Rattle.scrib_static_checks.specs.Statements.{KeepsRules, protocol_keeps, BlockKeeps, end_keeps, then_keeps, StatementKeeps, sends_keeps, chooses_keeps, repeats_keeps, continues_keeps, calls_keeps, BlocksKeep, none_keeps, or_keeps}

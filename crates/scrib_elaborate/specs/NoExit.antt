@@ -1,7 +1,7 @@
 -- Blocks without an exit (this project's own). Only contracts of private functions cite this file.
 use Rattle.std.specs.Prelude.{◌≡◌, ℕ, List, Some}
 use Rattle.scrib_types.specs.declared.spot.Spot.{Spot}
-use Rattle.scrib_parser.specs.declared.tree.ModuleTree.{ModuleTree}
+use Rattle.scrib_tree.specs.declared.tree.ModuleTree.{ModuleTree}
 use Rattle.scrib_static_checks.specs.Source.{Body, Then, Statement, Chooses, Repeats, Continues, Calls, Blocks, NoBlock, OrBlock}
 use Rattle.scrib_static_checks.specs.SourceView.{body_of}
 use Rattle.scrib_static_checks.specs.Names.{Declaration, called}

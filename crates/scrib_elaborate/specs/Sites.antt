@@ -4,7 +4,7 @@ use Rattle.std.specs.List.{AllZip}
 use Rattle.scrib_types.specs.declared.spot.Spot.{Spot}
 use Rattle.scrib_types.specs.Trees.{GlobalTree, GlobalEnd, GlobalVar, GlobalRec, Comm, Flight, GlobalBranches, NoBranch, Branch}
 use Rattle.scrib_types.specs.WellFormed.{has_branches}
-use Rattle.scrib_parser.specs.declared.tree.ModuleTree.{ModuleTree}
+use Rattle.scrib_tree.specs.declared.tree.ModuleTree.{ModuleTree}
 use Rattle.scrib_elaborate.specs.declared.elaborated.Elaborated.{Elaborated}
 use Rattle.scrib_elaborate.specs.declared.elaborated.ChoiceSite.{ChoiceSite}
 use Rattle.scrib_static_checks.specs.Source.{Body, Then, Chooses, Blocks}

@@ -4,7 +4,7 @@ ghost use Rattle.std.specs.Prelude.{◌≡◌, List, ◌∷◌, length, Option, 
 ghost use Rattle.scrib_type_builder.specs.declared.built_type.BuiltType.{BuiltType};
 ghost use Rattle.scrib_elaborate.specs.declared.tasks.Task.{Task};
 ghost use Rattle.scrib_elaborate.specs.declared.tasks.Task.TheVariants.{Front, Join};
-ghost use Rattle.scrib_parser.specs.declared.tree.ModuleTree.{ModuleTree};
+ghost use Rattle.scrib_tree.specs.declared.tree.ModuleTree.{ModuleTree};
 ghost use Rattle.scrib_static_checks.specs.Source.{Chooses};
 ghost use Rattle.scrib_static_checks.specs.SourceView.{blocks_of};
 ghost use Rattle.scrib_elaborate.specs.declared.scope.Scope.{Scope};
@@ -13,8 +13,8 @@ ghost use Rattle.scrib_elaborate.specs.Typing.{Target, Made, made_of, IsTypedRes
 
 use crate::scope::Scope;
 use crate::tasks::{ChoiceStatement, Choosing, Task};
-use scrib_parser::tree::{ModuleTree, Statement};
 use scrib_static_checks::fault::FaultKind;
+use scrib_tree::tree::{ModuleTree, Statement};
 use scrib_type_builder::build_error::{BuildError, broken};
 use scrib_type_builder::built_type::{BuiltType, Origin};
 use scrib_type_builder::choice_branches::{ChoiceBranches, add_branch};

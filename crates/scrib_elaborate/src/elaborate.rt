@@ -15,7 +15,6 @@ ghost use Rattle.scrib_static_checks.specs.Walking.{IsAbsentFault, IsCounted};
 use crate::elaborated::{ChoiceSite, Elaborated};
 use crate::memo::{empty_memo, memoize, memoized_type, remove_walk};
 use crate::tasks::ElaborationContext;
-use scrib_parser::tree::RoleDeclaration;
 use scrib_static_checks::checking::{State, SymbolTable};
 use scrib_static_checks::declared::{Declaration, all_declared};
 use scrib_static_checks::fault::{ElaborateFault, Fault, FaultKind};
@@ -23,6 +22,7 @@ use scrib_static_checks::modules::Modules;
 use scrib_static_checks::names::has_module;
 use scrib_static_checks::protocol_index::ProtocolIndex;
 use scrib_static_checks::walk::{check_size, fault_in, unwalked, walk};
+use scrib_tree::tree::RoleDeclaration;
 use scrib_type_builder::build_error::BuildError;
 use scrib_type_builder::built_type::{BuiltType, Origin};
 use scrib_types::containers::Items;
@@ -73,8 +73,8 @@ struct Results<'a> {
 impl<'a> Model for Elaborator<'a> {
     ghost use Rattle.std.specs.Prelude.{List};
     ghost use Rattle.std.specs.Coded.{codes};
-    ghost use Rattle.scrib_parser.specs.declared.tree.ModuleTree as parsed;
-    ghost use Rattle.scrib_parser.specs.contracts.tree.Statement as statement;
+    ghost use Rattle.scrib_tree.specs.declared.tree.ModuleTree as parsed;
+    ghost use Rattle.scrib_tree.specs.contracts.tree.Statement as statement;
     ghost use Rattle.scrib_elaborate.specs.Typing.{IsTabled};
 
     ghost Value = { List parsed.ModuleTree };

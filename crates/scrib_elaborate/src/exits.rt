@@ -1,7 +1,7 @@
 //! Which blocks have an exit, after the first pass.
 
 ghost use Rattle.std.specs.Prelude.{◌≡◌, ◌<◌, List, length, slice_get, Some, false};
-ghost use Rattle.scrib_parser.specs.declared.tree.ModuleTree.{ModuleTree};
+ghost use Rattle.scrib_tree.specs.declared.tree.ModuleTree.{ModuleTree};
 ghost use Rattle.scrib_static_checks.specs.SourceView.{statement_of, body_of, blocks_of};
 ghost use Rattle.scrib_static_checks.specs.Names.{Declaration};
 ghost use Rattle.scrib_static_checks.specs.Statements.{KeepsRules};
@@ -11,8 +11,8 @@ ghost use Rattle.scrib_static_checks.specs.Walking.{AreSummaries};
 
 use crate::tasks::ElaborationContext;
 use crate::typing::callee;
-use scrib_parser::tree::{Block, ModuleTree, Statement};
 use scrib_static_checks::checking::State;
+use scrib_tree::tree::{Block, ModuleTree, Statement};
 
 /// Returns whether a path through the block, in this module, leads to its end.
 #[cycle(exits)]

@@ -7,7 +7,7 @@
 
 ghost use Rattle.std.specs.Prelude.{◌≡◌, ℕ, Bool, List, IfOk, IfErr, MatchResult};
 ghost use Rattle.scrib_types.specs.declared.spot.Spot.{Spot};
-ghost use Rattle.scrib_parser.specs.declared.tree.ModuleTree.{ModuleTree};
+ghost use Rattle.scrib_tree.specs.declared.tree.ModuleTree.{ModuleTree};
 ghost use Rattle.scrib_static_checks.specs.Source.{Body, Then, Chooses, Repeats, Calls};
 ghost use Rattle.scrib_static_checks.specs.SourceView.{statement_of, body_of, blocks_of};
 ghost use Rattle.scrib_static_checks.specs.Names.{Declaration};
@@ -21,8 +21,8 @@ use crate::exits::has_exit;
 use crate::scope::Scope;
 use crate::tasks::{CallStatement, ElaborationContext, Task};
 use crate::typing::{callee, perform_tasks};
-use scrib_parser::tree::{Block, Statement};
 use scrib_static_checks::size::continues_in;
+use scrib_tree::tree::{Block, Statement};
 use scrib_type_builder::build_error::{BuildError, Refused};
 use scrib_types::name::Name;
 use std::alloc::Global;

@@ -1,7 +1,7 @@
 //! The types of protocols in isolation, as if nothing followed them, each of which is built once.
 
 ghost use Rattle.std.specs.Prelude.{◌≡◌, List, Bool, slice_get, Some, IfOk, IfErr, IfSome};
-ghost use Rattle.scrib_parser.specs.declared.tree.ModuleTree.{ModuleTree as ParsedTree};
+ghost use Rattle.scrib_tree.specs.declared.tree.ModuleTree.{ModuleTree as ParsedTree};
 ghost use Rattle.scrib_static_checks.specs.Names.{Declaration as PureDeclaration};
 ghost use Rattle.scrib_static_checks.specs.Walking.{IsIdle};
 ghost use Rattle.scrib_static_checks.specs.Statements.{KeepsRules};

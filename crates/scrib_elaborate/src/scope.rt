@@ -7,8 +7,8 @@ ghost use Rattle.scrib_static_checks.specs.Table.{declaration_of};
 ghost use Rattle.scrib_type_builder.specs.Renaming.{named};
 ghost use Rattle.scrib_elaborate.specs.Scope.{scope_of, levels_of, IsStart, IsSameScope, IsInsideRecursion, IsInsideCall};
 
-use scrib_parser::tree::RoleDeclaration;
 use scrib_static_checks::declared::Declaration;
+use scrib_tree::tree::RoleDeclaration;
 use scrib_type_builder::build_error::{Refused, next_depth};
 use scrib_type_builder::renamed::given_for;
 use scrib_types::name::{Name, Role};

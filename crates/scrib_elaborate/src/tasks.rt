@@ -1,11 +1,11 @@
 //! The tasks of building the type of a protocol.
 
 use crate::scope::Scope;
-use scrib_parser::tree::{Block, ModuleTree, Statement};
 use scrib_static_checks::checking::State;
 use scrib_static_checks::declared::Declaration;
 use scrib_static_checks::effect::CallEffect;
 use scrib_static_checks::protocol_index::ProtocolIndex;
+use scrib_tree::tree::{Block, ModuleTree, Statement};
 use scrib_type_builder::built_type::BuiltType;
 use scrib_types::name::{Dotted, Name, Role};
 use scrib_types::shared_message::SharedMessage;

@@ -4,7 +4,7 @@ ghost use Rattle.std.specs.Prelude.{◌≡◌, ℕ, ◌<◌, Bool, List, ◌∷�
 ghost use Rattle.scrib_types.specs.declared.spot.Spot.{Spot};
 ghost use Rattle.scrib_types.specs.GlobalView.{global_of};
 ghost use Rattle.scrib_types.specs.Trees.{GlobalEnd};
-ghost use Rattle.scrib_parser.specs.declared.tree.ModuleTree.{ModuleTree};
+ghost use Rattle.scrib_tree.specs.declared.tree.ModuleTree.{ModuleTree};
 ghost use Rattle.scrib_elaborate.specs.declared.tasks.Task.TheVariants.{Front, Join, Close};
 ghost use Rattle.scrib_static_checks.specs.Source.{Repeats, Calls};
 ghost use Rattle.scrib_static_checks.specs.SourceView.{statement_of, body_of};
@@ -24,11 +24,11 @@ use crate::scope::Scope;
 use crate::tasks::{
     CallSite, Callee, ChoiceStatement, ElaborationContext, MessageStatement, RecStatement, Task,
 };
-use scrib_parser::tree::{ModuleTree, Statement};
 use scrib_static_checks::block_effects::effect_at;
 use scrib_static_checks::declared::{Declaration, looked_in};
 use scrib_static_checks::effect::CallEffect;
 use scrib_static_checks::size::continues_in;
+use scrib_tree::tree::{ModuleTree, Statement};
 use scrib_type_builder::build_error::{BuildError, Refused};
 use scrib_type_builder::built_type::{BuiltType, Origin};
 use scrib_types::global::GlobalType;

@@ -5,8 +5,8 @@ use Rattle.std.specs.List.{Contains, remove}
 use Rattle.std.proofs.Math.ListN.{length-append}
 use Rattle.std.proofs.lemmas.List.{take_more, take_all, take-append-le, take-append-drop, length-drop, map-append, length-map, get_or-map}
 use Rattle.std.proofs.lemmas.List.Elements.{Contains-push, Contains-push_cases, Contains-append_left, Contains-append_cases}
-use Rattle.scrib_parser.specs.declared.tree.ModuleTree.{ModuleTree}
-use Rattle.scrib_parser.specs.declared.tree.Import.{Import}
+use Rattle.scrib_tree.specs.declared.tree.ModuleTree.{ModuleTree}
+use Rattle.scrib_tree.specs.declared.tree.Import.{Import}
 use Rattle.scrib_library.specs.declared.name_filter.FilteredModule.{FilteredModule}
 use Rattle.scrib_library.specs.Affected.{names_now, waiting_trees, ImportsSome, AreAffected}
 use Rattle.scrib_library.proofs.Lists.{Contains-head_at, Contains-remove_cases, Contains-remove_back, map-remove}

@@ -12,8 +12,8 @@ use Rattle.scrib_types.specs.Meaning.{agreement_of}
 use Rattle.scrib_types.specs.Trees.{GlobalTree}
 use Rattle.scrib_types.specs.Projection.{projection}
 use Rattle.scrib_types.specs.WellFormed.{projects}
-use Rattle.scrib_parser.specs.declared.tree.ModuleTree.{ModuleTree}
-use Rattle.scrib_parser.specs.declared.tree.ProtocolDeclaration.{ProtocolDeclaration}
+use Rattle.scrib_tree.specs.declared.tree.ModuleTree.{ModuleTree}
+use Rattle.scrib_tree.specs.declared.tree.ProtocolDeclaration.{ProtocolDeclaration}
 use Rattle.scrib_static_checks.specs.declared.fault.ElaborateFault.{ElaborateFault}
 use Rattle.scrib_static_checks.specs.declared.fault.ElaborateFault.TheVariants as elaborate
 use Rattle.scrib_elaborate.specs.declared.elaborated.Elaborated.{Elaborated}

@@ -5,8 +5,8 @@ use Rattle.std.specs.Bool.{IsTrue}
 use Rattle.scrib_types.specs.Names.{is_name}
 use Rattle.scrib_lexer.specs.declared.token.TokenKind.TheVariants.{Dot}
 use Rattle.scrib_lexer.specs.Lexeme.{Lexeme}
-use Rattle.scrib_parser.specs.declared.tree.ModuleTree.{ModuleTree}
-use Rattle.scrib_parser.specs.declared.tree.ProtocolDeclaration.{ProtocolDeclaration}
+use Rattle.scrib_tree.specs.declared.tree.ModuleTree.{ModuleTree}
+use Rattle.scrib_tree.specs.declared.tree.ProtocolDeclaration.{ProtocolDeclaration}
 use Rattle.scrib_parser.specs.Grammar as grammar
 use Rattle.scrib_parser.specs.Grammar.{Language, many, token, dotted, kept, declaration, max_levels, ◌·◌}
 use Rattle.scrib_library.specs.Edits.{Reads}

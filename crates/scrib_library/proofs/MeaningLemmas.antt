@@ -12,7 +12,7 @@ use Rattle.scrib_types.specs.Agreement.{Agreement}
 use Rattle.scrib_types.specs.WellFormed.{is_protocol}
 use Rattle.scrib_record.specs.declared.version.Version.{Version}
 use Rattle.scrib_record.specs.Versions.{meaning_of, number_of}
-use Rattle.scrib_parser.specs.declared.tree.ModuleTree.{ModuleTree}
+use Rattle.scrib_tree.specs.declared.tree.ModuleTree.{ModuleTree}
 use Rattle.scrib_static_checks.specs.Names.{Declaration, dotted_eq, declarations, is_called, roles_of}
 use Rattle.scrib_static_checks.specs.Elaboration.{Elaborates, Types, start_of}
 use Rattle.scrib_static_checks.proofs.NameLemmas.{dotted_eq-Decides}

@@ -4,8 +4,8 @@ use Rattle.std.specs.List.{Contains, remove}
 use Rattle.std.proofs.Math.Seq.{take-append_seam, get_or-append_seam}
 use Rattle.std.proofs.lemmas.List.Sums.{sum_by-cons}
 use Rattle.std.proofs.lemmas.Bool.{false≢true, and_parts, and_from, or_parts, false_from_ne_true}
-use Rattle.scrib_parser.specs.declared.tree.ModuleTree.{ModuleTree}
-use Rattle.scrib_parser.specs.declared.tree.Import.{Import}
+use Rattle.scrib_tree.specs.declared.tree.ModuleTree.{ModuleTree}
+use Rattle.scrib_tree.specs.declared.tree.Import.{Import}
 use Rattle.scrib_static_checks.specs.Names.{dotted_eq, has_name, distinct_names, module_names, with_module}
 use Rattle.scrib_elaborate.specs.Locality.{without_module}
 use Rattle.scrib_static_checks.specs.Table.{IsPlace}

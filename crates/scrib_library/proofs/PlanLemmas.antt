@@ -3,7 +3,7 @@ use Rattle.std.proofs.Common.{◌≡◌, ℕ, List, [], get_or, set, Option, Som
 use Rattle.std.specs.List.{Contains}
 use Rattle.std.proofs.lemmas.List.{set-get_or}
 use Rattle.scrib_types.specs.declared.profile.Profile.{Profile}
-use Rattle.scrib_parser.specs.declared.tree.ModuleTree.{ModuleTree}
+use Rattle.scrib_tree.specs.declared.tree.ModuleTree.{ModuleTree}
 use Rattle.scrib_static_checks.specs.declared.modules.Placed.{Placed}
 use Rattle.scrib_static_checks.specs.Placed.{IsModulePlaced}
 use Rattle.scrib_record.specs.Versions.{meaning_of}

@@ -13,7 +13,7 @@ use Rattle.scrib_types.specs.Trees.{GlobalTree, LocalTree}
 use Rattle.scrib_types.specs.LocalView.{local_of}
 use Rattle.scrib_types.specs.Projection.{projection}
 use Rattle.scrib_types.specs.WellFormed.{projects}
-use Rattle.scrib_parser.specs.declared.tree.ModuleTree.{ModuleTree}
+use Rattle.scrib_tree.specs.declared.tree.ModuleTree.{ModuleTree}
 use Rattle.scrib_project.proofs.ProfileLemmas.{all_wider}
 use Rattle.scrib_record.specs.Versions.{meaning_of}
 use Rattle.scrib_library.specs.declared.versions.NamedVersion.{NamedVersion}

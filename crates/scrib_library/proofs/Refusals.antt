@@ -8,7 +8,7 @@ use Rattle.scrib_lexer.specs.Tokens as tokens
 use Rattle.scrib_lexer.specs.Tokens.{IsTokens, LexGives}
 use Rattle.scrib_parser.specs.declared.fault.ParseFault.{ParseFault}
 use Rattle.scrib_parser.specs.declared.fault.ParseFault.TheVariants as parse
-use Rattle.scrib_parser.specs.declared.tree.ModuleTree.{ModuleTree}
+use Rattle.scrib_tree.specs.declared.tree.ModuleTree.{ModuleTree}
 use Rattle.scrib_parser.specs.Grammar.{IsModule, IsParseFault, ParseGives}
 use Rattle.scrib_static_checks.specs.Names.{with_module}
 use Rattle.scrib_library.specs.declared.fault.EditFault.{EditFault}

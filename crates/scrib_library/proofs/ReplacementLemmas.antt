@@ -4,7 +4,7 @@ use Rattle.std.specs.List.{Contains}
 use Rattle.std.proofs.Math.ListN.{length-set}
 use Rattle.std.proofs.lemmas.List.{take-append-drop, get_or-set_same}
 use Rattle.std.proofs.lemmas.List.Elements.{Contains-append_left}
-use Rattle.scrib_parser.specs.declared.tree.ModuleTree.{ModuleTree}
+use Rattle.scrib_tree.specs.declared.tree.ModuleTree.{ModuleTree}
 use Rattle.scrib_static_checks.specs.Names.{dotted_eq, with_module}
 use Rattle.scrib_static_checks.specs.declared.modules.Placed.{Placed}
 use Rattle.scrib_static_checks.specs.Placed.{IsModulePlaced, back_to}

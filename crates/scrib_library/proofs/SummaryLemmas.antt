@@ -3,7 +3,7 @@ use Rattle.std.proofs.Common.{◌≡◌, ℕ, zero, suc, ◌+◌, ◌<◌, List,
 use Rattle.std.specs.List.{fold}
 use Rattle.std.proofs.Math.ListN.{length-set}
 use Rattle.std.proofs.lemmas.List.{get_or-map, map-append, map-set, length-map, length-take-le, take-append-drop, drop_more, take_more, take_all}
-use Rattle.scrib_parser.specs.declared.tree.ModuleTree.{ModuleTree}
+use Rattle.scrib_tree.specs.declared.tree.ModuleTree.{ModuleTree}
 use Rattle.scrib_static_checks.specs.declared.modules.Placed.{Placed}
 use Rattle.scrib_static_checks.specs.Names.{dotted_eq, has_name, module_names, with_module}
 use Rattle.scrib_static_checks.specs.Table.{IsPlace}

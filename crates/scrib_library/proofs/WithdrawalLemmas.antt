@@ -5,7 +5,7 @@ use Rattle.std.specs.List.{Contains}
 use Rattle.std.proofs.lemmas.List.{same_from_push}
 use Rattle.scrib_types.specs.declared.profile.Profile.{Profile}
 use Rattle.scrib_types.specs.Agreement.{Agreement}
-use Rattle.scrib_parser.specs.declared.tree.ModuleTree.{ModuleTree}
+use Rattle.scrib_tree.specs.declared.tree.ModuleTree.{ModuleTree}
 use Rattle.scrib_static_checks.specs.Names.{Declaration, dotted_eq, declarations}
 use Rattle.scrib_elaborate.specs.Locality.{IsImportClosed, AgreeOn, without_module, elaborates_alike, removal_agrees}
 use Rattle.scrib_static_checks.specs.Table.{IsPlace}

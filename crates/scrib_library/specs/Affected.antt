@@ -1,8 +1,8 @@
 -- The modules whose protocols an edit can change.
 -- Only contracts of private functions cite this file.
 use Rattle.std.specs.Prelude.{ℕ, List, map, Contains}
-use Rattle.scrib_parser.specs.declared.tree.ModuleTree.{ModuleTree}
-use Rattle.scrib_parser.specs.declared.tree.Import.{Import}
+use Rattle.scrib_tree.specs.declared.tree.ModuleTree.{ModuleTree}
+use Rattle.scrib_tree.specs.declared.tree.Import.{Import}
 use Rattle.scrib_library.specs.declared.name_filter.FilteredModule.{FilteredModule}
 pub use Rattle.scrib_library.specs.NameFilter.{names_now}
 

@@ -15,8 +15,8 @@ use Rattle.scrib_lexer.specs.Tokens as tokens
 use Rattle.scrib_lexer.specs.Tokens.{max_text_bytes, IsTokens}
 use Rattle.scrib_parser.specs.declared.fault.ParseFault.{ParseFault}
 use Rattle.scrib_parser.specs.declared.fault.ParseFault.TheVariants as parse
-use Rattle.scrib_parser.specs.declared.tree.ModuleTree.{ModuleTree}
-use Rattle.scrib_parser.specs.declared.tree.Import.{Import}
+use Rattle.scrib_tree.specs.declared.tree.ModuleTree.{ModuleTree}
+use Rattle.scrib_tree.specs.declared.tree.Import.{Import}
 use Rattle.scrib_parser.specs.Grammar.{IsModule, IsParseFault}
 use Rattle.scrib_static_checks.specs.declared.fault.Fault.{Fault}
 use Rattle.scrib_static_checks.specs.Names.{Declaration, declarations, has_name, module_names, with_module}

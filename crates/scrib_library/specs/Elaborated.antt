@@ -6,7 +6,7 @@ use Rattle.scrib_types.specs.declared.profile.Profile.{Profile}
 use Rattle.scrib_types.specs.WellFormed.{projects}
 use Rattle.scrib_types.specs.Agreement.{Agreement}
 use Rattle.scrib_types.specs.Meaning.{agreement_of}
-use Rattle.scrib_parser.specs.declared.tree.ModuleTree.{ModuleTree}
+use Rattle.scrib_tree.specs.declared.tree.ModuleTree.{ModuleTree}
 use Rattle.scrib_elaborate.specs.declared.elaborated.Elaborated.{Elaborated}
 use Rattle.scrib_static_checks.specs.Elaboration.{Elaborates}
 use Rattle.scrib_static_checks.specs.Faults.{IsBroken}

@@ -4,8 +4,8 @@ use Rattle.std.specs.List.{sum_by}
 use Rattle.scrib_types.specs.Agreement.{Agreement}
 use Rattle.scrib_types.specs.declared.profile.Profile.{Profile}
 use Rattle.scrib_types.specs.WellFormed.{projects, is_protocol}
-use Rattle.scrib_parser.specs.declared.tree.ModuleTree.{ModuleTree}
-use Rattle.scrib_parser.specs.declared.tree.Import.{Import}
+use Rattle.scrib_tree.specs.declared.tree.ModuleTree.{ModuleTree}
+use Rattle.scrib_tree.specs.declared.tree.Import.{Import}
 use Rattle.scrib_static_checks.specs.Names.{Declaration, has_name, first_where, module_names, declarations}
 use Rattle.scrib_static_checks.specs.Elaboration.{Elaborates}
 

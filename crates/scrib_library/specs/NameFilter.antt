@@ -3,7 +3,7 @@
 use Rattle.std.specs.Prelude.{◌≡◌, ℕ, ◌^◌, bit_or, List, [], ◌∷◌, map, Contains}
 use Rattle.std.specs.Borrow.{Bor}
 use Rattle.std.specs.Int.{bit_at}
-use Rattle.scrib_parser.specs.declared.tree.Import.{Import}
+use Rattle.scrib_tree.specs.declared.tree.Import.{Import}
 use Rattle.scrib_types.specs.Hashing.{hash_bytes, slot_of}
 use Rattle.scrib_static_checks.specs.Names.{last_name}
 

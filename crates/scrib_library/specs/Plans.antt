@@ -3,7 +3,7 @@
 use Rattle.std.specs.Prelude.{◌≡◌, ◌↔◌, ℕ, List, Option, Contains}
 use Rattle.scrib_types.specs.Agreement.{Agreement}
 use Rattle.scrib_types.specs.declared.profile.Profile.{Profile}
-use Rattle.scrib_parser.specs.declared.tree.ModuleTree.{ModuleTree}
+use Rattle.scrib_tree.specs.declared.tree.ModuleTree.{ModuleTree}
 use Rattle.scrib_static_checks.specs.declared.modules.Placed.{Placed}
 use Rattle.scrib_static_checks.specs.Placed.{IsModulePlaced}
 use Rattle.scrib_library.specs.declared.plan.Plan.{Plan}

@@ -2,8 +2,8 @@
 use Rattle.std.specs.Prelude.{◌≡◌, ℕ, ◌<◌, ◌≤◌, true, IsTrue, List, map, Option, Some, None, Contains}
 use Rattle.scrib_types.specs.Names.{is_name}
 use Rattle.scrib_types.specs.declared.profile.Profile.{Profile}
-use Rattle.scrib_parser.specs.declared.tree.ModuleTree.{ModuleTree}
-use Rattle.scrib_parser.specs.declared.tree.ProtocolDeclaration.{ProtocolDeclaration}
+use Rattle.scrib_tree.specs.declared.tree.ModuleTree.{ModuleTree}
+use Rattle.scrib_tree.specs.declared.tree.ProtocolDeclaration.{ProtocolDeclaration}
 use Rattle.scrib_static_checks.specs.Names.{distinct_names, module_names}
 use Rattle.scrib_record.specs.declared.version.Version.{Version}
 use Rattle.scrib_record.specs.Versions.{meaning_of, number_of}

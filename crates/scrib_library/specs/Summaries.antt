@@ -2,7 +2,7 @@
 -- Only contracts of private functions and the invariant of `ModuleStore` cite this file.
 use Rattle.std.specs.Prelude.{ℕ, List, length, map}
 use Rattle.std.specs.List.{sum_by}
-use Rattle.scrib_parser.specs.declared.tree.ModuleTree.{ModuleTree}
+use Rattle.scrib_tree.specs.declared.tree.ModuleTree.{ModuleTree}
 use Rattle.scrib_library.specs.declared.summaries.ModuleSummary.{ModuleSummary}
 use Rattle.scrib_library.specs.NameFilter.{filter_bit, filter_of}
 

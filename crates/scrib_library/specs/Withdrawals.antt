@@ -2,8 +2,8 @@
 -- Only contracts of private functions cite this file.
 use Rattle.std.specs.Prelude.{◌≡◌, ◌≢◌, ◌⊎◌, ℕ, List, [], ◌∷◌, Option, Some, None, Contains}
 use Rattle.std.specs.declared.cmp.Ordering.TheVariants.{Greater}
-use Rattle.scrib_parser.specs.declared.tree.ModuleTree.{ModuleTree}
-use Rattle.scrib_parser.specs.declared.tree.ProtocolDeclaration.{ProtocolDeclaration}
+use Rattle.scrib_tree.specs.declared.tree.ModuleTree.{ModuleTree}
+use Rattle.scrib_tree.specs.declared.tree.ProtocolDeclaration.{ProtocolDeclaration}
 use Rattle.scrib_static_checks.specs.Table.{IsPlace}
 use Rattle.scrib_library.specs.declared.plan.Plan.{Plan}
 use Rattle.scrib_library.specs.declared.declared.Entry.{Entry}

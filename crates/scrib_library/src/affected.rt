@@ -1,14 +1,14 @@
 //! The modules whose protocols an edit can change: the edited one, and those that reach it by imports.
 
 ghost use Rattle.std.specs.Prelude.{◌≡◌, ◌<◌, length, MatchOption, IfOk, IsTrue, Contains, ◌↔◌};
-ghost use Rattle.scrib_parser.specs.declared.tree.ModuleTree as parsed;
+ghost use Rattle.scrib_tree.specs.declared.tree.ModuleTree as parsed;
 ghost use Rattle.scrib_library.specs.Summaries.{summaries_of};
 ghost use Rattle.scrib_library.specs.Affected.{names_now, waiting_trees, ImportsSome, AreAffected};
 
 use crate::name_filter::{FilteredModule, filter_of_names, may_overlap};
 use crate::names::same;
 use crate::summaries::ModuleSummary;
-use scrib_parser::tree::ModuleTree;
+use scrib_tree::tree::ModuleTree;
 use scrib_types::name::Dotted;
 use std::alloc::{AllocError, Global};
 

@@ -4,8 +4,8 @@ ghost use Rattle.std.specs.Prelude.{◌≡◌, false};
 ghost use Rattle.scrib_static_checks.specs.SourceView.{body_of, blocks_of, statement_of};
 ghost use Rattle.scrib_library.specs.Calls.{EachCall, EachCallAt, EachCallOf, IsOther};
 
-use scrib_parser::tree::{Block, ModuleTree, Statement};
 use scrib_static_checks::declared::looked_in;
+use scrib_tree::tree::{Block, ModuleTree, Statement};
 use scrib_types::name::{Dotted, Name};
 
 /// Whether some call in these statements of the module `at` calls the protocol `name` of the module `home`.

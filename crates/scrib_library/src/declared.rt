@@ -12,7 +12,7 @@ use crate::affected::is_one_of;
 use crate::name_filter::{filter_of_names, may_contain};
 use crate::names::{compare, full_name};
 use crate::summaries::ModuleSummary;
-use scrib_parser::tree::{ModuleTree, ProtocolDeclaration};
+use scrib_tree::tree::{ModuleTree, ProtocolDeclaration};
 use scrib_types::name::Dotted;
 use std::alloc::{AllocError, Global};
 

@@ -2,7 +2,7 @@
 
 ghost use Rattle.std.specs.Prelude.{◌≡◌, IfOk, IfErr, IfSome, OnOk, OnErr};
 ghost use Rattle.std.specs.Option.{option_map};
-ghost use Rattle.scrib_parser.specs.declared.tree.ModuleTree as parsed;
+ghost use Rattle.scrib_tree.specs.declared.tree.ModuleTree as parsed;
 ghost use Rattle.scrib_record.specs.Versions.{meaning_of, number_of};
 ghost use Rattle.scrib_library.specs.Modules.{IsMeaning, AllProject, MeansProtocols, MeansOnce};
 ghost use Rattle.scrib_library.specs.Holdings.{no_holdings, no_holdings_under, IsNumber, IsStamp, AreNumbered, IsAccepting};
@@ -52,7 +52,7 @@ pub struct Library {
 
 impl Model for Library {
     ghost use Rattle.std.specs.Coded.{codes};
-    ghost use Rattle.scrib_parser.specs.contracts.tree.Statement as statement;
+    ghost use Rattle.scrib_tree.specs.contracts.tree.Statement as statement;
     ghost use Rattle.scrib_library.specs.Holdings.{Holdings};
     ghost use Rattle.scrib_library.specs.Stored.{stamps_of, IsLibrary};
 

@@ -1,15 +1,15 @@
 //! The accepted modules, with a summary of each.
 
 ghost use Rattle.std.specs.Prelude.{◌≡◌, ◌<◌, [], false, length, remove, slice_index_or, MatchOption, IfOk, OnErr};
-ghost use Rattle.scrib_parser.specs.declared.tree.ModuleTree as parsed;
+ghost use Rattle.scrib_tree.specs.declared.tree.ModuleTree as parsed;
 ghost use Rattle.scrib_static_checks.specs.Names.{has_name, module_names};
 ghost use Rattle.scrib_static_checks.specs.Table.{IsPlace};
 ghost use Rattle.scrib_static_checks.specs.Placed.{IsModulePlaced, undone};
 ghost use Rattle.scrib_library.specs.Summaries.{summaries_of};
 
 use crate::summaries::{ModuleSummary, place_of, summary_of};
-use scrib_parser::tree::ModuleTree;
 use scrib_static_checks::modules::{Modules, Placed};
+use scrib_tree::tree::ModuleTree;
 use scrib_types::name::Dotted;
 use std::alloc::{AllocError, Global};
 use std::marker::Model;
@@ -24,8 +24,8 @@ pub struct ModuleStore {
 impl Model for ModuleStore {
     ghost use Rattle.std.specs.Prelude.{◌≡◌, List};
     ghost use Rattle.std.specs.Coded.{codes};
-    ghost use Rattle.scrib_parser.specs.declared.tree.ModuleTree as parsed;
-    ghost use Rattle.scrib_parser.specs.contracts.tree.Statement as statement;
+    ghost use Rattle.scrib_tree.specs.declared.tree.ModuleTree as parsed;
+    ghost use Rattle.scrib_tree.specs.contracts.tree.Statement as statement;
     ghost use Rattle.scrib_library.specs.Summaries.{summaries_of};
 
     ghost Value = { List parsed.ModuleTree };

@@ -3,7 +3,7 @@
 ghost use Rattle.std.specs.Prelude.{◌≡◌, ◌<◌, ◌⊎◌, ℕ, false};
 ghost use Rattle.scrib_library.specs.NameFilter as spec;
 
-use scrib_parser::tree::{Import, ModuleTree};
+use scrib_tree::tree::{Import, ModuleTree};
 use scrib_types::hashing::{hash_bytes, slot_of};
 use scrib_types::name::Dotted;
 

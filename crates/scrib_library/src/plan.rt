@@ -23,7 +23,7 @@ use crate::reaching::reaching;
 use crate::room::check_room;
 use crate::same::same_module;
 use crate::versions::{NamedVersion, VersionEdit};
-use scrib_parser::tree::ModuleTree;
+use scrib_tree::tree::ModuleTree;
 use scrib_types::name::Dotted;
 use scrib_types::profile::Profile;
 use std::alloc::Global;

@@ -2,14 +2,14 @@
 
 ghost use Rattle.std.specs.Prelude.{ℕ, List, IfOk, IfErr};
 ghost use Rattle.scrib_types.specs.declared.profile.Profile.{Profile};
-ghost use Rattle.scrib_parser.specs.declared.tree.ModuleTree.{ModuleTree};
+ghost use Rattle.scrib_tree.specs.declared.tree.ModuleTree.{ModuleTree};
 ghost use Rattle.scrib_library.specs.Edits.{Reads, PutFails};
 
 use crate::fault::EditFault;
 use scrib_lexer::lex::lex;
 use scrib_parser::interner::Interner;
 use scrib_parser::parse::parse;
-use scrib_parser::tree::ModuleTree;
+use scrib_tree::tree::ModuleTree;
 use std::alloc::Global;
 
 /// Lexes and parses the text. The module shares names and messages with recent texts, as far as these are still known.

@@ -2,7 +2,7 @@
 
 ghost use Rattle.std.specs.Prelude.{◌≡◌, ◌↔◌, IfOk, IfErr, IsTrue, Contains};
 ghost use Rattle.std.specs.Option.{option_copied};
-ghost use Rattle.scrib_parser.specs.declared.tree.ModuleTree as parsed;
+ghost use Rattle.scrib_tree.specs.declared.tree.ModuleTree as parsed;
 ghost use Rattle.scrib_library.specs.Edits.{WithdrawFails};
 ghost use Rattle.scrib_library.specs.Stored.{IsSpelled};
 ghost use Rattle.scrib_library.specs.Withdrawals.{Imports, IsFreePlace, IsFirstImporterOrNone, IsLesserName};
@@ -11,7 +11,7 @@ use crate::affected::imports_some;
 use crate::fault::EditFault;
 use crate::module_store::ModuleStore;
 use crate::names::compare;
-use scrib_parser::tree::ModuleTree;
+use scrib_tree::tree::ModuleTree;
 use scrib_types::name::Dotted;
 use std::cmp::Ordering;
 

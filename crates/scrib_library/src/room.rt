@@ -3,7 +3,7 @@
 ghost use Rattle.std.specs.Prelude.{◌≡◌, ◌<◌, ℕ, List, nat_lt, IfErr, OnOk};
 ghost use Rattle.std.specs.Option.{option_map};
 ghost use Rattle.scrib_types.specs.declared.profile.Profile.{Profile};
-ghost use Rattle.scrib_parser.specs.declared.tree.ModuleTree as parsed;
+ghost use Rattle.scrib_tree.specs.declared.tree.ModuleTree as parsed;
 ghost use Rattle.scrib_library.specs.Modules as spec;
 ghost use Rattle.scrib_library.specs.Summaries.{summaries_of, declared_count};
 ghost use Rattle.scrib_library.specs.Edits.{HasRoom, ModuleFails};
@@ -11,7 +11,7 @@ ghost use Rattle.scrib_library.specs.Edits.{HasRoom, ModuleFails};
 use crate::fault::EditFault;
 use crate::library::{MAX_MODULES, MAX_PROTOCOLS};
 use crate::summaries::{ModuleSummary, place_of};
-use scrib_parser::tree::{Import, ModuleTree};
+use scrib_tree::tree::{Import, ModuleTree};
 use std::alloc::Global;
 
 /// Checks the limits after a put, where `new` is already among `modules`. The modules and protocols must be few enough,

@@ -3,7 +3,7 @@
 
 ghost use Rattle.std.specs.Prelude.{◌≡◌, IsTrue};
 
-use scrib_parser::tree::{
+use scrib_tree::tree::{
     Block, Import, ModuleTree, ProtocolDeclaration, RoleDeclaration, Statement,
 };
 use scrib_types::message::operators_equal;

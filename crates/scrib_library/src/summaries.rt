@@ -8,7 +8,7 @@ ghost use Rattle.scrib_library.specs.Summaries as spec;
 
 use crate::name_filter::{filter_bit, filter_of};
 use crate::names::same;
-use scrib_parser::tree::ModuleTree;
+use scrib_tree::tree::ModuleTree;
 use scrib_types::name::Dotted;
 
 /// The summary of a module: the filter bit of its name, the filter of the module names that it imports, and the number

@@ -8,9 +8,9 @@ use Rattle.scrib_lexer.specs.declared.token.TokenKind.TheVariants.{Name, Keyword
 use Rattle.scrib_lexer.specs.Lexeme.{Lexeme}
 use Rattle.scrib_parser.specs.declared.fault.ParseFault.{ParseFault}
 use Rattle.scrib_parser.specs.declared.fault.ParseFault.TheVariants.{Unexpected, EndOfText, LeftOut, TooDeep, OutOfMemory}
-use Rattle.scrib_parser.specs.declared.tree.Block.{Block}
-use Rattle.scrib_parser.specs.declared.tree.Statement.{Statement}
-use Rattle.scrib_parser.specs.declared.tree.Statement as tree
+use Rattle.scrib_tree.specs.declared.tree.Block.{Block}
+use Rattle.scrib_tree.specs.declared.tree.Statement.{Statement}
+use Rattle.scrib_tree.specs.declared.tree.Statement as tree
 use Rattle.scrib_parser.specs.Grammar.{Language, ◌·◌, many, joined, spotted_token, token, name, message, choice, recursion, jump, call, statement, block}
 use Rattle.scrib_parser.specs.Reading.{Reader, Stops, begins, same_kind, mapped, read_both, after, read_before, branch, repeated, token_of, read_name, begins_message, read_message, read_blocks, read_choice, recursion_of, jump_of, call_of, statement_of, begins_statement, statements_of, deep_fault, opened_block_of, block_of}
 use Rattle.scrib_parser.proofs.Laws.{free, follows_free, Claim, never, Sends, sends_never, sends_same, IsCause, Stopped, Reads, err_is, chain_reads}

@@ -4,7 +4,7 @@ use Rattle.std.proofs.lemmas.List.{append-nil}
 use Rattle.scrib_lexer.specs.Lexeme.{Lexeme}
 use Rattle.scrib_parser.specs.declared.fault.ParseFault.{ParseFault}
 use Rattle.scrib_parser.specs.declared.fault.ParseFault.TheVariants.{Unexpected, EndOfText, LeftOut, TooDeep, OutOfMemory}
-use Rattle.scrib_parser.specs.declared.tree.ProtocolDeclaration.{ProtocolDeclaration}
+use Rattle.scrib_tree.specs.declared.tree.ProtocolDeclaration.{ProtocolDeclaration}
 use Rattle.scrib_parser.specs.Grammar.{kept}
 use Rattle.scrib_parser.specs.Reading.{ReadResult, ◌>>=◌, Stops, begins, repeated, read_declaration, begins_declaration, declarations_of}
 use Rattle.scrib_parser.proofs.Repetition.{repeated_ends, repeated_goes}

@@ -13,10 +13,10 @@ use Rattle.scrib_parser.specs.declared.fault.LeftOutWord.{LeftOutWord}
 use Rattle.scrib_parser.specs.declared.fault.LeftOutWord.TheVariants.{Local, Sig, Aux, Explicit, From, Par, Interruptible, Connect, Disconnect}
 use Rattle.scrib_parser.specs.declared.fault.ParseFault.{ParseFault}
 use Rattle.scrib_parser.specs.declared.fault.ParseFault.TheVariants.{Unexpected, EndOfText, LeftOut, TooDeep}
-use Rattle.scrib_parser.specs.declared.tree.ModuleTree.{ModuleTree}
-use Rattle.scrib_parser.specs.declared.tree.ProtocolDeclaration.{ProtocolDeclaration}
-use Rattle.scrib_parser.specs.declared.tree.Block.{Block}
-use Rattle.scrib_parser.specs.declared.tree.Statement.{Statement}
+use Rattle.scrib_tree.specs.declared.tree.ModuleTree.{ModuleTree}
+use Rattle.scrib_tree.specs.declared.tree.ProtocolDeclaration.{ProtocolDeclaration}
+use Rattle.scrib_tree.specs.declared.tree.Block.{Block}
+use Rattle.scrib_tree.specs.declared.tree.Statement.{Statement}
 use Rattle.scrib_parser.specs.LeftOut.{spelling, word_among, statement_word, statement_word_of, declaration_word_of, left_out_declaration, left_out_statement}
 use Rattle.scrib_parser.specs.Grammar.{Language, ◌·◌, many, joined, spotted_token, token, name, dotted, statement, block, role, protocol, type_declaration, declaration, kept, «import», module_text, TokenMayFollow, IsLeftOut}
 use Rattle.scrib_parser.specs.Reading.{Reader, ◌>>=◌, same_kind, token_of, placed_name_of, paren_behind, named_opening_of, opening_of, payload_of, read_message, statement_of, block_of, at_end, whole_of, refusal}

@@ -5,8 +5,8 @@ use Rattle.scrib_lexer.specs.declared.token.Keyword.TheVariants as words
 use Rattle.scrib_lexer.specs.declared.token.TokenKind.{TokenKind}
 use Rattle.scrib_lexer.specs.declared.token.TokenKind.TheVariants.{Keyword, StringLiteral, Semicolon, Comma, Dot, OpenAngle, CloseAngle}
 use Rattle.scrib_lexer.specs.Lexeme.{Lexeme}
-use Rattle.scrib_parser.specs.declared.tree.Import.{Import}
-use Rattle.scrib_parser.specs.declared.tree.RoleDeclaration.{RoleDeclaration}
+use Rattle.scrib_tree.specs.declared.tree.Import.{Import}
+use Rattle.scrib_tree.specs.declared.tree.RoleDeclaration.{RoleDeclaration}
 use Rattle.scrib_parser.specs.Grammar.{Language, ◌·◌, nothing, any, many, joined, spotted_token, token, name, dotted, element, role, known_as, «import»}
 use Rattle.scrib_parser.specs.Reading.{Reader, begins, same_kind, mapped, read_both, after, read_before, none, token_of, read_name, dotted_of, element_of, role_of, read_roles, known_as_of, import_of, imports_of, type_declaration_of}
 use Rattle.scrib_parser.proofs.Laws.{Follows, free, follows_free, never, sends_never, sends_same, Leaf}

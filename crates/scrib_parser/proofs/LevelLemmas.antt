@@ -7,7 +7,7 @@ use Rattle.scrib_lexer.specs.declared.token.TokenKind.TheVariants.{OpenBrace}
 use Rattle.scrib_lexer.specs.Lexeme.{Lexeme}
 use Rattle.scrib_parser.specs.declared.fault.ParseFault.{ParseFault}
 use Rattle.scrib_parser.specs.declared.fault.ParseFault.TheVariants.{TooDeep}
-use Rattle.scrib_parser.specs.declared.tree.Block.{Block}
+use Rattle.scrib_tree.specs.declared.tree.Block.{Block}
 use Rattle.scrib_parser.specs.Reading.{Reader, ◌>>=◌, begins, same_kind, chain, mapped, read_both, after, read_before, branch, repeat, repeated, token_of, read_blocks, read_choice, recursion_of, statement_of, begins_statement, statements_of, deep_fault, opened_block_of, block_of, protocol_of, read_declaration, begins_declaration, declarations_of, module_of, at_end, whole_of}
 
 -- a result for want of a level

@@ -6,11 +6,11 @@ use Rattle.scrib_lexer.specs.declared.token.Keyword.TheVariants as words
 use Rattle.scrib_lexer.specs.declared.token.TokenKind.{TokenKind}
 use Rattle.scrib_lexer.specs.declared.token.TokenKind.TheVariants.{Keyword, Semicolon, Comma, OpenParen, CloseParen}
 use Rattle.scrib_lexer.specs.Lexeme.{Lexeme}
-use Rattle.scrib_parser.specs.declared.tree.ModuleTree.{ModuleTree}
-use Rattle.scrib_parser.specs.declared.tree.Import.{Import}
-use Rattle.scrib_parser.specs.declared.tree.ProtocolDeclaration.{ProtocolDeclaration}
-use Rattle.scrib_parser.specs.declared.tree.RoleDeclaration.{RoleDeclaration}
-use Rattle.scrib_parser.specs.declared.tree.Block.{Block}
+use Rattle.scrib_tree.specs.declared.tree.ModuleTree.{ModuleTree}
+use Rattle.scrib_tree.specs.declared.tree.Import.{Import}
+use Rattle.scrib_tree.specs.declared.tree.ProtocolDeclaration.{ProtocolDeclaration}
+use Rattle.scrib_tree.specs.declared.tree.RoleDeclaration.{RoleDeclaration}
+use Rattle.scrib_tree.specs.declared.tree.Block.{Block}
 use Rattle.scrib_parser.specs.Grammar.{Language, ◌·◌, any, many, joined, spotted_token, token, name, dotted, block, role, protocol, type_declaration, declaration, kept, «import», module_text}
 use Rattle.scrib_parser.specs.Reading.{begins, same_kind, mapped, read_both, after, repeated, token_of, read_name, dotted_of, block_of, read_roles, protocol_of, type_declaration_of, read_declaration, begins_declaration, declarations_of, imports_of, module_of}
 use Rattle.scrib_parser.proofs.Laws.{Follows, free, follows_free, never, sends_never, Reads}

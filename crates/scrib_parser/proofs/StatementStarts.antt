@@ -7,12 +7,12 @@ use Rattle.scrib_lexer.specs.declared.token.TokenKind.{TokenKind}
 use Rattle.scrib_lexer.specs.declared.token.TokenKind.TheVariants.{Name, Keyword, Semicolon, Comma, OpenParen, CloseParen, OpenBrace, CloseBrace}
 use Rattle.scrib_lexer.specs.Lexeme.{Lexeme}
 use Rattle.scrib_parser.specs.declared.fault.ParseFault.{ParseFault}
-use Rattle.scrib_parser.specs.declared.tree.Import.{Import}
-use Rattle.scrib_parser.specs.declared.tree.ProtocolDeclaration.{ProtocolDeclaration}
-use Rattle.scrib_parser.specs.declared.tree.RoleDeclaration.{RoleDeclaration}
-use Rattle.scrib_parser.specs.declared.tree.Block.{Block}
-use Rattle.scrib_parser.specs.declared.tree.Statement.{Statement}
-use Rattle.scrib_parser.specs.declared.tree.Statement as tree
+use Rattle.scrib_tree.specs.declared.tree.Import.{Import}
+use Rattle.scrib_tree.specs.declared.tree.ProtocolDeclaration.{ProtocolDeclaration}
+use Rattle.scrib_tree.specs.declared.tree.RoleDeclaration.{RoleDeclaration}
+use Rattle.scrib_tree.specs.declared.tree.Block.{Block}
+use Rattle.scrib_tree.specs.declared.tree.Statement.{Statement}
+use Rattle.scrib_tree.specs.declared.tree.Statement as tree
 use Rattle.scrib_parser.specs.Grammar.{Language, ◌·◌, any, many, joined, spotted_token, token, name, dotted, message, choice, recursion, jump, call, statement, block, role, protocol, type_declaration, declaration, kept, «import», module_text}
 use Rattle.scrib_parser.specs.Reading.{Reader, ReadResult, begins, same_kind, mapped, read_both, after, read_before, repeated, token_of, read_name, dotted_of, read_blocks, read_choice, recursion_of, statement_of, begins_statement, statements_of, opened_block_of, block_of, read_roles, protocol_of, read_declaration, begins_declaration, declarations_of, imports_of, module_of}
 use Rattle.scrib_parser.proofs.Laws.{Follows, free, follows_free, Claim, never, Reads, Leaf}

@@ -7,8 +7,8 @@ use Rattle.scrib_lexer.specs.Lexeme.{Lexeme}
 use Rattle.scrib_parser.specs.declared.fault.LeftOutWord.{LeftOutWord}
 use Rattle.scrib_parser.specs.declared.fault.ParseFault.{ParseFault}
 use Rattle.scrib_parser.specs.declared.fault.ParseFault.TheVariants.{EndOfText}
-use Rattle.scrib_parser.specs.declared.tree.Statement.{Statement}
-use Rattle.scrib_parser.specs.declared.tree.Statement as tree
+use Rattle.scrib_tree.specs.declared.tree.Statement.{Statement}
+use Rattle.scrib_tree.specs.declared.tree.Statement as tree
 use Rattle.scrib_parser.specs.LeftOut.{statement_word, statement_word_of, left_out_statement}
 use Rattle.scrib_parser.specs.Grammar.{Language, ◌·◌, any, joined, listed, spotted_token, token, name, name_at, dotted, element, opening, message, jump, call}
 use Rattle.scrib_parser.specs.Reading.{Reader, ReadResult, begins, same_kind, mapped, read_both, after, read_before, token_of, read_name, placed_name_of, dotted_of, payload_of, refusal_behind, paren_behind, named_opening_of, opening_of, read_names, read_message, jump_of, call_of, begins_message}

@@ -6,9 +6,9 @@ use Rattle.scrib_lexer.specs.declared.token.Keyword.TheVariants as words
 use Rattle.scrib_lexer.specs.declared.token.TokenKind.{TokenKind}
 use Rattle.scrib_lexer.specs.declared.token.TokenKind.TheVariants.{Name, Keyword, StringLiteral, Semicolon, Comma, Dot, Colon, OpenParen, CloseParen, OpenAngle, CloseAngle}
 use Rattle.scrib_lexer.specs.Lexeme.{Lexeme}
-use Rattle.scrib_parser.specs.declared.tree.Import.{Import}
-use Rattle.scrib_parser.specs.declared.tree.RoleDeclaration.{RoleDeclaration}
-use Rattle.scrib_parser.specs.declared.tree.Statement.{Statement}
+use Rattle.scrib_tree.specs.declared.tree.Import.{Import}
+use Rattle.scrib_tree.specs.declared.tree.RoleDeclaration.{RoleDeclaration}
+use Rattle.scrib_tree.specs.declared.tree.Statement.{Statement}
 use Rattle.scrib_parser.specs.Grammar.{Language, ◌·◌, nothing, any, maybe, many, joined, listed, spotted_token, token, name, name_at, dotted, element, opening, message, call, role, known_as, «import», type_declaration}
 use Rattle.scrib_parser.specs.Reading.{same_kind}
 use Rattle.scrib_parser.proofs.Tokens.{same_kind-refl}

@@ -9,7 +9,7 @@ use Rattle.scrib_lexer.specs.Lexeme.{Lexeme}
 use Rattle.scrib_parser.specs.declared.fault.LeftOutWord.{LeftOutWord}
 use Rattle.scrib_parser.specs.declared.fault.ParseFault.{ParseFault}
 use Rattle.scrib_parser.specs.declared.fault.ParseFault.TheVariants.{Unexpected, EndOfText, LeftOut, TooDeep, OutOfMemory}
-use Rattle.scrib_parser.specs.declared.tree.ModuleTree.{ModuleTree}
+use Rattle.scrib_tree.specs.declared.tree.ModuleTree.{ModuleTree}
 use Rattle.scrib_parser.specs.LeftOut.{left_out_declaration}
 use Rattle.scrib_parser.specs.Grammar.{module_text, IsModule, ParseGives, IsBeginning, TokenMayFollow, IsParseFault}
 use Rattle.scrib_parser.specs.Reading.{◌>>=◌, GivesAll, module_of, refusal, at_end, whole_of}

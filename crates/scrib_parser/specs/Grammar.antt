@@ -12,13 +12,13 @@ use Rattle.scrib_lexer.specs.Lexeme.{Lexeme}
 use Rattle.scrib_parser.specs.declared.fault.LeftOutWord.{LeftOutWord}
 use Rattle.scrib_parser.specs.declared.fault.ParseFault.{ParseFault}
 use Rattle.scrib_parser.specs.declared.fault.ParseFault.TheVariants.{Unexpected, EndOfText, LeftOut, TooDeep, OutOfMemory}
-use Rattle.scrib_parser.specs.declared.tree.ModuleTree.{ModuleTree}
-use Rattle.scrib_parser.specs.declared.tree.Import.{Import}
-use Rattle.scrib_parser.specs.declared.tree.ProtocolDeclaration.{ProtocolDeclaration}
-use Rattle.scrib_parser.specs.declared.tree.RoleDeclaration.{RoleDeclaration}
-use Rattle.scrib_parser.specs.declared.tree.Block.{Block}
-use Rattle.scrib_parser.specs.declared.tree.Statement.{Statement}
-use Rattle.scrib_parser.specs.declared.tree.Statement as tree
+use Rattle.scrib_tree.specs.declared.tree.ModuleTree.{ModuleTree}
+use Rattle.scrib_tree.specs.declared.tree.Import.{Import}
+use Rattle.scrib_tree.specs.declared.tree.ProtocolDeclaration.{ProtocolDeclaration}
+use Rattle.scrib_tree.specs.declared.tree.RoleDeclaration.{RoleDeclaration}
+use Rattle.scrib_tree.specs.declared.tree.Block.{Block}
+use Rattle.scrib_tree.specs.declared.tree.Statement.{Statement}
+use Rattle.scrib_tree.specs.declared.tree.Statement as tree
 use Rattle.scrib_parser.specs.LeftOut.{left_out_declaration, left_out_statement}
 
 -- a set of token lists

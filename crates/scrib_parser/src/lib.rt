@@ -1,4 +1,4 @@
-//! Module trees, and the parser that reads them from tokens.
+//! The parser, which reads module trees from tokens.
 #![tactic(auto)]
 
 mod cursor;
@@ -8,5 +8,4 @@ mod messages;
 mod names;
 pub mod parse;
 mod sorts;
-pub mod tree;
 mod word;

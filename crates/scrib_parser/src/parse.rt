@@ -11,9 +11,11 @@ use crate::fault::ParseFault;
 use crate::interner::{Interner, slot_count};
 use crate::messages::Sorts;
 use crate::sorts::SortInterner;
-use crate::tree::{Block, Import, ModuleTree, ProtocolDeclaration, RoleDeclaration, Statement};
 use crate::word::Word;
 use scrib_lexer::token::{Keyword, Token, TokenKind};
+use scrib_tree::tree::{
+    Block, Import, ModuleTree, ProtocolDeclaration, RoleDeclaration, Statement,
+};
 use scrib_types::containers::Items;
 use scrib_types::name::{Dotted, Name};
 use scrib_types::one_or_many::OneOrMany;

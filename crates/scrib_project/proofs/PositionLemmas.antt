@@ -3,7 +3,7 @@ use Rattle.std.proofs.Common.{ℕ, List, Some, Result, Ok, Err, IfErr, sym, ap, 
 use Rattle.scrib_types.specs.declared.local.Local.{Local}
 use Rattle.scrib_types.specs.declared.profile.Profile.{Profile}
 use Rattle.scrib_types.specs.Trees.{Comm}
-use Rattle.scrib_parser.specs.declared.tree.ModuleTree.{ModuleTree}
+use Rattle.scrib_tree.specs.declared.tree.ModuleTree.{ModuleTree}
 use Rattle.scrib_projection.specs.Differences.{first_difference}
 use Rattle.scrib_elaborate.specs.declared.elaborated.Elaborated.{Elaborated}
 use Rattle.scrib_static_checks.specs.Elaboration.{start_of}

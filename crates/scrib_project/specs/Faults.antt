@@ -8,7 +8,7 @@ use Rattle.scrib_types.specs.Meaning.{agreement_of}
 use Rattle.scrib_types.specs.Trees.{GlobalTree, Comm, GlobalBranches}
 use Rattle.scrib_types.specs.LocalView.{local_of}
 use Rattle.scrib_types.specs.Projection.{projection, branch_projections}
-use Rattle.scrib_parser.specs.declared.tree.ModuleTree.{ModuleTree}
+use Rattle.scrib_tree.specs.declared.tree.ModuleTree.{ModuleTree}
 use Rattle.scrib_elaborate.specs.declared.elaborated.ChoiceSite.{ChoiceSite}
 use Rattle.scrib_static_checks.specs.Names.{Declaration, find_protocol}
 use Rattle.scrib_static_checks.specs.Elaboration.{start_of}

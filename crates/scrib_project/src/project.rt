@@ -2,7 +2,7 @@
 
 ghost use Rattle.std.specs.Prelude.{◌≡◌, ℕ, List, Option, slice_get, IfOk, IfErr, option_map, option_and_then};
 ghost use Rattle.std.specs.Option.{option_copied};
-ghost use Rattle.scrib_parser.specs.declared.tree.ModuleTree.{ModuleTree};
+ghost use Rattle.scrib_tree.specs.declared.tree.ModuleTree.{ModuleTree};
 ghost use Rattle.scrib_elaborate.specs.Meaning.{elaborated_meaning};
 ghost use Rattle.scrib_elaborate.specs.Sites.{AreSites};
 ghost use Rattle.scrib_projection.specs.Surveys.{capped};

@@ -1,7 +1,7 @@
 //! Protocols made from elaborated ones.
 
 ghost use Rattle.std.specs.Prelude.{ℕ, List, IfErr};
-ghost use Rattle.scrib_parser.specs.declared.tree.ModuleTree.{ModuleTree};
+ghost use Rattle.scrib_tree.specs.declared.tree.ModuleTree.{ModuleTree};
 ghost use Rattle.scrib_elaborate.specs.Meaning.{elaborated_meaning};
 ghost use Rattle.scrib_elaborate.specs.Sites.{AreSites};
 ghost use Rattle.scrib_project.specs.Faults.{Agrees, AgreesWithProjections, IsFaultPlaced};

@@ -40,8 +40,8 @@ use Rattle.scrib_types.proofs.name.Name.TheSendSync as Names
 use Rattle.scrib_types.proofs.shared_event.SharedEvent.TheSendSync as SharedEvents
 use Rattle.scrib_types.proofs.shared_message.SharedMessage.TheSendSync as SharedMessages
 use Rattle.scrib_types.proofs.spot.Spot.TheSendSync as Spots
-use Rattle.scrib_parser.proofs.tree.Import.TheSendSync as Imports
-use Rattle.scrib_parser.proofs.tree.RoleDeclaration.TheSendSync as RoleDeclarations
+use Rattle.scrib_tree.proofs.tree.Import.TheSendSync as Imports
+use Rattle.scrib_tree.proofs.tree.RoleDeclaration.TheSendSync as RoleDeclarations
 use Rattle.scrib_machine.proofs.machine.Edge.TheSendSync as Edges
 use Rattle.scrib_machine.proofs.machine.Machine.TheSendSync as Machines
 use Rattle.scrib_queues.proofs.queue.Queue.TheSendSync as SingleQueues
@@ -55,8 +55,8 @@ use Rattle.scrib_core.proofs.holders.Holders.TheSendSync as Holderss
 use Rattle.crossbeam_utils.specs.contracts.cache_padded.CachePadded as CachePadded
 use Rattle.crossbeam_utils.specs.contracts.sync.sharded_lock.ShardedLock as ShardedLock
 use Rattle.scrib_types.proofs.global.GlobalType.TheLaws.TheKnot as types
-use Rattle.scrib_parser.proofs.tree.Statement.TheLaws.TheKnot as statements
-use Rattle.scrib_parser.specs.contracts.tree.ModuleTree as ModuleTree
+use Rattle.scrib_tree.proofs.tree.Statement.TheLaws.TheKnot as statements
+use Rattle.scrib_tree.specs.contracts.tree.ModuleTree as ModuleTree
 use Rattle.scrib_static_checks.specs.contracts.modules.Modules as Modules
 use Rattle.scrib_record.specs.contracts.configuration.Configuration as Configuration
 use Rattle.scrib_record.specs.contracts.judging.Judging as Judging

@@ -9,9 +9,9 @@ use Rattle.std.proofs.lemmas.Slice.Eq.{bytes_eq-Decides}
 use Rattle.std.proofs.lemmas.Bool.{both_ways, and_parts, or_left, or_right, not-true, eq-eqb}
 use Rattle.scrib_types.specs.declared.spot.Spot.{Spot}
 use Rattle.scrib_types.specs.WellFormed.{has_role, distinct_roles}
-use Rattle.scrib_parser.specs.declared.tree.ModuleTree.{ModuleTree}
-use Rattle.scrib_parser.specs.declared.tree.Block.{Block}
-use Rattle.scrib_parser.specs.declared.tree.RoleDeclaration.{RoleDeclaration}
+use Rattle.scrib_tree.specs.declared.tree.ModuleTree.{ModuleTree}
+use Rattle.scrib_tree.specs.declared.tree.Block.{Block}
+use Rattle.scrib_tree.specs.declared.tree.RoleDeclaration.{RoleDeclaration}
 use Rattle.scrib_static_checks.specs.declared.checking.CheckContext.{CheckContext}
 use Rattle.scrib_static_checks.specs.declared.checking.Summary.{Summary}
 use Rattle.scrib_static_checks.specs.declared.effect.CallEffect.{CallEffect}

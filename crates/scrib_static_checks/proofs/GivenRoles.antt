@@ -5,7 +5,7 @@ use Rattle.std.proofs.lemmas.Bool.{false≢true, both_ways, and_parts, and_from,
 use Rattle.std.proofs.lemmas.List.{length-map}
 use Rattle.std.proofs.lemmas.Slice.Eq.{bytes_eq-Decides}
 use Rattle.scrib_types.specs.WellFormed.{has_role, distinct_roles}
-use Rattle.scrib_parser.specs.declared.tree.ModuleTree.{ModuleTree}
+use Rattle.scrib_tree.specs.declared.tree.ModuleTree.{ModuleTree}
 use Rattle.scrib_static_checks.specs.Names.{Declaration, roles_of}
 use Rattle.scrib_static_checks.specs.Statements.{are_roles, IsCall}
 use Rattle.scrib_static_checks.specs.Elaboration.{Scope, given_for, role_in, inside_call}

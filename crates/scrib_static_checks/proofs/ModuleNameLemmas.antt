@@ -4,8 +4,8 @@ use Rattle.std.proofs.lemmas.Bool.{le-leb}
 use Rattle.std.proofs.lemmas.List.{map-append}
 use Rattle.scrib_types.specs.declared.spot.Spot.{Spot}
 use Rattle.scrib_types.specs.WellFormed.{distinct_roles}
-use Rattle.scrib_parser.specs.declared.tree.ModuleTree.{ModuleTree}
-use Rattle.scrib_parser.specs.declared.tree.ProtocolDeclaration.{ProtocolDeclaration}
+use Rattle.scrib_tree.specs.declared.tree.ModuleTree.{ModuleTree}
+use Rattle.scrib_tree.specs.declared.tree.ProtocolDeclaration.{ProtocolDeclaration}
 use Rattle.scrib_static_checks.specs.Names.{distinct_names, has_checked_names, import_names, protocol_names, known_by}
 use Rattle.scrib_static_checks.specs.Table.{IsImportAgain, IsProtocolAgain}
 use Rattle.scrib_static_checks.proofs.NameLemmas.{distinct_roles-again, distinct_names-again}

@@ -3,7 +3,7 @@ use Rattle.std.proofs.Common.{◌≡◌, ℕ, zero, suc, ◌<◌, false, List, [
 use Rattle.std.specs.List.{remove}
 use Rattle.std.proofs.Math.Seq.{take-append_seam}
 use Rattle.std.proofs.lemmas.List.{take-map, drop-map, map-append, length-set, length-append, length_push, get_or-set_same, get_or_push}
-use Rattle.scrib_parser.specs.declared.tree.ModuleTree.{ModuleTree}
+use Rattle.scrib_tree.specs.declared.tree.ModuleTree.{ModuleTree}
 use Rattle.scrib_static_checks.specs.Names.{has_name, module_names}
 use Rattle.scrib_static_checks.specs.Table.{IsPlace}
 use Rattle.scrib_static_checks.specs.Placed.{IsModulePlaced}

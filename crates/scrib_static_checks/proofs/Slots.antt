@@ -8,8 +8,8 @@ use Rattle.std.proofs.lemmas.Option.{slice_get_read}
 use Rattle.std.proofs.lemmas.Slice.Eq.{bytes_eq-Decides}
 use Rattle.scrib_static_checks.specs.declared.declared.Declaration.{Declaration as CodeDeclaration}
 use Rattle.scrib_static_checks.specs.ProtocolIndex.{protocol_slot, slot_for, IsFirstOf, IsProtocolIndex, IsFilled, IsIndexed, IsSlotTaken}
-use Rattle.scrib_parser.specs.declared.tree.ModuleTree.{ModuleTree}
-use Rattle.scrib_parser.specs.declared.tree.ProtocolDeclaration.{ProtocolDeclaration}
+use Rattle.scrib_tree.specs.declared.tree.ModuleTree.{ModuleTree}
+use Rattle.scrib_tree.specs.declared.tree.ProtocolDeclaration.{ProtocolDeclaration}
 use Rattle.scrib_static_checks.specs.Names.{Declaration, declared_in, dotted_eq, first_where, is_called}
 use Rattle.scrib_static_checks.specs.Table.{declaration_of, shown, IsFound, IsNamed}
 use Rattle.scrib_static_checks.proofs.NameLemmas.{dotted_eq-Decides}

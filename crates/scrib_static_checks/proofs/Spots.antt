@@ -2,9 +2,9 @@
 use Rattle.std.proofs.Common.{◌≡◌, ℕ, List, ap}
 use Rattle.scrib_types.specs.declared.message.Message.{Message}
 use Rattle.scrib_types.specs.declared.spot.Spot.{Spot}
-use Rattle.scrib_parser.specs.declared.tree.Statement as tree
-use Rattle.scrib_parser.specs.declared.tree.Statement.{Statement}
-use Rattle.scrib_parser.specs.declared.tree.Block.{Block}
+use Rattle.scrib_tree.specs.declared.tree.Statement as tree
+use Rattle.scrib_tree.specs.declared.tree.Statement.{Statement}
+use Rattle.scrib_tree.specs.declared.tree.Block.{Block}
 use Rattle.scrib_static_checks.specs.SourceView.{statement_of, message_of, choice_of, rec_of, continue_of, do_of}
 use Rattle.scrib_static_checks.specs.Faults.{spot_of}
 

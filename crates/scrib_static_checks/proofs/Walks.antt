@@ -4,7 +4,7 @@ use Rattle.std.specs.List.{slice_get, sum_by}
 use Rattle.std.proofs.lemmas.List.{length-append, length-set, length-map}
 use Rattle.std.proofs.lemmas.List.Sums.{sum_by-set}
 use Rattle.std.proofs.lemmas.Option.{slice_get_within, slice_get-get_or, slice_get-map, get_or_from_slice_get}
-use Rattle.scrib_parser.specs.declared.tree.ModuleTree.{ModuleTree}
+use Rattle.scrib_tree.specs.declared.tree.ModuleTree.{ModuleTree}
 use Rattle.scrib_static_checks.specs.declared.checking.State.{State}
 use Rattle.scrib_static_checks.specs.declared.checking.State.TheVariants.{Unwalked, Walking, Walked}
 use Rattle.scrib_static_checks.specs.Source.{Calls}
@@ -21,7 +21,7 @@ use Rattle.scrib_static_checks.specs.declared.checking.CheckContext.{CheckContex
 use Rattle.scrib_static_checks.specs.declared.checking.Summary.{Summary}
 use Rattle.scrib_static_checks.specs.Table.{declaration_of, shown, IsSummary, StopsAt}
 use Rattle.scrib_static_checks.specs.Walking.{AreUnwalked, IsEntered, EnterFails, IsFaultIn, IsReady, IsNextCall, IsBlockKept, TopKeeps, TopStops, WasWalked, AreSummaries, IsIdle, IsSmall, WalkFails}
-use Rattle.scrib_parser.specs.declared.tree.Statement.{Statement}
+use Rattle.scrib_tree.specs.declared.tree.Statement.{Statement}
 use Rattle.scrib_static_checks.specs.SourceView.{body_of}
 use Rattle.scrib_static_checks.specs.declared.fault.FaultKind.TheVariants as kind
 use Rattle.scrib_static_checks.specs.Sizes.{NodesOf, IsTooLarge}

@@ -6,7 +6,7 @@ use Rattle.std.specs.Borrow.{Bor}
 use Rattle.scrib_types.specs.declared.spot.Spot.{Spot}
 use Rattle.scrib_types.specs.WellFormed.{has_role, distinct_roles}
 use Rattle.scrib_types.specs.Trees.{GlobalTree, Comm, GlobalBranches}
-use Rattle.scrib_parser.specs.declared.tree.ModuleTree.{ModuleTree}
+use Rattle.scrib_tree.specs.declared.tree.ModuleTree.{ModuleTree}
 use Rattle.scrib_static_checks.specs.declared.effect.CallEffect.{CallEffect}
 use Rattle.scrib_static_checks.specs.declared.effect.CallEffect.TheVariants.{Nothing, Joining, Other}
 use Rattle.scrib_static_checks.specs.Source.{Body}

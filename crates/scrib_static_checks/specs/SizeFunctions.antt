@@ -2,7 +2,7 @@
 -- here, and compared below a cap alone: 65,536 for nodes, and 4,096 for heights. Only contracts of this crate, and of
 -- private functions of `scrib_elaborate`, cite this file.
 use Rattle.std.specs.Prelude.{◌≡◌, ℕ, ◌+◌, ◌*◌, min, max, List, Option, Some, None}
-use Rattle.scrib_parser.specs.declared.tree.ModuleTree.{ModuleTree}
+use Rattle.scrib_tree.specs.declared.tree.ModuleTree.{ModuleTree}
 use Rattle.scrib_static_checks.specs.declared.size_bound.NodeCount.{NodeCount}
 use Rattle.scrib_static_checks.specs.declared.size_bound.Height.{Height}
 use Rattle.scrib_static_checks.specs.declared.size_bound.SizeBound.{SizeBound}

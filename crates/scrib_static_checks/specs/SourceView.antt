@@ -3,10 +3,10 @@ use Rattle.std.specs.Prelude.{◌≡◌, ℕ, List, [], ◌∷◌, refl}
 use Rattle.std.proofs.Common.{ap}
 use Rattle.scrib_types.specs.declared.message.Message.{Message}
 use Rattle.scrib_types.specs.declared.spot.Spot.{Spot}
-use Rattle.scrib_parser.specs.declared.tree.Statement as tree
-use Rattle.scrib_parser.specs.declared.tree.Statement.{Statement as ParsedStatement, Row_of-Statement, end_of-Statement, more_of-Statement, Row_of-Block, end_of-Block, more_of-Block}
-use Rattle.scrib_parser.specs.declared.tree.Statement.TheBlock.{hidden-the_row-Statement-0, hidden-the_row-Block-1}
-use Rattle.scrib_parser.specs.declared.tree.Block.{Block}
+use Rattle.scrib_tree.specs.declared.tree.Statement as tree
+use Rattle.scrib_tree.specs.declared.tree.Statement.{Statement as ParsedStatement, Row_of-Statement, end_of-Statement, more_of-Statement, Row_of-Block, end_of-Block, more_of-Block}
+use Rattle.scrib_tree.specs.declared.tree.Statement.TheBlock.{hidden-the_row-Statement-0, hidden-the_row-Block-1}
+use Rattle.scrib_tree.specs.declared.tree.Block.{Block}
 use denote.Hole.Carrier.{hidden}
 use Rattle.scrib_static_checks.specs.Source.{Body, Done, Then, Statement, Sends, Chooses, Repeats, Continues, Calls, Blocks, NoBlock, OrBlock}
 

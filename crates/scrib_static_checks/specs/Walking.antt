@@ -2,8 +2,8 @@
 -- `scrib_elaborate`, cite this file.
 use Rattle.std.specs.Prelude.{◌≡◌, ◌≢◌, ◌⊎◌, ℕ, ◌≤◌, Bool, true, List, [], ◌∷◌, ◌++◌, length, slice_get, slice_set, Some}
 use Rattle.scrib_types.specs.declared.spot.Spot.{Spot}
-use Rattle.scrib_parser.specs.declared.tree.ModuleTree.{ModuleTree}
-use Rattle.scrib_parser.specs.declared.tree.ProtocolDeclaration.{ProtocolDeclaration}
+use Rattle.scrib_tree.specs.declared.tree.ModuleTree.{ModuleTree}
+use Rattle.scrib_tree.specs.declared.tree.ProtocolDeclaration.{ProtocolDeclaration}
 use Rattle.scrib_static_checks.specs.declared.declared.Declaration.{Declaration as CodeDeclaration}
 use Rattle.scrib_static_checks.specs.declared.fault.ElaborateFault.{ElaborateFault}
 use Rattle.scrib_static_checks.specs.declared.fault.ElaborateFault.TheVariants as elaborate

@@ -1,7 +1,7 @@
 //! What the block of a called protocol adds to the type of the statements after the call.
 
 ghost use Rattle.std.specs.Prelude.{◌≡◌, ◌<◌, List, length, slice_get, Some, MatchResult};
-ghost use Rattle.scrib_parser.specs.declared.tree.ModuleTree.{ModuleTree};
+ghost use Rattle.scrib_tree.specs.declared.tree.ModuleTree.{ModuleTree};
 ghost use Rattle.scrib_static_checks.specs.Names.{Declaration};
 ghost use Rattle.scrib_static_checks.specs.Walking.{AreSummaries};
 ghost use Rattle.scrib_static_checks.specs.Source.{Done, Then};
@@ -12,7 +12,7 @@ ghost use Rattle.scrib_static_checks.specs.CallEffect.{HasEffect, IsEffectOf};
 use crate::checking::{CheckContext, CheckError, State};
 use crate::effect::{CallEffect, joining};
 use crate::statements::check_call;
-use scrib_parser::tree::Statement;
+use scrib_tree::tree::Statement;
 
 /// Returns the effect of a block of the protocol at index `own` of the table.
 ///

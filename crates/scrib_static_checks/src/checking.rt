@@ -5,7 +5,7 @@ use crate::effect::CallEffect;
 use crate::fault::FaultKind;
 use crate::protocol_index::ProtocolIndex;
 use crate::size_bound::SizeBound;
-use scrib_parser::tree::ModuleTree;
+use scrib_tree::tree::ModuleTree;
 use scrib_types::name::Name;
 use scrib_types::spot::Spot;
 use std::alloc::{AllocError, AllocFailed};

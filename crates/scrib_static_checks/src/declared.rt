@@ -8,7 +8,7 @@ ghost use Rattle.scrib_static_checks.specs.Table.{shown, HasCheckedNames, IsFoun
 
 use crate::modules::Modules;
 use crate::names::{same_name, same_names};
-use scrib_parser::tree::{Import, ModuleTree, ProtocolDeclaration};
+use scrib_tree::tree::{Import, ModuleTree, ProtocolDeclaration};
 use scrib_types::name::{Dotted, Name};
 use std::alloc::{AllocError, Global};
 

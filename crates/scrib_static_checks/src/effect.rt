@@ -5,7 +5,7 @@ ghost use Rattle.scrib_types.specs.GlobalView.{global_of};
 ghost use Rattle.scrib_static_checks.specs.Names.{role_names};
 ghost use Rattle.scrib_static_checks.specs.CallEffect.{both, place_of, joining_at, IsGiven, names_of, Passes};
 
-use scrib_parser::tree::RoleDeclaration;
+use scrib_tree::tree::RoleDeclaration;
 use scrib_types::global::GlobalType;
 use scrib_types::name::Role;
 use scrib_types::spot::Spot;

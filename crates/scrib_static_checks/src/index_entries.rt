@@ -8,7 +8,7 @@ ghost use Rattle.scrib_static_checks.specs.Table.{shown, IsNamed};
 use crate::declared::{Declaration, find};
 use crate::names::same_name;
 use crate::protocol_index::{ProtocolIndex, protocol_slot};
-use scrib_parser::tree::ModuleTree;
+use scrib_tree::tree::ModuleTree;
 use scrib_types::hashing::empty_slots;
 use scrib_types::name::{Dotted, Name};
 use std::alloc::{AllocError, Global};

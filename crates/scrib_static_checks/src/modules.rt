@@ -1,7 +1,7 @@
 //! The modules among which protocols call one another.
 
 ghost use Rattle.std.specs.Prelude.{◌≡◌, ◌∷◌, ◌++◌, ◌<◌, [], false, length, map, remove, slice_set, slice_index_or, MatchOption, IfOk, OnOk, OnErr, IsTrue};
-ghost use Rattle.scrib_parser.specs.declared.tree.ModuleTree as parsed;
+ghost use Rattle.scrib_tree.specs.declared.tree.ModuleTree as parsed;
 ghost use Rattle.scrib_static_checks.specs.Names.{has_name, module_names, protocol_names, declarations, with_module, has_checked_names};
 ghost use Rattle.scrib_static_checks.specs.ProtocolIndex.{IsProtocolIndex, IsIndexed};
 ghost use Rattle.scrib_static_checks.specs.Table.{IsPlace};
@@ -11,7 +11,7 @@ use crate::declared::all_declared;
 use crate::names::same_name;
 use crate::own_names::has_checked_names;
 use crate::protocol_index::ProtocolIndex;
-use scrib_parser::tree::{ModuleTree, ProtocolDeclaration};
+use scrib_tree::tree::{ModuleTree, ProtocolDeclaration};
 use scrib_types::name::Dotted;
 use std::alloc::{AllocError, Global};
 use std::marker::Model;
@@ -38,8 +38,8 @@ pub struct Modules {
 impl Model for Modules {
     ghost use Rattle.std.specs.Prelude.{◌≡◌, List, map};
     ghost use Rattle.std.specs.Coded.{codes};
-    ghost use Rattle.scrib_parser.specs.declared.tree.ModuleTree as parsed;
-    ghost use Rattle.scrib_parser.specs.contracts.tree.Statement as statement;
+    ghost use Rattle.scrib_tree.specs.declared.tree.ModuleTree as parsed;
+    ghost use Rattle.scrib_tree.specs.contracts.tree.Statement as statement;
     ghost use Rattle.scrib_static_checks.specs.Names.{declarations, has_checked_names};
     ghost use Rattle.scrib_static_checks.specs.ProtocolIndex.{IsIndexed};
 

@@ -5,7 +5,7 @@ ghost use Rattle.scrib_types.specs.WellFormed.{has_role, distinct_roles};
 ghost use Rattle.scrib_static_checks.specs.Names.{dotted_eq, has_name, module_names, role_names};
 ghost use Rattle.scrib_static_checks.specs.Statements.{are_roles};
 
-use scrib_parser::tree::{ModuleTree, RoleDeclaration};
+use scrib_tree::tree::{ModuleTree, RoleDeclaration};
 use scrib_types::name::{Dotted, Name, Role, names_equal};
 
 /// Returns whether the two are equal.

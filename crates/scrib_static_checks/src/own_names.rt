@@ -9,7 +9,7 @@ ghost use Rattle.scrib_static_checks.specs.Table.{IsImportAgain, IsProtocolAgain
 use crate::checking::BrokenRule;
 use crate::fault::FaultKind;
 use crate::names::{has_role, same_names};
-use scrib_parser::tree::{Import, ModuleTree, ProtocolDeclaration};
+use scrib_tree::tree::{Import, ModuleTree, ProtocolDeclaration};
 use scrib_types::name::Name;
 use scrib_types::spot::Spot;
 

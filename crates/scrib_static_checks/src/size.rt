@@ -10,7 +10,7 @@ ghost use Rattle.scrib_static_checks.specs.SizeFunctions.{StatementHasSize, Bloc
 use crate::checking::{CheckContext, CheckError};
 use crate::size_bound::SizeBound;
 use crate::statements::check_call;
-use scrib_parser::tree::{Block, Statement};
+use scrib_tree::tree::{Block, Statement};
 use scrib_types::name::Name;
 
 /// Returns the size of a block.

@@ -15,7 +15,7 @@ use crate::checking::{BrokenRule, CheckContext, CheckError, EnclosingRec, State,
 use crate::declared::looked_in;
 use crate::fault::FaultKind;
 use crate::names::{are_different, are_roles, has_module, has_role, is_among};
-use scrib_parser::tree::{Block, Statement};
+use scrib_tree::tree::{Block, Statement};
 use scrib_types::name::{Dotted, Name, Role};
 use scrib_types::spot::Spot;
 use std::alloc::{AllocError, Global};

@@ -6,7 +6,7 @@ ghost use Rattle.scrib_static_checks.specs.ProtocolIndex.{IsProtocolIndex};
 ghost use Rattle.scrib_static_checks.specs.Names.{declarations};
 ghost use Rattle.scrib_static_checks.specs.Table.{shown, HasCheckedNames};
 ghost use Rattle.scrib_static_checks.specs.Walking.{AreUnwalked, IsEntered, EnterFails, IsFaultIn, IsReady, TopKeeps, TopStops, WasWalked, IsIdle, IsSmall, WalkFails};
-ghost use Rattle.scrib_parser.specs.declared.tree.ModuleTree.{ModuleTree};
+ghost use Rattle.scrib_tree.specs.declared.tree.ModuleTree.{ModuleTree};
 
 use crate::block_effects::block_effect;
 use crate::checking::{BrokenRule, CheckContext, CheckError, State, Summary, SymbolTable};
@@ -15,7 +15,7 @@ use crate::fault::{ElaborateFault, Fault, FaultKind};
 use crate::own_names::check_own_names;
 use crate::size::size_block;
 use crate::statements::check_block;
-use scrib_parser::tree::ModuleTree;
+use scrib_tree::tree::ModuleTree;
 use std::alloc::{AllocError, Global};
 
 /// Walks over the protocol at this index of the table and over each that it calls. `states` keeps the results of

@@ -3,7 +3,7 @@ use Rattle.std.specs.Prelude.{◌≡◌, ◌≢◌, ◌⊎◌, ℕ, true, false,
 use Rattle.scrib_types.specs.declared.spot.Spot.{Spot}
 use Rattle.scrib_types.specs.Trees.{GlobalTree, GlobalEnd, GlobalVar, GlobalRec, Comm, GlobalBranches}
 use Rattle.scrib_types.specs.WellFormed.{leads_to_communication}
-use Rattle.scrib_parser.specs.declared.tree.ModuleTree.{ModuleTree}
+use Rattle.scrib_tree.specs.declared.tree.ModuleTree.{ModuleTree}
 use Rattle.scrib_static_checks.specs.declared.fault.FaultKind.{FaultKind}
 use Rattle.scrib_static_checks.specs.declared.fault.FaultKind.TheVariants as kind
 use Rattle.scrib_static_checks.specs.Elaboration.{and_branches}

@@ -3,9 +3,9 @@
 ghost use Rattle.std.specs.Prelude.{◌≡◌, ◌+◌, IfOk};
 ghost use Rattle.scrib_type_builder.specs.declared.build_error.BuildError.TheVariants.{Broken};
 
-use scrib_parser::tree::ModuleTree;
 use scrib_static_checks::checking::BrokenRule;
 use scrib_static_checks::fault::{ElaborateFault, FaultKind};
+use scrib_tree::tree::ModuleTree;
 use scrib_types::spot::Spot;
 use std::alloc::{AllocError, AllocFailed};
 

@@ -10,8 +10,8 @@ ghost use Rattle.scrib_type_builder.specs.Rules.{AddsOrigins, IsFirst, IsAdded, 
 use crate::build_error::{BuildError, broken};
 use crate::built_type::{BuiltType, Origin};
 use crate::operators::Operators;
-use scrib_parser::tree::ModuleTree;
 use scrib_static_checks::fault::FaultKind;
+use scrib_tree::tree::ModuleTree;
 use scrib_types::containers::Items;
 use scrib_types::global::GlobalType;
 use scrib_types::name::Role;

@@ -6,7 +6,7 @@ ghost use Rattle.scrib_static_checks.specs.Names.{role_names};
 ghost use Rattle.scrib_static_checks.specs.Elaboration.{given_for};
 ghost use Rattle.scrib_type_builder.specs.Renaming.{renamed, branches_renamed, named};
 
-use scrib_parser::tree::RoleDeclaration;
+use scrib_tree::tree::RoleDeclaration;
 use scrib_types::containers::{Boxed, Items};
 use scrib_types::global::GlobalType;
 use scrib_types::name::Role;

@@ -1,6 +1,6 @@
 use Rattle.std.proofs.Common.{◌+◌, List, Some, None, drop, sym, subst, rules}
 use Rattle.std.proofs.lemmas.List.{at_drop_all}
-use Rattle.scrib_parser.specs.declared.tree.ModuleTree.{ModuleTree}
+use Rattle.scrib_tree.specs.declared.tree.ModuleTree.{ModuleTree}
 use Rattle.scrib_library.specs.Edits.{Reads}
 use Rattle.scrib_cli.specs.Projections.{AreAdded, adds_none, adds_next, IsNoModule, FailsAmong, fails_first, fails_later, StopsUnread, stops_first, stops_later}
 use Rattle.scrib_cli.proofs.ProjectionLemmas.{front_is}

@@ -1,7 +1,7 @@
 use Rattle.std.proofs.Common.{List, length, take, Option}
 use Rattle.std.specs.List.{AllZip}
 use Rattle.scrib_types.specs.GlobalView.{global_branches}
-use Rattle.scrib_parser.specs.declared.tree.ModuleTree.{ModuleTree}
+use Rattle.scrib_tree.specs.declared.tree.ModuleTree.{ModuleTree}
 use Rattle.scrib_type_builder.specs.declared.built_type.BuiltType.{BuiltType}
 use Rattle.scrib_elaborate.specs.declared.tasks.Task.{Task}
 use Rattle.scrib_static_checks.specs.Source.{Then, Chooses}

@@ -1,6 +1,6 @@
 use Rattle.std.proofs.Common.{List, inl, refl, sym, ap, subst, arith}
 use Rattle.std.specs.List.{Contains}
-use Rattle.scrib_parser.specs.declared.tree.ModuleTree.{ModuleTree}
+use Rattle.scrib_tree.specs.declared.tree.ModuleTree.{ModuleTree}
 use Rattle.scrib_library.specs.Affected.{names_now, waiting_trees}
 use Rattle.scrib_library.proofs.Lists.{Contains-nil}
 use Rattle.scrib_library.proofs.AffectedLemmas.{sorted_first, sorted_moved, sorted_all, none_removed, none_rest, none_taken, none_all, within_more}

@@ -1,6 +1,6 @@
 use Rattle.std.proofs.Common.{take}
 use Rattle.std.specs.List.{Contains}
-use Rattle.scrib_parser.specs.declared.tree.Import.{Import}
+use Rattle.scrib_tree.specs.declared.tree.Import.{Import}
 use Rattle.scrib_library.specs.Affected.{names_now}
 use Rattle.scrib_library.proofs.affected.imports_some.Given as goal
 

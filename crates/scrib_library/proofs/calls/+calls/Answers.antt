@@ -1,5 +1,5 @@
 use Rattle.std.proofs.Common.{List, subst}
-use Rattle.scrib_parser.specs.declared.tree.Statement.{Statement}
+use Rattle.scrib_tree.specs.declared.tree.Statement.{Statement}
 use Rattle.scrib_static_checks.specs.SourceView.{body_of}
 use Rattle.scrib_library.specs.Calls.{EachCall, IsOther}
 use Rattle.scrib_library.proofs.CallLemmas.{each_more, each_of_more}

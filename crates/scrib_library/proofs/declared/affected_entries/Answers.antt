@@ -1,6 +1,6 @@
 use Rattle.std.proofs.Common.{List, Option, sym, ap, subst}
 use Rattle.std.specs.Option.{option_copied}
-use Rattle.scrib_parser.specs.declared.tree.ModuleTree.{ModuleTree}
+use Rattle.scrib_tree.specs.declared.tree.ModuleTree.{ModuleTree}
 use Rattle.scrib_library.specs.declared.declared.Entry.{Entry}
 use Rattle.scrib_library.specs.Affected.{names_now}
 use Rattle.scrib_library.specs.Entries.{AreAffectedEntries}

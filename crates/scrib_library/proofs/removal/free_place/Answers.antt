@@ -1,5 +1,5 @@
 use Rattle.std.proofs.Common.{List, ℕ, sym, subst}
-use Rattle.scrib_parser.specs.declared.tree.ModuleTree.{ModuleTree}
+use Rattle.scrib_tree.specs.declared.tree.ModuleTree.{ModuleTree}
 use Rattle.scrib_library.specs.Edits.{IsImporter, IsLeastImporter}
 use Rattle.scrib_library.specs.Withdrawals.{IsFirstImporter}
 use Rattle.scrib_library.proofs.ModuleNameLemmas.{place_has}

@@ -1,6 +1,6 @@
 use denote.Param.Weighed.{at_most, most as most_of}
-use Rattle.scrib_parser.specs.declared.tree.Block.{Block}
-use Rattle.scrib_parser.specs.declared.tree.Statement.TheViews.{size-Statement, size-Block, size_is-Block, sized-Choice, sized-Rec}
+use Rattle.scrib_tree.specs.declared.tree.Block.{Block}
+use Rattle.scrib_tree.specs.declared.tree.Statement.TheViews.{size-Statement, size-Block, size_is-Block, sized-Choice, sized-Rec}
 use Rattle.std.proofs.Common.{rules, length, ◌<◌, sym, ap, ◌∙◌, subst, arith}
 use Rattle.std.proofs.lemmas.List.{drop_all}
 use Rattle.scrib_static_checks.specs.Source.{Chooses, Calls}

@@ -1,7 +1,7 @@
 use Rattle.std.proofs.Common.{◌≡◌, ℕ, ◌+◌, ◌<◌, Bool, true, false, List, ◌∷◌, length, get_or, drop, Option, Some, None, option_map, if◌then◌else◌, refl, sym, ap, ◌∙◌, arith}
 use Rattle.std.specs.Str.{bytes_eq}
 use Rattle.std.proofs.lemmas.List.{drop_more, drop_all}
-use Rattle.scrib_parser.specs.declared.tree.RoleDeclaration.{RoleDeclaration}
+use Rattle.scrib_tree.specs.declared.tree.RoleDeclaration.{RoleDeclaration}
 use Rattle.scrib_static_checks.specs.Names.{role_names}
 use Rattle.scrib_static_checks.specs.CallEffect.{place_of}
 use Rattle.scrib_static_checks.proofs.effect.place_of.Goals as goal

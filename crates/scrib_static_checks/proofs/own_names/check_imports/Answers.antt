@@ -1,5 +1,5 @@
 use Rattle.std.proofs.Common.{sym, ap, take, ◌∙◌, arith}
-use Rattle.scrib_parser.specs.declared.tree.Import.{Import}
+use Rattle.scrib_tree.specs.declared.tree.Import.{Import}
 use Rattle.scrib_static_checks.specs.Names.{known_by, has_name, import_names}
 use Rattle.scrib_static_checks.proofs.Places.{names-more, again-at}
 use Rattle.scrib_static_checks.proofs.own_names.check_imports.Goals as goal

@@ -1,6 +1,6 @@
 use Rattle.std.proofs.Common.{sym, ◌∙◌, inl, refl, arith}
 use Rattle.scrib_types.specs.WellFormed.{has_role}
-use Rattle.scrib_parser.specs.declared.tree.RoleDeclaration.{RoleDeclaration}
+use Rattle.scrib_tree.specs.declared.tree.RoleDeclaration.{RoleDeclaration}
 use Rattle.scrib_static_checks.proofs.Places.{roles-more, again-at}
 use Rattle.scrib_static_checks.proofs.own_names.check_roles.Goals as goal
 

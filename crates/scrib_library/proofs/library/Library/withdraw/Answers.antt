@@ -1,5 +1,5 @@
 use Rattle.std.proofs.Common.{◌≡◌, List, get_or, sym, ap, ◌∙◌, subst}
-use Rattle.scrib_parser.specs.declared.tree.ModuleTree.{ModuleTree}
+use Rattle.scrib_tree.specs.declared.tree.ModuleTree.{ModuleTree}
 use Rattle.scrib_library.specs.declared.versions.NamedVersion.{NamedVersion}
 use Rattle.scrib_library.specs.Holdings.{Holdings}
 use Rattle.scrib_library.specs.Edits.{IsWithdrawal, IsChanges, AreWithdrawn, AreVersionsUsed}

@@ -1,6 +1,6 @@
 use Rattle.std.proofs.Common.{◌≡◌, ℕ, ◌<◌, List, Option, length, map, set, ap, sym, ◌∙◌, subst, arith}
 use Rattle.std.proofs.lemmas.List.{map-set}
-use Rattle.scrib_parser.specs.declared.tree.ModuleTree.{ModuleTree}
+use Rattle.scrib_tree.specs.declared.tree.ModuleTree.{ModuleTree}
 use Rattle.scrib_static_checks.specs.ProtocolIndex.{IsIndexed}
 use Rattle.scrib_static_checks.specs.Names.{has_checked_names, protocol_names, declarations}
 use Rattle.scrib_static_checks.proofs.ProtocolIndexLemmas.{indexed_set}

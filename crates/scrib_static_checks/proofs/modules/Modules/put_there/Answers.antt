@@ -1,5 +1,5 @@
 use Rattle.std.proofs.Common.{List, Some, None, length, refl, ap, sym, ◌∙◌, subst}
-use Rattle.scrib_parser.specs.declared.tree.ModuleTree.{ModuleTree}
+use Rattle.scrib_tree.specs.declared.tree.ModuleTree.{ModuleTree}
 use Rattle.scrib_static_checks.specs.Placed.{IsModulePlaced}
 use Rattle.scrib_static_checks.proofs.ModulePlaceLemmas.{put_over, put_last}
 use Rattle.scrib_static_checks.proofs.modules.Modules.put_there.Goals as goal

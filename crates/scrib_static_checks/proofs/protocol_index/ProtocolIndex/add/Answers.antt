@@ -1,5 +1,5 @@
 use Rattle.std.proofs.Common.{◌≡◌, ◌+◌, ◌<◌, ◌++◌, List, length, get_or, ap, sym, ◌∙◌, subst, arith}
-use Rattle.scrib_parser.specs.declared.tree.ProtocolDeclaration.{ProtocolDeclaration}
+use Rattle.scrib_tree.specs.declared.tree.ProtocolDeclaration.{ProtocolDeclaration}
 use Rattle.scrib_static_checks.specs.ProtocolIndex.{IsFilled}
 use Rattle.scrib_static_checks.specs.Names.{declared_in}
 use Rattle.scrib_static_checks.proofs.Slots.{next_added, added_count}

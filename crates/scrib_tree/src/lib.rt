@@ -1,0 +1,4 @@
+//! Module trees: what a module text declares.
+#![tactic(auto)]
+
+pub mod tree;
