@@ -1,18 +1,23 @@
 -- Exchanges and edges while they are numbered.
-use Rattle.std.proofs.Common.{◌≡◌, ◌⊎◌, ℕ, zero, suc, ◌+◌, ◌<◌, ◌≤◌, List, [], ◌∷◌, ◌++◌, Some, length, get_or, nat_lt, slice_get, take, refl, sym, ap, subst, ◌∙◌, inl, inr, arith}
-use Rattle.std.specs.List.{AllZip}
+use Rattle.std.proofs.Common.{◌≡◌, ◌⊎◌, Bool, true, false, if◌then◌else◌, true≢false, ℕ, zero, suc, ◌+◌, ◌<◌, ◌≤◌, List, [], ◌∷◌, ◌++◌, Some, length, get_or, nat_lt, slice_get, take, refl, sym, ap, subst, ◌∙◌, inl, inr, arith}
+use Rattle.std.specs.Bool.{Decides}
+use Rattle.std.specs.List.{AllZip, list_any}
+use Rattle.std.specs.Str.{bytes_eq}
 use Rattle.std.proofs.lemmas.Bool.{cases_Bool, ltb-true, ltb-false}
 use Rattle.std.proofs.lemmas.List.{take_more, take_all, length-append}
-use Rattle.std.proofs.lemmas.Option.{same_Some, slice_get_within, slice_get_read}
-use Rattle.scrib_types.specs.declared.message.Message.{Message}
+use Rattle.std.proofs.lemmas.List.Folds.{list_any_at}
+use Rattle.std.proofs.lemmas.Option.{same_Some, slice_get_within, get_or_from_slice_get}
+use Rattle.std.proofs.lemmas.Slice.Eq.{bytes_eq-Decides}
+use Rattle.indexmap.specs.IndexSet.{insert_key}
 use Rattle.scrib_types.specs.declared.event.Event.{Event}
 use Rattle.scrib_types.specs.declared.event.Event.TheVariants.{Sent}
-use Rattle.scrib_types.specs.FlatEvents.{exchange_bytes}
+use Rattle.scrib_types.specs.FlatEvents.{event_bytes, exchange_bytes}
+use Rattle.scrib_types.proofs.FlatFormLemmas.{event_bytes-injective, exchange-injective}
 use Rattle.scrib_machine.specs.declared.machine.Edge.{Edge}
 use Rattle.scrib_record.specs.declared.exchanges.Exchange.{Exchange}
 use Rattle.scrib_record.specs.declared.numbered_edge.NumberedEdge.{NumberedEdge}
 use Rattle.scrib_record.specs.declared.numbered_edge.NumberedEdge.TheVariants.{Joins, Sends, Receives}
-use Rattle.scrib_record.specs.Exchanges.{IsExchange, IsNumberOf, IsAbsent, AreMore, AreExchanges, KeepsNumbers, IsEdge, AreRows, IsNumberingOf}
+use Rattle.scrib_record.specs.Exchanges.{send_bytes, IsExchange, IsNumberOf, IsAbsent, IsNew, AreMore, AreExchanges, KeepsNumbers, IsEdge, AreRows, IsNumberingOf}
 
 pub there_left : {X : Type 0} (xs ys : List X) (k : ℕ) (x : X) → slice_get xs k ≡ Some x → slice_get (xs ++ ys) k ≡ Some x
 there_left [] ys k x e = absurd (cc)
@@ -45,10 +50,39 @@ last_bytes es x e last k h =
     let is : x ≡ last.exchange = same_Some x last.exchange (sym (there_last es x) ∙ last.here) in
     record { exchange = h.exchange; here = h.here; same = h.same ∙ sym last.same ∙ ap (λ (y : Exchange). exchange_bytes y.send) (sym is) }
 
+-- a comparison of exchanges decides equality of their sends
+pub same_send : (x y : Exchange) → Decides (bytes_eq (send_bytes x) (send_bytes y)) (x.send ≡ y.send)
+same_send x y =
+    let d = bytes_eq-Decides (send_bytes x) (send_bytes y) in
+    (λ t. event_bytes-injective x.send y.send (d.0 t), λ e. d.1 (ap event_bytes e))
+
+-- what an insertion into a set leaves
+pub inserted : (old new : List Exchange) (x : Exchange) → new ≡ insert_key (λ y z. bytes_eq (send_bytes y) (send_bytes z)) old x → AreMore old x new
+inserted old new x e = by (list_any (λ y. bytes_eq (send_bytes x) (send_bytes y)) old) refl e
+  where
+    by : (b : Bool) → list_any (λ y. bytes_eq (send_bytes x) (send_bytes y)) old ≡ b → new ≡ (if b then old else old ++ x ∷ []) → AreMore old x new
+    by true found is = inl is
+    by false found is = inr (
+      λ k y at same. true≢false (sym (list_any_at (λ z. bytes_eq (send_bytes x) (send_bytes z)) old k y (slice_get_within old k y at)
+          (ap (λ z. bytes_eq (send_bytes x) (send_bytes z)) (get_or_from_slice_get old k y y at) ∙ (same_send x y).1 (sym same))) ∙ found),
+      is,
+    )
+
+-- an exchange with a new send is absent
+absent : (roles : List (List ℕ)) (es : List Exchange) (x : Exchange) → IsExchange roles x → AreExchanges roles es → IsNew es x.send → IsAbsent es x.send
+absent roles es x is are new k h =
+    let y = h.exchange in
+    let d = are.each k y h.here in
+    let i = exchange-injective d.sender d.receiver is.sender is.receiver y.message x.message (ap exchange_bytes (sym d.send) ∙ h.same ∙ ap exchange_bytes is.send) in
+    new k y h.here (d.send ∙ (λ t. Sent (i.0 t) (i.1 t) (i.2 t)) ∙ sym is.send)
+
 pub more_exchanges : (roles : List (List ℕ)) (old new : List Exchange) (x : Exchange) → IsExchange roles x → AreExchanges roles old → AreMore old x new → AreExchanges roles new
 more_exchanges roles old new x is are (inl same) = subst (AreExchanges roles) (sym same) are
 more_exchanges roles old new x is are (inr more) = subst (AreExchanges roles) (sym more.1) record { each = each; distinct = distinct }
   where
+    none : IsAbsent old x.send
+    none = absent roles old x is are more.0
+
     each : (k : ℕ) (y : Exchange) → slice_get (old ++ x ∷ []) k ≡ Some y → IsExchange roles y
     each k y e = elim (there_either old x y k e) [
       | inl h ↦ are.each k y h
@@ -59,10 +93,10 @@ more_exchanges roles old new x is are (inr more) = subst (AreExchanges roles) (s
     distinct i k y e h = elim (there_either old x y i e) [
       | inl a ↦ elim (number_either old x y.send k h) [
         | inl b ↦ are.distinct i k y a b
-        | inr b ↦ absurd (more.0 i (last_bytes old x y.send b.1 i record { exchange = y; here = a; same = refl }))
+        | inr b ↦ absurd (none i (last_bytes old x y.send b.1 i record { exchange = y; here = a; same = refl }))
       ]
       | inr a ↦ elim (number_either old x y.send k h) [
-        | inl b ↦ absurd (more.0 k record { exchange = b.exchange; here = b.here; same = b.same ∙ ap (λ (z : Exchange). exchange_bytes z.send) (sym a.1) })
+        | inl b ↦ absurd (none k record { exchange = b.exchange; here = b.here; same = b.same ∙ ap (λ (z : Exchange). exchange_bytes z.send) (sym a.1) })
         | inr b ↦ a.0 ∙ sym b.0
       ]
     ]

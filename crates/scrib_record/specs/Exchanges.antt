@@ -1,13 +1,16 @@
 -- Exchanges by number, and edges by the numbers of their exchanges (this project's own). Only contracts of private
 -- functions cite this file.
-use Rattle.std.specs.Prelude.{◌≡◌, ◌⊎◌, ℕ, List, [], ◌∷◌, ◌++◌, length, get_or, slice_get, Option, Some, None, Contains}
+use Rattle.std.specs.Prelude.{◌≡◌, ◌⊎◌, ℕ, true, List, [], ◌∷◌, ◌++◌, length, get_or, slice_get, Some}
 use Rattle.std.specs.List.{AllZip}
+use Rattle.std.specs.Str.{bytes_eq}
+use Rattle.std.proofs.lemmas.Slice.Eq.{bytes_eq-Decides}
 use Rattle.scrib_types.specs.declared.message.Message.{Message}
-use Rattle.scrib_types.specs.declared.event.Action.{Action}
 use Rattle.scrib_types.specs.declared.event.Action.TheVariants as action
 use Rattle.scrib_types.specs.declared.event.Event.{Event}
 use Rattle.scrib_types.specs.declared.event.Event.TheVariants as event
-use Rattle.scrib_types.specs.FlatEvents.{exchange_bytes}
+use Rattle.scrib_types.specs.Flat.{message_bytes}
+use Rattle.scrib_types.specs.FlatEvents.{event_bytes, exchange_bytes}
+use Rattle.scrib_types.proofs.FlatFormLemmas.{event_bytes-injective}
 use Rattle.scrib_machine.specs.declared.machine.Edge.{Edge}
 use Rattle.scrib_record.specs.declared.exchanges.Exchange.{Exchange}
 use Rattle.scrib_record.specs.declared.exchanges.Located.{Located}
@@ -22,6 +25,20 @@ no_exchanges = []
 -- the send of the message
 abbrev pub send_of : List ℕ → List ℕ → Message → Event
 send_of p q m = event.Sent p q m
+
+-- the bytes by which exchanges are compared: those of the send
+abbrev pub send_bytes : Exchange → List ℕ
+send_bytes x = event_bytes x.send
+
+-- what is hashed of an event: the names of its roles, and the bytes of its message
+abbrev pub hashed_parts : Event → List (List ℕ)
+hashed_parts (event.Join r) = r ∷ []
+hashed_parts (event.Sent p q m) = p ∷ q ∷ message_bytes m ∷ []
+hashed_parts (event.Received p q m) = p ∷ q ∷ message_bytes m ∷ []
+
+-- equal exchanges are hashed alike
+pub hashed_alike : (x y : Exchange) → bytes_eq (send_bytes x) (send_bytes y) ≡ true → hashed_parts x.send ≡ hashed_parts y.send
+hashed_alike x y t i = hashed_parts (event_bytes-injective x.send y.send ((bytes_eq-Decides (send_bytes x) (send_bytes y)).0 t) i)
 
 -- the exchange is that of a message between two of the roles
 pub record IsExchange (roles : List (List ℕ)) (x : Exchange) : Type 0 where
@@ -53,9 +70,13 @@ IsAbsent es e = (k : ℕ) → IsNumberOf es e k → ⊥
 abbrev pub IsNumbered : List Exchange → Exchange → ℕ → Type 0
 IsNumbered es x k = IsNumberOf es x.send k
 
+-- no exchange has this send
+abbrev pub IsNew : List Exchange → Event → Type 0
+IsNew es e = (k : ℕ) (x : Exchange) → slice_get es k ≡ Some x → x.send ≡ e → ⊥
+
 -- the exchange was there, or it is appended and was not there
 abbrev pub AreMore : List Exchange → Exchange → List Exchange → Type 0
-AreMore old x new = (new ≡ old) ⊎ (IsAbsent old x.send × (new ≡ old ++ x ∷ []))
+AreMore old x new = (new ≡ old) ⊎ (IsNew old x.send × (new ≡ old ++ x ∷ []))
 
 -- each exchange is between two of the roles, and no two are the same
 pub record AreExchanges (roles : List (List ℕ)) (es : List Exchange) : Type 0 where

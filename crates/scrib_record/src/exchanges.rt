@@ -1,24 +1,68 @@
 //! The exchanges of a protocol, by number.
 
-ghost use Rattle.std.specs.Prelude.{◌≡◌, IfOk, OnOk, IfSome, None};
+ghost use Rattle.std.specs.Prelude.{◌≡◌, IfOk, IfSome, None};
 ghost use Rattle.scrib_record.specs.Exchanges as spec;
 
+use scrib_types::event::Event;
 use scrib_types::hashing::{empty_slots, slot_of};
 use scrib_types::shared_event::SharedEvent;
 use scrib_types::shared_message::SharedMessage;
 use std::alloc::{AllocError, Global};
+use std::hash::{Hash, Hasher};
 use std::marker::Model;
 
-// The number of slots of the first table.
-const FIRST_SLOTS: usize = 16;
+// The fewest slots that a table has.
+const FEWEST_SLOTS: usize = 16;
 
-/// A message from one role to another: its send, and the places of its sender and its receiver among the roles.
+/// A message from one role to another: its send, and the places of its sender and its receiver among the roles. Two are
+/// equal if their sends are.
 #[derive(Drop)]
 pub struct Exchange {
     pub send: SharedEvent,
     pub message: SharedMessage,
     pub from: usize,
     pub to: usize,
+}
+
+impl PartialEq for Exchange {
+    ghost use Rattle.std.specs.Cmp.{partial_equiv_from_equiv};
+    ghost use Rattle.std.specs.Str.{bytes_eq};
+    ghost use Rattle.std.proofs.lemmas.Cmp.{on_equiv, nat_list_eq_equiv};
+    ghost use Rattle.scrib_record.specs.Exchanges.{send_bytes};
+
+    ghost eq = { λ a b. bytes_eq (send_bytes a) (send_bytes b) };
+
+    ghost laws = { partial_equiv_from_equiv (on_equiv send_bytes nat_list_eq_equiv) };
+
+    fn eq(&self, other: &Exchange) -> bool {
+        self.send.equal(&other.send)
+    }
+}
+
+impl Eq for Exchange {
+    ghost use Rattle.std.proofs.lemmas.Cmp.{on_equiv, nat_list_eq_equiv};
+    ghost use Rattle.scrib_record.specs.Exchanges.{send_bytes};
+
+    ghost laws = { on_equiv send_bytes nat_list_eq_equiv };
+}
+
+impl Hash for Exchange {
+    ghost use Rattle.scrib_record.specs.Exchanges.{hashed_parts, hashed_alike};
+
+    ghost hash_input = { λ x. hashed_parts x.send };
+
+    ghost respects_eq = { hashed_alike };
+
+    fn hash<H: Hasher>(&self, state: &mut H) {
+        match self.send.get() {
+            Event::Join { role } => state.write(role.as_bytes()),
+            Event::Sent { from, to, message } | Event::Received { from, to, message } => {
+                state.write(from.as_bytes());
+                state.write(to.as_bytes());
+                state.write(message.flat());
+            }
+        }
+    }
 }
 
 /// The number of an exchange, and the places of its sender and its receiver among the roles.
@@ -47,19 +91,17 @@ impl Model for Exchanges {
 }
 
 impl Exchanges {
-    /// Returns no exchanges.
-    pub fn new(alloc: Global) -> Exchanges
-        ensures { result ≡ spec.no_exchanges }
+    /// Returns these exchanges, numbered in their order.
+    ///
+    /// # Errors
+    /// `AllocError` if memory was refused.
+    pub fn from_vec(alloc: Global, list: Vec<Exchange>) -> Result<Exchanges, AllocError>
+        ensures { IfOk result (λ exchanges. exchanges ≡ list.items) }
     {
-        Exchanges {
-            list: Vec::new(alloc),
-            slots: Vec::new(alloc),
-        }
-    }
-
-    /// Returns the allocator.
-    pub fn alloc(&self) -> Global {
-        *self.list.allocator()
+        let count = list.len().saturating_mul(2).max(FEWEST_SLOTS);
+        let empty = empty_slots(alloc, count.next_power_of_two())?;
+        let slots = slots_of(&list, empty);
+        Ok(Exchanges { list, slots })
     }
 
     /// Returns the exchanges, in the order of their numbers.
@@ -96,38 +138,6 @@ impl Exchanges {
             slot = next_slot(slot, self.slots.len());
         }
         None
-    }
-
-    /// Returns the number of this exchange. A new one is appended.
-    ///
-    /// # Errors
-    /// `AllocError` if memory was refused.
-    pub fn number_of(&mut self, exchange: Exchange) -> Result<usize, AllocError>
-        ensures numbered { IfOk result (spec.IsNumbered self.new exchange) }
-        ensures more { OnOk result (spec.AreMore self.old exchange self.new) }
-    {
-        if let Some(located) = self.find(&exchange.send) {
-            return Ok(located.number);
-        }
-        let number = self.list.len();
-        self.make_room()?;
-        enter(&mut self.slots, exchange.send.exchange_hash(), number);
-        self.list.push(exchange)?;
-        Ok(number)
-    }
-
-    // Doubles the slots if half of them are used, and enters all exchanges again.
-    fn make_room(&mut self) -> Result<(), AllocError>
-        ensures { self.new ≡ self.old }
-    {
-        let count = self.slots.len();
-        if self.list.len() < count / 2 {
-            return Ok(());
-        }
-        let alloc = self.alloc();
-        let count = count.saturating_mul(2).max(FIRST_SLOTS);
-        self.slots = slots_of(&self.list, empty_slots(alloc, count)?);
-        Ok(())
     }
 }
 

@@ -14,6 +14,7 @@ mod judging;
 pub mod law;
 mod machines;
 mod numbered_edge;
+mod numberer;
 pub mod numbering;
 pub mod record;
 mod role_hints;

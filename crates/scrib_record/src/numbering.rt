@@ -8,6 +8,7 @@ ghost use Rattle.scrib_record.specs.Versions.{meaning_of, HaveSameStamp};
 
 use crate::exchanges::{Exchange, Exchanges, Located};
 use crate::numbered_edge::NumberedEdge;
+use crate::numberer::Numberer;
 use crate::role_state::place_of;
 use crate::version::Version;
 use scrib_machine::machine::{Edge, Machine};
@@ -68,8 +69,9 @@ impl Numbering {
     pub fn new(alloc: Global, version: &Version) -> Result<Numbering, AllocError>
         ensures { IfOk result (λ numbering. numbering.version ≡ version.now) }
     {
-        let mut exchanges = Exchanges::new(alloc);
-        let machines = number_machines(alloc, &mut exchanges, version)?;
+        let mut numberer = Numberer::new(alloc);
+        let machines = number_machines(alloc, &mut numberer, version)?;
+        let exchanges = numberer.into_exchanges()?;
         let version = version.share()?;
         let parts = Parts {
             version,
@@ -160,7 +162,7 @@ fn row_of(rows: &Rows, state: u32) -> &[NumberedEdge]
 // Numbers the edges of the machine of each role. New exchanges are appended.
 fn number_machines(
     alloc: Global,
-    exchanges: &mut Exchanges,
+    exchanges: &mut Numberer,
     version: &Version,
 ) -> Result<Items<Rows>, AllocError>
     requires { exchanges.old ≡ spec.no_exchanges }
@@ -179,7 +181,7 @@ fn number_machines(
 
 // Numbers the edges of the role's machine.
 fn number_rows(
-    exchanges: &mut Exchanges,
+    exchanges: &mut Numberer,
     roles: &[Role],
     role: &Role,
     machine: &Machine,
@@ -199,7 +201,7 @@ fn number_rows(
 
 // Numbers the edges of one state of the role's machine.
 fn number_row(
-    exchanges: &mut Exchanges,
+    exchanges: &mut Numberer,
     roles: &[Role],
     role: &Role,
     row: &[Edge],
@@ -219,7 +221,7 @@ fn number_row(
 
 // Numbers the edges of one state of the role's machine.
 fn number_edges(
-    exchanges: &mut Exchanges,
+    exchanges: &mut Numberer,
     roles: &[Role],
     role: &Role,
     row: &[Edge],
@@ -238,7 +240,7 @@ fn number_edges(
 
 // Numbers the edge of the role's machine.
 fn number_edge(
-    exchanges: &mut Exchanges,
+    exchanges: &mut Numberer,
     roles: &[Role],
     role: &Role,
     edge: &Edge,
@@ -265,7 +267,7 @@ fn number_edge(
 // Returns the number of the exchange of this message. A new exchange is appended. A role that is not one of the roles
 // has no exchange, and no machine has an edge of it.
 fn number_exchange(
-    exchanges: &mut Exchanges,
+    exchanges: &mut Numberer,
     roles: &[Role],
     from: &Role,
     to: &Role,

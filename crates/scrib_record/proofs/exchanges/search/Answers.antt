@@ -1,4 +1,4 @@
-use Rattle.std.proofs.Common.{◌∙◌, ap, sym, arith}
+use Rattle.std.proofs.Common.{◌∙◌, ap, arith}
 use Rattle.std.proofs.lemmas.Option.{get_or_from_slice_get, slice_get_within}
 use Rattle.scrib_types.specs.FlatEvents.{exchange_bytes}
 use Rattle.scrib_record.specs.declared.exchanges.Exchange.{Exchange}

@@ -1,6 +1,6 @@
-use Rattle.std.proofs.Common.{arith, take}
+use Rattle.std.proofs.Common.{take}
 use Rattle.scrib_record.specs.Exchanges.{IsEdge}
-use Rattle.scrib_record.proofs.NumberingSteps.{kept_itself, kept_again, row_kept, zip_on, zip_end}
+use Rattle.scrib_record.proofs.NumberingSteps.{kept_again, row_kept, zip_on}
 use Rattle.scrib_record.proofs.numbering.number_edges.Goals as goal
 
 pub loop-edge-preserved : goal.loop-edge-preserved
