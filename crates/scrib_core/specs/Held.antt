@@ -1,5 +1,5 @@
 -- The contents of a core, the world and the marks that they determine, and what a view shows (this project's own).
-use Rattle.std.specs.Prelude.{◌≡◌, ◌==◌, ℕ, ◌/◌, ◌<◌, cond, if◌then◌else◌, List, [], ◌∷◌, map, length, Option, Some, None, nat_eq}
+use Rattle.std.specs.Prelude.{◌≡◌, ◌==◌, ℕ, ◌/◌, ◌<◌, cond, if◌then◌else◌, List, [], ◌∷◌, map, length, slice_get, Option, Some, None, nat_eq}
 use Rattle.std.specs.Map.{lookup}
 use Rattle.std.specs.Option.{option_map}
 use Rattle.std.specs.Borrow.{Bor}
@@ -37,6 +37,10 @@ LeavesRefused _ old new = Unit {0}
 -- the record of the id, if it exists
 abbrev pub record_at : Records → ℕ → Option Recorded
 record_at rs id = lookup (nat_eq id) rs
+
+-- the record at the index, from 0 in the order of opening, has the id
+abbrev pub IsRecordAt : Records → (at id : ℕ) → Type 0
+IsRecordAt rs at id = (r : Recorded) × (slice_get rs at ≡ Some (id, r))
 
 -- the conversation of a record: its name and its log
 abbrev pub conversation_of : Recorded → Conversation

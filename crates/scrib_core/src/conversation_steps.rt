@@ -4,7 +4,8 @@ ghost use Rattle.std.specs.Prelude.{◌≡◌, IfOk, IfErr, OnOk, OnErr};
 ghost use Rattle.std.specs.Option.{option_copied};
 ghost use Rattle.scrib_core.specs.ConversationSteps.{IsOpened, OpenFails, IsNotedAt, NoteFails, IsTurnedAt, IsAskedAt, VerdictFails, IsBegun, IsPresent, IsSoundComparison, IsSoundForRecord};
 
-use crate::holders::Holders;
+use crate::holders::{Holders, name_slot};
+use crate::places::{place_of, record_of};
 use crate::reply::Refusal;
 use crate::verdicts::verdict_of;
 use indexmap::IndexMap;
@@ -65,20 +66,20 @@ pub fn open(
     if records.contains_key(&opening.id) {
         return Err(Refusal::AlreadyOpen);
     }
-    let Some(version) = library.present(name) else {
+    let Some((shared, version)) = library.present_shared(name) else {
         return Err(Refusal::UnknownProtocol);
     };
     if records.len() >= opening.limit {
         return Err(Refusal::TooManyConversations);
     }
-    let shared = library.shared_name(name);
-    let known = holders.numbering(records, name);
+    let slot = name_slot(name);
+    let known = holders.numbering(records, slot);
     let (Ok(record), Ok(reply_name)) = (begin(alloc, shared, version, known), shared.copy()) else {
         return Err(Refusal::OutOfMemory);
     };
     match records.insert(opening.id, record) {
         Ok(_) => {
-            holders.note(name, opening.id);
+            holders.note(slot, opening.id);
             Ok(reply_name)
         }
         Err(_) => Err(Refusal::OutOfMemory),
@@ -103,9 +104,10 @@ pub fn note(
     ensures fault { IfErr result (NoteFails records.old.entries id) }
     ensures err { OnErr result (records.new.entries ≡ records.old.entries) }
 {
-    let Some(record) = records.get_mut(&id) else {
+    let Some(at) = place_of(records, id) else {
         return Err(Refusal::NoConversation);
     };
+    let (_, record) = records.pair_mut(at);
     let (hint, present) = present_of(library, record, comparison);
     let verdict = record.note(present, comparison, event)?;
     record.set_hint(hint);
@@ -152,25 +154,22 @@ pub fn turn(
     ensures fault { IfErr result (VerdictFails records.old.entries id) }
     ensures err { OnErr result (records.new.entries ≡ records.old.entries) }
 {
-    let is_held = holds_present(library, records, id);
-    let known = if is_held {
-        None
-    } else {
-        known_numbering(records, holders, id)
-    };
-    let Some(record) = records.get_mut(&id) else {
+    let Some(at) = place_of(records, id) else {
         return Err(Refusal::NoConversation);
     };
+    let known = numbering_for_turn(library, records, holders, at);
+    let (_, record) = records.pair_mut(at);
     let Ok(name) = record.name().copy() else {
         return Err(Refusal::OutOfMemory);
     };
+    let held = record.held_number();
     let (hint, present) = present_of(library, record, comparison);
     match record.turn(present, comparison, known) {
         Ok(verdict) => {
             record.set_hint(hint);
             let events = record.log().len();
-            if !is_held {
-                holders.note(&name, id);
+            if record.held_number() != held {
+                holders.note(name_slot(&name), id);
             }
             Ok(Judged {
                 name,
@@ -182,24 +181,20 @@ pub fn turn(
     }
 }
 
-// Returns whether the library has a version with the number that the conversation holds, where it had it last.
-fn holds_present(library: &Library, records: &IndexMap<u32, Record>, id: u32) -> bool {
-    let Some(record) = records.get(&id) else {
-        return false;
-    };
-    match record.held_number() {
-        Some(number) => library.numbered_at(record.hint(), number).is_some(),
-        None => false,
-    }
-}
-
-// Returns the numbering that the holders hint at for the conversation's protocol.
-fn known_numbering(
+// Returns the numbering that the holders hint at for the protocol of the record at this place. Returns none where the
+// record holds the present version, since its turn needs none then.
+fn numbering_for_turn(
+    library: &Library,
     records: &IndexMap<u32, Record>,
     holders: &Holders,
-    id: u32,
+    at: usize,
 ) -> Option<Numbering> {
-    holders.numbering(records, records.get(&id)?.name())
+    let (_, record) = records.get_index(at)?;
+    let held = record.held_number();
+    if held.is_some_and(|number| library.numbered_at(record.hint(), number).is_some()) {
+        return None;
+    }
+    holders.numbering(records, name_slot(record.name()))
 }
 
 /// Returns the verdict on a conversation, or `Stale`.
@@ -216,7 +211,7 @@ pub fn ask(
     ensures ok { IfOk result (λ j. IsAskedAt library.now records.now.entries id j.name j.events j.told) }
     ensures fault { IfErr result (VerdictFails records.now.entries id) }
 {
-    let Some(record) = records.get(&id) else {
+    let Some(record) = record_of(records, id) else {
         return Err(Refusal::NoConversation);
     };
     let Ok(name) = record.name().copy() else {

@@ -1,5 +1,6 @@
 //! Hints for conversations that hold the numbering of a version.
 
+use crate::places::record_of;
 use indexmap::IndexMap;
 use scrib_record::numbering::Numbering;
 use scrib_record::record::Record;
@@ -22,21 +23,21 @@ impl Holders {
         Holders { ids: [0; SLOTS] }
     }
 
-    /// Returns the numbering that the noted conversation holds, shared, if there is one.
-    pub fn numbering(&self, records: &IndexMap<u32, Record>, name: &Dotted) -> Option<Numbering> {
-        let id = self.ids.get(name_slot(name))?;
-        records.get(id)?.numbering()
+    /// Returns the numbering that the conversation noted in this slot holds, shared, if there is one.
+    pub fn numbering(&self, records: &IndexMap<u32, Record>, slot: usize) -> Option<Numbering> {
+        let id = self.ids.get(slot)?;
+        record_of(records, *id)?.numbering()
     }
 
-    /// Notes the conversation for the name of its protocol.
-    pub fn note(&mut self, name: &Dotted, id: u32) {
-        if let Some(noted) = self.ids.get_mut(name_slot(name)) {
+    /// Notes the conversation in this slot.
+    pub fn note(&mut self, slot: usize, id: u32) {
+        if let Some(noted) = self.ids.get_mut(slot) {
             *noted = id;
         }
     }
 }
 
-// Returns the slot of the name.
-fn name_slot(name: &Dotted) -> usize {
+/// Returns the slot of a protocol's name.
+pub fn name_slot(name: &Dotted) -> usize {
     slot_of(hash_names(0, name.as_slice()), SLOTS)
 }

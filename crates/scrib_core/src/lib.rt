@@ -7,6 +7,7 @@ pub mod format;
 pub mod holders;
 pub mod law;
 pub mod monitor;
+pub mod places;
 pub mod reply;
 pub mod step;
 mod verdicts;

@@ -8,10 +8,10 @@ ghost use Rattle.scrib_core.specs.declared.step.Step.TheVariants.{Put, Withdraw,
 ghost use Rattle.scrib_core.specs.declared.step.Step.TheVariants as steps;
 ghost use Rattle.scrib_core.specs.Answers.{initial, initial_under, IsAnswered, IsDue, AnswersAsDue};
 ghost use Rattle.scrib_core.specs.Held.{state_of, LeavesRefused, AnswersHeld, IsViewed};
-ghost use Rattle.scrib_core.specs.ReplyValues.{note_reply_of};
+ghost use Rattle.scrib_core.specs.ReplyValues.{note_reply_of, verdict_reply_of};
 ghost use Rattle.scrib_core.specs.Runs.{PermitsRuns};
 
-use crate::conversation_steps::{Noted, Opening, ask, note, open, turn};
+use crate::conversation_steps::{Judged, Noted, Opening, ask, note, open, turn};
 use crate::holders::Holders;
 use crate::reply::{
     Edit, Refusal, Reply, edit_reply, note_reply, open_reply, profile_reply, verdict_reply,
@@ -150,6 +150,21 @@ impl Core {
         )
     }
 
+    /// Makes the step `Ask` with this id. Returns the protocol's name, the number of events in the log, and the verdict,
+    /// or `Stale`. What `apply` ensures of a reply holds for the reply that `verdict_reply` makes of the result.
+    ///
+    /// # Errors
+    /// `NoConversation` or `OutOfMemory`.
+    #[inline(always)]
+    pub fn verdict_on(&self, id: u32) -> Result<Judged, Refusal>
+        ensures answered { IsAnswered (state_of self.now) (Ask id) (verdict_reply_of id result) (state_of self.now) }
+        ensures memory { IsDue (state_of self.now).world (Ask id) (verdict_reply_of id result) }
+        ensures refused { LeavesRefused (verdict_reply_of id result) self.now self.now }
+    {
+        self.library.are_numbered();
+        ask(&self.library, &self.records, Comparison::Numbers, id)
+    }
+
     /// Returns the protocol of a conversation, if the library has it, and the log.
     pub fn view(&self, id: u32) -> Option<(Option<&Protocol>, &[SharedEvent])>
         ensures { IsViewed (state_of self.now).world id result }
@@ -271,8 +286,7 @@ impl Core {
         ensures memory { IsDue (state_of self.now).world (Ask id) result }
         ensures refused { LeavesRefused result self.now self.now }
     {
-        self.library.are_numbered();
-        let asked = ask(&self.library, &self.records, Comparison::Numbers, id);
+        let asked = self.verdict_on(id);
         verdict_reply(id, asked)
     }
 }

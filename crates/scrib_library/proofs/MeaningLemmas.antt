@@ -200,6 +200,15 @@ pub numbered_now : (profile : Profile) (ms : List ModuleTree) (vs : List NamedVe
 numbered_now profile ms vs used n None p = numbered_answer profile ms vs used n None p
 numbered_now profile ms vs used n (Some v) p = numbered_answer profile ms vs used n (Some v.now) p
 
+-- the same beside the stored name
+pub answered_shared : (ms : List ModuleTree) (vs : List NamedVersion) → AreVersions ms vs → (n : List (List ℕ)) (r : Option (Bor (List (List ℕ)) × Bor Version)) → IsVersion vs n (option_map (λ f. f.1.now) r) → IsMeaning ms n (option_map (λ f. meaning_of f.1.now) r)
+answered_shared ms vs h n None p = answered ms vs h n None p
+answered_shared ms vs h n (Some f) p = answered ms vs h n (Some f.1.now) p
+
+pub numbered_shared : (profile : Profile) (ms : List ModuleTree) (vs : List NamedVersion) (used : ℕ) (n : List (List ℕ)) (r : Option (Bor (List (List ℕ)) × Bor Version)) → IsVersion vs n (option_map (λ f. f.1.now) r) → IsNumber (holdings profile ms vs used) n (option_map (λ f. number_of f.1.now) r)
+numbered_shared profile ms vs used n None p = numbered_answer profile ms vs used n None p
+numbered_shared profile ms vs used n (Some f) p = numbered_answer profile ms vs used n (Some f.1.now) p
+
 -- a stored version belongs to a name
 pub stamp_now : (profile : Profile) (ms : List ModuleTree) (vs : List NamedVersion) (used : ℕ) → AreVersions ms vs → (r : Option (Bor Version)) → IfSome r (λ v. IsStored vs v.now) → IfSome r (λ v. IsStamp (holdings profile ms vs used) (meaning_of v.now) (number_of v.now))
 stamp_now profile ms vs used h None p = tt

@@ -180,10 +180,15 @@ module _ (before : List NamedVersion) where
 -- ---- look-ups
 
 -- the version that a search finds
+pub found_name : (vs : List NamedVersion) (name : List (List ℕ)) (i : ℕ) (v : NamedVersion) → v ≡ get_or vs i v → IsAt (version_names vs) name i → v.name ≡ name
+found_name vs name i v at there =
+    let lt : i < length vs = omega (arith, there.0, length-map vs (λ (x : NamedVersion). x.name)) in
+    ap (λ (x : NamedVersion). x.name) at ∙ sym (get_or-map (λ (x : NamedVersion). x.name) vs i v name lt) ∙ there.1 name
+
 pub found_version : (vs : List NamedVersion) (name : List (List ℕ)) (i : ℕ) (v : NamedVersion) → v ≡ get_or vs i v → IsAt (version_names vs) name i → HasVersion vs name v.version
 found_version vs name i v at there =
     let lt : i < length vs = omega (arith, there.0, length-map vs (λ (x : NamedVersion). x.name)) in
-    let named : v.name ≡ name = ap (λ (x : NamedVersion). x.name) at ∙ sym (get_or-map (λ (x : NamedVersion). x.name) vs i v name lt) ∙ there.1 name in
+    let named = found_name vs name i v at there in
     let P : List (List ℕ) → Type 0 = λ n. HasVersion vs n v.version in
     subst P named (i, lt, sym at)
 

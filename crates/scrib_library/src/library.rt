@@ -17,7 +17,9 @@ use crate::plan::{Plan, plan_put, plan_withdrawal};
 use crate::profiles::check_change;
 use crate::read::read;
 use crate::removal::free_place;
-use crate::versions::{NamedVersion, apply_edits, found_at_hint, numbered_at, version_at_hint};
+use crate::versions::{
+    NamedVersion, apply_edits, found_at_hint, named_at_hint, numbered_at, version_at_hint,
+};
 use scrib_parser::interner::Interner;
 use scrib_record::version::Version;
 use scrib_types::name::Dotted;
@@ -221,15 +223,14 @@ impl Library {
         numbered_at(&self.versions, place, number)
     }
 
-    /// Returns the library's own copy of the name, if it declares a protocol of this name, so that all holders share
-    /// one copy.
-    pub fn shared_name<'a>(&'a self, name: &'a Dotted) -> &'a Dotted
-        ensures { result.now ≡ name.now }
+    /// Returns the library's own copy of a protocol's full name, so that all holders share one copy, and the present
+    /// version of the protocol.
+    pub fn present_shared(&self, name: &Dotted) -> Option<(&Dotted, &Version)>
+        ensures name { IfSome result (λ found. found.0.now ≡ name.now) }
+        ensures meaning { IsMeaning self.now.modules name.now (option_map (λ found. meaning_of found.1.now) result) }
+        ensures number { IsNumber self.now name.now (option_map (λ found. number_of found.1.now) result) }
     {
-        match self.versions.get(self.hints.place_of(name)) {
-            Some(named) if named.name.equal(name) => &named.name,
-            _ => name,
-        }
+        named_at_hint(&self.versions, self.hints.place_of(name), name)
     }
 
     /// Returns the number of versions ever used.

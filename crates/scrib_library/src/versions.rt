@@ -1,7 +1,7 @@
 //! The stored versions, by full name, and their edits.
 
 ghost use Rattle.std.specs.Prelude.{◌≡◌, ◌+◌, ◌<◌, ◌≤◌, IfOk, IfErr, IfSome, vec_len, vec_capacity};
-ghost use Rattle.std.specs.Option.{option_copied};
+ghost use Rattle.std.specs.Option.{option_copied, option_map};
 ghost use Rattle.scrib_library.specs.Listed.{AreInOrder, IsAt, IsGap};
 ghost use Rattle.scrib_record.specs.Versions.{number_of};
 ghost use Rattle.scrib_library.specs.Stored.{version_names, IsVersion, IsStored};
@@ -55,6 +55,25 @@ pub fn found_at_hint<'a>(
     match place_at_hint(versions, hint, name) {
         Ok(at) => (at, Some(&versions[at].version)),
         Err(at) => (at, None),
+    }
+}
+
+/// Returns the stored name and the version of the protocol of this name. The index `hint` is tried first.
+pub fn named_at_hint<'a>(
+    versions: &'a [NamedVersion],
+    hint: usize,
+    name: &Dotted,
+) -> Option<(&'a Dotted, &'a Version)>
+    requires { AreInOrder (version_names versions.now) }
+    ensures name { IfSome result (λ found. found.0.now ≡ name.now) }
+    ensures version { IsVersion versions.now name.now (option_map (λ found. found.1.now) result) }
+{
+    match place_at_hint(versions, hint, name) {
+        Ok(at) => {
+            let named = &versions[at];
+            Some((&named.name, &named.version))
+        }
+        Err(_) => None,
     }
 }
 

@@ -1,10 +1,8 @@
 pub mod NoteAllLemmas
-pub mod Indexes
 pub mod ShardLemmas
 pub mod NameIndexLemmas
 pub mod Notes
 pub mod OneByOne
-pub mod Places
 pub mod ReceiptLemmas
 pub mod ServingLemmas
 pub mod MismatchLemmas

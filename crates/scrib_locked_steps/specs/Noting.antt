@@ -15,10 +15,6 @@ use Rattle.scrib_locked_steps.specs.Receipts.{AgreesWith, IsFirstMismatch}
 use Rattle.scrib_locked_steps.specs.Passes.{PassHeld, IsReceipted, newest_of}
 use Rattle.scrib_record.specs.declared.record.TheConstants.{MAX_EVENTS}
 
--- the record at the index, from 0 in the order of opening, has the id
-abbrev pub IsRecordAt : Records → (at id : ℕ) → Type 0
-IsRecordAt rs at id = (r : Recorded) × (slice_get rs at ≡ Some (id, r))
-
 -- the event is appended to the record, at this place and with this verdict, where `present` is the present version if
 -- any
 pub record IsNotedIn (present : Option Version) (before : Recorded) (e : Event) (n : Noted)

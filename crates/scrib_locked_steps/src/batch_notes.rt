@@ -12,11 +12,10 @@ ghost use Rattle.scrib_locked_steps.specs.Passing.{AnswersBy, added_notes};
 use crate::pass::Pass;
 use crate::pass_calls::{PassReply, notes_of, unopened_refusal};
 use crate::receipt_check::first_mismatch;
-use crate::record_notes::{
-    NoteChecks, comparison_for, note_unless_mismatch, place_at_hint, present_of,
-};
+use crate::record_notes::{NoteChecks, comparison_for, note_unless_mismatch, present_of};
 use crate::shard::Shard;
 use indexmap::IndexMap;
+use scrib_core::places::place_at_hint;
 use scrib_library::library::Library;
 use scrib_record::record::Record;
 use scrib_record::version::Version;

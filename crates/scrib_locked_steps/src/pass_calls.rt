@@ -8,10 +8,11 @@ ghost use Rattle.scrib_locked_steps.specs.Passing.{AnswersBy, IsNotedBy, PassNot
 use crate::locked_calls::stands_locked;
 use crate::pass::{Pass, Receipt};
 use crate::receipt_check::first_mismatch;
-use crate::record_notes::{NoteChecks, note_unless_mismatch, place_at_hint, present_of};
+use crate::record_notes::{NoteChecks, note_unless_mismatch, present_of};
 use crate::shard::Shard;
 use crate::step_results::{Noted, ask_step};
 use indexmap::IndexMap;
+use scrib_core::places::place_at_hint;
 use scrib_core::reply::Refusal;
 use scrib_library::library::Library;
 use scrib_record::comparison::Comparison;

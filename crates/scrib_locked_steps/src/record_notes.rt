@@ -8,7 +8,7 @@ ghost use Rattle.scrib_record.specs.Stale.{is_stale};
 ghost use Rattle.scrib_record.specs.Told as record_spec;
 ghost use Rattle.scrib_core.specs.Held.{record_at};
 ghost use Rattle.scrib_core.specs.ConversationSteps.{IsPresent};
-ghost use Rattle.scrib_locked_steps.specs.Noting.{AnswersIn, IsNotedIn, IsRecordAt};
+ghost use Rattle.scrib_locked_steps.specs.Noting.{AnswersIn, IsNotedIn};
 ghost use Rattle.scrib_locked_steps.specs.Passes.{newest_of};
 ghost use Rattle.scrib_locked_steps.specs.Receipts.{IsFirstMismatch, AgreesWith};
 
@@ -31,19 +31,6 @@ use scrib_types::shared_event::SharedEvent;
 pub(crate) struct NoteChecks {
     pub(crate) mismatch: Option<usize>,
     pub(crate) comparison: Comparison,
-}
-
-/// Returns the index of the conversation's record in the order of opening, from 0. `hint` may be any index and is tried
-/// first: a caller that often asks for one conversation passes the index that it got last.
-#[inline(always)]
-pub(crate) fn place_at_hint(records: &IndexMap<u32, Record>, hint: usize, id: u32) -> Option<usize>
-    ensures found { IfSome result (λ at. IsRecordAt records.now.entries at id) }
-    ensures absent { result ≡ None → record_at records.now.entries id ≡ None }
-{
-    match records.get_index(hint) {
-        Some((key, _)) if *key == id => Some(hint),
-        _ => records.get_index_of(&id),
-    }
 }
 
 // Appends the event to the record's log. `present` is the present version of its protocol, if it has one. Returns the

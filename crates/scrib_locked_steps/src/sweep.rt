@@ -6,6 +6,7 @@ ghost use Rattle.scrib_locked_steps.specs.Sweeping.{is_stale_of, stale_ids_of, I
 
 use crate::shard::Shard;
 use indexmap::IndexMap;
+use scrib_core::holders::name_slot;
 use scrib_library::library::Library;
 use scrib_record::answer::Answer;
 use scrib_record::comparison::Comparison;
@@ -110,7 +111,9 @@ fn sweep_conversation(library: &Library, shard: &mut Shard, id: u32) -> Result<u
         return Err(AllocError);
     };
     let present = library.present(conversation.name());
-    let mut known = shard.holders.numbering(&shard.records, conversation.name());
+    let mut known = shard
+        .holders
+        .numbering(&shard.records, name_slot(conversation.name()));
     let mut comparison = Comparison::Whole;
     let mut turns = 0;
     loop {
@@ -143,7 +146,7 @@ fn turn_under(
 {
     let verdict = turn_in_records(present, comparison, &mut shard.records, id, known)?;
     if let Some(conversation) = shard.records.get(&id) {
-        shard.holders.note(conversation.name(), id);
+        shard.holders.note(name_slot(conversation.name()), id);
     }
     Ok(verdict)
 }

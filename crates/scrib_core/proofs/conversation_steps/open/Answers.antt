@@ -10,7 +10,7 @@ use Rattle.scrib_core.proofs.LentRecordLemmas.{none_there}
 use Rattle.scrib_core.proofs.conversation_steps.open.Goals as goal
 
 pub returns-in-Ok-clause-name : goal.returns-in-Ok-clause-name
-returns-in-Ok-clause-name c = c.in-Ok-Ok.ensures' ∙ c.shared_name-shared.ensures
+returns-in-Ok-clause-name c = c.in-Ok-Ok.ensures' ∙ c.in-Some.ensures.name
 
 pub returns-in-Ok-clause-ok : goal.returns-in-Ok-clause-ok
 returns-in-Ok-clause-ok c =
@@ -26,5 +26,5 @@ returns-in-Ok-clause-ok c =
       };
       room = omega (arith, c.if-len-opening.false, c.len.ensures.len);
       added = c.in-Ok.ensures.entries ∙ insert_entry-new nat_eq c.args.records.now c.args.opening.id c.in-Ok-Ok.record none
-          ∙ ap (λ (r : Recorded). c.args.records.now.entries ++ (c.args.opening.id, r) ∷ []) (begun.2 ∙ ap (λ (n : List (List ℕ)). new_record n v) c.shared_name-shared.ensures);
+          ∙ ap (λ (r : Recorded). c.args.records.now.entries ++ (c.args.opening.id, r) ∷ []) (begun.2 ∙ ap (λ (n : List (List ℕ)). new_record n v) c.in-Some.ensures.name);
     }

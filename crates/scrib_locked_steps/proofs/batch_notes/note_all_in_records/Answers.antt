@@ -3,13 +3,12 @@ use Rattle.std.specs.Option.{option_copied}
 use Rattle.indexmap.specs.IndexMap.{set_value_at}
 use Rattle.scrib_record.specs.Stale.{Recorded}
 use Rattle.scrib_core.specs.ConversationSteps.{IsPresent}
-use Rattle.scrib_core.specs.Held.{Records, record_at}
-use Rattle.scrib_locked_steps.specs.Noting.{IsRecordAt}
+use Rattle.scrib_core.specs.Held.{IsRecordAt, Records, record_at}
 use Rattle.scrib_locked_steps.specs.OneByOne.{OneByOne}
 use Rattle.scrib_locked_steps.specs.Passes.{PassHeld}
 use Rattle.scrib_locked_steps.specs.Passing.{AnswersBy}
 use Rattle.scrib_locked_steps.proofs.NoteAllLemmas.{all_answered_there}
-use Rattle.scrib_locked_steps.proofs.Places.{set_there, there_read, within_records}
+use Rattle.scrib_core.proofs.PlaceLemmas.{set_there, there_read, within_records}
 use Rattle.scrib_locked_steps.proofs.batch_notes.note_all_in_records.Goals as goal
 
 pub pair_mut-conversation-requires : goal.pair_mut-conversation-requires

@@ -1,18 +1,10 @@
-use Rattle.std.proofs.Common.{sym}
-use Rattle.scrib_core.proofs.ConversationLemmas.{ask_answered}
 use Rattle.scrib_core.proofs.monitor.Core.ask.Goals as goal
 
 pub returns-clause-answered : goal.returns-clause-answered
-returns-clause-answered c =
-    let made = ask_answered c.self.inside.library c.self.inside.records.entries c.are_numbered.ensures.numbers c.are_numbered.ensures.once c.self.invariant c.args.id c.ask-asked.result c.ask-asked.ensures.ok c.ask-asked.ensures.fault in
-    rw (sym c.self.view_is, c.verdict_reply.ensures) made.answered
+returns-clause-answered c = rw c.verdict_reply.ensures c.verdict_on-asked.ensures.answered
 
 pub returns-clause-memory : goal.returns-clause-memory
-returns-clause-memory c =
-    let made = ask_answered c.self.inside.library c.self.inside.records.entries c.are_numbered.ensures.numbers c.are_numbered.ensures.once c.self.invariant c.args.id c.ask-asked.result c.ask-asked.ensures.ok c.ask-asked.ensures.fault in
-    rw (sym c.self.view_is, c.verdict_reply.ensures) made.due
+returns-clause-memory c = rw c.verdict_reply.ensures c.verdict_on-asked.ensures.memory
 
 pub returns-clause-refused : goal.returns-clause-refused
-returns-clause-refused c =
-    let made = ask_answered c.self.inside.library c.self.inside.records.entries c.are_numbered.ensures.numbers c.are_numbered.ensures.once c.self.invariant c.args.id c.ask-asked.result c.ask-asked.ensures.ok c.ask-asked.ensures.fault in
-    rw (sym c.self.view_is, c.verdict_reply.ensures) made.left
+returns-clause-refused c = rw c.verdict_reply.ensures c.verdict_on-asked.ensures.refused

@@ -3,7 +3,7 @@ use Rattle.std.specs.Map.{keys_of}
 use Rattle.scrib_record.specs.Stale.{Recorded}
 use Rattle.scrib_core.specs.Held.{Records}
 use Rattle.scrib_locked_steps.specs.Shards.{ShardHeld}
-use Rattle.scrib_locked_steps.proofs.Indexes.{found_at, only_at}
+use Rattle.scrib_core.proofs.Indexes.{found_at, only_at}
 use Rattle.scrib_locked_steps.proofs.shard.Shard.index_of.Goals as goal
 
 found_if : (rs : Records) (id : ℕ) (o : Option ℕ) → o ≡ position (nat_eq id) (keys_of rs) → IfSome o (λ i. (r : Recorded) × (slice_get rs i ≡ Some (id, r)))

@@ -8,9 +8,8 @@ use Rattle.std.proofs.lemmas.Map.Entries.{lookup_from_place}
 use Rattle.std.proofs.lemmas.Map.Keys.{apart_from_distinct}
 use Rattle.indexmap.specs.IndexMap.{set_value_at}
 use Rattle.scrib_record.specs.Stale.{Recorded}
-use Rattle.scrib_core.specs.Held.{Records, record_at}
-use Rattle.scrib_locked_steps.specs.Noting.{IsRecordAt}
-use Rattle.scrib_locked_steps.proofs.Indexes.{key_at, found_at}
+use Rattle.scrib_core.specs.Held.{Records, record_at, IsRecordAt}
+use Rattle.scrib_core.proofs.Indexes.{key_at, found_at}
 
 -- ---- the index of a look-up
 
