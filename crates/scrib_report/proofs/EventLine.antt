@@ -1,5 +1,5 @@
 -- The line of an event, which is written from its end.
-use Rattle.std.proofs.Common.{◌≡◌, ◌≤◌, ◌<◌, ◌+◌, ◌-◌, ◌^◌, ℕ, List, [], ◌∷◌, ◌++◌, codes, drop, length, set, sym, ap, ◌∙◌, append_assoc, Result, Ok, Err, is_ok, OnOk, if◌then◌else◌, rules, arith}
+use Rattle.std.proofs.Common.{◌≡◌, ◌≤◌, ◌<◌, ◌+◌, ◌-◌, ◌^◌, ℕ, List, [], ◌∷◌, ◌++◌, codes, drop, take, length, set, sym, ap, ◌∙◌, append_assoc, Result, Ok, Err, is_ok, OnOk, if◌then◌else◌, rules, arith}
 use Rattle.std.specs.Fmt.{decimal}
 use Rattle.scrib_types.specs.declared.event.Told.TheVariants.{Judged}
 use Rattle.scrib_types.specs.declared.event.Action.{Action}
@@ -10,7 +10,8 @@ use Rattle.scrib_core.specs.declared.reply.Reply.TheVariants as reply
 use Rattle.scrib_report.specs.Lines.{line_of, told_text, verdict_text, offence_text}
 use Rattle.std.proofs.lemmas.Fmt.{length-decimal-le}
 use Rattle.std.proofs.lemmas.Grind.{common_steps}
-use Rattle.std.proofs.lemmas.List.{drop-set}
+use Rattle.std.proofs.lemmas.List.{drop-drop, drop-set, length-append, length-drop, length-take-le}
+use Rattle.std.proofs.Math.Seq.{drop-append_seam}
 
 -- A number of 64 bits has at most 20 digits, one of 32 bits at most 10.
 pub long_digits : (n : ℕ) → n < 2 ^ 64 → length (decimal n) ≤ 20
@@ -62,11 +63,30 @@ verdict_and_end old id name events =
     ap (λ rest. old ++ rest) (sym (append_assoc (decimal id ++ codes " ") (codes "permitted") end ∙ append_assoc (decimal id) (codes " ") (codes "permitted" ++ end)))
     ∙ sym (append_assoc old (decimal id ++ codes " " ++ codes "permitted") end)
 
-pieces : (old id dot place blank offence at by_ role allowed text end : List ℕ) → (((((old ++ id ++ dot ++ place ++ (blank ++ offence)) ++ (at ++ by_)) ++ role) ++ allowed) ++ text) ++ end ≡ old ++ (id ++ dot ++ place ++ blank ++ (offence ++ at ++ by_ ++ role ++ allowed ++ text)) ++ end
+-- What is behind the offset of a part that was written over.
+pub part_written : (a e : ℕ) (old part end : List ℕ) → a ≤ e → e ≤ length old → drop e old ≡ end → drop a (take a old ++ (part ++ drop (e - a) (drop a old))) ≡ part ++ end
+part_written a e old part end before within is =
+    let front : length (take a old) ≡ a = length-take-le a old (omega (arith, before, within)) in
+    let behind = part ++ drop (e - a) (drop a old) in
+    let there : a + (e - a) ≡ e = omega (arith, before) in
+    let rest : drop (e - a) (drop a old) ≡ end = drop-drop (e - a) a old ∙ ap (λ n. drop n old) there ∙ is in
+    ap (λ n. drop n (take a old ++ behind)) (sym front) ∙ drop-append_seam (take a old) behind ∙ ap (λ r. part ++ r) rest
+
+-- A part that was written over keeps the length.
+pub part_length : (a e : ℕ) (old part : List ℕ) → a ≤ e → e ≤ length old → length part ≡ e - a → length (take a old ++ (part ++ drop (e - a) (drop a old))) ≡ length old
+part_length a e old part before within same =
+    let behind = drop (e - a) (drop a old) in
+    omega (arith, length-append (take a old) (part ++ behind), length-append part behind, length-take-le a old (omega (arith, before, within)), length-drop (e - a) (drop a old), length-drop a old, before, within, same)
+
+-- Appending six pieces at once, the last three of which were written together.
+pub six_pieces : (id dot place words at by_ : List ℕ) → id ++ dot ++ place ++ (words ++ (at ++ by_)) ≡ id ++ dot ++ place ++ words ++ at ++ by_
+six_pieces id dot place words at by_ = grind (arith, common_steps)
+
+pieces : (old id dot place blank offence at by_ role allowed text end : List ℕ) → old ++ (id ++ dot ++ place ++ (blank ++ offence) ++ at ++ by_) ++ role ++ allowed ++ text ++ end ≡ old ++ (id ++ dot ++ place ++ blank ++ (offence ++ at ++ by_ ++ role ++ allowed ++ text)) ++ end
 pieces old id dot place blank offence at by_ role allowed text end = grind (arith, common_steps)
 
 -- The pieces are the line of an offence with its line feed.
-pub offence_and_end : (old : List ℕ) (id place at : ℕ) (role : List ℕ) (allowed : List Action) → (((((old ++ decimal id ++ codes "." ++ decimal place ++ codes " offence at ") ++ (decimal at ++ codes " by ")) ++ role) ++ codes ", allowed: ") ++ allowed_text allowed) ++ codes "\n" ≡ old ++ line_of (Noted id place (Judged (Offence at role allowed))) ++ 10 ∷ []
+pub offence_and_end : (old : List ℕ) (id place at : ℕ) (role : List ℕ) (allowed : List Action) → old ++ (decimal id ++ codes "." ++ decimal place ++ codes " offence at " ++ decimal at ++ codes " by ") ++ role ++ codes ", allowed: " ++ allowed_text allowed ++ codes "\n" ≡ old ++ line_of (Noted id place (Judged (Offence at role allowed))) ++ 10 ∷ []
 unfolding line_of told_text verdict_text offence_text
 offence_and_end old id place at role allowed =
     pieces old (decimal id) (codes ".") (decimal place) (codes " ") (codes "offence at ") (decimal at) (codes " by ") role (codes ", allowed: ") (allowed_text allowed) (10 ∷ [])

@@ -1,3 +1,3 @@
-mod EventLine
+pub mod EventLine
 mod Members
 mod Totals

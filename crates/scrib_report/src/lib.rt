@@ -2,6 +2,7 @@
 #![tactic(auto)]
 
 mod edit;
+pub mod event_line;
 mod fault;
 pub mod flight;
 pub mod json;
@@ -9,7 +10,7 @@ mod json_output;
 mod json_table;
 pub mod line;
 mod line_output;
-mod numbered;
+pub mod numbered;
 pub mod part;
 pub mod printing;
 pub mod table;

@@ -5,7 +5,7 @@ ghost use Rattle.scrib_report.specs.LineOutput as lines;
 ghost use Rattle.scrib_report.specs.Parts.{part_of};
 
 use crate::line::push_whole_line;
-use crate::numbered::push_numbered;
+use crate::numbered::{push_bad_line, push_numbered};
 use crate::part::OutputPart;
 use crate::table::push_table;
 use crate::verdict::push_told;
@@ -49,9 +49,7 @@ pub(crate) fn push_line_part(out: &mut Vec<u8>, part: &OutputPart<'_>) -> Result
             conversation,
             place,
         } => push_mismatch(out, *conversation, *place),
-        OutputPart::BadLine(number) => {
-            push_numbered(out, b"refused BadLine ", u64::from(*number), b"\n")
-        }
+        OutputPart::BadLine(number) => push_bad_line(out, *number),
         OutputPart::EndOfText => push_bytes(out, b"refused EndOfText\n"),
         OutputPart::Connection(number) => push_numbered(out, b"connection ", *number, b"\n"),
         OutputPart::ReadFault => push_bytes(out, b"read fault\n"),
