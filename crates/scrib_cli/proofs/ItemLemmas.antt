@@ -1,6 +1,18 @@
 -- Steps and items that are carried out, in both modes.
-use Rattle.std.proofs.Common.{◌≡◌, ◌≢◌, ℕ, List, [], ◌∷◌, ◌++◌, Option, Some, refl, sym, subst}
+use Rattle.std.proofs.Common.{◌≡◌, ◌≢◌, ℕ, List, [], ◌∷◌, ◌++◌, Option, Some, None, refl, sym, ap, subst, ◌∙◌}
+use Rattle.std.specs.Prelude.{IfOk, IsOk, Result, Ok, Err, codes}
+use Rattle.std.specs.Fmt.{decimal}
 use Rattle.std.specs.Io.KnownBytes.{Appends}
+use Rattle.std.proofs.lemmas.List.{append_assoc}
+use Rattle.scrib_types.specs.declared.event.Told.{Told}
+use Rattle.scrib_types.specs.declared.event.Told.TheVariants as told
+use Rattle.scrib_types.specs.declared.event.Verdict.TheVariants.{Permitted}
+use Rattle.scrib_core.specs.declared.conversation_steps.Judged.{Judged}
+use Rattle.scrib_core.specs.declared.reply.Refusal.{Refusal}
+use Rattle.scrib_core.specs.declared.reply.Reply.TheVariants as reply
+use Rattle.scrib_core.specs.ReplyValues.{verdict_reply_of}
+use Rattle.scrib_report.specs.Lines.{line_of}
+use Rattle.scrib_report.proofs.EventLine.{verdict_and_end}
 use Rattle.scrib_core.specs.declared.step.Step.{Step}
 use Rattle.scrib_core.specs.declared.reply.Reply.{Reply}
 use Rattle.scrib_core.specs.declared.reply.Reply.TheVariants.{Refused}
@@ -11,9 +23,11 @@ use Rattle.scrib_core.specs.declared.format.Format.TheVariants as format
 use Rattle.scrib_report.specs.ReplyTexts.{reply_format, reply_text}
 use Rattle.scrib_script_reader.specs.declared.item.Item.{Item}
 use Rattle.scrib_script_reader.specs.declared.item.Item.TheVariants as item
+use Rattle.scrib_script_reader.specs.declared.short_line.ShortLine.{ShortLine}
+use Rattle.scrib_script_reader.specs.ShortLines.{short_items}
 use Rattle.scrib_cli.specs.declared.output_mode.OutputMode.{OutputMode}
 use Rattle.scrib_cli.specs.declared.output_mode.OutputMode.TheVariants.{Printed, Silent}
-use Rattle.scrib_cli.specs.Progress.{IsReplyShown, IsCarriedOut, reply_shown, bad_line_shown, end_shown}
+use Rattle.scrib_cli.specs.Progress.{IsReplyShown, IsCarriedOut, IsShortCarriedOut, reply_shown, bad_line_shown, end_shown}
 use Rattle.scrib_script_io.proofs.WriterLemmas.{appends_none}
 
 pub shown_silently : (t : OutputMode) (f : Format) (r : Reply) (was : Option (List ℕ)) → t ≡ Silent → r ≢ Refused OutOfMemory → IsReplyShown t f r was was
@@ -26,6 +40,25 @@ shown_plainly t o r was now e is = subst (λ (u : OutputMode). IsReplyShown u fo
     by : (o : Format) → now ≡ was ++ reply_text o r → now ≡ was ++ reply_text (reply_format o format.Line) r
     by format.Line is = is
     by format.Json is = is
+
+-- the line of a permitted verdict is the reply's text, where the line asks for a line of text
+pub permitted_shown : (f : Format) (id : ℕ) (asked : Result Judged Refusal) (old new : List ℕ) → f ≡ format.Line → IfOk asked (λ j. j.told ≡ told.Judged Permitted) → IsOk asked → new ≡ old ++ (decimal id ++ codes " permitted\n")
+    → new ≡ old ++ reply_text f (verdict_reply_of id asked)
+permitted_shown f id (Ok j) old new plain permitted ok e =
+    let end : List ℕ = 10 ∷ [] in
+    e ∙ verdict_and_end old id j.name j.events
+    ∙ ap (λ (t : Told). old ++ line_of (reply.Judged id j.name j.events t) ++ end) (sym permitted)
+    ∙ append_assoc old (line_of (reply.Judged id j.name j.events j.told)) end
+    ∙ ap (λ (g : Format). old ++ reply_text g (reply.Judged id j.name j.events j.told)) (sym plain)
+permitted_shown f id (Err r) old new plain permitted ok e = cc
+
+-- A short line that spells an item is carried out where the item is.
+pub short_carried_out : (t : OutputMode) (line : ShortLine) (i : Item) (w v : State) (was now : Option (List ℕ)) → short_items line ≡ i ∷ [] → IsCarriedOut t i w v was now → IsShortCarriedOut t line w v was now
+short_carried_out t line i w v was now e done = (Some i, sym e, done)
+
+-- A comment does nothing.
+pub skipped : (t : OutputMode) (line : ShortLine) (w : State) (was : Option (List ℕ)) → short_items line ≡ [] → IsShortCarriedOut t line w w was was
+skipped t line w was e = (None, sym e, (refl, refl))
 
 -- An item that is carried out.
 module _ (t : OutputMode) (i : Item) (w : State) where

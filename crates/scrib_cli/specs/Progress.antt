@@ -11,6 +11,8 @@ use Rattle.scrib_core.specs.declared.format.Format.{Format}
 use Rattle.scrib_core.specs.declared.format.Format.TheVariants as format
 use Rattle.scrib_script_reader.specs.declared.item.Item.{Item}
 use Rattle.scrib_script_reader.specs.declared.item.Item.TheVariants as item
+use Rattle.scrib_script_reader.specs.declared.short_line.ShortLine.{ShortLine}
+use Rattle.scrib_script_reader.specs.ShortLines.{short_items}
 use Rattle.scrib_script_reader.specs.Scripts.{Spells, lines, steps_of, item_list}
 use Rattle.scrib_script_reader.specs.Limits.{of_scripts, IsWithinLimits, IsPast}
 use Rattle.scrib_script_reader.specs.Positions.{HasConsumed, TakesFront}
@@ -155,6 +157,11 @@ IsReplyShown t f r was now = GoesOn t r × Appends was now (reply_shown t f r)
 abbrev pub WasCarriedOut : OutputMode → Option Item → State → State → Option (List ℕ) → Option (List ℕ) → Type 0
 WasCarriedOut t None w v was now = (v ≡ w) × (now ≡ was)
 WasCarriedOut t (Some i) w v was now = IsCarriedOut t i w v was now
+
+-- what a short line spells was carried out, and its output was written
+abbrev pub IsShortCarriedOut : OutputMode → ShortLine → State → State → Option (List ℕ) → Option (List ℕ) → Type 0
+IsShortCarriedOut t line w v was now =
+    (found : Option Item) × (item_list found ≡ short_items line) × WasCarriedOut t found w v was now
 
 -- A front of the bytes was consumed, and spells one item at most. Its output was gathered.
 pub record GathersFront (old new : ScriptRun) (bytes rest : List ℕ) : Type 0 where

@@ -1,18 +1,21 @@
 //! Gathers the texts of an output, so that one write takes many of them.
 
-ghost use Rattle.std.specs.Prelude.{◌≡◌, ◌++◌, [], true, IfErr, OnOk, OnErr};
+ghost use Rattle.std.specs.Prelude.{◌≡◌, ◌++◌, [], true, IfErr, IfOk, IsOk, IsTrue, OnOk, OnErr};
 ghost use Rattle.std.specs.Io.KnownBytes.{Appends};
-ghost use Rattle.scrib_core.specs.ReplyValues.{note_reply_of};
-ghost use Rattle.scrib_report.specs.Parts.{part_of};
+ghost use Rattle.scrib_types.specs.declared.event.Told.TheVariants as told;
+ghost use Rattle.scrib_types.specs.declared.event.Verdict.TheVariants.{Permitted};
+ghost use Rattle.scrib_core.specs.ReplyValues.{note_reply_of, verdict_reply_of};
+ghost use Rattle.scrib_report.specs.Parts.{bad_part, part_of};
 ghost use Rattle.scrib_report.specs.ReplyTexts.{part_text, reply_text};
 ghost use Rattle.scrib_script_io.specs.Faults.{of_output};
 ghost use Rattle.scrib_script_io.specs.Writes.{AppendsPart};
 ghost use Rattle.scrib_cli.specs.Progress.{WritesFront};
 
-use scrib_core::conversation_steps::Noted;
+use scrib_core::conversation_steps::{Judged, Noted};
 use scrib_core::format::Format;
-use scrib_core::reply::{Refusal, Reply, note_reply};
-use scrib_report::line::push_permitted;
+use scrib_core::reply::{Refusal, Reply, note_reply, verdict_reply};
+use scrib_report::event_line::{push_judged_event, push_permitted_verdict};
+use scrib_report::numbered::push_bad_line;
 use scrib_report::part::OutputPart;
 use scrib_report::printing::push_part;
 use scrib_script_io::fault::ScriptFault;
@@ -76,17 +79,48 @@ impl Gathered {
             (self.new.bytes.items ≡ self.old.bytes.items ++ reply_text format (note_reply_of id noted)) }
         ensures err { OnErr result (self.new.bytes.items ≡ self.old.bytes.items) }
     {
-        match noted {
+        match (format, noted) {
             // most replies of a long script
-            Ok(
-                Noted {
-                    place,
-                    told: Told::Judged(Verdict::Permitted),
-                },
-            ) if matches!(format, Format::Line) => {
-                push_permitted(&mut self.bytes, id, place as u64)
-            }
-            noted => self.add_reply(&note_reply(id, noted), format),
+            (
+                Format::Line,
+                Ok(
+                    Noted {
+                        place,
+                        told: Told::Judged(verdict),
+                    },
+                ),
+            ) => push_judged_event(&mut self.bytes, id, place as u64, &verdict),
+            (format, noted) => self.add_reply(&note_reply(id, noted), format),
+        }
+    }
+
+    // Adds the reply to a question about the conversation `id` with this outcome, in this format. Where memory is
+    // refused, the texts stay as they were.
+    pub(crate) fn add_asked(
+        &mut self,
+        id: u32,
+        asked: Result<Judged, Refusal>,
+        format: Format,
+    ) -> Result<(), AllocError>
+        ensures ok { OnOk result
+            (self.new.bytes.items ≡ self.old.bytes.items ++ reply_text format (verdict_reply_of id asked)) }
+        ensures err { OnErr result (self.new.bytes.items ≡ self.old.bytes.items) }
+    {
+        match format {
+            Format::Line if is_permitted(&asked) => push_permitted_verdict(&mut self.bytes, id),
+            _ => self.add_reply(&verdict_reply(id, asked), format),
+        }
+    }
+
+    // Adds the report of a bad line of this number, in this format. Where memory is refused, the texts stay as they were.
+    pub(crate) fn add_bad_line(&mut self, number: u32, format: Format) -> Result<(), AllocError>
+        ensures ok { OnOk result
+            (self.new.bytes.items ≡ self.old.bytes.items ++ part_text format (bad_part number)) }
+        ensures err { OnErr result (self.new.bytes.items ≡ self.old.bytes.items) }
+    {
+        match format {
+            Format::Line => push_bad_line(&mut self.bytes, number),
+            Format::Json => self.add_part(&OutputPart::BadLine(number), format),
         }
     }
 
@@ -127,5 +161,16 @@ impl Gathered {
         } else {
             Ok(())
         }
+    }
+}
+
+// Returns whether the answer is that the log is permitted.
+fn is_permitted(asked: &Result<Judged, Refusal>) -> bool
+    ensures told { IsTrue result → IfOk asked.now (λ judged. judged.told ≡ told.Judged Permitted) }
+    ensures ok { IsTrue result → IsOk asked.now }
+{
+    match asked {
+        Ok(judged) => matches!(judged.told, Told::Judged(Verdict::Permitted)),
+        Err(_) => false,
     }
 }

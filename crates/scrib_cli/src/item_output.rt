@@ -1,25 +1,26 @@
-//! Makes the step of a script's item, or notes an event, and gathers the reply.
+//! Makes the step of an item or of a short line of a script, and gathers the reply.
 
 ghost use Rattle.std.specs.Prelude.{◌≡◌, ◌≢◌, ◌++◌, true, Some, IfErr, OnOk, OnErr};
 ghost use Rattle.scrib_core.specs.Held.{state_of};
 ghost use Rattle.scrib_core.specs.declared.format.Format.TheVariants as format;
-ghost use Rattle.scrib_core.specs.declared.step.Step.TheVariants.{Note};
+ghost use Rattle.scrib_core.specs.declared.step.Step.TheVariants.{Ask, Note};
 ghost use Rattle.scrib_core.specs.declared.reply.Reply.TheVariants.{Refused};
 ghost use Rattle.scrib_core.specs.declared.reply.Refusal.TheVariants.{OutOfMemory};
-ghost use Rattle.scrib_report.specs.Parts.{part_of};
 ghost use Rattle.scrib_script_reader.specs.declared.item.Item.TheVariants as item;
-ghost use Rattle.scrib_cli.specs.Progress.{IsReplyShown, IsCarriedOut, part_shown};
+ghost use Rattle.scrib_cli.specs.Progress.{IsReplyShown, IsCarriedOut, IsShortCarriedOut, bad_line_shown, end_shown};
 ghost use Rattle.scrib_script_io.specs.Faults.{of_output};
 
 use crate::gathered::Gathered;
 use crate::output_mode::OutputMode;
 use scrib_core::format::Format;
 use scrib_core::monitor::Core;
-use scrib_core::reply::{Refusal, Reply, note_reply};
+use scrib_core::reply::{Refusal, Reply, note_reply, verdict_reply};
+use scrib_core::step::Step;
 use scrib_report::part::OutputPart;
 use scrib_report::printing::reply_format;
 use scrib_script_io::fault::ScriptFault;
 use scrib_script_reader::item::Item;
+use scrib_script_reader::short_line::ShortLine;
 use scrib_types::shared_event::SharedEvent;
 
 // Gathers the reply to a step whose line asks for this format. In silent mode fails where the step was refused memory.
@@ -56,20 +57,36 @@ fn check_memory(reply: &Reply) -> Result<(), ScriptFault>
     }
 }
 
-// Gathers the part in the format of the run; in silent mode gathers nothing.
-fn gather_shown(
+// Gathers the report of a bad line of this number; in silent mode gathers nothing.
+fn gather_bad_line(
     gathered: &mut Gathered,
-    part: &OutputPart<'_>,
+    number: u32,
     output_mode: OutputMode,
 ) -> Result<(), ScriptFault>
     ensures ok { OnOk result
-        (gathered.new.bytes.items ≡ gathered.old.bytes.items ++ part_shown output_mode (part_of part.now)) }
+        (gathered.new.bytes.items ≡ gathered.old.bytes.items ++ bad_line_shown output_mode number) }
     ensures err { OnErr result (gathered.new.bytes.items ≡ gathered.old.bytes.items) }
     ensures fault { IfErr result (λ e. of_output e ≡ true) }
 {
     match output_mode {
         OutputMode::Printed(format) => {
-            gathered.add_part(part, format)?;
+            gathered.add_bad_line(number, format)?;
+            Ok(())
+        }
+        OutputMode::Silent => Ok(()),
+    }
+}
+
+// Gathers the report of an end inside a module text; in silent mode gathers nothing.
+fn gather_end(gathered: &mut Gathered, output_mode: OutputMode) -> Result<(), ScriptFault>
+    ensures ok { OnOk result
+        (gathered.new.bytes.items ≡ gathered.old.bytes.items ++ end_shown output_mode) }
+    ensures err { OnErr result (gathered.new.bytes.items ≡ gathered.old.bytes.items) }
+    ensures fault { IfErr result (λ e. of_output e ≡ true) }
+{
+    match output_mode {
+        OutputMode::Printed(format) => {
+            gathered.add_part(&OutputPart::EndOfText, format)?;
             Ok(())
         }
         OutputMode::Silent => Ok(()),
@@ -80,7 +97,7 @@ fn gather_shown(
 //
 // Fails where there is no memory for the text, or in silent mode for the step. The gathered texts are then unchanged.
 #[inline(always)]
-pub(crate) fn gather_note(
+fn gather_note(
     gathered: &mut Gathered,
     core: &mut Core,
     id: u32,
@@ -99,6 +116,76 @@ pub(crate) fn gather_note(
             Ok(())
         }
         OutputMode::Silent => check_memory(&note_reply(id, noted)),
+    }
+}
+
+// Asks for the verdict on the conversation and gathers the reply to this step, whose line asks for no format.
+//
+// Fails where there is no memory for the text, or in silent mode for the step. The gathered texts are then unchanged.
+fn gather_asked(
+    gathered: &mut Gathered,
+    core: &Core,
+    id: u32,
+    output_mode: OutputMode,
+) -> Result<(), ScriptFault>
+    ensures ok { OnOk result (IsCarriedOut output_mode (item.Step format.Line (Ask id))
+        (state_of core.now) (state_of core.now) (Some gathered.old.bytes.items) (Some gathered.new.bytes.items)) }
+    ensures err { OnErr result (gathered.new.bytes.items ≡ gathered.old.bytes.items) }
+    ensures fault { IfErr result (λ e. of_output e ≡ true) }
+{
+    let asked = core.verdict_on(id);
+    match output_mode {
+        OutputMode::Printed(format) => {
+            gathered.add_asked(id, asked, format)?;
+            Ok(())
+        }
+        OutputMode::Silent => check_memory(&verdict_reply(id, asked)),
+    }
+}
+
+// Makes the step, whose line asks for no format, and gathers its reply.
+//
+// Fails where there is no memory for the text, or in silent mode for the step. The gathered texts are then unchanged.
+#[inline(never)]
+fn gather_step(
+    gathered: &mut Gathered,
+    core: &mut Core,
+    step: Step,
+    output_mode: OutputMode,
+) -> Result<(), ScriptFault>
+    ensures ok { OnOk result (IsCarriedOut output_mode (item.Step format.Line step)
+        (state_of core.old) (state_of core.new) (Some gathered.old.bytes.items) (Some gathered.new.bytes.items)) }
+    ensures err { OnErr result (gathered.new.bytes.items ≡ gathered.old.bytes.items) }
+    ensures fault { IfErr result (λ e. of_output e ≡ true) }
+{
+    let reply = core.apply(step);
+    gather_reply(gathered, &reply, Format::Line, output_mode)
+}
+
+// Does what the line spells, and gathers what is written for it.
+//
+// Fails where there is no memory for a text, or in silent mode for the step. The gathered texts are then unchanged.
+#[inline(always)]
+pub(crate) fn gather_short(
+    gathered: &mut Gathered,
+    core: &mut Core,
+    line: ShortLine,
+    output_mode: OutputMode,
+) -> Result<(), ScriptFault>
+    ensures ok { OnOk result (IsShortCarriedOut output_mode line
+        (state_of core.old) (state_of core.new) (Some gathered.old.bytes.items) (Some gathered.new.bytes.items)) }
+    ensures err { OnErr result (gathered.new.bytes.items ≡ gathered.old.bytes.items) }
+    ensures fault { IfErr result (λ e. of_output e ≡ true) }
+{
+    match line {
+        // most lines of a long script
+        ShortLine::Note { id, event } => gather_note(gathered, core, id, event, output_mode),
+        ShortLine::Ask { id } => gather_asked(gathered, core, id, output_mode),
+        ShortLine::Open { id, name } => {
+            gather_step(gathered, core, Step::Open { id, name }, output_mode)
+        }
+        ShortLine::Bad(number) => gather_bad_line(gathered, number, output_mode),
+        ShortLine::Skipped => Ok(()),
     }
 }
 
@@ -121,9 +208,7 @@ pub(crate) fn gather_item(
             let reply = core.apply(step);
             gather_reply(gathered, &reply, asked, output_mode)
         }
-        Item::BadLine(number) => {
-            gather_shown(gathered, &OutputPart::BadLine(number), output_mode)
-        }
-        Item::EndOfText => gather_shown(gathered, &OutputPart::EndOfText, output_mode),
+        Item::BadLine(number) => gather_bad_line(gathered, number, output_mode),
+        Item::EndOfText => gather_end(gathered, output_mode),
     }
 }

@@ -1,7 +1,7 @@
 //! Runs a script over a monitor, piece by piece.
 
 use crate::gathered::Gathered;
-use crate::item_output::{gather_item, gather_note};
+use crate::item_output::{gather_item, gather_short};
 use crate::output_mode::OutputMode;
 use scrib_core::monitor::Core;
 use scrib_script_io::fault::ScriptFault;
@@ -94,23 +94,16 @@ impl ScriptRun {
         ensures fault { IfErr result (λ e. of_script e ≡ true) }
         ensures limit { IfErr result (λ e. e ≡ fault.Read → PassesLimits self.old.script piece.now) }
     {
-        match self.script.next_note(piece) {
-            // most lines of a long script
-            Some((id, event, rest)) => {
-                gather_note(
-                    &mut self.gathered,
-                    &mut self.core,
-                    id,
-                    event,
-                    self.output_mode,
-                )?;
+        match self.script.next_short(piece) {
+            Some((line, rest)) => {
+                gather_short(&mut self.gathered, &mut self.core, line, self.output_mode)?;
                 Ok(rest)
             }
             None => self.gather_other(piece),
         }
     }
 
-    // The same where the next line is none that `next_note` reads.
+    // The same where the next line is none that `next_short` reads.
     #[inline(never)]
     fn gather_other<'a>(&mut self, piece: &'a [u8]) -> Result<&'a [u8], ScriptFault>
         ensures ok { IfOk result (λ rest. GathersFront self.old self.new piece.now rest.now) }

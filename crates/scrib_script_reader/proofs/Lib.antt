@@ -11,4 +11,5 @@ pub mod PositionLemmas
 pub mod MessageTexts
 pub mod LimitLemmas
 pub mod ScriptLemmas
+pub mod ShortLineLemmas
 pub mod Steps

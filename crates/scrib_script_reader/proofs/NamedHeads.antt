@@ -9,8 +9,9 @@ use Rattle.scrib_script_reader.specs.declared.line.Line.TheVariants as line
 use Rattle.scrib_script_reader.specs.declared.head.NamedWord.{NamedWord}
 use Rattle.scrib_script_reader.specs.declared.head.NamedWord.TheVariants as word
 use Rattle.scrib_script_reader.specs.Fields.{fields, IsDottedText}
-use Rattle.scrib_script_reader.specs.NamedHeads.{IsNamedHead, SpellsName, SpellsJoin, SpellsNamed, named_word}
+use Rattle.scrib_script_reader.specs.NamedHeads.{IsNamedHead, SpellsName, SpellsJoin, named_word}
 use Rattle.scrib_script_reader.specs.Says.{Says}
+use Rattle.scrib_script_reader.specs.Steps.{MakesWithId}
 use Rattle.scrib_script_reader.proofs.Heads.{NoBlank, first-field-cut, number-cut, apart, head-of-fields}
 
 open-no-blank : NoBlank (codes "open")
@@ -30,20 +31,30 @@ not-json : (w : NamedWord) → named_word w ≡ codes "json" → ⊥
 not-json word.Open = apart (codes "open") (codes "json") refl
 not-json word.Join = apart (codes "join") (codes "json") refl
 
+-- the word, the id and the fields of the text make the step
+abbrev SpellsNamed : NamedWord → ℕ → List ℕ → Step → Type 0
+SpellsNamed w id text s = MakesWithId (named_word w) id (fields text) s
+
 -- such a line means the step that its word, its id and the fields of its text make
-pub named_says : (bytes text : List ℕ) (w : NamedWord) (id : ℕ) (s : Step) → IsNamedHead bytes w id text → SpellsNamed w id text s → Says bytes (line.Step format.Line s)
+named_says : (bytes text : List ℕ) (w : NamedWord) (id : ℕ) (s : Step) → IsNamedHead bytes w id text → SpellsNamed w id text s → Says bytes (line.Step format.Line s)
 named_says bytes text w id s h made =
     let is = named-fields bytes text w id h in
     (h.0, (fields bytes, (refl, λ more k. not-json w (head-of-fields _ _ _ _ (sym is ∙ k))), rw is (inr (id, h.1.2, made))))
 
 -- a name that the text spells is opened
-pub name_opens : (text : List ℕ) (id : ℕ) (name : List (List ℕ)) → SpellsName text name → SpellsNamed word.Open id text (step.Open id name)
+name_opens : (text : List ℕ) (id : ℕ) (name : List (List ℕ)) → SpellsName text name → SpellsNamed word.Open id text (step.Open id name)
 name_opens text id name s = (refl, refl, (dotted_text name, s.0, (refl, s.1)))
 
+pub open_says : (bytes text : List ℕ) (id : ℕ) (name : List (List ℕ)) → IsNamedHead bytes word.Open id text → SpellsName text name → Says bytes (line.Step format.Line (step.Open id name))
+open_says bytes text id name h s = named_says bytes text word.Open id (step.Open id name) h (name_opens text id name s)
+
 -- a join that the text spells is noted
-pub join_notes : (text : List ℕ) (id : ℕ) (e : Event) → SpellsJoin text e → SpellsNamed word.Join id text (step.Note id e)
+join_notes : (text : List ℕ) (id : ℕ) (e : Event) → SpellsJoin text e → SpellsNamed word.Join id text (step.Note id e)
 join_notes text id e s =
     subst (λ (x : Event). SpellsNamed word.Join id text (step.Note id x)) (sym s.0) (refl, refl, s.1, s.2)
+
+pub join_says : (bytes text : List ℕ) (id : ℕ) (e : Event) → IsNamedHead bytes word.Join id text → SpellsJoin text e → Says bytes (line.Step format.Line (step.Note id e))
+join_says bytes text id e h s = named_says bytes text word.Join id (step.Note id e) h (join_notes text id e s)
 
 -- the only field, where it is a dotted name's text
 pub field_names : (text field : List ℕ) (name : List (List ℕ)) → fields text ≡ field ∷ [] → IsDottedText field name → SpellsName text name

@@ -4,6 +4,8 @@ pub mod Says
 pub mod FirstBytes
 pub mod Heads
 pub mod NamedHeads
+pub mod PlainLines
 pub mod Limits
 pub mod Scripts
+pub mod ShortLines
 pub mod Positions

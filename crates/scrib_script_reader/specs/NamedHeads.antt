@@ -5,11 +5,9 @@ use Rattle.scrib_types.specs.declared.event.Event.{Event}
 use Rattle.scrib_types.specs.declared.event.Event.TheVariants as event
 use Rattle.scrib_types.specs.Names.{is_name}
 use Rattle.scrib_types.specs.Texts.{dotted_text}
-use Rattle.scrib_core.specs.declared.step.Step.{Step}
 use Rattle.scrib_script_reader.specs.declared.head.NamedWord.{NamedWord}
 use Rattle.scrib_script_reader.specs.declared.head.NamedWord.TheVariants as word
 use Rattle.scrib_script_reader.specs.Fields.{IsNumberText, fields, is_dotted}
-use Rattle.scrib_script_reader.specs.Steps.{MakesWithId}
 
 -- the word as it is spelled: `open` or `join`
 abbrev pub named_word : NamedWord → List ℕ
@@ -36,7 +34,3 @@ joining_role (event.Received p q m) = []
 abbrev pub SpellsJoin : List ℕ → Event → Type 0
 SpellsJoin text e =
     (e ≡ event.Join (joining_role e)) × (fields text ≡ joining_role e ∷ []) × IsTrue (is_name (joining_role e))
-
--- the word, the id and the fields of the text make the step
-abbrev pub SpellsNamed : NamedWord → ℕ → List ℕ → Step → Type 0
-SpellsNamed w id text s = MakesWithId (named_word w) id (fields text) s

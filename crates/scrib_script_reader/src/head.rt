@@ -1,6 +1,6 @@
 //! The beginnings of lines that are spelled with single blanks: a word and an id.
 
-ghost use Rattle.std.specs.Prelude.{◌≡◌, ◌<◌, ◌++◌, ◌∷◌, ℕ, List, IfSome, MatchOption, length, slice_index};
+ghost use Rattle.std.specs.Prelude.{◌≡◌, ◌<◌, ◌++◌, ◌∷◌, ℕ, List, IfSome, MatchOption, length, slice_index, codes};
 ghost use Rattle.scrib_script_reader.specs.Fields.{IsNumberText};
 ghost use Rattle.scrib_script_reader.specs.Heads.{IsHead, IsIdBefore, direction_word};
 ghost use Rattle.scrib_script_reader.specs.NamedHeads.{IsNamedHead, named_word};
@@ -28,7 +28,6 @@ pub(crate) enum NamedWord {
 // A line that names a protocol or a role, parsed up to its id.
 #[derive(Clone, Copy)]
 pub(crate) struct NamedHead<'a> {
-    pub word: NamedWord,
     pub id: u32,
     // The bytes after the id and a blank.
     pub text: &'a [u8],
@@ -50,16 +49,17 @@ pub(crate) fn head_of(bytes: &[u8]) -> Option<Head<'_>>
     })
 }
 
-// The word of a name and the id that a line begins with, where it is spelled with single blanks.
-pub(crate) fn named_head_of(bytes: &[u8]) -> Option<NamedHead<'_>>
-    ensures { IfSome result (λ head. IsNamedHead bytes.now head.word head.id head.text.now) }
+// The id of a line that begins with this word, where it is spelled with single blanks.
+#[inline(always)]
+pub(crate) fn named_head_of(bytes: &[u8], word: NamedWord) -> Option<NamedHead<'_>>
+    ensures { IfSome result (λ head. IsNamedHead bytes.now word head.id head.text.now) }
 {
     if bytes.len() > MAX_LINE_BYTES {
         return None;
     }
-    let (word, rest) = named_word_of(bytes)?;
+    let rest = after_named_word(bytes, word)?;
     let (id, text) = id_of(rest)?;
-    Some(NamedHead { word, id, text })
+    Some(NamedHead { id, text })
 }
 
 // The direction that a line begins with, and the bytes after the blank.
@@ -73,13 +73,31 @@ fn direction_of(bytes: &[u8]) -> Option<(Direction, &[u8])>
     }
 }
 
-// The word of a name that a line begins with, and the bytes after the blank.
-fn named_word_of(bytes: &[u8]) -> Option<(NamedWord, &[u8])>
-    ensures { IfSome result (λ cut. bytes.now ≡ named_word cut.0 ++ 32 ∷ cut.1.now) }
+// The bytes after the word and a blank, where a line begins with these.
+#[inline(always)]
+fn after_named_word(bytes: &[u8], word: NamedWord) -> Option<&[u8]>
+    ensures { IfSome result (λ rest. bytes.now ≡ named_word word ++ 32 ∷ rest.now) }
+{
+    match word {
+        NamedWord::Open => after_open(bytes),
+        NamedWord::Join => after_join(bytes),
+    }
+}
+
+fn after_open(bytes: &[u8]) -> Option<&[u8]>
+    ensures { IfSome result (λ rest. bytes.now ≡ codes "open" ++ 32 ∷ rest.now) }
 {
     match bytes {
-        [b'o', b'p', b'e', b'n', b' ', rest @ ..] => Some((NamedWord::Open, rest)),
-        [b'j', b'o', b'i', b'n', b' ', rest @ ..] => Some((NamedWord::Join, rest)),
+        [b'o', b'p', b'e', b'n', b' ', rest @ ..] => Some(rest),
+        _ => None,
+    }
+}
+
+fn after_join(bytes: &[u8]) -> Option<&[u8]>
+    ensures { IfSome result (λ rest. bytes.now ≡ codes "join" ++ 32 ∷ rest.now) }
+{
+    match bytes {
+        [b'j', b'o', b'i', b'n', b' ', rest @ ..] => Some(rest),
         _ => None,
     }
 }

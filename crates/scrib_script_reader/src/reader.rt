@@ -2,15 +2,16 @@
 
 ghost use Rattle.std.specs.Prelude.{IfOk, IfSome};
 ghost use Rattle.scrib_core.specs.declared.format.Format.TheVariants as format;
-ghost use Rattle.scrib_core.specs.declared.step.Step.TheVariants.{Note};
+ghost use Rattle.scrib_core.specs.declared.step.Step.TheVariants.{Note, Open};
 ghost use Rattle.scrib_script_reader.specs.Says.{Says};
-ghost use Rattle.scrib_script_reader.specs.NamedHeads.{SpellsNamed};
-ghost use Rattle.scrib_script_reader.specs.declared.head.NamedWord.TheVariants.{Open, Join};
+ghost use Rattle.scrib_script_reader.specs.PlainLines.{IsShort};
 ghost use Rattle.scrib_script_reader.specs.declared.line.Line.TheVariants as line;
 
 use crate::event_cache::ExchangeEvents;
 use crate::head::{NamedWord, head_of, named_head_of};
 use crate::line::{Line, line_of};
+use crate::plain_line::plain_line_of;
+use crate::short_line::ShortLine;
 use crate::text_cache::TextCache;
 use scrib_core::format::Format;
 use scrib_core::step::Step;
@@ -71,43 +72,75 @@ impl Reader {
         Ok(Some((head.id, event)))
     }
 
-    // The meaning of a line that does not begin as one of an exchange.
-    #[tactic(auto, using(crate::proofs::NamedHeads::named_says))]
-    fn other_line(&mut self, bytes: &[u8]) -> Result<Line, AllocError>
-        ensures { IfOk result (Says bytes.now) }
+    // The line of this number, given without its end, where it is read without an `Item`. None where memory is refused.
+    #[inline(always)]
+    pub(crate) fn short_line(&mut self, bytes: &[u8], number: u32) -> Option<ShortLine>
+        ensures { IfSome result (IsShort bytes.now number) }
     {
-        let Some(head) = named_head_of(bytes) else {
-            return line_of(self.alloc, bytes);
+        let Ok(found) = self.exchange(bytes) else {
+            return None;
         };
-        let step = match head.word {
-            NamedWord::Open => self.opening(head.id, head.text)?,
-            NamedWord::Join => self.joining(head.id, head.text)?,
-        };
-        match step {
-            Some(step) => Ok(Line::Step(Format::Line, step)),
-            None => line_of(self.alloc, bytes),
+        match found {
+            Some((id, event)) => Some(ShortLine::Note { id, event }),
+            None => self.other_short_line(bytes, number),
         }
     }
 
-    // The step that opens a conversation with this id, if the text is a protocol's name.
-    #[tactic(auto, using(crate::proofs::NamedHeads::name_opens))]
-    fn opening(&mut self, id: u32, text: &[u8]) -> Result<Option<Step>, AllocError>
-        ensures { IfOk result (λ found. IfSome found (SpellsNamed Open id text.now)) }
+    // The same at a line that does not begin as one of an exchange.
+    #[inline(never)]
+    fn other_short_line(&mut self, bytes: &[u8], number: u32) -> Option<ShortLine>
+        ensures { IfSome result (IsShort bytes.now number) }
     {
-        let Some(name) = self.names.name(text)? else {
-            return Ok(None);
-        };
-        Ok(Some(Step::Open { id, name }))
+        if let Some(plain) = plain_line_of(bytes) {
+            return Some(plain.numbered(number));
+        }
+        if let Ok(Some((id, event))) = self.join(bytes) {
+            return Some(ShortLine::Note { id, event });
+        }
+        match self.opening(bytes) {
+            Ok(Some((id, name))) => Some(ShortLine::Open { id, name }),
+            _ => None,
+        }
     }
 
-    // The step that notes the join of a role, if the text is its name.
-    #[tactic(auto, using(crate::proofs::NamedHeads::join_notes))]
-    fn joining(&mut self, id: u32, text: &[u8]) -> Result<Option<Step>, AllocError>
-        ensures { IfOk result (λ found. IfSome found (SpellsNamed Join id text.now)) }
+    // The meaning of a line that does not begin as one of an exchange.
+    fn other_line(&mut self, bytes: &[u8]) -> Result<Line, AllocError>
+        ensures { IfOk result (Says bytes.now) }
     {
-        let Some(event) = self.joins.join(text)? else {
+        if let Some((id, name)) = self.opening(bytes)? {
+            return Ok(Line::Step(Format::Line, Step::Open { id, name }));
+        }
+        if let Some((id, event)) = self.join(bytes)? {
+            return Ok(Line::Step(Format::Line, Step::Note { id, event }));
+        }
+        line_of(self.alloc, bytes)
+    }
+
+    // The id and the name of a line that is spelled as an opening with single blanks around its id, if it is.
+    fn opening(&mut self, bytes: &[u8]) -> Result<Option<(u32, Dotted)>, AllocError>
+        ensures { IfOk result (λ found. IfSome found
+            (λ opened. Says bytes.now (line.Step format.Line (Open opened.0 opened.1)))) }
+    {
+        let Some(head) = named_head_of(bytes, NamedWord::Open) else {
             return Ok(None);
         };
-        Ok(Some(Step::Note { id, event }))
+        let Some(name) = self.names.name(head.text)? else {
+            return Ok(None);
+        };
+        Ok(Some((head.id, name)))
+    }
+
+    // The id and the event of a line that is spelled as a join with single blanks around its id, if it is.
+    fn join(&mut self, bytes: &[u8]) -> Result<Option<(u32, SharedEvent)>, AllocError>
+        ensures { IfOk result (λ found. IfSome found
+            (λ note. Says bytes.now (line.Step format.Line (Note note.0 note.1)))) }
+    {
+        let Some(head) = named_head_of(bytes, NamedWord::Join) else {
+            return Ok(None);
+        };
+        let Some(event) = self.joins.join(head.text)? else {
+            return Ok(None);
+        };
+        Ok(Some((head.id, event)))
     }
 }

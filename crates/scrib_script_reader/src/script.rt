@@ -7,8 +7,8 @@ use crate::item::Item;
 use crate::kept_bytes::{KEPT_TEXT_BYTES, KeptText, append_up_to, next_lf, without_cr};
 use crate::limits::Limits;
 use crate::reader::Reader;
+use crate::short_line::ShortLine;
 use crate::spelling::{is_text_end, last_spelling_of, put_of, spell_text_line, spelling_of};
-use scrib_types::shared_event::SharedEvent;
 use std::alloc::{AllocError, Global};
 
 // The bytes that are kept of a line outside module texts: its limit, one byte to see that it is longer, and a CR.
@@ -40,9 +40,7 @@ impl Script {
     ghost use Rattle.scrib_script_reader.specs.Scripts.{NoLf, item_list};
     ghost use Rattle.scrib_script_reader.specs.Limits.{of_scripts};
     ghost use Rattle.scrib_script_reader.specs.Positions.{as_text, Holds, TakesBytes, TakesFront, IsOneLine, IsPastWith, PassesLimits, EndSpells, LineEnded};
-    ghost use Rattle.scrib_core.specs.declared.format.Format.TheVariants as format;
-    ghost use Rattle.scrib_core.specs.declared.step.Step.TheVariants.{Note};
-    ghost use Rattle.scrib_script_reader.specs.declared.item.Item.TheVariants as item;
+    ghost use Rattle.scrib_script_reader.specs.ShortLines.{short_items};
     ghost use Rattle.scrib_script_reader.specs.declared.fault.SpellFault.TheVariants as fault;
 
     /// Returns the state before the first byte of a script of at most 16,777,216 lines and 1,099,511,627,776 bytes.
@@ -108,16 +106,16 @@ impl Script {
         Ok((None, &[]))
     }
 
-    /// Consumes the next line, where the piece has all of it and it is spelled as an exchange with single blanks around
-    /// its id.
+    /// Consumes the next line, where the piece has all of it and it is read without an `Item`.
     ///
-    /// Returns the id and the event of the step `Note`, whose reply the line asks for as a line of text, and the bytes
-    /// that are left. Returns none, and consumes nothing, at any other line, past the limits and where memory is refused:
-    /// `next_item` reads these.
-    pub fn next_note<'a>(&mut self, piece: &'a [u8]) -> Option<(u32, SharedEvent, &'a [u8])>
+    /// These are comments, and exchanges, joins, openings and asks that are spelled with single blanks. Bad lines are
+    /// among them where they are too long or begin as no line does. Returns the line, and the bytes that are left.
+    /// Returns none, and consumes nothing, at any other line, past the limits and where memory is refused: `next_item`
+    /// reads these.
+    pub fn next_short<'a>(&mut self, piece: &'a [u8]) -> Option<(ShortLine, &'a [u8])>
         ensures taken { MatchOption result (TakesFront self.old self.new piece.now piece.now [])
-            (λ r. TakesFront self.old self.new piece.now r.2.now (item.Step format.Line (Note r.0 r.1) ∷ [])) }
-        ensures shorter { IfSome result (λ r. length r.2.now < length piece.now) }
+            (λ r. TakesFront self.old self.new piece.now r.1.now (short_items r.0)) }
+        ensures shorter { IfSome result (λ r. length r.1.now < length piece.now) }
     {
         if self.text.is_some() || !self.line.is_empty() {
             return None;
@@ -126,12 +124,11 @@ impl Script {
         let Ok(bytes) = self.counted(at + 1) else {
             return None;
         };
-        let Ok(Some((id, event))) = self.reader.exchange(without_cr(&piece[..at])) else {
-            return None;
-        };
+        let line = without_cr(&piece[..at]);
+        let short = self.reader.short_line(line, self.lines + 1)?;
         self.bytes = bytes;
         self.lines += 1;
-        Some((id, event, &piece[at + 1..]))
+        Some((short, &piece[at + 1..]))
     }
 
     /// Returns the item of the last line, which no LF ended, or `EndOfText` inside a module text.

@@ -10,8 +10,8 @@ returns-in-Step-clause-ok c =
 
 pub returns-in-BadLine-clause-ok : goal.returns-in-BadLine-clause-ok
 returns-in-BadLine-clause-ok c =
-    on_ok_weaker c.gather_shown.result (bad_line_written c.args.output_mode c.args.item (state_of c.args.core.now) (Some c.args.gathered.now.bytes.items) (Some c.gather_shown.new.gathered.bytes.items) c.in-BadLine.number c.in-BadLine.is) c.gather_shown.ensures.ok
+    on_ok_weaker c.gather_bad_line.result (bad_line_written c.args.output_mode c.args.item (state_of c.args.core.now) (Some c.args.gathered.now.bytes.items) (Some c.gather_bad_line.new.gathered.bytes.items) c.in-BadLine.number c.in-BadLine.is) c.gather_bad_line.ensures.ok
 
 pub returns-in-EndOfText-clause-ok : goal.returns-in-EndOfText-clause-ok
 returns-in-EndOfText-clause-ok c =
-    on_ok_weaker c.gather_shown-in-EndOfText.result (end_written c.args.output_mode c.args.item (state_of c.args.core.now) (Some c.args.gathered.now.bytes.items) (Some c.gather_shown-in-EndOfText.new.gathered.bytes.items) c.in-EndOfText.is) c.gather_shown-in-EndOfText.ensures.ok
+    on_ok_weaker c.gather_end.result (end_written c.args.output_mode c.args.item (state_of c.args.core.now) (Some c.args.gathered.now.bytes.items) (Some c.gather_end.new.gathered.bytes.items) c.in-EndOfText.is) c.gather_end.ensures.ok
