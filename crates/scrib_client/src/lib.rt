@@ -2,6 +2,7 @@
 //! the service's replies.
 #![tactic(auto)]
 
+mod pass_hints;
 pub mod passes;
 pub mod service_reply;
 pub mod steps;

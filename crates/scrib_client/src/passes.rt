@@ -2,6 +2,7 @@
 
 ghost use Rattle.scrib_client.specs.ConnectionPasses.{AreOwn};
 
+use crate::pass_hints::PassHints;
 use indexmap::IndexMap;
 use scrib_core::reply::Refusal;
 use scrib_shards::batch_notes::Batch;
@@ -18,8 +19,8 @@ use std::sync::Wait;
 #[derive(Drop)]
 pub struct Passes {
     by_id: IndexMap<u32, Pass>,
-    // The index of the pass that was used last, as a hint.
-    hint: usize,
+    // Where the pass to a conversation is looked up first.
+    hints: PassHints,
     pub ghost own: { AreOwn by_id.entries },
 }
 
@@ -37,7 +38,7 @@ impl Passes {
     {
         Passes {
             by_id: IndexMap::new(alloc),
-            hint: 0,
+            hints: PassHints::new(),
         }
     }
 
@@ -152,18 +153,19 @@ impl Passes {
             Some(at) => at,
             None => self.connect(rt, service, id)?,
         };
-        self.hint = at;
+        self.hints.set(id, at);
         Ok(at)
     }
 
-    // The index of the pass of the conversation, if there is one. The hint is tried first.
+    // The index of the pass of the conversation, if there is one. The hinted index is tried first.
     #[inline(always)]
     fn index_at_hint(&self, id: u32) -> Option<usize>
         ensures found { IfSome result (λ at. slice_get (keys self.now.by_id) at ≡ Some id) }
         ensures absent { result ≡ None → lookup (nat_eq id) self.now.by_id.entries ≡ None }
     {
-        match self.by_id.get_index(self.hint) {
-            Some((key, _)) if *key == id => Some(self.hint),
+        let hint = self.hints.index(id);
+        match self.by_id.get_index(hint) {
+            Some((key, _)) if *key == id => Some(hint),
             _ => self.by_id.get_index_of(&id),
         }
     }

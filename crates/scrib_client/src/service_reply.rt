@@ -10,9 +10,11 @@ use scrib_core::format::Format;
 use scrib_core::reply::{Edit, Refusal, Reply};
 use scrib_library::changes::Changes;
 use scrib_library::fault::EditFault;
+use scrib_report::event_line::push_judged_event;
 use scrib_report::part::OutputPart;
 use scrib_report::printing::push_part;
 use scrib_shards::pass_calls::{PassRefusal, PassReply};
+use scrib_shards::step_results::Noted;
 use scrib_types::event::Told;
 use scrib_types::profile::Profile;
 use std::alloc::AllocError;
@@ -153,4 +155,32 @@ pub fn push_service_reply(
     ensures { OnOk result (lines.new.items ≡ lines.old.items ++ service_reply_text format service_reply.now) }
 {
     push_part(lines, &part_of_reply(service_reply), format)
+}
+
+/// Appends the text of the reply to a note of this outcome in the conversation `id`, in this format, and an LF.
+///
+/// # Errors
+/// `AllocError` where memory is refused.
+#[inline(always)]
+pub fn push_noted_reply(
+    lines: &mut Vec<u8>,
+    id: u32,
+    outcome: PassReply,
+    format: Format,
+) -> Result<(), AllocError>
+    ensures { OnOk result (lines.new.items ≡ lines.old.items ++ service_reply_text format (noted_reply id outcome)) }
+{
+    match (format, outcome) {
+        // most replies of a long script
+        (
+            Format::Line,
+            Ok(
+                Noted {
+                    place,
+                    told: Told::Judged(verdict),
+                },
+            ),
+        ) => push_judged_event(lines, id, place as u64, &verdict),
+        (format, outcome) => push_service_reply(lines, &noted(id, outcome), format),
+    }
 }

@@ -1,10 +1,14 @@
 //! A connection to a service.
 
+ghost use Rattle.std.specs.Prelude.{◌≡◌, ◌<◌, true, vec_len, vec_capacity};
+
 use crate::common::Common;
 use crate::notices::name_shards;
 use crossbeam_channel::Sender;
 use scrib_client::passes::Passes;
-use scrib_client::service_reply::{ServiceReply, is_change, is_noted, noted, push_service_reply};
+use scrib_client::service_reply::{
+    ServiceReply, is_change, is_noted, push_noted_reply, push_service_reply,
+};
 use scrib_client::steps::make_step;
 use scrib_core::format::Format;
 use scrib_core::step::Step;
@@ -115,8 +119,9 @@ impl<'a> Connection<'a> {
     /// Makes the step of an item, which is at this line of the script, and appends the line of its reply.
     ///
     /// For a bad line, and for an end inside a module text, it appends the line that reports this. A turn or a question
-    /// whose line asks for JSON is a bad line. Successive events of one conversation are buffered and noted together,
-    /// so that the service's locks are taken once for many. `flush` notes those that are left.
+    /// whose line asks for JSON is a bad line. Events of one conversation that follow one another are noted together,
+    /// so that the service's locks are taken once for many: all but the first are buffered. `flush` notes those that are
+    /// left.
     ///
     /// # Errors
     /// `OutOfMemory` where memory is refused.
@@ -131,7 +136,7 @@ impl<'a> Connection<'a> {
         ensures fault { IfErr result (λ e. e ≡ fault.OutOfMemory) }
     {
         match item {
-            Item::Step(Format::Line, Step::Note { id, event }) => self.buffer(rt, id, event),
+            Item::Step(Format::Line, Step::Note { id, event }) => self.submit_note(rt, id, event),
             item => self.submit_alone(rt, item, number),
         }
     }
@@ -149,7 +154,21 @@ impl<'a> Connection<'a> {
     ///
     /// # Errors
     /// `OutOfMemory` where memory is refused.
+    #[inline(always)]
     pub(crate) fn flush(&mut self, rt: &impl Wait) -> Result<(), ScriptFault>
+        ensures took { OnOk result (TakesItems self.old self.new []) }
+        ensures none { OnOk result (self.new.pending.items ≡ []) }
+        ensures fault { IfErr result (λ e. e ≡ fault.OutOfMemory) }
+    {
+        if self.pending.is_empty() {
+            return Ok(());
+        }
+        self.flush_some(rt)
+    }
+
+    // As `flush`, where an event is buffered.
+    #[inline(never)]
+    fn flush_some(&mut self, rt: &impl Wait) -> Result<(), ScriptFault>
         ensures took { OnOk result (TakesItems self.old self.new []) }
         ensures none { OnOk result (self.new.pending.items ≡ []) }
         ensures fault { IfErr result (λ e. e ≡ fault.OutOfMemory) }
@@ -177,34 +196,44 @@ impl<'a> Connection<'a> {
         }
     }
 
-    // Buffers the event. Where memory for that is refused, it is noted now.
+    /// As `submit`, for the step that notes the event in the conversation `id`, whose line asks for no format.
+    ///
+    /// # Errors
+    /// `OutOfMemory` where memory is refused.
     #[inline(always)]
-    fn buffer(&mut self, rt: &impl Wait, id: u32, event: SharedEvent) -> Result<(), ScriptFault>
+    pub(crate) fn submit_note(
+        &mut self,
+        rt: &impl Wait,
+        id: u32,
+        event: SharedEvent,
+    ) -> Result<(), ScriptFault>
         ensures took { OnOk result (TakesItems self.old self.new (note_items id (event ∷ []))) }
         ensures fault { IfErr result (λ e. e ≡ fault.OutOfMemory) }
     {
-        self.turn_to(rt, id)?;
-        if self.pending.reserve(1).is_err() {
-            self.flush(rt)?;
-            return self.note_now(rt, id, event);
+        // Where conversations take turns, an event is alone, and is not put into a buffer for one.
+        if self.pending_id != id {
+            return self.flush_and_note(rt, id, event);
+        }
+        if !make_room(&mut self.pending) {
+            return self.flush_and_note(rt, id, event);
         }
         self.pending.push_reserved(event);
         Ok(())
     }
 
-    // Prepares the buffer for an event of the conversation `id`. Flushes it if it is full or of another conversation.
-    #[inline(always)]
-    fn turn_to(&mut self, rt: &impl Wait, id: u32) -> Result<(), ScriptFault>
-        ensures took { OnOk result (TakesItems self.old self.new []) }
-        ensures pending_id { OnOk result (self.new.pending_id ≡ id) }
+    // Notes the buffered events, and then this one in the conversation `id`.
+    fn flush_and_note(
+        &mut self,
+        rt: &impl Wait,
+        id: u32,
+        event: SharedEvent,
+    ) -> Result<(), ScriptFault>
+        ensures took { OnOk result (TakesItems self.old self.new (note_items id (event ∷ []))) }
         ensures fault { IfErr result (λ e. e ≡ fault.OutOfMemory) }
     {
-        if self.pending_id == id && self.pending.len() < MAX_PENDING {
-            return Ok(());
-        }
         self.flush(rt)?;
         self.pending_id = id;
-        Ok(())
+        self.note_now(rt, id, event)
     }
 
     // Notes the events of the conversation by one call.
@@ -229,13 +258,18 @@ impl<'a> Connection<'a> {
         Ok(())
     }
 
-    // Appends the line of the reply to a note in the conversation.
+    // Appends the line of the reply to a note in the conversation, and counts a noted event.
     #[inline(always)]
     fn append_noted(&mut self, id: u32, reply: PassReply) -> Result<(), ScriptFault>
         ensures added { OnOk result (Adds self.old self.new (replied format.Line (noted_reply id reply) ∷ [])) }
         ensures fault { IfErr result (λ e. e ≡ fault.OutOfMemory) }
     {
-        self.append_reply(&noted(id, reply), Format::Line)
+        if reply.is_ok() {
+            self.noted = self.noted.saturating_add(1);
+        }
+        let format = reply_format(self.format, Format::Line);
+        push_noted_reply(&mut self.lines, id, reply, format)?;
+        Ok(())
     }
 
     // Notes the events of the conversation one by one.
@@ -342,4 +376,13 @@ impl<'a> Connection<'a> {
             });
         }
     }
+}
+
+// Reserves room in the buffer for one more event. Returns false where it is full or memory is refused.
+#[inline(always)]
+fn make_room(pending: &mut Vec<SharedEvent>) -> bool
+    ensures room { result ≡ true → vec_len pending.new < vec_capacity pending.new }
+    ensures items { pending.new.items ≡ pending.old.items }
+{
+    pending.len() < MAX_PENDING && pending.reserve(1).is_ok()
 }
