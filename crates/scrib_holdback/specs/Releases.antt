@@ -1,0 +1,134 @@
+-- Releases, one by one. Only contracts of private functions cite this file.
+use Rattle.std.specs.Prelude.{◌≡◌, ℕ, ◌+◌, ◌<◌, ◌≤◌, Bool, true, false, List, [], ◌∷◌, ◌++◌, length, filter, slice_get, Some}
+use Rattle.std.specs.List.{AllByRecursion, list_any}
+use Rattle.std.specs.Str.{bytes_eq}
+use Rattle.scrib_types.specs.declared.event.Event.{Event}
+use Rattle.scrib_types.specs.declared.event.Event.TheVariants.{Join, Sent, Received}
+use Rattle.scrib_types.specs.Logs.{subject_of}
+use Rattle.scrib_types.specs.Queues.{sent, received}
+use Rattle.scrib_holdback.specs.declared.flights.Flight.{Flight}
+use Rattle.scrib_holdback.specs.Reorderings.{is_own}
+use Rattle.scrib_holdback.specs.Holdings.{Holding, is_between, in_flight}
+
+-- by the messages in flight the event may happen next
+abbrev pub IsReady : List Flight → Event → Type 0
+IsReady flights (Join r) = Unit {0}
+IsReady flights (Sent p q m) = Unit {0}
+IsReady flights (Received p q m) = 0 < in_flight p q flights
+
+-- the pair of a send has a flight
+abbrev pub HasFlight : List Flight → Event → Type 0
+HasFlight flights (Join r) = Unit {0}
+HasFlight flights (Sent p q m) = list_any (is_between p q) flights ≡ true
+HasFlight flights (Received p q m) = Unit {0}
+
+-- where the first flights have one for the event, so have the second
+abbrev pub KeepsFlights : List Flight → List Flight → Type 0
+KeepsFlights old new = (e : Event) → HasFlight old e → HasFlight new e
+
+-- the event changes what is in flight like this
+abbrev pub ChangesFlights : Event → List Flight → List Flight → Type 0
+ChangesFlights e old new =
+    (p q : List ℕ)
+    → in_flight p q new + length (received p q (e ∷ [])) ≡ in_flight p q old + length (sent p q (e ∷ []))
+
+-- the same messages are in flight
+abbrev pub SameFlights : List Flight → List Flight → Type 0
+SameFlights old new = (p q : List ℕ) → in_flight p q new ≡ in_flight p q old
+
+-- the items of the role, in order
+abbrev pub own_items : {A : Type 0} → (A → Event) → List ℕ → List A → List A
+own_items event r items = filter (λ x. is_own r (event x)) items
+
+-- the first waiting item of the role is ready
+pub record HasDue {A : Type 0} (event : A → Event) (r : List ℕ) (h : Holding A) : Type 0 where
+  pub x : A
+  pub others : List A
+  pub first : own_items event r h.waiting ≡ x ∷ others
+  pub ready : IsReady h.flights (event x)
+
+-- the first waiting item of the role at this place is ready
+pub record IsDueAt {A : Type 0} (event : A → Event) (h : Holding A) (place : ℕ) : Type 0 where
+  pub x : A
+  pub role : slice_get h.roles place ≡ Some (subject_of (event x))
+  pub others : List A
+  pub first : own_items event (subject_of (event x)) h.waiting ≡ x ∷ others
+  pub ready : IsReady h.flights (event x)
+
+-- nothing of the event's role waits, and the event is ready
+pub record IsNext {A : Type 0} (event : A → Event) (e : Event) (h : Holding A) : Type 0 where
+  pub none : own_items event (subject_of e) h.waiting ≡ []
+  pub ready : IsReady h.flights e
+
+-- no role has an item that may be released
+abbrev pub IsQuiet : {A : Type 0} → (A → Event) → Holding A → Type 0
+IsQuiet event h = (r : List ℕ) → HasDue event r h → ⊥
+
+-- the arrival waits behind the others
+pub record IsAppended {A : Type 0} (event : A → Event) (x : A) (old new : Holding A) : Type 0 where
+  pub waiting : new.waiting ≡ old.waiting ++ x ∷ []
+  pub flights : SameFlights old.flights new.flights
+
+-- the same waits, and the same messages are in flight
+pub record IsSameHolding {A : Type 0} (old new : Holding A) : Type 0 where
+  pub waiting : new.waiting ≡ old.waiting
+  pub flights : SameFlights old.flights new.flights
+
+-- the first waiting item of a role is released
+pub record IsReleased {A : Type 0} (event : A → Event) (old new : Holding A) (x : A) : Type 0 where
+  pub earlier : List A
+  pub later : List A
+  pub was : old.waiting ≡ earlier ++ x ∷ later
+  pub first : own_items event (subject_of (event x)) earlier ≡ []
+  pub now : new.waiting ≡ earlier ++ later
+  pub ready : IsReady old.flights (event x)
+  pub flights : ChangesFlights (event x) old.flights new.flights
+
+-- the arrival, which is next, is released without waiting
+pub record IsPassed {A : Type 0} (event : A → Event) (x : A) (old new : Holding A) : Type 0 where
+  pub next : IsNext event (event x) old
+  pub waiting : new.waiting ≡ old.waiting
+  pub flights : ChangesFlights (event x) old.flights new.flights
+
+-- these items are released, one after another
+pub data Releases {A : Type 0} (event : A → Event) (old : Holding A) : List A → Holding A → Type 0 where
+  nothing : Releases event old [] old
+  one_more : {given : List A} {mid new : Holding A} (x : A) → Releases event old given mid
+      → IsReleased event mid new x → Releases event old (given ++ x ∷ []) new
+
+-- an item is released, and put behind the others
+pub record IsReleasedOnto {A : Type 0} (event : A → Event) (old new : Holding A) (released now : List A) : Type 0 where
+  pub x : A
+  pub step : IsReleased event old new x
+  pub appended : now ≡ released ++ x ∷ []
+
+-- the event is a send to the role
+abbrev pub is_send_to : List ℕ → Event → Bool
+is_send_to r (Join s) = false
+is_send_to r (Sent p q m) = bytes_eq r q
+is_send_to r (Received p q m) = false
+
+-- some of the items is a send to the role
+abbrev pub sends_to : {A : Type 0} → (A → Event) → List ℕ → List A → Bool
+sends_to event r items = list_any (λ x. is_send_to r (event x)) items
+
+-- each role with an item that may be released is the receiver of one of these
+abbrev pub OnlyReceivers : {A : Type 0} → (A → Event) → List A → Holding A → Type 0
+OnlyReceivers event items h = (r : List ℕ) → HasDue event r h → sends_to event r items ≡ true
+
+-- the role at this place has no item that may be released
+abbrev pub IsQuietAt : {A : Type 0} → (A → Event) → ℕ → Holding A → Type 0
+IsQuietAt event place h = (r : List ℕ) → slice_get h.roles place ≡ Some r → HasDue event r h → ⊥
+
+-- items are released, and put behind the others
+pub record IsDrained {A : Type 0} (event : A → Event) (old new : Holding A) (released now : List A) : Type 0 where
+  pub given : List A
+  pub appended : now ≡ released ++ given
+  pub releases : Releases event old given new
+  pub roles : new.roles ≡ old.roles
+
+-- the bounds that a holdback keeps
+pub record IsSound {A : Type 0} (event : A → Event) (waiting : List A) (flights : List Flight) (pushed : ℕ)
+    : Type 0 where
+  pub counted : (p q : List ℕ) → in_flight p q flights + length waiting ≤ pushed
+  pub paired : AllByRecursion (λ x. HasFlight flights (event x)) waiting

@@ -1,0 +1,229 @@
+//! A holdback: what arrives waits until it may have happened.
+
+ghost use Rattle.std.specs.Prelude.{◌≡◌, ◌+◌, ◌<◌, ◌≤◌, ◌++◌, ◌∷◌, ◌↔◌, ℕ, true, List, [], IfOk, IsFalse, IsTrue, OnOk, OnErr, MatchOption, Some, drop, length, slice_get, vec_capacity, vec_len};
+ghost use Rattle.scrib_holdback.specs.FalseAlarms.{RaisesNoFalseAlarm};
+ghost use Rattle.scrib_holdback.specs.HoldBack.{IsHeldBack};
+ghost use Rattle.scrib_holdback.specs.Holdings.{IsAfter, IsPushed, IsUnchanged};
+ghost use Rattle.scrib_holdback.specs.Releases.{HasDue, IsAppended, IsDrained, IsDueAt, IsNext, IsPassed, IsQuiet, IsQuietAt, IsReleasedOnto, IsSameHolding, OnlyReceivers, is_send_to};
+
+use crate::arrival::Arrival;
+use crate::flights::{Flight, count, is_ready, reserve};
+use crate::waiting::Waiting;
+use scrib_types::event::Event;
+use std::alloc::{AllocError, Global};
+use std::marker::Model;
+
+/// Holds arrivals of one conversation back. An arrival is released once it is the first of its role that waits, and
+/// is a join, a send, or the reception of a message that a released send sent. What was released, and then what still
+/// waits, raises no false alarm: it is permitted exactly where some order of the arrivals is that the roles may have
+/// lived through.
+///
+/// Contracts see the roles that had to wait, what waits, and the number of messages in flight on each pair.
+#[derive(Drop)]
+pub struct Holdback<A: Arrival> {
+    waiting: Waiting<A>,
+    flights: Vec<Flight>,
+}
+
+impl<A: Arrival> Model for Holdback<A> {
+    ghost use Rattle.scrib_holdback.specs.Holdings.{Holding};
+    ghost use Rattle.scrib_holdback.specs.Codes.{holding_code};
+    ghost use Rattle.scrib_holdback.specs.Releases.{IsSound};
+
+    ghost Value = { Holding A };
+
+    ghost coded = { holding_code A.code };
+
+    ghost view = { λ h. record { roles = h.waiting.roles; waiting = h.waiting.items; flights = h.flights.items } };
+
+    ghost invariant = { λ h. IsSound A.event h.waiting.items h.flights.items h.waiting.pushed };
+}
+
+impl<A: Arrival> Holdback<A> {
+    /// A holdback before the first arrival.
+    pub fn new(alloc: Global) -> Holdback<A>
+        ensures { IsAfter A.event [] [] result }
+    {
+        Holdback {
+            waiting: Waiting::new(alloc),
+            flights: Vec::new(alloc),
+        }
+    }
+
+    /// Takes the next arrival, and puts what is released then behind what `released` has.
+    ///
+    /// # Errors
+    /// `AllocError` where memory or a reference count refuses it. Nothing is released, and the arrival is dropped.
+    pub fn push(&mut self, arrival: A, released: &mut Vec<A>) -> Result<(), AllocError>
+        ensures ok { OnOk result (IsPushed A.event arrival self.old self.new released.old.items released.new.items) }
+        ensures err { OnErr result (IsUnchanged A.event self.old self.new) }
+        ensures err_released { OnErr result (released.new.items ≡ released.old.items) }
+    {
+        if !self.is_next(arrival.event().get()) {
+            self.hold(arrival)?;
+            return Ok(());
+        }
+        let start = released.len();
+        self.pass(arrival, released)?;
+        self.drain_receivers(start, released);
+        Ok(())
+    }
+
+    /// What still waits, in order of arrival. It is released as it is, since nothing more arrives.
+    ///
+    /// A law: what was released, and then what waits, raises no false alarm. It is permitted exactly where some
+    /// reordering of the arrivals is, and then nothing waits.
+    ///
+    /// # Errors
+    /// `AllocError` where memory is refused.
+    pub fn finish(self) -> Result<Vec<A>, AllocError>
+        ensures held { IfOk result (λ waiting. (arrivals released : List A) → IsAfter A.event arrivals released self
+            → IsHeldBack A.event arrivals released waiting.items) }
+        ensures law { IfOk result (λ waiting. (arrivals released : List A) → IsAfter A.event arrivals released self
+            → RaisesNoFalseAlarm A.event arrivals released waiting.items) }
+    {
+        let waiting = self.waiting.into_vec()?;
+        Ok(waiting)
+    }
+
+    // Whether an arrival with this event is released at once.
+    fn is_next(&self, event: &Event) -> bool
+        ensures { IsTrue result ↔ IsNext A.event event.now self.now }
+    {
+        self.waiting.has_none(event.subject()) && is_ready(&self.flights, event)
+    }
+
+    // Puts the arrival behind what waits.
+    fn hold(&mut self, arrival: A) -> Result<(), AllocError>
+        ensures ok { OnOk result (IsAppended A.event arrival self.old self.new) }
+        ensures err { OnErr result (IsSameHolding self.old self.new) }
+    {
+        let event = arrival.event().get();
+        reserve(&mut self.flights, event)?;
+        let place = self.waiting.add_role(event.subject())?;
+        self.waiting.push(place, arrival)?;
+        Ok(())
+    }
+
+    // Releases the arrival at once. It makes room for all that may be released then.
+    fn pass(&mut self, arrival: A, released: &mut Vec<A>) -> Result<(), AllocError>
+        requires { IsNext A.event (A.event arrival) self.old }
+        ensures ok { OnOk result (IsPassed A.event arrival self.old self.new) }
+        ensures appended { OnOk result (released.new.items ≡ released.old.items ++ arrival ∷ []) }
+        ensures room { OnOk result (vec_len released.new + length self.new.waiting ≤ vec_capacity released.new) }
+        ensures err { OnErr result (IsSameHolding self.old self.new) }
+        ensures err_released { OnErr result (released.new.items ≡ released.old.items) }
+    {
+        released.reserve(self.waiting.bound() + 1)?;
+        let event = arrival.event().get();
+        reserve(&mut self.flights, event)?;
+        self.waiting.skip()?;
+        count(&mut self.flights, event);
+        released.push_reserved(arrival);
+        Ok(())
+    }
+
+    // Releases the arrivals of the role at this place, as far as they may be.
+    fn drain(&mut self, place: usize, released: &mut Vec<A>)
+        requires { vec_len released.old + length self.old.waiting ≤ vec_capacity released.old }
+        ensures drained { IsDrained A.event self.old self.new released.old.items released.new.items }
+        ensures quiet { IsQuietAt A.event place self.new }
+        ensures capacity { vec_capacity released.new ≡ vec_capacity released.old }
+    {
+        while self.is_due(place) {
+            self.release(place, released);
+        }
+    }
+
+    // Releases what the sends from this index on make possible.
+    fn drain_receivers(&mut self, start: usize, released: &mut Vec<A>)
+        requires { vec_len released.old + length self.old.waiting ≤ vec_capacity released.old }
+        ensures drained { IsDrained A.event self.old self.new released.old.items released.new.items }
+        ensures quiet { OnlyReceivers A.event (drop start released.old.items) self.old → IsQuiet A.event self.new }
+    {
+        let mut next = start;
+        while next < released.len() {
+            self.drain_receiver(next, released);
+            next += 1;
+        }
+    }
+
+    // Releases what the arrival at this index makes possible, where it is a send.
+    fn drain_receiver(&mut self, index: usize, released: &mut Vec<A>)
+        requires index { index < vec_len released.old }
+        requires room { vec_len released.old + length self.old.waiting ≤ vec_capacity released.old }
+        ensures drained { IsDrained A.event self.old self.new released.old.items released.new.items }
+        ensures only { OnlyReceivers A.event (drop index released.old.items) self.old
+            → OnlyReceivers A.event (drop (index + 1) released.new.items) self.new }
+        ensures capacity { vec_capacity released.new ≡ vec_capacity released.old }
+    {
+        if let Some(place) = self.receiver_of(released[index].event().get()) {
+            self.drain(place, released);
+        }
+    }
+
+    // Whether the first waiting arrival of the role at this place may be released.
+    fn is_due(&self, place: usize) -> bool
+        ensures yes { IsTrue result → IsDueAt A.event self.now place }
+        ensures no { IsFalse result → IsQuietAt A.event place self.now }
+    {
+        match self.waiting.first(place) {
+            Some(arrival) => is_ready(&self.flights, arrival.event().get()),
+            None => false,
+        }
+    }
+
+    // Releases the first waiting arrival of the role at this place.
+    fn release(&mut self, place: usize, released: &mut Vec<A>)
+        requires due { IsDueAt A.event self.old place }
+        requires room { vec_len released.old < vec_capacity released.old }
+        ensures released { IsReleasedOnto A.event self.old self.new released.old.items released.new.items }
+        ensures roles { self.new.roles ≡ self.old.roles }
+        ensures len { vec_len released.new ≡ vec_len released.old + 1 }
+        ensures capacity { vec_capacity released.new ≡ vec_capacity released.old }
+    {
+        let Some(arrival) = self.waiting.pop(place) else {
+            unreachable!()
+        };
+        count(&mut self.flights, arrival.event().get());
+        released.push_reserved(arrival);
+    }
+
+    // The place of the role that a send is to. A role that has none has nothing that waits.
+    fn receiver_of(&self, event: &Event) -> Option<usize>
+        ensures { MatchOption result ((r : List ℕ) → is_send_to r event.now ≡ true → HasDue A.event r self.now → ⊥)
+            (λ place. (r : List ℕ) → is_send_to r event.now ≡ true → slice_get self.now.roles place ≡ Some r) }
+    {
+        match event {
+            Event::Sent { to, .. } => self.waiting.place_of(to),
+            Event::Join { .. } | Event::Received { .. } => None,
+        }
+    }
+}
+
+/// All arrivals of a conversation, held back: what was released, and what still waited at the end.
+#[derive(Drop)]
+pub struct HeldBack<A> {
+    pub released: Vec<A>,
+    pub waiting: Vec<A>,
+}
+
+/// Holds the arrivals of a whole conversation back.
+///
+/// A law: what was released, and then what waits, raises no false alarm. It is permitted exactly where some reordering
+/// of the arrivals is, and then nothing waits.
+///
+/// # Errors
+/// `AllocError` where memory or a reference count refuses it.
+pub fn hold_back<A: Arrival>(alloc: Global, arrivals: Vec<A>) -> Result<HeldBack<A>, AllocError>
+    ensures held { IfOk result (λ h. IsHeldBack A.event arrivals.items h.released.items h.waiting.items) }
+    ensures law { IfOk result (λ h. RaisesNoFalseAlarm A.event arrivals.items h.released.items h.waiting.items) }
+{
+    let mut holdback = Holdback::new(alloc);
+    let mut released = Vec::new(alloc);
+    for arrival in arrivals {
+        holdback.push(arrival, &mut released)?;
+    }
+    let waiting = holdback.finish()?;
+    Ok(HeldBack { released, waiting })
+}

@@ -1,0 +1,9 @@
+//! Holding arrivals back until they may have happened. The order of arrival alone then makes no offence.
+#![tactic(auto)]
+
+pub mod arrival;
+mod flights;
+pub mod holdback;
+mod lanes;
+pub mod law;
+mod waiting;

@@ -1,0 +1,207 @@
+//! What waits: each arrival in order of arrival, and of each role where its own are.
+
+ghost use Rattle.std.specs.Prelude.{◌≡◌, ◌≤◌, ◌<◌, ◌+◌, ◌^◌, ◌++◌, ◌∷◌, ◌↔◌, [], ℕ, List, true, IfOk, IsTrue, OnOk, OnErr, MatchOption, Some, length, slice_get, if◌then◌else◌, is_ok};
+ghost use Rattle.scrib_types.specs.Logs.{subject_of};
+ghost use Rattle.scrib_holdback.specs.Lanes.{HasNone, IsFirstItem, IsSkipped, IsTaken, IsTrimmed, items_in};
+ghost use Rattle.scrib_holdback.specs.Releases.{own_items};
+
+use crate::arrival::Arrival;
+use crate::lanes::{Lane, first_position, lane_of, pop_position, push_position};
+use scrib_types::name::Role;
+use std::alloc::{AllocError, Global};
+use std::collections::VecDeque;
+use std::marker::Model;
+
+/// Arrivals that wait, in order of arrival. The first of each role is found and taken out in constant time, once the
+/// place of the role is known.
+///
+/// Each arrival is counted, and its position is the number of those before it. Slots are of the last positions. A slot
+/// is empty where its arrival doesn't wait, and empty slots at the front are removed. So there are at most as many as
+/// arrivals since the oldest that waits.
+///
+/// Contracts see the roles that were met, what waits, and how many arrivals were counted.
+#[derive(Drop)]
+pub(crate) struct Waiting<A: Arrival> {
+    lanes: Vec<Lane>,
+    slots: VecDeque<Option<A>>,
+    pushed: usize,
+}
+
+impl<A: Arrival> Model for Waiting<A> {
+    ghost use Rattle.scrib_holdback.specs.Lanes.{AreLaid, items_in, positions_at, roles_of};
+    ghost use Rattle.scrib_holdback.specs.Waiters.{Waiters, waiters_code};
+
+    ghost Value = { Waiters A };
+
+    ghost coded = { waiters_code A.code };
+
+    ghost view = { λ w. record { roles = roles_of w.lanes.items; items = items_in w.slots.items; pushed = w.pushed } };
+
+    ghost invariant = { λ w. AreLaid A.event (roles_of w.lanes.items) (positions_at w.lanes.items)
+        w.slots.items w.pushed };
+}
+
+impl<A: Arrival> Waiting<A> {
+    /// Nothing waits, and no role was met.
+    pub(crate) fn new(alloc: Global) -> Waiting<A>
+        ensures items { result.items ≡ [] }
+        ensures pushed { result.pushed ≡ 0 }
+    {
+        Waiting {
+            lanes: Vec::new(alloc),
+            slots: VecDeque::new(alloc),
+            pushed: 0,
+        }
+    }
+
+    /// At least as many as wait.
+    pub(crate) fn bound(&self) -> usize
+        ensures enough { length self.now.items ≤ result }
+        ensures fits { result < 2 ^ 63 }
+    {
+        self.slots.len()
+    }
+
+    /// The place of the role. A role that has none has nothing that waits.
+    pub(crate) fn place_of(&self, role: &Role) -> Option<usize>
+        ensures { MatchOption result (own_items A.event role.now self.now.items ≡ [])
+            (λ place. slice_get self.now.roles place ≡ Some role.now) }
+    {
+        lane_of(&self.lanes, role)
+    }
+
+    /// The place of the role, which is added where it is missing.
+    ///
+    /// # Errors
+    /// `AllocError` where memory or a reference count refuses it. Nothing changes.
+    pub(crate) fn add_role(&mut self, role: &Role) -> Result<usize, AllocError>
+        ensures place { IfOk result (λ place. slice_get self.new.roles place ≡ Some role.now) }
+        ensures items { self.new.items ≡ self.old.items }
+        ensures pushed { self.new.pushed ≡ self.old.pushed }
+    {
+        if let Some(place) = lane_of(&self.lanes, role) {
+            return Ok(place);
+        }
+        let positions = VecDeque::new(*self.lanes.allocator());
+        let role = role.copy()?;
+        let place = self.lanes.len();
+        self.lanes.push(Lane { role, positions })?;
+        Ok(place)
+    }
+
+    /// Puts the arrival, of the role at this place, behind the others.
+    ///
+    /// # Errors
+    /// `AllocError` where memory is refused. Nothing changes.
+    pub(crate) fn push(&mut self, place: usize, arrival: A) -> Result<(), AllocError>
+        requires { slice_get self.old.roles place ≡ Some (subject_of (A.event arrival)) }
+        ensures items { self.new.items ≡ (if is_ok result then self.old.items ++ arrival ∷ [] else self.old.items) }
+        ensures pushed { self.new.pushed ≡ (if is_ok result then self.old.pushed + 1 else self.old.pushed) }
+    {
+        if self.pushed == usize::MAX {
+            return Err(AllocError);
+        }
+        self.slots.reserve(1)?;
+        push_position(&mut self.lanes, place, self.pushed)?;
+        self.slots.push_back_reserved(Some(arrival));
+        self.pushed += 1;
+        Ok(())
+    }
+
+    /// Counts an arrival that doesn't wait.
+    ///
+    /// # Errors
+    /// `AllocError` where memory is refused. Nothing changes. While nothing waits it takes none.
+    pub(crate) fn skip(&mut self) -> Result<(), AllocError>
+        ensures items { self.new.items ≡ self.old.items }
+        ensures pushed { self.new.pushed ≡ (if is_ok result then self.old.pushed + 1 else self.old.pushed) }
+        ensures fits { OnOk result (self.new.pushed < 2 ^ 64) }
+    {
+        if self.pushed == usize::MAX {
+            return Err(AllocError);
+        }
+        push_empty(&mut self.slots)?;
+        self.pushed += 1;
+        Ok(())
+    }
+
+    /// Whether nothing of the role waits.
+    pub(crate) fn has_none(&self, role: &Role) -> bool
+        ensures { IsTrue result ↔ (own_items A.event role.now self.now.items ≡ []) }
+    {
+        match self.place_of(role) {
+            Some(place) => self.first(place).is_none(),
+            None => true,
+        }
+    }
+
+    /// The first arrival of the role at this place.
+    pub(crate) fn first(&self, place: usize) -> Option<&A>
+        ensures { MatchOption result (HasNone A.event place self.now)
+            (λ x. IsFirstItem A.event place self.now x.now) }
+    {
+        let position = first_position(&self.lanes, place)?;
+        let index = position - (self.pushed - self.slots.len());
+        self.slots[index].as_ref()
+    }
+
+    /// Takes the first arrival of the role at this place out.
+    pub(crate) fn pop(&mut self, place: usize) -> Option<A>
+        ensures roles { self.new.roles ≡ self.old.roles }
+        ensures pushed { self.new.pushed ≡ self.old.pushed }
+        ensures fits { self.new.pushed < 2 ^ 64 }
+        ensures taken { MatchOption result (HasNone A.event place self.old)
+            (λ x. IsTaken A.event place self.old self.new x) }
+    {
+        let position = pop_position(&mut self.lanes, place)?;
+        let index = position - (self.pushed - self.slots.len());
+        let arrival = self.slots[index].take();
+        trim(&mut self.slots);
+        arrival
+    }
+
+    /// What waits, in order of arrival.
+    ///
+    /// # Errors
+    /// `AllocError` where memory is refused.
+    pub(crate) fn into_vec(self) -> Result<Vec<A>, AllocError>
+        ensures { IfOk result (λ items. items.items ≡ self.items) }
+    {
+        let mut items = Vec::new(*self.lanes.allocator());
+        for slot in self.slots {
+            push_item(&mut items, slot)?;
+        }
+        Ok(items)
+    }
+}
+
+// Puts an empty slot behind the others. None is needed where there are no others.
+fn push_empty<A: Drop>(slots: &mut VecDeque<Option<A>>) -> Result<(), AllocError>
+    ensures ok { OnOk result (IsSkipped slots.old.items slots.new.items) }
+    ensures err { OnErr result (slots.new.items ≡ slots.old.items) }
+{
+    if slots.is_empty() {
+        return Ok(());
+    }
+    slots.push_back(None)?;
+    Ok(())
+}
+
+// Removes the empty slots at the front.
+fn trim<A: Drop>(slots: &mut VecDeque<Option<A>>)
+    ensures { IsTrimmed slots.old.items slots.new.items }
+{
+    while let Some(None) = slots.front() {
+        let _empty = slots.pop_front();
+    }
+}
+
+// Puts what the slot has behind the items.
+fn push_item<A: Drop>(items: &mut Vec<A>, slot: Option<A>) -> Result<(), AllocError>
+    ensures { OnOk result (items.new.items ≡ items.old.items ++ items_in (slot ∷ [])) }
+{
+    if let Some(item) = slot {
+        items.push(item)?;
+    }
+    Ok(())
+}
