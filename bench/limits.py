@@ -59,6 +59,11 @@ def wide_choice():
     return put("module c;\nglobal protocol C(role R0, role R1) { choice at R0 %s }\n" % branches)
 
 
+def opened_choice():
+    """The same, and a conversation of it."""
+    return wide_choice() + "open 0 c.C\n"
+
+
 # The hash of names, as in crates/scrib_types/src/hashing.rt.
 MULTIPLIER = 0x9E37_79B9_7F4A_7C15
 LETTERS = b"ABCDEFGHIJKLMNOPQRSTUVWXYZ_abcdefghijklmnopqrstuvwxyz0123456789"
@@ -181,6 +186,7 @@ def main():
     cost(program, "wide types", lambda: wide_protocols(64, 16))
     cost(program, "many loops", many_loops)
     cost(program, "one wide choice", wide_choice)
+    cost(program, "opened choice", opened_choice)
     cost(program, "choice, one slot", choice_of_one_slot)
     cost(program, "learned choice", learned_choice)
     cost(program, "long types", lambda: long_protocols(1024, 16))
