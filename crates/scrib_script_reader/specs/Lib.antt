@@ -7,5 +7,6 @@ pub mod NamedHeads
 pub mod PlainLines
 pub mod Limits
 pub mod Scripts
+pub mod Entries
 pub mod ShortLines
 pub mod Positions

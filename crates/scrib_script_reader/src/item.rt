@@ -9,7 +9,7 @@ pub enum Item {
     /// A step, and the format of its reply.
     Step(Format, Step),
     /// A line that is no step, no comment and not empty: its number, from 1.
-    BadLine(u32),
+    BadLine(u64),
     /// The script ends inside a module text.
     EndOfText,
 }

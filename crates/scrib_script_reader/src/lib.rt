@@ -2,6 +2,7 @@
 #![tactic(auto)]
 
 mod direction;
+pub mod entry;
 mod event_cache;
 mod exchange;
 pub mod fault;

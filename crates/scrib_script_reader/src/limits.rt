@@ -4,13 +4,13 @@
 pub const MAX_SCRIPT_BYTES: u64 = 1_099_511_627_776;
 
 /// The most lines of a script.
-pub const MAX_SCRIPT_LINES: u32 = 16_777_216;
+pub const MAX_SCRIPT_LINES: u64 = 16_777_216;
 
 /// The limits of a script.
 #[derive(Clone, Copy, Debug, PartialEq, Eq)]
 pub struct Limits {
     /// The most lines. The last line counts too where no LF ends it.
-    pub lines: u32,
+    pub lines: u64,
     /// The most bytes.
     pub bytes: u64,
 }

@@ -41,7 +41,7 @@ impl PlainLine {
 
     // The short line of this meaning, where the line has this number.
     #[inline(always)]
-    pub(crate) fn numbered(self, number: u32) -> ShortLine
+    pub(crate) fn numbered(self, number: u64) -> ShortLine
         ensures { (bytes : List ℕ) → Says bytes (plain_meaning self) → IsShort bytes number result }
     {
         match self {

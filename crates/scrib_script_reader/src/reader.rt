@@ -74,7 +74,7 @@ impl Reader {
 
     // The line of this number, given without its end, where it is read without an `Item`. None where memory is refused.
     #[inline(always)]
-    pub(crate) fn short_line(&mut self, bytes: &[u8], number: u32) -> Option<ShortLine>
+    pub(crate) fn short_line(&mut self, bytes: &[u8], number: u64) -> Option<ShortLine>
         ensures { IfSome result (IsShort bytes.now number) }
     {
         let Ok(found) = self.exchange(bytes) else {
@@ -88,7 +88,7 @@ impl Reader {
 
     // The same at a line that does not begin as one of an exchange.
     #[inline(never)]
-    fn other_short_line(&mut self, bytes: &[u8], number: u32) -> Option<ShortLine>
+    fn other_short_line(&mut self, bytes: &[u8], number: u64) -> Option<ShortLine>
         ensures { IfSome result (IsShort bytes.now number) }
     {
         if let Some(plain) = plain_line_of(bytes) {

@@ -1,14 +1,15 @@
-//! Reads a script item by item, from pieces of any size.
+//! Reads a script from pieces of any size: its entries, one by one, or its items.
 
-ghost use Rattle.std.specs.Prelude.{◌≤◌};
+ghost use Rattle.std.specs.Prelude.{◌≤◌, ◌<◌, ◌+◌, ◌^◌};
 
+use crate::entry::Entry;
 use crate::fault::SpellFault;
 use crate::item::Item;
 use crate::kept_bytes::{KEPT_TEXT_BYTES, KeptText, append_up_to, next_lf, without_cr};
 use crate::limits::Limits;
 use crate::reader::Reader;
 use crate::short_line::ShortLine;
-use crate::spelling::{is_text_end, last_spelling_of, put_of, spell_text_line, spelling_of};
+use crate::spelling::{entry_of, is_text_end, last_entry_of, put_of, text_line_entry};
 use std::alloc::{AllocError, Global};
 
 // The bytes that are kept of a line outside module texts: its limit, one byte to see that it is longer, and a CR.
@@ -27,20 +28,21 @@ pub struct Script {
     // The line so far.
     line: Vec<u8>,
     // The number of lines that have ended.
-    lines: u32,
+    lines: u64,
     // The number of bytes that were consumed.
     bytes: u64,
-    ghost few: { limits.lines ≤ 16777216 },
+    ghost few: { limits.lines + 1 < 2 ^ 64 },
     ghost numbered: { lines ≤ limits.lines },
     ghost counted: { bytes ≤ limits.bytes },
 }
 
 impl Script {
-    ghost use Rattle.std.specs.Prelude.{◌≡◌, ◌<◌, ◌+◌, ◌⊎◌, ◌∷◌, ◌++◌, [], ℕ, List, Option, None, MatchOption, IfOk, IfErr, IfSome, OnOk, OnErr, length, option_map};
+    ghost use Rattle.std.specs.Prelude.{◌≡◌, ◌<◌, ◌+◌, ◌^◌, ◌⊎◌, ◌∷◌, ◌++◌, [], ℕ, List, Option, None, MatchOption, IfOk, IfErr, IfSome, OnOk, OnErr, length, option_map};
     ghost use Rattle.scrib_script_reader.specs.Scripts.{NoLf, item_list};
+    ghost use Rattle.scrib_script_reader.specs.Entries.{entry_list};
     ghost use Rattle.scrib_script_reader.specs.Limits.{of_scripts};
-    ghost use Rattle.scrib_script_reader.specs.Positions.{as_text, Holds, TakesBytes, TakesFront, IsOneLine, IsPastWith, PassesLimits, EndSpells, LineEnded};
-    ghost use Rattle.scrib_script_reader.specs.ShortLines.{short_items};
+    ghost use Rattle.scrib_script_reader.specs.Positions.{as_text, Holds, TakesEntries, TakesFront, TakesFrontEntries, IsOneLine, IsPastWith, PassesLimits, EndGives, EndSpells, LineEnded};
+    ghost use Rattle.scrib_script_reader.specs.ShortLines.{short_entry, short_items};
     ghost use Rattle.scrib_script_reader.specs.declared.fault.SpellFault.TheVariants as fault;
 
     /// Returns the state before the first byte of a script of at most 16,777,216 lines and 1,099,511,627,776 bytes.
@@ -55,7 +57,7 @@ impl Script {
 
     /// Returns the state before the first byte of a script of these limits.
     pub fn with_limits(alloc: Global, limits: Limits) -> Script
-        requires { limits.lines ≤ 16777216 }
+        requires { limits.lines + 1 < 2 ^ 64 }
         ensures holds { Holds result None [] }
         ensures lines { result.lines ≡ 0 }
         ensures bytes { result.bytes ≡ 0 }
@@ -72,10 +74,10 @@ impl Script {
         }
     }
 
-    /// Returns how many lines have ended so far.
-    pub fn lines(&self) -> u32
+    /// Returns how many lines have ended so far: fewer than 18,446,744,073,709,551,615.
+    pub fn lines(&self) -> u64
         ensures is { result ≡ self.now.lines }
-        ensures few { result ≤ 16777216 }
+        ensures few { result + 1 < 2 ^ 64 }
     {
         self.lines
     }
@@ -95,15 +97,40 @@ impl Script {
         ensures limit { IfErr result (λ e. e ≡ fault.TooLong → PassesLimits self.old piece.now) }
     {
         let mut rest = piece;
-        while let Some(at) = next_lf(rest) {
-            let item = self.take_line(&rest[..at])?;
-            rest = &rest[at + 1..];
+        while !rest.is_empty() {
+            let (entry, after) = self.next_entry(rest)?;
+            rest = after;
+            let item = Entry::into_item(entry);
             if item.is_some() {
                 return Ok((item, rest));
             }
         }
-        self.take_part(rest)?;
-        Ok((None, &[]))
+        Ok((None, rest))
+    }
+
+    /// Consumes the next bytes of the script, up to the end of the first line.
+    ///
+    /// Consumes all bytes where no line ends. Returns the entry of that line, if it has one, and the bytes that are left.
+    /// Lines of a module text have none; the line that ends it has.
+    ///
+    /// # Errors
+    /// The script must not be read further after an error.
+    /// - `TooLong` where the line has the first byte past the limits.
+    /// - `OutOfMemory` where memory for a line, a text or a step is refused.
+    pub fn next_entry<'a>(
+        &mut self,
+        piece: &'a [u8],
+    ) -> Result<(Option<Entry>, &'a [u8]), SpellFault>
+        ensures taken { IfOk result (λ r. TakesFrontEntries self.old self.new piece.now r.1.now (entry_list r.0)) }
+        ensures shorter { IfOk result (λ r. 0 < length piece.now → length r.1.now < length piece.now) }
+        ensures limit { IfErr result (λ e. e ≡ fault.TooLong → PassesLimits self.old piece.now) }
+    {
+        let Some(at) = next_lf(piece) else {
+            self.take_part(piece)?;
+            return Ok((None, &[]));
+        };
+        let entry = self.take_line(&piece[..at])?;
+        Ok((entry, &piece[at + 1..]))
     }
 
     /// Consumes the next line, where the piece has all of it and it is read without an `Item`.
@@ -115,6 +142,8 @@ impl Script {
     pub fn next_short<'a>(&mut self, piece: &'a [u8]) -> Option<(ShortLine, &'a [u8])>
         ensures taken { MatchOption result (TakesFront self.old self.new piece.now piece.now [])
             (λ r. TakesFront self.old self.new piece.now r.1.now (short_items r.0)) }
+        ensures entry { MatchOption result (TakesFrontEntries self.old self.new piece.now piece.now [])
+            (λ r. TakesFrontEntries self.old self.new piece.now r.1.now (short_entry r.0 ∷ [])) }
         ensures shorter { IfSome result (λ r. length r.1.now < length piece.now) }
     {
         if self.text.is_some() || !self.line.is_empty() {
@@ -141,23 +170,38 @@ impl Script {
         ensures ends { IfOk result (λ item. EndSpells self.old (item_list item)) }
         ensures limit { IfErr result (λ e. e ≡ fault.OutOfMemory) }
     {
+        let entry = self.last_entry()?;
+        Ok(Entry::into_item(entry))
+    }
+
+    /// Returns the entry of the last line, which no LF ended, or that of `EndOfText` inside a module text.
+    ///
+    /// The whole script must have been consumed.
+    ///
+    /// # Errors
+    /// `OutOfMemory` where memory for the step is refused.
+    pub fn last_entry(&mut self) -> Result<Option<Entry>, SpellFault>
+        ensures ends { IfOk result (λ entry. EndGives self.old (entry_list entry)) }
+        ensures limit { IfErr result (λ e. e ≡ fault.OutOfMemory) }
+    {
         let Some(text) = self.text.take() else {
             if self.line.is_empty() {
                 return Ok(None);
             }
             let line = self.reader.line(self.line.as_slice())?;
-            return Ok(last_spelling_of(line, self.lines + 1));
+            return Ok(Some(last_entry_of(line, self.lines + 1)));
         };
         if is_text_end(self.line.as_slice()) {
-            return Ok(Some(put_of(text)));
+            return Ok(Some(Entry::Item(put_of(text))));
         }
-        Ok(Some(Item::EndOfText))
+        Ok(Some(Entry::Item(Item::EndOfText)))
     }
 
-    // Consumes the last bytes of a line and its LF. Returns the item that the line spells.
-    fn take_line(&mut self, part: &[u8]) -> Result<Option<Item>, SpellFault>
+    // Consumes the last bytes of a line and its LF. Returns the entry that the line gives.
+    fn take_line(&mut self, part: &[u8]) -> Result<Option<Entry>, SpellFault>
         requires { NoLf part.now }
-        ensures taken { IfOk result (λ item. TakesBytes self.old self.new (part.now ++ 10 ∷ []) (item_list item)) }
+        ensures taken { IfOk result
+            (λ entry. TakesEntries self.old self.new (part.now ++ 10 ∷ []) (entry_list entry)) }
         ensures limit { IfErr result (λ e. e ≡ fault.TooLong → IsPastWith self.old (part.now ++ 10 ∷ [])) }
     {
         if self.text.is_none() && self.line.is_empty() {
@@ -167,26 +211,27 @@ impl Script {
         self.end_line()
     }
 
-    // Consumes a line that is whole in its piece, without copying it. Returns the item that the line spells.
-    fn pass_line(&mut self, line: &[u8]) -> Result<Option<Item>, SpellFault>
+    // Consumes a line that is whole in its piece, without copying it. Returns the entry that the line gives.
+    fn pass_line(&mut self, line: &[u8]) -> Result<Option<Entry>, SpellFault>
         requires text { self.old.text ≡ None }
         requires line { self.old.line.items ≡ [] }
         requires no_lf { NoLf line.now }
-        ensures taken { IfOk result (λ item. TakesBytes self.old self.new (line.now ++ 10 ∷ []) (item_list item)) }
+        ensures taken { IfOk result
+            (λ entry. TakesEntries self.old self.new (line.now ++ 10 ∷ []) (entry_list entry)) }
         ensures limit { IfErr result (λ e. e ≡ fault.TooLong → IsPastWith self.old (line.now ++ 10 ∷ [])) }
     {
         self.bytes = self.counted(line.len() + 1)?;
         let meaning = self.reader.line(without_cr(line))?;
-        let (item, text) = spelling_of(meaning, self.lines + 1, self.alloc);
+        let (entry, text) = entry_of(meaning, self.lines + 1, self.alloc);
         self.text = text;
         self.lines += 1;
-        Ok(item)
+        Ok(entry)
     }
 
     // Consumes bytes of a line, without its LF.
     fn take_part(&mut self, part: &[u8]) -> Result<(), SpellFault>
         requires { NoLf part.now }
-        ensures taken { OnOk result (TakesBytes self.old self.new part.now []) }
+        ensures taken { OnOk result (TakesEntries self.old self.new part.now []) }
         ensures limit { IfErr result (λ e. e ≡ fault.TooLong → IsOneLine part.now × IsPastWith self.old part.now) }
     {
         if part.is_empty() {
@@ -202,33 +247,33 @@ impl Script {
         Ok(())
     }
 
-    // Consumes an LF. Returns the item that the line before it spells.
-    fn end_line(&mut self) -> Result<Option<Item>, SpellFault>
-        ensures taken { IfOk result (λ item. TakesBytes self.old self.new (10 ∷ []) (item_list item)) }
+    // Consumes an LF. Returns the entry that the line before it gives.
+    fn end_line(&mut self) -> Result<Option<Entry>, SpellFault>
+        ensures taken { IfOk result (λ entry. TakesEntries self.old self.new (10 ∷ []) (entry_list entry)) }
         ensures limit { IfErr result (λ e. e ≡ fault.TooLong → IsPastWith self.old (10 ∷ [])) }
     {
         let bytes = self.counted(1)?;
-        let (item, text) = self.spell_line()?;
+        let (entry, text) = self.ended_line()?;
         self.bytes = bytes;
         self.text = text;
         self.lines += 1;
         self.line.clear();
-        Ok(item)
+        Ok(entry)
     }
 
-    // The item that the ended line spells, and the module text that continues after it, if one does.
-    fn spell_line(&mut self) -> Result<(Option<Item>, Option<KeptText>), AllocError>
+    // The entry that the ended line gives, and the module text that continues after it, if one does.
+    fn ended_line(&mut self) -> Result<(Option<Entry>, Option<KeptText>), AllocError>
         requires { self.old.lines < self.old.limits.lines }
-        ensures ended { IfOk result (λ r. LineEnded self.old (option_map as_text r.1) (item_list r.0)) }
+        ensures ended { IfOk result (λ r. LineEnded self.old (option_map as_text r.1) (entry_list r.0)) }
         ensures lines { OnOk result (self.new.lines ≡ self.old.lines) }
         ensures bytes { OnOk result (self.new.bytes ≡ self.old.bytes) }
         ensures limits { OnOk result (self.new.limits ≡ self.old.limits) }
     {
         match self.text.take() {
-            Some(text) => spell_text_line(text, self.line.as_slice()),
+            Some(text) => text_line_entry(text, self.line.as_slice()),
             None => {
                 let line = self.reader.line(without_cr(self.line.as_slice()))?;
-                Ok(spelling_of(line, self.lines + 1, self.alloc))
+                Ok(entry_of(line, self.lines + 1, self.alloc))
             }
         }
     }

@@ -13,7 +13,7 @@ pub enum ShortLine {
     /// The step `Open`.
     Open { id: u32, name: Dotted },
     /// A line that is no step, no comment and not empty: its number, from 1.
-    Bad(u32),
+    Bad(u64),
     /// A comment.
     Skipped,
 }

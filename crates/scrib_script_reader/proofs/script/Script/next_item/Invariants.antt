@@ -2,11 +2,11 @@ use Rattle.std.proofs.Common.{[], ◌≤◌, length}
 use Rattle.scrib_script_reader.specs.Positions.{TakesFront}
 use Rattle.scrib_script_reader.proofs.script.Script.next_item.Given as goal
 
-abbrev pub invariant-loop-at : goal.invariant-loop-at
-invariant-loop-at l = record {
+abbrev pub invariant-loop-self : goal.invariant-loop-self
+invariant-loop-self l = record {
   taken : TakesFront l.fn.self l.self l.piece l.rest [];
   within : length l.rest ≤ length l.piece;
 }
 
-abbrev pub decreases-loop-at : goal.decreases-loop-at
-decreases-loop-at l = length l.rest
+abbrev pub decreases-loop-self : goal.decreases-loop-self
+decreases-loop-self l = length l.rest

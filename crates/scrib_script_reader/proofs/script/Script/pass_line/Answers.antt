@@ -20,4 +20,4 @@ returns-clause-taken c =
     passed c.args.self.now _ c.args.line.now c.in_ok-meaning.meaning _ c.without_cr.result.now
     (counts_line c.args.self.now _ c.args.line.now (length c.args.line.now + 1) refl c.requires.no_lf refl c.in_ok-self.ensures.bytes c.in_ok-self.ensures.few_bytes c.in_ok-self.ensures.few_lines refl)
     (text_outside c.args.self.now c.requires.text) c.requires.line c.requires.no_lf
-    c.without_cr.ensures c.in_ok-meaning.ensures c.spelling_of-item.ensures.text c.spelling_of-item.ensures.item c.requires.line refl
+    c.without_cr.ensures c.in_ok-meaning.ensures c.entry_of-entry.ensures.text c.entry_of-entry.ensures.entry c.requires.line refl

@@ -2,7 +2,7 @@ use Rattle.std.proofs.Common.{◌≡◌, ◌≤◌, ◌∙◌, ℕ, List, [], �
 use Rattle.std.proofs.lemmas.Bool.{false≢true}
 use Rattle.std.proofs.lemmas.List.{append_assoc, length-take}
 use Rattle.scrib_script_reader.proofs.Bytes.{take_kept}
-use Rattle.scrib_script_reader.proofs.spelling.spell_text_line.Goals as goal
+use Rattle.scrib_script_reader.proofs.spelling.text_line_entry.Goals as goal
 
 pub returns : goal.returns
 returns c =
