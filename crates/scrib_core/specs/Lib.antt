@@ -5,4 +5,5 @@ pub mod Held
 pub mod ConversationSteps
 pub mod ReplyValues
 pub mod Runs
+pub mod Permitted
 pub mod Turns

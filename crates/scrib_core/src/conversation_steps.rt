@@ -3,11 +3,12 @@
 ghost use Rattle.std.specs.Prelude.{◌≡◌, IfOk, IfErr, OnOk, OnErr};
 ghost use Rattle.std.specs.Option.{option_copied};
 ghost use Rattle.scrib_core.specs.ConversationSteps.{IsOpened, OpenFails, IsNotedAt, NoteFails, IsTurnedAt, IsAskedAt, VerdictFails, IsBegun, IsPresent, IsSoundComparison, IsSoundForRecord};
+ghost use Rattle.scrib_core.specs.Permitted.{IsOutcomeTest};
 
 use crate::holders::{Holders, name_slot};
 use crate::places::{place_of, record_of};
 use crate::reply::Refusal;
-use crate::verdicts::verdict_of;
+use crate::verdicts::{is_permitted_answer, verdict_of};
 use indexmap::IndexMap;
 use scrib_library::library::Library;
 use scrib_record::comparison::Comparison;
@@ -74,7 +75,10 @@ pub fn open(
     }
     let slot = name_slot(name);
     let known = holders.numbering(records, slot);
-    let (Ok(record), Ok(reply_name)) = (begin(alloc, shared, version, known), shared.copy()) else {
+    let Ok(reply_name) = shared.copy() else {
+        return Err(Refusal::OutOfMemory);
+    };
+    let Ok(record) = begin(alloc, shared, version, known) else {
         return Err(Refusal::OutOfMemory);
     };
     match records.insert(opening.id, record) {
@@ -227,6 +231,25 @@ pub fn ask(
         }),
         Err(_) => Err(Refusal::OutOfMemory),
     }
+}
+
+/// Returns whether the verdict that [`ask`] returns is `Permitted`. It allocates nothing.
+pub fn is_permitted(
+    library: &Library,
+    records: &IndexMap<u32, Record>,
+    comparison: Comparison,
+    id: u32,
+) -> bool
+    requires { IsSoundComparison comparison library.now records.now.entries }
+    ensures { IsOutcomeTest library.now records.now.entries id result }
+{
+    let Some(record) = record_of(records, id) else {
+        return false;
+    };
+    // Its clause says that the record is lawful.
+    let _log = record.log();
+    let (_, present) = present_of(library, record, comparison);
+    is_permitted_answer(record.ask(present, comparison))
 }
 
 // Returns the record of an empty log under the version. `known` is its numbering, or another one, or none.

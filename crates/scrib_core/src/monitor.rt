@@ -8,10 +8,11 @@ ghost use Rattle.scrib_core.specs.declared.step.Step.TheVariants.{Put, Withdraw,
 ghost use Rattle.scrib_core.specs.declared.step.Step.TheVariants as steps;
 ghost use Rattle.scrib_core.specs.Answers.{initial, initial_under, IsAnswered, IsDue, AnswersAsDue};
 ghost use Rattle.scrib_core.specs.Held.{state_of, LeavesRefused, AnswersHeld, IsViewed};
-ghost use Rattle.scrib_core.specs.ReplyValues.{note_reply_of, verdict_reply_of};
+ghost use Rattle.scrib_core.specs.Permitted.{IsReplyTest};
+ghost use Rattle.scrib_core.specs.ReplyValues.{note_reply_of, open_reply_of, verdict_reply_of};
 ghost use Rattle.scrib_core.specs.Runs.{PermitsRuns};
 
-use crate::conversation_steps::{Judged, Noted, Opening, ask, note, open, turn};
+use crate::conversation_steps::{Judged, Noted, Opening, ask, is_permitted, note, open, turn};
 use crate::holders::Holders;
 use crate::reply::{
     Edit, Refusal, Reply, edit_reply, note_reply, open_reply, profile_reply, verdict_reply,
@@ -165,6 +166,36 @@ impl Core {
         ask(&self.library, &self.records, Comparison::Numbers, id)
     }
 
+    /// Returns whether the verdict that `verdict_on` returns is `Permitted`. It allocates nothing.
+    #[inline(always)]
+    pub fn is_permitted(&self, id: u32) -> bool
+        ensures { IsReplyTest (state_of self.now) id result }
+    {
+        self.library.are_numbered();
+        is_permitted(&self.library, &self.records, Comparison::Numbers, id)
+    }
+
+    /// Makes the step `Open` with this id and name. Returns the protocol's name. What `apply` ensures of a reply holds
+    /// for the reply that `open_reply` makes of the result.
+    ///
+    /// # Errors
+    /// `AlreadyOpen`, `UnknownProtocol`, `TooManyConversations` or `OutOfMemory`, whichever applies first. Nothing
+    /// changes then.
+    pub fn open_conversation(&mut self, id: u32, name: &Dotted) -> Result<Dotted, Refusal>
+        ensures answered { IsAnswered (state_of self.old) (Open id name.now) (open_reply_of id result)
+            (state_of self.new) }
+        ensures memory { IsDue (state_of self.old).world (Open id name.now) (open_reply_of id result) }
+        ensures refused { LeavesRefused (open_reply_of id result) self.old self.new }
+    {
+        self.library.are_numbered();
+        let opening = Opening {
+            limit: MAX_CONVERSATIONS,
+            id,
+            name,
+        };
+        open(&self.library, &mut self.records, &mut self.holders, opening)
+    }
+
     /// Returns the protocol of a conversation, if the library has it, and the log.
     pub fn view(&self, id: u32) -> Option<(Option<&Protocol>, &[SharedEvent])>
         ensures { IsViewed (state_of self.now).world id result }
@@ -245,13 +276,7 @@ impl Core {
         ensures memory { IsDue (state_of self.old).world (Open id name.now) result }
         ensures refused { LeavesRefused result self.old self.new }
     {
-        self.library.are_numbered();
-        let opening = Opening {
-            limit: MAX_CONVERSATIONS,
-            id,
-            name,
-        };
-        let opened = open(&self.library, &mut self.records, &mut self.holders, opening);
+        let opened = self.open_conversation(id, name);
         open_reply(id, opened)
     }
 

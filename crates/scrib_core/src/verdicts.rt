@@ -1,7 +1,8 @@
 //! Converts a record's answer into a value that owns its parts.
 
 ghost use Rattle.std.specs.Prelude.{◌≡◌, IfOk};
-ghost use Rattle.scrib_core.specs.ReplyValues.{IsVerdictOf};
+ghost use Rattle.scrib_core.specs.Permitted.{is_permitted_verdict};
+ghost use Rattle.scrib_core.specs.ReplyValues.{IsVerdictOf, told_of};
 
 use scrib_record::answer::Answer;
 use scrib_types::event::{Told, Verdict};
@@ -32,4 +33,11 @@ pub(crate) fn verdict_of(answer: Answer<'_>) -> Result<Told, AllocError>
         }
         Answer::Withdrawn => Ok(Told::Judged(Verdict::Withdrawn)),
     }
+}
+
+/// Returns whether the answer of a record is `Permitted`.
+pub(crate) fn is_permitted_answer(answer: Answer<'_>) -> bool
+    ensures { result ≡ is_permitted_verdict (told_of answer.entry) }
+{
+    matches!(answer, Answer::Permitted)
 }

@@ -9,13 +9,10 @@ use Rattle.scrib_core.specs.Held.{record_at}
 use Rattle.scrib_core.proofs.LentRecordLemmas.{none_there}
 use Rattle.scrib_core.proofs.conversation_steps.open.Goals as goal
 
-pub returns-in-Ok-clause-name : goal.returns-in-Ok-clause-name
-returns-in-Ok-clause-name c = c.in-Ok-Ok.ensures' ∙ c.in-Some.ensures.name
-
-pub returns-in-Ok-clause-ok : goal.returns-in-Ok-clause-ok
-returns-in-Ok-clause-ok c =
+pub returns-in-Ok-insert-clause-ok : goal.returns-in-Ok-insert-clause-ok
+returns-in-Ok-insert-clause-ok c =
     let none : record_at c.args.records.now.entries c.args.opening.id ≡ None = none_there c.args.records.now.entries c.args.opening.id c.contains_key.result c.contains_key.ensures c.if-contains_key.false in
-    let begun = c.in-Ok-Ok.ensures in
+    let begun = c.in-Ok-begin.ensures in
     let v = begun.0 in
     record {
       absent = none;
@@ -25,6 +22,6 @@ returns-in-Ok-clause-ok c =
         number = subst (λ (n : ℕ). IsNumber c.args.library.now c.args.opening.name.now (Some n)) begun.1.0 c.in-Some.ensures.number;
       };
       room = omega (arith, c.if-len-opening.false, c.len.ensures.len);
-      added = c.in-Ok.ensures.entries ∙ insert_entry-new nat_eq c.args.records.now c.args.opening.id c.in-Ok-Ok.record none
+      added = c.in-Ok-insert.ensures.entries ∙ insert_entry-new nat_eq c.args.records.now c.args.opening.id c.in-Ok-begin.record none
           ∙ ap (λ (r : Recorded). c.args.records.now.entries ++ (c.args.opening.id, r) ∷ []) (begun.2 ∙ ap (λ (n : List (List ℕ)). new_record n v) c.in-Some.ensures.name);
     }
