@@ -121,7 +121,7 @@ module _ (present : Option Version) (before : Recorded) (p : PassHeld) (e : Even
     ends = ended;
     stood = λ i c h. subst (λ (l : List Event). AgreesWith l (get_or (newest_of p.receipts) i c)) (sym noted.noted.log)
         (agrees_more (get_or (newest_of p.receipts) i c).place before.log (get_or (newest_of p.receipts) i c).event e (stood i c h));
-    told = reported_verdict present after n.told noted.noted.told;
+    verdict = reported_verdict present after n.told noted.noted.told;
   }
 
 same_held : (c d : ℕ) (rs ss : List Receipt) → c ≡ d → rs ≡ ss → (let p : PassHeld = record { conversation = c; receipts = rs } in let q : PassHeld = record { conversation = d; receipts = ss } in p ≡ q)
@@ -166,5 +166,5 @@ answered h rs p answer x =
     record {
       log = a.of.log;
       stood = subst (λ (l : List Event). All (AgreesWith l) p.receipts) (log_there rs p.conversation a.of a.there) x.stood;
-      told = reported_verdict a.present a.of answer a.told;
+      verdict = reported_verdict a.present a.of answer a.told;
     }

@@ -40,10 +40,10 @@ pub record IsReceipted (old : PassHeld) (e : Event) (n : Noted) (new : PassHeld)
   pub place : n.place ≡ length log
   pub ends : entry_at n.place log ≡ e ∷ []
   pub stood : All (AgreesWith log) (newest_of old.receipts)
-  pub told : IsVerdictOn log n.told
+  pub verdict : IsVerdictOn log n.told
 
 -- the verdict is on some log that has each receipt at its place
 pub record IsAnsweredOn (receipts : List Receipt) (answer : Told) : Type 0 where
   pub log : List Event
   pub stood : All (AgreesWith log) receipts
-  pub told : IsVerdictOn log answer
+  pub verdict : IsVerdictOn log answer

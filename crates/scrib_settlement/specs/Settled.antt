@@ -23,7 +23,7 @@ pub record IsEnded (h : Holdings) (r : Recorded) (e : Ended) : Type 0 where
   pub events : e.events ≡ length r.log
   pub present : Option Version
   pub is_present : IsPresent h r.name present
-  pub told : IsReported present r e.told
+  pub reported : IsReported present r e.told
 
 -- the entry of the record with its id
 abbrev pub IsEndedIn : Holdings → Records → Ended → Type 0
