@@ -4,6 +4,7 @@ ghost use Rattle.std.specs.Prelude.{◌≡◌, ◌≤◌, ◌++◌, ◌∷◌, [
 ghost use Rattle.std.specs.Fmt.{decimal};
 ghost use Rattle.scrib_types.specs.Texts.{allowed_text};
 ghost use Rattle.scrib_types.specs.declared.event.Told.TheVariants.{Judged};
+ghost use Rattle.scrib_types.specs.declared.event.Verdict.TheVariants.{Permitted};
 ghost use Rattle.scrib_core.specs.declared.reply.Reply.TheVariants.{Noted};
 ghost use Rattle.scrib_report.specs.Lines as lines;
 
@@ -44,6 +45,7 @@ struct Offence<'a> {
 ///
 /// # Errors
 /// `AllocError` where memory for the longer text is refused; the text is then as it was.
+#[inline(never)]
 pub fn push_permitted_verdict(out: &mut Vec<u8>, id: u32) -> Result<(), AllocError>
     ensures ok { OnOk result (out.new.items ≡ out.old.items ++ (decimal id ++ codes " permitted\n")) }
     ensures err { OnErr result (out.new.items ≡ out.old.items) }
@@ -53,11 +55,26 @@ pub fn push_permitted_verdict(out: &mut Vec<u8>, id: u32) -> Result<(), AllocErr
     out.extend_from_slice(&line[id_at..])
 }
 
+/// Appends `3.1 permitted` for the event at this place of the conversation `id`, and a line feed.
+///
+/// Most lines of a long script are such. It is not inlined, so that LLVM inlines what it calls.
+///
+/// # Errors
+/// `AllocError` where memory for the longer text is refused; the text is then as it was.
+#[inline(never)]
+pub fn push_permitted(out: &mut Vec<u8>, id: u32, place: u64) -> Result<(), AllocError>
+    ensures ok { OnOk result
+        (out.new.items ≡ out.old.items ++ lines.line_of (Noted id place (Judged Permitted)) ++ 10 ∷ []) }
+    ensures err { OnErr result (out.new.items ≡ out.old.items) }
+{
+    push_event(out, id, place, PERMITTED, PERMITTED_END)
+}
+
 /// Appends the line of an event with this verdict, in ASCII bytes, and a line feed.
 ///
 /// # Errors
 /// `AllocError` where memory for the longer text is refused; the text is then as it was.
-#[inline(always)]
+#[inline(never)]
 pub fn push_judged_event(
     out: &mut Vec<u8>,
     id: u32,
@@ -69,8 +86,7 @@ pub fn push_judged_event(
     ensures err { OnErr result (out.new.items ≡ out.old.items) }
 {
     match verdict {
-        // most lines of a long script
-        Verdict::Permitted => push_event(out, id, place, PERMITTED, PERMITTED_END),
+        Verdict::Permitted => push_permitted(out, id, place),
         Verdict::Withdrawn => push_event(out, id, place, WITHDRAWN, WITHDRAWN_END),
         Verdict::Offence {
             place: at,

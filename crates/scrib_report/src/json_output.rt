@@ -36,7 +36,7 @@ pub(crate) fn push_json_part(out: &mut Vec<u8>, part: &OutputPart<'_>) -> Result
         OutputPart::BadLine(number) => push_numbered(
             out,
             b"{\"line\":",
-            u64::from(*number),
+            *number,
             b",\"refused\":\"BadLine\"}\n",
         ),
         OutputPart::EndOfText => push_bytes(out, b"{\"refused\":\"EndOfText\"}\n"),

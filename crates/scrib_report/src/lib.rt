@@ -11,6 +11,7 @@ mod json_table;
 pub mod line;
 mod line_output;
 pub mod numbered;
+pub mod opened_line;
 pub mod part;
 pub mod printing;
 pub mod table;

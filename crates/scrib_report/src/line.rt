@@ -7,6 +7,7 @@ use crate::edit::{edit_word, push_change};
 use crate::event_line::{push_judged_event, push_permitted_verdict};
 use crate::fault::push_refusal;
 use crate::numbered::push_opened_id;
+use crate::opened_line::push_opened_line;
 use crate::verdict::push_told;
 use scrib_core::reply::Reply;
 use scrib_library::changes::Change;
@@ -99,6 +100,7 @@ pub fn push_whole_line(out: &mut Vec<u8>, reply: &Reply) -> Result<(), AllocErro
             told: Told::Judged(Verdict::Permitted),
             ..
         } => push_permitted_verdict(out, *id),
+        Reply::Opened { id, name } => push_opened_line(out, *id, name),
         _ => {
             push_line(out, reply)?;
             push_bytes(out, b"\n")

@@ -21,21 +21,21 @@ pub(crate) fn push_numbered(
     push_bytes(out, after)
 }
 
-// The ends of `refused BadLine 3` and of `open 3: `, behind room for a word and an id.
-const LINE_END: [u8; 32] = *b"                               \n";
+// The ends of `refused BadLine 3` and of `open 3: `, behind room for a word and a number.
+const LINE_END: [u8; 40] = *b"                                       \n";
 
-const COLON: [u8; 32] = *b"                              : ";
+const COLON: [u8; 40] = *b"                                      : ";
 
 // The offsets in these at which the digits end.
-const LINE_DIGITS_END: usize = 31;
+const LINE_DIGITS_END: usize = 39;
 
-const COLON_DIGITS_END: usize = 30;
+const COLON_DIGITS_END: usize = 38;
 
 /// Appends the line of a bad line of this number, as `refused BadLine 3`, and a line feed.
 ///
 /// # Errors
 /// `AllocError` where memory for the longer text is refused; the text is then as it was.
-pub fn push_bad_line(out: &mut Vec<u8>, number: u32) -> Result<(), AllocError>
+pub fn push_bad_line(out: &mut Vec<u8>, number: u64) -> Result<(), AllocError>
     ensures ok { OnOk result
         (out.new.items ≡ out.old.items ++ (codes "refused BadLine " ++ decimal number ++ codes "\n")) }
     ensures err { OnErr result (out.new.items ≡ out.old.items) }
@@ -43,11 +43,12 @@ pub fn push_bad_line(out: &mut Vec<u8>, number: u32) -> Result<(), AllocError>
     push_word_and_number(out, b"refused BadLine ", number, LINE_END, LINE_DIGITS_END)
 }
 
-// Appends `open `, the id, and `: `.
+// Appends `open `, the id, and `: `, or leaves the text as it was.
 pub(crate) fn push_opened_id(out: &mut Vec<u8>, id: u32) -> Result<(), AllocError>
-    ensures { OnOk result (out.new.items ≡ out.old.items ++ (codes "open " ++ decimal id ++ codes ": ")) }
+    ensures ok { OnOk result (out.new.items ≡ out.old.items ++ (codes "open " ++ decimal id ++ codes ": ")) }
+    ensures err { OnErr result (out.new.items ≡ out.old.items) }
 {
-    push_word_and_number(out, b"open ", id, COLON, COLON_DIGITS_END)
+    push_word_and_number(out, b"open ", u64::from(id), COLON, COLON_DIGITS_END)
 }
 
 // Appends the number between a word and what the template has behind the room for these, by one append.
@@ -55,19 +56,19 @@ pub(crate) fn push_opened_id(out: &mut Vec<u8>, id: u32) -> Result<(), AllocErro
 fn push_word_and_number(
     out: &mut Vec<u8>,
     word: &[u8],
-    number: u32,
-    template: [u8; 32],
+    number: u64,
+    template: [u8; 40],
     digits_end: usize,
 ) -> Result<(), AllocError>
-    requires room { length word.now + 10 ≤ digits_end }
-    requires within { digits_end ≤ 32 }
+    requires room { length word.now + 20 ≤ digits_end }
+    requires within { digits_end ≤ 40 }
     ensures ok { OnOk result (out.new.items
         ≡ out.old.items ++ (word.now ++ decimal number ++ drop digits_end template)) }
     ensures err { OnErr result (out.new.items ≡ out.old.items) }
 {
     // The text is written from its end, so one append suffices.
     let mut text = template;
-    let number_at = write_digits(u64::from(number), &mut text, digits_end);
+    let number_at = write_digits(number, &mut text, digits_end);
     let word_at = number_at - word.len();
     text[word_at..number_at].copy_from_slice(word);
     out.extend_from_slice(&text[word_at..])

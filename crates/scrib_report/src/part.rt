@@ -14,7 +14,7 @@ pub enum OutputPart<'a> {
     /// The refusal of a pass whose receipt differs from the log of this conversation at this place.
     Mismatch { conversation: u32, place: usize },
     /// A line of this number, from 1, that is no step.
-    BadLine(u32),
+    BadLine(u64),
     /// The end of a script inside a module text.
     EndOfText,
     /// The heading before the lines of the connection of this number.
