@@ -1,16 +1,19 @@
 -- Steps and items that are carried out, in both modes.
-use Rattle.std.proofs.Common.{◌≡◌, ◌≢◌, ℕ, List, [], ◌∷◌, ◌++◌, Option, Some, None, refl, sym, ap, subst, ◌∙◌}
-use Rattle.std.specs.Prelude.{IfOk, IsOk, Result, Ok, Err, codes}
+use Rattle.std.proofs.Common.{◌≡◌, ◌≢◌, ℕ, Bool, true, List, [], ◌∷◌, ◌++◌, Option, Some, None, refl, sym, ap, subst, ◌∙◌}
+use Rattle.std.specs.Prelude.{Result, Ok, Err, codes}
+use Rattle.std.proofs.lemmas.Bool.{true≢false}
 use Rattle.std.specs.Fmt.{decimal}
 use Rattle.std.specs.Io.KnownBytes.{Appends}
 use Rattle.std.proofs.lemmas.List.{append_assoc}
 use Rattle.scrib_types.specs.declared.event.Told.{Told}
 use Rattle.scrib_types.specs.declared.event.Told.TheVariants as told
-use Rattle.scrib_types.specs.declared.event.Verdict.TheVariants.{Permitted}
+use Rattle.scrib_types.specs.declared.event.Verdict.TheVariants.{Permitted, Offence, Withdrawn}
 use Rattle.scrib_core.specs.declared.conversation_steps.Judged.{Judged}
 use Rattle.scrib_core.specs.declared.reply.Refusal.{Refusal}
 use Rattle.scrib_core.specs.declared.reply.Reply.TheVariants as reply
+use Rattle.scrib_core.specs.Permitted.{IsReplyTest, is_permitted_outcome, is_permitted_verdict}
 use Rattle.scrib_core.specs.ReplyValues.{verdict_reply_of}
+use Rattle.scrib_core.specs.declared.step.Step.TheVariants.{Ask}
 use Rattle.scrib_report.specs.Lines.{line_of}
 use Rattle.scrib_report.proofs.EventLine.{verdict_and_end}
 use Rattle.scrib_core.specs.declared.step.Step.{Step}
@@ -41,16 +44,20 @@ shown_plainly t o r was now e is = subst (λ (u : OutputMode). IsReplyShown u fo
     by format.Line is = is
     by format.Json is = is
 
--- the line of a permitted verdict is the reply's text, where the line asks for a line of text
-pub permitted_shown : (f : Format) (id : ℕ) (asked : Result Judged Refusal) (old new : List ℕ) → f ≡ format.Line → IfOk asked (λ j. j.told ≡ told.Judged Permitted) → IsOk asked → new ≡ old ++ (decimal id ++ codes " permitted\n")
-    → new ≡ old ++ reply_text f (verdict_reply_of id asked)
-permitted_shown f id (Ok j) old new plain permitted ok e =
-    let end : List ℕ = 10 ∷ [] in
-    e ∙ verdict_and_end old id j.name j.events
-    ∙ ap (λ (t : Told). old ++ line_of (reply.Judged id j.name j.events t) ++ end) (sym permitted)
-    ∙ append_assoc old (line_of (reply.Judged id j.name j.events j.told)) end
-    ∙ ap (λ (g : Format). old ++ reply_text g (reply.Judged id j.name j.events j.told)) (sym plain)
-permitted_shown f id (Err r) old new plain permitted ok e = cc
+-- the line of a permitted verdict is the reply's text
+permitted_shown : (id : ℕ) (asked : Result Judged Refusal) (old new : List ℕ) → true ≡ is_permitted_outcome asked → new ≡ old ++ (decimal id ++ codes " permitted\n")
+    → new ≡ old ++ reply_text format.Line (verdict_reply_of id asked)
+permitted_shown id (Ok j) old new permitted e = by j.told permitted
+  where
+    by : (t : Told) → true ≡ is_permitted_verdict t → new ≡ old ++ reply_text format.Line (reply.Judged id j.name j.events t)
+    by told.Stale p = absurd (true≢false p)
+    by (told.Judged Permitted) p =
+        let end : List ℕ = 10 ∷ [] in
+        e ∙ verdict_and_end old id j.name j.events
+        ∙ append_assoc old (line_of (reply.Judged id j.name j.events (told.Judged Permitted))) end
+    by (told.Judged (Offence place role allowed)) p = absurd (true≢false p)
+    by (told.Judged Withdrawn) p = absurd (true≢false p)
+permitted_shown id (Err r) old new permitted e = absurd (true≢false permitted)
 
 -- A short line that spells an item is carried out where the item is.
 pub short_carried_out : (t : OutputMode) (line : ShortLine) (i : Item) (w v : State) (was now : Option (List ℕ)) → short_items line ≡ i ∷ [] → IsCarriedOut t i w v was now → IsShortCarriedOut t line w v was now
@@ -70,3 +77,11 @@ module _ (t : OutputMode) (i : Item) (w : State) where
 
   pub end_written : (was now : Option (List ℕ)) → i ≡ item.EndOfText → Appends was now (end_shown t) → IsCarriedOut t i w w was now
   end_written was now e a = subst (λ (j : Item). IsCarriedOut t j w w was now) (sym e) ([], end_shown t, (refl, refl, refl), a)
+
+-- A question whose verdict is `Permitted` is carried out where its line is added.
+pub permitted_carried_out : (t : OutputMode) (id : ℕ) (s : State) (test : Bool) (old new : List ℕ) → t ≡ Printed format.Line → IsReplyTest s id test → true ≡ test → new ≡ old ++ (decimal id ++ codes " permitted\n")
+    → IsCarriedOut t (item.Step format.Line (Ask id)) s s (Some old) (Some new)
+permitted_carried_out t id s test old new plain replied holds e =
+    let r = verdict_reply_of id replied.outcome in
+    step_written t (item.Step format.Line (Ask id)) s s (Some old) (Some new) format.Line (Ask id) r refl replied.answered
+    (shown_plainly t format.Line r old new plain (permitted_shown id replied.outcome old new (holds ∙ replied.is) e))

@@ -51,19 +51,19 @@ answers_refused : (w : State) (ss : List Step) → Answers w ss (refused ss) w
 answers_refused w [] = refl
 answers_refused w (s ∷ ss) = (w, (refuses_memory w.world s, refl), answers_refused w ss)
 
-answers_more : (w v u : State) (ss ts : List Step) (rs qs : List Reply) → Answers w ss rs v → Answers v ts qs u → Answers w (ss ++ ts) (rs ++ qs) u
+pub answers_more : (w v u : State) (ss ts : List Step) (rs qs : List Reply) → Answers w ss rs v → Answers v ts qs u → Answers w (ss ++ ts) (rs ++ qs) u
 answers_more w v u [] ts [] qs a b = subst (λ (x : State). Answers x ts qs u) a b
 answers_more w v u [] ts (r ∷ rs) qs a b = absurd a
 answers_more w v u (s ∷ ss) ts [] qs a b = absurd a
 answers_more w v u (s ∷ ss) ts (r ∷ rs) qs a b = (a.0, a.1, answers_more a.0 v u ss ts rs qs a.2 b)
 
-steps_more : (items more : List Item) → steps_of (items ++ more) ≡ steps_of items ++ steps_of more
+pub steps_more : (items more : List Item) → steps_of (items ++ more) ≡ steps_of items ++ steps_of more
 steps_more [] more = refl
 steps_more (item.Step f s ∷ items) more = ap (λ (ss : List Step). s ∷ ss) (steps_more items more)
 steps_more (item.BadLine n ∷ items) more = steps_more items more
 steps_more (item.EndOfText ∷ items) more = steps_more items more
 
-written_more : (o : Format) (items more : List Item) (rs qs : List Reply) (w v : State) → Answers w (steps_of items) rs v
+pub written_more : (o : Format) (items more : List Item) (rs qs : List Reply) (w v : State) → Answers w (steps_of items) rs v
     → written o (items ++ more) (rs ++ qs) ≡ written o items rs ++ written o more qs
 written_more o [] more [] qs w v a = refl
 written_more o [] more (r ∷ rs) qs w v a = absurd a
@@ -93,7 +93,7 @@ items_shown_more t items more rs qs w v a =
     ap (shown_bytes t) (written_more (output_format t) items more rs qs w v a) ∙ shown_both t (written o items rs) (written o more qs)
 
 -- what is written for an item is what is written for the list of it
-does_shown : (t : OutputMode) (i : Item) (w v : State) (rs : List Reply) (out : List ℕ) → ItemDoes t i w rs v out → out ≡ items_shown t (i ∷ []) rs
+pub does_shown : (t : OutputMode) (i : Item) (w v : State) (rs : List Reply) (out : List ℕ) → ItemDoes t i w rs v out → out ≡ items_shown t (i ∷ []) rs
 does_shown t (item.Step f s) w v rs out d =
     let text = reply_text (reply_format (output_format t) f) d.0 in
     let one : items_shown t (item.Step f s ∷ []) (d.0 ∷ []) ≡ reply_shown t f d.0 = ap (shown_bytes t) (append-nil text) in
@@ -101,7 +101,7 @@ does_shown t (item.Step f s) w v rs out d =
 does_shown t (item.BadLine n) w v rs out d = d.2 ∙ ap (shown_bytes t) (sym (append-nil (bad_line (output_format t) n)))
 does_shown t item.EndOfText w v rs out d = d.2 ∙ ap (shown_bytes t) (sym (append-nil (end_of_text (output_format t))))
 
-does_answers : (t : OutputMode) (i : Item) (w v : State) (rs : List Reply) (out : List ℕ) → ItemDoes t i w rs v out → Answers w (steps_of (i ∷ [])) rs v
+pub does_answers : (t : OutputMode) (i : Item) (w v : State) (rs : List Reply) (out : List ℕ) → ItemDoes t i w rs v out → Answers w (steps_of (i ∷ [])) rs v
 does_answers t (item.Step f s) w v rs out d = subst (λ (qs : List Reply). Answers w (s ∷ []) qs v) (sym d.1) (v, d.2, refl)
 does_answers t (item.BadLine n) w v rs out d = subst (λ (qs : List Reply). Answers w [] qs v) (sym d.0) d.1
 does_answers t item.EndOfText w v rs out d = subst (λ (qs : List Reply). Answers w [] qs v) (sym d.0) d.1
@@ -327,7 +327,7 @@ ended_none run o w none ends = record {
           is = refl;
         },
         c.appends,
-        c.read.within,
+        c.read.read.within,
       );
 }
 
@@ -348,7 +348,7 @@ ended_item run i v w w' ends it = record {
           is = further.is;
         },
         appends_more w0 w w' x here.1 c.appends here.3,
-        c.read.within,
+        c.read.read.within,
       );
 }
 

@@ -1,26 +1,27 @@
 //! Gathers the texts of an output, so that one write takes many of them.
 
-ghost use Rattle.std.specs.Prelude.{◌≡◌, ◌++◌, [], true, IfErr, IfOk, IsOk, IsTrue, OnOk, OnErr};
+ghost use Rattle.std.specs.Prelude.{◌≡◌, ◌++◌, [], true, codes, IfErr, OnOk, OnErr};
+ghost use Rattle.std.specs.Fmt.{decimal};
 ghost use Rattle.std.specs.Io.KnownBytes.{Appends};
-ghost use Rattle.scrib_types.specs.declared.event.Told.TheVariants as told;
-ghost use Rattle.scrib_types.specs.declared.event.Verdict.TheVariants.{Permitted};
-ghost use Rattle.scrib_core.specs.ReplyValues.{note_reply_of, verdict_reply_of};
+ghost use Rattle.scrib_core.specs.ReplyValues.{note_reply_of, open_reply_of};
 ghost use Rattle.scrib_report.specs.Parts.{bad_part, part_of};
 ghost use Rattle.scrib_report.specs.ReplyTexts.{part_text, reply_text};
 ghost use Rattle.scrib_script_io.specs.Faults.{of_output};
 ghost use Rattle.scrib_script_io.specs.Writes.{AppendsPart};
 ghost use Rattle.scrib_cli.specs.Progress.{WritesFront};
 
-use scrib_core::conversation_steps::{Judged, Noted};
+use scrib_core::conversation_steps::Noted;
 use scrib_core::format::Format;
-use scrib_core::reply::{Refusal, Reply, note_reply, verdict_reply};
-use scrib_report::event_line::{push_judged_event, push_permitted_verdict};
+use scrib_core::reply::{Refusal, Reply, note_reply, open_reply};
+use scrib_report::event_line::{push_judged_event, push_permitted, push_permitted_verdict};
 use scrib_report::numbered::push_bad_line;
+use scrib_report::opened_line::push_opened_line;
 use scrib_report::part::OutputPart;
 use scrib_report::printing::push_part;
 use scrib_script_io::fault::ScriptFault;
 use scrib_script_io::writing::write_out;
 use scrib_types::event::{Told, Verdict};
+use scrib_types::name::Dotted;
 use std::alloc::{AllocError, Global};
 use std::io::Write;
 
@@ -29,23 +30,23 @@ const FULL_BYTES: usize = 65_536;
 
 /// Texts that are to be written, in their order.
 #[derive(Drop)]
-pub(crate) struct Gathered {
+pub struct Gathered {
     bytes: Vec<u8>,
     // The buffer for one text. Where memory is refused in the midst of it, the gathered texts stay whole.
     buffer: Vec<u8>,
 }
 
 impl Gathered {
-    // Returns a gathering of no texts.
-    pub(crate) fn new(alloc: Global) -> Gathered {
+    /// Returns a gathering of no texts.
+    pub fn new(alloc: Global) -> Gathered {
         Gathered {
             bytes: Vec::new(alloc),
             buffer: Vec::new(alloc),
         }
     }
 
-    // Drops all texts.
-    pub(crate) fn clear(&mut self)
+    /// Drops all texts.
+    pub fn clear(&mut self)
         ensures { self.new.bytes.items ≡ [] }
     {
         self.bytes.clear();
@@ -86,6 +87,15 @@ impl Gathered {
                 Ok(
                     Noted {
                         place,
+                        told: Told::Judged(Verdict::Permitted),
+                    },
+                ),
+            ) => push_permitted(&mut self.bytes, id, place as u64),
+            (
+                Format::Line,
+                Ok(
+                    Noted {
+                        place,
                         told: Told::Judged(verdict),
                     },
                 ),
@@ -94,26 +104,36 @@ impl Gathered {
         }
     }
 
-    // Adds the reply to a question about the conversation `id` with this outcome, in this format. Where memory is
-    // refused, the texts stay as they were.
-    pub(crate) fn add_asked(
+    // Adds the reply to an opening of the conversation `id` with this outcome, in this format. Where memory is refused,
+    // the texts stay as they were.
+    pub(crate) fn add_opened(
         &mut self,
         id: u32,
-        asked: Result<Judged, Refusal>,
+        opened: Result<Dotted, Refusal>,
         format: Format,
     ) -> Result<(), AllocError>
         ensures ok { OnOk result
-            (self.new.bytes.items ≡ self.old.bytes.items ++ reply_text format (verdict_reply_of id asked)) }
+            (self.new.bytes.items ≡ self.old.bytes.items ++ reply_text format (open_reply_of id opened)) }
         ensures err { OnErr result (self.new.bytes.items ≡ self.old.bytes.items) }
     {
-        match format {
-            Format::Line if is_permitted(&asked) => push_permitted_verdict(&mut self.bytes, id),
-            _ => self.add_reply(&verdict_reply(id, asked), format),
+        match (format, opened) {
+            (Format::Line, Ok(name)) => push_opened_line(&mut self.bytes, id, &name),
+            (format, opened) => self.add_reply(&open_reply(id, opened), format),
         }
     }
 
+    // Adds the line of the reply that the verdict on the conversation `id` is `Permitted`. Where memory is refused, the
+    // texts stay as they were.
+    pub(crate) fn add_permitted_verdict(&mut self, id: u32) -> Result<(), AllocError>
+        ensures ok { OnOk result
+            (self.new.bytes.items ≡ self.old.bytes.items ++ (decimal id ++ codes " permitted\n")) }
+        ensures err { OnErr result (self.new.bytes.items ≡ self.old.bytes.items) }
+    {
+        push_permitted_verdict(&mut self.bytes, id)
+    }
+
     // Adds the report of a bad line of this number, in this format. Where memory is refused, the texts stay as they were.
-    pub(crate) fn add_bad_line(&mut self, number: u32, format: Format) -> Result<(), AllocError>
+    pub(crate) fn add_bad_line(&mut self, number: u64, format: Format) -> Result<(), AllocError>
         ensures ok { OnOk result
             (self.new.bytes.items ≡ self.old.bytes.items ++ part_text format (bad_part number)) }
         ensures err { OnErr result (self.new.bytes.items ≡ self.old.bytes.items) }
@@ -133,8 +153,11 @@ impl Gathered {
         self.add_part(&OutputPart::Reply(reply), format)
     }
 
-    // Writes all texts and drops them. After an error, a prefix of them is written.
-    pub(crate) fn write_all<W: Write>(&mut self, writer: &mut W) -> Result<(), ScriptFault>
+    /// Writes all texts and drops them.
+    ///
+    /// # Errors
+    /// `Write` where the writer fails. A prefix of the texts is then written, and all are dropped.
+    pub fn write_all<W: Write>(&mut self, writer: &mut W) -> Result<(), ScriptFault>
         ensures none { self.new.bytes.items ≡ [] }
         ensures ok { OnOk result (Appends (W.contents writer.old) (W.contents writer.new) self.old.bytes.items) }
         ensures err { OnErr result
@@ -161,16 +184,5 @@ impl Gathered {
         } else {
             Ok(())
         }
-    }
-}
-
-// Returns whether the answer is that the log is permitted.
-fn is_permitted(asked: &Result<Judged, Refusal>) -> bool
-    ensures told { IsTrue result → IfOk asked.now (λ judged. judged.told ≡ told.Judged Permitted) }
-    ensures ok { IsTrue result → IsOk asked.now }
-{
-    match asked {
-        Ok(judged) => matches!(judged.told, Told::Judged(Verdict::Permitted)),
-        Err(_) => false,
     }
 }

@@ -1,12 +1,13 @@
 //! Makes the step of an item or of a short line of a script, and gathers the reply.
 
-ghost use Rattle.std.specs.Prelude.{◌≡◌, ◌≢◌, ◌++◌, true, Some, IfErr, OnOk, OnErr};
+ghost use Rattle.std.specs.Prelude.{◌≡◌, ◌≢◌, ◌++◌, true, Some, IfErr, IsTrue, OnOk, OnErr};
 ghost use Rattle.scrib_core.specs.Held.{state_of};
 ghost use Rattle.scrib_core.specs.declared.format.Format.TheVariants as format;
-ghost use Rattle.scrib_core.specs.declared.step.Step.TheVariants.{Ask, Note};
+ghost use Rattle.scrib_core.specs.declared.step.Step.TheVariants.{Ask, Note, Open};
 ghost use Rattle.scrib_core.specs.declared.reply.Reply.TheVariants.{Refused};
 ghost use Rattle.scrib_core.specs.declared.reply.Refusal.TheVariants.{OutOfMemory};
 ghost use Rattle.scrib_script_reader.specs.declared.item.Item.TheVariants as item;
+ghost use Rattle.scrib_cli.specs.declared.output_mode.OutputMode.TheVariants.{Printed};
 ghost use Rattle.scrib_cli.specs.Progress.{IsReplyShown, IsCarriedOut, IsShortCarriedOut, bad_line_shown, end_shown};
 ghost use Rattle.scrib_script_io.specs.Faults.{of_output};
 
@@ -14,13 +15,14 @@ use crate::gathered::Gathered;
 use crate::output_mode::OutputMode;
 use scrib_core::format::Format;
 use scrib_core::monitor::Core;
-use scrib_core::reply::{Refusal, Reply, note_reply, verdict_reply};
+use scrib_core::reply::{Refusal, Reply, note_reply, open_reply};
 use scrib_core::step::Step;
 use scrib_report::part::OutputPart;
 use scrib_report::printing::reply_format;
 use scrib_script_io::fault::ScriptFault;
 use scrib_script_reader::item::Item;
 use scrib_script_reader::short_line::ShortLine;
+use scrib_types::name::Dotted;
 use scrib_types::shared_event::SharedEvent;
 
 // Gathers the reply to a step whose line asks for this format. In silent mode fails where the step was refused memory.
@@ -58,9 +60,10 @@ fn check_memory(reply: &Reply) -> Result<(), ScriptFault>
 }
 
 // Gathers the report of a bad line of this number; in silent mode gathers nothing.
+#[inline(never)]
 fn gather_bad_line(
     gathered: &mut Gathered,
-    number: u32,
+    number: u64,
     output_mode: OutputMode,
 ) -> Result<(), ScriptFault>
     ensures ok { OnOk result
@@ -122,24 +125,56 @@ fn gather_note(
 // Asks for the verdict on the conversation and gathers the reply to this step, whose line asks for no format.
 //
 // Fails where there is no memory for the text, or in silent mode for the step. The gathered texts are then unchanged.
+#[inline(never)]
 fn gather_asked(
     gathered: &mut Gathered,
-    core: &Core,
+    core: &mut Core,
     id: u32,
     output_mode: OutputMode,
 ) -> Result<(), ScriptFault>
     ensures ok { OnOk result (IsCarriedOut output_mode (item.Step format.Line (Ask id))
-        (state_of core.now) (state_of core.now) (Some gathered.old.bytes.items) (Some gathered.new.bytes.items)) }
+        (state_of core.old) (state_of core.new) (Some gathered.old.bytes.items) (Some gathered.new.bytes.items)) }
     ensures err { OnErr result (gathered.new.bytes.items ≡ gathered.old.bytes.items) }
     ensures fault { IfErr result (λ e. of_output e ≡ true) }
 {
-    let asked = core.verdict_on(id);
+    // most questions of a long script
+    if prints_lines(output_mode) && core.is_permitted(id) {
+        gathered.add_permitted_verdict(id)?;
+        return Ok(());
+    }
+    gather_step(gathered, core, Step::Ask { id }, output_mode)
+}
+
+// Returns whether replies are printed as lines of text, where a line asks for no format.
+fn prints_lines(output_mode: OutputMode) -> bool
+    ensures { IsTrue result → output_mode ≡ Printed format.Line }
+{
+    matches!(output_mode, OutputMode::Printed(Format::Line))
+}
+
+// Opens the conversation and gathers the reply to this step, whose line asks for no format.
+//
+// Fails where there is no memory for the text, or in silent mode for the step. The gathered texts are then unchanged.
+#[inline(never)]
+fn gather_opened(
+    gathered: &mut Gathered,
+    core: &mut Core,
+    id: u32,
+    name: &Dotted,
+    output_mode: OutputMode,
+) -> Result<(), ScriptFault>
+    ensures ok { OnOk result (IsCarriedOut output_mode (item.Step format.Line (Open id name.now))
+        (state_of core.old) (state_of core.new) (Some gathered.old.bytes.items) (Some gathered.new.bytes.items)) }
+    ensures err { OnErr result (gathered.new.bytes.items ≡ gathered.old.bytes.items) }
+    ensures fault { IfErr result (λ e. of_output e ≡ true) }
+{
+    let opened = core.open_conversation(id, name);
     match output_mode {
         OutputMode::Printed(format) => {
-            gathered.add_asked(id, asked, format)?;
+            gathered.add_opened(id, opened, format)?;
             Ok(())
         }
-        OutputMode::Silent => check_memory(&verdict_reply(id, asked)),
+        OutputMode::Silent => check_memory(&open_reply(id, opened)),
     }
 }
 
@@ -162,11 +197,13 @@ fn gather_step(
     gather_reply(gathered, &reply, Format::Line, output_mode)
 }
 
-// Does what the line spells, and gathers what is written for it.
-//
-// Fails where there is no memory for a text, or in silent mode for the step. The gathered texts are then unchanged.
+/// Does what the line spells, and gathers what is written for it.
+///
+/// # Errors
+/// `OutOfMemory` where there is no memory for a text, or in silent mode for the step. The gathered texts are then
+/// unchanged.
 #[inline(always)]
-pub(crate) fn gather_short(
+pub fn gather_short(
     gathered: &mut Gathered,
     core: &mut Core,
     line: ShortLine,
@@ -181,18 +218,18 @@ pub(crate) fn gather_short(
         // most lines of a long script
         ShortLine::Note { id, event } => gather_note(gathered, core, id, event, output_mode),
         ShortLine::Ask { id } => gather_asked(gathered, core, id, output_mode),
-        ShortLine::Open { id, name } => {
-            gather_step(gathered, core, Step::Open { id, name }, output_mode)
-        }
+        ShortLine::Open { id, name } => gather_opened(gathered, core, id, &name, output_mode),
         ShortLine::Bad(number) => gather_bad_line(gathered, number, output_mode),
         ShortLine::Skipped => Ok(()),
     }
 }
 
-// Makes the item's step and gathers its reply; or gathers a bad line, or an end inside a module text.
-//
-// Fails where there is no memory for a text, or in silent mode for the step. The gathered texts are then as they were.
-pub(crate) fn gather_item(
+/// Makes the item's step and gathers its reply; or gathers a bad line, or an end inside a module text.
+///
+/// # Errors
+/// `OutOfMemory` where there is no memory for a text, or in silent mode for the step. The gathered texts are then
+/// unchanged.
+pub fn gather_item(
     gathered: &mut Gathered,
     core: &mut Core,
     item: Item,

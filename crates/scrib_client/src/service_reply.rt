@@ -10,12 +10,12 @@ use scrib_core::format::Format;
 use scrib_core::reply::{Edit, Refusal, Reply};
 use scrib_library::changes::Changes;
 use scrib_library::fault::EditFault;
-use scrib_report::event_line::push_judged_event;
+use scrib_report::event_line::{push_judged_event, push_permitted};
 use scrib_report::part::OutputPart;
 use scrib_report::printing::push_part;
 use scrib_shards::pass_calls::{PassRefusal, PassReply};
 use scrib_shards::step_results::Noted;
-use scrib_types::event::Told;
+use scrib_types::event::{Told, Verdict};
 use scrib_types::profile::Profile;
 use std::alloc::AllocError;
 
@@ -172,6 +172,15 @@ pub fn push_noted_reply(
 {
     match (format, outcome) {
         // most replies of a long script
+        (
+            Format::Line,
+            Ok(
+                Noted {
+                    place,
+                    told: Told::Judged(Verdict::Permitted),
+                },
+            ),
+        ) => push_permitted(lines, id, place as u64),
         (
             Format::Line,
             Ok(

@@ -130,7 +130,7 @@ impl<'a> Connection<'a> {
         &mut self,
         rt: &impl Wait,
         item: Item,
-        number: u32,
+        number: u64,
     ) -> Result<(), ScriptFault>
         ensures took { OnOk result (TakesItems self.old self.new (item ∷ [])) }
         ensures fault { IfErr result (λ e. e ≡ fault.OutOfMemory) }
@@ -142,7 +142,7 @@ impl<'a> Connection<'a> {
     }
 
     // As `submit`, for an item that is not buffered.
-    fn submit_alone(&mut self, rt: &impl Wait, item: Item, number: u32) -> Result<(), ScriptFault>
+    fn submit_alone(&mut self, rt: &impl Wait, item: Item, number: u64) -> Result<(), ScriptFault>
         ensures took { OnOk result (TakesItems self.old self.new (item ∷ [])) }
         ensures fault { IfErr result (λ e. e ≡ fault.OutOfMemory) }
     {
@@ -311,7 +311,7 @@ impl<'a> Connection<'a> {
     }
 
     // As `submit`, where no event is buffered.
-    fn submit_now(&mut self, rt: &impl Wait, item: Item, number: u32) -> Result<(), ScriptFault>
+    fn submit_now(&mut self, rt: &impl Wait, item: Item, number: u64) -> Result<(), ScriptFault>
         ensures yielded { OnOk result (Yields self.old self.new (item ∷ [])) }
         ensures fault { IfErr result (λ e. e ≡ fault.OutOfMemory) }
     {
@@ -350,7 +350,7 @@ impl<'a> Connection<'a> {
     }
 
     // Appends the line that reports a bad line of this number.
-    fn append_bad_line(&mut self, number: u32) -> Result<(), ScriptFault>
+    fn append_bad_line(&mut self, number: u64) -> Result<(), ScriptFault>
         ensures added { OnOk result (Adds self.old self.new (bad number ∷ [])) }
         ensures fault { IfErr result (λ e. e ≡ fault.OutOfMemory) }
     {

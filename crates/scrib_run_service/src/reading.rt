@@ -116,7 +116,7 @@ fn submit_any(
     rt: &impl Wait,
     connection: &mut Connection<'_>,
     item: Option<Item>,
-    number: u32,
+    number: u64,
 ) -> Result<(), ScriptFault>
     ensures took { OnOk result (TakesItems connection.old connection.new (item_list item)) }
     ensures fault { IfErr result (λ e. e ≡ fault.OutOfMemory) }

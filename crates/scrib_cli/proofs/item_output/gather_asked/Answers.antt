@@ -1,31 +1,12 @@
-use Rattle.std.proofs.Common.{Some, refl, sym, subst}
-use Rattle.std.proofs.lemmas.Result.{on_ok_weaker}
-use Rattle.scrib_core.specs.declared.format.Format.TheVariants as format
-use Rattle.scrib_core.specs.declared.reply.Reply.{Reply}
-use Rattle.scrib_core.specs.declared.step.Step.TheVariants.{Ask}
-use Rattle.scrib_core.specs.Answers.{IsAnswered}
+use Rattle.std.proofs.Common.{sym}
 use Rattle.scrib_core.specs.Held.{state_of}
-use Rattle.scrib_core.specs.ReplyValues.{verdict_reply_of}
-use Rattle.scrib_script_reader.specs.declared.item.Item.TheVariants as item
-use Rattle.scrib_cli.proofs.ItemLemmas.{shown_plainly, shown_silently, step_written}
+use Rattle.scrib_cli.proofs.ItemLemmas.{permitted_carried_out}
 use Rattle.scrib_cli.proofs.item_output.gather_asked.Goals as goal
 
-pub returns-in_ok-add_asked-in-Printed-clause-ok : goal.returns-in_ok-add_asked-in-Printed-clause-ok
-returns-in_ok-add_asked-in-Printed-clause-ok c =
-    let step = Ask c.args.id in
-    let reply = verdict_reply_of c.args.id c.verdict_on-asked.result in
-    let state = state_of c.args.core.now in
-    step_written c.args.output_mode (item.Step format.Line step) state state (Some c.args.gathered.now.bytes.items) (Some c.add_asked.new.self.bytes.items) format.Line step reply refl
-    c.verdict_on-asked.ensures.answered
-    (shown_plainly c.args.output_mode c.in-Printed.format reply c.args.gathered.now.bytes.items c.add_asked.new.self.bytes.items c.in-Printed.is c.in_ok-add_asked-in-Printed.ensures.ok)
-
-pub returns-in-Silent-clause-ok : goal.returns-in-Silent-clause-ok
-returns-in-Silent-clause-ok c =
-    let step = Ask c.args.id in
-    let reply = c.verdict_reply.result in
-    let state = state_of c.args.core.now in
-    let answered = subst (λ (r : Reply). IsAnswered state step r state) (sym c.verdict_reply.ensures) c.verdict_on-asked.ensures.answered in
-    let held = Some c.args.gathered.now.bytes.items in
-    on_ok_weaker c.check_memory.result
-    (λ kept. step_written c.args.output_mode (item.Step format.Line step) state state held held format.Line step reply refl answered (shown_silently c.args.output_mode format.Line reply held c.in-Silent.is kept))
-    c.check_memory.ensures.ok
+pub returns-then-is_permitted-clause-ok : goal.returns-then-is_permitted-clause-ok
+returns-then-is_permitted-clause-ok c =
+    permitted_carried_out c.args.output_mode c.args.id (state_of c.args.core.now) c.is_permitted.result c.args.gathered.now.bytes.items c.add_permitted_verdict.new.self.bytes.items
+    (c.prints_lines.ensures c.if-prints_lines.true)
+    c.is_permitted.ensures
+    (sym c.if-is_permitted.true)
+    c.in_ok-add_permitted_verdict.ensures.ok

@@ -14,12 +14,11 @@ returns-in-Note-clause-ok c =
 
 pub returns-in-Ask-clause-ok : goal.returns-in-Ask-clause-ok
 returns-in-Ask-clause-ok c =
-    let state = state_of c.args.core.now in
-    on_ok_weaker c.gather_asked.result (short_carried_out c.args.output_mode c.args.line (item.Step format.Line (Ask c.in-Ask.id)) state state (Some c.args.gathered.now.bytes.items) (Some c.gather_asked.new.gathered.bytes.items) (ap short_items c.in-Ask.is)) c.gather_asked.ensures.ok
+    on_ok_weaker c.gather_asked.result (short_carried_out c.args.output_mode c.args.line (item.Step format.Line (Ask c.in-Ask.id)) (state_of c.args.core.now) (state_of c.gather_asked.new.core) (Some c.args.gathered.now.bytes.items) (Some c.gather_asked.new.gathered.bytes.items) (ap short_items c.in-Ask.is)) c.gather_asked.ensures.ok
 
 pub returns-in-Open-clause-ok : goal.returns-in-Open-clause-ok
 returns-in-Open-clause-ok c =
-    on_ok_weaker c.gather_step.result (short_carried_out c.args.output_mode c.args.line (item.Step format.Line (Open c.in-Open.id c.in-Open.name)) (state_of c.args.core.now) (state_of c.gather_step.new.core) (Some c.args.gathered.now.bytes.items) (Some c.gather_step.new.gathered.bytes.items) (ap short_items c.in-Open.is)) c.gather_step.ensures.ok
+    on_ok_weaker c.gather_opened.result (short_carried_out c.args.output_mode c.args.line (item.Step format.Line (Open c.in-Open.id c.in-Open.name)) (state_of c.args.core.now) (state_of c.gather_opened.new.core) (Some c.args.gathered.now.bytes.items) (Some c.gather_opened.new.gathered.bytes.items) (ap short_items c.in-Open.is)) c.gather_opened.ensures.ok
 
 pub returns-in-Bad-clause-ok : goal.returns-in-Bad-clause-ok
 returns-in-Bad-clause-ok c =

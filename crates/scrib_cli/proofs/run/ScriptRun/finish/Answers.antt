@@ -6,7 +6,7 @@ use Rattle.scrib_script_reader.specs.Scripts.{item_list}
 use Rattle.scrib_script_reader.specs.Positions.{EndSpells}
 use Rattle.scrib_script_io.proofs.FaultLemmas.{not_limit}
 use Rattle.scrib_cli.proofs.Results.{on_err_any}
-use Rattle.scrib_cli.proofs.RunLemmas.{ended_item, failed_last, failed_none}
+use Rattle.scrib_cli.proofs.RunLemmas.{ended_item, ended_none, failed_last, failed_none}
 use Rattle.scrib_cli.proofs.GatherLemmas.{carried_alone, part_alone}
 use Rattle.scrib_cli.proofs.run.ScriptRun.finish.Goals as goal
 
@@ -20,6 +20,10 @@ returns-in_err-last-clause-fault g c =
 
 pub returns-in_err-gather_item-clause-err : goal.returns-in_err-gather_item-clause-err
 returns-in_err-gather_item-clause-err g c = on_err_any c.from_residual-in_err-gather_item.result (failed_none c.args.self.now (g.W.Write.contents c.args.writer.now))
+
+pub returns-in_default-clause-ok : goal.returns-in_default-clause-ok
+returns-in_default-clause-ok g c =
+    ended_none c.args.self.now c.in_ok-last.last (g.W.Write.contents c.args.writer.now) c.in_default.is c.in_ok-last.ensures.ends
 
 pub returns-clause-ok : goal.returns-clause-ok
 returns-clause-ok g c =
