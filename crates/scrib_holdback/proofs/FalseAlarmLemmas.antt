@@ -5,12 +5,12 @@ use Rattle.scrib_types.specs.declared.event.Event.{Event}
 use Rattle.scrib_types.specs.Agreement.{Agreement}
 use Rattle.scrib_types.specs.Permitted.{IsPermitted}
 use Rattle.scrib_holdback.specs.Reorderings.{own_events, IsReordering}
-use Rattle.scrib_holdback.specs.HoldBack.{HoldsBack, begins, arrives, releases, IsHeldBack}
+use Rattle.scrib_holdback.specs.HoldBack.{HoldsWithExpiries, begins, arrives, releases, expires, IsHeldBack}
 use Rattle.scrib_holdback.specs.FalseAlarms.{IsPermittedInSomeOrder, IsExact, BeginsWith, IsSameForEach, RaisesNoFalseAlarm}
 use Rattle.scrib_holdback.proofs.OwnEvents.{own-append, no_events}
 use Rattle.scrib_holdback.proofs.CausalOrders.{IsCausal, queued_causal}
 use Rattle.scrib_holdback.proofs.PermittedOrders.{permitted_in_other}
-use Rattle.scrib_holdback.proofs.Outcomes.{Outcome, outcome_of, IsWithin, all_within}
+use Rattle.scrib_holdback.proofs.Outcomes.{Outcome, outcome_of, no_item, IsWithin, all_within}
 
 -- two lists of which each is the other with more behind it
 nothing_behind : (a r w x : List Event) → a ≡ r ++ w → r ≡ a ++ x → w ≡ []
@@ -79,16 +79,17 @@ split_cases (x ∷ xs) (f ∷ fs) gs y g e =
     elim (split_cases xs fs gs y g t) [ inl p ↦ inl (ap (λ z. z ∷ fs) (sym h) ∙ ap (λ z. x ∷ z) p) | inr p ↦ let q : xs ≡ fs ++ g ∷ p.0 = p.1 in inr (p.0, cc) ]
 
 -- what was released before an item arrived
-begins_before : {X : Type 0} (event : X → Event) {arrivals released waiting : List X} → HoldsBack event arrivals released waiting → (first : List X) (y : X) (more : List X) → arrivals ≡ first ++ y ∷ more → BeginsWith event first released
-begins_before event begins [] y more e = absurd (cc)
-begins_before event begins (f ∷ first) y more e = absurd (cc)
-begins_before event (arrives {arrivals = a} {released = s} {waiting = w} x h n) first y more e =
+begins_before : {X : Type 0} (event : X → Event) {arrivals released expired waiting : List X} → HoldsWithExpiries event arrivals released expired waiting → expired ≡ [] → (first : List X) (y : X) (more : List X) → arrivals ≡ first ++ y ∷ more → BeginsWith event first released
+begins_before event begins none [] y more e = absurd (cc)
+begins_before event begins none (f ∷ first) y more e = absurd (cc)
+begins_before event (arrives {arrivals = a} {released = s} {waiting = w} x h n) none first y more e =
     elim (split_cases a first more x y e) [
-      | inl here ↦ record { early = s; waiting = w; late = []; held = record { holds = subst (λ z. HoldsBack event z s w) (sym here) h; settled = n }; begins = sym (append-nil s) }
-      | inr p ↦ begins_before event h first y p.0 p.1
+      | inl here ↦ let held : HoldsWithExpiries event first s [] w = subst (λ z. HoldsWithExpiries event z s [] w) (sym here) (subst (λ z. HoldsWithExpiries event a s z w) none h) in
+          record { early = s; waiting = w; late = []; held = record { holds = held; settled = n }; begins = sym (append-nil s) }
+      | inr p ↦ begins_before event h none first y p.0 p.1
     ]
-begins_before event (releases {released = s} earlier x later h d) first y more e =
-    let b = begins_before event h first y more e in
+begins_before event (releases {released = s} earlier x later h d) none first y more e =
+    let b = begins_before event h none first y more e in
     record {
       early = b.early;
       waiting = b.waiting;
@@ -96,6 +97,7 @@ begins_before event (releases {released = s} earlier x later h d) first y more e
       held = b.held;
       begins = ap (λ z. z ++ x ∷ []) b.begins ∙ append_assoc b.early b.late (x ∷ []);
     }
+begins_before event (expires {expired = gone} x later h n) none first y more e = absurd (no_item gone [] x (sym none))
 
 beginnings_of : {X : Type 0} (event : X → Event) (arrivals released waiting : List X) → IsHeldBack event arrivals released waiting → (first more : List X) → arrivals ≡ first ++ more → BeginsWith event first released
 beginnings_of event arrivals released waiting h first [] e = record {
@@ -105,7 +107,7 @@ beginnings_of event arrivals released waiting h first [] e = record {
   held = subst (λ z. IsHeldBack event z released waiting) (e ∙ append-nil first) h;
   begins = sym (append-nil released);
 }
-beginnings_of event arrivals released waiting h first (y ∷ more) e = begins_before event h.holds first y more e
+beginnings_of event arrivals released waiting h first (y ∷ more) e = begins_before event h.holds refl first y more e
 
 -- the law
 pub no_false_alarm : {X : Type 0} (event : X → Event) (arrivals released waiting : List X) → IsHeldBack event arrivals released waiting → RaisesNoFalseAlarm event arrivals released waiting

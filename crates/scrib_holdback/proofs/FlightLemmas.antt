@@ -1,49 +1,49 @@
--- How many messages are in flight, after an event.
-use Rattle.std.proofs.Common.{◌≡◌, ◌&&◌, ◌||◌, Bool, true, false, cond, ℕ, ◌+◌, ◌-◌, ◌<◌, List, [], ◌∷◌, ◌++◌, filter, length, get_or, set, position, Option, Some, None, is_some, refl, sym, ap, ◌∙◌, subst, arith}
+-- How many messages were sent and received on each pair, after an event.
+use Rattle.std.proofs.Common.{◌≡◌, ◌↔◌, ◌&&◌, ◌||◌, Bool, true, false, cond, ltb, ℕ, ◌+◌, ◌<◌, List, [], ◌∷◌, ◌++◌, filter, length, get_or, set, position, Option, Some, None, is_some, refl, sym, ap, ◌∙◌, subst, arith}
 use Rattle.std.specs.List.{list_any}
 use Rattle.std.specs.Str.{bytes_eq}
-use Rattle.std.proofs.lemmas.Bool.{true≢false, and_parts, and_from, false_from_ne_true}
+use Rattle.std.proofs.lemmas.Bool.{true≢false, and_parts, and_from, false_from_ne_true, ltb-true, lt-ltb}
 use Rattle.std.proofs.lemmas.List.{set_at}
 use Rattle.scrib_types.specs.declared.message.Message.{Message}
 use Rattle.scrib_types.specs.declared.event.Event.{Event}
 use Rattle.scrib_types.specs.declared.event.Event.TheVariants.{Join, Sent, Received}
 use Rattle.scrib_types.specs.Queues.{sent, received}
 use Rattle.scrib_holdback.specs.declared.flights.Flight.{Flight}
-use Rattle.scrib_holdback.specs.Holdings.{is_between, in_flight}
-use Rattle.scrib_holdback.specs.Releases.{KeepsFlights, ChangesFlights, SameFlights}
+use Rattle.scrib_holdback.specs.Holdings.{is_between, count_on, sent_on, received_on}
+use Rattle.scrib_holdback.specs.Releases.{KeepsFlights, CountsEvent, SameCounts}
 use Rattle.scrib_holdback.proofs.OwnEvents.{name_itself, same_name}
 use Rattle.scrib_holdback.proofs.Positions.{first_at, none_at, element_at, passes_not, no_any, any_left, any_right, any_only}
 
-flight_yes : (p q : List ℕ) (f : Flight) (fs : List Flight) → is_between p q f ≡ true → in_flight p q (f ∷ fs) ≡ f.count
-flight_yes p q f fs h = rw h refl
+count_yes : (k : Flight → ℕ) (p q : List ℕ) (f : Flight) (fs : List Flight) → is_between p q f ≡ true → count_on k p q (f ∷ fs) ≡ k f
+count_yes k p q f fs h = rw h refl
 
-flight_no : (p q : List ℕ) (f : Flight) (fs : List Flight) → is_between p q f ≡ false → in_flight p q (f ∷ fs) ≡ in_flight p q fs
-flight_no p q f fs h = rw h refl
+count_no : (k : Flight → ℕ) (p q : List ℕ) (f : Flight) (fs : List Flight) → is_between p q f ≡ false → count_on k p q (f ∷ fs) ≡ count_on k p q fs
+count_no k p q f fs h = rw h refl
 
 -- the first flight of the pair counts
-pub flight_here : (p q : List ℕ) (earlier later : List Flight) (f : Flight) → filter (is_between p q) earlier ≡ [] → is_between p q f ≡ true → in_flight p q (earlier ++ f ∷ later) ≡ f.count
-flight_here p q [] later f none here = flight_yes p q f later here
-flight_here p q (e ∷ earlier) later f none here =
-    let k = passes_not (is_between p q) e earlier none in
-    flight_no p q e (earlier ++ f ∷ later) k.0 ∙ flight_here p q earlier later f k.1 here
+count_here : (k : Flight → ℕ) (p q : List ℕ) (earlier later : List Flight) (f : Flight) → filter (is_between p q) earlier ≡ [] → is_between p q f ≡ true → count_on k p q (earlier ++ f ∷ later) ≡ k f
+count_here k p q [] later f none here = count_yes k p q f later here
+count_here k p q (e ∷ earlier) later f none here =
+    let n = passes_not (is_between p q) e earlier none in
+    count_no k p q e (earlier ++ f ∷ later) n.0 ∙ count_here k p q earlier later f n.1 here
 
-pub no_flight : (p q : List ℕ) (fs : List Flight) → filter (is_between p q) fs ≡ [] → in_flight p q fs ≡ 0
-no_flight p q [] none = refl
-no_flight p q (f ∷ fs) none =
-    let k = passes_not (is_between p q) f fs none in
-    flight_no p q f fs k.0 ∙ no_flight p q fs k.1
+pub no_count : (k : Flight → ℕ) (p q : List ℕ) (fs : List Flight) → filter (is_between p q) fs ≡ [] → count_on k p q fs ≡ 0
+no_count k p q [] none = refl
+no_count k p q (f ∷ fs) none =
+    let n = passes_not (is_between p q) f fs none in
+    count_no k p q f fs n.0 ∙ no_count k p q fs n.1
 
 -- a flight of another pair doesn't count
-flight_step : (p q : List ℕ) (e : Flight) (xs ys : List Flight) → in_flight p q xs ≡ in_flight p q ys → in_flight p q (e ∷ xs) ≡ in_flight p q (e ∷ ys)
-flight_step p q e xs ys h = ap (λ n. cond (is_between p q e) e.count n) h
+count_step : (k : Flight → ℕ) (p q : List ℕ) (e : Flight) (xs ys : List Flight) → count_on k p q xs ≡ count_on k p q ys → count_on k p q (e ∷ xs) ≡ count_on k p q (e ∷ ys)
+count_step k p q e xs ys h = ap (λ n. cond (is_between p q e) (k e) n) h
 
-flight_elsewhere : (p q : List ℕ) (earlier later : List Flight) (f g : Flight) → is_between p q f ≡ false → is_between p q g ≡ false → in_flight p q (earlier ++ g ∷ later) ≡ in_flight p q (earlier ++ f ∷ later)
-flight_elsewhere p q [] later f g n m = flight_no p q g later m ∙ sym (flight_no p q f later n)
-flight_elsewhere p q (e ∷ earlier) later f g n m = flight_step p q e (earlier ++ g ∷ later) (earlier ++ f ∷ later) (flight_elsewhere p q earlier later f g n m)
+count_elsewhere : (k : Flight → ℕ) (p q : List ℕ) (earlier later : List Flight) (f g : Flight) → is_between p q f ≡ false → is_between p q g ≡ false → count_on k p q (earlier ++ g ∷ later) ≡ count_on k p q (earlier ++ f ∷ later)
+count_elsewhere k p q [] later f g n m = count_no k p q g later m ∙ sym (count_no k p q f later n)
+count_elsewhere k p q (e ∷ earlier) later f g n m = count_step k p q e (earlier ++ g ∷ later) (earlier ++ f ∷ later) (count_elsewhere k p q earlier later f g n m)
 
--- a flight with another count
-abbrev with_count : Flight → ℕ → Flight
-with_count f n = record f { count = n }
+-- a flight with other counts
+abbrev with_counts : Flight → ℕ → ℕ → Flight
+with_counts f m n = record { from = f.from; to = f.to; sent = m; received = n }
 
 pairs_agree : (p q s t : List ℕ) (f : Flight) → is_between s t f ≡ true → (bytes_eq p s && bytes_eq q t) ≡ false → is_between p q f ≡ false
 pairs_agree p q s t f here n =
@@ -56,52 +56,66 @@ pairs_agree p q s t f here n =
     let eq : bytes_eq q t ≡ true = subst (λ z. bytes_eq q z ≡ true) qt (name_itself q) in
     true≢false (sym (and_from (bytes_eq p s) (bytes_eq q t) ep eq) ∙ n))
 
--- what a list of flights is like where one has another count
-pub record IsRecounted (s t : List ℕ) (old new : List Flight) (before after : ℕ) : Type 0 where
-  pub was : in_flight s t old ≡ before
-  pub is : in_flight s t new ≡ after
-  pub others : (p q : List ℕ) → (bytes_eq p s && bytes_eq q t) ≡ false → in_flight p q new ≡ in_flight p q old
-  pub any : (p q : List ℕ) → list_any (is_between p q) old ≡ true → list_any (is_between p q) new ≡ true
+-- what a list of flights is like where one has other counts: of one of the two counts
+pub record IsRecounted (k : Flight → ℕ) (s t : List ℕ) (old new : List Flight) (before after : ℕ) : Type 0 where
+  pub was : count_on k s t old ≡ before
+  pub is : count_on k s t new ≡ after
+  pub others : (p q : List ℕ) → (bytes_eq p s && bytes_eq q t) ≡ false → count_on k p q new ≡ count_on k p q old
 
-any_kept_at : (p q : List ℕ) (earlier later : List Flight) (f : Flight) (n : ℕ) → list_any (is_between p q) (earlier ++ f ∷ later) ≡ list_any (is_between p q) (earlier ++ with_count f n ∷ later)
-any_kept_at p q [] later f n = refl
-any_kept_at p q (e ∷ earlier) later f n = ap (λ b. is_between p q e || b) (any_kept_at p q earlier later f n)
-
-recounted_parts : (s t : List ℕ) (earlier later : List Flight) (f : Flight) (n : ℕ) → filter (is_between s t) earlier ≡ [] → is_between s t f ≡ true → IsRecounted s t (earlier ++ f ∷ later) (earlier ++ with_count f n ∷ later) f.count n
-recounted_parts s t earlier later f n none here = record {
-  was = flight_here s t earlier later f none here;
-  is = flight_here s t earlier later (with_count f n) none here;
-  others = λ p q other. (let no : is_between p q f ≡ false = pairs_agree p q s t f here other in flight_elsewhere p q earlier later f (with_count f n) no no);
-  any = λ p q h. sym (any_kept_at p q earlier later f n) ∙ h;
+recounted_parts : (k : Flight → ℕ) (s t : List ℕ) (earlier later : List Flight) (f : Flight) (m n : ℕ) → filter (is_between s t) earlier ≡ [] → is_between s t f ≡ true → IsRecounted k s t (earlier ++ f ∷ later) (earlier ++ with_counts f m n ∷ later) (k f) (k (with_counts f m n))
+recounted_parts k s t earlier later f m n none here = record {
+  was = count_here k s t earlier later f none here;
+  is = count_here k s t earlier later (with_counts f m n) none here;
+  others = λ p q other. (let no : is_between p q f ≡ false = pairs_agree p q s t f here other in count_elsewhere k p q earlier later f (with_counts f m n) no no);
 }
 
-pub recounted : (s t : List ℕ) (fs : List Flight) (i : ℕ) (f : Flight) (n : ℕ) → position (is_between s t) fs ≡ Some i → f ≡ get_or fs i f → IsRecounted s t fs (set fs i (with_count f n)) f.count n
-recounted s t fs i f n at is =
-    let k = first_at (is_between s t) fs i at in
-    let same : f ≡ k.x = is ∙ element_at (is_between s t) fs i k f in
-    let old : fs ≡ k.earlier ++ f ∷ k.later = k.whole ∙ ap (λ z. k.earlier ++ z ∷ k.later) (sym same) in
-    let new : set fs i (with_count f n) ≡ k.earlier ++ with_count f n ∷ k.later = ap (λ z. set z i (with_count f n)) old ∙ set_at k.earlier f k.later (with_count f n) i k.place in
-    let here : is_between s t f ≡ true = subst (λ z. is_between s t z ≡ true) (sym same) k.here in
-    subst (λ z. IsRecounted s t z (set fs i (with_count f n)) f.count n) (sym old)
-    (subst (λ z. IsRecounted s t (k.earlier ++ f ∷ k.later) z f.count n) (sym new) (recounted_parts s t k.earlier k.later f n k.none here))
+any_kept_at : (p q : List ℕ) (earlier later : List Flight) (f : Flight) (m n : ℕ) → list_any (is_between p q) (earlier ++ f ∷ later) ≡ list_any (is_between p q) (earlier ++ with_counts f m n ∷ later)
+any_kept_at p q [] later f m n = refl
+any_kept_at p q (e ∷ earlier) later f m n = ap (λ b. is_between p q e || b) (any_kept_at p q earlier later f m n)
 
--- the same, as a write of a count gives it
-pub recounted_at : (s t : List ℕ) (fs : List Flight) (i : ℕ) (f g : Flight) (n : ℕ) → position (is_between s t) fs ≡ Some i → IsRecounted s t fs (set fs i record { from = (get_or fs i g).from; to = (get_or fs i g).to; count = n }) (get_or fs i f).count n
-recounted_at s t fs i f g n at =
+-- The flight at the index has other counts. All of these facts are read of the first flight of the pair.
+pub record IsCountedAt (s t : List ℕ) (old new : List Flight) (f : Flight) (m n : ℕ) : Type 0 where
+  pub sends : IsRecounted (λ (g : Flight). g.sent) s t old new f.sent m
+  pub receptions : IsRecounted (λ (g : Flight). g.received) s t old new f.received n
+  pub any : (p q : List ℕ) → list_any (is_between p q) old ≡ true → list_any (is_between p q) new ≡ true
+
+counted_parts : (s t : List ℕ) (earlier later : List Flight) (f : Flight) (m n : ℕ) → filter (is_between s t) earlier ≡ [] → is_between s t f ≡ true → IsCountedAt s t (earlier ++ f ∷ later) (earlier ++ with_counts f m n ∷ later) f m n
+counted_parts s t earlier later f m n none here = record {
+  sends = recounted_parts (λ (g : Flight). g.sent) s t earlier later f m n none here;
+  receptions = recounted_parts (λ (g : Flight). g.received) s t earlier later f m n none here;
+  any = λ p q h. sym (any_kept_at p q earlier later f m n) ∙ h;
+}
+
+counted_first : (s t : List ℕ) (fs : List Flight) (i : ℕ) (at : position (is_between s t) fs ≡ Some i) (m n : ℕ) → IsCountedAt s t fs (set fs i (with_counts (first_at (is_between s t) fs i at).x m n)) (first_at (is_between s t) fs i at).x m n
+counted_first s t fs i at m n =
     let k = first_at (is_between s t) fs i at in
-    let P : Flight → Flight → Type 0 = λ a b. IsRecounted s t fs (set fs i record { from = b.from; to = b.to; count = n }) a.count n in
-    let here : k.x ≡ get_or fs i k.x = sym (element_at (is_between s t) fs i k k.x) in
+    let new : set fs i (with_counts k.x m n) ≡ k.earlier ++ with_counts k.x m n ∷ k.later = ap (λ z. set z i (with_counts k.x m n)) k.whole ∙ set_at k.earlier k.x k.later (with_counts k.x m n) i k.place in
+    subst (λ z. IsCountedAt s t z (set fs i (with_counts k.x m n)) k.x m n) (sym k.whole)
+    (subst (λ z. IsCountedAt s t (k.earlier ++ k.x ∷ k.later) z k.x m n) (sym new) (counted_parts s t k.earlier k.later k.x m n k.none k.here))
+
+-- one more was sent, or received, as a write of a count gives it
+pub sent_at : (s t : List ℕ) (fs : List Flight) (i : ℕ) (f g : Flight) (m : ℕ) → position (is_between s t) fs ≡ Some i → IsCountedAt s t fs (set fs i record { from = (get_or fs i g).from; to = (get_or fs i g).to; sent = m; received = (get_or fs i g).received }) (get_or fs i f) m (get_or fs i f).received
+sent_at s t fs i f g m at =
+    let k = first_at (is_between s t) fs i at in
+    let P : Flight → Flight → Type 0 = λ a b. IsCountedAt s t fs (set fs i record { from = b.from; to = b.to; sent = m; received = b.received }) a m a.received in
     subst (λ a. P a (get_or fs i g)) (sym (element_at (is_between s t) fs i k f))
-    (subst (λ b. P k.x b) (sym (element_at (is_between s t) fs i k g)) (recounted s t fs i k.x n at here))
+    (subst (λ b. P k.x b) (sym (element_at (is_between s t) fs i k g)) (counted_first s t fs i at m k.x.received))
 
--- the count of the pair at the index
-pub flight_at : (s t : List ℕ) (fs : List Flight) (i : ℕ) (f : Flight) → position (is_between s t) fs ≡ Some i → (get_or fs i f).count ≡ in_flight s t fs
-flight_at s t fs i f at =
+pub received_at : (s t : List ℕ) (fs : List Flight) (i : ℕ) (f g : Flight) (n : ℕ) → position (is_between s t) fs ≡ Some i → IsCountedAt s t fs (set fs i record { from = (get_or fs i g).from; to = (get_or fs i g).to; sent = (get_or fs i g).sent; received = n }) (get_or fs i f) (get_or fs i f).sent n
+received_at s t fs i f g n at =
     let k = first_at (is_between s t) fs i at in
-    ap (λ (z : Flight). z.count) (element_at (is_between s t) fs i k f)
-    ∙ sym (ap (in_flight s t) k.whole ∙ flight_here s t k.earlier k.later k.x k.none k.here)
+    let P : Flight → Flight → Type 0 = λ a b. IsCountedAt s t fs (set fs i record { from = b.from; to = b.to; sent = b.sent; received = n }) a a.sent n in
+    subst (λ a. P a (get_or fs i g)) (sym (element_at (is_between s t) fs i k f))
+    (subst (λ b. P k.x b) (sym (element_at (is_between s t) fs i k g)) (counted_first s t fs i at k.x.sent n))
 
--- one message more, and one less
+-- a count of the pair at the index
+pub count_at : (k : Flight → ℕ) (s t : List ℕ) (fs : List Flight) (i : ℕ) (f : Flight) → position (is_between s t) fs ≡ Some i → k (get_or fs i f) ≡ count_on k s t fs
+count_at k s t fs i f at =
+    let e = first_at (is_between s t) fs i at in
+    ap k (element_at (is_between s t) fs i e f)
+    ∙ sym (ap (count_on k s t) e.whole ∙ count_here k s t e.earlier e.later e.x e.none e.here)
+
+-- one message more
 sent_one : (p q s t : List ℕ) (m : Message) (b : Bool) → (bytes_eq p s && bytes_eq q t) ≡ b → length (sent p q (Sent s t m ∷ [])) ≡ cond b 1 0
 sent_one p q s t m true y = rw y refl
 sent_one p q s t m false n = rw n refl
@@ -110,56 +124,85 @@ received_one : (p q s t : List ℕ) (m : Message) (b : Bool) → (bytes_eq p s &
 received_one p q s t m true y = rw y refl
 received_one p q s t m false n = rw n refl
 
-pub changes_sent : (s t : List ℕ) (m : Message) (old new : List Flight) (n : ℕ) → IsRecounted s t old new n (n + 1) → ChangesFlights (Sent s t m) old new
-changes_sent s t m old new n r p q = by (bytes_eq p s && bytes_eq q t) refl
-  where
-    by : (b : Bool) → (bytes_eq p s && bytes_eq q t) ≡ b → in_flight p q new + length (received p q (Sent s t m ∷ [])) ≡ in_flight p q old + length (sent p q (Sent s t m ∷ []))
-    by true y =
-        let k = and_parts (bytes_eq p s) (bytes_eq q t) y in
-        let was : in_flight p q old ≡ n = ap (λ z. in_flight z q old) (same_name p s k.0) ∙ ap (λ z. in_flight s z old) (same_name q t k.1) ∙ r.was in
-        let is : in_flight p q new ≡ n + 1 = ap (λ z. in_flight z q new) (same_name p s k.0) ∙ ap (λ z. in_flight s z new) (same_name q t k.1) ∙ r.is in
-        omega (arith, was, is, sent_one p q s t m true y)
-    by false other = omega (arith, r.others p q other, sent_one p q s t m false other)
+-- the count of each pair, where that of one is another
+recounted_by : (k : Flight → ℕ) (p q s t : List ℕ) (old new : List Flight) (before more : ℕ) → IsRecounted k s t old new before (before + more) → (b : Bool) → (bytes_eq p s && bytes_eq q t) ≡ b → count_on k p q new ≡ count_on k p q old + cond b more 0
+recounted_by k p q s t old new before more r true y =
+    let e = and_parts (bytes_eq p s) (bytes_eq q t) y in
+    let ps = same_name p s e.0 in
+    let qt = same_name q t e.1 in
+    let was : count_on k p q old ≡ before = ap (λ z. count_on k z q old) ps ∙ ap (λ z. count_on k s z old) qt ∙ r.was in
+    let is : count_on k p q new ≡ before + more = ap (λ z. count_on k z q new) ps ∙ ap (λ z. count_on k s z new) qt ∙ r.is in
+    omega (arith, was, is)
+recounted_by k p q s t old new before more r false other = omega (arith, r.others p q other)
 
-pub changes_received : (s t : List ℕ) (m : Message) (old new : List Flight) (n : ℕ) → 0 < n → IsRecounted s t old new n (n - 1) → ChangesFlights (Received s t m) old new
-changes_received s t m old new n some r p q = by (bytes_eq p s && bytes_eq q t) refl
-  where
-    by : (b : Bool) → (bytes_eq p s && bytes_eq q t) ≡ b → in_flight p q new + length (received p q (Received s t m ∷ [])) ≡ in_flight p q old + length (sent p q (Received s t m ∷ []))
-    by true y =
-        let k = and_parts (bytes_eq p s) (bytes_eq q t) y in
-        let was : in_flight p q old ≡ n = ap (λ z. in_flight z q old) (same_name p s k.0) ∙ ap (λ z. in_flight s z old) (same_name q t k.1) ∙ r.was in
-        let is : in_flight p q new ≡ n - 1 = ap (λ z. in_flight z q new) (same_name p s k.0) ∙ ap (λ z. in_flight s z new) (same_name q t k.1) ∙ r.is in
-        omega (arith, some, was, is, received_one p q s t m true y)
-    by false other = omega (arith, r.others p q other, received_one p q s t m false other)
+cond_nothing : (b : Bool) → ◌≡◌ {A = ℕ} (cond b 0 0) 0
+cond_nothing true = refl
+cond_nothing false = refl
 
-pub keeps_recounted : (s t : List ℕ) (old new : List Flight) (before after : ℕ) → IsRecounted s t old new before after → KeepsFlights old new
-keeps_recounted s t old new before after r (Join a) h = tt
-keeps_recounted s t old new before after r (Sent p q m) h = r.any p q h
-keeps_recounted s t old new before after r (Received p q m) h = tt
+recounted_same : (k : Flight → ℕ) (p q s t : List ℕ) (old new : List Flight) (n : ℕ) → IsRecounted k s t old new n n → count_on k p q new ≡ count_on k p q old + 0
+recounted_same k p q s t old new n r =
+    let same : n ≡ n + 0 = omega arith in
+    let e = recounted_by k p q s t old new n 0 (subst (λ z. IsRecounted k s t old new n z) same r) (bytes_eq p s && bytes_eq q t) refl in
+    omega (arith, e, cond_nothing (bytes_eq p s && bytes_eq q t))
 
--- a send whose pair is missing, and a reception
+counts_sent : (s t : List ℕ) (m : Message) (old new : List Flight) (f : Flight) → IsCountedAt s t old new f (f.sent + 1) f.received → CountsEvent (Sent s t m) old new
+counts_sent s t m old new f c = record {
+  sends = λ p q. omega (arith, recounted_by (λ (g : Flight). g.sent) p q s t old new f.sent 1 c.sends (bytes_eq p s && bytes_eq q t) refl, sent_one p q s t m (bytes_eq p s && bytes_eq q t) refl);
+  receptions = λ p q. recounted_same (λ (g : Flight). g.received) p q s t old new f.received c.receptions;
+}
+
+counts_received : (s t : List ℕ) (m : Message) (old new : List Flight) (f : Flight) → IsCountedAt s t old new f f.sent (f.received + 1) → CountsEvent (Received s t m) old new
+counts_received s t m old new f c = record {
+  sends = λ p q. recounted_same (λ (g : Flight). g.sent) p q s t old new f.sent c.sends;
+  receptions = λ p q. omega (arith, recounted_by (λ (g : Flight). g.received) p q s t old new f.received 1 c.receptions (bytes_eq p s && bytes_eq q t) refl, received_one p q s t m (bytes_eq p s && bytes_eq q t) refl);
+}
+
+pub keeps_counted : (s t : List ℕ) (old new : List Flight) (f : Flight) (m n : ℕ) → IsCountedAt s t old new f m n → KeepsFlights old new
+keeps_counted s t old new f m n c (Join a) h = tt
+keeps_counted s t old new f m n c (Sent p q message) h = c.any p q h
+keeps_counted s t old new f m n c (Received p q message) h = c.any p q h
+
+-- a join is not counted
+pub counts_join : (r : List ℕ) (fs : List Flight) → CountsEvent (Join r) fs fs
+counts_join r fs = record { sends = λ p q. omega arith; receptions = λ p q. omega arith }
+
+-- an event whose pair is missing
 pub paired_not : (s t : List ℕ) (fs : List Flight) → position (is_between s t) fs ≡ None → list_any (is_between s t) fs ≡ true → ⊥
 paired_not s t fs none any = true≢false (sym any ∙ no_any (is_between s t) fs (none_at (is_between s t) fs none))
 
-pub ready_not : (s t : List ℕ) (fs : List Flight) → position (is_between s t) fs ≡ None → 0 < in_flight s t fs → ⊥
-ready_not s t fs none some = let zero = no_flight s t fs (none_at (is_between s t) fs none) in omega (arith, zero, some)
+-- whether more was sent than received
+pub unreceived : (s t : List ℕ) (fs : List Flight) (i : ℕ) (f g : Flight) → position (is_between s t) fs ≡ Some i → (ltb (get_or fs i f).received (get_or fs i g).sent ≡ true) ↔ (received_on s t fs < sent_on s t fs)
+unreceived s t fs i f g at =
+    let r = count_at (λ (z : Flight). z.received) s t fs i f at in
+    let m = count_at (λ (z : Flight). z.sent) s t fs i g at in (
+      λ y. omega (arith, r, m, ltb-true (get_or fs i f).received (get_or fs i g).sent y),
+      λ less. lt-ltb (get_or fs i f).received (get_or fs i g).sent (omega (arith, r, m, less)),
+    )
 
--- a pair that is added, with nothing in flight
-added_nothing : (p q : List ℕ) (fs : List Flight) (f : Flight) → f.count ≡ 0 → in_flight p q (fs ++ f ∷ []) ≡ in_flight p q fs
-added_nothing p q [] f none = by (is_between p q f)
+pub none_unreceived : (s t : List ℕ) (fs : List Flight) → position (is_between s t) fs ≡ None → received_on s t fs < sent_on s t fs → ⊥
+none_unreceived s t fs at less =
+    let none = no_count (λ (z : Flight). z.sent) s t fs (none_at (is_between s t) fs at) in
+    omega (arith, less, none)
+
+-- a pair that is added, with nothing sent and received
+added_nothing : (k : Flight → ℕ) (p q : List ℕ) (fs : List Flight) (f : Flight) → k f ≡ 0 → count_on k p q (fs ++ f ∷ []) ≡ count_on k p q fs
+added_nothing k p q [] f none = by (is_between p q f)
   where
-    by : (b : Bool) → cond b f.count 0 ≡ 0
+    by : (b : Bool) → cond b (k f) 0 ≡ 0
     by true = none
     by false = refl
-added_nothing p q (e ∷ fs) f none = flight_step p q e (fs ++ f ∷ []) fs (added_nothing p q fs f none)
+added_nothing k p q (e ∷ fs) f none = count_step k p q e (fs ++ f ∷ []) fs (added_nothing k p q fs f none)
 
-pub added_same : (fs : List Flight) (f : Flight) → f.count ≡ 0 → SameFlights fs (fs ++ f ∷ [])
-added_same fs f none p q = added_nothing p q fs f none
+pub added_same : (fs : List Flight) (f : Flight) → f.sent ≡ 0 → f.received ≡ 0 → SameCounts fs (fs ++ f ∷ [])
+added_same fs f no_send no_reception = record {
+  sends = λ p q. added_nothing (λ (z : Flight). z.sent) p q fs f no_send;
+  receptions = λ p q. added_nothing (λ (z : Flight). z.received) p q fs f no_reception;
+}
 
 pub added_keeps : (fs : List Flight) (f : Flight) → KeepsFlights fs (fs ++ f ∷ [])
 added_keeps fs f (Join r) h = tt
 added_keeps fs f (Sent p q m) h = any_left (is_between p q) fs (f ∷ []) h
-added_keeps fs f (Received p q m) h = tt
+added_keeps fs f (Received p q m) h = any_left (is_between p q) fs (f ∷ []) h
 
 pub added_has : (p q : List ℕ) (fs : List Flight) (f : Flight) → f.from ≡ p → f.to ≡ q → list_any (is_between p q) (fs ++ f ∷ []) ≡ true
 added_has p q fs f from to =
@@ -178,8 +221,8 @@ some_has p q fs None e some = absurd (true≢false (sym some))
 some_has p q fs (Some i) e some = found_has p q fs i (sym e)
 
 -- the same for an event that is known to be a send, or a reception
-pub changes_by_send : (e : Event) (s t : List ℕ) (m : Message) (old new : List Flight) (n : ℕ) → e ≡ Sent s t m → IsRecounted s t old new n (n + 1) → ChangesFlights e old new
-changes_by_send e s t m old new n is r = subst (λ z. ChangesFlights z old new) (sym is) (changes_sent s t m old new n r)
+pub counts_by_send : (e : Event) (s t : List ℕ) (m : Message) (old new : List Flight) (f : Flight) → e ≡ Sent s t m → IsCountedAt s t old new f (f.sent + 1) f.received → CountsEvent e old new
+counts_by_send e s t m old new f is c = subst (λ z. CountsEvent z old new) (sym is) (counts_sent s t m old new f c)
 
-pub changes_by_reception : (e : Event) (s t : List ℕ) (m : Message) (old new : List Flight) (n : ℕ) → e ≡ Received s t m → 0 < n → IsRecounted s t old new n (n - 1) → ChangesFlights e old new
-changes_by_reception e s t m old new n is some r = subst (λ z. ChangesFlights z old new) (sym is) (changes_received s t m old new n some r)
+pub counts_by_reception : (e : Event) (s t : List ℕ) (m : Message) (old new : List Flight) (f : Flight) → e ≡ Received s t m → IsCountedAt s t old new f f.sent (f.received + 1) → CountsEvent e old new
+counts_by_reception e s t m old new f is c = subst (λ z. CountsEvent z old new) (sym is) (counts_received s t m old new f c)

@@ -7,15 +7,15 @@ use Rattle.scrib_types.specs.declared.message.Message.{Message}
 use Rattle.scrib_types.specs.declared.event.Event.{Event}
 use Rattle.scrib_types.specs.declared.event.Event.TheVariants.{Join, Sent, Received}
 use Rattle.scrib_types.specs.Logs.{subject_of}
-use Rattle.scrib_types.specs.Queues.{sent}
+use Rattle.scrib_types.specs.Queues.{sent, received}
 use Rattle.scrib_holdback.specs.declared.flights.Flight.{Flight}
 use Rattle.scrib_holdback.specs.Holdings.{Holding}
 use Rattle.scrib_holdback.specs.Waiters.{Waiters}
 use Rattle.scrib_holdback.specs.Lanes.{HasNone, IsFirstItem, IsTaken}
-use Rattle.scrib_holdback.specs.Releases.{IsReady, HasFlight, KeepsFlights, ChangesFlights, SameFlights, own_items, HasDue, IsDueAt, IsNext, IsPassed, IsQuietAt, is_send_to, IsReleased, IsSound}
+use Rattle.scrib_holdback.specs.Releases.{IsReady, HasFlight, KeepsFlights, CountsEvent, SameCounts, own_items, HasDue, WaitsAt, IsDueAt, IsNext, IsPassed, IsQuietAt, is_send_to, IsTakenOut, IsTakenOnto, IsDrained, IsSound}
 use Rattle.scrib_holdback.proofs.OwnEvents.{name_itself, same_name}
 use Rattle.scrib_holdback.proofs.Positions.{all_here, all_without, all_weaker, all_pushed}
-use Rattle.scrib_holdback.proofs.ReleaseLemmas.{own_items-append, own_item_yes}
+use Rattle.scrib_holdback.proofs.ReleaseLemmas.{own_items-append, own_item_yes, drained_one}
 
 -- an event sends one message at most
 sent_at_most : (p q : List ℕ) (e : Event) → length (sent p q (e ∷ [])) ≤ 1
@@ -27,57 +27,75 @@ sent_at_most p q (Sent s t m) = by (bytes_eq p s && bytes_eq q t) refl
     by false n = let none : length (sent p q (Sent s t m ∷ [])) ≡ 0 = rw n refl in omega (arith, none)
 sent_at_most p q (Received s t m) = omega arith
 
--- the bounds after a release
-pub sound_released : {A : Type 0} (event : A → Event) (old new : Holding A) (pushed : ℕ) (x : A) → IsSound event old.waiting old.flights pushed → IsReleased event old new x → KeepsFlights old.flights new.flights → IsSound event new.waiting new.flights pushed
-sound_released {A} event old new pushed x s step keeps =
+-- an event receives one message at most
+received_at_most : (p q : List ℕ) (e : Event) → length (received p q (e ∷ [])) ≤ 1
+received_at_most p q (Join r) = omega arith
+received_at_most p q (Sent s t m) = omega arith
+received_at_most p q (Received s t m) = by (bytes_eq p s && bytes_eq q t) refl
+  where
+    by : (b : Bool) → (bytes_eq p s && bytes_eq q t) ≡ b → length (received p q (Received s t m ∷ [])) ≤ 1
+    by true y = let one : length (received p q (Received s t m ∷ [])) ≡ 1 = rw y refl in omega (arith, one)
+    by false n = let none : length (received p q (Received s t m ∷ [])) ≡ 0 = rw n refl in omega (arith, none)
+
+-- the bounds after an item is taken out
+pub sound_taken : {A : Type 0} (event : A → Event) (old new : Holding A) (pushed : ℕ) (x : A) → IsSound event old.waiting old.flights pushed → IsTakenOut event old new x → KeepsFlights old.flights new.flights → IsSound event new.waiting new.flights pushed
+sound_taken {A} event old new pushed x s k keeps =
     let R : A → Type 0 = λ y. HasFlight old.flights (event y) in
     let S : A → Type 0 = λ y. HasFlight new.flights (event y) in
+    let fewer : length old.waiting ≡ length new.waiting + 1 = omega (arith, ap length k.was, ap length k.now, length-append k.earlier (x ∷ k.later), length-append k.earlier k.later) in
     record {
-      counted = λ p q. omega (arith, s.counted p q, step.flights p q, sent_at_most p q (event x), ap length step.was, ap length step.now, length-append step.earlier (x ∷ step.later), length-append step.earlier step.later);
-      paired = subst (AllByRecursion S) (sym step.now) (all_weaker R S (λ y h. keeps (event y) h) (step.earlier ++ step.later) (all_without R step.earlier step.later x (subst (AllByRecursion R) step.was s.paired)));
+      sends = λ p q. omega (arith, s.sends p q, k.counts.sends p q, sent_at_most p q (event x), fewer);
+      receptions = λ p q. omega (arith, s.receptions p q, k.counts.receptions p q, received_at_most p q (event x), fewer);
+      paired = subst (AllByRecursion S) (sym k.now) (all_weaker R S (λ y h. keeps (event y) h) (k.earlier ++ k.later) (all_without R k.earlier k.later x (subst (AllByRecursion R) k.was s.paired)));
     }
 
 -- the bounds with more pairs
-pub sound_reserved : {A : Type 0} (event : A → Event) (waiting now : List A) (old new : List Flight) (pushed : ℕ) → IsSound event waiting old pushed → now ≡ waiting → SameFlights old new → KeepsFlights old new → IsSound event now new pushed
-sound_reserved {A} event waiting now old new pushed s same flights keeps =
+pub sound_reserved : {A : Type 0} (event : A → Event) (waiting now : List A) (old new : List Flight) (pushed : ℕ) → IsSound event waiting old pushed → now ≡ waiting → SameCounts old new → KeepsFlights old new → IsSound event now new pushed
+sound_reserved {A} event waiting now old new pushed s same counts keeps =
     let R : A → Type 0 = λ y. HasFlight old (event y) in
     let S : A → Type 0 = λ y. HasFlight new (event y) in
     record {
-      counted = λ p q. omega (arith, s.counted p q, flights p q, ap length same);
+      sends = λ p q. omega (arith, s.sends p q, counts.sends p q, ap length same);
+      receptions = λ p q. omega (arith, s.receptions p q, counts.receptions p q, ap length same);
       paired = subst (AllByRecursion S) (sym same) (all_weaker R S (λ y h. keeps (event y) h) waiting s.paired);
     }
 
 -- the bounds after an arrival that waits
-pub sound_held : {A : Type 0} (event : A → Event) (waiting now : List A) (old new : List Flight) (pushed : ℕ) (x : A) → IsSound event waiting old pushed → now ≡ waiting ++ x ∷ [] → SameFlights old new → KeepsFlights old new → HasFlight new (event x) → IsSound event now new (pushed + 1)
-sound_held {A} event waiting now old new pushed x s more flights keeps has =
+pub sound_held : {A : Type 0} (event : A → Event) (waiting now : List A) (old new : List Flight) (pushed : ℕ) (x : A) → IsSound event waiting old pushed → now ≡ waiting ++ x ∷ [] → SameCounts old new → KeepsFlights old new → HasFlight new (event x) → IsSound event now new (pushed + 1)
+sound_held {A} event waiting now old new pushed x s more counts keeps has =
     let R : A → Type 0 = λ y. HasFlight old (event y) in
     let S : A → Type 0 = λ y. HasFlight new (event y) in
     record {
-      counted = λ p q. omega (arith, s.counted p q, flights p q, ap length more, length-append waiting (x ∷ []));
+      sends = λ p q. omega (arith, s.sends p q, counts.sends p q, ap length more, length-append waiting (x ∷ []));
+      receptions = λ p q. omega (arith, s.receptions p q, counts.receptions p q, ap length more, length-append waiting (x ∷ []));
       paired = subst (AllByRecursion S) (sym more) (all_pushed S waiting x (all_weaker R S (λ y h. keeps (event y) h) waiting s.paired) has);
     }
 
 -- the bounds after an arrival that is released at once
-pub sound_passed : {A : Type 0} (event : A → Event) (waiting now : List A) (old mid new : List Flight) (pushed : ℕ) (x : A) → IsSound event waiting old pushed → now ≡ waiting → SameFlights old mid → KeepsFlights old mid → ChangesFlights (event x) mid new → KeepsFlights mid new → IsSound event now new (pushed + 1)
-sound_passed {A} event waiting now old mid new pushed x s same flights keeps changes kept =
+pub sound_passed : {A : Type 0} (event : A → Event) (waiting now : List A) (old mid new : List Flight) (pushed : ℕ) (x : A) → IsSound event waiting old pushed → now ≡ waiting → SameCounts old mid → KeepsFlights old mid → CountsEvent (event x) mid new → KeepsFlights mid new → IsSound event now new (pushed + 1)
+sound_passed {A} event waiting now old mid new pushed x s same counts keeps counted kept =
     let R : A → Type 0 = λ y. HasFlight old (event y) in
     let S : A → Type 0 = λ y. HasFlight new (event y) in
     record {
-      counted = λ p q. omega (arith, s.counted p q, flights p q, changes p q, sent_at_most p q (event x), ap length same);
+      sends = λ p q. omega (arith, s.sends p q, counts.sends p q, counted.sends p q, sent_at_most p q (event x), ap length same);
+      receptions = λ p q. omega (arith, s.receptions p q, counts.receptions p q, counted.receptions p q, received_at_most p q (event x), ap length same);
       paired = subst (AllByRecursion S) (sym same) (all_weaker R S (λ y h. kept (event y) (keeps (event y) h)) waiting s.paired);
     }
 
-pub passed : {A : Type 0} (event : A → Event) (x : A) (old new : Holding A) (mid : List Flight) → IsNext event (event x) old → new.waiting ≡ old.waiting → SameFlights old.flights mid → ChangesFlights (event x) mid new.flights → IsPassed event x old new
-passed event x old new mid next same flights changes = record {
+pub passed : {A : Type 0} (event : A → Event) (x : A) (old new : Holding A) (mid : List Flight) → IsNext event (event x) old → new.waiting ≡ old.waiting → SameCounts old.flights mid → CountsEvent (event x) mid new.flights → IsPassed event x old new
+passed event x old new mid next same counts counted = record {
   next = next;
   waiting = same;
-  flights = λ p q. omega (arith, flights p q, changes p q);
+  counts = record {
+    sends = λ p q. omega (arith, counts.sends p q, counted.sends p q);
+    receptions = λ p q. omega (arith, counts.receptions p q, counted.receptions p q);
+  };
 }
 
-pub ready_reserved : (old new : List Flight) (e : Event) → SameFlights old new → IsReady old e → IsReady new e
+pub ready_reserved : (old new : List Flight) (e : Event) → SameCounts old new → IsReady old e → IsReady new e
 ready_reserved old new (Join r) s h = tt
 ready_reserved old new (Sent p q m) s h = tt
-ready_reserved old new (Received p q m) s h = omega (arith, h, s p q)
+ready_reserved old new (Received p q m) s h = omega (arith, h, s.sends p q, s.receptions p q)
 
 -- a role that nothing waits of has nothing that may be released
 pub none_due : {A : Type 0} (event : A → Event) (h : Holding A) (r : List ℕ) → own_items event r h.waiting ≡ [] → HasDue event r h → ⊥
@@ -85,9 +103,12 @@ none_due event h r none due = let empty : [] ≡ due.x ∷ due.others = sym none
 
 -- what is due at a place, by the first item of its role
 pub due_at : {A : Type 0} (event : A → Event) (place : ℕ) (w : Waiters A) (flights : List Flight) (x : A) → IsFirstItem event place w x → IsReady flights (event x) → IsDueAt event record { roles = w.roles; waiting = w.items; flights = flights } place
-due_at event place w flights x k ready = record { x = x; role = k.role; others = k.others; first = k.first; ready = ready }
+due_at event place w flights x k ready = record {
+  waits = record { x = x; role = k.role; others = k.others; first = k.first };
+  ready = ready;
+}
 
-role_at : (roles : List (List ℕ)) (i : ℕ) (r s : List ℕ) → slice_get roles i ≡ Some r → slice_get roles i ≡ Some s → r ≡ s
+pub role_at : (roles : List (List ℕ)) (i : ℕ) (r s : List ℕ) → slice_get roles i ≡ Some r → slice_get roles i ≡ Some s → r ≡ s
 role_at roles i r s a b = let e : Some r ≡ Some s = sym a ∙ b in cc
 
 pub quiet_at_unready : {A : Type 0} (event : A → Event) (place : ℕ) (w : Waiters A) (flights : List Flight) (x : A) → IsFirstItem event place w x → (IsReady flights (event x) → ⊥) → IsQuietAt event place record { roles = w.roles; waiting = w.items; flights = flights }
@@ -101,9 +122,9 @@ pub quiet_at_none : {A : Type 0} (event : A → Event) (place : ℕ) (w : Waiter
 quiet_at_none event place w flights none r at due =
     let empty : [] ≡ due.x ∷ due.others = sym (none r at) ∙ due.first in absurd (cc)
 
-pub some_due : {A : Type 0} (event : A → Event) (place : ℕ) (w : Waiters A) (flights : List Flight) → HasNone event place w → IsDueAt event record { roles = w.roles; waiting = w.items; flights = flights } place → ⊥
-some_due event place w flights none due =
-    let empty : [] ≡ due.x ∷ due.others = sym (none (subject_of (event due.x)) due.role) ∙ due.first in absurd (cc)
+pub some_waits : {A : Type 0} (event : A → Event) (place : ℕ) (w : Waiters A) (flights : List Flight) → HasNone event place w → WaitsAt event record { roles = w.roles; waiting = w.items; flights = flights } place → ⊥
+some_waits event place w flights none at =
+    let empty : [] ≡ at.x ∷ at.others = sym (none (subject_of (event at.x)) at.role) ∙ at.first in absurd (cc)
 
 -- the place of a send's receiver
 pub receiver : {A : Type 0} (event : A → Event) (h : Holding A) (p q : List ℕ) (m : Message) (o : Option ℕ) → MatchOption o (own_items event q h.waiting ≡ []) (λ place. slice_get h.roles place ≡ Some q) → MatchOption o ((r : List ℕ) → is_send_to r (Sent p q m) ≡ true → HasDue event r h → ⊥) (λ place. (r : List ℕ) → is_send_to r (Sent p q m) ≡ true → slice_get h.roles place ≡ Some r)
@@ -114,40 +135,46 @@ receiver event h p q m (Some i) at = λ r to. at ∙ ap (λ z. Some z) (sym (sam
 pub ready_read : (flights read : List Flight) (e f : Event) → read ≡ flights → f ≡ e → IsReady read f → IsReady flights e
 ready_read flights read e f same is h = subst (λ z. IsReady flights z) is (subst (λ z. IsReady z f) same h)
 
--- a release of the first item of the role at a place
-due_same : {A : Type 0} (event : A → Event) (place : ℕ) (w left : Waiters A) (flights : List Flight) (x : A) (due : IsDueAt event record { roles = w.roles; waiting = w.items; flights = flights } place) → IsTaken event place w left x → x ≡ due.x
-due_same event place w left flights x due k =
-    let r = subject_of (event x) in
-    let mine : subject_of (event due.x) ≡ r = role_at w.roles place (subject_of (event due.x)) r due.role k.role in
-    let own : own_items event r w.items ≡ x ∷ own_items event r k.later =
-    ap (own_items event r) k.was ∙ own_items-append event r k.earlier (x ∷ k.later) ∙ ap (λ z. z ++ own_items event r (x ∷ k.later)) k.first ∙ own_item_yes event r x k.later (name_itself r) in
-    let both : x ∷ own_items event r k.later ≡ due.x ∷ due.others = sym own ∙ ap (λ z. own_items event z w.items) (sym mine) ∙ due.first in
-    cc
-
-pub taken_ready : {A : Type 0} (event : A → Event) (place : ℕ) (w left : Waiters A) (flights : List Flight) (x : A) → IsDueAt event record { roles = w.roles; waiting = w.items; flights = flights } place → IsTaken event place w left x → IsReady flights (event x)
-taken_ready event place w left flights x due k =
-    subst (λ z. IsReady flights (event z)) (sym (due_same event place w left flights x due k)) due.ready
-
+-- the first item of the role at a place is taken out
 pub taken_paired : {A : Type 0} (event : A → Event) (place : ℕ) (w left : Waiters A) (flights : List Flight) (pushed : ℕ) (x : A) → IsSound event w.items flights pushed → IsTaken event place w left x → HasFlight flights (event x)
 taken_paired {A} event place w left flights pushed x s k =
     let R : A → Type 0 = λ y. HasFlight flights (event y) in
     all_here R k.earlier k.later x (subst (AllByRecursion R) k.was s.paired)
 
-pub released_at : {A : Type 0} (event : A → Event) (place : ℕ) (w left : Waiters A) (old new : List Flight) (x : A) → IsDueAt event record { roles = w.roles; waiting = w.items; flights = old } place → IsTaken event place w left x → ChangesFlights (event x) old new → IsReleased event record { roles = w.roles; waiting = w.items; flights = old } record { roles = left.roles; waiting = left.items; flights = new } x
-released_at event place w left old new x due k changed =
-    record {
-      earlier = k.earlier;
-      later = k.later;
-      was = k.was;
-      first = k.first;
-      now = k.now;
-      ready = taken_ready event place w left old x due k;
-      flights = changed;
-    }
+pub taken_at : {A : Type 0} (event : A → Event) (place : ℕ) (w left : Waiters A) (old new : List Flight) (x : A) → IsTaken event place w left x → CountsEvent (event x) old new → IsTakenOut event record { roles = w.roles; waiting = w.items; flights = old } record { roles = left.roles; waiting = left.items; flights = new } x
+taken_at event place w left old new x k counted = record {
+  earlier = k.earlier;
+  later = k.later;
+  was = k.was;
+  first = k.first;
+  now = k.now;
+  counts = counted;
+}
 
--- changes of flights that were read
-pub changed_read : (e f : Event) (flights read new : List Flight) → read ≡ flights → e ≡ f → ChangesFlights e read new → ChangesFlights f flights new
-changed_read e f flights read new same is h = subst (λ z. ChangesFlights z flights new) is (subst (λ z. ChangesFlights e z new) same h)
+-- what was taken out of a place where an item is due is that item
+taken_is_due : {A : Type 0} (event : A → Event) (place : ℕ) (old new : Holding A) (released now : List A) (at : WaitsAt event old place) (k : IsTakenOnto event place old new released now) → k.x ≡ at.x
+taken_is_due event place old new released now at k =
+    let t = k.taken in
+    let r = subject_of (event k.x) in
+    let mine : subject_of (event at.x) ≡ r = role_at old.roles place (subject_of (event at.x)) r at.role k.role in
+    let own : own_items event r old.waiting ≡ k.x ∷ own_items event r t.later =
+    ap (own_items event r) t.was ∙ own_items-append event r t.earlier (k.x ∷ t.later) ∙ ap (λ z. z ++ own_items event r (k.x ∷ t.later)) t.first ∙ own_item_yes event r k.x t.later (name_itself r) in
+    let both : k.x ∷ own_items event r t.later ≡ at.x ∷ at.others = sym own ∙ ap (λ z. own_items event z old.waiting) (sym mine) ∙ at.first in
+    cc
+
+pub drained_due : {A : Type 0} (event : A → Event) (place : ℕ) (old new : Holding A) (released now : List A) → IsDueAt event old place → IsTakenOnto event place old new released now → new.roles ≡ old.roles → IsDrained event old new released now
+drained_due event place old new released now due k same =
+    let ready : IsReady old.flights (event k.x) = subst (λ z. IsReady old.flights (event z)) (sym (taken_is_due event place old new released now due.waits k)) due.ready in
+    drained_one event place old new released now k ready same
+
+pub taken_count : {A : Type 0} (event : A → Event) (place : ℕ) (old new : Holding A) (released now : List A) → IsTakenOnto event place old new released now → length now + length new.waiting ≡ length released + length old.waiting
+taken_count event place old new released now k =
+    let t = k.taken in
+    omega (arith, ap length k.appended, length-append released (k.x ∷ []), ap length t.was, ap length t.now, length-append t.earlier (k.x ∷ t.later), length-append t.earlier t.later)
+
+-- counts that were read
+pub counted_read : (e f : Event) (flights read new : List Flight) → read ≡ flights → e ≡ f → CountsEvent e read new → CountsEvent f flights new
+counted_read e f flights read new same is h = subst (λ z. CountsEvent z flights new) is (subst (λ z. CountsEvent e z new) same h)
 
 pub kept_read : (flights read new : List Flight) → read ≡ flights → KeepsFlights read new → KeepsFlights flights new
 kept_read flights read new same h = subst (λ z. KeepsFlights z new) same h

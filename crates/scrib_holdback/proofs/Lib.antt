@@ -1,7 +1,7 @@
 mod OwnEvents
 mod CausalOrders
 mod PermittedOrders
-mod Outcomes
+pub mod Outcomes
 pub mod FalseAlarmLemmas
 mod Positions
 mod FlightLemmas
@@ -9,3 +9,5 @@ mod SlotLemmas
 mod ReleaseLemmas
 mod WaitingLemmas
 mod HoldbackLemmas
+mod ExpiryLemmas
+mod RunLemmas

@@ -5,8 +5,8 @@ use Rattle.scrib_types.specs.declared.event.Event.{Event}
 use Rattle.scrib_types.specs.declared.event.Event.TheVariants.{Join, Sent, Received}
 use Rattle.scrib_types.specs.Logs.{subject_of}
 use Rattle.scrib_types.specs.Queues.{sent, received}
-use Rattle.scrib_holdback.specs.Reorderings.{is_own, own_events}
-use Rattle.scrib_holdback.specs.HoldBack.{MayHappen, IsSettled, HoldsBack, begins, arrives, releases, IsHeldBack}
+use Rattle.scrib_holdback.specs.Reorderings.{is_own, own_events, IsReordering}
+use Rattle.scrib_holdback.specs.HoldBack.{MayHappen, IsSettled, HoldsWithExpiries, begins, arrives, releases, expires, IsHeldBack}
 use Rattle.scrib_holdback.proofs.OwnEvents.{kept_after, same_name, own_yes, own_no, own-append, own-map-append, same_received, sent_own}
 use Rattle.scrib_holdback.proofs.CausalOrders.{IsCausal, causal_none, causal_end, sent_more, received_more, received_one}
 
@@ -29,25 +29,41 @@ first_moved r earlier later e first false n =
     ap (λ z. own_events r earlier ++ z) (own_no r e later n)
     ∙ ap (λ z. z ++ (own_events r earlier ++ own_events r later)) (sym (own_no r e [] n))
 
-parts_of : {X : Type 0} (event : X → Event) {arrivals released waiting : List X} → HoldsBack event arrivals released waiting → (r : List ℕ) → own_events r (map event arrivals) ≡ own_events r (map event released) ++ own_events r (map event waiting)
+-- the same where it is put behind what was released
+moved_behind : {X : Type 0} (event : X → Event) (r : List ℕ) (log earlier later : List X) (x : X) → own_events (subject_of (event x)) (map event earlier) ≡ [] → own_events r (map event log) ++ own_events r (map event (earlier ++ x ∷ later)) ≡ own_events r (map event (log ++ x ∷ [])) ++ own_events r (map event (earlier ++ later))
+moved_behind event r log earlier later x first =
+    let s = own_events r (map event log) in
+    ap (λ z. s ++ z) (own-map-append event r earlier (x ∷ later) ∙ first_moved r (map event earlier) (map event later) (event x) first (is_own r (event x)) refl)
+    ∙ sym (append_assoc s (own_events r (event x ∷ [])) (own_events r (map event earlier) ++ own_events r (map event later)))
+    ∙ ap (λ z. z ++ (own_events r (map event earlier) ++ own_events r (map event later))) (sym (own-map-append event r log (x ∷ [])))
+    ∙ ap (λ z. own_events r (map event (log ++ x ∷ [])) ++ z) (sym (own-map-append event r earlier later))
+
+parts_of : {X : Type 0} (event : X → Event) {arrivals released expired waiting : List X} → HoldsWithExpiries event arrivals released expired waiting → (r : List ℕ) → own_events r (map event arrivals) ≡ own_events r (map event released) ++ own_events r (map event waiting)
 parts_of event begins r = refl
 parts_of event (arrives {arrivals = a} {released = s} {waiting = w} x h n) r =
     own-map-append event r a (x ∷ [])
     ∙ ap (λ z. z ++ own_events r (map event (x ∷ []))) (parts_of event h r)
     ∙ append_assoc (own_events r (map event s)) (own_events r (map event w)) (own_events r (map event (x ∷ [])))
     ∙ ap (λ z. own_events r (map event s) ++ z) (sym (own-map-append event r w (x ∷ [])))
-parts_of event (releases {arrivals = a} {released = s} earlier x later h d) r =
-    parts_of event h r
-    ∙ ap (λ z. own_events r (map event s) ++ z) (own-map-append event r earlier (x ∷ later) ∙ first_moved r (map event earlier) (map event later) (event x) d.first (is_own r (event x)) refl)
-    ∙ sym (append_assoc (own_events r (map event s)) (own_events r (event x ∷ [])) (own_events r (map event earlier) ++ own_events r (map event later)))
-    ∙ ap (λ z. z ++ (own_events r (map event earlier) ++ own_events r (map event later))) (sym (own-map-append event r s (x ∷ [])))
-    ∙ ap (λ z. own_events r (map event (s ++ x ∷ [])) ++ z) (sym (own-map-append event r earlier later))
+parts_of event (releases {released = s} earlier x later h d) r = parts_of event h r ∙ moved_behind event r s earlier later x d.first
+parts_of event (expires {released = s} x later h n) r = parts_of event h r ∙ moved_behind event r s [] later x refl
 
-causal_of : {X : Type 0} (event : X → Event) {arrivals released waiting : List X} → HoldsBack event arrivals released waiting → IsCausal (map event released)
-causal_of event begins = causal_none
-causal_of event (arrives x h n) = causal_of event h
-causal_of event (releases {released = s} earlier x later h d) =
-    subst IsCausal (sym (map-append event s (x ∷ []))) (causal_end (map event s) (event x) (causal_of event h) d.next)
+-- what was released and then what waits is a reordering of the arrivals, whatever expired
+pub reordered : {X : Type 0} (event : X → Event) (arrivals released expired waiting : List X) → HoldsWithExpiries event arrivals released expired waiting → IsReordering (map event arrivals) (map event (released ++ waiting))
+reordered event arrivals released expired waiting h r = own-map-append event r released waiting ∙ sym (parts_of event h r)
+
+-- a list with an item is not empty
+pub no_item : {X : Type 0} (earlier later : List X) (x : X) → [] ≡ earlier ++ x ∷ later → ⊥
+no_item [] later x e = absurd (cc)
+no_item (y ∷ earlier) later x e = absurd (cc)
+
+-- what was released may have happened in this order, where nothing expired
+causal_of : {X : Type 0} (event : X → Event) {arrivals released expired waiting : List X} → HoldsWithExpiries event arrivals released expired waiting → expired ≡ [] → IsCausal (map event released)
+causal_of event begins none = causal_none
+causal_of event (arrives x h n) none = causal_of event h none
+causal_of event (releases {released = s} earlier x later h d) none =
+    subst IsCausal (sym (map-append event s (x ∷ []))) (causal_end (map event s) (event x) (causal_of event h none) d.next)
+causal_of event (expires {expired = e} x later h n) none = absurd (no_item e [] x (sym none))
 
 -- an item of a mapped list in its place
 map_place : {X Y : Type 0} (f : X → Y) (xs : List X) (before after : List Y) (y : Y) → map f xs ≡ before ++ y ∷ after → (u : List X) × (x : X) × (v : List X) × (xs ≡ u ++ x ∷ v) × (map f u ≡ before) × (f x ≡ y)
@@ -73,7 +89,7 @@ stuck_of event released waiting settled earlier later e eq first next =
 pub outcome_of : {X : Type 0} (event : X → Event) (arrivals released waiting : List X) → IsHeldBack event arrivals released waiting → Outcome (map event arrivals) (map event released) (map event waiting)
 outcome_of event arrivals released waiting h = record {
   parts = parts_of event h.holds;
-  causal = causal_of event h.holds;
+  causal = causal_of event h.holds refl;
   stuck = stuck_of event released waiting h.settled;
 }
 

@@ -7,14 +7,15 @@ use Rattle.std.proofs.lemmas.List.Elements.{filter-append, filter_passes, All-he
 use Rattle.scrib_types.specs.declared.event.Event.{Event}
 use Rattle.scrib_types.specs.declared.event.Event.TheVariants.{Join, Sent, Received}
 use Rattle.scrib_types.specs.Logs.{subject_of}
-use Rattle.scrib_types.specs.Queues.{sent, received}
+use Rattle.scrib_types.specs.Queues.{sent}
 use Rattle.scrib_holdback.specs.declared.flights.Flight.{Flight}
 use Rattle.scrib_holdback.specs.Reorderings.{is_own, own_events}
-use Rattle.scrib_holdback.specs.HoldBack.{MayHappen, IsDue, IsSettled, HoldsBack, begins, arrives, releases}
-use Rattle.scrib_holdback.specs.Holdings.{Holding, in_flight, AreInFlight, IsAfter, IsPushed}
-use Rattle.scrib_holdback.specs.Releases.{IsReady, ChangesFlights, SameFlights, own_items, HasDue, IsNext, IsQuiet, IsQuietAt, IsAppended, IsPassed, IsReleased, IsReleasedOnto, IsDrained, Releases, nothing, one_more, is_send_to, sends_to, OnlyReceivers}
+use Rattle.scrib_holdback.specs.HoldBack.{MayHappen, IsDue, IsSettled, HoldsWithExpiries, begins, arrives, releases}
+use Rattle.scrib_holdback.specs.Holdings.{Holding, sent_on, received_on, AreCounts, IsAfter, IsPushed}
+use Rattle.scrib_holdback.specs.Releases.{IsReady, CountsEvent, SameCounts, own_items, HasDue, IsNext, IsQuiet, IsQuietAt, IsAppended, IsPassed, IsTakenOut, IsReleased, IsTakenOnto, IsDrained, Releases, nothing, one_more, is_send_to, sends_to, OnlyReceivers}
 use Rattle.scrib_holdback.proofs.OwnEvents.{kept_after, name_itself, same_name}
 use Rattle.scrib_holdback.proofs.CausalOrders.{sent_more, received_more}
+use Rattle.scrib_holdback.proofs.Outcomes.{no_item}
 use Rattle.scrib_holdback.proofs.Positions.{any_left, any_right, any_only}
 
 -- own items and own events
@@ -59,16 +60,16 @@ first_in_place event earlier later x e =
     ∙ ap (λ z. z ++ own_items event r (x ∷ later)) e
     ∙ own_item_yes event r x later (name_itself r)
 
--- what may happen by the messages in flight
-pub may_from_ready : (log : List Event) (flights : List Flight) (e : Event) → AreInFlight log flights → IsReady flights e → MayHappen log e
+-- what may happen by the counts
+pub may_from_ready : (log : List Event) (flights : List Flight) (e : Event) → AreCounts log flights → IsReady flights e → MayHappen log e
 may_from_ready log flights (Join r) f h = tt
 may_from_ready log flights (Sent p q m) f h = tt
-may_from_ready log flights (Received p q m) f h = omega (arith, h, f p q)
+may_from_ready log flights (Received p q m) f h = omega (arith, h, f.sends p q, f.receptions p q)
 
-pub ready_from_may : (log : List Event) (flights : List Flight) (e : Event) → AreInFlight log flights → MayHappen log e → IsReady flights e
+pub ready_from_may : (log : List Event) (flights : List Flight) (e : Event) → AreCounts log flights → MayHappen log e → IsReady flights e
 ready_from_may log flights (Join r) f h = tt
 ready_from_may log flights (Sent p q m) f h = tt
-ready_from_may log flights (Received p q m) f h = omega (arith, h, f p q)
+ready_from_may log flights (Received p q m) f h = omega (arith, h, f.sends p q, f.receptions p q)
 
 -- an event makes only receptions ready that its receiver has
 sent_elsewhere : (p q s t : List ℕ) (e : Event) → is_send_to q e ≡ false → length (sent p q (e ∷ [])) ≡ 0
@@ -76,37 +77,38 @@ sent_elsewhere p q s t (Join r) n = refl
 sent_elsewhere p q s t (Sent a b m) n = rw (and_right (bytes_eq p a) (bytes_eq q b) n) refl
 sent_elsewhere p q s t (Received a b m) n = refl
 
-ready_before : (e : Event) (old new : List Flight) → ChangesFlights e old new → (f : Event) → is_send_to (subject_of f) e ≡ false → IsReady new f → IsReady old f
+ready_before : (e : Event) (old new : List Flight) → CountsEvent e old new → (f : Event) → is_send_to (subject_of f) e ≡ false → IsReady new f → IsReady old f
 ready_before e old new c (Join r) n h = tt
 ready_before e old new c (Sent p q m) n h = tt
-ready_before e old new c (Received p q m) n h = omega (arith, h, c p q, sent_elsewhere p q p q e n)
+ready_before e old new c (Received p q m) n h = omega (arith, h, c.sends p q, c.receptions p q, sent_elsewhere p q p q e n)
 
 -- a role that may release after a release could before, or is sent to
 due_of_same : {A : Type 0} (event : A → Event) (old new : Holding A) (x : A) → IsReleased event old new x → (r : List ℕ) → is_own r (event x) ≡ true → HasDue event r old
 due_of_same event old new x step r own =
     let s = subject_of (event x) in
-    let at : own_items event s old.waiting ≡ x ∷ own_items event s step.later = ap (own_items event s) step.was ∙ first_in_place event step.earlier step.later x step.first in
+    let k = step.taken in
+    let at : own_items event s old.waiting ≡ x ∷ own_items event s k.later = ap (own_items event s) k.was ∙ first_in_place event k.earlier k.later x k.first in
     record {
       x = x;
-      others = own_items event r step.later;
-      first = subst (λ z. own_items event z old.waiting ≡ x ∷ own_items event z step.later) (sym (same_name r s own)) at;
+      others = own_items event r k.later;
+      first = subst (λ z. own_items event z old.waiting ≡ x ∷ own_items event z k.later) (sym (same_name r s own)) at;
       ready = step.ready;
     }
 
-due_of_other : {A : Type 0} (event : A → Event) (old new : Holding A) (x : A) → IsReleased event old new x → (r : List ℕ) → is_own r (event x) ≡ false → is_send_to r (event x) ≡ false → HasDue event r new → HasDue event r old
-due_of_other event old new x step r other n due =
+pub due_of_other : {A : Type 0} (event : A → Event) (old new : Holding A) (x : A) → IsTakenOut event old new x → (r : List ℕ) → is_own r (event x) ≡ false → is_send_to r (event x) ≡ false → HasDue event r new → HasDue event r old
+due_of_other event old new x k r other n due =
     let left : own_items event r old.waiting ≡ own_items event r new.waiting =
-    ap (own_items event r) step.was
-    ∙ own_items-append event r step.earlier (x ∷ step.later)
-    ∙ ap (λ z. own_items event r step.earlier ++ z) (own_item_no event r x step.later other)
-    ∙ sym (own_items-append event r step.earlier step.later)
-    ∙ ap (own_items event r) (sym step.now) in
+    ap (own_items event r) k.was
+    ∙ own_items-append event r k.earlier (x ∷ k.later)
+    ∙ ap (λ z. own_items event r k.earlier ++ z) (own_item_no event r x k.later other)
+    ∙ sym (own_items-append event r k.earlier k.later)
+    ∙ ap (own_items event r) (sym k.now) in
     let mine : r ≡ subject_of (event due.x) = same_name r (subject_of (event due.x)) (first_is_own event r new.waiting due.x due.others due.first) in
     record {
       x = due.x;
       others = due.others;
       first = left ∙ due.first;
-      ready = ready_before (event x) old.flights new.flights step.flights (event due.x) (ap (λ z. is_send_to z (event x)) (sym mine) ∙ n) due.ready;
+      ready = ready_before (event x) old.flights new.flights k.counts (event due.x) (ap (λ z. is_send_to z (event x)) (sym mine) ∙ n) due.ready;
     }
 
 due_before_one : {A : Type 0} (event : A → Event) (old new : Holding A) (x : A) → IsReleased event old new x → (r : List ℕ) → HasDue event r new → HasDue event r old ⊎ (is_send_to r (event x) ≡ true)
@@ -115,7 +117,7 @@ due_before_one event old new x step r due =
       | inl own ↦ inl (due_of_same event old new x step r own)
       | inr other ↦ elim (cases_Bool (is_send_to r (event x))) [
         | inl y ↦ inr y
-        | inr n ↦ inl (due_of_other event old new x step r other n due)
+        | inr n ↦ inl (due_of_other event old new x step.taken r other n due)
       ]
     ]
 
@@ -131,41 +133,45 @@ due_before event old (one_more {given = given} {mid = mid} {new = new} x rs step
     due_onwards event old mid given x r (λ d. due_before event old rs r d) (due_before_one event mid new x step r due)
 
 -- releases one by one are releases by the rule
-flights_one : {A : Type 0} (event : A → Event) (log : List A) (x : A) (old new : List Flight) → AreInFlight (map event log) old → ChangesFlights (event x) old new → AreInFlight (map event (log ++ x ∷ [])) new
-flights_one event log x old new f c p q =
+pub counts_one : {A : Type 0} (event : A → Event) (log : List A) (x : A) (old new : List Flight) → AreCounts (map event log) old → CountsEvent (event x) old new → AreCounts (map event (log ++ x ∷ [])) new
+counts_one event log x old new f c =
     let e = event x in
     let whole : map event (log ++ x ∷ []) ≡ map event log ++ e ∷ [] = map-append event log (x ∷ []) in
-    subst (λ z. length (sent p q z) ≡ length (received p q z) + in_flight p q new) (sym whole)
-    (omega (arith, f p q, c p q, sent_more p q (map event log) (e ∷ []), received_more p q (map event log) (e ∷ [])))
+    subst (λ z. AreCounts z new) (sym whole)
+    (record {
+      sends = λ p q. omega (arith, f.sends p q, c.sends p q, sent_more p q (map event log) (e ∷ []));
+      receptions = λ p q. omega (arith, f.receptions p q, c.receptions p q, received_more p q (map event log) (e ∷ []));
+    })
 
-holds_one : {A : Type 0} (event : A → Event) (arrivals log : List A) (old new : Holding A) (x : A) → IsReleased event old new x → HoldsBack event arrivals log old.waiting → AreInFlight (map event log) old.flights → HoldsBack event arrivals (log ++ x ∷ []) new.waiting
-holds_one event arrivals log old new x step h f =
-    let due : IsDue event log step.earlier x = record {
-      first = no_own_events event (subject_of (event x)) step.earlier step.first;
+holds_one : {A : Type 0} (event : A → Event) (arrivals log expired : List A) (old new : Holding A) (x : A) → IsReleased event old new x → HoldsWithExpiries event arrivals log expired old.waiting → AreCounts (map event log) old.flights → HoldsWithExpiries event arrivals (log ++ x ∷ []) expired new.waiting
+holds_one event arrivals log expired old new x step h f =
+    let k = step.taken in
+    let due : IsDue event log k.earlier x = record {
+      first = no_own_events event (subject_of (event x)) k.earlier k.first;
       next = may_from_ready (map event log) old.flights (event x) f step.ready;
     } in
-    subst (λ z. HoldsBack event arrivals (log ++ x ∷ []) z) (sym step.now)
-    (releases step.earlier x step.later (subst (λ z. HoldsBack event arrivals log z) step.was h) due)
+    subst (λ z. HoldsWithExpiries event arrivals (log ++ x ∷ []) expired z) (sym k.now)
+    (releases k.earlier x k.later (subst (λ z. HoldsWithExpiries event arrivals log expired z) k.was h) due)
 
 -- both facts that releases keep
-pub record IsKept {A : Type 0} (event : A → Event) (arrivals log : List A) (h : Holding A) : Type 0 where
-  pub holds : HoldsBack event arrivals log h.waiting
-  pub flights : AreInFlight (map event log) h.flights
+pub record IsKept {A : Type 0} (event : A → Event) (arrivals log expired : List A) (h : Holding A) : Type 0 where
+  pub holds : HoldsWithExpiries event arrivals log expired h.waiting
+  pub counts : AreCounts (map event log) h.flights
 
-kept_one : {A : Type 0} (event : A → Event) (arrivals log : List A) (old new : Holding A) (x : A) → IsReleased event old new x → IsKept event arrivals log old → IsKept event arrivals (log ++ x ∷ []) new
-kept_one event arrivals log old new x step k = record {
-  holds = holds_one event arrivals log old new x step k.holds k.flights;
-  flights = flights_one event log x old.flights new.flights k.flights step.flights;
+kept_one : {A : Type 0} (event : A → Event) (arrivals log expired : List A) (old new : Holding A) (x : A) → IsReleased event old new x → IsKept event arrivals log expired old → IsKept event arrivals (log ++ x ∷ []) expired new
+kept_one event arrivals log expired old new x step k = record {
+  holds = holds_one event arrivals log expired old new x step k.holds k.counts;
+  counts = counts_one event log x old.flights new.flights k.counts step.taken.counts;
 }
 
-pub kept_all : {A : Type 0} (event : A → Event) (old : Holding A) {given : List A} {new : Holding A} → Releases event old given new → (arrivals log : List A) → IsKept event arrivals log old → IsKept event arrivals (log ++ given) new
-kept_all event old nothing arrivals log k = subst (λ z. IsKept event arrivals z old) (sym (append-nil log)) k
-kept_all event old (one_more {given = given} {mid = mid} {new = new} x rs step) arrivals log k =
-    subst (λ z. IsKept event arrivals z new) (append_assoc log given (x ∷ []))
-    (kept_one event arrivals (log ++ given) mid new x step (kept_all event old rs arrivals log k))
+pub kept_all : {A : Type 0} (event : A → Event) (old : Holding A) {given : List A} {new : Holding A} → Releases event old given new → (arrivals log expired : List A) → IsKept event arrivals log expired old → IsKept event arrivals (log ++ given) expired new
+kept_all event old nothing arrivals log expired k = subst (λ z. IsKept event arrivals z expired old) (sym (append-nil log)) k
+kept_all event old (one_more {given = given} {mid = mid} {new = new} x rs step) arrivals log expired k =
+    subst (λ z. IsKept event arrivals z expired new) (append_assoc log given (x ∷ []))
+    (kept_one event arrivals (log ++ given) expired mid new x step (kept_all event old rs arrivals log expired k))
 
 -- where no role may release, nothing may be released
-pub settled_of_quiet : {A : Type 0} (event : A → Event) (log : List A) (h : Holding A) → AreInFlight (map event log) h.flights → IsQuiet event h → IsSettled event log h.waiting
+pub settled_of_quiet : {A : Type 0} (event : A → Event) (log : List A) (h : Holding A) → AreCounts (map event log) h.flights → IsQuiet event h → IsSettled event log h.waiting
 settled_of_quiet event log h f quiet earlier later x eq due =
     let r = subject_of (event x) in
     quiet r
@@ -176,7 +182,7 @@ settled_of_quiet event log h f quiet earlier later x eq due =
       ready = ready_from_may (map event log) h.flights (event x) f due.next;
     })
 
-pub quiet_of_settled : {A : Type 0} (event : A → Event) (log : List A) (h : Holding A) → AreInFlight (map event log) h.flights → IsSettled event log h.waiting → IsQuiet event h
+pub quiet_of_settled : {A : Type 0} (event : A → Event) (log : List A) (h : Holding A) → AreCounts (map event log) h.flights → IsSettled event log h.waiting → IsQuiet event h
 quiet_of_settled event log h f settled r due =
     let k = kept_after (λ z. is_own r (event z)) h.waiting [] due.others due.x due.first in
     let mine : r ≡ subject_of (event due.x) = same_name r (subject_of (event due.x)) (first_is_own event r h.waiting due.x due.others due.first) in
@@ -187,10 +193,10 @@ quiet_of_settled event log h f settled r due =
     })
 
 -- an item that arrives at a quiet state is the only one that may be released
-ready_same : (old new : List Flight) (e : Event) → SameFlights old new → IsReady new e → IsReady old e
+ready_same : (old new : List Flight) (e : Event) → SameCounts old new → IsReady new e → IsReady old e
 ready_same old new (Join r) s h = tt
 ready_same old new (Sent p q m) s h = tt
-ready_same old new (Received p q m) s h = omega (arith, h, s p q)
+ready_same old new (Received p q m) s h = omega (arith, h, s.sends p q, s.receptions p q)
 
 -- what is due then is the arrival itself
 pub record IsLast {A : Type 0} (event : A → Event) (x : A) (old : Holding A) (r : List ℕ) (due_x : A) : Type 0 where
@@ -219,7 +225,7 @@ due_arrived event x old new a quiet r due (y ∷ ys) some =
       x = due.x;
       others = ys;
       first = some ∙ ap (λ z. z ∷ ys) same;
-      ready = ready_same old.flights new.flights (event due.x) a.flights due.ready;
+      ready = ready_same old.flights new.flights (event due.x) a.counts due.ready;
     }))
 
 -- an arrival that isn't released at once leaves nothing that may be released
@@ -229,7 +235,7 @@ quiet_appended event x old new a not_next quiet r due =
     not_next
     (record {
       none = subst (λ z. own_items event z old.waiting ≡ []) k.mine k.none;
-      ready = subst (λ z. IsReady old.flights (event z)) k.same (ready_same old.flights new.flights (event due.x) a.flights due.ready);
+      ready = subst (λ z. IsReady old.flights (event z)) k.same (ready_same old.flights new.flights (event due.x) a.counts due.ready);
     })
 
 -- after the role of the arrival has released all that it may, only receivers of what it sent may release
@@ -255,23 +261,28 @@ next_receivers event x items old new given rs done only r due =
 pub no_receivers : {A : Type 0} (event : A → Event) (h : Holding A) → OnlyReceivers event [] h → IsQuiet event h
 no_receivers event h only r due = true≢false (sym (only r due))
 
--- the clause of a push
-kept_appended : {A : Type 0} (event : A → Event) (x : A) (old new : Holding A) → IsAppended event x old new → (arrivals log : List A) → IsAfter event arrivals log old → IsKept event (arrivals ++ x ∷ []) log new
-kept_appended event x old new a arrivals log h = record {
-  holds = subst (λ z. HoldsBack event (arrivals ++ x ∷ []) log z) (sym a.waiting) (arrives x h.held.holds h.held.settled);
-  flights = λ p q. omega (arith, h.flights p q, a.flights p q);
+-- a state that nothing may be released of
+pub after_kept : {A : Type 0} (event : A → Event) (arrivals log expired : List A) (h : Holding A) → IsKept event arrivals log expired h → IsQuiet event h → IsAfter event arrivals log expired h
+after_kept event arrivals log expired h k quiet = record {
+  held = record { holds = k.holds; settled = settled_of_quiet event log h k.counts quiet };
+  counts = k.counts;
 }
 
-pub pushed : {A : Type 0} (event : A → Event) (x : A) (old mid new : Holding A) (given : List A) → IsAppended event x old mid → Releases event mid given new → (IsQuiet event old → IsQuiet event new) → (arrivals log : List A) → IsAfter event arrivals log old → IsAfter event (arrivals ++ x ∷ []) (log ++ given) new
-pushed event x old mid new given a rs quiet arrivals log h =
-    let k = kept_all event mid rs (arrivals ++ x ∷ []) log (kept_appended event x old mid a arrivals log h) in
-    record {
-      held = record {
-        holds = k.holds;
-        settled = settled_of_quiet event (log ++ given) new k.flights (quiet (quiet_of_settled event log old h.flights h.held.settled));
-      };
-      flights = k.flights;
-    }
+-- the clause of a push
+kept_appended : {A : Type 0} (event : A → Event) (x : A) (old new : Holding A) → IsAppended event x old new → (arrivals log expired : List A) → IsAfter event arrivals log expired old → IsKept event (arrivals ++ x ∷ []) log expired new
+kept_appended event x old new a arrivals log expired h = record {
+  holds = subst (λ z. HoldsWithExpiries event (arrivals ++ x ∷ []) log expired z) (sym a.waiting) (arrives x h.held.holds h.held.settled);
+  counts = record {
+    sends = λ p q. omega (arith, h.counts.sends p q, a.counts.sends p q);
+    receptions = λ p q. omega (arith, h.counts.receptions p q, a.counts.receptions p q);
+  };
+}
+
+pub pushed : {A : Type 0} (event : A → Event) (x : A) (old mid new : Holding A) (given : List A) → IsAppended event x old mid → Releases event mid given new → (IsQuiet event old → IsQuiet event new) → (arrivals log expired : List A) → IsAfter event arrivals log expired old → IsAfter event (arrivals ++ x ∷ []) (log ++ given) expired new
+pushed event x old mid new given a rs quiet arrivals log expired h =
+    after_kept event (arrivals ++ x ∷ []) (log ++ given) expired new
+    (kept_all event mid rs (arrivals ++ x ∷ []) log expired (kept_appended event x old mid a arrivals log expired h))
+    (quiet (quiet_of_settled event log old h.counts h.held.settled))
 
 -- what is drained
 pub releases_join : {A : Type 0} (event : A → Event) (old mid : Holding A) (first : List A) {given : List A} {new : Holding A} → Releases event mid given new → Releases event old first mid → Releases event old (first ++ given) new
@@ -282,7 +293,7 @@ releases_join event old mid first (one_more {given = given} {mid = m} {new = new
 pub releases_count : {A : Type 0} (event : A → Event) (old : Holding A) {given : List A} {new : Holding A} → Releases event old given new → length given + length new.waiting ≡ length old.waiting
 releases_count event old nothing = omega arith
 releases_count event old (one_more {given = given} {mid = mid} {new = new} x rs step) =
-    omega (arith, releases_count event old rs, ap length step.was, ap length step.now, length-append step.earlier (x ∷ step.later), length-append step.earlier step.later, length-append given (x ∷ []))
+    omega (arith, releases_count event old rs, ap length step.taken.was, ap length step.taken.now, length-append step.taken.earlier (x ∷ step.taken.later), length-append step.taken.earlier step.taken.later, length-append given (x ∷ []))
 
 pub drained_none : {A : Type 0} (event : A → Event) (old : Holding A) (released : List A) → IsDrained event old old released released
 drained_none event old released = record { given = []; appended = sym (append-nil released); releases = nothing; roles = refl }
@@ -295,8 +306,13 @@ drained_join event old mid new released between now d e = record {
   roles = e.roles ∙ d.roles;
 }
 
-pub drained_one : {A : Type 0} (event : A → Event) (old new : Holding A) (released now : List A) → IsReleasedOnto event old new released now → new.roles ≡ old.roles → IsDrained event old new released now
-drained_one event old new released now r same = record { given = r.x ∷ []; appended = r.appended; releases = one_more r.x nothing r.step; roles = same }
+pub drained_one : {A : Type 0} (event : A → Event) (place : ℕ) (old new : Holding A) (released now : List A) (k : IsTakenOnto event place old new released now) → IsReady old.flights (event k.x) → new.roles ≡ old.roles → IsDrained event old new released now
+drained_one event place old new released now k ready same = record {
+  given = k.x ∷ [];
+  appended = k.appended;
+  releases = one_more k.x nothing (record { taken = k.taken; ready = ready });
+  roles = same;
+}
 
 pub drained_count : {A : Type 0} (event : A → Event) (old new : Holding A) (released now : List A) → IsDrained event old new released now → length now + length new.waiting ≡ length released + length old.waiting
 drained_count event old new released now d =
@@ -315,17 +331,16 @@ pub drop_behind : {A : Type 0} (items given now : List A) (n : ℕ) → n ≡ le
 drop_behind items given now n e more = ap (drop n) more ∙ drop_at items given n (sym e)
 
 -- the state before any arrival
-no_item : {A : Type 0} (earlier later : List A) (x : A) → [] ≡ earlier ++ x ∷ later → ⊥
-no_item [] later x e = absurd (cc)
-no_item (y ∷ earlier) later x e = absurd (cc)
-
-pub after_nothing : {A : Type 0} (event : A → Event) (h : Holding A) → h.waiting ≡ [] → h.flights ≡ [] → IsAfter event [] [] h
+pub after_nothing : {A : Type 0} (event : A → Event) (h : Holding A) → h.waiting ≡ [] → h.flights ≡ [] → IsAfter event [] [] [] h
 after_nothing event h none empty = record {
   held = record {
-    holds = subst (λ z. HoldsBack event [] [] z) (sym none) begins;
+    holds = subst (λ z. HoldsWithExpiries event [] [] [] z) (sym none) begins;
     settled = λ earlier later x e due. no_item earlier later x (sym none ∙ e);
   };
-  flights = λ p q. omega (arith, ap (in_flight p q) empty);
+  counts = record {
+    sends = λ p q. omega (arith, ap (sent_on p q) empty);
+    receptions = λ p q. omega (arith, ap (received_on p q) empty);
+  };
 }
 
 -- a push of an arrival that waits
@@ -339,13 +354,15 @@ pushes_held event x old new released a not_next = record {
 -- a push of an arrival that is released at once, and then what it makes possible
 passed_step : {A : Type 0} (event : A → Event) (x : A) (old mid next : Holding A) → mid.waiting ≡ old.waiting ++ x ∷ [] → mid.flights ≡ old.flights → IsPassed event x old next → IsReleased event mid next x
 passed_step event x old mid next more flights k = record {
-  earlier = old.waiting;
-  later = [];
-  was = more;
-  first = k.next.none;
-  now = k.waiting ∙ sym (append-nil old.waiting);
+  taken = record {
+    earlier = old.waiting;
+    later = [];
+    was = more;
+    first = k.next.none;
+    now = k.waiting ∙ sym (append-nil old.waiting);
+    counts = subst (λ z. CountsEvent (event x) z next.flights) (sym flights) k.counts;
+  };
   ready = subst (λ z. IsReady z (event x)) (sym flights) k.next.ready;
-  flights = subst (λ z. ChangesFlights (event x) z next.flights) (sym flights) k.flights;
 }
 
 none_left : {A : Type 0} (event : A → Event) (x : A) (old next : Holding A) → IsPassed event x old next → HasDue event (subject_of (event x)) next → ⊥
@@ -356,7 +373,7 @@ none_left event x old next k due =
 pub pushes_passed : {A : Type 0} (event : A → Event) (x : A) (old next new : Holding A) (released at now : List A) (start : ℕ) → IsPassed event x old next → at ≡ released ++ x ∷ [] → start ≡ length released → IsDrained event next new at now → (OnlyReceivers event (drop start at) next → IsQuiet event new) → IsPushed event x old new released now
 pushes_passed {A} event x old next new released at now start k more long d quiet =
     let mid : Holding A = record { roles = old.roles; waiting = old.waiting ++ x ∷ []; flights = old.flights } in
-    let a : IsAppended event x old mid = record { waiting = refl; flights = λ p q. refl } in
+    let a : IsAppended event x old mid = record { waiting = refl; counts = record { sends = λ p q. refl; receptions = λ p q. refl } } in
     let first : Releases event mid (x ∷ []) next = one_more x nothing (passed_step event x old mid next refl refl k) in
     let whole : Releases event mid (x ∷ d.given) new = releases_join event mid next (x ∷ []) d.releases first in
     let behind : drop start at ≡ x ∷ [] = drop_behind released (x ∷ []) at start long more in

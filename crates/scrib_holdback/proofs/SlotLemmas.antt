@@ -1,7 +1,8 @@
 -- Slots, and the positions of their items.
 use Rattle.std.proofs.Common.{◌≡◌, Bool, true, false, cond, zero, suc, ℕ, ◌+◌, ◌-◌, ◌<◌, ◌≤◌, List, [], ◌∷◌, ◌++◌, filter, length, get_or, set, Option, Some, None, refl, sym, ap, ◌∙◌, arith}
 use Rattle.scrib_holdback.specs.declared.lanes.Lane.{Lane}
-use Rattle.scrib_holdback.specs.Lanes.{items_in, positions, roles_of, positions_at, HasPositions, IsTrimmed}
+use Rattle.scrib_holdback.specs.Lanes.{items_in, positions, roles_of, positions_at, HasPositions, IsTrimmed, StartsFull}
+use Rattle.scrib_holdback.specs.Holdings.{IsOldest}
 
 -- the slot at the first position
 pub record IsSlot {A : Type 0} (t : A → Bool) (n : ℕ) (slots : List (Option A)) (p : ℕ) (ps : List ℕ) : Type 0 where
@@ -145,6 +146,31 @@ pub items_fit : {A : Type 0} (slots : List (Option A)) → length (items_in slot
 items_fit [] = omega arith
 items_fit (None ∷ slots) = omega (arith, items_fit slots)
 items_fit (Some x ∷ slots) = omega (arith, items_fit slots)
+
+-- the first slot has the oldest item
+pub full_pushed : {A : Type 0} (slots : List (Option A)) (x : A) → StartsFull slots → StartsFull (slots ++ Some x ∷ [])
+full_pushed [] x h = tt
+full_pushed (None ∷ slots) x h = h
+full_pushed (Some y ∷ slots) x h = tt
+
+pub full_emptied : {A : Type 0} (slots : List (Option A)) → 0 < length slots → StartsFull slots → StartsFull (slots ++ None ∷ [])
+full_emptied [] some h = absurd (omega (arith, some))
+full_emptied (None ∷ slots) some h = h
+full_emptied (Some y ∷ slots) some h = tt
+
+pub no_slots : {A : Type 0} (slots : List (Option A)) → (0 < length slots → ⊥) → items_in slots ≡ []
+no_slots [] none = refl
+no_slots (slot ∷ slots) none = absurd (none (omega arith))
+
+pub record IsFirstSlot {A : Type 0} (slots : List (Option A)) : Type 0 where
+  pub x : A
+  pub slot : (d : Option A) → get_or slots 0 d ≡ Some x
+  pub oldest : IsOldest (items_in slots) x
+
+pub first_slot : {A : Type 0} (slots : List (Option A)) → 0 < length slots → StartsFull slots → IsFirstSlot slots
+first_slot [] some h = absurd (omega (arith, some))
+first_slot (None ∷ slots) some h = absurd h
+first_slot (Some x ∷ slots) some h = record { x = x; slot = λ d. refl; oldest = (items_in slots, refl) }
 
 -- an empty slot at the front
 pub trimmed_none : {A : Type 0} (slots : List (Option A)) → IsTrimmed slots slots

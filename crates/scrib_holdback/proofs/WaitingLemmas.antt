@@ -11,12 +11,13 @@ use Rattle.scrib_types.specs.WellFormed.{has_role}
 use Rattle.scrib_holdback.specs.declared.lanes.Lane.{Lane}
 use Rattle.scrib_holdback.specs.Reorderings.{is_own}
 use Rattle.scrib_holdback.specs.Waiters.{Waiters}
+use Rattle.scrib_holdback.specs.Holdings.{IsOldest}
 use Rattle.scrib_holdback.specs.Releases.{own_items}
-use Rattle.scrib_holdback.specs.Lanes.{items_in, positions, roles_of, positions_at, AreLaid, HasPositions, IsTrimmed, IsSkipped, HasNone, IsFirstItem, IsTaken}
+use Rattle.scrib_holdback.specs.Lanes.{items_in, positions, roles_of, positions_at, StartsFull, AreLaid, HasPositions, IsTrimmed, IsSkipped, HasNone, IsFirstItem, IsTaken}
 use Rattle.scrib_holdback.proofs.OwnEvents.{name_itself, same_name}
 use Rattle.scrib_holdback.proofs.Positions.{first_at, none_at, no_any, any_left, or_true, all_without, all_weaker, all_pushed}
 use Rattle.scrib_holdback.proofs.ReleaseLemmas.{own_items-append, own_item_yes}
-use Rattle.scrib_holdback.proofs.SlotLemmas.{IsSlot, slot_at, no_position, no_item_no_position, items_pushed, items_emptied, positions_pushed, positions_emptied}
+use Rattle.scrib_holdback.proofs.SlotLemmas.{IsSlot, slot_at, no_position, no_item_no_position, items_pushed, items_emptied, positions_pushed, positions_emptied, full_pushed, full_emptied}
 
 -- lanes by their role
 got_in_place : {X : Type 0} (earlier later : List X) (x : X) → slice_get (earlier ++ x ∷ later) (length earlier) ≡ Some x
@@ -67,6 +68,7 @@ laid_nothing event [] [] pushed e f = record {
   distinct = λ i j r at other. absurd (cc);
   laid = λ i r at. absurd (cc);
   met = tt;
+  full = tt;
 }
 laid_nothing event (lane ∷ lanes) slots pushed e f = absurd (cc)
 laid_nothing event [] (slot ∷ slots) pushed e f = absurd (cc)
@@ -112,6 +114,7 @@ laid_added {A} event lanes now lane slots pushed l none empty more =
       distinct = λ i j s a b. same_place (roles_of lanes) lane.role s i j none l.distinct (got_pushed (roles_of lanes) lane.role s i (ap (λ z. slice_get z i) (sym roles) ∙ a)) (got_pushed (roles_of lanes) lane.role s j (ap (λ z. slice_get z j) (sym roles) ∙ b));
       laid = λ i s a. ap (λ z. positions_at z i) more ∙ laid_here event lanes lane slots pushed l none empty i s (got_pushed (roles_of lanes) lane.role s i (ap (λ z. slice_get z i) (sym roles) ∙ a));
       met = all_weaker old_met now_met (λ x h. ap (has_role (subject_of (event x))) roles ∙ any_left (bytes_eq (subject_of (event x))) (roles_of lanes) (lane.role ∷ []) h) (items_in slots) l.met;
+      full = l.full;
     }
 
 pub role_added : (lanes now : List Lane) (lane : Lane) (r : List ℕ) (n : ℕ) → now ≡ lanes ++ lane ∷ [] → lane.role ≡ r → n ≡ length lanes → slice_get (roles_of now) n ≡ Some r
@@ -164,22 +167,29 @@ laid_pushed {A} event lanes now slots more pushed place x l role has e =
                 has.others i n ∙ l.laid i s was ∙ sym (pushed_elsewhere event slots (pushed - length slots) x s (other_own event r s x refl other)) ∙ sym (to s)
           ]);
       met = subst (AllByRecursion now_met) (sym (ap items_in e ∙ items_pushed slots x)) (all_pushed now_met (items_in slots) x (all_weaker old_met now_met (λ y h. ap (has_role (subject_of (event y))) has.roles ∙ h) (items_in slots) l.met) (ap (has_role r) has.roles ∙ role_met (roles_of lanes) r place role));
+      full = subst StartsFull (sym e) (full_pushed slots x l.full);
     }
+
+pub some_since : (n m : ℕ) → (n ≡ 0 → ⊥) → n ≡ m → 0 < m
+some_since zero m none e = absurd (none refl)
+some_since (suc n) m none e = omega (arith, e)
 
 -- an item that is counted alone
 pub skipped_none : {A : Type 0} (old new : List (Option A)) → old ≡ [] → new ≡ old → IsSkipped old new
 skipped_none old new none same = record {
   items = ap items_in same;
   fits = omega (arith, ap length same);
+  full = λ h. subst StartsFull (sym same) h;
   same = λ t pushed fits. ap (positions t (pushed + 1 - length new)) (same ∙ none) ∙ sym (ap (positions t (pushed - length old)) none);
 }
 
-pub skipped_one : {A : Type 0} (old new : List (Option A)) → new ≡ old ++ None ∷ [] → IsSkipped old new
-skipped_one old new more =
+pub skipped_one : {A : Type 0} (old new : List (Option A)) → 0 < length old → new ≡ old ++ None ∷ [] → IsSkipped old new
+skipped_one old new some more =
     let len : length new ≡ length old + 1 = ap length more ∙ length-append old (None ∷ []) in
     record {
       items = ap items_in more ∙ items_emptied old;
       fits = omega (arith, len);
+      full = λ h. subst StartsFull (sym more) (full_emptied old some h);
       same = λ t pushed fits. (
           let base : pushed + 1 - length new ≡ pushed - length old = omega (arith, len) in
           ap (λ n. positions t n new) base ∙ ap (positions t (pushed - length old)) more ∙ positions_emptied t (pushed - length old) old);
@@ -193,6 +203,7 @@ laid_skipped {A} event roles at slots more pushed l k =
       distinct = l.distinct;
       laid = λ i r a. l.laid i r a ∙ sym (k.same (λ y. is_own r (event y)) pushed l.short);
       met = subst (AllByRecursion is_met) (sym k.items) l.met;
+      full = k.full l.full;
     }
 
 -- the first item of a lane
@@ -258,8 +269,8 @@ pub record IsPopped {A : Type 0} (event : A → Event) (lanes now : List Lane) (
   pub laid : AreLaid event (roles_of now) (positions_at now) left pushed
   pub taken : IsTaken event place record { roles = roles_of lanes; items = items_in slots; pushed = pushed } record { roles = roles_of now; items = items_in left; pushed = pushed } x
 
-pub popped : {A : Type 0} (event : A → Event) (lanes now : List Lane) (slots left : List (Option A)) (pushed place p : ℕ) (ps : List ℕ) → AreLaid event (roles_of lanes) (positions_at lanes) slots pushed → positions_at lanes place ≡ p ∷ ps → HasPositions place ps lanes now → IsTrimmed (set slots (p - (pushed - length slots)) None) left → IsPopped event lanes now slots left pushed place p
-popped {A} event lanes now slots left pushed place p ps l e has trimmed =
+pub popped : {A : Type 0} (event : A → Event) (lanes now : List Lane) (slots left : List (Option A)) (pushed place p : ℕ) (ps : List ℕ) → AreLaid event (roles_of lanes) (positions_at lanes) slots pushed → positions_at lanes place ≡ p ∷ ps → HasPositions place ps lanes now → IsTrimmed (set slots (p - (pushed - length slots)) None) left → StartsFull left → IsPopped event lanes now slots left pushed place p
+popped {A} event lanes now slots left pushed place p ps l e has trimmed full =
     let k = lane_slot event lanes slots pushed place p ps l e in
     let s = k.slot in
     let index : s.index ≡ p - (pushed - length slots) = omega (arith, s.place) in
@@ -287,6 +298,7 @@ popped {A} event lanes now slots left pushed place p ps l e has trimmed =
                   has.others i n ∙ l.laid i r was ∙ sym (s.others (λ v. is_own r (event v)) (other_own event k.r r s.x mine other)) ∙ sym (at r)
             ]);
         met = subst (AllByRecursion now_met) (sym items) (all_weaker old_met now_met (λ y h. ap (has_role (subject_of (event y))) has.roles ∙ h) (s.earlier ++ s.later) (all_without old_met s.earlier s.later s.x (subst (AllByRecursion old_met) s.items l.met)));
+        full = full;
       };
       taken = record {
         role = k.role ∙ ap (λ z. Some z) mine;
@@ -302,6 +314,10 @@ popped {A} event lanes now slots left pushed place p ps l e has trimmed =
 pub first_lent : {A : Type 0} (event : A → Event) (place : ℕ) (w : Waiters A) (o : Option (Bor A)) (x : A) → option_copied o ≡ Some x → IsFirstItem event place w x → MatchOption o (HasNone event place w) (λ b. IsFirstItem event place w b.now)
 first_lent event place w None x e k = absurd (cc)
 first_lent event place w (Some b) x e k = let same : b.now ≡ x = cc in subst (IsFirstItem event place w) (sym same) k
+
+pub oldest_lent : {A : Type 0} (items : List A) (o : Option (Bor A)) (x : A) → option_copied o ≡ Some x → IsOldest items x → MatchOption o (items ≡ []) (λ b. IsOldest items b.now)
+oldest_lent items None x e k = absurd (cc)
+oldest_lent items (Some b) x e k = let same : b.now ≡ x = cc in subst (IsOldest items) (sym same) k
 
 pub taken_out : {A : Type 0} (event : A → Event) (place : ℕ) (old new : Waiters A) (o : Option A) (x : A) → o ≡ Some x → IsTaken event place old new x → MatchOption o (HasNone event place old) (λ y. IsTaken event place old new y)
 taken_out event place old new None x e k = absurd (cc)

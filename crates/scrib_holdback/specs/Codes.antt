@@ -4,11 +4,13 @@ use Rattle.std.specs.Coded.{Coded, code_by, coded×, coded_list, coded_ℕ}
 use Rattle.scrib_holdback.specs.declared.flights.Flight.{Flight}
 use Rattle.scrib_holdback.specs.Holdings.{Holding}
 
--- a flight is stored as its roles and its count
+-- a flight is stored as its roles and its counts
 abbrev pub flight_code : Coded Flight
 flight_code =
-    code_by (List ℕ × (List ℕ × ℕ)) (coded× (coded_list coded_ℕ) (coded× (coded_list coded_ℕ) coded_ℕ))
-    (λ f. (f.from, (f.to, f.count))) (λ p. record { from = p.0; to = p.1.0; count = p.1.1 }) (λ _. refl)
+    code_by (List ℕ × (List ℕ × (ℕ × ℕ)))
+    (coded× (coded_list coded_ℕ) (coded× (coded_list coded_ℕ) (coded× coded_ℕ coded_ℕ)))
+    (λ f. (f.from, (f.to, (f.sent, f.received))))
+    (λ p. record { from = p.0; to = p.1.0; sent = p.1.1.0; received = p.1.1.1 }) (λ _. refl)
 
 -- the state of a holdback is stored as its lists
 abbrev pub holding_code : {A : Type 0} → Coded A → Coded (Holding A)

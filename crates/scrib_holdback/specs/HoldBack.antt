@@ -24,17 +24,28 @@ abbrev pub IsSettled : {X : Type 0} → (X → Event) → List X → List X → 
 IsSettled {X} event released waiting =
     (earlier later : List X) (x : X) → waiting ≡ earlier ++ x ∷ later → IsDue event released earlier x → ⊥
 
--- The rule. These items arrived, these were released, and these wait, in order of arrival. The next one arrives once
--- no waiting item may be released.
-pub data HoldsBack {X : Type 0} (event : X → Event) : List X → List X → List X → Type 0 where
-  begins : HoldsBack event [] [] []
-  arrives : {arrivals released waiting : List X} (x : X) → HoldsBack event arrivals released waiting
-      → IsSettled event released waiting → HoldsBack event (arrivals ++ x ∷ []) released (waiting ++ x ∷ [])
-  releases : {arrivals released : List X} (earlier : List X) (x : X) (later : List X)
-      → HoldsBack event arrivals released (earlier ++ x ∷ later) → IsDue event released earlier x
-      → HoldsBack event arrivals (released ++ x ∷ []) (earlier ++ later)
+-- The rule. These items arrived, these were released, some of them expired, and these wait, in order of arrival. An
+-- item arrives, and the oldest that waits expires, once no waiting item may be released. What expires is released as it
+-- is, though it may not have happened yet.
+pub data HoldsWithExpiries {X : Type 0} (event : X → Event) : List X → List X → List X → List X → Type 0 where
+  begins : HoldsWithExpiries event [] [] [] []
+  arrives : {arrivals released expired waiting : List X} (x : X)
+      → HoldsWithExpiries event arrivals released expired waiting → IsSettled event released waiting
+      → HoldsWithExpiries event (arrivals ++ x ∷ []) released expired (waiting ++ x ∷ [])
+  releases : {arrivals released expired : List X} (earlier : List X) (x : X) (later : List X)
+      → HoldsWithExpiries event arrivals released expired (earlier ++ x ∷ later) → IsDue event released earlier x
+      → HoldsWithExpiries event arrivals (released ++ x ∷ []) expired (earlier ++ later)
+  expires : {arrivals released expired : List X} (oldest : X) (later : List X)
+      → HoldsWithExpiries event arrivals released expired (oldest ∷ later)
+      → IsSettled event released (oldest ∷ later)
+      → HoldsWithExpiries event arrivals (released ++ oldest ∷ []) (expired ++ oldest ∷ []) later
 
 -- by the rule all that may be released of the arrivals was released, in this order, and the rest still waits
-pub record IsHeldBack {X : Type 0} (event : X → Event) (arrivals released waiting : List X) : Type 0 where
-  pub holds : HoldsBack event arrivals released waiting
+pub record IsHeldWithExpiries {X : Type 0} (event : X → Event) (arrivals released expired waiting : List X)
+    : Type 0 where
+  pub holds : HoldsWithExpiries event arrivals released expired waiting
   pub settled : IsSettled event released waiting
+
+-- the same where nothing expired
+abbrev pub IsHeldBack : {X : Type 0} → (X → Event) → List X → List X → List X → Type 0
+IsHeldBack event arrivals released waiting = IsHeldWithExpiries event arrivals released [] waiting

@@ -1,12 +1,12 @@
 -- The state of a holdback, and what its calls do (this project's own).
-use Rattle.std.specs.Prelude.{◌≡◌, ℕ, ◌+◌, ◌&&◌, Bool, List, [], ◌∷◌, ◌++◌, map, length, if◌then◌else◌}
+use Rattle.std.specs.Prelude.{◌≡◌, ℕ, ◌&&◌, Bool, List, [], ◌∷◌, ◌++◌, map, length, if◌then◌else◌}
 use Rattle.std.specs.Str.{bytes_eq}
 use Rattle.scrib_types.specs.declared.event.Event.{Event}
 use Rattle.scrib_types.specs.Queues.{sent, received}
 use Rattle.scrib_holdback.specs.declared.flights.Flight.{Flight}
-use Rattle.scrib_holdback.specs.HoldBack.{IsHeldBack}
+use Rattle.scrib_holdback.specs.HoldBack.{IsHeldWithExpiries}
 
--- the roles that were met, what waits, in order of arrival, and how many messages are in flight on which pairs
+-- the roles that were met, what waits, in order of arrival, and what was sent and received on which pairs
 pub record Holding (A : Type 0) : Type 0 where
   pub roles : List (List ℕ)
   pub waiting : List A
@@ -16,30 +16,52 @@ pub record Holding (A : Type 0) : Type 0 where
 abbrev pub is_between : List ℕ → List ℕ → Flight → Bool
 is_between p q flight = bytes_eq flight.from p && bytes_eq flight.to q
 
--- how many messages are in flight from p to q
-abbrev pub in_flight : List ℕ → List ℕ → List Flight → ℕ
-in_flight p q [] = 0
-in_flight p q (flight ∷ flights) = if is_between p q flight then flight.count else in_flight p q flights
+-- this count of the pair of p and q
+abbrev pub count_on : (Flight → ℕ) → List ℕ → List ℕ → List Flight → ℕ
+count_on count p q [] = 0
+count_on count p q (flight ∷ flights) = if is_between p q flight then count flight else count_on count p q flights
 
--- in flight is what these events sent and did not receive
-abbrev pub AreInFlight : List Event → List Flight → Type 0
-AreInFlight log flights =
-    (p q : List ℕ) → length (sent p q log) ≡ length (received p q log) + in_flight p q flights
+-- how many messages were sent from p to q
+abbrev pub sent_on : List ℕ → List ℕ → List Flight → ℕ
+sent_on p q flights = count_on (λ (flight : Flight). flight.sent) p q flights
 
--- the state after these arrivals, of which these were released
-pub record IsAfter {A : Type 0} (event : A → Event) (arrivals released : List A) (h : Holding A) : Type 0 where
-  pub held : IsHeldBack event arrivals released h.waiting
-  pub flights : AreInFlight (map event released) h.flights
+-- how many messages from p were received by q
+abbrev pub received_on : List ℕ → List ℕ → List Flight → ℕ
+received_on p q flights = count_on (λ (flight : Flight). flight.received) p q flights
+
+-- the counts of each pair are those of these events
+pub record AreCounts (log : List Event) (flights : List Flight) : Type 0 where
+  pub sends : (p q : List ℕ) → sent_on p q flights ≡ length (sent p q log)
+  pub receptions : (p q : List ℕ) → received_on p q flights ≡ length (received p q log)
+
+-- the state after these arrivals, of which these were released, and these of them expired
+pub record IsAfter {A : Type 0} (event : A → Event) (arrivals released expired : List A) (h : Holding A) : Type 0 where
+  pub held : IsHeldWithExpiries event arrivals released expired h.waiting
+  pub counts : AreCounts (map event released) h.flights
 
 -- the arrival was pushed: after any earlier ones, these items are released then, behind those that were
 pub record IsPushed {A : Type 0} (event : A → Event) (arrival : A) (old new : Holding A) (released now : List A)
     : Type 0 where
   pub given : List A
   pub appended : now ≡ released ++ given
-  pub after : (arrivals earlier : List A) → IsAfter event arrivals earlier old
-      → IsAfter event (arrivals ++ arrival ∷ []) (earlier ++ given) new
+  pub after : (arrivals earlier expired : List A) → IsAfter event arrivals earlier expired old
+      → IsAfter event (arrivals ++ arrival ∷ []) (earlier ++ given) expired new
+
+-- the item is the oldest of those that wait
+abbrev pub IsOldest : {A : Type 0} → List A → A → Type 0
+IsOldest {A} waiting x = (later : List A) × (waiting ≡ x ∷ later)
+
+-- the oldest waiting arrival expired: it is released, and then what the rule releases, behind those that were
+pub record IsExpired {A : Type 0} (event : A → Event) (old new : Holding A) (released now : List A) : Type 0 where
+  pub oldest : A
+  pub waited : IsOldest old.waiting oldest
+  pub given : List A
+  pub appended : now ≡ released ++ oldest ∷ given
+  pub after : (arrivals earlier expired : List A) → IsAfter event arrivals earlier expired old
+      → IsAfter event arrivals (earlier ++ oldest ∷ given) (expired ++ oldest ∷ []) new
 
 -- nothing changed: what is released and what waits is the same after any arrivals
 abbrev pub IsUnchanged : {A : Type 0} → (A → Event) → Holding A → Holding A → Type 0
 IsUnchanged {A} event old new =
-    (arrivals released : List A) → IsAfter event arrivals released old → IsAfter event arrivals released new
+    (arrivals released expired : List A) → IsAfter event arrivals released expired old
+    → IsAfter event arrivals released expired new

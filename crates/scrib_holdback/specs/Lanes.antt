@@ -31,8 +31,14 @@ positions_at [] i = []
 positions_at (lane ∷ lanes) zero = lane.positions.items
 positions_at (lane ∷ lanes) (suc i) = positions_at lanes i
 
+-- the first slot, if there is one, has an item
+abbrev pub StartsFull : {A : Type 0} → List (Option A) → Type 0
+StartsFull [] = Unit {0}
+StartsFull (None ∷ slots) = ⊥
+StartsFull (Some x ∷ slots) = Unit {0}
+
 -- No two lanes are of one role. Each has the positions of its role's items, and each item's role has a lane. The
--- position of the last slot is that of the last item that was counted.
+-- position of the last slot is that of the last item that was counted. The first slot has an item.
 pub record AreLaid {A : Type 0} (event : A → Event) (roles : List (List ℕ)) (at : ℕ → List ℕ)
     (slots : List (Option A)) (pushed : ℕ) : Type 0 where
   pub short : length slots ≤ pushed
@@ -40,6 +46,7 @@ pub record AreLaid {A : Type 0} (event : A → Event) (roles : List (List ℕ)) 
   pub laid : (i : ℕ) (r : List ℕ) → slice_get roles i ≡ Some r
       → at i ≡ positions (λ x. is_own r (event x)) (pushed - length slots) slots
   pub met : AllByRecursion (λ x. has_role (subject_of (event x)) roles ≡ true) (items_in slots)
+  pub full : StartsFull slots
 
 -- the lane at this place has other positions
 pub record HasPositions (place : ℕ) (new_positions : List ℕ) (old new : List Lane) : Type 0 where
@@ -58,6 +65,7 @@ pub record IsTrimmed {A : Type 0} (old new : List (Option A)) : Type 0 where
 pub record IsSkipped {A : Type 0} (old new : List (Option A)) : Type 0 where
   pub items : items_in new ≡ items_in old
   pub fits : length new ≤ length old + 1
+  pub full : StartsFull old → StartsFull new
   pub same : (t : A → Bool) (pushed : ℕ) → length old ≤ pushed
       → positions t (pushed + 1 - length new) new ≡ positions t (pushed - length old) old
 

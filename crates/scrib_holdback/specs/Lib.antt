@@ -6,3 +6,4 @@ pub mod Releases
 pub mod Codes
 pub mod Waiters
 pub mod Lanes
+pub mod HeldRuns

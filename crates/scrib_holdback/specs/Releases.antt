@@ -8,33 +8,33 @@ use Rattle.scrib_types.specs.Logs.{subject_of}
 use Rattle.scrib_types.specs.Queues.{sent, received}
 use Rattle.scrib_holdback.specs.declared.flights.Flight.{Flight}
 use Rattle.scrib_holdback.specs.Reorderings.{is_own}
-use Rattle.scrib_holdback.specs.Holdings.{Holding, is_between, in_flight}
+use Rattle.scrib_holdback.specs.Holdings.{Holding, is_between, sent_on, received_on, IsOldest}
 
--- by the messages in flight the event may happen next
+-- by the counts the event may happen next: a reception, if more was sent on its pair than was received
 abbrev pub IsReady : List Flight → Event → Type 0
 IsReady flights (Join r) = Unit {0}
 IsReady flights (Sent p q m) = Unit {0}
-IsReady flights (Received p q m) = 0 < in_flight p q flights
+IsReady flights (Received p q m) = received_on p q flights < sent_on p q flights
 
--- the pair of a send has a flight
+-- the pair of a send or a reception has a flight
 abbrev pub HasFlight : List Flight → Event → Type 0
 HasFlight flights (Join r) = Unit {0}
 HasFlight flights (Sent p q m) = list_any (is_between p q) flights ≡ true
-HasFlight flights (Received p q m) = Unit {0}
+HasFlight flights (Received p q m) = list_any (is_between p q) flights ≡ true
 
 -- where the first flights have one for the event, so have the second
 abbrev pub KeepsFlights : List Flight → List Flight → Type 0
 KeepsFlights old new = (e : Event) → HasFlight old e → HasFlight new e
 
--- the event changes what is in flight like this
-abbrev pub ChangesFlights : Event → List Flight → List Flight → Type 0
-ChangesFlights e old new =
-    (p q : List ℕ)
-    → in_flight p q new + length (received p q (e ∷ [])) ≡ in_flight p q old + length (sent p q (e ∷ []))
+-- the event is counted
+pub record CountsEvent (e : Event) (old new : List Flight) : Type 0 where
+  pub sends : (p q : List ℕ) → sent_on p q new ≡ sent_on p q old + length (sent p q (e ∷ []))
+  pub receptions : (p q : List ℕ) → received_on p q new ≡ received_on p q old + length (received p q (e ∷ []))
 
--- the same messages are in flight
-abbrev pub SameFlights : List Flight → List Flight → Type 0
-SameFlights old new = (p q : List ℕ) → in_flight p q new ≡ in_flight p q old
+-- the counts are the same
+pub record SameCounts (old new : List Flight) : Type 0 where
+  pub sends : (p q : List ℕ) → sent_on p q new ≡ sent_on p q old
+  pub receptions : (p q : List ℕ) → received_on p q new ≡ received_on p q old
 
 -- the items of the role, in order
 abbrev pub own_items : {A : Type 0} → (A → Event) → List ℕ → List A → List A
@@ -47,13 +47,23 @@ pub record HasDue {A : Type 0} (event : A → Event) (r : List ℕ) (h : Holding
   pub first : own_items event r h.waiting ≡ x ∷ others
   pub ready : IsReady h.flights (event x)
 
--- the first waiting item of the role at this place is ready
-pub record IsDueAt {A : Type 0} (event : A → Event) (h : Holding A) (place : ℕ) : Type 0 where
+-- an item of the role at this place waits, and is the first of the role
+pub record WaitsAt {A : Type 0} (event : A → Event) (h : Holding A) (place : ℕ) : Type 0 where
   pub x : A
   pub role : slice_get h.roles place ≡ Some (subject_of (event x))
   pub others : List A
   pub first : own_items event (subject_of (event x)) h.waiting ≡ x ∷ others
-  pub ready : IsReady h.flights (event x)
+
+-- the first waiting item of the role at this place is ready
+pub record IsDueAt {A : Type 0} (event : A → Event) (h : Holding A) (place : ℕ) : Type 0 where
+  pub waits : WaitsAt event h place
+  pub ready : IsReady h.flights (event waits.x)
+
+-- the oldest item that waits is of the role at this place
+pub record IsOldestAt {A : Type 0} (event : A → Event) (h : Holding A) (place : ℕ) : Type 0 where
+  pub x : A
+  pub role : slice_get h.roles place ≡ Some (subject_of (event x))
+  pub oldest : IsOldest h.waiting x
 
 -- nothing of the event's role waits, and the event is ready
 pub record IsNext {A : Type 0} (event : A → Event) (e : Event) (h : Holding A) : Type 0 where
@@ -67,28 +77,32 @@ IsQuiet event h = (r : List ℕ) → HasDue event r h → ⊥
 -- the arrival waits behind the others
 pub record IsAppended {A : Type 0} (event : A → Event) (x : A) (old new : Holding A) : Type 0 where
   pub waiting : new.waiting ≡ old.waiting ++ x ∷ []
-  pub flights : SameFlights old.flights new.flights
+  pub counts : SameCounts old.flights new.flights
 
--- the same waits, and the same messages are in flight
+-- the same waits, and the counts are the same
 pub record IsSameHolding {A : Type 0} (old new : Holding A) : Type 0 where
   pub waiting : new.waiting ≡ old.waiting
-  pub flights : SameFlights old.flights new.flights
+  pub counts : SameCounts old.flights new.flights
 
--- the first waiting item of a role is released
-pub record IsReleased {A : Type 0} (event : A → Event) (old new : Holding A) (x : A) : Type 0 where
+-- the first waiting item of a role is taken out and counted
+pub record IsTakenOut {A : Type 0} (event : A → Event) (old new : Holding A) (x : A) : Type 0 where
   pub earlier : List A
   pub later : List A
   pub was : old.waiting ≡ earlier ++ x ∷ later
   pub first : own_items event (subject_of (event x)) earlier ≡ []
   pub now : new.waiting ≡ earlier ++ later
+  pub counts : CountsEvent (event x) old.flights new.flights
+
+-- the first waiting item of a role is released: it is ready
+pub record IsReleased {A : Type 0} (event : A → Event) (old new : Holding A) (x : A) : Type 0 where
+  pub taken : IsTakenOut event old new x
   pub ready : IsReady old.flights (event x)
-  pub flights : ChangesFlights (event x) old.flights new.flights
 
 -- the arrival, which is next, is released without waiting
 pub record IsPassed {A : Type 0} (event : A → Event) (x : A) (old new : Holding A) : Type 0 where
   pub next : IsNext event (event x) old
   pub waiting : new.waiting ≡ old.waiting
-  pub flights : ChangesFlights (event x) old.flights new.flights
+  pub counts : CountsEvent (event x) old.flights new.flights
 
 -- these items are released, one after another
 pub data Releases {A : Type 0} (event : A → Event) (old : Holding A) : List A → Holding A → Type 0 where
@@ -96,10 +110,12 @@ pub data Releases {A : Type 0} (event : A → Event) (old : Holding A) : List A 
   one_more : {given : List A} {mid new : Holding A} (x : A) → Releases event old given mid
       → IsReleased event mid new x → Releases event old (given ++ x ∷ []) new
 
--- an item is released, and put behind the others
-pub record IsReleasedOnto {A : Type 0} (event : A → Event) (old new : Holding A) (released now : List A) : Type 0 where
+-- the first waiting item of the role at this place is taken out, counted, and put behind the others
+pub record IsTakenOnto {A : Type 0} (event : A → Event) (place : ℕ) (old new : Holding A) (released now : List A)
+    : Type 0 where
   pub x : A
-  pub step : IsReleased event old new x
+  pub role : slice_get old.roles place ≡ Some (subject_of (event x))
+  pub taken : IsTakenOut event old new x
   pub appended : now ≡ released ++ x ∷ []
 
 -- the event is a send to the role
@@ -130,5 +146,6 @@ pub record IsDrained {A : Type 0} (event : A → Event) (old new : Holding A) (r
 -- the bounds that a holdback keeps
 pub record IsSound {A : Type 0} (event : A → Event) (waiting : List A) (flights : List Flight) (pushed : ℕ)
     : Type 0 where
-  pub counted : (p q : List ℕ) → in_flight p q flights + length waiting ≤ pushed
+  pub sends : (p q : List ℕ) → sent_on p q flights + length waiting ≤ pushed
+  pub receptions : (p q : List ℕ) → received_on p q flights + length waiting ≤ pushed
   pub paired : AllByRecursion (λ x. HasFlight flights (event x)) waiting

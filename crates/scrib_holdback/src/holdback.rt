@@ -1,10 +1,11 @@
 //! A holdback: what arrives waits until it may have happened.
 
-ghost use Rattle.std.specs.Prelude.{◌≡◌, ◌+◌, ◌<◌, ◌≤◌, ◌++◌, ◌∷◌, ◌↔◌, ℕ, true, List, [], IfOk, IsFalse, IsTrue, OnOk, OnErr, MatchOption, Some, drop, length, slice_get, vec_capacity, vec_len};
+ghost use Rattle.std.specs.Prelude.{◌≡◌, ◌+◌, ◌<◌, ◌≤◌, ◌++◌, ◌∷◌, ◌↔◌, ℕ, true, List, [], IfOk, IsFalse, IsTrue, OnOk, OnErr, MatchOption, Some, drop, length, map, slice_get, vec_capacity, vec_len};
 ghost use Rattle.scrib_holdback.specs.FalseAlarms.{RaisesNoFalseAlarm};
 ghost use Rattle.scrib_holdback.specs.HoldBack.{IsHeldBack};
-ghost use Rattle.scrib_holdback.specs.Holdings.{IsAfter, IsPushed, IsUnchanged};
-ghost use Rattle.scrib_holdback.specs.Releases.{HasDue, IsAppended, IsDrained, IsDueAt, IsNext, IsPassed, IsQuiet, IsQuietAt, IsReleasedOnto, IsSameHolding, OnlyReceivers, is_send_to};
+ghost use Rattle.scrib_holdback.specs.Holdings.{IsAfter, IsExpired, IsOldest, IsPushed, IsUnchanged};
+ghost use Rattle.scrib_holdback.specs.Releases.{HasDue, IsAppended, IsDrained, IsDueAt, IsNext, IsOldestAt, IsPassed, IsQuiet, IsQuietAt, IsSameHolding, IsTakenOnto, OnlyReceivers, WaitsAt, is_send_to};
+ghost use Rattle.scrib_holdback.specs.Reorderings.{IsReordering};
 
 use crate::arrival::Arrival;
 use crate::flights::{Flight, count, is_ready, reserve};
@@ -18,7 +19,10 @@ use std::marker::Model;
 /// waits, raises no false alarm: it is permitted exactly where some order of the arrivals is that the roles may have
 /// lived through.
 ///
-/// Contracts see the roles that had to wait, what waits, and the number of messages in flight on each pair.
+/// Who can't wait for ever releases the oldest arrival as it is, though it may not have happened yet: it expires. What
+/// is said of false alarms then holds no more. But of each role the arrivals are still in their order.
+///
+/// Contracts see the roles that had to wait, what waits, and how many messages were sent and received on each pair.
 #[derive(Drop)]
 pub struct Holdback<A: Arrival> {
     waiting: Waiting<A>,
@@ -42,7 +46,7 @@ impl<A: Arrival> Model for Holdback<A> {
 impl<A: Arrival> Holdback<A> {
     /// A holdback before the first arrival.
     pub fn new(alloc: Global) -> Holdback<A>
-        ensures { IsAfter A.event [] [] result }
+        ensures { IsAfter A.event [] [] [] result }
     {
         Holdback {
             waiting: Waiting::new(alloc),
@@ -69,21 +73,66 @@ impl<A: Arrival> Holdback<A> {
         Ok(())
     }
 
+    /// The arrival that has waited longest.
+    pub fn oldest(&self) -> Option<&A>
+        ensures { MatchOption result (self.now.waiting ≡ []) (λ x. IsOldest self.now.waiting x.now) }
+    {
+        self.waiting.oldest()
+    }
+
+    /// Releases the arrival that has waited longest as it is, and then what this makes possible. All are put behind
+    /// what `released` has. Returns `false` where nothing waits.
+    ///
+    /// # Errors
+    /// `AllocError` where `released` has no room and memory is refused. Nothing is released.
+    pub fn release_oldest(&mut self, released: &mut Vec<A>) -> Result<bool, AllocError>
+        ensures expired { IfOk result (λ some. IsTrue some
+            → IsExpired A.event self.old self.new released.old.items released.new.items) }
+        ensures none { IfOk result (λ some. IsFalse some → self.old.waiting ≡ []) }
+        ensures unchanged { IfOk result (λ some. IsFalse some → IsUnchanged A.event self.old self.new) }
+        ensures unreleased { IfOk result (λ some. IsFalse some → released.new.items ≡ released.old.items) }
+        ensures err { OnErr result (IsUnchanged A.event self.old self.new) }
+        ensures err_released { OnErr result (released.new.items ≡ released.old.items) }
+    {
+        let Some(place) = self.place_of_oldest() else {
+            return Ok(false);
+        };
+        released.reserve(self.waiting.bound())?;
+        let start = released.len();
+        self.take(place, released);
+        self.drain(place, released);
+        self.drain_receivers(start, released);
+        Ok(true)
+    }
+
     /// What still waits, in order of arrival. It is released as it is, since nothing more arrives.
     ///
-    /// A law: what was released, and then what waits, raises no false alarm. It is permitted exactly where some
-    /// reordering of the arrivals is, and then nothing waits.
+    /// A law, where nothing expired: what was released, and then what waits, raises no false alarm. It is permitted
+    /// exactly where some reordering of the arrivals is, and then nothing waits. It is a reordering of the arrivals
+    /// whatever expired.
     ///
     /// # Errors
     /// `AllocError` where memory is refused.
     pub fn finish(self) -> Result<Vec<A>, AllocError>
-        ensures held { IfOk result (λ waiting. (arrivals released : List A) → IsAfter A.event arrivals released self
+        ensures waiting { IfOk result (λ waiting. waiting.items ≡ self.waiting) }
+        ensures held { IfOk result (λ waiting. (arrivals released : List A) → IsAfter A.event arrivals released [] self
             → IsHeldBack A.event arrivals released waiting.items) }
-        ensures law { IfOk result (λ waiting. (arrivals released : List A) → IsAfter A.event arrivals released self
+        ensures law { IfOk result (λ waiting. (arrivals released : List A) → IsAfter A.event arrivals released [] self
             → RaisesNoFalseAlarm A.event arrivals released waiting.items) }
+        ensures reordering { IfOk result (λ waiting. (arrivals released expired : List A)
+            → IsAfter A.event arrivals released expired self
+            → IsReordering (map A.event arrivals) (map A.event (released ++ waiting.items))) }
     {
         let waiting = self.waiting.into_vec()?;
         Ok(waiting)
+    }
+
+    // The place of the oldest arrival's role.
+    fn place_of_oldest(&self) -> Option<usize>
+        ensures { MatchOption result (self.now.waiting ≡ []) (λ place. IsOldestAt A.event self.now place) }
+    {
+        let arrival = self.waiting.oldest()?;
+        self.waiting.place_of(arrival.event().get().subject())
     }
 
     // Whether an arrival with this event is released at once.
@@ -131,7 +180,7 @@ impl<A: Arrival> Holdback<A> {
         ensures capacity { vec_capacity released.new ≡ vec_capacity released.old }
     {
         while self.is_due(place) {
-            self.release(place, released);
+            self.take(place, released);
         }
     }
 
@@ -173,11 +222,11 @@ impl<A: Arrival> Holdback<A> {
         }
     }
 
-    // Releases the first waiting arrival of the role at this place.
-    fn release(&mut self, place: usize, released: &mut Vec<A>)
-        requires due { IsDueAt A.event self.old place }
+    // Takes the first waiting arrival of the role at this place out, counts it, and puts it behind the others.
+    fn take(&mut self, place: usize, released: &mut Vec<A>)
+        requires waits { WaitsAt A.event self.old place }
         requires room { vec_len released.old < vec_capacity released.old }
-        ensures released { IsReleasedOnto A.event self.old self.new released.old.items released.new.items }
+        ensures taken { IsTakenOnto A.event place self.old self.new released.old.items released.new.items }
         ensures roles { self.new.roles ≡ self.old.roles }
         ensures len { vec_len released.new ≡ vec_len released.old + 1 }
         ensures capacity { vec_capacity released.new ≡ vec_capacity released.old }

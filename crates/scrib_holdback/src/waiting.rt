@@ -2,7 +2,8 @@
 
 ghost use Rattle.std.specs.Prelude.{◌≡◌, ◌≤◌, ◌<◌, ◌+◌, ◌^◌, ◌++◌, ◌∷◌, ◌↔◌, [], ℕ, List, true, IfOk, IsTrue, OnOk, OnErr, MatchOption, Some, length, slice_get, if◌then◌else◌, is_ok};
 ghost use Rattle.scrib_types.specs.Logs.{subject_of};
-ghost use Rattle.scrib_holdback.specs.Lanes.{HasNone, IsFirstItem, IsSkipped, IsTaken, IsTrimmed, items_in};
+ghost use Rattle.scrib_holdback.specs.Holdings.{IsOldest};
+ghost use Rattle.scrib_holdback.specs.Lanes.{HasNone, IsFirstItem, IsSkipped, IsTaken, IsTrimmed, StartsFull, items_in};
 ghost use Rattle.scrib_holdback.specs.Releases.{own_items};
 
 use crate::arrival::Arrival;
@@ -16,8 +17,8 @@ use std::marker::Model;
 /// place of the role is known.
 ///
 /// Each arrival is counted, and its position is the number of those before it. Slots are of the last positions. A slot
-/// is empty where its arrival doesn't wait, and empty slots at the front are removed. So there are at most as many as
-/// arrivals since the oldest that waits.
+/// is empty where its arrival doesn't wait, and empty slots at the front are removed. So the first slot is that of the
+/// oldest arrival that waits, and there are at most as many slots as arrivals since.
 ///
 /// Contracts see the roles that were met, what waits, and how many arrivals were counted.
 #[derive(Drop)]
@@ -135,6 +136,14 @@ impl<A: Arrival> Waiting<A> {
         }
     }
 
+    /// The oldest arrival.
+    pub(crate) fn oldest(&self) -> Option<&A>
+        ensures { MatchOption result (self.now.items ≡ []) (λ x. IsOldest self.now.items x.now) }
+    {
+        let slot = self.slots.front()?;
+        slot.as_ref()
+    }
+
     /// The first arrival of the role at this place.
     pub(crate) fn first(&self, place: usize) -> Option<&A>
         ensures { MatchOption result (HasNone A.event place self.now)
@@ -189,7 +198,8 @@ fn push_empty<A: Drop>(slots: &mut VecDeque<Option<A>>) -> Result<(), AllocError
 
 // Removes the empty slots at the front.
 fn trim<A: Drop>(slots: &mut VecDeque<Option<A>>)
-    ensures { IsTrimmed slots.old.items slots.new.items }
+    ensures trimmed { IsTrimmed slots.old.items slots.new.items }
+    ensures full { StartsFull slots.new.items }
 {
     while let Some(None) = slots.front() {
         let _empty = slots.pop_front();

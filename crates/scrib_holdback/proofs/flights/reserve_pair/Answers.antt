@@ -1,7 +1,7 @@
 use Rattle.std.proofs.Common.{◌≡◌, ◌∙◌, sym, refl, ap, subst, true, position}
 use Rattle.std.specs.List.{list_any}
 use Rattle.scrib_holdback.specs.Holdings.{is_between}
-use Rattle.scrib_holdback.specs.Releases.{SameFlights}
+use Rattle.scrib_holdback.specs.Releases.{SameCounts}
 use Rattle.scrib_holdback.proofs.FlightLemmas.{added_same, added_has, some_has}
 use Rattle.scrib_holdback.proofs.flights.reserve_pair.Goals as goal
 
@@ -13,8 +13,8 @@ returns-then-is_some-clause-made c =
 
 pub returns-clause-same : goal.returns-clause-same
 returns-clause-same c =
-    subst (SameFlights c.args.flights.now.items) (sym c.in_ok-push.ensures.items)
-    (added_same c.args.flights.now.items _ refl)
+    subst (SameCounts c.args.flights.now.items) (sym c.in_ok-push.ensures.items)
+    (added_same c.args.flights.now.items _ refl refl)
 
 pub returns-clause-made : goal.returns-clause-made
 returns-clause-made c =

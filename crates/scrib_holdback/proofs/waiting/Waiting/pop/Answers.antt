@@ -29,7 +29,7 @@ invariant_of-self-2 g c =
     ap (set c.self.inside.slots.items (c.in_ok-position.position - (c.self.inside.pushed - c.len.result))) c.take-arrival.ensures.after ∙ ap (λ n. set c.self.inside.slots.items n None) index in
     (popped g.A.Arrival.event c.self.inside.lanes.items c.pop_position.new.lanes.items c.self.inside.slots.items c.trim.new.slots.items c.self.inside.pushed c.args.place c.in_ok-position.position
     c.in_ok-position.ensures.left.0 c.self.invariant c.in_ok-position.ensures.left.1 c.in_ok-position.ensures.left.2
-    (subst (λ z. IsTrimmed z c.trim.new.slots.items) slots c.trim.ensures)).laid
+    (subst (λ z. IsTrimmed z c.trim.new.slots.items) slots c.trim.ensures.trimmed) c.trim.ensures.full).laid
 
 pub returns-clause-taken : goal.returns-clause-taken
 returns-clause-taken g c =
@@ -38,7 +38,7 @@ returns-clause-taken g c =
     ap (set c.self.inside.slots.items (c.in_ok-position.position - (c.self.inside.pushed - c.len.result))) c.take-arrival.ensures.after ∙ ap (λ n. set c.self.inside.slots.items n None) index in
     let k = popped g.A.Arrival.event c.self.inside.lanes.items c.pop_position.new.lanes.items c.self.inside.slots.items c.trim.new.slots.items c.self.inside.pushed c.args.place c.in_ok-position.position
     c.in_ok-position.ensures.left.0 c.self.invariant c.in_ok-position.ensures.left.1 c.in_ok-position.ensures.left.2
-    (subst (λ z. IsTrimmed z c.trim.new.slots.items) slots c.trim.ensures) in
+    (subst (λ z. IsTrimmed z c.trim.new.slots.items) slots c.trim.ensures.trimmed) c.trim.ensures.full in
     let read : c.take-arrival.result ≡ Some k.x = c.take-arrival.ensures.value ∙ c.index_mut.ensures.value ∙ ap (λ n. get_or c.self.inside.slots.items n c.index_mut.result.now) index ∙ k.slot c.index_mut.result.now in
     let now : Waiters g.row.A.Denot = record { roles = roles_of c.pop_position.new.lanes.items; items = items_in c.trim.new.slots.items; pushed = c.self.inside.pushed } in
     taken_out g.A.Arrival.event c.args.place c.args.self.now now c.take-arrival.result k.x read
