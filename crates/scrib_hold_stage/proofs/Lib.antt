@@ -1,0 +1,11 @@
+mod Lists
+mod EntryLemmas
+mod HoldLemmas
+mod ConversationLemmas
+mod MapLemmas
+mod HeldLemmas
+mod DeadlineLemmas
+mod StageLemmas
+mod StepLemmas
+mod TakeLemmas
+mod FinishLemmas

@@ -1,0 +1,149 @@
+-- Entries that are taken, and deadlines that pass, with their counts.
+use Rattle.std.proofs.Common.{◌≡◌, ◌∙◌, ℕ, ◌+◌, ◌-◌, ◌^◌, ◌<◌, ◌≤◌, min, List, [], ◌∷◌, ◌++◌, Some, length, slice_get, refl, sym, ap, subst, inl, inr, eqb-true, length-append, append-nil, arith}
+use Rattle.std.proofs.Math.Nat.{min-eq_left}
+use Rattle.scrib_types.specs.declared.event.Event.{Event}
+use Rattle.scrib_hold_stage.specs.declared.noted.Noted.{Noted}
+use Rattle.scrib_hold_stage.specs.declared.deadlines.Deadline.{Deadline}
+use Rattle.scrib_hold_stage.specs.Entries.{Entry, Opens, Passes, note}
+use Rattle.scrib_hold_stage.specs.Conversations.{IsNotOldest}
+use Rattle.scrib_hold_stage.specs.Changes.{conversation_at, IsPushedOf, IsOpenedOf, IsExpiredOf}
+use Rattle.scrib_hold_stage.specs.Deadlines.{AreListed}
+use Rattle.scrib_hold_stage.specs.Stages.{State, IsKept, IsAfter}
+use Rattle.scrib_hold_stage.specs.Steps.{IsTaken, IsPassed}
+use Rattle.scrib_hold_stage.proofs.EntryLemmas.{noted_count}
+use Rattle.scrib_hold_stage.proofs.HeldLemmas.{AreOwn}
+use Rattle.scrib_hold_stage.proofs.DeadlineLemmas.{listed_more, listed_same}
+use Rattle.scrib_hold_stage.proofs.StageLemmas.{event_waits, event_read, opening_read, other_read, expired_own, deadline_expired, deadline_skipped}
+
+-- a count that fits is counted up
+counted_up : (n m : ℕ) → m ≡ min (n + 1) (2 ^ 64 - 1) → n + 1 < 2 ^ 64 → m ≡ n + 1
+counted_up n m e small = e ∙ min-eq_left (omega arith)
+
+-- the first item behind others
+first_given : {X : Type 0} (released given : List X) (y : X) → slice_get (released ++ given) (length released) ≡ Some y → (rest : List X) × (given ≡ y ∷ rest)
+first_given [] [] y e = absurd (cc)
+first_given [] (z ∷ zs) y e = let same : z ≡ y = cc in (zs, ap (λ w. w ∷ zs) same)
+first_given (r ∷ rs) given y e = first_given rs given y e
+
+-- ---- an event
+
+module _ {A : Type 0} (event : A → Event) (id : ℕ) (arrival : A) (old begun new : State A) (released now : List (Noted A)) (begins : begun ≡ record old { time = old.time + 1 }) (small : old.time + 1 < 2 ^ 64)
+    (pushed : IsPushedOf event (record { conversation = id; time = begun.time; arrival = arrival }) begun.conversations new.conversations released now)
+    (b : new.bound ≡ begun.bound) (t : new.time ≡ begun.time) (e : new.events ≡ min (begun.events + 1) (2 ^ 64 - 1)) (g : new.expired ≡ begun.expired) where
+  abbrev item : Noted A
+  item = record { conversation = id; time = old.time + 1; arrival = arrival }
+
+  item_pushed : IsPushedOf event item old.conversations new.conversations released now
+  item_pushed = subst (λ (s : State A). IsPushedOf event (record { conversation = id; time = s.time; arrival = arrival }) s.conversations new.conversations released now) begins pushed
+
+  time_is : begun.time ≡ old.time + 1
+  time_is = ap (λ (s : State A). s.time) begins
+
+  events_are : begun.events ≡ old.events
+  events_are = ap (λ (s : State A). s.events) begins
+
+  by_listed : ((bound : ℕ) (entries : List (Entry A)) (earlier expired : List (Noted A)) → IsAfter event bound entries earlier expired old → AreListed (old.time + 1) new.conversations new.deadlines)
+      → length new.deadlines ≤ length old.deadlines + 1 → IsTaken event (note id (old.time + 1) arrival) old new released now
+  by_listed l r = record {
+    given = item_pushed.pushed.given;
+    appended = item_pushed.pushed.appended;
+    after = λ bound entries earlier expired a.
+        event_read event bound entries earlier expired released now item old new item_pushed a refl small
+        (b ∙ ap (λ (s : State A). s.bound) begins) (t ∙ time_is)
+        (counted_up old.events new.events (e ∙ ap (λ n. min (n + 1) (2 ^ 64 - 1)) events_are) (omega (arith, small, a.kept.events, a.kept.timed, noted_count entries)))
+        (g ∙ ap (λ (s : State A). s.expired) begins) (l bound entries earlier expired a) r;
+  }
+
+  deadlines_are : begun.deadlines ≡ old.deadlines
+  deadlines_are = ap (λ (s : State A). s.deadlines) begins
+
+  -- it waits
+  pub taken_waiting : (d : Deadline) → new.deadlines ≡ begun.deadlines ++ d ∷ [] → d.time ≡ begun.time → d.conversation ≡ id → IsTaken event (note id (old.time + 1) arrival) old new released now
+  taken_waiting d more at of =
+      let now_are : new.deadlines ≡ old.deadlines ++ d ∷ [] = more ∙ ap (λ z. z ++ d ∷ []) deadlines_are in
+      by_listed
+      (λ bound entries earlier expired a. subst (λ z. AreListed (old.time + 1) new.conversations z) (sym now_are)
+      (listed_more old.time old.conversations new.conversations old.deadlines item item_pushed.pushed.given a.kept.listed item_pushed.others refl
+      (event_waits event bound entries earlier expired released now item old new item_pushed a refl) d (at ∙ time_is) of))
+      (omega (arith, ap length now_are, length-append old.deadlines (d ∷ [])))
+
+  -- it is released at once
+  pub taken_at_once : new.deadlines ≡ begun.deadlines → (start : ℕ) (y : Noted A) → start ≡ length released → slice_get now start ≡ Some y → y.time ≡ begun.time → IsTaken event (note id (old.time + 1) arrival) old new released now
+  taken_at_once same start y from there at =
+      let now_are : new.deadlines ≡ old.deadlines = same ∙ deadlines_are in
+      let first = first_given released item_pushed.pushed.given y (ap (λ z. slice_get z (length released)) (sym item_pushed.pushed.appended) ∙ ap (λ n. slice_get now n) (sym from) ∙ there) in
+      by_listed
+      (λ bound entries earlier expired a. subst (λ z. AreListed (old.time + 1) new.conversations z) (sym now_are)
+      (listed_same old.time old.conversations new.conversations old.deadlines item item_pushed.pushed.given a.kept.listed item_pushed.others refl
+      (event_waits event bound entries earlier expired released now item old new item_pushed a refl) y first.0 first.1 (at ∙ time_is)))
+      (omega (arith, ap length now_are))
+
+-- ---- an opening, and another entry
+
+pub taken_opening : {A : Type 0} (event : A → Event) (id : ℕ) (old begun new : State A) (released now : List (Noted A)) → begun ≡ record old { time = old.time + 1 } → old.time + 1 < 2 ^ 64
+    → IsOpenedOf event id begun.conversations new.conversations released now → new.bound ≡ begun.bound → new.time ≡ begun.time → new.events ≡ begun.events → new.expired ≡ begun.expired → new.deadlines ≡ begun.deadlines
+    → IsTaken event (Opens id) old new released now
+taken_opening {A} event id old begun new released now begins small opened b t e g d =
+    let p : IsOpenedOf event id old.conversations new.conversations released now = subst (λ (s : State A). IsOpenedOf event id s.conversations new.conversations released now) begins opened in
+    record {
+      given = p.opened.given;
+      appended = p.opened.appended;
+      after = λ bound entries earlier expired a.
+          opening_read event bound entries earlier expired released now id old new p a small
+          (b ∙ ap (λ (s : State A). s.bound) begins) (t ∙ ap (λ (s : State A). s.time) begins) (e ∙ ap (λ (s : State A). s.events) begins)
+          (g ∙ ap (λ (s : State A). s.expired) begins) (d ∙ ap (λ (s : State A). s.deadlines) begins);
+    }
+
+pub taken_other : {A : Type 0} (event : A → Event) (old new : State A) (released : List (Noted A)) → new ≡ record old { time = old.time + 1 } → old.time + 1 < 2 ^ 64 → IsTaken event Passes old new released released
+taken_other {A} event old new released begins small = record {
+  given = [];
+  appended = sym (append-nil released);
+  after = λ bound entries earlier expired a.
+      subst (λ z. IsKept event bound (entries ++ Passes ∷ []) z expired new) (sym (append-nil earlier))
+      (other_read event bound entries earlier expired old new a small
+      (ap (λ (s : State A). s.bound) begins) (ap (λ (s : State A). s.time) begins) (ap (λ (s : State A). s.conversations) begins)
+      (ap (λ (s : State A). s.events) begins) (ap (λ (s : State A). s.expired) begins) (ap (λ (s : State A). s.deadlines) begins));
+}
+
+-- ---- a deadline passes
+
+-- what is the conversation's is that of its first item's
+own_of : {A : Type 0} (id : ℕ) (x : Noted A) (xs : List (Noted A)) → AreOwn id (x ∷ xs) → AreOwn x.conversation xs
+own_of id x xs own = subst (λ n. AreOwn n xs) (eqb-true id x.conversation own.0) own.1
+
+module _ {A : Type 0} (event : A → Event) (due : ℕ) (old new : State A) (d : Deadline) (was : old.deadlines ≡ d ∷ new.deadlines) (le : d.time ≤ due) (b : new.bound ≡ old.bound) (t : new.time ≡ old.time) (e : new.events ≡ old.events) where
+  pub one_expired : (released now : List (Noted A)) → IsExpiredOf event d.conversation d.time old.conversations new.conversations released now → new.expired ≡ min (old.expired + 1) (2 ^ 64 - 1) → IsPassed event due old new released now
+  one_expired released now p g = record {
+    given = p.expired.oldest ∷ p.expired.given;
+    gone = p.expired.oldest ∷ [];
+    appended = p.expired.appended;
+    passed = (omega (arith, p.expired.timed, le), tt);
+    first = d;
+    was = was;
+    one = λ bound entries earlier expired a. inr (record {
+      x = p.expired.oldest;
+      others = p.expired.given;
+      timed = p.expired.timed;
+      first = refl;
+      only = refl;
+      own = own_of d.conversation p.expired.oldest p.expired.given (expired_own event bound entries earlier expired old new a d was b t e released now p);
+    });
+    after = λ bound entries earlier expired a.
+        deadline_expired event bound entries earlier expired old new a d was b t e released now p
+        (counted_up old.expired new.expired g (omega (arith, a.expired_count, a.room, ap length was, a.fits)));
+  }
+
+  pub none_expired : (released now : List (Noted A)) → now ≡ released → new.expired ≡ old.expired → IsNotOldest d.time (conversation_at old.conversations d.conversation) → ((k : ℕ) → conversation_at new.conversations k ≡ conversation_at old.conversations k) → IsPassed event due old new released now
+  none_expired released now unchanged g other same = record {
+    given = [];
+    gone = [];
+    appended = unchanged ∙ sym (append-nil released);
+    passed = tt;
+    first = d;
+    was = was;
+    one = λ bound entries earlier expired a. inl (refl, refl);
+    after = λ bound entries earlier expired a.
+        subst (λ z. IsKept event bound entries z (expired ++ []) new) (sym (append-nil earlier))
+        (subst (λ z. IsKept event bound entries earlier z new) (sym (append-nil expired))
+        (deadline_skipped event bound entries earlier expired old new a d was b t e g other same));
+  }

@@ -1,0 +1,87 @@
+-- Conversations in a stage, and what calls do to one (this project's own).
+use Rattle.std.specs.Prelude.{◌≡◌, ℕ, true, false, List, [], ◌∷◌, ◌++◌, Option, None, Some, if◌then◌else◌}
+use Rattle.scrib_types.specs.declared.event.Event.{Event}
+use Rattle.scrib_holdback.specs.Holdings.{IsAfter, IsOldest}
+use Rattle.scrib_hold_stage.specs.declared.noted.Noted.{Noted}
+use Rattle.scrib_hold_stage.specs.declared.conversation.Conversation.{Conversation}
+
+-- the event of an item
+abbrev pub event_of : {A : Type 0} → (A → Event) → Noted A → Event
+event_of event x = event x.arrival
+
+-- what waits in the conversation, in order of arrival
+abbrev pub waiting_in : {A : Type 0} → Conversation A → List (Noted A)
+waiting_in c = if c.opened then c.holdback.waiting else c.early.items
+
+-- the same, where the conversation may not have been met
+abbrev pub waiting_at : {A : Type 0} → Option (Conversation A) → List (Noted A)
+waiting_at None = []
+waiting_at (Some c) = waiting_in c
+
+-- the conversation is not open yet, and these events wait for its opening
+pub record IsClosed {A : Type 0} (event : A → Event) (arrivals : List (Noted A)) (c : Conversation A) : Type 0 where
+  pub closed : c.opened ≡ false
+  pub wait : c.early.items ≡ arrivals
+  pub fresh : IsAfter (event_of event) [] [] [] c.holdback
+
+-- the conversation is open: these events arrived since, of which these were released, and these of them expired
+pub record IsOpen {A : Type 0} (event : A → Event) (arrivals released expired : List (Noted A)) (c : Conversation A)
+    : Type 0 where
+  pub opened : c.opened ≡ true
+  pub none_early : c.early.items ≡ []
+  pub after : IsAfter (event_of event) arrivals released expired c.holdback
+
+-- the same, where the conversation may not have been met
+abbrev pub IsClosedAt : {A : Type 0} → (A → Event) → List (Noted A) → Option (Conversation A) → Type 0
+IsClosedAt event arrivals None = arrivals ≡ []
+IsClosedAt event arrivals (Some c) = IsClosed event arrivals c
+
+-- the same
+abbrev pub IsOpenAt : {A : Type 0} → (A → Event) → (arrivals released expired : List (Noted A))
+    → Option (Conversation A) → Type 0
+IsOpenAt event arrivals released expired None = ⊥
+IsOpenAt event arrivals released expired (Some c) = IsOpen event arrivals released expired c
+
+-- items were put behind those that were
+abbrev pub IsAddedTo : {A : Type 0} → (released now : List A) → Type 0
+IsAddedTo {A} released now = (given : List A) × (now ≡ released ++ given)
+
+-- the item is taken: it waits for the opening, or it arrives, and these are released then, behind those that were
+pub record IsPushedTo {A : Type 0} (event : A → Event) (x : Noted A) (old new : Option (Conversation A))
+    (released now : List (Noted A)) : Type 0 where
+  pub given : List (Noted A)
+  pub appended : now ≡ released ++ given
+  pub closed : (waiting : List (Noted A)) → IsClosedAt event waiting old
+      → IsClosedAt event (waiting ++ x ∷ []) new × (given ≡ [])
+  pub opened : (arrivals earlier expired : List (Noted A)) → IsOpenAt event arrivals earlier expired old
+      → IsOpenAt event (arrivals ++ x ∷ []) (earlier ++ given) expired new
+
+-- the conversation is open from now on: what waited for this arrives, and these items are released
+pub record IsOpenedIn {A : Type 0} (event : A → Event) (old new : Option (Conversation A))
+    (released now : List (Noted A)) : Type 0 where
+  pub given : List (Noted A)
+  pub appended : now ≡ released ++ given
+  pub closed : (waiting : List (Noted A)) → IsClosedAt event waiting old → IsOpenAt event waiting given [] new
+  pub opened : (arrivals earlier expired : List (Noted A)) → IsOpenAt event arrivals earlier expired old
+      → IsOpenAt event arrivals (earlier ++ given) expired new
+
+-- the oldest item that waits, which is of this time, expired: it is released, and then what this makes possible
+pub record IsExpiredIn {A : Type 0} (event : A → Event) (time : ℕ) (old new : Option (Conversation A))
+    (released now : List (Noted A)) : Type 0 where
+  pub oldest : Noted A
+  pub timed : oldest.time ≡ time
+  pub waited : IsOldest (waiting_at old) oldest
+  pub given : List (Noted A)
+  pub appended : now ≡ released ++ oldest ∷ given
+  pub closed : (waiting : List (Noted A)) → IsClosedAt event (oldest ∷ waiting) old
+      → IsClosedAt event waiting new × (given ≡ [])
+  pub opened : (arrivals earlier expired : List (Noted A)) → IsOpenAt event arrivals earlier expired old
+      → IsOpenAt event arrivals (earlier ++ oldest ∷ given) (expired ++ oldest ∷ []) new
+
+-- the oldest item that waits is of this time
+abbrev pub IsOldestAt : {A : Type 0} → ℕ → Option (Conversation A) → Type 0
+IsOldestAt {A} time now = (x : Noted A) × IsOldest (waiting_at now) x × (x.time ≡ time)
+
+-- it is not
+abbrev pub IsNotOldest : {A : Type 0} → ℕ → Option (Conversation A) → Type 0
+IsNotOldest {A} time now = (x : Noted A) → IsOldest (waiting_at now) x → x.time ≡ time → ⊥

@@ -1,0 +1,6 @@
+pub mod Entries
+pub mod Conversations
+pub mod Changes
+pub mod Deadlines
+pub mod Stages
+pub mod Steps

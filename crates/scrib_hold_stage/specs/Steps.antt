@@ -1,0 +1,70 @@
+-- The steps of a stage (this project's own). Only contracts of private functions cite this file.
+use Rattle.std.specs.Prelude.{◌≡◌, ◌⊎◌, ℕ, ◌+◌, ◌≤◌, true, List, [], ◌∷◌, ◌++◌}
+use Rattle.std.specs.List.{AllByRecursion}
+use Rattle.scrib_types.specs.declared.event.Event.{Event}
+use Rattle.scrib_hold_stage.specs.declared.noted.Noted.{Noted}
+use Rattle.scrib_hold_stage.specs.declared.deadlines.Deadline.{Deadline}
+use Rattle.scrib_hold_stage.specs.Entries.{Entry, is_of}
+use Rattle.scrib_hold_stage.specs.Deadlines.{StartsAfter}
+use Rattle.scrib_hold_stage.specs.Stages.{State, IsAfter, IsKept, Expires}
+
+-- the entry was read, but for what expires then
+pub record IsTaken {A : Type 0} (event : A → Event) (entry : Entry A) (old new : State A)
+    (released now : List (Noted A)) : Type 0 where
+  pub given : List (Noted A)
+  pub appended : now ≡ released ++ given
+  pub after : (bound : ℕ) (entries : List (Entry A)) (earlier expired : List (Noted A))
+      → IsAfter event bound entries earlier expired old
+      → IsKept event bound (entries ++ entry ∷ []) (earlier ++ given) expired new
+
+-- items that had waited since this time or longer expired, and others were released
+pub record IsExpiring {A : Type 0} (event : A → Event) (due : ℕ) (old new : State A)
+    (released now : List (Noted A)) : Type 0 where
+  pub given : List (Noted A)
+  pub gone : List (Noted A)
+  pub appended : now ≡ released ++ given
+  pub passed : AllByRecursion (λ x. x.time ≤ due) gone
+  pub in_turn : (bound : ℕ) (entries : List (Entry A)) (earlier expired : List (Noted A))
+      → IsKept event bound entries earlier expired old
+      → Expires given gone × AllByRecursion (λ x. StartsAfter x.time new.deadlines) gone
+  pub after : (bound : ℕ) (entries : List (Entry A)) (earlier expired : List (Noted A))
+      → IsKept event bound entries earlier expired old
+      → IsKept event bound entries (earlier ++ given) (expired ++ gone) new
+
+-- the item of the deadline expired, and others of its conversation were released behind it
+pub record IsGone {A : Type 0} (d : Deadline) (given gone : List (Noted A)) : Type 0 where
+  pub x : Noted A
+  pub others : List (Noted A)
+  pub timed : x.time ≡ d.time
+  pub first : given ≡ x ∷ others
+  pub only : gone ≡ x ∷ []
+  pub own : AllByRecursion (λ y. is_of x.conversation y ≡ true) others
+
+-- The first deadline, which is not later than this, passed. Its item expired, or was released before.
+pub record IsPassed {A : Type 0} (event : A → Event) (due : ℕ) (old new : State A)
+    (released now : List (Noted A)) : Type 0 where
+  pub given : List (Noted A)
+  pub gone : List (Noted A)
+  pub appended : now ≡ released ++ given
+  pub passed : AllByRecursion (λ x. x.time ≤ due) gone
+  pub first : Deadline
+  pub was : old.deadlines ≡ first ∷ new.deadlines
+  pub one : (bound : ℕ) (entries : List (Entry A)) (earlier expired : List (Noted A))
+      → IsKept event bound entries earlier expired old
+      → ((given ≡ []) × (gone ≡ [])) ⊎ IsGone first given gone
+  pub after : (bound : ℕ) (entries : List (Entry A)) (earlier expired : List (Noted A))
+      → IsKept event bound entries earlier expired old
+      → IsKept event bound entries (earlier ++ given) (expired ++ gone) new
+
+-- what had waited for long enough expired, if what expired before had
+pub record IsRipened {A : Type 0} (event : A → Event) (old new : State A) (released now : List (Noted A))
+    : Type 0 where
+  pub given : List (Noted A)
+  pub gone : List (Noted A)
+  pub appended : now ≡ released ++ given
+  pub in_turn : (bound : ℕ) (entries : List (Entry A)) (earlier expired : List (Noted A))
+      → IsKept event bound entries earlier expired old → Expires given gone
+  pub after : (bound : ℕ) (entries : List (Entry A)) (earlier expired : List (Noted A))
+      → IsKept event bound entries earlier expired old
+      → AllByRecursion (λ x. x.time + bound ≤ old.time) expired
+      → IsAfter event bound entries (earlier ++ given) (expired ++ gone) new

@@ -1,0 +1,26 @@
+//! When events that wait expire.
+
+ghost use Rattle.std.specs.Prelude.{◌≡◌, ◌≤◌, ◌∷◌, IfSome, None};
+ghost use Rattle.scrib_hold_stage.specs.Deadlines.{StartsAfter};
+
+use std::collections::VecDeque;
+
+/// An event that had to wait, by its time and its conversation.
+#[derive(Drop)]
+pub(crate) struct Deadline {
+    pub(crate) time: u64,
+    pub(crate) conversation: u32,
+}
+
+/// Takes the first deadline out, if it is not later than this.
+pub(crate) fn pop_due(deadlines: &mut VecDeque<Deadline>, due: u64) -> Option<Deadline>
+    ensures none { result ≡ None → StartsAfter due deadlines.old.items }
+    ensures same { result ≡ None → deadlines.new.items ≡ deadlines.old.items }
+    ensures some { IfSome result (λ d. deadlines.old.items ≡ d ∷ deadlines.new.items) }
+    ensures passed { IfSome result (λ d. d.time ≤ due) }
+{
+    match deadlines.front() {
+        Some(first) if first.time <= due => deadlines.pop_front(),
+        _ => None,
+    }
+}

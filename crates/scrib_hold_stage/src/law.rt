@@ -1,0 +1,23 @@
+//! The law of a stage, at any time.
+
+ghost use Rattle.std.specs.Prelude.{◌≡◌, ℕ, List, [], Some};
+ghost use Rattle.scrib_holdback.specs.FalseAlarms.{RaisesNoFalseAlarm};
+ghost use Rattle.scrib_hold_stage.specs.Changes.{conversation_at};
+ghost use Rattle.scrib_hold_stage.specs.Conversations.{event_of, waiting_at};
+ghost use Rattle.scrib_hold_stage.specs.Entries.{Entry, items_of, noted_in, opening_of};
+ghost use Rattle.scrib_hold_stage.specs.Stages.{IsAfter, state_of};
+
+use crate::noted::Noted;
+use crate::stage::HoldStage;
+use scrib_holdback::arrival::Arrival;
+
+/// A law, of each conversation that was opened, where none of its events expired. What was released of it, and then
+/// what waits, raises no false alarm. It is permitted exactly where some reordering of its events is. Then nothing
+/// waits.
+pub fn raises_no_false_alarm<A: Arrival>(stage: &HoldStage<A>)
+    ensures { (bound : ℕ) (entries : List (Entry A)) (released expired : List (Noted A))
+        → IsAfter A.event bound entries released expired (state_of stage.now)
+        → (id n : ℕ) → opening_of id entries ≡ Some n → items_of id expired ≡ []
+        → RaisesNoFalseAlarm (event_of A.event) (items_of id (noted_in entries)) (items_of id released)
+        (waiting_at (conversation_at (state_of stage.now).conversations id)) }
+{}

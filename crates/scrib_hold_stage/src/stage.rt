@@ -1,0 +1,280 @@
+//! The stage: the entries of a script go in one after another, and the events that are released come out.
+
+ghost use Rattle.std.specs.Prelude.{◌≡◌, ◌+◌, ◌^◌, ◌<◌, ℕ, List, [], IfOk, IsFalse, IsTrue, OnErr, OnOk, Some, length, slice_get};
+ghost use Rattle.scrib_hold_stage.specs.Entries.{Entry, Opens, Passes, note, noted_in};
+ghost use Rattle.scrib_hold_stage.specs.Conversations.{IsAddedTo};
+ghost use Rattle.scrib_hold_stage.specs.Deadlines.{StartsAfter};
+ghost use Rattle.scrib_hold_stage.specs.Stages.{IsAfter, IsFinished, IsRead, state_of};
+ghost use Rattle.scrib_hold_stage.specs.Steps.{IsExpiring, IsPassed, IsRipened, IsTaken};
+
+use crate::conversation::Conversation;
+use crate::conversations::{open, push_to, release_at};
+use crate::deadlines::{Deadline, pop_due};
+use crate::noted::Noted;
+use indexmap::IndexMap;
+use scrib_holdback::arrival::Arrival;
+use std::alloc::{AllocError, Global};
+use std::collections::VecDeque;
+
+/// What a stage counted.
+#[derive(Clone, Copy)]
+pub struct Counts {
+    /// The events that were taken.
+    pub events: u64,
+    /// How many of them were not released at once.
+    pub waited: u64,
+    /// How many waited at once, at most.
+    pub at_once: u64,
+    /// How many the bound released.
+    pub expired: u64,
+}
+
+/// Holds the events of a script back. It reads the entries of the script one after another. An entry is an event of a
+/// conversation, the opening of one, or another. The events that are released go behind those that were.
+///
+/// The events of a conversation wait for its opening, and from then on until they may have happened. An event that has
+/// waited while as many entries were read as the bound says is released as it is: it expires. So are all that wait at
+/// the end of the script.
+///
+/// After an error the stage is of no more use, and some of what should be released may be missing.
+#[derive(Drop)]
+pub struct HoldStage<A: Arrival> {
+    alloc: Global,
+    bound: u64,
+    // How many entries were read.
+    time: u64,
+    conversations: IndexMap<u32, Conversation<A>>,
+    // Of the events that had to wait, in order. An event that was released since has its deadline until that passes.
+    deadlines: VecDeque<Deadline>,
+    counts: Counts,
+    // How many events were released.
+    released: u64,
+}
+
+impl<A: Arrival> HoldStage<A> {
+    /// Returns a stage before the first entry. An event waits while at most this many further entries are read.
+    pub fn new(alloc: Global, bound: u64) -> HoldStage<A>
+        ensures { IsAfter A.event bound [] [] [] (state_of result) }
+    {
+        HoldStage {
+            alloc,
+            bound,
+            time: 0,
+            conversations: IndexMap::new(alloc),
+            deadlines: VecDeque::new(alloc),
+            counts: Counts {
+                events: 0,
+                waited: 0,
+                at_once: 0,
+                expired: 0,
+            },
+            released: 0,
+        }
+    }
+
+    /// Reads an entry that is an event of the conversation.
+    ///
+    /// # Errors
+    /// `AllocError` where memory or a reference count refuses it, or 2^64 - 1 entries were read. Some of what should be
+    /// released is.
+    pub fn push(
+        &mut self,
+        conversation: u32,
+        arrival: A,
+        released: &mut Vec<Noted<A>>,
+    ) -> Result<(), AllocError>
+        ensures ok { OnOk result (IsRead A.event (note conversation (self.old.time + 1) arrival)
+            (state_of self.old) (state_of self.new) released.old.items released.new.items) }
+        ensures err { OnErr result (IsAddedTo released.old.items released.new.items) }
+    {
+        let start = released.len();
+        self.take(conversation, arrival, released)?;
+        self.ripen(released)?;
+        self.tally(released.len().saturating_sub(start));
+        Ok(())
+    }
+
+    /// Reads an entry that opens the conversation. What waited for this arrives.
+    ///
+    /// # Errors
+    /// As those of [`HoldStage::push`].
+    pub fn open(
+        &mut self,
+        conversation: u32,
+        released: &mut Vec<Noted<A>>,
+    ) -> Result<(), AllocError>
+        ensures ok { OnOk result (IsRead A.event (Opens conversation)
+            (state_of self.old) (state_of self.new) released.old.items released.new.items) }
+        ensures err { OnErr result (IsAddedTo released.old.items released.new.items) }
+    {
+        let start = released.len();
+        self.take_opening(conversation, released)?;
+        self.ripen(released)?;
+        self.tally(released.len().saturating_sub(start));
+        Ok(())
+    }
+
+    /// Reads another entry.
+    ///
+    /// # Errors
+    /// As those of [`HoldStage::push`].
+    pub fn skip(&mut self, released: &mut Vec<Noted<A>>) -> Result<(), AllocError>
+        ensures ok { OnOk result (IsRead A.event Passes
+            (state_of self.old) (state_of self.new) released.old.items released.new.items) }
+        ensures err { OnErr result (IsAddedTo released.old.items released.new.items) }
+    {
+        let start = released.len();
+        self.begin()?;
+        self.ripen(released)?;
+        self.tally(released.len().saturating_sub(start));
+        Ok(())
+    }
+
+    /// Releases all that waits at the end of the script, the oldest first, and what the rule then releases. Returns
+    /// the counts as they were before.
+    ///
+    /// A law, of each conversation that was opened, where none of its events expired before. What was released of it in
+    /// all is permitted exactly where some reordering of its events is. It is a reordering whatever expired.
+    ///
+    /// # Errors
+    /// `AllocError` where memory is refused. Some of what should be released is.
+    pub fn finish(mut self, released: &mut Vec<Noted<A>>) -> Result<Counts, AllocError>
+        ensures law { OnOk result (IsFinished A.event (state_of self) released.old.items released.new.items) }
+        ensures counts { IfOk result (λ counts. (bound : ℕ) (entries : List (Entry A))
+            (earlier expired : List (Noted A)) → IsAfter A.event bound entries earlier expired (state_of self)
+            → (counts.events ≡ length (noted_in entries)) × (counts.expired ≡ length expired)) }
+        ensures err { OnErr result (IsAddedTo released.old.items released.new.items) }
+    {
+        let counts = self.counts;
+        let end = self.time;
+        self.expire(end, released)?;
+        Ok(counts)
+    }
+
+    // Reads an event, but for what expires then.
+    fn take(
+        &mut self,
+        conversation: u32,
+        arrival: A,
+        released: &mut Vec<Noted<A>>,
+    ) -> Result<(), AllocError>
+        ensures ok { OnOk result (IsTaken A.event (note conversation (self.old.time + 1) arrival)
+            (state_of self.old) (state_of self.new) released.old.items released.new.items) }
+        ensures err { OnErr result (released.new.items ≡ released.old.items) }
+    {
+        self.begin()?;
+        self.deadlines.reserve(1)?;
+        let time = self.time;
+        let start = released.len();
+        let noted = Noted {
+            conversation,
+            time,
+            arrival,
+        };
+        push_to(&mut self.conversations, self.alloc, noted, released)?;
+        self.counts.events = self.counts.events.saturating_add(1);
+        if !is_at(released, start, time) {
+            self.counts.waited = self.counts.waited.saturating_add(1);
+            self.deadlines
+                .push_back_reserved(Deadline { time, conversation });
+        }
+        Ok(())
+    }
+
+    // Reads an opening, but for what expires then.
+    fn take_opening(
+        &mut self,
+        conversation: u32,
+        released: &mut Vec<Noted<A>>,
+    ) -> Result<(), AllocError>
+        ensures ok { OnOk result (IsTaken A.event (Opens conversation)
+            (state_of self.old) (state_of self.new) released.old.items released.new.items) }
+        ensures err { OnErr result (IsAddedTo released.old.items released.new.items) }
+    {
+        self.begin()?;
+        open(&mut self.conversations, self.alloc, conversation, released)
+    }
+
+    // Counts the entry.
+    fn begin(&mut self) -> Result<(), AllocError>
+        ensures ok { OnOk result (self.new ≡ record self.old { time = self.old.time + 1 }) }
+        ensures fits { OnOk result (self.old.time + 1 < 2 ^ 64) }
+    {
+        if self.time == u64::MAX {
+            return Err(AllocError);
+        }
+        self.time += 1;
+        Ok(())
+    }
+
+    // Counts events that were released, and how many wait now.
+    fn tally(&mut self, given: usize)
+        ensures { state_of self.new ≡ state_of self.old }
+    {
+        self.released = self.released.saturating_add(given as u64);
+        let waiting = self.counts.events.saturating_sub(self.released);
+        self.counts.at_once = self.counts.at_once.max(waiting);
+    }
+
+    // Releases the events that have waited for long enough.
+    fn ripen(&mut self, released: &mut Vec<Noted<A>>) -> Result<(), AllocError>
+        ensures ok { OnOk result
+            (IsRipened A.event (state_of self.old) (state_of self.new) released.old.items released.new.items) }
+        ensures err { OnErr result (IsAddedTo released.old.items released.new.items) }
+    {
+        if self.deadlines.is_empty() {
+            return Ok(());
+        }
+        match self.time.checked_sub(self.bound) {
+            Some(due) => self.expire(due, released),
+            None => Ok(()),
+        }
+    }
+
+    // Releases the events that wait since this time or longer, the oldest first.
+    fn expire(&mut self, due: u64, released: &mut Vec<Noted<A>>) -> Result<(), AllocError>
+        ensures ok { OnOk result
+            (IsExpiring A.event due (state_of self.old) (state_of self.new) released.old.items released.new.items) }
+        ensures done { OnOk result (StartsAfter due self.new.deadlines.items) }
+        ensures err { OnErr result (IsAddedTo released.old.items released.new.items) }
+    {
+        while self.pass_deadline(due, released)? {}
+        Ok(())
+    }
+
+    // Lets the first deadline pass, if it is not later than this. Returns whether there was one.
+    fn pass_deadline(&mut self, due: u64, released: &mut Vec<Noted<A>>) -> Result<bool, AllocError>
+        ensures passed { IfOk result (λ some. IsTrue some
+            → IsPassed A.event due (state_of self.old) (state_of self.new) released.old.items released.new.items) }
+        ensures fewer { IfOk result (λ some. IsTrue some
+            → length self.new.deadlines.items < length self.old.deadlines.items) }
+        ensures none { IfOk result (λ some. IsFalse some → StartsAfter due self.old.deadlines.items) }
+        ensures same { IfOk result (λ some. IsFalse some → state_of self.new ≡ state_of self.old) }
+        ensures unreleased { IfOk result (λ some. IsFalse some → released.new.items ≡ released.old.items) }
+        ensures err { OnErr result (released.new.items ≡ released.old.items) }
+    {
+        let Some(deadline) = pop_due(&mut self.deadlines, due) else {
+            return Ok(false);
+        };
+        let conversation = deadline.conversation;
+        if release_at(
+            &mut self.conversations,
+            conversation,
+            deadline.time,
+            released,
+        )? {
+            self.counts.expired = self.counts.expired.saturating_add(1);
+        }
+        Ok(true)
+    }
+}
+
+// Whether the item at this index is there, and of this time.
+fn is_at<A: Arrival>(released: &[Noted<A>], index: usize, time: u64) -> bool
+    ensures { IsTrue result → (x : Noted A) × (slice_get released.now index ≡ Some x) × (x.time ≡ time) }
+{
+    match released.get(index) {
+        Some(noted) => noted.time == time,
+        None => false,
+    }
+}
