@@ -1,0 +1,5 @@
+mod CarriedLemmas
+mod EntryLemmas
+mod MonitorLemmas
+mod HeldRunLemmas
+mod InputLemmas

@@ -1,0 +1,3 @@
+pub mod HeldScripts
+pub mod StagedEntries
+pub mod Progress

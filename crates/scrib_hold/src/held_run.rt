@@ -1,0 +1,121 @@
+//! Runs a script with its events held back, piece by piece.
+
+use crate::held_monitor::HeldMonitor;
+use scrib_core::format::Format;
+use scrib_hold_stage::stage::Counts;
+use scrib_script_io::fault::ScriptFault;
+use scrib_script_reader::script::Script;
+use std::alloc::Global;
+use std::io::Write;
+
+/// A script that runs over a monitor, with its events held back.
+#[derive(Drop)]
+pub struct HeldRun {
+    script: Script,
+    monitor: HeldMonitor,
+}
+
+impl HeldRun {
+    ghost use Rattle.std.specs.Prelude.{◌≡◌, ◌<◌, true, length, IfOk, IfErr, OnOk, OnErr};
+    ghost use Rattle.std.specs.Io.KnownBytes.{Appends};
+    ghost use Rattle.scrib_script_io.specs.Faults.{of_output, of_script};
+    ghost use Rattle.scrib_hold.specs.Progress.{IsNew, RunAdvances, PieceFails, GathersFront, GatherFails, Writes};
+    ghost use Rattle.scrib_hold.specs.Progress.{EndSucceeds, EndIsCut, TakesLast};
+
+    /// Returns a run before the first byte of its script.
+    pub fn new(alloc: Global, format: Format, bound: u64) -> HeldRun
+        ensures { IsNew format bound result }
+    {
+        HeldRun {
+            script: Script::new(alloc),
+            monitor: HeldMonitor::new(alloc, format, bound),
+        }
+    }
+
+    /// Consumes the next bytes of the script, carries out what they let out, and writes the replies.
+    ///
+    /// # Errors
+    /// - `Read` in the line of the first byte past the limits.
+    /// - `Write` where the writer fails.
+    /// - `OutOfMemory` where there is no memory for a line, the stage or a text.
+    pub fn take_piece<W: Write>(&mut self, writer: &mut W, piece: &[u8]) -> Result<(), ScriptFault>
+        ensures ok { OnOk result (Writes (λ out. RunAdvances self.old self.new piece.now out)
+            (W.contents writer.old) (W.contents writer.new)) }
+        ensures err { OnErr result (Writes (λ out. PieceFails self.old piece.now out)
+            (W.contents writer.old) (W.contents writer.new)) }
+        ensures fault { IfErr result (λ e. of_script e ≡ true) }
+    {
+        let taken = self.gather_piece(piece);
+        self.monitor.gathered.write_all(writer)?;
+        taken
+    }
+
+    // Consumes the bytes, carries out what they let out, and gathers the replies.
+    fn gather_piece(&mut self, piece: &[u8]) -> Result<(), ScriptFault>
+        ensures ok { OnOk result (RunAdvances self.old self.new piece.now self.new.monitor.gathered.bytes.items) }
+        ensures err { OnErr result (PieceFails self.old piece.now self.new.monitor.gathered.bytes.items) }
+        ensures fault { IfErr result (λ e. of_script e ≡ true) }
+    {
+        self.monitor.gathered.clear();
+        let mut rest = piece;
+        while !rest.is_empty() {
+            rest = self.gather_next(rest)?;
+        }
+        Ok(())
+    }
+
+    // Consumes the bytes up to the end of the next line, and gathers what its entry lets out. Returns what is left.
+    fn gather_next<'a>(&mut self, piece: &'a [u8]) -> Result<&'a [u8], ScriptFault>
+        ensures ok { IfOk result (λ rest. GathersFront self.old self.new piece.now rest.now) }
+        ensures shorter { IfOk result (λ rest. 0 < length piece.now → length rest.now < length piece.now) }
+        ensures err { OnErr result (GatherFails self.old self.new piece.now) }
+        ensures fault { IfErr result (λ e. of_script e ≡ true) }
+    {
+        let (entry, rest) = self.script.next_entry(piece)?;
+        let Some(entry) = entry else {
+            return Ok(rest);
+        };
+        self.monitor.take(entry)?;
+        Ok(rest)
+    }
+
+    /// Carries out what the end of the script lets out, and writes the replies. Returns the counts of the events.
+    ///
+    /// # Errors
+    /// `Write` where the writer fails, and `OutOfMemory` where there is no memory for a line, the stage or a text.
+    pub fn finish<W: Write>(&mut self, writer: &mut W) -> Result<Counts, ScriptFault>
+        ensures ok { IfOk result (λ counts. Writes (λ out. EndSucceeds self.old counts out)
+            (W.contents writer.old) (W.contents writer.new)) }
+        ensures err { OnErr result (Writes (λ out. EndIsCut self.old out)
+            (W.contents writer.old) (W.contents writer.new)) }
+        ensures fault { IfErr result (λ e. of_output e ≡ true) }
+    {
+        let ended = self.gather_end();
+        self.monitor.gathered.write_all(writer)?;
+        ended
+    }
+
+    // Carries out what the end of the script lets out, and gathers the replies.
+    fn gather_end(&mut self) -> Result<Counts, ScriptFault>
+        ensures ok { IfOk result (λ counts. EndSucceeds self.old counts self.new.monitor.gathered.bytes.items) }
+        ensures err { OnErr result (EndIsCut self.old self.new.monitor.gathered.bytes.items) }
+        ensures fault { IfErr result (λ e. of_output e ≡ true) }
+    {
+        self.take_last()?;
+        self.monitor.finish()
+    }
+
+    // Takes the entry of the last line, if there is one, and gathers what it lets out.
+    fn take_last(&mut self) -> Result<(), ScriptFault>
+        ensures ok { OnOk result (TakesLast self.old self.new.monitor) }
+        ensures err { OnErr result (EndIsCut self.old self.new.monitor.gathered.bytes.items) }
+        ensures fault { IfErr result (λ e. of_output e ≡ true) }
+    {
+        self.monitor.gathered.clear();
+        let last = self.script.last_entry()?;
+        let Some(entry) = last else {
+            return Ok(());
+        };
+        self.monitor.take(entry)
+    }
+}

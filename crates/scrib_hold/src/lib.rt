@@ -1,0 +1,8 @@
+//! Runs a script over one monitor with its events held back, each conversation's until they may have happened.
+#![tactic(auto)]
+
+mod held_monitor;
+mod held_run;
+pub mod run_held_script;
+mod staged;
+mod taking;

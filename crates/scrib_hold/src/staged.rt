@@ -1,0 +1,101 @@
+//! What a stage does with an entry of a script.
+
+ghost use Rattle.std.specs.Prelude.{◌≡◌, ℕ, ◌+◌, IfOk, OnOk};
+ghost use Rattle.scrib_script_reader.specs.declared.entry.Entry.TheVariants as entry;
+ghost use Rattle.scrib_script_reader.specs.declared.item.Item.TheVariants as item;
+ghost use Rattle.scrib_script_reader.specs.Scripts.{item_list};
+ghost use Rattle.scrib_hold_stage.specs.Stages.{IsRead, state_of};
+ghost use Rattle.scrib_hold.specs.HeldScripts.{event_in, passing, staged};
+ghost use Rattle.scrib_hold.specs.StagedEntries.{as_entry, passing_of};
+
+use scrib_core::format::Format;
+use scrib_core::step::Step;
+use scrib_hold_stage::noted::Noted;
+use scrib_hold_stage::stage::HoldStage;
+use scrib_script_reader::entry::Entry;
+use scrib_script_reader::item::Item;
+use scrib_types::shared_event::SharedEvent;
+use std::alloc::AllocError;
+
+/// What a stage does with an entry.
+#[derive(Drop)]
+pub enum Staged {
+    /// It takes an event, the reply to which is asked for in this format.
+    Event {
+        id: u32,
+        event: SharedEvent,
+        format: Format,
+    },
+    /// It opens a conversation. The item passes at once.
+    Opening {
+        id: u32,
+        item: Item,
+    },
+    /// It counts the entry. The item, if there is one, passes at once.
+    Other(Option<Item>),
+}
+
+// Returns what a stage does with a step.
+fn staged_step(format: Format, step: Step) -> Staged
+    ensures entry { (n : ℕ) → staged n (entry.Item (item.Step format step)) ≡ as_entry n result }
+    ensures passing { passing (entry.Item (item.Step format step)) ≡ passing_of result }
+{
+    match step {
+        Step::Note { id, event } => Staged::Event { id, event, format },
+        Step::Open { id, name } => Staged::Opening {
+            id,
+            item: Item::Step(format, Step::Open { id, name }),
+        },
+        Step::Ask { id } => Staged::Other(Some(Item::Step(format, Step::Ask { id }))),
+        Step::Turn { id } => Staged::Other(Some(Item::Step(format, Step::Turn { id }))),
+        Step::Put { text } => Staged::Other(Some(Item::Step(format, Step::Put { text }))),
+        Step::Withdraw { name } => {
+            Staged::Other(Some(Item::Step(format, Step::Withdraw { name })))
+        }
+        Step::Profile { profile } => {
+            Staged::Other(Some(Item::Step(format, Step::Profile { profile })))
+        }
+    }
+}
+
+// Returns what a stage does with an entry. An end inside a module text waits for the end of the script.
+fn staged_of(entry: Entry) -> Staged
+    ensures entry { (n : ℕ) → staged n entry ≡ as_entry n result }
+    ensures passing { passing entry ≡ passing_of result }
+{
+    match entry {
+        Entry::Item(Item::Step(format, step)) => staged_step(format, step),
+        Entry::Item(Item::BadLine(number)) => Staged::Other(Some(Item::BadLine(number))),
+        Entry::Item(Item::EndOfText) => Staged::Other(None),
+        Entry::Skipped => Staged::Other(None),
+    }
+}
+
+/// Puts the entry into the stage. Returns the item that passes at once, if there is one.
+///
+/// # Errors
+/// `AllocError` where memory is refused. The stage is then of no more use.
+pub(crate) fn read_entry(
+    stage: &mut HoldStage<(SharedEvent, Format)>,
+    entry: Entry,
+    released: &mut Vec<Noted<(SharedEvent, Format)>>,
+) -> Result<Option<Item>, AllocError>
+    ensures read { OnOk result (IsRead event_in (staged (stage.old.time + 1) entry)
+        (state_of stage.old) (state_of stage.new) released.old.items released.new.items) }
+    ensures passed { IfOk result (λ passed. item_list passed ≡ passing entry) }
+{
+    match staged_of(entry) {
+        Staged::Event { id, event, format } => {
+            stage.push(id, (event, format), released)?;
+            Ok(None)
+        }
+        Staged::Opening { id, item } => {
+            stage.open(id, released)?;
+            Ok(Some(item))
+        }
+        Staged::Other(found) => {
+            stage.skip(released)?;
+            Ok(found)
+        }
+    }
+}
