@@ -1,6 +1,8 @@
 //! Tests that need code: what is written for readers that give little or fail, and for writers that take little or fail,
-//! and where a script is too long by smaller limits than its own.
+//! where a script is too long by smaller limits than its own, and what is held back of short logs.
 #![tactic(auto)]
 
+#[cfg(test)]
+mod holding;
 #[cfg(test)]
 mod running;

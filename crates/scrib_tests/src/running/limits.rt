@@ -50,7 +50,7 @@ fn outcome(
     size: usize,
 ) -> Result<(u32, bool), ScriptFault> {
     let limits = Limits {
-        lines: u32::from(lines),
+        lines: u64::from(lines),
         bytes,
     };
     let mut script = Script::with_limits(alloc, limits);
