@@ -20,12 +20,22 @@ run: ## builds without proof and runs the first example: a minute or two
 
 try: run ## the same as run
 
-# One command of the kit proves crates side by side, in a copy without the edits, and keeps what passed for the gate.
-build: ## proves and builds crates/scribmon/out/scribmon: about an hour
-	@copy=$$(mktemp -d) && trap 'rm -rf "$$copy"' EXIT && \
-	tar -c --exclude=out --exclude=must-fail $(UNNEEDED:%=--exclude=%) HANDLES crates.txt crates | tar -x -C "$$copy" && \
-	for crate in $(UNNEEDED); do sed -i "/^$$crate[ :]/d" "$$copy/crates.txt"; done && \
-	(cd "$$copy" && $(RT) ci) && mkdir -p $(dir $(PROGRAM)) && cp "$$copy/$(PROGRAM)" $(PROGRAM)
+# The kit proves crates side by side, in copies without the edits, and keeps what passed for the gate. Each crate of the
+# longest chain gets all processors. Those beside the chain fill what is left: they run at low priority, in a copy of
+# their own, until the last run waits for what is still being proved.
+CHAIN = scrib_elaborate scrib_shards
+BESIDE = scrib_parser scrib_record scrib_global scrib_hold_stage scrib_arguments
+
+build: ## proves and builds crates/scribmon/out/scribmon: most of an hour
+	@work=$$(mktemp -d) && trap 'rm -rf "$$work"' EXIT && \
+	for copy in chain beside; do \
+	  mkdir "$$work/$$copy" && \
+	  tar -c --exclude=out --exclude=must-fail $(UNNEEDED:%=--exclude=%) HANDLES crates.txt crates | tar -x -C "$$work/$$copy" && \
+	  for crate in $(UNNEEDED); do sed -i "/^$$crate[ :]/d" "$$work/$$copy/crates.txt"; done || exit 1; \
+	done && \
+	{ (sleep 10; cd "$$work/beside" && nice -n 19 $(RT) ci $(BESIDE); nice -n 19 $(RT) ci scrib_cli) > /dev/null 2>&1 & } && \
+	(cd "$$work/chain" && for crate in $(CHAIN); do $(RT) ci $$crate || exit 1; done && $(RT) ci) && \
+	mkdir -p $(dir $(PROGRAM)) && cp "$$work/chain/$(PROGRAM)" $(PROGRAM)
 	$(PROGRAM) --version
 
 install: ## copies the built program and its man page below PREFIX
