@@ -26,7 +26,7 @@ try: run ## the same as run
 CHAIN = scrib_elaborate scrib_shards
 BESIDE = scrib_parser scrib_record scrib_global scrib_hold_stage scrib_arguments
 
-build: ## proves and builds crates/scribmon/out/scribmon: most of an hour
+build: ## proves and builds crates/scribmon/out/scribmon: about an hour
 	@work=$$(mktemp -d) && trap 'rm -rf "$$work"' EXIT && \
 	for copy in chain beside; do \
 	  mkdir "$$work/$$copy" && \
