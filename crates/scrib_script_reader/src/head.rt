@@ -1,13 +1,13 @@
 //! The beginnings of lines that are spelled with single blanks: a word and an id.
 
-ghost use Rattle.std.specs.Prelude.{◌≡◌, ◌<◌, ◌++◌, ◌∷◌, ℕ, List, IfSome, MatchOption, length, slice_index, codes};
-ghost use Rattle.scrib_script_reader.specs.Fields.{IsNumberText};
+ghost use Rattle.std.specs.Prelude.{◌≡◌, ◌<◌, ◌≤◌, ◌++◌, ◌∷◌, IfSome, length, take, slice_index, codes};
+ghost use Rattle.std.specs.Str.Parse.{AllDigits, digits_value};
 ghost use Rattle.scrib_script_reader.specs.Heads.{IsHead, IsIdBefore, direction_word};
 ghost use Rattle.scrib_script_reader.specs.NamedHeads.{IsNamedHead, named_word};
 
 use crate::direction::Direction;
 use crate::line::MAX_LINE_BYTES;
-use crate::text::number_of;
+use crate::text::MAX_DIGITS;
 
 // A line of an exchange, parsed up to its id.
 #[derive(Clone, Copy)]
@@ -34,6 +34,7 @@ pub(crate) struct NamedHead<'a> {
 }
 
 // The direction and the id that a line begins with, where it is spelled with single blanks.
+#[inline(always)]
 pub(crate) fn head_of(bytes: &[u8]) -> Option<Head<'_>>
     ensures { IfSome result (λ head. IsHead bytes.now head.direction head.id head.text.now) }
 {
@@ -102,20 +103,40 @@ fn after_join(bytes: &[u8]) -> Option<&[u8]>
     }
 }
 
-// The id that the bytes before the first blank are, and the bytes after that blank.
+// The id that the digits before the first blank are, and the bytes after that blank.
 #[inline(always)]
 fn id_of(bytes: &[u8]) -> Option<(u32, &[u8])>
     ensures { IfSome result (λ cut. IsIdBefore bytes.now cut.0 cut.1.now) }
 {
-    let at = first_blank(bytes)?;
-    let id = number_of(&bytes[..at])?;
-    Some((id, &bytes[at + 1..]))
+    let mut value = 0u64;
+    for at in 0..bytes.len().min(MAX_DIGITS + 1) {
+        let byte = bytes[at];
+        if byte == b' ' {
+            return id_before(bytes, at, value);
+        }
+        if byte < b'0' || byte > b'9' {
+            return None;
+        }
+        value = value * 10 + u64::from(byte - b'0');
+    }
+    None
 }
 
-// The offset of the first blank.
-fn first_blank(bytes: &[u8]) -> Option<usize>
-    ensures within { IfSome result (λ at. at < length bytes.now) }
-    ensures blank { IfSome result (λ at. slice_index bytes.now at ≡ 32) }
+// The id of this value, whose digits end at the blank at this offset, and the bytes after the blank.
+#[inline(always)]
+fn id_before(bytes: &[u8], at: usize, value: u64) -> Option<(u32, &[u8])>
+    requires within { at < length bytes.now }
+    requires blank { slice_index bytes.now at ≡ 32 }
+    requires few { at ≤ 10 }
+    requires digits { AllDigits 10 (take at bytes.now) }
+    requires value { value ≡ digits_value 10 (take at bytes.now) }
+    ensures { IfSome result (λ cut. IsIdBefore bytes.now cut.0 cut.1.now) }
 {
-    bytes.iter().position(|byte| *byte == b' ')
+    if at == 0 {
+        return None;
+    }
+    let Ok(id) = u32::try_from(value) else {
+        return None;
+    };
+    Some((id, &bytes[at + 1..]))
 }

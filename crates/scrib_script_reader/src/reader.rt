@@ -1,6 +1,6 @@
 //! Parses the lines of a script one after another, with caches of events and names.
 
-ghost use Rattle.std.specs.Prelude.{IfOk, IfSome};
+ghost use Rattle.std.specs.Prelude.{ℕ, IfOk, IfSome};
 ghost use Rattle.scrib_core.specs.declared.format.Format.TheVariants as format;
 ghost use Rattle.scrib_core.specs.declared.step.Step.TheVariants.{Note, Open};
 ghost use Rattle.scrib_script_reader.specs.Says.{Says};
@@ -87,13 +87,21 @@ impl Reader {
     }
 
     // The same at a line that does not begin as one of an exchange.
-    #[inline(never)]
+    #[inline(always)]
     fn other_short_line(&mut self, bytes: &[u8], number: u64) -> Option<ShortLine>
         ensures { IfSome result (IsShort bytes.now number) }
     {
-        if let Some(plain) = plain_line_of(bytes) {
-            return Some(plain.numbered(number));
+        match plain_line_of(bytes) {
+            Some(plain) => Some(plain.numbered(number)),
+            None => self.named_short_line(bytes),
         }
+    }
+
+    // The same at a line that names a role or a protocol. Its number does not matter.
+    #[inline(never)]
+    fn named_short_line(&mut self, bytes: &[u8]) -> Option<ShortLine>
+        ensures { (number : ℕ) → IfSome result (IsShort bytes.now number) }
+    {
         if let Ok(Some((id, event))) = self.join(bytes) {
             return Some(ShortLine::Note { id, event });
         }

@@ -139,6 +139,7 @@ impl Script {
     /// among them where they are too long or begin as no line does. Returns the line, and the bytes that are left.
     /// Returns none, and consumes nothing, at any other line, past the limits and where memory is refused: `next_item`
     /// reads these.
+    #[inline(always)]
     pub fn next_short<'a>(&mut self, piece: &'a [u8]) -> Option<(ShortLine, &'a [u8])>
         ensures taken { MatchOption result (TakesFront self.old self.new piece.now piece.now [])
             (λ r. TakesFront self.old self.new piece.now r.1.now (short_items r.0)) }

@@ -9,7 +9,7 @@ use scrib_types::shared_message::SharedMessage;
 use std::alloc::{AllocError, Global};
 
 // The most digits of a number.
-const MAX_DIGITS: usize = 10;
+pub(crate) const MAX_DIGITS: usize = 10;
 
 // The number of 1 to 10 decimal digits, if the bytes are such and it fits in 32 bits.
 pub(crate) fn number_of(bytes: &[u8]) -> Option<u32>
