@@ -18,7 +18,7 @@ use Rattle.scrib_script_io.specs.Faults.{fault_of}
 use Rattle.scrib_script_io.proofs.WriterLemmas.{consumes_none, consumes_more, consumes_kept}
 use Rattle.scrib_run_service.specs.declared.connection.Connection.{Connection}
 use Rattle.scrib_run_service.specs.Outcomes.{TakesItems, Appends}
-use Rattle.scrib_run_service.specs.Reading.{of_reading, Carries, CarriesFront, AppendsSpelled, AppendsFront, AppendsEnd, Ran, RanPart}
+use Rattle.scrib_run_service.specs.Reading.{of_reading, Carries, CarriesTo, CarriesFront, AppendsSpelled, AppendsFront, AppendsEnd, Ran, RanPart}
 use Rattle.scrib_run_service.proofs.ConnectionLemmas.{takes_none, takes_more, appends_taken, appends_none, appends_more, appends_counted}
 
 -- A part of the piece was consumed and its items submitted, and the rest is left.
@@ -34,17 +34,18 @@ submitted_none c s piece = record {
   carries = record { items = []; spelled = takes_same s [] (λ i. []) (All-nil (λ b. b ≢ 10)); took = takes_none c };
 }
 
-pub submitted_any : (a b c : Connection) (was s t : Script) (piece rest after : List ℕ) (o : Option Item) → Submitted a b was s piece rest → TakesFront s t rest after (item_list o) → TakesItems b c (item_list o)
-    → Submitted a c was t piece after
-submitted_any a b c was s t piece rest after o k takes took = record {
-  done = k.done ++ takes.0;
-  is = k.is ∙ ap (λ (u : List ℕ). k.done ++ u) takes.1 ∙ sym (append_assoc k.done takes.0 after);
-  carries = record {
-    items = k.carries.items ++ item_list o;
-    spelled = takes_then was s t k.done takes.0 k.carries.items (item_list o) k.carries.spelled takes.2;
-    took = takes_more a b c k.carries.items (item_list o) k.carries.took took;
-  };
-}
+pub submitted_further : (a b c : Connection) (was s t : Script) (piece rest after : List ℕ) → Submitted a b was s piece rest → CarriesTo b c s t rest after → Submitted a c was t piece after
+submitted_further a b c was s t piece rest after k f =
+    let takes = f.spelled in
+    record {
+      done = k.done ++ takes.0;
+      is = k.is ∙ ap (λ (u : List ℕ). k.done ++ u) takes.1 ∙ sym (append_assoc k.done takes.0 after);
+      carries = record {
+        items = k.carries.items ++ f.items;
+        spelled = takes_then was s t k.done takes.0 k.carries.items f.items k.carries.spelled takes.2;
+        took = takes_more a b c k.carries.items f.items k.carries.took f.took;
+      };
+    }
 
 no_bytes : (xs : List ℕ) → length xs ≡ 0 → xs ≡ []
 no_bytes [] is = λ i. []
@@ -55,21 +56,59 @@ submitted_all a b was now piece rest k none =
     let all : piece ≡ k.done = k.is ∙ ap (λ (u : List ℕ). k.done ++ u) (no_bytes rest none) ∙ append-nil k.done in
     subst (λ (u : List ℕ). Carries a b was now u) (sym all) k.carries
 
--- the script passes its limits in the rest
-pub submitted_past : (a b : Connection) (was now : Script) (piece rest : List ℕ) → Submitted a b was now piece rest → PassesLimits now rest → CarriesFront a b was piece
-submitted_past a b was now piece rest k passes =
+-- the rest was consumed up to a fault
+pub submitted_front : (a b c : Connection) (was s : Script) (piece rest : List ℕ) → Submitted a b was s piece rest → CarriesFront b c s rest → CarriesFront a c was piece
+submitted_front a b c was s piece rest k f = record {
+  front = k.done ++ f.front;
+  rest = f.rest;
+  is = k.is ∙ ap (λ (u : List ℕ). k.done ++ u) f.is ∙ sym (append_assoc k.done f.front f.rest);
+  now = f.now;
+  carries = record {
+    items = k.carries.items ++ f.carries.items;
+    spelled = takes_then was s f.now k.done f.front k.carries.items f.carries.items k.carries.spelled f.carries.spelled;
+    took = takes_more a b c k.carries.items f.carries.items k.carries.took f.carries.took;
+  };
+}
+
+-- the script passes its limits in the piece
+pub carries_past : (c : Connection) (was : Script) (piece : List ℕ) → PassesLimits was piece → CarriesFront c c was piece
+carries_past c was piece passes =
     let t = passes.before in
     record {
-      front = k.done ++ t.0;
+      front = t.0;
       rest = passes.line ++ passes.rest;
-      is = k.is ∙ ap (λ (u : List ℕ). k.done ++ u) t.1 ∙ sym (append_assoc k.done t.0 (passes.line ++ passes.rest));
+      is = t.1;
       now = passes.mid;
-      carries = record {
-        items = k.carries.items ++ [];
-        spelled = takes_then was now passes.mid k.done t.0 k.carries.items [] k.carries.spelled t.2;
-        took = takes_more a b b k.carries.items [] k.carries.took (takes_none b);
-      };
+      carries = record { items = []; spelled = t.2; took = takes_none c };
     }
+
+-- nothing was consumed, and then a front
+pub carries_after : (a b : Connection) (was mid now : Script) (piece rest : List ℕ) → TakesFront was mid piece piece [] → CarriesTo a b mid now piece rest → CarriesTo a b was now piece rest
+carries_after a b was mid now piece rest t f =
+    let s = f.spelled in
+    record {
+      items = f.items;
+      spelled = (
+        t.0 ++ s.0,
+        t.1 ∙ ap (λ (u : List ℕ). t.0 ++ u) s.1 ∙ sym (append_assoc t.0 s.0 rest),
+        takes_then was mid now t.0 s.0 [] f.items t.2 s.2,
+      );
+      took = f.took;
+    }
+
+-- nothing was consumed, and then a front up to a fault
+pub front_after : (a b : Connection) (was mid : Script) (piece : List ℕ) → TakesFront was mid piece piece [] → CarriesFront a b mid piece → CarriesFront a b was piece
+front_after a b was mid piece t f = record {
+  front = t.0 ++ f.front;
+  rest = f.rest;
+  is = t.1 ∙ ap (λ (u : List ℕ). t.0 ++ u) f.is ∙ sym (append_assoc t.0 f.front f.rest);
+  now = f.now;
+  carries = record {
+    items = f.carries.items;
+    spelled = takes_then was mid f.now t.0 f.front [] f.carries.items t.2 f.carries.spelled;
+    took = f.carries.took;
+  };
+}
 
 -- a fault of spelling is a fault of reading
 pub spelled_of_reading : (e : SpellFault) (f : ScriptFault) → f ≡ fault_of e → of_reading f ≡ true

@@ -4,7 +4,7 @@ use Rattle.std.specs.Prelude.{◌≡◌, ℕ, Bool, true, false, List, ◌++◌,
 use Rattle.scrib_script_reader.specs.declared.item.Item.{Item}
 use Rattle.scrib_script_reader.specs.declared.script.Script.{Script}
 use Rattle.scrib_script_reader.specs.Scripts.{Spells, lines}
-use Rattle.scrib_script_reader.specs.Positions.{EndSpells, TakesBytes}
+use Rattle.scrib_script_reader.specs.Positions.{EndSpells, TakesBytes, TakesFront}
 use Rattle.scrib_script_io.specs.declared.fault.ScriptFault.{ScriptFault}
 use Rattle.scrib_script_io.specs.declared.fault.ScriptFault.TheVariants as fault
 use Rattle.scrib_run_service.specs.declared.connection.Connection.{Connection}
@@ -21,6 +21,12 @@ of_reading fault.OutOfMemory = true
 pub record Carries (old new : Connection) (was now : Script) (bytes : List ℕ) : Type 0 where
   pub items : List Item
   pub spelled : TakesBytes was now bytes items
+  pub took : TakesItems old new items
+
+-- the script consumed all of the piece but the rest, and the connection took the items that the bytes before it spell
+pub record CarriesTo (old new : Connection) (was now : Script) (piece rest : List ℕ) : Type 0 where
+  pub items : List Item
+  pub spelled : TakesFront was now piece rest items
   pub took : TakesItems old new items
 
 -- the same of a beginning of the bytes, which ends at a fault

@@ -1,18 +1,22 @@
 //! Reads the script of a connection.
 
-ghost use Rattle.std.specs.Prelude.{◌≡◌, ◌<◌, true, [], OnOk, IfErr, length};
+ghost use Rattle.std.specs.Prelude.{◌≡◌, ◌<◌, true, [], OnOk, IfOk, IfErr, length};
 ghost use Rattle.scrib_script_reader.specs.Scripts.{item_list};
+ghost use Rattle.scrib_script_reader.specs.ShortLines.{short_items};
 ghost use Rattle.scrib_script_io.specs.declared.fault.ScriptFault.TheVariants as fault;
 ghost use Rattle.scrib_run_service.specs.Outcomes.{TakesItems};
-ghost use Rattle.scrib_run_service.specs.Reading.{of_reading, Carries, CarriesFront, AppendsSpelled, AppendsFront, AppendsEnd, Ran, RanPart};
+ghost use Rattle.scrib_run_service.specs.Reading.{of_reading, Carries, CarriesTo, CarriesFront, AppendsSpelled, AppendsFront, AppendsEnd, Ran, RanPart};
 
 use crate::common::Common;
 use crate::connection::Connection;
 use crate::progress::Progress;
+use scrib_core::format::Format;
+use scrib_core::step::Step;
 use scrib_script_io::fault::ScriptFault;
 use scrib_script_io::reading::read_piece;
 use scrib_script_reader::item::Item;
 use scrib_script_reader::script::Script;
+use scrib_script_reader::short_line::ShortLine;
 use std::io::Read;
 use std::sync::Wait;
 
@@ -103,11 +107,101 @@ fn submit_items(
 {
     let mut rest = piece;
     while !rest.is_empty() {
-        let (item, after) = script.next_item(rest)?;
-        submit_any(rt, connection, item, script.lines())?;
-        rest = after;
+        rest = submit_next(rt, connection, script, rest)?;
     }
     Ok(())
+}
+
+// Consumes the bytes up to the end of the next item or of a line before it, and submits what they spell. Returns the
+// bytes that are left.
+#[inline(always)]
+fn submit_next<'a>(
+    rt: &impl Wait,
+    connection: &mut Connection<'_>,
+    script: &mut Script,
+    piece: &'a [u8],
+) -> Result<&'a [u8], ScriptFault>
+    ensures ok { IfOk result (λ rest.
+        CarriesTo connection.old connection.new script.old script.new piece.now rest.now) }
+    ensures shorter { IfOk result (λ rest. 0 < length piece.now → length rest.now < length piece.now) }
+    ensures read { IfErr result (λ e. e ≡ fault.Read →
+        CarriesFront connection.old connection.new script.old piece.now) }
+    ensures fault { IfErr result (λ e. of_reading e ≡ true) }
+{
+    match script.next_short(piece) {
+        Some((line, rest)) => {
+            submit_short(rt, connection, line, script.lines())?;
+            Ok(rest)
+        }
+        None => submit_other(rt, connection, script, piece),
+    }
+}
+
+// The same where the next line is none that `next_short` reads.
+#[inline(never)]
+fn submit_other<'a>(
+    rt: &impl Wait,
+    connection: &mut Connection<'_>,
+    script: &mut Script,
+    piece: &'a [u8],
+) -> Result<&'a [u8], ScriptFault>
+    ensures ok { IfOk result (λ rest.
+        CarriesTo connection.old connection.new script.old script.new piece.now rest.now) }
+    ensures shorter { IfOk result (λ rest. 0 < length piece.now → length rest.now < length piece.now) }
+    ensures read { IfErr result (λ e. e ≡ fault.Read →
+        CarriesFront connection.old connection.new script.old piece.now) }
+    ensures fault { IfErr result (λ e. of_reading e ≡ true) }
+{
+    let (item, rest) = script.next_item(piece)?;
+    submit_any(rt, connection, item, script.lines())?;
+    Ok(rest)
+}
+
+// Submits what the line of this number spells.
+#[inline(always)]
+fn submit_short(
+    rt: &impl Wait,
+    connection: &mut Connection<'_>,
+    line: ShortLine,
+    number: u64,
+) -> Result<(), ScriptFault>
+    ensures took { OnOk result (TakesItems connection.old connection.new (short_items line)) }
+    ensures fault { IfErr result (λ e. e ≡ fault.OutOfMemory) }
+{
+    match line {
+        // most lines of a long script
+        ShortLine::Note { id, event } => connection.submit_note(rt, id, event),
+        line => submit_rare(rt, connection, line, number),
+    }
+}
+
+// The same for any line.
+#[inline(never)]
+fn submit_rare(
+    rt: &impl Wait,
+    connection: &mut Connection<'_>,
+    line: ShortLine,
+    number: u64,
+) -> Result<(), ScriptFault>
+    ensures took { OnOk result (TakesItems connection.old connection.new (short_items line)) }
+    ensures fault { IfErr result (λ e. e ≡ fault.OutOfMemory) }
+{
+    submit_any(rt, connection, item_of(line), number)
+}
+
+// The item of the line, if it has one.
+fn item_of(line: ShortLine) -> Option<Item>
+    ensures { item_list result ≡ short_items line }
+{
+    match line {
+        ShortLine::Note { id, event } => {
+            Some(Item::Step(Format::Line, Step::Note { id, event }))
+        }
+        ShortLine::Ask { id } => Some(Item::Step(Format::Line, Step::Ask { id })),
+        ShortLine::Open { id, name } => Some(Item::Step(Format::Line, Step::Open { id, name })),
+        ShortLine::Bad(number) => Some(Item::BadLine(number)),
+        ShortLine::Skipped => None,
+    }
 }
 
 // Submits the item of this line, if there is one.
