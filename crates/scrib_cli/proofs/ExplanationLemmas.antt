@@ -19,6 +19,7 @@ use Rattle.scrib_cli.specs.declared.explanation.Explained.{Explained}
 use Rattle.scrib_cli.specs.declared.explanation.Explained.TheVariants.{Flights, Refused}
 use Rattle.scrib_cli.specs.declared.output_mode.OutputMode.TheVariants.{Silent}
 use Rattle.scrib_script_io.specs.Writes.{AppendsPart}
+use Rattle.scrib_script_reader.specs.Limits.{of_scripts}
 use Rattle.scrib_cli.specs.Progress.{RunSucceeds, RunFails}
 use Rattle.scrib_cli.specs.Explanations.{Explanation, IsExplanation, unknown, offends, flies, flight_lines, refusal_line}
 use Rattle.scrib_script_io.proofs.WriterLemmas.{appends_more, appends_kept}
@@ -64,7 +65,7 @@ run_stopped None was now h = search rules
 run_stopped (Some input) was now h = silent_appends was now h.0 h.1 h.2
 
 -- no text was made
-pub wrote_nothing : (r : Option (List ℕ)) (w : State) (was now : Option (List ℕ)) → RunSucceeds Silent r w was now → WritesNothing r was now
+pub wrote_nothing : (r : Option (List ℕ)) (w : State) (was now : Option (List ℕ)) → RunSucceeds of_scripts Silent r w was now → WritesNothing r was now
 wrote_nothing None w was now h = search rules
 wrote_nothing (Some input) w was now h = let whole = h.1 in silent_appends was now h.0 whole.is h.2
 
@@ -74,7 +75,7 @@ unexplained None id was now h = search rules
 unexplained (Some input) id was now h = inl h
 
 -- the text was written in part
-pub explained_part : (r : Option (List ℕ)) (id : ℕ) (w : State) (e : Explained) (text : List ℕ) (was mid now : Option (List ℕ)) → RunSucceeds Silent r w was mid
+pub explained_part : (r : Option (List ℕ)) (id : ℕ) (w : State) (e : Explained) (text : List ℕ) (was mid now : Option (List ℕ)) → RunSucceeds of_scripts Silent r w was mid
     → Explanation w.world id e text → AppendsPart mid now text → ExplainsPart r id was now
 explained_part None id w e text was mid now h x part = search rules
 explained_part (Some input) id w e text was mid now h x part =
@@ -83,7 +84,7 @@ explained_part (Some input) id w e text was mid now h x part =
     inr (e, text, (whole.items, whole.replies, w, whole.spelled, whole.answered, whole.goes_on, x), (part.0, part.1, part.2, all))
 
 -- the text was written
-pub explained_all : (r : Option (List ℕ)) (id : ℕ) (w : State) (e : Explained) (text : List ℕ) (was mid now end : Option (List ℕ)) → RunSucceeds Silent r w was mid
+pub explained_all : (r : Option (List ℕ)) (id : ℕ) (w : State) (e : Explained) (text : List ℕ) (was mid now end : Option (List ℕ)) → RunSucceeds of_scripts Silent r w was mid
     → Explanation w.world id e text → Appends mid now text → Keeps now end → ExplainsAll r id e was end
 explained_all None id w e text was mid now end h x all keeps = search rules
 explained_all (Some input) id w e text was mid now end h x all keeps =
@@ -92,7 +93,7 @@ explained_all (Some input) id w e text was mid now end h x all keeps =
     (text, (whole.items, whole.replies, w, whole.spelled, whole.answered, whole.goes_on, x), appends_kept was now end text explained keeps)
 
 -- the text was written, and then the flush failed
-pub explained_unflushed : (r : Option (List ℕ)) (id : ℕ) (w : State) (e : Explained) (text : List ℕ) (was mid now end : Option (List ℕ)) → RunSucceeds Silent r w was mid
+pub explained_unflushed : (r : Option (List ℕ)) (id : ℕ) (w : State) (e : Explained) (text : List ℕ) (was mid now end : Option (List ℕ)) → RunSucceeds of_scripts Silent r w was mid
     → Explanation w.world id e text → Appends mid now text → Keeps now end → ExplainsPart r id was end
 explained_unflushed r id w e text was mid now end h x all keeps =
     explained_part r id w e text was mid end h x (text, [], sym (append-nil text), appends_kept mid now end text all keeps)

@@ -5,6 +5,7 @@ use Rattle.std.proofs.lemmas.List.{append_assoc, append-nil, append_cancel_left}
 use Rattle.scrib_core.specs.Answers.{State}
 use Rattle.scrib_core.specs.Held.{state_of}
 use Rattle.scrib_script_reader.specs.declared.item.Item.{Item}
+use Rattle.scrib_script_reader.specs.declared.limits.Limits.{Limits}
 use Rattle.scrib_script_reader.specs.declared.script.Script.{Script}
 use Rattle.scrib_script_reader.specs.Scripts.{item_list}
 use Rattle.scrib_script_reader.proofs.ScriptLemmas.{takes_then}
@@ -42,9 +43,9 @@ part_written (Some a) (Some b) (Some c) gathered grown out p q r =
     (grown ++ r.0, r.1, append_cancel_left a out ((grown ++ r.0) ++ r.1) whole, r.3 ∙ ap (λ (u : List ℕ). u ++ r.0) q ∙ append_assoc a grown r.0)
 
 -- The progress of a run does not depend on what it holds as gathered.
-moved : (t : OutputMode) (run : ScriptRun) (held : Gathered) (seen : List ℕ) (w now end : Option (List ℕ)) → ((out : List ℕ) → Appends w now out → Appends w end out)
-    → HasProgressed t run seen w now → HasProgressed t (record run { gathered = held }) seen w end
-moved t run held seen w now end on c = record {
+moved : (m : Limits) (t : OutputMode) (run : ScriptRun) (held : Gathered) (seen : List ℕ) (w now end : Option (List ℕ)) → ((out : List ℕ) → Appends w now out → Appends w end out)
+    → HasProgressed m t run seen w now → HasProgressed m t (record run { gathered = held }) seen w end
+moved m t run held seen w now end on c = record {
   output_mode = c.output_mode;
   items = c.items;
   replies = c.replies;
@@ -57,7 +58,7 @@ moved t run held seen w now end on c = record {
 advances_moved : (old mid : ScriptRun) (held : Gathered) (bytes : List ℕ) (was now end : Option (List ℕ)) → ((w : Option (List ℕ)) (out : List ℕ) → Appends w now out → Appends w end out)
     → RunAdvances old mid bytes was now → RunAdvances old (record mid { gathered = held }) bytes was end
 advances_moved old mid held bytes was now end on went = record {
-  goes = λ t seen w c. moved t mid held (seen ++ bytes) w now end (on w) (went.goes t seen w c);
+  goes = λ m t seen w c. moved m t mid held (seen ++ bytes) w now end (on w) (went.goes m t seen w c);
 }
 
 -- A part of a piece was consumed, and the rest is left. Some replies were written, and the others are gathered.
@@ -118,13 +119,13 @@ gathered_written old mid held piece rest was now end k f = record {
 -- the run fails here, however much of what is gathered is then written
 pub fails_within : (old mid : ScriptRun) (piece rest : List ℕ) (was now : Option (List ℕ)) → GatheredFront old mid piece rest was now → FailsWithin old piece mid.gathered.bytes.items was now
 fails_within old mid piece rest was now k = λ end part. record {
-  so = λ t seen w c more.
-      let d = k.consumed.went.goes t seen w c in
+  so = λ m t seen w c more.
+      let d = k.consumed.went.goes m t seen w c in
       let before = items_shown t c.items c.replies in
       let grown = appends_more w was now before k.grown c.appends k.grows in
       let written = part_written w now end mid.gathered.bytes.items (before ++ k.grown) (items_shown t d.items d.replies) d.appends grown part in
       subst (λ (u : List ℕ). RunFailsOn t u w end) (ahead seen k.consumed.done rest more piece k.consumed.is)
-      (failed_within t mid (seen ++ k.consumed.done) w (append_known now mid.gathered.bytes.items) end d written (rest ++ more));
+      (failed_within m t mid (seen ++ k.consumed.done) w (append_known now mid.gathered.bytes.items) end d written (rest ++ more));
 }
 
 no_part : (part rest : List ℕ) → [] ≡ part ++ rest → part ≡ []
@@ -181,9 +182,9 @@ advances_written old mid held piece was now end q went =
 
 pub passes_written : (old : ScriptRun) (piece all : List ℕ) (was now end : Option (List ℕ)) → Appends now end all → PassesLimitIn old piece was (append_known now all) → PassesLimitIn old piece was end
 passes_written old piece all was now end q passes = record {
-  so = λ t seen w c.
-      let p = passes.so t seen w c in
-      (p.0, p.1, p.2, p.3, p.4, p.5, moved t p.0 p.0.gathered (seen ++ p.1) w (append_known now all) end (to_end now end all q w) p.6, p.7);
+  so = λ m t seen w c.
+      let p = passes.so m t seen w c in
+      (p.0, p.1, p.2, p.3, p.4, p.5, moved m t p.0 p.0.gathered (seen ++ p.1) w (append_known now all) end (to_end now end all q w) p.6, p.7);
 }
 
 -- The last item's output was gathered alone.

@@ -20,7 +20,8 @@ use Rattle.scrib_script_reader.specs.declared.item.Item.TheVariants as item
 use Rattle.scrib_script_reader.specs.declared.script.Script.{Script}
 use Rattle.scrib_script_reader.specs.Scripts.{Spells, lines, steps_of, item_list}
 use Rattle.scrib_script_reader.specs.Positions.{Holds, TakesBytes, TakesFront, PassesLimits, EndSpells, HasConsumed}
-use Rattle.scrib_script_reader.specs.Limits.{of_scripts, IsPast}
+use Rattle.scrib_script_reader.specs.declared.limits.Limits.{Limits}
+use Rattle.scrib_script_reader.specs.Limits.{IsPast}
 use Rattle.scrib_script_reader.proofs.PositionLemmas.{are_spelled}
 use Rattle.scrib_script_reader.proofs.ScriptLemmas.{read_none, read_more, read_all, read_first, read_past}
 use Rattle.scrib_cli.specs.declared.run.ScriptRun.{ScriptRun}
@@ -129,9 +130,9 @@ written_further t items i w v replies rs x out answered on is d = record {
 }
 
 -- the progress of a run, one item further
-progressed_item : (t : OutputMode) (old new : ScriptRun) (seen more : List ℕ) (i : Item) (w0 w w' : Option (List ℕ)) → (c : HasProgressed t old seen w0 w) → new.output_mode ≡ old.output_mode
-    → HasConsumed of_scripts new.script (seen ++ more) (c.items ++ i ∷ []) → IsCarriedOut t i (state_of old.core) (state_of new.core) w w' → HasProgressed t new (seen ++ more) w0 w'
-progressed_item t old new seen more i w0 w w' c output_mode read it =
+progressed_item : (m : Limits) (t : OutputMode) (old new : ScriptRun) (seen more : List ℕ) (i : Item) (w0 w w' : Option (List ℕ)) → (c : HasProgressed m t old seen w0 w) → new.output_mode ≡ old.output_mode
+    → HasConsumed m new.script (seen ++ more) (c.items ++ i ∷ []) → IsCarriedOut t i (state_of old.core) (state_of new.core) w w' → HasProgressed m t new (seen ++ more) w0 w'
+progressed_item m t old new seen more i w0 w w' c output_mode read it =
     let x = items_shown t c.items c.replies in
     let further = written_further t c.items i (state_of old.core) (state_of new.core) c.replies it.0 x it.1 c.answered c.goes_on refl it.2 in
     record {
@@ -176,10 +177,10 @@ short_first (Printed o) input part items rest v out end h e spelled =
 short_first Silent input part items rest v out end h e spelled = none_before part end (sym e ∙ h.is)
 
 -- a run that progressed so far failed, and a prefix of its output is written
-pub failed_within : (t : OutputMode) (run : ScriptRun) (seen : List ℕ) (w0 w w' : Option (List ℕ)) → (c : HasProgressed t run seen w0 w) → AppendsPart w0 w' (items_shown t c.items c.replies)
+pub failed_within : (m : Limits) (t : OutputMode) (run : ScriptRun) (seen : List ℕ) (w0 w w' : Option (List ℕ)) → (c : HasProgressed m t run seen w0 w) → AppendsPart w0 w' (items_shown t c.items c.replies)
     → (more : List ℕ) → RunFailsOn t (seen ++ more) w0 w'
-failed_within t run seen w0 w w' c part more =
-    let p = read_first of_scripts run.script seen c.items c.read more in
+failed_within m t run seen w0 w w' c part more =
+    let p = read_first m run.script seen c.items c.read more in
     let out = items_shown t c.items c.replies in (
       part.0,
       short_first t (seen ++ more) part.0 c.items p.0 (state_of run.core) out part.1 (record { replies = c.replies; answered = c.answered; goes_on = c.goes_on; is = refl }) part.2 p.1,
@@ -187,10 +188,10 @@ failed_within t run seen w0 w w' c part more =
     )
 
 -- a run that progressed so far failed, and wrote nothing more
-pub failed_after : (t : OutputMode) (run : ScriptRun) (seen : List ℕ) (w0 w : Option (List ℕ)) → HasProgressed t run seen w0 w → (more : List ℕ) → RunFailsOn t (seen ++ more) w0 w
-failed_after t run seen w0 w c more =
+pub failed_after : (m : Limits) (t : OutputMode) (run : ScriptRun) (seen : List ℕ) (w0 w : Option (List ℕ)) → HasProgressed m t run seen w0 w → (more : List ℕ) → RunFailsOn t (seen ++ more) w0 w
+failed_after m t run seen w0 w c more =
     let out = items_shown t c.items c.replies in
-    failed_within t run seen w0 w w c (out, [], sym (append-nil out), c.appends) more
+    failed_within m t run seen w0 w w c (out, [], sym (append-nil out), c.appends) more
 
 -- a prefix of an item's output is written
 abbrev pub IsPartCarriedOut : OutputMode → Item → State → Option (List ℕ) → Option (List ℕ) → Type 0
@@ -198,9 +199,9 @@ IsPartCarriedOut t i w was now =
     (replies : List Reply) × (v : State) × (out : List ℕ) × ItemDoes t i w replies v out × AppendsPart was now out
 
 -- the run failed at an item
-failed_item : (t : OutputMode) (old : ScriptRun) (seen more : List ℕ) (i : Item) (rest : List Item) (w0 w w' : Option (List ℕ)) → (c : HasProgressed t old seen w0 w)
+failed_item : (m : Limits) (t : OutputMode) (old : ScriptRun) (seen more : List ℕ) (i : Item) (rest : List Item) (w0 w w' : Option (List ℕ)) → (c : HasProgressed m t old seen w0 w)
     → Spells 1 None (lines (seen ++ more)) ((c.items ++ i ∷ []) ++ rest) → IsPartCarriedOut t i (state_of old.core) w w' → RunFailsOn t (seen ++ more) w0 w'
-failed_item t old seen more i rest w0 w w' c spelled q =
+failed_item m t old seen more i rest w0 w w' c spelled q =
     let x = items_shown t c.items c.replies in
     let part = q.4 in
     let further = written_further t c.items i (state_of old.core) q.1 c.replies q.0 x q.2 c.answered c.goes_on refl q.3 in (
@@ -210,13 +211,13 @@ failed_item t old seen more i rest w0 w w' c spelled q =
     )
 
 -- a run before its first byte
-pub is_new : (t : OutputMode) (run : ScriptRun) → run.output_mode ≡ t → Holds run.script None [] → run.script.lines ≡ 0 → run.script.bytes ≡ 0 → run.script.limits ≡ of_scripts → state_of run.core ≡ initial → IsNew t run
-is_new t run output_mode holds no_lines no_bytes limits no_state = record {
+pub is_new : (m : Limits) (t : OutputMode) (run : ScriptRun) → run.output_mode ≡ t → Holds run.script None [] → run.script.lines ≡ 0 → run.script.bytes ≡ 0 → run.script.limits ≡ m → state_of run.core ≡ initial → IsNew m t run
+is_new m t run output_mode holds no_lines no_bytes limits no_state = record {
   progress = λ w. record {
     output_mode = output_mode;
     items = [];
     replies = [];
-    read = read_none of_scripts run.script holds no_lines no_bytes limits;
+    read = read_none m run.script holds no_lines no_bytes limits;
     answered = no_state;
     goes_on = All-nil (GoesOn t);
     appends = subst (λ (u : List ℕ). Appends w w u) (shown_none t) (appends_none w);
@@ -233,14 +234,14 @@ pub took_none : (run : ScriptRun) (piece : List ℕ) (w : Option (List ℕ)) →
 took_none run piece w = record {
   done = [];
   is = refl;
-  went = record { goes = λ t seen w0 c. subst (λ (u : List ℕ). HasProgressed t run u w0 w) (sym (append-nil seen)) c };
+  went = record { goes = λ m t seen w0 c. subst (λ (u : List ℕ). HasProgressed m t run u w0 w) (sym (append-nil seen)) c };
 }
 
 -- nothing, or one item more
-progressed_listed : (t : OutputMode) (old new : ScriptRun) (seen front : List ℕ) (o : Option Item) (w0 w w' : Option (List ℕ)) → HasProgressed t old seen w0 w → new.output_mode ≡ old.output_mode
-    → TakesBytes old.script new.script front (item_list o) → WasCarriedOut t o (state_of old.core) (state_of new.core) w w' → HasProgressed t new (seen ++ front) w0 w'
-progressed_listed t old new seen front None w0 w w' c output_mode takes carried =
-    let read = subst (λ (items : List Item). HasConsumed of_scripts new.script (seen ++ front) items) (append-nil c.items) (read_more of_scripts old.script new.script seen front c.items [] c.read takes) in
+progressed_listed : (m : Limits) (t : OutputMode) (old new : ScriptRun) (seen front : List ℕ) (o : Option Item) (w0 w w' : Option (List ℕ)) → HasProgressed m t old seen w0 w → new.output_mode ≡ old.output_mode
+    → TakesBytes old.script new.script front (item_list o) → WasCarriedOut t o (state_of old.core) (state_of new.core) w w' → HasProgressed m t new (seen ++ front) w0 w'
+progressed_listed m t old new seen front None w0 w w' c output_mode takes carried =
+    let read = subst (λ (items : List Item). HasConsumed m new.script (seen ++ front) items) (append-nil c.items) (read_more m old.script new.script seen front c.items [] c.read takes) in
     record {
       output_mode = output_mode ∙ c.output_mode;
       items = c.items;
@@ -250,8 +251,8 @@ progressed_listed t old new seen front None w0 w w' c output_mode takes carried 
       goes_on = c.goes_on;
       appends = subst (λ (u : Option (List ℕ)). Appends w0 u (items_shown t c.items c.replies)) (sym carried.1) c.appends;
     }
-progressed_listed t old new seen front (Some i) w0 w w' c output_mode takes carried =
-    progressed_item t old new seen front i w0 w w' c output_mode (read_more of_scripts old.script new.script seen front c.items (i ∷ []) c.read takes) carried
+progressed_listed m t old new seen front (Some i) w0 w w' c output_mode takes carried =
+    progressed_item m t old new seen front i w0 w w' c output_mode (read_more m old.script new.script seen front c.items (i ∷ []) c.read takes) carried
 
 pub took_item : (old mid new : ScriptRun) (piece rest after : List ℕ) (o : Option Item) (w0 w1 w2 : Option (List ℕ)) → ConsumedFront old mid piece rest w0 w1 → new.output_mode ≡ mid.output_mode
     → TakesFront mid.script new.script rest after (item_list o) → WasCarriedOut mid.output_mode o (state_of mid.core) (state_of new.core) w1 w2 → ConsumedFront old new piece after w0 w2
@@ -261,10 +262,10 @@ took_item old mid new piece rest after o w0 w1 w2 k output_mode takes carried =
       done = k.done ++ front;
       is = k.is ∙ ap (λ (u : List ℕ). k.done ++ u) takes.1 ∙ sym (append_assoc k.done front after);
       went = record {
-        goes = λ t seen w c.
-            let d = k.went.goes t seen w c in
-            let here = subst (λ (m : OutputMode). WasCarriedOut m o (state_of mid.core) (state_of new.core) w1 w2) d.output_mode carried in
-            subst (λ (u : List ℕ). HasProgressed t new u w w2) (append_assoc seen k.done takes.0) (progressed_listed t mid new (seen ++ k.done) front o w w1 w2 d output_mode takes.2 here);
+        goes = λ m t seen w c.
+            let d = k.went.goes m t seen w c in
+            let here = subst (λ (u : OutputMode). WasCarriedOut u o (state_of mid.core) (state_of new.core) w1 w2) d.output_mode carried in
+            subst (λ (u : List ℕ). HasProgressed m t new u w w2) (append_assoc seen k.done takes.0) (progressed_listed m t mid new (seen ++ k.done) front o w w1 w2 d output_mode takes.2 here);
       };
     }
 
@@ -286,13 +287,13 @@ ahead seen done rest more piece e =
 -- the run stopped at the limits
 pub stopped_past : (old mid : ScriptRun) (piece rest : List ℕ) (w0 w : Option (List ℕ)) → ConsumedFront old mid piece rest w0 w → PassesLimits mid.script rest → PassesLimitIn old piece w0 w
 stopped_past old mid piece rest w0 w k passes = record {
-  so = λ t seen v c.
-      let d = k.went.goes t seen v c in
+  so = λ m t seen v c.
+      let d = k.went.goes m t seen v c in
       let so_far = seen ++ k.done in
       let before = passes.before in
-      let p = read_past of_scripts mid.script (seen ++ k.done) rest d.items d.read passes in
+      let p = read_past m mid.script (seen ++ k.done) rest d.items d.read passes in
       let here = append_assoc seen k.done before.0 in
-      let progress : HasProgressed t (record mid { script = passes.mid }) ((seen ++ k.done) ++ before.0) v w = record {
+      let progress : HasProgressed m t (record mid { script = passes.mid }) ((seen ++ k.done) ++ before.0) v w = record {
         output_mode = d.output_mode;
         items = d.items;
         replies = d.replies;
@@ -307,16 +308,16 @@ stopped_past old mid piece rest w0 w k passes = record {
         passes.rest,
         k.is ∙ ap (λ (u : List ℕ). k.done ++ u) before.1 ∙ sym (append_assoc k.done before.0 (passes.line ++ passes.rest)),
         passes.first,
-        subst (λ (u : List ℕ). HasProgressed t (record mid { script = passes.mid }) u v w) here progress,
-        subst (λ (u : List ℕ). IsPast of_scripts (u ++ passes.line)) here p.1,
+        subst (λ (u : List ℕ). HasProgressed m t (record mid { script = passes.mid }) u v w) here progress,
+        subst (λ (u : List ℕ). IsPast m (u ++ passes.line)) here p.1,
       );
 }
 
 -- the end of the script spells no item
 pub ended_none : (run : ScriptRun) (o : Option Item) (w : Option (List ℕ)) → o ≡ None → EndSpells run.script (item_list o) → EndSucceeds run (state_of run.core) w w
 ended_none run o w none ends = record {
-  so = λ t seen w0 c.
-      let all = read_all of_scripts run.script seen c.items [] c.read (subst (λ (x : Option Item). EndSpells run.script (item_list x)) none ends) in (
+  so = λ m t seen w0 c.
+      let all = read_all m run.script seen c.items [] c.read (subst (λ (x : Option Item). EndSpells run.script (item_list x)) none ends) in (
         items_shown t c.items c.replies,
         record {
           items = c.items;
@@ -334,15 +335,15 @@ ended_none run o w none ends = record {
 -- the end of the script spells an item, which was written
 pub ended_item : (run : ScriptRun) (i : Item) (v : State) (w w' : Option (List ℕ)) → EndSpells run.script (i ∷ []) → IsCarriedOut run.output_mode i (state_of run.core) v w w' → EndSucceeds run v w w'
 ended_item run i v w w' ends it = record {
-  so = λ t seen w0 c.
-      let here = subst (λ (m : OutputMode). IsCarriedOut m i (state_of run.core) v w w') c.output_mode it in
+  so = λ m t seen w0 c.
+      let here = subst (λ (u : OutputMode). IsCarriedOut u i (state_of run.core) v w w') c.output_mode it in
       let x = items_shown t c.items c.replies in
       let further = written_further t c.items i (state_of run.core) v c.replies here.0 x here.1 c.answered c.goes_on refl here.2 in (
         x ++ here.1,
         record {
           items = c.items ++ i ∷ [];
           replies = further.replies;
-          spelled = read_all of_scripts run.script seen c.items (i ∷ []) c.read ends;
+          spelled = read_all m run.script seen c.items (i ∷ []) c.read ends;
           answered = further.answered;
           goes_on = further.goes_on;
           is = further.is;
@@ -355,16 +356,16 @@ ended_item run i v w w' ends it = record {
 -- the end of the script spells an item, which failed
 pub failed_last : (run : ScriptRun) (i : Item) (w w' : Option (List ℕ)) → EndSpells run.script (i ∷ []) → IsPartCarriedOut run.output_mode i (state_of run.core) w w' → EndFails run w w'
 failed_last run i w w' ends part = record {
-  so = λ t seen w0 c.
-      let here = subst (λ (m : OutputMode). IsPartCarriedOut m i (state_of run.core) w w') c.output_mode part in
-      let all = read_all of_scripts run.script seen c.items (i ∷ []) c.read ends in
+  so = λ m t seen w0 c.
+      let here = subst (λ (u : OutputMode). IsPartCarriedOut u i (state_of run.core) w w') c.output_mode part in
+      let all = read_all m run.script seen c.items (i ∷ []) c.read ends in
       let at_end = subst (λ (u : List ℕ). Spells 1 None (lines u) (c.items ++ i ∷ [])) (sym (append-nil seen)) all in
       let spelled = subst (λ (items : List Item). Spells 1 None (lines (seen ++ [])) items) (sym (append-nil (c.items ++ i ∷ []))) at_end in
-      subst (λ (u : List ℕ). RunFailsOn t u w0 w') (append-nil seen) (failed_item t run seen [] i [] w0 w w' c spelled here);
+      subst (λ (u : List ℕ). RunFailsOn t u w0 w') (append-nil seen) (failed_item m t run seen [] i [] w0 w w' c spelled here);
 }
 
 pub failed_none : (run : ScriptRun) (w : Option (List ℕ)) → EndFails run w w
-failed_none run w = record { so = λ t seen w0 c. subst (λ (u : List ℕ). RunFailsOn t u w0 w) (append-nil seen) (failed_after t run seen w0 w c []) }
+failed_none run w = record { so = λ m t seen w0 c. subst (λ (u : List ℕ). RunFailsOn t u w0 w) (append-nil seen) (failed_after m t run seen w0 w c []) }
 
 -- nothing was read or written: the output of no item
 pub never_started : (t : OutputMode) (r0 w0 : Option (List ℕ)) → RunFails t r0 w0 w0

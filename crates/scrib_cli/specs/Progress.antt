@@ -14,7 +14,8 @@ use Rattle.scrib_script_reader.specs.declared.item.Item.TheVariants as item
 use Rattle.scrib_script_reader.specs.declared.short_line.ShortLine.{ShortLine}
 use Rattle.scrib_script_reader.specs.ShortLines.{short_items}
 use Rattle.scrib_script_reader.specs.Scripts.{Spells, lines, steps_of, item_list}
-use Rattle.scrib_script_reader.specs.Limits.{of_scripts, IsWithinLimits, IsPast}
+use Rattle.scrib_script_reader.specs.declared.limits.Limits.{Limits}
+use Rattle.scrib_script_reader.specs.Limits.{IsWithinLimits, IsPast}
 use Rattle.scrib_script_reader.specs.Positions.{HasConsumed, TakesFront}
 use Rattle.scrib_cli.specs.declared.run.ScriptRun.{ScriptRun}
 use Rattle.scrib_cli.specs.declared.output_mode.OutputMode.{OutputMode}
@@ -86,55 +87,61 @@ abbrev pub RunFailsOn : OutputMode → List ℕ → Option (List ℕ) → Option
 RunFailsOn t input was now = (part : List ℕ) × IsPartOutput t input part × Appends was now part
 
 -- a whole script, which is within the limits, was run to this state
-abbrev pub RunSucceeds : OutputMode → Option (List ℕ) → State → Option (List ℕ) → Option (List ℕ) → Type 0
-RunSucceeds t r after was now =
+abbrev pub RunSucceeds : Limits → OutputMode → Option (List ℕ) → State → Option (List ℕ) → Option (List ℕ) → Type 0
+RunSucceeds m t r after was now =
     IfSome r (λ input. (output : List ℕ)
-    × IsWholeOutput t input after output × Appends was now output × IsWithinLimits of_scripts input)
+    × IsWholeOutput t input after output × Appends was now output × IsWithinLimits m input)
 
 -- a run of the script, where it is known, failed
 abbrev pub RunFails : OutputMode → Option (List ℕ) → Option (List ℕ) → Option (List ℕ) → Type 0
 RunFails t r was now = IfSome r (λ input. RunFailsOn t input was now)
 
--- a run in this mode consumed these bytes of its script, and wrote the output of their items
-pub record HasProgressed (t : OutputMode) (run : ScriptRun) (seen : List ℕ) (was now : Option (List ℕ)) : Type 0 where
+-- a run with these limits and this mode consumed these bytes of its script, and wrote the output of their items
+pub record HasProgressed (m : Limits) (t : OutputMode) (run : ScriptRun) (seen : List ℕ) (was now : Option (List ℕ))
+    : Type 0 where
   pub output_mode : run.output_mode ≡ t
   pub items : List Item
   pub replies : List Reply
-  pub read : HasConsumed of_scripts run.script seen items
+  pub read : HasConsumed m run.script seen items
   pub answered : Answers initial (steps_of items) replies (state_of run.core)
   pub goes_on : All (GoesOn t) replies
   pub appends : Appends was now (items_shown t items replies)
 
 -- a run before its first byte
-pub record IsNew (t : OutputMode) (run : ScriptRun) : Type 0 where
-  pub progress : (w : Option (List ℕ)) → HasProgressed t run [] w w
+pub record IsNew (m : Limits) (t : OutputMode) (run : ScriptRun) : Type 0 where
+  pub progress : (w : Option (List ℕ)) → HasProgressed m t run [] w w
 
 -- the run consumed the bytes, and wrote the output of their items
 pub record RunAdvances (old new : ScriptRun) (bytes : List ℕ) (was now : Option (List ℕ)) : Type 0 where
-  pub goes : (t : OutputMode) (seen : List ℕ) (w : Option (List ℕ)) → HasProgressed t old seen w was
-      → HasProgressed t new (seen ++ bytes) w now
+  pub goes : (m : Limits) (t : OutputMode) (seen : List ℕ) (w : Option (List ℕ))
+      → HasProgressed m t old seen w was
+      → HasProgressed m t new (seen ++ bytes) w now
 
 -- the run failed within these bytes
 pub record PieceFails (old : ScriptRun) (bytes : List ℕ) (was now : Option (List ℕ)) : Type 0 where
-  pub so : (t : OutputMode) (seen : List ℕ) (w : Option (List ℕ)) → HasProgressed t old seen w was
+  pub so : (m : Limits) (t : OutputMode) (seen : List ℕ) (w : Option (List ℕ))
+      → HasProgressed m t old seen w was
       → (more : List ℕ) → RunFailsOn t (seen ++ (bytes ++ more)) w now
 
 -- The run stopped at the first line with which the script is past the limits. Exactly the output of the items before
 -- that line was written.
 pub record PassesLimitIn (old : ScriptRun) (bytes : List ℕ) (was now : Option (List ℕ)) : Type 0 where
-  pub so : (t : OutputMode) (seen : List ℕ) (w : Option (List ℕ)) → HasProgressed t old seen w was
+  pub so : (m : Limits) (t : OutputMode) (seen : List ℕ) (w : Option (List ℕ))
+      → HasProgressed m t old seen w was
       → (mid : ScriptRun) × (front : List ℕ) × (line : List ℕ) × (rest : List ℕ)
       × (bytes ≡ front ++ (line ++ rest)) × (lines (line ++ rest) ≡ line ∷ lines rest)
-      × HasProgressed t mid (seen ++ front) w now × IsPast of_scripts (seen ++ front ++ line)
+      × HasProgressed m t mid (seen ++ front) w now × IsPast m (seen ++ front ++ line)
 
 -- the run wrote all of its output, the script is within the limits, and this is the state after it
 pub record EndSucceeds (old : ScriptRun) (after : State) (was now : Option (List ℕ)) : Type 0 where
-  pub so : (t : OutputMode) (seen : List ℕ) (w : Option (List ℕ)) → HasProgressed t old seen w was
-      → (output : List ℕ) × IsWholeOutput t seen after output × Appends w now output × IsWithinLimits of_scripts seen
+  pub so : (m : Limits) (t : OutputMode) (seen : List ℕ) (w : Option (List ℕ))
+      → HasProgressed m t old seen w was
+      → (output : List ℕ) × IsWholeOutput t seen after output × Appends w now output × IsWithinLimits m seen
 
 -- the run failed at its end
 pub record EndFails (old : ScriptRun) (was now : Option (List ℕ)) : Type 0 where
-  pub so : (t : OutputMode) (seen : List ℕ) (w : Option (List ℕ)) → HasProgressed t old seen w was
+  pub so : (m : Limits) (t : OutputMode) (seen : List ℕ) (w : Option (List ℕ))
+      → HasProgressed m t old seen w was
       → RunFailsOn t seen w now
 
 -- what an item does: the state after it, the reply to its step, if it is one, and what is written for it

@@ -5,6 +5,7 @@ pub mod explain;
 pub mod fault;
 pub mod folder;
 pub mod observed;
+pub mod opened;
 mod reading;
 pub mod role_query;
 pub mod script_input;

@@ -17,6 +17,7 @@ use crate::output_mode::OutputMode;
 use crate::run_script::run_whole;
 pub use scrib_script_io::fault::ScriptFault;
 use scrib_script_io::writing::{flush_out, write_out};
+use scrib_script_reader::limits::Limits;
 use std::alloc::Global;
 use std::io::{Read, Write};
 
@@ -63,13 +64,19 @@ fn run_silently<R: Read, W: Write>(
     writer: &mut W,
 ) -> Result<(Explained, Vec<u8>), ScriptFault>
     ensures ok { IfOk result (λ r. (s : State)
-        × RunSucceeds Silent (R.remaining reader.old) s (W.contents writer.old) (W.contents writer.new)
+        × RunSucceeds of_scripts Silent (R.remaining reader.old) s (W.contents writer.old) (W.contents writer.new)
         × Explanation s.world id r.0 r.1.items) }
     ensures err { OnErr result (IfSome (R.remaining reader.old)
         (λ input. Appends (W.contents writer.old) (W.contents writer.new) [])) }
     ensures fault { IfErr result (λ e. of_script e ≡ true) }
 {
-    let core = run_whole(alloc, OutputMode::Silent, reader, writer)?;
+    let core = run_whole(
+        alloc,
+        Limits::of_scripts(),
+        OutputMode::Silent,
+        reader,
+        writer,
+    )?;
     let printed = explanation(alloc, &core, id)?;
     Ok(printed)
 }

@@ -5,6 +5,7 @@ use crate::item_output::{gather_item, gather_short};
 use crate::output_mode::OutputMode;
 use scrib_core::monitor::Core;
 use scrib_script_io::fault::ScriptFault;
+use scrib_script_reader::limits::Limits;
 use scrib_script_reader::script::Script;
 use std::alloc::Global;
 use std::io::Write;
@@ -20,7 +21,7 @@ pub struct ScriptRun {
 }
 
 impl ScriptRun {
-    ghost use Rattle.std.specs.Prelude.{◌≡◌, ◌<◌, true, length, IfOk, IfErr, OnOk, OnErr};
+    ghost use Rattle.std.specs.Prelude.{◌≡◌, ◌<◌, ◌+◌, ◌^◌, true, length, IfOk, IfErr, OnOk, OnErr};
     ghost use Rattle.scrib_core.specs.Held.{state_of};
     ghost use Rattle.scrib_script_reader.specs.Positions.{PassesLimits};
     ghost use Rattle.scrib_script_io.specs.Faults.{of_output, of_script};
@@ -29,12 +30,13 @@ impl ScriptRun {
     ghost use Rattle.scrib_cli.specs.Progress.{EndSucceeds, EndFails};
     ghost use Rattle.scrib_script_io.specs.declared.fault.ScriptFault.TheVariants as fault;
 
-    /// Returns a run before the first byte of its script.
-    pub fn new(alloc: Global, output_mode: OutputMode) -> ScriptRun
-        ensures { IsNew output_mode result }
+    /// Returns a run before the first byte of its script, which has these limits.
+    pub fn new(alloc: Global, limits: Limits, output_mode: OutputMode) -> ScriptRun
+        requires { limits.lines + 1 < 2 ^ 64 }
+        ensures { IsNew limits output_mode result }
     {
         ScriptRun {
-            script: Script::new(alloc),
+            script: Script::with_limits(alloc, limits),
             core: Core::new(alloc),
             output_mode,
             gathered: Gathered::new(alloc),

@@ -1,6 +1,6 @@
 //! Runs a whole script from a reader.
 
-ghost use Rattle.std.specs.Prelude.{◌≡◌, ◌<◌, ℕ, List, true, IfOk, IfErr, OnOk, OnErr, IfSome, length};
+ghost use Rattle.std.specs.Prelude.{◌≡◌, ◌<◌, ◌+◌, ◌^◌, ℕ, List, true, IfOk, IfErr, OnOk, OnErr, IfSome, length};
 ghost use Rattle.std.specs.Io.KnownBytes.{Appends};
 ghost use Rattle.scrib_core.specs.Held.{state_of};
 ghost use Rattle.scrib_script_io.specs.Writes.{AppendsPart};
@@ -16,6 +16,7 @@ use scrib_core::monitor::Core;
 pub use scrib_script_io::fault::ScriptFault;
 use scrib_script_io::reading::read_piece;
 use scrib_script_io::writing::flush_out;
+pub use scrib_script_reader::limits::Limits;
 use std::alloc::Global;
 use std::io::{Read, Write};
 use std::mem::forget;
@@ -53,27 +54,53 @@ pub fn run_script<R: Read, W: Write>(
     ensures fault { IfErr result (λ e. of_script e ≡ true) }
     ensures within { OnOk result (IfSome (R.remaining reader.old) (λ input. IsWithinLimits of_scripts input)) }
 {
-    let core = run_whole(alloc, OutputMode::Printed(format), reader, writer)?;
+    run_script_within(alloc, format, Limits::of_scripts(), reader, writer)
+}
+
+/// Runs a script as [`run_script`] does, within these limits instead of its own.
+///
+/// # Errors
+/// As those of [`run_script`], where `Read` comes in the line of the first byte past these limits.
+pub fn run_script_within<R: Read, W: Write>(
+    alloc: Global,
+    format: Format,
+    limits: Limits,
+    reader: &mut R,
+    writer: &mut W,
+) -> Result<(), ScriptFault>
+    requires { limits.lines + 1 < 2 ^ 64 }
+    ensures ok { OnOk result (IfSome (R.remaining reader.old) (λ input. (output : List ℕ)
+        × IsOutput format input output
+        × Appends (W.contents writer.old) (W.contents writer.new) output)) }
+    ensures err { OnErr result (IfSome (R.remaining reader.old) (λ input. (output : List ℕ)
+        × IsOutput format input output
+        × AppendsPart (W.contents writer.old) (W.contents writer.new) output)) }
+    ensures fault { IfErr result (λ e. of_script e ≡ true) }
+    ensures within { OnOk result (IfSome (R.remaining reader.old) (λ input. IsWithinLimits limits input)) }
+{
+    let core = run_whole(alloc, limits, OutputMode::Printed(format), reader, writer)?;
     // Freeing long logs, event by event, takes up to a tenth of a run, and the process ends here.
     forget(core);
     flush_out(writer)
 }
 
-// Reads a script and makes its steps over a new monitor, which it returns.
+// Reads a script of these limits and makes its steps over a new monitor, which it returns.
 pub(crate) fn run_whole<R: Read, W: Write>(
     alloc: Global,
+    limits: Limits,
     output_mode: OutputMode,
     reader: &mut R,
     writer: &mut W,
 ) -> Result<Core, ScriptFault>
-    ensures ok { IfOk result (λ core. RunSucceeds output_mode (R.remaining reader.old)
+    requires { limits.lines + 1 < 2 ^ 64 }
+    ensures ok { IfOk result (λ core. RunSucceeds limits output_mode (R.remaining reader.old)
         (state_of core) (W.contents writer.old) (W.contents writer.new)) }
     ensures err { OnErr result
         (RunFails output_mode (R.remaining reader.old) (W.contents writer.old) (W.contents writer.new)) }
     ensures fault { IfErr result (λ e. of_script e ≡ true) }
 {
     let mut piece = vec![in alloc; 0u8; SCRIPT_PIECE_BYTES]?;
-    let mut run = ScriptRun::new(alloc, output_mode);
+    let mut run = ScriptRun::new(alloc, limits, output_mode);
     run_by_pieces(&mut run, reader, writer, piece.as_mut_slice())?;
     Ok(run.into_core())
 }
@@ -86,9 +113,9 @@ fn run_by_pieces<R: Read, W: Write>(
     writer: &mut W,
     piece: &mut [u8],
 ) -> Result<(), ScriptFault>
-    requires new { IsNew run.old.output_mode run.old }
+    requires new { IsNew run.old.script.limits run.old.output_mode run.old }
     requires some { 0 < length piece.old }
-    ensures ok { OnOk result (RunSucceeds run.old.output_mode (R.remaining reader.old)
+    ensures ok { OnOk result (RunSucceeds run.old.script.limits run.old.output_mode (R.remaining reader.old)
         (state_of run.new.core) (W.contents writer.old) (W.contents writer.new)) }
     ensures err { OnErr result
         (RunFails run.old.output_mode (R.remaining reader.old) (W.contents writer.old) (W.contents writer.new)) }

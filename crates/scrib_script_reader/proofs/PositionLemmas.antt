@@ -11,24 +11,24 @@ use Rattle.scrib_script_reader.specs.declared.item.Item.{Item}
 use Rattle.scrib_script_reader.specs.declared.item.Item.TheVariants as item
 use Rattle.scrib_script_reader.specs.Scripts as script
 use Rattle.scrib_script_reader.specs.Scripts.{NoLf, Text, with_line, Spells, lines, bare, text_end}
-use Rattle.scrib_script_reader.specs.Entries.{SpellsEntries, ends, skips, makes, is_bad, begins, goes_on, puts, stops, items_in}
+use Rattle.scrib_script_reader.specs.Entries.{SpellsEntries, ends, skips, makes, is_bad, begins, goes_on, puts, stops, entry_items}
 use Rattle.scrib_script_reader.specs.Positions.{Position, SpellsFrom, LeadsFrom, begun_text, entries_of}
 use Rattle.scrib_script_reader.proofs.Decisions.{same_bytes, line_decided}
 use Rattle.scrib_script_reader.proofs.Bytes.{lines_lf, lines_last}
 
 -- lines that give these entries spell their items
-pub spells_items : {n : ℕ} {text : Option Text} {ls : List (List ℕ)} {entries : List Entry} → SpellsEntries n text ls entries → Spells n text ls (items_in entries)
+pub spells_items : {n : ℕ} {text : Option Text} {ls : List (List ℕ)} {entries : List Entry} → SpellsEntries n text ls entries → Spells n text ls (entry_items entries)
 spells_items (ends n) = script.ends n
-spells_items (skips n l ls es says more) = script.skips n l ls (items_in es) says (spells_items more)
-spells_items (makes n l ls es f s says more) = script.makes n l ls (items_in es) f s says (spells_items more)
-spells_items (is_bad n l ls es says more) = script.is_bad n l ls (items_in es) says (spells_items more)
-spells_items (begins n l ls es f says more) = script.begins n l ls (items_in es) f says (spells_items more)
-spells_items (goes_on n t l ls es ne more) = script.goes_on n t l ls (items_in es) ne (spells_items more)
-spells_items (puts n t l ls es e more) = script.puts n t l ls (items_in es) e (spells_items more)
+spells_items (skips n l ls es says more) = script.skips n l ls (entry_items es) says (spells_items more)
+spells_items (makes n l ls es f s says more) = script.makes n l ls (entry_items es) f s says (spells_items more)
+spells_items (is_bad n l ls es says more) = script.is_bad n l ls (entry_items es) says (spells_items more)
+spells_items (begins n l ls es f says more) = script.begins n l ls (entry_items es) f says (spells_items more)
+spells_items (goes_on n t l ls es ne more) = script.goes_on n t l ls (entry_items es) ne (spells_items more)
+spells_items (puts n t l ls es e more) = script.puts n t l ls (entry_items es) e (spells_items more)
 spells_items (stops n t) = script.stops n t
 
 -- the items of entries, and of more
-pub items_more : (a b : List Entry) → items_in (a ++ b) ≡ items_in a ++ items_in b
+pub items_more : (a b : List Entry) → entry_items (a ++ b) ≡ entry_items a ++ entry_items b
 items_more [] b = refl
 items_more (entry.Skipped ∷ a) b = items_more a b
 items_more (entry.Item i ∷ a) b = ap (λ (is : List Item). i ∷ is) (items_more a b)
@@ -73,7 +73,7 @@ AreSpelled ls = (n : ℕ) (text : Option Text) → (items : List Item) × Spells
 
 -- all lines spell some items
 pub are_spelled : (ls : List (List ℕ)) → AreSpelled ls
-are_spelled ls = λ n text. let p = give_entries ls n text in (items_in p.0, spells_items p.1)
+are_spelled ls = λ n text. let p = give_entries ls n text in (entry_items p.0, spells_items p.1)
 
 -- No bytes lead from a position to itself.
 pub leads_none : (p : Position) → LeadsFrom p [] [] p

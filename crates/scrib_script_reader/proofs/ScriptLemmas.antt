@@ -17,7 +17,7 @@ use Rattle.scrib_script_reader.specs.declared.kept_bytes.KeptText.{KeptText}
 use Rattle.scrib_script_reader.specs.declared.reader.Reader.{Reader}
 use Rattle.scrib_script_reader.specs.declared.script.Script.{Script}
 use Rattle.scrib_script_reader.specs.Scripts.{NoLf, item_list, Text, empty_text, with_line, Spells, lines, bare, text_end}
-use Rattle.scrib_script_reader.specs.Entries.{SpellsEntries, ends, goes_on, puts, stops, entry_list, items_in}
+use Rattle.scrib_script_reader.specs.Entries.{SpellsEntries, ends, goes_on, puts, stops, entry_list, entry_items}
 use Rattle.scrib_script_reader.specs.Positions.{Position, SpellsFrom, LeadsFrom, capacity, cut, as_text, text_of, Holds, position, start, CountsBytes, TakesEntries, TakesBytes, TakesFront, TakesFrontEntries, IsPastWith, PassesLimits, EndGives, EndSpells, HasRead, HasConsumed, LineEnded, begun_text, entries_of, last_entries, TextGives}
 use Rattle.scrib_script_reader.proofs.Bytes.{bare_last, length-bare, all_or_most, take_kept, take_kept_line, take_of_none, end_of_kept, end_is_kept, last_of_kept, last_is_kept}
 use Rattle.scrib_script_reader.specs.declared.limits.Limits.{Limits}
@@ -103,14 +103,14 @@ takes_then a b c x y i j f g = record {
 }
 
 -- the items of the entries are spelled
-pub takes_items : (a b : Script) (bytes : List ℕ) (entries : List Entry) → TakesEntries a b bytes entries → TakesBytes a b bytes (items_in entries)
+pub takes_items : (a b : Script) (bytes : List ℕ) (entries : List Entry) → TakesEntries a b bytes entries → TakesBytes a b bytes (entry_items entries)
 takes_items a b bytes entries f = record { entries = entries; spelled = refl; takes = f }
 
-pub front_items : (a b : Script) (piece rest : List ℕ) (entries : List Entry) → TakesFrontEntries a b piece rest entries → TakesFront a b piece rest (items_in entries)
+pub front_items : (a b : Script) (piece rest : List ℕ) (entries : List Entry) → TakesFrontEntries a b piece rest entries → TakesFront a b piece rest (entry_items entries)
 front_items a b piece rest entries f = (f.0, f.1, takes_items a b f.0 entries f.2)
 
 -- the items of the entry of a line
-pub line_items : (a b : Script) (bytes : List ℕ) (o : Option Entry) (i : Option Item) → item_list i ≡ items_in (entry_list o) → TakesEntries a b bytes (entry_list o) → TakesBytes a b bytes (item_list i)
+pub line_items : (a b : Script) (bytes : List ℕ) (o : Option Entry) (i : Option Item) → item_list i ≡ entry_items (entry_list o) → TakesEntries a b bytes (entry_list o) → TakesBytes a b bytes (item_list i)
 line_items a b bytes o i same takes = record { entries = entry_list o; spelled = same; takes = takes }
 
 -- bytes of a line are consumed
@@ -309,7 +309,7 @@ front_then old mid new piece rest after items t f = (
 )
 
 -- the next line of a piece, of which the lines before spell no item
-pub front_item : (old mid new : Script) (piece rest after : List ℕ) (o : Option Entry) (i : Option Item) → item_list i ≡ items_in (entry_list o)
+pub front_item : (old mid new : Script) (piece rest after : List ℕ) (o : Option Entry) (i : Option Item) → item_list i ≡ entry_items (entry_list o)
     → TakesFront old mid piece rest [] → TakesFrontEntries mid new rest after (entry_list o) → TakesFront old new piece after (item_list i)
 front_item old mid new piece rest after o i same t f =
     front_then old mid new piece rest after (item_list i) t (f.0, f.1, line_items mid new f.0 o i same f.2)
@@ -488,7 +488,7 @@ read_first m s seen items r more =
     let h = r.read in
     let p = give_entries (lines (h.line ++ more)) (s.lines + 1) h.text in
     let all = spells_items (h.leads more p.0 p.1) in
-    (items_in p.0, subst (λ (is : List Item). Spells 1 None (lines (seen ++ more)) is) (items_more r.entries p.0 ∙ (λ k. sym r.spelled k ++ items_in p.0)) all)
+    (entry_items p.0, subst (λ (is : List Item). Spells 1 None (lines (seen ++ more)) is) (items_more r.entries p.0 ∙ (λ k. sym r.spelled k ++ entry_items p.0)) all)
 
 -- Where the limits are passed, the bytes before the line are consumed, and with the line the script is past them.
 pub read_past : (m : Limits) (s : Script) (seen piece : List ℕ) (items : List Item) → HasConsumed m s seen items → (p : PassesLimits s piece)
@@ -530,7 +530,7 @@ last_line old word entries l outside some l_is meaning entries_are =
     subst (λ (x : List Entry). EndGives old x) (sym entries_are) (ends_outer old word outside some (subst (λ (t : List ℕ). Says t word) l_is meaning))
 
 -- The items of the last entry.
-pub last_items : (s : Script) (o : Option Entry) (i : Option Item) → item_list i ≡ items_in (entry_list o) → EndGives s (entry_list o) → EndSpells s (item_list i)
+pub last_items : (s : Script) (o : Option Entry) (i : Option Item) → item_list i ≡ entry_items (entry_list o) → EndGives s (entry_list o) → EndSpells s (item_list i)
 last_items s o i same gives = record { entries = entry_list o; spelled = same; gives = gives }
 
 pub listed_none : (o : Option Item) → false ≡ is_some o → item_list o ≡ []

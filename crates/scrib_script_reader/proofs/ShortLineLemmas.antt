@@ -12,7 +12,7 @@ use Rattle.scrib_script_reader.specs.declared.short_line.ShortLine.{ShortLine}
 use Rattle.scrib_script_reader.specs.declared.short_line.ShortLine.TheVariants as short
 use Rattle.scrib_script_reader.specs.Scripts.{NoLf, bare}
 use Rattle.scrib_script_reader.specs.Positions.{text_of, CountsBytes, TakesEntries, TakesFront, TakesFrontEntries}
-use Rattle.scrib_script_reader.specs.Entries.{items_in}
+use Rattle.scrib_script_reader.specs.Entries.{entry_items}
 use Rattle.scrib_script_reader.specs.ShortLines.{short_entry, short_items}
 use Rattle.scrib_script_reader.specs.PlainLines.{IsShort}
 use Rattle.scrib_script_reader.proofs.ScriptLemmas.{passed, front_items}
@@ -36,7 +36,7 @@ passed_short old new k short.Skipped l counts outside empty no_lf l_is says text
     passed old new k line.Skipped (entry.Skipped ∷ []) l counts outside empty no_lf l_is says text_is refl line_is lines_is
 
 -- the items of its entry
-pub short_spelled : (s : ShortLine) → short_items s ≡ items_in (short_entry s ∷ [])
+pub short_spelled : (s : ShortLine) → short_items s ≡ entry_items (short_entry s ∷ [])
 short_spelled (short.Note id e) = refl
 short_spelled (short.Ask id) = refl
 short_spelled (short.Open id name) = refl

@@ -17,10 +17,10 @@ entry_list None = []
 entry_list (Some e) = e ∷ []
 
 -- the items among the entries
-abbrev pub items_in : List Entry → List Item
-items_in [] = []
-items_in (entry.Skipped ∷ entries) = items_in entries
-items_in (entry.Item i ∷ entries) = i ∷ items_in entries
+abbrev pub entry_items : List Entry → List Item
+entry_items [] = []
+entry_items (entry.Skipped ∷ entries) = entry_items entries
+entry_items (entry.Item i ∷ entries) = i ∷ entry_items entries
 
 -- The lines give these entries: one for each line outside module texts, and one for each put. The first is line n of
 -- its script, outside module texts or after this much of one.

@@ -7,6 +7,10 @@ use Rattle.scrib_script_reader.specs.Scripts.{lines}
 abbrev pub of_scripts : Limits
 of_scripts = record { lines = 16777216; bytes = 1099511627776 }
 
+-- the limits of a script without an end: 2^64 - 2 lines and 2^64 - 1 bytes, so that each line has a number
+abbrev pub endless : Limits
+endless = record { lines = 18446744073709551614; bytes = 18446744073709551615 }
+
 -- a script of these bytes is within the limits
 abbrev pub IsWithinLimits : Limits → List ℕ → Type 0
 IsWithinLimits m script = (length (lines script) ≤ m.lines) × (length script ≤ m.bytes)

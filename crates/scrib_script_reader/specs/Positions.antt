@@ -11,7 +11,7 @@ use Rattle.scrib_script_reader.specs.declared.limits.Limits.{Limits}
 use Rattle.scrib_script_reader.specs.declared.entry.Entry.{Entry}
 use Rattle.scrib_script_reader.specs.declared.entry.Entry.TheVariants as entry
 use Rattle.scrib_script_reader.specs.Scripts.{NoLf, Text, empty_text, with_line, lines, bare, text_end}
-use Rattle.scrib_script_reader.specs.Entries.{SpellsEntries, items_in}
+use Rattle.scrib_script_reader.specs.Entries.{SpellsEntries, entry_items}
 use Rattle.scrib_script_reader.specs.Limits.{IsWithinLimits, line_feeds}
 
 -- A position in a script: the number of the current line, the module text so far, if inside one, and the current line
@@ -79,7 +79,7 @@ pub record TakesEntries (old new : Script) (bytes : List ℕ) (entries : List En
 -- the bytes were consumed, and spell these items
 pub record TakesBytes (old new : Script) (bytes : List ℕ) (items : List Item) : Type 0 where
   pub entries : List Entry
-  pub spelled : items ≡ items_in entries
+  pub spelled : items ≡ entry_items entries
   pub takes : TakesEntries old new bytes entries
 
 -- all of the piece but the rest was consumed, and gives these entries
@@ -115,7 +115,7 @@ pub record EndGives (s : Script) (entries : List Entry) : Type 0 where
 -- where the whole script was consumed, its end spells these items
 pub record EndSpells (s : Script) (items : List Item) : Type 0 where
   pub entries : List Entry
-  pub spelled : items ≡ items_in entries
+  pub spelled : items ≡ entry_items entries
   pub gives : EndGives s entries
 
 -- the bytes seen so far were consumed, give these entries and are within the limits
@@ -132,7 +132,7 @@ pub record HasRead (m : Limits) (s : Script) (seen : List ℕ) (entries : List E
 -- the bytes seen so far were consumed, spell these items and are within the limits
 pub record HasConsumed (m : Limits) (s : Script) (seen : List ℕ) (items : List Item) : Type 0 where
   pub entries : List Entry
-  pub spelled : items ≡ items_in entries
+  pub spelled : items ≡ entry_items entries
   pub read : HasRead m s seen entries
 
 -- the line that an LF ended gives these entries, and this is kept of the module text after it

@@ -13,12 +13,12 @@ pub enum Entry {
 
 impl Entry {
     ghost use Rattle.std.specs.Prelude.{◌≡◌};
-    ghost use Rattle.scrib_script_reader.specs.Entries.{items_in, entry_list};
+    ghost use Rattle.scrib_script_reader.specs.Entries.{entry_items, entry_list};
     ghost use Rattle.scrib_script_reader.specs.Scripts.{item_list};
 
     // The item of the entry, if it has one.
     pub(crate) fn into_item(entry: Option<Entry>) -> Option<Item>
-        ensures { item_list result ≡ items_in (entry_list entry) }
+        ensures { item_list result ≡ entry_items (entry_list entry) }
     {
         match entry {
             Some(Entry::Item(item)) => Some(item),

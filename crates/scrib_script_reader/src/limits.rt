@@ -17,7 +17,7 @@ pub struct Limits {
 
 impl Limits {
     ghost use Rattle.std.specs.Prelude.{◌≡◌};
-    ghost use Rattle.scrib_script_reader.specs.Limits.{of_scripts};
+    ghost use Rattle.scrib_script_reader.specs.Limits.{endless, of_scripts};
 
     /// Returns the limits of the scripts that the program reads.
     pub fn of_scripts() -> Limits
@@ -26,6 +26,16 @@ impl Limits {
         Limits {
             lines: MAX_SCRIPT_LINES,
             bytes: MAX_SCRIPT_BYTES,
+        }
+    }
+
+    /// Returns the limits of a script without an end: as many lines and bytes as can be counted.
+    pub fn endless() -> Limits
+        ensures { result ≡ endless }
+    {
+        Limits {
+            lines: u64::MAX - 1,
+            bytes: u64::MAX,
         }
     }
 }

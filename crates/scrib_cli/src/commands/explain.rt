@@ -9,7 +9,7 @@ ghost use Rattle.scrib_script_reader.specs.Limits.{of_scripts, IsWithinLimits};
 
 use crate::commands::fault::CommandFault;
 use crate::commands::folder::Folder;
-use crate::commands::observed::Observed;
+use crate::commands::opened::Opened;
 use crate::commands::script_input::ScriptInput;
 use crate::commands::source::Source;
 use crate::explain_script::{Explained, explain_script};
@@ -50,32 +50,35 @@ pub fn explain<'a, F: Folder, R: Read + Drop, W: Write>(
         reader,
     } = input;
     match path {
-        None => explain_source(alloc, id, Source::StandardInput, reader, writer),
+        None => {
+            let script = Opened::new(Source::StandardInput, reader);
+            explain_source(alloc, id, script, writer)
+        }
         Some(path) => {
             let file = folder.open(path)?;
-            explain_source(alloc, id, Source::named(path), file, writer)
+            let script = Opened::new(Source::named(path), file);
+            explain_source(alloc, id, script, writer)
         }
     }
 }
 
-// The same with this source, which this reader reads.
+// The same with the script of this source.
 fn explain_source<'a, R: Read + Drop, W: Write>(
     alloc: Global,
     id: u32,
-    source: Source<'a>,
-    reader: R,
+    mut script: Opened<'a, R>,
     writer: &mut W,
 ) -> Result<bool, CommandFault<'a>>
-    ensures ok { IfOk result (λ flights.
-        IsScriptExplained id (R.remaining reader) flights (W.contents writer.old) (W.contents writer.new)) }
-    ensures err { OnErr result
-        (IsScriptPartExplained id (R.remaining reader) (W.contents writer.old) (W.contents writer.new)) }
+    ensures ok { IfOk result (λ flights. IsScriptExplained id (R.remaining script.entry.reader.reader)
+        flights (W.contents writer.old) (W.contents writer.new)) }
+    ensures err { OnErr result (IsScriptPartExplained id (R.remaining script.entry.reader.reader)
+        (W.contents writer.old) (W.contents writer.new)) }
     ensures fault { IfErr result (λ e. of_script (script_fault e) ≡ true) }
-    ensures within { OnOk result (IfSome (R.remaining reader) (λ input. IsWithinLimits of_scripts input)) }
+    ensures within { OnOk result
+        (IfSome (R.remaining script.entry.reader.reader) (λ input. IsWithinLimits of_scripts input)) }
 {
-    let mut reader = Observed::new(reader);
-    match explain_script(alloc, &mut reader, id, writer) {
+    match explain_script(alloc, &mut script.reader, id, writer) {
         Ok(explained) => Ok(explained == Explained::Flights),
-        Err(fault) => Err(CommandFault::over(source, &fault, reader.has_failed())),
+        Err(fault) => Err(script.fault(&fault)),
     }
 }

@@ -57,7 +57,7 @@ impl Display for CommandFault<'_> {
             CommandFault::Unread(source) => write!(f, "{source}: cannot be read"),
             CommandFault::TooLong(source) => write!(
                 f,
-                "{source}: a script has at most 16777216 lines and 1099511627776 bytes"
+                "{source}: a script has at most 16777216 lines and 1099511627776 bytes (watch and hold take more with --endless)"
             ),
             CommandFault::Unwritten => f.write_str("standard output: cannot be written"),
             CommandFault::Unsettled => f.write_str("the passes do not account for the logs"),

@@ -3,6 +3,7 @@ use Rattle.std.specs.Io.KnownBytes.{Appends}
 use Rattle.std.proofs.lemmas.Result.{err_from_is_err_and}
 use Rattle.scrib_script_io.specs.Writes.{AppendsPart}
 use Rattle.scrib_cli.specs.declared.output_mode.OutputMode.TheVariants.{Silent}
+use Rattle.scrib_script_reader.specs.Limits.{of_scripts}
 use Rattle.scrib_cli.proofs.InputLemmas.{ran_within}
 use Rattle.scrib_cli.proofs.ExplanationLemmas.{unexplained, explained_part, explained_all, explained_unflushed}
 use Rattle.scrib_cli.proofs.explain_script.explain_script.Goals as goal
@@ -34,4 +35,4 @@ returns-in_err-flush_out-clause-err g c =
 
 pub returns-clause-within : goal.returns-clause-within
 returns-clause-within g c =
-    ran_within Silent (g.R.Read.remaining c.args.reader.now) c.in_ok-explained.ensures.ok.0 (g.W.Write.contents c.args.writer.now) (g.W.Write.contents c.run_silently.new.writer) c.in_ok-explained.ensures.ok.1
+    ran_within of_scripts Silent (g.R.Read.remaining c.args.reader.now) c.in_ok-explained.ensures.ok.0 (g.W.Write.contents c.args.writer.now) (g.W.Write.contents c.run_silently.new.writer) c.in_ok-explained.ensures.ok.1

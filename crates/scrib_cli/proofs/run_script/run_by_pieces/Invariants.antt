@@ -3,4 +3,4 @@ use Rattle.scrib_cli.proofs.run_script.run_by_pieces.Given as goal
 
 abbrev pub invariant-loop : goal.invariant-loop
 invariant-loop g l =
-    HasReadAll l.fn.run.output_mode l.run (g.R.Read.remaining l.fn.reader) (g.R.Read.remaining l.reader) (g.W.Write.contents l.fn.writer) (g.W.Write.contents l.writer)
+    HasReadAll l.fn.run.script.limits l.fn.run.output_mode l.run (g.R.Read.remaining l.fn.reader) (g.R.Read.remaining l.reader) (g.W.Write.contents l.fn.writer) (g.W.Write.contents l.writer)
