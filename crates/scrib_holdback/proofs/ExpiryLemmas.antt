@@ -5,9 +5,9 @@ use Rattle.std.proofs.lemmas.Bool.{cases_Bool}
 use Rattle.scrib_types.specs.declared.event.Event.{Event}
 use Rattle.scrib_types.specs.Logs.{subject_of}
 use Rattle.scrib_holdback.specs.Reorderings.{is_own}
-use Rattle.scrib_holdback.specs.HoldBack.{IsSettled, HoldsWithExpiries, expires}
-use Rattle.scrib_holdback.specs.Holdings.{Holding, IsAfter, IsOldest, IsExpired}
-use Rattle.scrib_holdback.specs.Releases.{CountsEvent, own_items, HasDue, WaitsAt, IsOldestAt, IsQuiet, IsQuietAt, IsTakenOut, IsTakenOnto, Releases, IsDrained, is_send_to, sends_to, OnlyReceivers}
+use Rattle.scrib_holdback.specs.HoldBack.{IsQuiescent, HoldsWithExpiries, expires}
+use Rattle.scrib_holdback.specs.Holdings.{Holding, IsAfter, IsOldestWaiting, IsExpired}
+use Rattle.scrib_holdback.specs.Releases.{CountsEvent, own_items, HasDue, WaitsAt, IsOldestOfRole, IsQuiet, IsQuietAt, IsTakenOut, IsTakenOnto, Releases, IsDrained, is_send_to, sends_to, OnlyReceivers}
 use Rattle.scrib_holdback.proofs.OwnEvents.{name_itself, same_name}
 use Rattle.scrib_holdback.proofs.Positions.{any_right}
 use Rattle.scrib_holdback.proofs.ReleaseLemmas.{own_item_yes, due_of_other, due_before, counts_one, IsKept, kept_all, after_kept, quiet_of_settled, drained_join, drop_behind}
@@ -17,7 +17,7 @@ own_item : {A : Type 0} (event : A → Event) (r : List ℕ) (x : A) → r ≡ s
 own_item event r x mine = ap (λ z. bytes_eq z (subject_of (event x))) mine ∙ name_itself (subject_of (event x))
 
 -- the oldest item waits at its role's place
-pub oldest_waits : {A : Type 0} (event : A → Event) (h : Holding A) (place : ℕ) → IsOldestAt event h place → WaitsAt event h place
+pub oldest_waits : {A : Type 0} (event : A → Event) (h : Holding A) (place : ℕ) → IsOldestOfRole event h place → WaitsAt event h place
 oldest_waits event h place at =
     let r = subject_of (event at.x) in
     record {
@@ -42,7 +42,7 @@ front_taken event r waiting (z ∷ earlier) later rest x y was is own none =
     absurd (cc)
 
 -- the oldest item is taken out
-oldest_taken : {A : Type 0} (event : A → Event) (place : ℕ) (old new : Holding A) (released now : List A) (at : IsOldestAt event old place) (k : IsTakenOnto event place old new released now) → (k.x ≡ at.x) × (new.waiting ≡ at.oldest.0)
+oldest_taken : {A : Type 0} (event : A → Event) (place : ℕ) (old new : Holding A) (released now : List A) (at : IsOldestOfRole event old place) (k : IsTakenOnto event place old new released now) → (k.x ≡ at.x) × (new.waiting ≡ at.oldest.0)
 oldest_taken event place old new released now at k =
     let t = k.taken in
     let r = subject_of (event k.x) in
@@ -68,13 +68,13 @@ expired_receivers event x old mid new given step rs done quiet r due =
 expired_kept : {A : Type 0} (event : A → Event) (arrivals log expired : List A) (old mid : Holding A) (x : A) (later : List A) → IsAfter event arrivals log expired old → old.waiting ≡ x ∷ later → mid.waiting ≡ later → CountsEvent (event x) old.flights mid.flights → IsKept event arrivals (log ++ x ∷ []) (expired ++ x ∷ []) mid
 expired_kept event arrivals log expired old mid x later h was now counted =
     let holds = subst (λ z. HoldsWithExpiries event arrivals log expired z) was h.held.holds in
-    let settled = subst (λ z. IsSettled event log z) was h.held.settled in
+    let settled = subst (λ z. IsQuiescent event log z) was h.held.settled in
     record {
       holds = subst (λ z. HoldsWithExpiries event arrivals (log ++ x ∷ []) (expired ++ x ∷ []) z) (sym now) (expires x later holds settled);
       counts = counts_one event log x old.flights mid.flights h.counts counted;
     }
 
-module _ {A : Type 0} (event : A → Event) (place start : ℕ) (old mid next new : Holding A) (released at between now : List A) (o : IsOldestAt event old place) (k : IsTakenOnto event place old mid released at) (d : IsDrained event mid next at between) (e : IsDrained event next new between now) where
+module _ {A : Type 0} (event : A → Event) (place start : ℕ) (old mid next new : Holding A) (released at between now : List A) (o : IsOldestOfRole event old place) (k : IsTakenOnto event place old mid released at) (d : IsDrained event mid next at between) (e : IsDrained event next new between now) where
   -- all that was released after the oldest
   drained : IsDrained event mid new at now
   drained = drained_join event mid next new at between now d e
@@ -108,7 +108,7 @@ module _ {A : Type 0} (event : A → Event) (place start : ℕ) (old mid next ne
       }
 
 -- the place of the oldest item's role
-pub oldest_at : {A : Type 0} (event : A → Event) (h : Holding A) (x : A) (r : List ℕ) (o : Option ℕ) → IsOldest h.waiting x → r ≡ subject_of (event x) → MatchOption o (own_items event r h.waiting ≡ []) (λ place. slice_get h.roles place ≡ Some r) → MatchOption o (h.waiting ≡ []) (λ place. IsOldestAt event h place)
+pub oldest_at : {A : Type 0} (event : A → Event) (h : Holding A) (x : A) (r : List ℕ) (o : Option ℕ) → IsOldestWaiting h.waiting x → r ≡ subject_of (event x) → MatchOption o (own_items event r h.waiting ≡ []) (λ place. slice_get h.roles place ≡ Some r) → MatchOption o (h.waiting ≡ []) (λ place. IsOldestOfRole event h place)
 oldest_at event h x r None oldest mine none =
     let some : [] ≡ x ∷ own_items event r oldest.0 = sym none ∙ ap (own_items event r) oldest.1 ∙ own_item_yes event r x oldest.0 (own_item event r x mine) in
     absurd (cc)

@@ -9,13 +9,13 @@ use Rattle.scrib_types.specs.declared.event.Event.TheVariants.{Join, Sent, Recei
 use Rattle.scrib_types.specs.Logs.{subject_of}
 use Rattle.scrib_types.specs.Queues.{sent, received}
 use Rattle.scrib_holdback.specs.declared.flights.Flight.{Flight}
-use Rattle.scrib_holdback.specs.Holdings.{Holding}
+use Rattle.scrib_holdback.specs.Holdings.{Holding, PassesAlone}
 use Rattle.scrib_holdback.specs.Waiters.{Waiters}
-use Rattle.scrib_holdback.specs.Lanes.{HasNone, IsFirstItem, IsTaken}
-use Rattle.scrib_holdback.specs.Releases.{IsReady, HasFlight, KeepsFlights, CountsEvent, SameCounts, own_items, HasDue, WaitsAt, IsDueAt, IsNext, IsPassed, IsQuietAt, is_send_to, IsTakenOut, IsTakenOnto, IsDrained, IsSound}
+use Rattle.scrib_holdback.specs.Lanes.{HasNone, IsFirstItem, TakesFirst}
+use Rattle.scrib_holdback.specs.Releases.{IsReceivable, HasFlight, KeepsFlights, CountsEvent, SameCounts, own_items, HasDue, WaitsAt, IsDueAt, IsNextArrival, PassesAtOnce, IsQuietAt, is_send_to, IsTakenOut, IsTakenOnto, IsDrained, IsSound}
 use Rattle.scrib_holdback.proofs.OwnEvents.{name_itself, same_name}
 use Rattle.scrib_holdback.proofs.Positions.{all_here, all_without, all_weaker, all_pushed}
-use Rattle.scrib_holdback.proofs.ReleaseLemmas.{own_items-append, own_item_yes, drained_one}
+use Rattle.scrib_holdback.proofs.ReleaseLemmas.{own_items-append, own_item_yes, drained_one, drained_none, pushes_passed}
 
 -- an event sends one message at most
 sent_at_most : (p q : List ℕ) (e : Event) → length (sent p q (e ∷ [])) ≤ 1
@@ -46,7 +46,8 @@ sound_taken {A} event old new pushed x s k keeps =
     record {
       sends = λ p q. omega (arith, s.sends p q, k.counts.sends p q, sent_at_most p q (event x), fewer);
       receptions = λ p q. omega (arith, s.receptions p q, k.counts.receptions p q, received_at_most p q (event x), fewer);
-      paired = subst (AllByRecursion S) (sym k.now) (all_weaker R S (λ y h. keeps (event y) h) (k.earlier ++ k.later) (all_without R k.earlier k.later x (subst (AllByRecursion R) k.was s.paired)));
+      paired = subst (AllByRecursion S) (sym k.now) (all_weaker R S (λ y h. keeps.has (event y) h) (k.earlier ++ k.later) (all_without R k.earlier k.later x (subst (AllByRecursion R) k.was s.paired)));
+      distinct = keeps.distinct s.distinct;
     }
 
 -- the bounds with more pairs
@@ -57,7 +58,8 @@ sound_reserved {A} event waiting now old new pushed s same counts keeps =
     record {
       sends = λ p q. omega (arith, s.sends p q, counts.sends p q, ap length same);
       receptions = λ p q. omega (arith, s.receptions p q, counts.receptions p q, ap length same);
-      paired = subst (AllByRecursion S) (sym same) (all_weaker R S (λ y h. keeps (event y) h) waiting s.paired);
+      paired = subst (AllByRecursion S) (sym same) (all_weaker R S (λ y h. keeps.has (event y) h) waiting s.paired);
+      distinct = keeps.distinct s.distinct;
     }
 
 -- the bounds after an arrival that waits
@@ -68,21 +70,34 @@ sound_held {A} event waiting now old new pushed x s more counts keeps has =
     record {
       sends = λ p q. omega (arith, s.sends p q, counts.sends p q, ap length more, length-append waiting (x ∷ []));
       receptions = λ p q. omega (arith, s.receptions p q, counts.receptions p q, ap length more, length-append waiting (x ∷ []));
-      paired = subst (AllByRecursion S) (sym more) (all_pushed S waiting x (all_weaker R S (λ y h. keeps (event y) h) waiting s.paired) has);
+      paired = subst (AllByRecursion S) (sym more) (all_pushed S waiting x (all_weaker R S (λ y h. keeps.has (event y) h) waiting s.paired) has);
+      distinct = keeps.distinct s.distinct;
     }
 
 -- the bounds after an arrival that is released at once
-pub sound_passed : {A : Type 0} (event : A → Event) (waiting now : List A) (old mid new : List Flight) (pushed : ℕ) (x : A) → IsSound event waiting old pushed → now ≡ waiting → SameCounts old mid → KeepsFlights old mid → CountsEvent (event x) mid new → KeepsFlights mid new → IsSound event now new (pushed + 1)
-sound_passed {A} event waiting now old mid new pushed x s same counts keeps counted kept =
+pub sound_passed : {A : Type 0} (event : A → Event) (waiting now : List A) (old mid new : List Flight) (pushed : ℕ) (e : Event) → IsSound event waiting old pushed → now ≡ waiting → SameCounts old mid → KeepsFlights old mid → CountsEvent e mid new → KeepsFlights mid new → IsSound event now new (pushed + 1)
+sound_passed {A} event waiting now old mid new pushed e s same counts keeps counted kept =
     let R : A → Type 0 = λ y. HasFlight old (event y) in
     let S : A → Type 0 = λ y. HasFlight new (event y) in
     record {
-      sends = λ p q. omega (arith, s.sends p q, counts.sends p q, counted.sends p q, sent_at_most p q (event x), ap length same);
-      receptions = λ p q. omega (arith, s.receptions p q, counts.receptions p q, counted.receptions p q, received_at_most p q (event x), ap length same);
-      paired = subst (AllByRecursion S) (sym same) (all_weaker R S (λ y h. kept (event y) (keeps (event y) h)) waiting s.paired);
+      sends = λ p q. omega (arith, s.sends p q, counts.sends p q, counted.sends p q, sent_at_most p q e, ap length same);
+      receptions = λ p q. omega (arith, s.receptions p q, counts.receptions p q, counted.receptions p q, received_at_most p q e, ap length same);
+      paired = subst (AllByRecursion S) (sym same) (all_weaker R S (λ y h. kept.has (event y) (keeps.has (event y) h)) waiting s.paired);
+      distinct = kept.distinct (keeps.distinct s.distinct);
     }
 
-pub passed : {A : Type 0} (event : A → Event) (x : A) (old new : Holding A) (mid : List Flight) → IsNext event (event x) old → new.waiting ≡ old.waiting → SameCounts old.flights mid → CountsEvent (event x) mid new.flights → IsPassed event x old new
+-- the bounds after an arrival is counted that is not released
+pub sound_skipped : {A : Type 0} (event : A → Event) (waiting now : List A) (old new : List Flight) (pushed : ℕ) → IsSound event waiting old pushed → now ≡ waiting → new ≡ old → IsSound event now new (pushed + 1)
+sound_skipped {A} event waiting now old new pushed s same flights =
+    subst (λ z. IsSound event z new (pushed + 1)) (sym same)
+    (subst (λ z. IsSound event waiting z (pushed + 1)) (sym flights) (record {
+      sends = λ p q. omega (arith, s.sends p q);
+      receptions = λ p q. omega (arith, s.receptions p q);
+      paired = s.paired;
+      distinct = s.distinct;
+    }))
+
+pub passed : {A : Type 0} (event : A → Event) (x : A) (old new : Holding A) (mid : List Flight) → IsNextArrival event (event x) old → new.waiting ≡ old.waiting → SameCounts old.flights mid → CountsEvent (event x) mid new.flights → PassesAtOnce event x old new
 passed event x old new mid next same counts counted = record {
   next = next;
   waiting = same;
@@ -92,7 +107,7 @@ passed event x old new mid next same counts counted = record {
   };
 }
 
-pub ready_reserved : (old new : List Flight) (e : Event) → SameCounts old new → IsReady old e → IsReady new e
+pub ready_reserved : (old new : List Flight) (e : Event) → SameCounts old new → IsReceivable old e → IsReceivable new e
 ready_reserved old new (Join r) s h = tt
 ready_reserved old new (Sent p q m) s h = tt
 ready_reserved old new (Received p q m) s h = omega (arith, h, s.sends p q, s.receptions p q)
@@ -101,8 +116,17 @@ ready_reserved old new (Received p q m) s h = omega (arith, h, s.sends p q, s.re
 pub none_due : {A : Type 0} (event : A → Event) (h : Holding A) (r : List ℕ) → own_items event r h.waiting ≡ [] → HasDue event r h → ⊥
 none_due event h r none due = let empty : [] ≡ due.x ∷ due.others = sym none ∙ due.first in absurd (cc)
 
+-- an arrival that passes where nothing waits
+pub passes_alone : {A : Type 0} (event : A → Event) (e : Event) (old new : Holding A) → old.waiting ≡ [] → new.waiting ≡ old.waiting → IsReceivable old.flights e → CountsEvent e old.flights new.flights → PassesAlone event e old new
+passes_alone {A} event e old new none same ready counted = λ x is released.
+    (let next : IsNextArrival event (event x) old = record { none = ap (own_items event (subject_of (event x))) none; ready = subst (IsReceivable old.flights) (sym is) ready } in
+    let k : PassesAtOnce event x old new = record { next = next; waiting = same; counts = subst (λ z. CountsEvent z old.flights new.flights) (sym is) counted } in
+    pushes_passed event x old new new released (released ++ x ∷ []) (released ++ x ∷ []) (length released) k refl refl
+    (drained_none event new (released ++ x ∷ []))
+    (λ only r due. none_due event new r (ap (own_items event r) (same ∙ none)) due))
+
 -- what is due at a place, by the first item of its role
-pub due_at : {A : Type 0} (event : A → Event) (place : ℕ) (w : Waiters A) (flights : List Flight) (x : A) → IsFirstItem event place w x → IsReady flights (event x) → IsDueAt event record { roles = w.roles; waiting = w.items; flights = flights } place
+pub due_at : {A : Type 0} (event : A → Event) (place : ℕ) (w : Waiters A) (flights : List Flight) (x : A) → IsFirstItem event place w x → IsReceivable flights (event x) → IsDueAt event record { roles = w.roles; waiting = w.items; flights = flights } place
 due_at event place w flights x k ready = record {
   waits = record { x = x; role = k.role; others = k.others; first = k.first };
   ready = ready;
@@ -111,12 +135,12 @@ due_at event place w flights x k ready = record {
 pub role_at : (roles : List (List ℕ)) (i : ℕ) (r s : List ℕ) → slice_get roles i ≡ Some r → slice_get roles i ≡ Some s → r ≡ s
 role_at roles i r s a b = let e : Some r ≡ Some s = sym a ∙ b in cc
 
-pub quiet_at_unready : {A : Type 0} (event : A → Event) (place : ℕ) (w : Waiters A) (flights : List Flight) (x : A) → IsFirstItem event place w x → (IsReady flights (event x) → ⊥) → IsQuietAt event place record { roles = w.roles; waiting = w.items; flights = flights }
+pub quiet_at_unready : {A : Type 0} (event : A → Event) (place : ℕ) (w : Waiters A) (flights : List Flight) (x : A) → IsFirstItem event place w x → (IsReceivable flights (event x) → ⊥) → IsQuietAt event place record { roles = w.roles; waiting = w.items; flights = flights }
 quiet_at_unready event place w flights x k unready r at due =
     let mine : r ≡ subject_of (event x) = role_at w.roles place r (subject_of (event x)) at k.role in
     let both : x ∷ k.others ≡ due.x ∷ due.others = sym k.first ∙ ap (λ z. own_items event z w.items) (sym mine) ∙ due.first in
     let one : x ≡ due.x = cc in
-    unready (subst (λ z. IsReady flights (event z)) (sym one) due.ready)
+    unready (subst (λ z. IsReceivable flights (event z)) (sym one) due.ready)
 
 pub quiet_at_none : {A : Type 0} (event : A → Event) (place : ℕ) (w : Waiters A) (flights : List Flight) → HasNone event place w → IsQuietAt event place record { roles = w.roles; waiting = w.items; flights = flights }
 quiet_at_none event place w flights none r at due =
@@ -132,16 +156,16 @@ receiver event h p q m None none = λ r to. none_due event h r (ap (λ z. own_it
 receiver event h p q m (Some i) at = λ r to. at ∙ ap (λ z. Some z) (sym (same_name r q to))
 
 -- readiness by flights and an event that were read
-pub ready_read : (flights read : List Flight) (e f : Event) → read ≡ flights → f ≡ e → IsReady read f → IsReady flights e
-ready_read flights read e f same is h = subst (λ z. IsReady flights z) is (subst (λ z. IsReady z f) same h)
+pub ready_read : (flights read : List Flight) (e f : Event) → read ≡ flights → f ≡ e → IsReceivable read f → IsReceivable flights e
+ready_read flights read e f same is h = subst (λ z. IsReceivable flights z) is (subst (λ z. IsReceivable z f) same h)
 
 -- the first item of the role at a place is taken out
-pub taken_paired : {A : Type 0} (event : A → Event) (place : ℕ) (w left : Waiters A) (flights : List Flight) (pushed : ℕ) (x : A) → IsSound event w.items flights pushed → IsTaken event place w left x → HasFlight flights (event x)
+pub taken_paired : {A : Type 0} (event : A → Event) (place : ℕ) (w left : Waiters A) (flights : List Flight) (pushed : ℕ) (x : A) → IsSound event w.items flights pushed → TakesFirst event place w left x → HasFlight flights (event x)
 taken_paired {A} event place w left flights pushed x s k =
     let R : A → Type 0 = λ y. HasFlight flights (event y) in
     all_here R k.earlier k.later x (subst (AllByRecursion R) k.was s.paired)
 
-pub taken_at : {A : Type 0} (event : A → Event) (place : ℕ) (w left : Waiters A) (old new : List Flight) (x : A) → IsTaken event place w left x → CountsEvent (event x) old new → IsTakenOut event record { roles = w.roles; waiting = w.items; flights = old } record { roles = left.roles; waiting = left.items; flights = new } x
+pub taken_at : {A : Type 0} (event : A → Event) (place : ℕ) (w left : Waiters A) (old new : List Flight) (x : A) → TakesFirst event place w left x → CountsEvent (event x) old new → IsTakenOut event record { roles = w.roles; waiting = w.items; flights = old } record { roles = left.roles; waiting = left.items; flights = new } x
 taken_at event place w left old new x k counted = record {
   earlier = k.earlier;
   later = k.later;
@@ -164,7 +188,7 @@ taken_is_due event place old new released now at k =
 
 pub drained_due : {A : Type 0} (event : A → Event) (place : ℕ) (old new : Holding A) (released now : List A) → IsDueAt event old place → IsTakenOnto event place old new released now → new.roles ≡ old.roles → IsDrained event old new released now
 drained_due event place old new released now due k same =
-    let ready : IsReady old.flights (event k.x) = subst (λ z. IsReady old.flights (event z)) (sym (taken_is_due event place old new released now due.waits k)) due.ready in
+    let ready : IsReceivable old.flights (event k.x) = subst (λ z. IsReceivable old.flights (event z)) (sym (taken_is_due event place old new released now due.waits k)) due.ready in
     drained_one event place old new released now k ready same
 
 pub taken_count : {A : Type 0} (event : A → Event) (place : ℕ) (old new : Holding A) (released now : List A) → IsTakenOnto event place old new released now → length now + length new.waiting ≡ length released + length old.waiting
@@ -179,7 +203,7 @@ counted_read e f flights read new same is h = subst (λ z. CountsEvent z flights
 pub kept_read : (flights read new : List Flight) → read ≡ flights → KeepsFlights read new → KeepsFlights flights new
 kept_read flights read new same h = subst (λ z. KeepsFlights z new) same h
 
-pub unready_read : (flights read : List Flight) (e f : Event) (b : Bool) → read ≡ flights → f ≡ e → (IsReady read f → b ≡ true) → b ≡ false → IsReady flights e → ⊥
+pub unready_read : (flights read : List Flight) (e f : Event) (b : Bool) → read ≡ flights → f ≡ e → (IsReceivable read f → b ≡ true) → b ≡ false → IsReceivable flights e → ⊥
 unready_read flights read e f b same is h no_ ready = true≢false (sym (h (ready_read read flights f e (sym same) (sym is) ready)) ∙ no_)
 
 pub has_read : (flights read : List Flight) (e f : Event) → read ≡ flights → f ≡ e → HasFlight read f → HasFlight flights e

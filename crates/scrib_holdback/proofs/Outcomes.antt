@@ -6,7 +6,7 @@ use Rattle.scrib_types.specs.declared.event.Event.TheVariants.{Join, Sent, Recei
 use Rattle.scrib_types.specs.Logs.{subject_of}
 use Rattle.scrib_types.specs.Queues.{sent, received}
 use Rattle.scrib_holdback.specs.Reorderings.{is_own, own_events, IsReordering}
-use Rattle.scrib_holdback.specs.HoldBack.{MayHappen, IsSettled, HoldsWithExpiries, begins, arrives, releases, expires, IsHeldBack}
+use Rattle.scrib_holdback.specs.HoldBack.{MayHappen, IsQuiescent, HoldsWithExpiries, begins, arrives, releases, expires, IsHeldBack}
 use Rattle.scrib_holdback.proofs.OwnEvents.{kept_after, same_name, own_yes, own_no, own-append, own-map-append, same_received, sent_own}
 use Rattle.scrib_holdback.proofs.CausalOrders.{IsCausal, causal_none, causal_end, sent_more, received_more, received_one}
 
@@ -76,7 +76,7 @@ map_place f (x ∷ xs) (b ∷ before) after y e =
     let p = map_place f xs before after y rest in
     (x ∷ p.0, p.1, p.2, ap (λ z. x ∷ z) p.3, ap (λ z. f x ∷ z) p.4 ∙ ap (λ z. z ∷ before) same, p.5)
 
-stuck_of : {X : Type 0} (event : X → Event) (released waiting : List X) → IsSettled event released waiting → (earlier later : List Event) (e : Event) → map event waiting ≡ earlier ++ e ∷ later → own_events (subject_of e) earlier ≡ [] → MayHappen (map event released) e → ⊥
+stuck_of : {X : Type 0} (event : X → Event) (released waiting : List X) → IsQuiescent event released waiting → (earlier later : List Event) (e : Event) → map event waiting ≡ earlier ++ e ∷ later → own_events (subject_of e) earlier ≡ [] → MayHappen (map event released) e → ⊥
 stuck_of event released waiting settled earlier later e eq first next =
     let p = map_place event waiting earlier later e eq in
     let none : own_events (subject_of e) (map event p.0) ≡ [] = ap (own_events (subject_of e)) p.4 ∙ first in

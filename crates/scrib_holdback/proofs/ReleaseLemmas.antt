@@ -10,9 +10,9 @@ use Rattle.scrib_types.specs.Logs.{subject_of}
 use Rattle.scrib_types.specs.Queues.{sent}
 use Rattle.scrib_holdback.specs.declared.flights.Flight.{Flight}
 use Rattle.scrib_holdback.specs.Reorderings.{is_own, own_events}
-use Rattle.scrib_holdback.specs.HoldBack.{MayHappen, IsDue, IsSettled, HoldsWithExpiries, begins, arrives, releases}
+use Rattle.scrib_holdback.specs.HoldBack.{MayHappen, IsReleasable, IsQuiescent, HoldsWithExpiries, begins, arrives, releases}
 use Rattle.scrib_holdback.specs.Holdings.{Holding, sent_on, received_on, AreCounts, IsAfter, IsPushed}
-use Rattle.scrib_holdback.specs.Releases.{IsReady, CountsEvent, SameCounts, own_items, HasDue, IsNext, IsQuiet, IsQuietAt, IsAppended, IsPassed, IsTakenOut, IsReleased, IsTakenOnto, IsDrained, Releases, nothing, one_more, is_send_to, sends_to, OnlyReceivers}
+use Rattle.scrib_holdback.specs.Releases.{IsReceivable, CountsEvent, SameCounts, own_items, HasDue, IsNextArrival, IsQuiet, IsQuietAt, IsAppended, PassesAtOnce, IsTakenOut, IsReleasedFirst, IsTakenOnto, IsDrained, Releases, nothing, one_more, is_send_to, sends_to, OnlyReceivers}
 use Rattle.scrib_holdback.proofs.OwnEvents.{kept_after, name_itself, same_name}
 use Rattle.scrib_holdback.proofs.CausalOrders.{sent_more, received_more}
 use Rattle.scrib_holdback.proofs.Outcomes.{no_item}
@@ -61,12 +61,12 @@ first_in_place event earlier later x e =
     ∙ own_item_yes event r x later (name_itself r)
 
 -- what may happen by the counts
-pub may_from_ready : (log : List Event) (flights : List Flight) (e : Event) → AreCounts log flights → IsReady flights e → MayHappen log e
+pub may_from_ready : (log : List Event) (flights : List Flight) (e : Event) → AreCounts log flights → IsReceivable flights e → MayHappen log e
 may_from_ready log flights (Join r) f h = tt
 may_from_ready log flights (Sent p q m) f h = tt
 may_from_ready log flights (Received p q m) f h = omega (arith, h, f.sends p q, f.receptions p q)
 
-pub ready_from_may : (log : List Event) (flights : List Flight) (e : Event) → AreCounts log flights → MayHappen log e → IsReady flights e
+pub ready_from_may : (log : List Event) (flights : List Flight) (e : Event) → AreCounts log flights → MayHappen log e → IsReceivable flights e
 ready_from_may log flights (Join r) f h = tt
 ready_from_may log flights (Sent p q m) f h = tt
 ready_from_may log flights (Received p q m) f h = omega (arith, h, f.sends p q, f.receptions p q)
@@ -77,13 +77,13 @@ sent_elsewhere p q s t (Join r) n = refl
 sent_elsewhere p q s t (Sent a b m) n = rw (and_right (bytes_eq p a) (bytes_eq q b) n) refl
 sent_elsewhere p q s t (Received a b m) n = refl
 
-ready_before : (e : Event) (old new : List Flight) → CountsEvent e old new → (f : Event) → is_send_to (subject_of f) e ≡ false → IsReady new f → IsReady old f
+ready_before : (e : Event) (old new : List Flight) → CountsEvent e old new → (f : Event) → is_send_to (subject_of f) e ≡ false → IsReceivable new f → IsReceivable old f
 ready_before e old new c (Join r) n h = tt
 ready_before e old new c (Sent p q m) n h = tt
 ready_before e old new c (Received p q m) n h = omega (arith, h, c.sends p q, c.receptions p q, sent_elsewhere p q p q e n)
 
 -- a role that may release after a release could before, or is sent to
-due_of_same : {A : Type 0} (event : A → Event) (old new : Holding A) (x : A) → IsReleased event old new x → (r : List ℕ) → is_own r (event x) ≡ true → HasDue event r old
+due_of_same : {A : Type 0} (event : A → Event) (old new : Holding A) (x : A) → IsReleasedFirst event old new x → (r : List ℕ) → is_own r (event x) ≡ true → HasDue event r old
 due_of_same event old new x step r own =
     let s = subject_of (event x) in
     let k = step.taken in
@@ -111,7 +111,7 @@ due_of_other event old new x k r other n due =
       ready = ready_before (event x) old.flights new.flights k.counts (event due.x) (ap (λ z. is_send_to z (event x)) (sym mine) ∙ n) due.ready;
     }
 
-due_before_one : {A : Type 0} (event : A → Event) (old new : Holding A) (x : A) → IsReleased event old new x → (r : List ℕ) → HasDue event r new → HasDue event r old ⊎ (is_send_to r (event x) ≡ true)
+due_before_one : {A : Type 0} (event : A → Event) (old new : Holding A) (x : A) → IsReleasedFirst event old new x → (r : List ℕ) → HasDue event r new → HasDue event r old ⊎ (is_send_to r (event x) ≡ true)
 due_before_one event old new x step r due =
     elim (cases_Bool (is_own r (event x))) [
       | inl own ↦ inl (due_of_same event old new x step r own)
@@ -143,10 +143,10 @@ counts_one event log x old new f c =
       receptions = λ p q. omega (arith, f.receptions p q, c.receptions p q, received_more p q (map event log) (e ∷ []));
     })
 
-holds_one : {A : Type 0} (event : A → Event) (arrivals log expired : List A) (old new : Holding A) (x : A) → IsReleased event old new x → HoldsWithExpiries event arrivals log expired old.waiting → AreCounts (map event log) old.flights → HoldsWithExpiries event arrivals (log ++ x ∷ []) expired new.waiting
+holds_one : {A : Type 0} (event : A → Event) (arrivals log expired : List A) (old new : Holding A) (x : A) → IsReleasedFirst event old new x → HoldsWithExpiries event arrivals log expired old.waiting → AreCounts (map event log) old.flights → HoldsWithExpiries event arrivals (log ++ x ∷ []) expired new.waiting
 holds_one event arrivals log expired old new x step h f =
     let k = step.taken in
-    let due : IsDue event log k.earlier x = record {
+    let due : IsReleasable event log k.earlier x = record {
       first = no_own_events event (subject_of (event x)) k.earlier k.first;
       next = may_from_ready (map event log) old.flights (event x) f step.ready;
     } in
@@ -158,7 +158,7 @@ pub record IsKept {A : Type 0} (event : A → Event) (arrivals log expired : Lis
   pub holds : HoldsWithExpiries event arrivals log expired h.waiting
   pub counts : AreCounts (map event log) h.flights
 
-kept_one : {A : Type 0} (event : A → Event) (arrivals log expired : List A) (old new : Holding A) (x : A) → IsReleased event old new x → IsKept event arrivals log expired old → IsKept event arrivals (log ++ x ∷ []) expired new
+kept_one : {A : Type 0} (event : A → Event) (arrivals log expired : List A) (old new : Holding A) (x : A) → IsReleasedFirst event old new x → IsKept event arrivals log expired old → IsKept event arrivals (log ++ x ∷ []) expired new
 kept_one event arrivals log expired old new x step k = record {
   holds = holds_one event arrivals log expired old new x step k.holds k.counts;
   counts = counts_one event log x old.flights new.flights k.counts step.taken.counts;
@@ -171,7 +171,7 @@ kept_all event old (one_more {given = given} {mid = mid} {new = new} x rs step) 
     (kept_one event arrivals (log ++ given) expired mid new x step (kept_all event old rs arrivals log expired k))
 
 -- where no role may release, nothing may be released
-pub settled_of_quiet : {A : Type 0} (event : A → Event) (log : List A) (h : Holding A) → AreCounts (map event log) h.flights → IsQuiet event h → IsSettled event log h.waiting
+pub settled_of_quiet : {A : Type 0} (event : A → Event) (log : List A) (h : Holding A) → AreCounts (map event log) h.flights → IsQuiet event h → IsQuiescent event log h.waiting
 settled_of_quiet event log h f quiet earlier later x eq due =
     let r = subject_of (event x) in
     quiet r
@@ -182,7 +182,7 @@ settled_of_quiet event log h f quiet earlier later x eq due =
       ready = ready_from_may (map event log) h.flights (event x) f due.next;
     })
 
-pub quiet_of_settled : {A : Type 0} (event : A → Event) (log : List A) (h : Holding A) → AreCounts (map event log) h.flights → IsSettled event log h.waiting → IsQuiet event h
+pub quiet_of_settled : {A : Type 0} (event : A → Event) (log : List A) (h : Holding A) → AreCounts (map event log) h.flights → IsQuiescent event log h.waiting → IsQuiet event h
 quiet_of_settled event log h f settled r due =
     let k = kept_after (λ z. is_own r (event z)) h.waiting [] due.others due.x due.first in
     let mine : r ≡ subject_of (event due.x) = same_name r (subject_of (event due.x)) (first_is_own event r h.waiting due.x due.others due.first) in
@@ -193,7 +193,7 @@ quiet_of_settled event log h f settled r due =
     })
 
 -- an item that arrives at a quiet state is the only one that may be released
-ready_same : (old new : List Flight) (e : Event) → SameCounts old new → IsReady new e → IsReady old e
+ready_same : (old new : List Flight) (e : Event) → SameCounts old new → IsReceivable new e → IsReceivable old e
 ready_same old new (Join r) s h = tt
 ready_same old new (Sent p q m) s h = tt
 ready_same old new (Received p q m) s h = omega (arith, h, s.sends p q, s.receptions p q)
@@ -229,13 +229,13 @@ due_arrived event x old new a quiet r due (y ∷ ys) some =
     }))
 
 -- an arrival that isn't released at once leaves nothing that may be released
-pub quiet_appended : {A : Type 0} (event : A → Event) (x : A) (old new : Holding A) → IsAppended event x old new → (IsNext event (event x) old → ⊥) → IsQuiet event old → IsQuiet event new
+pub quiet_appended : {A : Type 0} (event : A → Event) (x : A) (old new : Holding A) → IsAppended event x old new → (IsNextArrival event (event x) old → ⊥) → IsQuiet event old → IsQuiet event new
 quiet_appended event x old new a not_next quiet r due =
     let k = due_arrived event x old new a quiet r due (own_items event r old.waiting) refl in
     not_next
     (record {
       none = subst (λ z. own_items event z old.waiting ≡ []) k.mine k.none;
-      ready = subst (λ z. IsReady old.flights (event z)) k.same (ready_same old.flights new.flights (event due.x) a.counts due.ready);
+      ready = subst (λ z. IsReceivable old.flights (event z)) k.same (ready_same old.flights new.flights (event due.x) a.counts due.ready);
     })
 
 -- after the role of the arrival has released all that it may, only receivers of what it sent may release
@@ -306,7 +306,7 @@ drained_join event old mid new released between now d e = record {
   roles = e.roles ∙ d.roles;
 }
 
-pub drained_one : {A : Type 0} (event : A → Event) (place : ℕ) (old new : Holding A) (released now : List A) (k : IsTakenOnto event place old new released now) → IsReady old.flights (event k.x) → new.roles ≡ old.roles → IsDrained event old new released now
+pub drained_one : {A : Type 0} (event : A → Event) (place : ℕ) (old new : Holding A) (released now : List A) (k : IsTakenOnto event place old new released now) → IsReceivable old.flights (event k.x) → new.roles ≡ old.roles → IsDrained event old new released now
 drained_one event place old new released now k ready same = record {
   given = k.x ∷ [];
   appended = k.appended;
@@ -344,7 +344,7 @@ after_nothing event h none empty = record {
 }
 
 -- a push of an arrival that waits
-pub pushes_held : {A : Type 0} (event : A → Event) (x : A) (old new : Holding A) (released : List A) → IsAppended event x old new → (IsNext event (event x) old → ⊥) → IsPushed event x old new released released
+pub pushes_held : {A : Type 0} (event : A → Event) (x : A) (old new : Holding A) (released : List A) → IsAppended event x old new → (IsNextArrival event (event x) old → ⊥) → IsPushed event x old new released released
 pushes_held event x old new released a not_next = record {
   given = [];
   appended = sym (append-nil released);
@@ -352,7 +352,7 @@ pushes_held event x old new released a not_next = record {
 }
 
 -- a push of an arrival that is released at once, and then what it makes possible
-passed_step : {A : Type 0} (event : A → Event) (x : A) (old mid next : Holding A) → mid.waiting ≡ old.waiting ++ x ∷ [] → mid.flights ≡ old.flights → IsPassed event x old next → IsReleased event mid next x
+passed_step : {A : Type 0} (event : A → Event) (x : A) (old mid next : Holding A) → mid.waiting ≡ old.waiting ++ x ∷ [] → mid.flights ≡ old.flights → PassesAtOnce event x old next → IsReleasedFirst event mid next x
 passed_step event x old mid next more flights k = record {
   taken = record {
     earlier = old.waiting;
@@ -362,15 +362,15 @@ passed_step event x old mid next more flights k = record {
     now = k.waiting ∙ sym (append-nil old.waiting);
     counts = subst (λ z. CountsEvent (event x) z next.flights) (sym flights) k.counts;
   };
-  ready = subst (λ z. IsReady z (event x)) (sym flights) k.next.ready;
+  ready = subst (λ z. IsReceivable z (event x)) (sym flights) k.next.ready;
 }
 
-none_left : {A : Type 0} (event : A → Event) (x : A) (old next : Holding A) → IsPassed event x old next → HasDue event (subject_of (event x)) next → ⊥
+none_left : {A : Type 0} (event : A → Event) (x : A) (old next : Holding A) → PassesAtOnce event x old next → HasDue event (subject_of (event x)) next → ⊥
 none_left event x old next k due =
     let empty : [] ≡ due.x ∷ due.others = sym k.next.none ∙ ap (own_items event (subject_of (event x))) (sym k.waiting) ∙ due.first in
     absurd (cc)
 
-pub pushes_passed : {A : Type 0} (event : A → Event) (x : A) (old next new : Holding A) (released at now : List A) (start : ℕ) → IsPassed event x old next → at ≡ released ++ x ∷ [] → start ≡ length released → IsDrained event next new at now → (OnlyReceivers event (drop start at) next → IsQuiet event new) → IsPushed event x old new released now
+pub pushes_passed : {A : Type 0} (event : A → Event) (x : A) (old next new : Holding A) (released at now : List A) (start : ℕ) → PassesAtOnce event x old next → at ≡ released ++ x ∷ [] → start ≡ length released → IsDrained event next new at now → (OnlyReceivers event (drop start at) next → IsQuiet event new) → IsPushed event x old new released now
 pushes_passed {A} event x old next new released at now start k more long d quiet =
     let mid : Holding A = record { roles = old.roles; waiting = old.waiting ++ x ∷ []; flights = old.flights } in
     let a : IsAppended event x old mid = record { waiting = refl; counts = record { sends = λ p q. refl; receptions = λ p q. refl } } in

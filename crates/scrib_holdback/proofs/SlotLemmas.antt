@@ -1,8 +1,8 @@
 -- Slots, and the positions of their items.
 use Rattle.std.proofs.Common.{◌≡◌, Bool, true, false, cond, zero, suc, ℕ, ◌+◌, ◌-◌, ◌<◌, ◌≤◌, List, [], ◌∷◌, ◌++◌, filter, length, get_or, set, Option, Some, None, refl, sym, ap, ◌∙◌, arith}
 use Rattle.scrib_holdback.specs.declared.lanes.Lane.{Lane}
-use Rattle.scrib_holdback.specs.Lanes.{items_in, positions, roles_of, positions_at, HasPositions, IsTrimmed, StartsFull}
-use Rattle.scrib_holdback.specs.Holdings.{IsOldest}
+use Rattle.scrib_holdback.specs.Lanes.{waiting_items, positions, lane_roles, positions_at, HasPositions, IsTrimmed, StartsFull}
+use Rattle.scrib_holdback.specs.Holdings.{IsOldestWaiting}
 
 -- the slot at the first position
 pub record IsSlot {A : Type 0} (t : A → Bool) (n : ℕ) (slots : List (Option A)) (p : ℕ) (ps : List ℕ) : Type 0 where
@@ -14,9 +14,9 @@ pub record IsSlot {A : Type 0} (t : A → Bool) (n : ℕ) (slots : List (Option 
   pub own : t x ≡ true
   pub earlier : List A
   pub later : List A
-  pub items : items_in slots ≡ earlier ++ x ∷ later
+  pub items : waiting_items slots ≡ earlier ++ x ∷ later
   pub first : filter t earlier ≡ []
-  pub left : items_in (set slots index None) ≡ earlier ++ later
+  pub left : waiting_items (set slots index None) ≡ earlier ++ later
   pub rest : positions t n (set slots index None) ≡ ps
   pub others : (u : A → Bool) → u x ≡ false → positions u n (set slots index None) ≡ positions u n slots
 
@@ -32,7 +32,7 @@ slot_here t n x slots p ps y e =
       slot = λ d. refl;
       own = y;
       earlier = [];
-      later = items_in slots;
+      later = waiting_items slots;
       items = refl;
       first = refl;
       left = refl;
@@ -84,26 +84,26 @@ slot_at t n (None ∷ slots) p ps e = slot_empty t n slots p ps (slot_at t (n + 
 slot_at t n (Some x ∷ slots) p ps e = slot_step t n x slots p ps (slot_at t (n + 1) slots p ps) (t x) refl e
 
 -- no position, no item
-none_step : {A : Type 0} (t : A → Bool) (n : ℕ) (x : A) (slots : List (Option A)) → (positions t (n + 1) slots ≡ [] → filter t (items_in slots) ≡ []) → (b : Bool) → cond b (n ∷ positions t (n + 1) slots) (positions t (n + 1) slots) ≡ [] → cond b (x ∷ filter t (items_in slots)) (filter t (items_in slots)) ≡ []
+none_step : {A : Type 0} (t : A → Bool) (n : ℕ) (x : A) (slots : List (Option A)) → (positions t (n + 1) slots ≡ [] → filter t (waiting_items slots) ≡ []) → (b : Bool) → cond b (n ∷ positions t (n + 1) slots) (positions t (n + 1) slots) ≡ [] → cond b (x ∷ filter t (waiting_items slots)) (filter t (waiting_items slots)) ≡ []
 none_step t n x slots ih true e = absurd (cc)
 none_step t n x slots ih false e = ih e
 
-absent_step : {A : Type 0} (t : A → Bool) (n : ℕ) (x : A) (slots : List (Option A)) → (filter t (items_in slots) ≡ [] → positions t (n + 1) slots ≡ []) → (b : Bool) → cond b (x ∷ filter t (items_in slots)) (filter t (items_in slots)) ≡ [] → cond b (n ∷ positions t (n + 1) slots) (positions t (n + 1) slots) ≡ []
+absent_step : {A : Type 0} (t : A → Bool) (n : ℕ) (x : A) (slots : List (Option A)) → (filter t (waiting_items slots) ≡ [] → positions t (n + 1) slots ≡ []) → (b : Bool) → cond b (x ∷ filter t (waiting_items slots)) (filter t (waiting_items slots)) ≡ [] → cond b (n ∷ positions t (n + 1) slots) (positions t (n + 1) slots) ≡ []
 absent_step t n x slots ih true e = absurd (cc)
 absent_step t n x slots ih false e = ih e
 
-pub no_position : {A : Type 0} (t : A → Bool) (n : ℕ) (slots : List (Option A)) → positions t n slots ≡ [] → filter t (items_in slots) ≡ []
+pub no_position : {A : Type 0} (t : A → Bool) (n : ℕ) (slots : List (Option A)) → positions t n slots ≡ [] → filter t (waiting_items slots) ≡ []
 no_position t n [] e = refl
 no_position t n (None ∷ slots) e = no_position t (n + 1) slots e
 no_position t n (Some x ∷ slots) e = none_step t n x slots (no_position t (n + 1) slots) (t x) e
 
-pub no_item_no_position : {A : Type 0} (t : A → Bool) (n : ℕ) (slots : List (Option A)) → filter t (items_in slots) ≡ [] → positions t n slots ≡ []
+pub no_item_no_position : {A : Type 0} (t : A → Bool) (n : ℕ) (slots : List (Option A)) → filter t (waiting_items slots) ≡ [] → positions t n slots ≡ []
 no_item_no_position t n [] e = refl
 no_item_no_position t n (None ∷ slots) e = no_item_no_position t (n + 1) slots e
 no_item_no_position t n (Some x ∷ slots) e = absent_step t n x slots (no_item_no_position t (n + 1) slots) (t x) e
 
 -- one item more
-pub items_pushed : {A : Type 0} (slots : List (Option A)) (x : A) → items_in (slots ++ Some x ∷ []) ≡ items_in slots ++ x ∷ []
+pub items_pushed : {A : Type 0} (slots : List (Option A)) (x : A) → waiting_items (slots ++ Some x ∷ []) ≡ waiting_items slots ++ x ∷ []
 items_pushed [] x = refl
 items_pushed (None ∷ slots) x = items_pushed slots x
 items_pushed (Some y ∷ slots) x = ap (λ z. y ∷ z) (items_pushed slots x)
@@ -125,7 +125,7 @@ positions_pushed t n (Some y ∷ slots) x =
     ap (λ z. cond (t y) (n ∷ z) z) more ∙ cond_cons (t y) n (positions t (n + 1) slots) (cond (t x) ((n + suc (length slots)) ∷ []) [])
 
 -- one empty slot more
-pub items_emptied : {A : Type 0} (slots : List (Option A)) → items_in (slots ++ None ∷ []) ≡ items_in slots
+pub items_emptied : {A : Type 0} (slots : List (Option A)) → waiting_items (slots ++ None ∷ []) ≡ waiting_items slots
 items_emptied [] = refl
 items_emptied (None ∷ slots) = items_emptied slots
 items_emptied (Some y ∷ slots) = ap (λ z. y ∷ z) (items_emptied slots)
@@ -136,13 +136,13 @@ positions_emptied t n (None ∷ slots) = positions_emptied t (n + 1) slots
 positions_emptied t n (Some y ∷ slots) = ap (λ z. cond (t y) (n ∷ z) z) (positions_emptied t (n + 1) slots)
 
 -- the slots of two lists
-pub items_joined : {A : Type 0} (xs ys : List (Option A)) → items_in (xs ++ ys) ≡ items_in xs ++ items_in ys
+pub items_joined : {A : Type 0} (xs ys : List (Option A)) → waiting_items (xs ++ ys) ≡ waiting_items xs ++ waiting_items ys
 items_joined [] ys = refl
 items_joined (None ∷ xs) ys = items_joined xs ys
 items_joined (Some x ∷ xs) ys = ap (λ z. x ∷ z) (items_joined xs ys)
 
 -- items are at most as many as slots
-pub items_fit : {A : Type 0} (slots : List (Option A)) → length (items_in slots) ≤ length slots
+pub items_fit : {A : Type 0} (slots : List (Option A)) → length (waiting_items slots) ≤ length slots
 items_fit [] = omega arith
 items_fit (None ∷ slots) = omega (arith, items_fit slots)
 items_fit (Some x ∷ slots) = omega (arith, items_fit slots)
@@ -158,19 +158,19 @@ full_emptied [] some h = absurd (omega (arith, some))
 full_emptied (None ∷ slots) some h = h
 full_emptied (Some y ∷ slots) some h = tt
 
-pub no_slots : {A : Type 0} (slots : List (Option A)) → (0 < length slots → ⊥) → items_in slots ≡ []
+pub no_slots : {A : Type 0} (slots : List (Option A)) → (0 < length slots → ⊥) → waiting_items slots ≡ []
 no_slots [] none = refl
 no_slots (slot ∷ slots) none = absurd (none (omega arith))
 
 pub record IsFirstSlot {A : Type 0} (slots : List (Option A)) : Type 0 where
   pub x : A
   pub slot : (d : Option A) → get_or slots 0 d ≡ Some x
-  pub oldest : IsOldest (items_in slots) x
+  pub oldest : IsOldestWaiting (waiting_items slots) x
 
 pub first_slot : {A : Type 0} (slots : List (Option A)) → 0 < length slots → StartsFull slots → IsFirstSlot slots
 first_slot [] some h = absurd (omega (arith, some))
 first_slot (None ∷ slots) some h = absurd h
-first_slot (Some x ∷ slots) some h = record { x = x; slot = λ d. refl; oldest = (items_in slots, refl) }
+first_slot (Some x ∷ slots) some h = record { x = x; slot = λ d. refl; oldest = (waiting_items slots, refl) }
 
 -- an empty slot at the front
 pub trimmed_none : {A : Type 0} (slots : List (Option A)) → IsTrimmed slots slots
@@ -180,7 +180,7 @@ pub trimmed_more : {A : Type 0} (old mid new : List (Option A)) → IsTrimmed ol
 trimmed_more old mid new k e =
     let long : length mid ≡ suc (length new) = ap length e in
     record {
-      items = sym (ap items_in e) ∙ k.items;
+      items = sym (ap waiting_items e) ∙ k.items;
       shorter = omega (arith, long, k.shorter);
       same = λ t pushed fits. (
           let n : pushed - length new ≡ (pushed - length mid) + 1 = omega (arith, long, k.shorter, fits) in
@@ -188,9 +188,9 @@ trimmed_more old mid new k e =
     }
 
 -- lanes
-pub roles_set : (lanes : List Lane) (i : ℕ) (a b : Lane) → i < length lanes → a ≡ get_or lanes i a → b.role ≡ a.role → roles_of (set lanes i b) ≡ roles_of lanes
+pub roles_set : (lanes : List Lane) (i : ℕ) (a b : Lane) → i < length lanes → a ≡ get_or lanes i a → b.role ≡ a.role → lane_roles (set lanes i b) ≡ lane_roles lanes
 roles_set [] i a b h is same = refl
-roles_set (lane ∷ lanes) zero a b h is same = ap (λ z. z ∷ roles_of lanes) (same ∙ ap (λ (z : Lane). z.role) is)
+roles_set (lane ∷ lanes) zero a b h is same = ap (λ z. z ∷ lane_roles lanes) (same ∙ ap (λ (z : Lane). z.role) is)
 roles_set (lane ∷ lanes) (suc i) a b h is same = ap (λ z. lane.role ∷ z) (roles_set lanes i a b (omega arith) is same)
 
 pub positions_set : (lanes : List Lane) (i : ℕ) (b : Lane) → i < length lanes → positions_at (set lanes i b) i ≡ b.positions.items

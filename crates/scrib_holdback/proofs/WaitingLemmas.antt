@@ -11,9 +11,9 @@ use Rattle.scrib_types.specs.WellFormed.{has_role}
 use Rattle.scrib_holdback.specs.declared.lanes.Lane.{Lane}
 use Rattle.scrib_holdback.specs.Reorderings.{is_own}
 use Rattle.scrib_holdback.specs.Waiters.{Waiters}
-use Rattle.scrib_holdback.specs.Holdings.{IsOldest}
+use Rattle.scrib_holdback.specs.Holdings.{IsOldestWaiting}
 use Rattle.scrib_holdback.specs.Releases.{own_items}
-use Rattle.scrib_holdback.specs.Lanes.{items_in, positions, roles_of, positions_at, StartsFull, AreLaid, HasPositions, IsTrimmed, IsSkipped, HasNone, IsFirstItem, IsTaken}
+use Rattle.scrib_holdback.specs.Lanes.{waiting_items, positions, lane_roles, positions_at, StartsFull, AreLaid, HasPositions, IsTrimmed, IsSlotSkipped, HasNone, IsFirstItem, TakesFirst}
 use Rattle.scrib_holdback.proofs.OwnEvents.{name_itself, same_name}
 use Rattle.scrib_holdback.proofs.Positions.{first_at, none_at, no_any, any_left, or_true, all_without, all_weaker, all_pushed}
 use Rattle.scrib_holdback.proofs.ReleaseLemmas.{own_items-append, own_item_yes}
@@ -24,21 +24,21 @@ got_in_place : {X : Type 0} (earlier later : List X) (x : X) → slice_get (earl
 got_in_place [] later x = refl
 got_in_place (y ∷ earlier) later x = got_in_place earlier later x
 
-got_lane : (earlier later : List Lane) (lane : Lane) → slice_get (roles_of (earlier ++ lane ∷ later)) (length earlier) ≡ Some lane.role
+got_lane : (earlier later : List Lane) (lane : Lane) → slice_get (lane_roles (earlier ++ lane ∷ later)) (length earlier) ≡ Some lane.role
 got_lane [] later lane = refl
 got_lane (y ∷ earlier) later lane = got_lane earlier later lane
 
-pub lane_found : (lanes : List Lane) (r : List ℕ) (i : ℕ) → position (λ (lane : Lane). bytes_eq r lane.role) lanes ≡ Some i → slice_get (roles_of lanes) i ≡ Some r
+pub lane_found : (lanes : List Lane) (r : List ℕ) (i : ℕ) → position (λ (lane : Lane). bytes_eq r lane.role) lanes ≡ Some i → slice_get (lane_roles lanes) i ≡ Some r
 lane_found lanes r i at =
     let k = first_at (λ (lane : Lane). bytes_eq r lane.role) lanes i at in
-    let got : slice_get (roles_of (k.earlier ++ k.x ∷ k.later)) i ≡ Some k.x.role = subst (λ n. slice_get (roles_of (k.earlier ++ k.x ∷ k.later)) n ≡ Some k.x.role) k.place (got_lane k.earlier k.later k.x) in
-    ap (λ z. slice_get (roles_of z) i) k.whole ∙ got ∙ ap (λ z. Some z) (sym (same_name r k.x.role k.here))
+    let got : slice_get (lane_roles (k.earlier ++ k.x ∷ k.later)) i ≡ Some k.x.role = subst (λ n. slice_get (lane_roles (k.earlier ++ k.x ∷ k.later)) n ≡ Some k.x.role) k.place (got_lane k.earlier k.later k.x) in
+    ap (λ z. slice_get (lane_roles z) i) k.whole ∙ got ∙ ap (λ z. Some z) (sym (same_name r k.x.role k.here))
 
-any_role : (lanes : List Lane) (r : List ℕ) → has_role r (roles_of lanes) ≡ list_any (λ (lane : Lane). bytes_eq r lane.role) lanes
+any_role : (lanes : List Lane) (r : List ℕ) → has_role r (lane_roles lanes) ≡ list_any (λ (lane : Lane). bytes_eq r lane.role) lanes
 any_role [] r = refl
 any_role (lane ∷ lanes) r = ap (λ b. bytes_eq r lane.role || b) (any_role lanes r)
 
-pub lane_missing : (lanes : List Lane) (r : List ℕ) → position (λ (lane : Lane). bytes_eq r lane.role) lanes ≡ None → has_role r (roles_of lanes) ≡ false
+pub lane_missing : (lanes : List Lane) (r : List ℕ) → position (λ (lane : Lane). bytes_eq r lane.role) lanes ≡ None → has_role r (lane_roles lanes) ≡ false
 lane_missing lanes r at =
     any_role lanes r ∙ no_any (λ (lane : Lane). bytes_eq r lane.role) lanes (none_at (λ (lane : Lane). bytes_eq r lane.role) lanes at)
 
@@ -57,12 +57,12 @@ none_met event r roles (x ∷ items) met none =
     let other : is_own r (event x) ≡ false = false_from_ne_true (is_own r (event x)) (λ y. true≢false (sym met.0 ∙ ap (λ z. has_role z roles) (sym (same_name r (subject_of (event x)) y)) ∙ none)) in
     ap (λ b. cond b (x ∷ own_items event r items) (own_items event r items)) other ∙ none_met event r roles items met.1 none
 
-pub placed : {A : Type 0} (event : A → Event) (lanes : List Lane) (r : List ℕ) (items : List A) (o : Option ℕ) → AllByRecursion (λ x. has_role (subject_of (event x)) (roles_of lanes) ≡ true) items → o ≡ position (λ (lane : Lane). bytes_eq r lane.role) lanes → MatchOption o (own_items event r items ≡ []) (λ place. slice_get (roles_of lanes) place ≡ Some r)
-placed event lanes r items None met e = none_met event r (roles_of lanes) items met (lane_missing lanes r (sym e))
+pub placed : {A : Type 0} (event : A → Event) (lanes : List Lane) (r : List ℕ) (items : List A) (o : Option ℕ) → AllByRecursion (λ x. has_role (subject_of (event x)) (lane_roles lanes) ≡ true) items → o ≡ position (λ (lane : Lane). bytes_eq r lane.role) lanes → MatchOption o (own_items event r items ≡ []) (λ place. slice_get (lane_roles lanes) place ≡ Some r)
+placed event lanes r items None met e = none_met event r (lane_roles lanes) items met (lane_missing lanes r (sym e))
 placed event lanes r items (Some i) met e = lane_found lanes r i (sym e)
 
 -- before the first item
-pub laid_nothing : {A : Type 0} (event : A → Event) (lanes : List Lane) (slots : List (Option A)) (pushed : ℕ) → lanes ≡ [] → slots ≡ [] → AreLaid event (roles_of lanes) (positions_at lanes) slots pushed
+pub laid_nothing : {A : Type 0} (event : A → Event) (lanes : List Lane) (slots : List (Option A)) (pushed : ℕ) → lanes ≡ [] → slots ≡ [] → AreLaid event (lane_roles lanes) (positions_at lanes) slots pushed
 laid_nothing event [] [] pushed e f = record {
   short = omega arith;
   distinct = λ i j r at other. absurd (cc);
@@ -73,6 +73,18 @@ laid_nothing event [] [] pushed e f = record {
 laid_nothing event (lane ∷ lanes) slots pushed e f = absurd (cc)
 laid_nothing event [] (slot ∷ slots) pushed e f = absurd (cc)
 
+-- one more is counted, where nothing waits
+pub laid_idle : {A : Type 0} (event : A → Event) (roles : List (List ℕ)) (at : ℕ → List ℕ) (slots : List (Option A)) (pushed : ℕ) → AreLaid event roles at slots pushed → waiting_items slots ≡ [] → AreLaid event roles at slots (pushed + 1)
+laid_idle event roles at [] pushed l none = record {
+  short = omega arith;
+  distinct = l.distinct;
+  laid = λ i r e. l.laid i r e;
+  met = l.met;
+  full = l.full;
+}
+laid_idle event roles at (None ∷ slots) pushed l none = absurd l.full
+laid_idle event roles at (Some x ∷ slots) pushed l none = absurd (cc)
+
 -- one lane more
 got_pushed : (roles : List (List ℕ)) (r s : List ℕ) (i : ℕ) → slice_get (roles ++ r ∷ []) i ≡ Some s → (slice_get roles i ≡ Some s) ⊎ ((i ≡ length roles) × (r ≡ s))
 got_pushed [] r s zero e = inr (refl, cc)
@@ -80,12 +92,12 @@ got_pushed [] r s (suc i) e = absurd (cc)
 got_pushed (t ∷ roles) r s zero e = inl e
 got_pushed (t ∷ roles) r s (suc i) e = elim (got_pushed roles r s i e) [ inl h ↦ inl h | inr h ↦ inr (ap suc h.0, h.1) ]
 
-old_positions : (lanes : List Lane) (lane : Lane) (i : ℕ) (r : List ℕ) → slice_get (roles_of lanes) i ≡ Some r → positions_at (lanes ++ lane ∷ []) i ≡ positions_at lanes i
+old_positions : (lanes : List Lane) (lane : Lane) (i : ℕ) (r : List ℕ) → slice_get (lane_roles lanes) i ≡ Some r → positions_at (lanes ++ lane ∷ []) i ≡ positions_at lanes i
 old_positions [] lane i r e = absurd (cc)
 old_positions (l ∷ lanes) lane zero r e = refl
 old_positions (l ∷ lanes) lane (suc i) r e = old_positions lanes lane i r e
 
-new_positions : (lanes : List Lane) (lane : Lane) → positions_at (lanes ++ lane ∷ []) (length (roles_of lanes)) ≡ lane.positions.items
+new_positions : (lanes : List Lane) (lane : Lane) → positions_at (lanes ++ lane ∷ []) (length (lane_roles lanes)) ≡ lane.positions.items
 new_positions [] lane = refl
 new_positions (l ∷ lanes) lane = new_positions lanes lane
 
@@ -98,28 +110,28 @@ same_place roles r s i j none distinct (inl a) (inr b) = absurd (not_met roles r
 same_place roles r s i j none distinct (inr a) (inl b) = absurd (not_met roles r s j none b a.1)
 same_place roles r s i j none distinct (inr a) (inr b) = a.0 ∙ sym b.0
 
-laid_here : {A : Type 0} (event : A → Event) (lanes : List Lane) (lane : Lane) (slots : List (Option A)) (pushed : ℕ) → AreLaid event (roles_of lanes) (positions_at lanes) slots pushed → has_role lane.role (roles_of lanes) ≡ false → lane.positions.items ≡ [] → (i : ℕ) (s : List ℕ) → (slice_get (roles_of lanes) i ≡ Some s) ⊎ ((i ≡ length (roles_of lanes)) × (lane.role ≡ s)) → positions_at (lanes ++ lane ∷ []) i ≡ positions (λ x. is_own s (event x)) (pushed - length slots) slots
+laid_here : {A : Type 0} (event : A → Event) (lanes : List Lane) (lane : Lane) (slots : List (Option A)) (pushed : ℕ) → AreLaid event (lane_roles lanes) (positions_at lanes) slots pushed → has_role lane.role (lane_roles lanes) ≡ false → lane.positions.items ≡ [] → (i : ℕ) (s : List ℕ) → (slice_get (lane_roles lanes) i ≡ Some s) ⊎ ((i ≡ length (lane_roles lanes)) × (lane.role ≡ s)) → positions_at (lanes ++ lane ∷ []) i ≡ positions (λ x. is_own s (event x)) (pushed - length slots) slots
 laid_here event lanes lane slots pushed l none empty i s (inl at) = old_positions lanes lane i s at ∙ l.laid i s at
 laid_here event lanes lane slots pushed l none empty i s (inr at) =
-    let gone : own_items event s (items_in slots) ≡ [] = none_met event s (roles_of lanes) (items_in slots) l.met (ap (λ z. has_role z (roles_of lanes)) (sym at.1) ∙ none) in
+    let gone : own_items event s (waiting_items slots) ≡ [] = none_met event s (lane_roles lanes) (waiting_items slots) l.met (ap (λ z. has_role z (lane_roles lanes)) (sym at.1) ∙ none) in
     ap (positions_at (lanes ++ lane ∷ [])) at.0 ∙ new_positions lanes lane ∙ empty ∙ sym (no_item_no_position (λ x. is_own s (event x)) (pushed - length slots) slots gone)
 
-pub laid_added : {A : Type 0} (event : A → Event) (lanes now : List Lane) (lane : Lane) (slots : List (Option A)) (pushed : ℕ) → AreLaid event (roles_of lanes) (positions_at lanes) slots pushed → has_role lane.role (roles_of lanes) ≡ false → lane.positions.items ≡ [] → now ≡ lanes ++ lane ∷ [] → AreLaid event (roles_of now) (positions_at now) slots pushed
+pub laid_added : {A : Type 0} (event : A → Event) (lanes now : List Lane) (lane : Lane) (slots : List (Option A)) (pushed : ℕ) → AreLaid event (lane_roles lanes) (positions_at lanes) slots pushed → has_role lane.role (lane_roles lanes) ≡ false → lane.positions.items ≡ [] → now ≡ lanes ++ lane ∷ [] → AreLaid event (lane_roles now) (positions_at now) slots pushed
 laid_added {A} event lanes now lane slots pushed l none empty more =
-    let roles : roles_of now ≡ roles_of lanes ++ lane.role ∷ [] = ap roles_of more ∙ map-append (λ (z : Lane). z.role) lanes (lane ∷ []) in
-    let old_met : A → Type 0 = λ x. has_role (subject_of (event x)) (roles_of lanes) ≡ true in
-    let now_met : A → Type 0 = λ x. has_role (subject_of (event x)) (roles_of now) ≡ true in
+    let roles : lane_roles now ≡ lane_roles lanes ++ lane.role ∷ [] = ap lane_roles more ∙ map-append (λ (z : Lane). z.role) lanes (lane ∷ []) in
+    let old_met : A → Type 0 = λ x. has_role (subject_of (event x)) (lane_roles lanes) ≡ true in
+    let now_met : A → Type 0 = λ x. has_role (subject_of (event x)) (lane_roles now) ≡ true in
     record {
       short = l.short;
-      distinct = λ i j s a b. same_place (roles_of lanes) lane.role s i j none l.distinct (got_pushed (roles_of lanes) lane.role s i (ap (λ z. slice_get z i) (sym roles) ∙ a)) (got_pushed (roles_of lanes) lane.role s j (ap (λ z. slice_get z j) (sym roles) ∙ b));
-      laid = λ i s a. ap (λ z. positions_at z i) more ∙ laid_here event lanes lane slots pushed l none empty i s (got_pushed (roles_of lanes) lane.role s i (ap (λ z. slice_get z i) (sym roles) ∙ a));
-      met = all_weaker old_met now_met (λ x h. ap (has_role (subject_of (event x))) roles ∙ any_left (bytes_eq (subject_of (event x))) (roles_of lanes) (lane.role ∷ []) h) (items_in slots) l.met;
+      distinct = λ i j s a b. same_place (lane_roles lanes) lane.role s i j none l.distinct (got_pushed (lane_roles lanes) lane.role s i (ap (λ z. slice_get z i) (sym roles) ∙ a)) (got_pushed (lane_roles lanes) lane.role s j (ap (λ z. slice_get z j) (sym roles) ∙ b));
+      laid = λ i s a. ap (λ z. positions_at z i) more ∙ laid_here event lanes lane slots pushed l none empty i s (got_pushed (lane_roles lanes) lane.role s i (ap (λ z. slice_get z i) (sym roles) ∙ a));
+      met = all_weaker old_met now_met (λ x h. ap (has_role (subject_of (event x))) roles ∙ any_left (bytes_eq (subject_of (event x))) (lane_roles lanes) (lane.role ∷ []) h) (waiting_items slots) l.met;
       full = l.full;
     }
 
-pub role_added : (lanes now : List Lane) (lane : Lane) (r : List ℕ) (n : ℕ) → now ≡ lanes ++ lane ∷ [] → lane.role ≡ r → n ≡ length lanes → slice_get (roles_of now) n ≡ Some r
+pub role_added : (lanes now : List Lane) (lane : Lane) (r : List ℕ) (n : ℕ) → now ≡ lanes ++ lane ∷ [] → lane.role ≡ r → n ≡ length lanes → slice_get (lane_roles now) n ≡ Some r
 role_added lanes now lane r n more same e =
-    ap (λ z. slice_get (roles_of z) n) more ∙ subst (λ m. slice_get (roles_of (lanes ++ lane ∷ [])) m ≡ Some lane.role) (sym e) (got_lane lanes [] lane) ∙ ap (λ z. Some z) same
+    ap (λ z. slice_get (lane_roles z) n) more ∙ subst (λ m. slice_get (lane_roles (lanes ++ lane ∷ [])) m ≡ Some lane.role) (sym e) (got_lane lanes [] lane) ∙ ap (λ z. Some z) same
 
 -- an item more
 other_own : {A : Type 0} (event : A → Event) (r s : List ℕ) (x : A) → r ≡ subject_of (event x) → (s ≡ r → ⊥) → is_own s (event x) ≡ false
@@ -146,27 +158,27 @@ pushed_elsewhere {A} event slots n x s other =
     ∙ ap (λ b. positions t n slots ++ cond b ((n + length slots) ∷ []) []) other
     ∙ append-nil (positions t n slots)
 
-pub laid_pushed : {A : Type 0} (event : A → Event) (lanes now : List Lane) (slots more : List (Option A)) (pushed place : ℕ) (x : A) → AreLaid event (roles_of lanes) (positions_at lanes) slots pushed → slice_get (roles_of lanes) place ≡ Some (subject_of (event x)) → HasPositions place (positions_at lanes place ++ pushed ∷ []) lanes now → more ≡ slots ++ Some x ∷ [] → AreLaid event (roles_of now) (positions_at now) more (pushed + 1)
+pub laid_pushed : {A : Type 0} (event : A → Event) (lanes now : List Lane) (slots more : List (Option A)) (pushed place : ℕ) (x : A) → AreLaid event (lane_roles lanes) (positions_at lanes) slots pushed → slice_get (lane_roles lanes) place ≡ Some (subject_of (event x)) → HasPositions place (positions_at lanes place ++ pushed ∷ []) lanes now → more ≡ slots ++ Some x ∷ [] → AreLaid event (lane_roles now) (positions_at now) more (pushed + 1)
 laid_pushed {A} event lanes now slots more pushed place x l role has e =
     let r = subject_of (event x) in
     let len : length more ≡ length slots + 1 = ap length e ∙ length-append slots (Some x ∷ []) in
     let base : pushed + 1 - length more ≡ pushed - length slots = omega (arith, len) in
-    let old_met : A → Type 0 = λ y. has_role (subject_of (event y)) (roles_of lanes) ≡ true in
-    let now_met : A → Type 0 = λ y. has_role (subject_of (event y)) (roles_of now) ≡ true in
+    let old_met : A → Type 0 = λ y. has_role (subject_of (event y)) (lane_roles lanes) ≡ true in
+    let now_met : A → Type 0 = λ y. has_role (subject_of (event y)) (lane_roles now) ≡ true in
     let to : (s : List ℕ) → positions (λ y. is_own s (event y)) (pushed + 1 - length more) more ≡ positions (λ y. is_own s (event y)) (pushed - length slots) (slots ++ Some x ∷ []) =
     λ s. ap (λ n. positions (λ y. is_own s (event y)) n more) base ∙ ap (positions (λ y. is_own s (event y)) (pushed - length slots)) e in
     record {
       short = omega (arith, len, l.short);
       distinct = λ i j s a b. l.distinct i j s (ap (λ z. slice_get z i) (sym has.roles) ∙ a) (ap (λ z. slice_get z j) (sym has.roles) ∙ b);
       laid = λ i s a. (
-          let was : slice_get (roles_of lanes) i ≡ Some s = ap (λ z. slice_get z i) (sym has.roles) ∙ a in
+          let was : slice_get (lane_roles lanes) i ≡ Some s = ap (λ z. slice_get z i) (sym has.roles) ∙ a in
           elim (cases_eq i place) [
-            | inl y ↦ let mine : s ≡ r = same_role (roles_of lanes) place r s role (ap (slice_get (roles_of lanes)) (sym y) ∙ was) in
+            | inl y ↦ let mine : s ≡ r = same_role (lane_roles lanes) place r s role (ap (slice_get (lane_roles lanes)) (sym y) ∙ was) in
                 ap (positions_at now) y ∙ has.here ∙ ap (λ z. z ++ pushed ∷ []) (ap (positions_at lanes) (sym y) ∙ l.laid i s was) ∙ sym (pushed_here event slots pushed x s l.short mine) ∙ sym (to s)
             | inr n ↦ let other : s ≡ r → ⊥ = λ same. n (l.distinct i place r (was ∙ ap (λ z. Some z) same) role) in
                 has.others i n ∙ l.laid i s was ∙ sym (pushed_elsewhere event slots (pushed - length slots) x s (other_own event r s x refl other)) ∙ sym (to s)
           ]);
-      met = subst (AllByRecursion now_met) (sym (ap items_in e ∙ items_pushed slots x)) (all_pushed now_met (items_in slots) x (all_weaker old_met now_met (λ y h. ap (has_role (subject_of (event y))) has.roles ∙ h) (items_in slots) l.met) (ap (has_role r) has.roles ∙ role_met (roles_of lanes) r place role));
+      met = subst (AllByRecursion now_met) (sym (ap waiting_items e ∙ items_pushed slots x)) (all_pushed now_met (waiting_items slots) x (all_weaker old_met now_met (λ y h. ap (has_role (subject_of (event y))) has.roles ∙ h) (waiting_items slots) l.met) (ap (has_role r) has.roles ∙ role_met (lane_roles lanes) r place role));
       full = subst StartsFull (sym e) (full_pushed slots x l.full);
     }
 
@@ -175,19 +187,19 @@ some_since zero m none e = absurd (none refl)
 some_since (suc n) m none e = omega (arith, e)
 
 -- an item that is counted alone
-pub skipped_none : {A : Type 0} (old new : List (Option A)) → old ≡ [] → new ≡ old → IsSkipped old new
+pub skipped_none : {A : Type 0} (old new : List (Option A)) → old ≡ [] → new ≡ old → IsSlotSkipped old new
 skipped_none old new none same = record {
-  items = ap items_in same;
+  items = ap waiting_items same;
   fits = omega (arith, ap length same);
   full = λ h. subst StartsFull (sym same) h;
   same = λ t pushed fits. ap (positions t (pushed + 1 - length new)) (same ∙ none) ∙ sym (ap (positions t (pushed - length old)) none);
 }
 
-pub skipped_one : {A : Type 0} (old new : List (Option A)) → 0 < length old → new ≡ old ++ None ∷ [] → IsSkipped old new
+pub skipped_one : {A : Type 0} (old new : List (Option A)) → 0 < length old → new ≡ old ++ None ∷ [] → IsSlotSkipped old new
 skipped_one old new some more =
     let len : length new ≡ length old + 1 = ap length more ∙ length-append old (None ∷ []) in
     record {
-      items = ap items_in more ∙ items_emptied old;
+      items = ap waiting_items more ∙ items_emptied old;
       fits = omega (arith, len);
       full = λ h. subst StartsFull (sym more) (full_emptied old some h);
       same = λ t pushed fits. (
@@ -195,7 +207,7 @@ skipped_one old new some more =
           ap (λ n. positions t n new) base ∙ ap (positions t (pushed - length old)) more ∙ positions_emptied t (pushed - length old) old);
     }
 
-pub laid_skipped : {A : Type 0} (event : A → Event) (roles : List (List ℕ)) (at : ℕ → List ℕ) (slots more : List (Option A)) (pushed : ℕ) → AreLaid event roles at slots pushed → IsSkipped slots more → AreLaid event roles at more (pushed + 1)
+pub laid_skipped : {A : Type 0} (event : A → Event) (roles : List (List ℕ)) (at : ℕ → List ℕ) (slots more : List (Option A)) (pushed : ℕ) → AreLaid event roles at slots pushed → IsSlotSkipped slots more → AreLaid event roles at more (pushed + 1)
 laid_skipped {A} event roles at slots more pushed l k =
     let is_met : A → Type 0 = λ y. has_role (subject_of (event y)) roles ≡ true in
     record {
@@ -207,7 +219,7 @@ laid_skipped {A} event roles at slots more pushed l k =
     }
 
 -- the first item of a lane
-role_by_positions : (lanes : List Lane) (place p : ℕ) (ps : List ℕ) → positions_at lanes place ≡ p ∷ ps → (r : List ℕ) × (slice_get (roles_of lanes) place ≡ Some r)
+role_by_positions : (lanes : List Lane) (place p : ℕ) (ps : List ℕ) → positions_at lanes place ≡ p ∷ ps → (r : List ℕ) × (slice_get (lane_roles lanes) place ≡ Some r)
 role_by_positions [] place p ps e = absurd (cc)
 role_by_positions (lane ∷ lanes) zero p ps e = (lane.role, refl)
 role_by_positions (lane ∷ lanes) (suc i) p ps e = role_by_positions lanes i p ps e
@@ -218,7 +230,7 @@ pub record IsLaneSlot {A : Type 0} (event : A → Event) (roles : List (List ℕ
   pub role : slice_get roles place ≡ Some r
   pub slot : IsSlot (λ x. is_own r (event x)) (pushed - length slots) slots p ps
 
-pub lane_slot : {A : Type 0} (event : A → Event) (lanes : List Lane) (slots : List (Option A)) (pushed place p : ℕ) (ps : List ℕ) → AreLaid event (roles_of lanes) (positions_at lanes) slots pushed → positions_at lanes place ≡ p ∷ ps → IsLaneSlot event (roles_of lanes) slots pushed place p ps
+pub lane_slot : {A : Type 0} (event : A → Event) (lanes : List Lane) (slots : List (Option A)) (pushed place p : ℕ) (ps : List ℕ) → AreLaid event (lane_roles lanes) (positions_at lanes) slots pushed → positions_at lanes place ≡ p ∷ ps → IsLaneSlot event (lane_roles lanes) slots pushed place p ps
 lane_slot event lanes slots pushed place p ps l e =
     let k = role_by_positions lanes place p ps e in
     record {
@@ -227,7 +239,7 @@ lane_slot event lanes slots pushed place p ps l e =
       slot = slot_at (λ x. is_own k.0 (event x)) (pushed - length slots) slots p ps (sym (l.laid place k.0 k.1) ∙ e);
     }
 
-pub lane_empty : {A : Type 0} (event : A → Event) (lanes : List Lane) (slots : List (Option A)) (pushed place : ℕ) → AreLaid event (roles_of lanes) (positions_at lanes) slots pushed → positions_at lanes place ≡ [] → (r : List ℕ) → slice_get (roles_of lanes) place ≡ Some r → own_items event r (items_in slots) ≡ []
+pub lane_empty : {A : Type 0} (event : A → Event) (lanes : List Lane) (slots : List (Option A)) (pushed place : ℕ) → AreLaid event (lane_roles lanes) (positions_at lanes) slots pushed → positions_at lanes place ≡ [] → (r : List ℕ) → slice_get (lane_roles lanes) place ≡ Some r → own_items event r (waiting_items slots) ≡ []
 lane_empty event lanes slots pushed place l e r role =
     no_position (λ x. is_own r (event x)) (pushed - length slots) slots (sym (l.laid place r role) ∙ e)
 
@@ -241,15 +253,15 @@ pub record IsAtPosition {A : Type 0} (event : A → Event) (lanes : List Lane) (
   pub above : pushed - length slots ≤ p
   pub within : p - (pushed - length slots) < length slots
   pub slot : (d : Option A) → get_or slots (p - (pushed - length slots)) d ≡ Some x
-  pub first : IsFirstItem event place record { roles = roles_of lanes; items = items_in slots; pushed = pushed } x
+  pub first : IsFirstItem event place record { roles = lane_roles lanes; items = waiting_items slots; pushed = pushed } x
 
-pub first_item : {A : Type 0} (event : A → Event) (lanes : List Lane) (slots : List (Option A)) (pushed place p : ℕ) (ps : List ℕ) → AreLaid event (roles_of lanes) (positions_at lanes) slots pushed → positions_at lanes place ≡ p ∷ ps → IsAtPosition event lanes slots pushed place p
+pub first_item : {A : Type 0} (event : A → Event) (lanes : List Lane) (slots : List (Option A)) (pushed place p : ℕ) (ps : List ℕ) → AreLaid event (lane_roles lanes) (positions_at lanes) slots pushed → positions_at lanes place ≡ p ∷ ps → IsAtPosition event lanes slots pushed place p
 first_item event lanes slots pushed place p ps l e =
     let k = lane_slot event lanes slots pushed place p ps l e in
     let s = k.slot in
     let index : s.index ≡ p - (pushed - length slots) = omega (arith, s.place) in
     let mine : k.r ≡ subject_of (event s.x) = same_name k.r (subject_of (event s.x)) s.own in
-    let own : own_items event k.r (items_in slots) ≡ s.x ∷ own_items event k.r s.later = first_own event k.r (items_in slots) s.earlier s.later s.x s.items s.first s.own in
+    let own : own_items event k.r (waiting_items slots) ≡ s.x ∷ own_items event k.r s.later = first_own event k.r (waiting_items slots) s.earlier s.later s.x s.items s.first s.own in
     record {
       x = s.x;
       above = omega (arith, s.place);
@@ -258,7 +270,7 @@ first_item event lanes slots pushed place p ps l e =
       first = record {
         role = k.role ∙ ap (λ z. Some z) mine;
         others = own_items event k.r s.later;
-        first = subst (λ z. own_items event z (items_in slots) ≡ s.x ∷ own_items event k.r s.later) mine own;
+        first = subst (λ z. own_items event z (waiting_items slots) ≡ s.x ∷ own_items event k.r s.later) mine own;
       };
     }
 
@@ -266,10 +278,10 @@ first_item event lanes slots pushed place p ps l e =
 pub record IsPopped {A : Type 0} (event : A → Event) (lanes now : List Lane) (slots left : List (Option A)) (pushed place p : ℕ) : Type 0 where
   pub x : A
   pub slot : (d : Option A) → get_or slots (p - (pushed - length slots)) d ≡ Some x
-  pub laid : AreLaid event (roles_of now) (positions_at now) left pushed
-  pub taken : IsTaken event place record { roles = roles_of lanes; items = items_in slots; pushed = pushed } record { roles = roles_of now; items = items_in left; pushed = pushed } x
+  pub laid : AreLaid event (lane_roles now) (positions_at now) left pushed
+  pub taken : TakesFirst event place record { roles = lane_roles lanes; items = waiting_items slots; pushed = pushed } record { roles = lane_roles now; items = waiting_items left; pushed = pushed } x
 
-pub popped : {A : Type 0} (event : A → Event) (lanes now : List Lane) (slots left : List (Option A)) (pushed place p : ℕ) (ps : List ℕ) → AreLaid event (roles_of lanes) (positions_at lanes) slots pushed → positions_at lanes place ≡ p ∷ ps → HasPositions place ps lanes now → IsTrimmed (set slots (p - (pushed - length slots)) None) left → StartsFull left → IsPopped event lanes now slots left pushed place p
+pub popped : {A : Type 0} (event : A → Event) (lanes now : List Lane) (slots left : List (Option A)) (pushed place p : ℕ) (ps : List ℕ) → AreLaid event (lane_roles lanes) (positions_at lanes) slots pushed → positions_at lanes place ≡ p ∷ ps → HasPositions place ps lanes now → IsTrimmed (set slots (p - (pushed - length slots)) None) left → StartsFull left → IsPopped event lanes now slots left pushed place p
 popped {A} event lanes now slots left pushed place p ps l e has trimmed full =
     let k = lane_slot event lanes slots pushed place p ps l e in
     let s = k.slot in
@@ -278,9 +290,9 @@ popped {A} event lanes now slots left pushed place p ps l e has trimmed full =
     let emptied : set slots s.index None ≡ set slots (p - (pushed - length slots)) None = ap (λ n. set slots n None) index in
     let t : IsTrimmed (set slots s.index None) left = subst (λ z. IsTrimmed z left) (sym emptied) trimmed in
     let len : length (set slots s.index None) ≡ length slots = length-set slots s.index None in
-    let items : items_in left ≡ s.earlier ++ s.later = t.items ∙ s.left in
-    let old_met : A → Type 0 = λ y. has_role (subject_of (event y)) (roles_of lanes) ≡ true in
-    let now_met : A → Type 0 = λ y. has_role (subject_of (event y)) (roles_of now) ≡ true in
+    let items : waiting_items left ≡ s.earlier ++ s.later = t.items ∙ s.left in
+    let old_met : A → Type 0 = λ y. has_role (subject_of (event y)) (lane_roles lanes) ≡ true in
+    let now_met : A → Type 0 = λ y. has_role (subject_of (event y)) (lane_roles now) ≡ true in
     let at : (r : List ℕ) → positions (λ y. is_own r (event y)) (pushed - length left) left ≡ positions (λ y. is_own r (event y)) (pushed - length slots) (set slots s.index None) =
     λ r. t.same (λ y. is_own r (event y)) pushed (omega (arith, len, l.short)) ∙ ap (λ n. positions (λ y. is_own r (event y)) (pushed - n) (set slots s.index None)) len in
     record {
@@ -290,9 +302,9 @@ popped {A} event lanes now slots left pushed place p ps l e has trimmed full =
         short = omega (arith, t.shorter, len, l.short);
         distinct = λ i j r a b. l.distinct i j r (ap (λ z. slice_get z i) (sym has.roles) ∙ a) (ap (λ z. slice_get z j) (sym has.roles) ∙ b);
         laid = λ i r a. (
-            let was : slice_get (roles_of lanes) i ≡ Some r = ap (λ z. slice_get z i) (sym has.roles) ∙ a in
+            let was : slice_get (lane_roles lanes) i ≡ Some r = ap (λ z. slice_get z i) (sym has.roles) ∙ a in
             elim (cases_eq i place) [
-              | inl y ↦ let same : r ≡ k.r = same_role (roles_of lanes) place k.r r k.role (ap (slice_get (roles_of lanes)) (sym y) ∙ was) in
+              | inl y ↦ let same : r ≡ k.r = same_role (lane_roles lanes) place k.r r k.role (ap (slice_get (lane_roles lanes)) (sym y) ∙ was) in
                   ap (positions_at now) y ∙ has.here ∙ sym s.rest ∙ ap (λ z. positions (λ v. is_own z (event v)) (pushed - length slots) (set slots s.index None)) (sym same) ∙ sym (at r)
               | inr n ↦ let other : r ≡ k.r → ⊥ = λ same. n (l.distinct i place k.r (was ∙ ap (λ z. Some z) same) k.role) in
                   has.others i n ∙ l.laid i r was ∙ sym (s.others (λ v. is_own r (event v)) (other_own event k.r r s.x mine other)) ∙ sym (at r)
@@ -315,13 +327,13 @@ pub first_lent : {A : Type 0} (event : A → Event) (place : ℕ) (w : Waiters A
 first_lent event place w None x e k = absurd (cc)
 first_lent event place w (Some b) x e k = let same : b.now ≡ x = cc in subst (IsFirstItem event place w) (sym same) k
 
-pub oldest_lent : {A : Type 0} (items : List A) (o : Option (Bor A)) (x : A) → option_copied o ≡ Some x → IsOldest items x → MatchOption o (items ≡ []) (λ b. IsOldest items b.now)
+pub oldest_lent : {A : Type 0} (items : List A) (o : Option (Bor A)) (x : A) → option_copied o ≡ Some x → IsOldestWaiting items x → MatchOption o (items ≡ []) (λ b. IsOldestWaiting items b.now)
 oldest_lent items None x e k = absurd (cc)
-oldest_lent items (Some b) x e k = let same : b.now ≡ x = cc in subst (IsOldest items) (sym same) k
+oldest_lent items (Some b) x e k = let same : b.now ≡ x = cc in subst (IsOldestWaiting items) (sym same) k
 
-pub taken_out : {A : Type 0} (event : A → Event) (place : ℕ) (old new : Waiters A) (o : Option A) (x : A) → o ≡ Some x → IsTaken event place old new x → MatchOption o (HasNone event place old) (λ y. IsTaken event place old new y)
+pub taken_out : {A : Type 0} (event : A → Event) (place : ℕ) (old new : Waiters A) (o : Option A) (x : A) → o ≡ Some x → TakesFirst event place old new x → MatchOption o (HasNone event place old) (λ y. TakesFirst event place old new y)
 taken_out event place old new None x e k = absurd (cc)
-taken_out event place old new (Some y) x e k = let same : y ≡ x = cc in subst (IsTaken event place old new) (sym same) k
+taken_out event place old new (Some y) x e k = let same : y ≡ x = cc in subst (TakesFirst event place old new) (sym same) k
 
 -- what is read of a lane
 abbrev pub HasFirst : List ℕ → Option ℕ → Type 0

@@ -47,21 +47,26 @@ pub record IsPushed {A : Type 0} (event : A → Event) (arrival : A) (old new : 
   pub after : (arrivals earlier expired : List A) → IsAfter event arrivals earlier expired old
       → IsAfter event (arrivals ++ arrival ∷ []) (earlier ++ given) expired new
 
+-- an arrival of this event was pushed, whichever: it is released at once, and nothing else is
+abbrev pub PassesAlone : {A : Type 0} → (A → Event) → Event → (old new : Holding A) → Type 0
+PassesAlone {A} event e old new =
+    (x : A) → event x ≡ e → (released : List A) → IsPushed event x old new released (released ++ x ∷ [])
+
 -- the item is the oldest of those that wait
-abbrev pub IsOldest : {A : Type 0} → List A → A → Type 0
-IsOldest {A} waiting x = (later : List A) × (waiting ≡ x ∷ later)
+abbrev pub IsOldestWaiting : {A : Type 0} → List A → A → Type 0
+IsOldestWaiting {A} waiting x = (later : List A) × (waiting ≡ x ∷ later)
 
 -- the oldest waiting arrival expired: it is released, and then what the rule releases, behind those that were
 pub record IsExpired {A : Type 0} (event : A → Event) (old new : Holding A) (released now : List A) : Type 0 where
   pub oldest : A
-  pub waited : IsOldest old.waiting oldest
+  pub waited : IsOldestWaiting old.waiting oldest
   pub given : List A
   pub appended : now ≡ released ++ oldest ∷ given
   pub after : (arrivals earlier expired : List A) → IsAfter event arrivals earlier expired old
       → IsAfter event arrivals (earlier ++ oldest ∷ given) (expired ++ oldest ∷ []) new
 
 -- nothing changed: what is released and what waits is the same after any arrivals
-abbrev pub IsUnchanged : {A : Type 0} → (A → Event) → Holding A → Holding A → Type 0
-IsUnchanged {A} event old new =
+abbrev pub IsSameAfterAny : {A : Type 0} → (A → Event) → Holding A → Holding A → Type 0
+IsSameAfterAny {A} event old new =
     (arrivals released expired : List A) → IsAfter event arrivals released expired old
     → IsAfter event arrivals released expired new

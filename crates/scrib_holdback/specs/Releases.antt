@@ -1,5 +1,5 @@
 -- Releases, one by one. Only contracts of private functions cite this file.
-use Rattle.std.specs.Prelude.{◌≡◌, ℕ, ◌+◌, ◌<◌, ◌≤◌, Bool, true, false, List, [], ◌∷◌, ◌++◌, length, filter, slice_get, Some}
+use Rattle.std.specs.Prelude.{◌≡◌, ℕ, ◌+◌, ◌<◌, ◌≤◌, Bool, true, false, List, [], ◌∷◌, ◌++◌, length, filter, position, slice_get, Some}
 use Rattle.std.specs.List.{AllByRecursion, list_any}
 use Rattle.std.specs.Str.{bytes_eq}
 use Rattle.scrib_types.specs.declared.event.Event.{Event}
@@ -8,13 +8,13 @@ use Rattle.scrib_types.specs.Logs.{subject_of}
 use Rattle.scrib_types.specs.Queues.{sent, received}
 use Rattle.scrib_holdback.specs.declared.flights.Flight.{Flight}
 use Rattle.scrib_holdback.specs.Reorderings.{is_own}
-use Rattle.scrib_holdback.specs.Holdings.{Holding, is_between, sent_on, received_on, IsOldest}
+use Rattle.scrib_holdback.specs.Holdings.{Holding, is_between, sent_on, received_on, IsOldestWaiting}
 
 -- by the counts the event may happen next: a reception, if more was sent on its pair than was received
-abbrev pub IsReady : List Flight → Event → Type 0
-IsReady flights (Join r) = Unit {0}
-IsReady flights (Sent p q m) = Unit {0}
-IsReady flights (Received p q m) = received_on p q flights < sent_on p q flights
+abbrev pub IsReceivable : List Flight → Event → Type 0
+IsReceivable flights (Join r) = Unit {0}
+IsReceivable flights (Sent p q m) = Unit {0}
+IsReceivable flights (Received p q m) = received_on p q flights < sent_on p q flights
 
 -- the pair of a send or a reception has a flight
 abbrev pub HasFlight : List Flight → Event → Type 0
@@ -22,9 +22,25 @@ HasFlight flights (Join r) = Unit {0}
 HasFlight flights (Sent p q m) = list_any (is_between p q) flights ≡ true
 HasFlight flights (Received p q m) = list_any (is_between p q) flights ≡ true
 
--- where the first flights have one for the event, so have the second
-abbrev pub KeepsFlights : List Flight → List Flight → Type 0
-KeepsFlights old new = (e : Event) → HasFlight old e → HasFlight new e
+-- the flight at this index is on the pair of p and q
+abbrev pub IsPairAt : (p q : List ℕ) → List Flight → ℕ → Type 0
+IsPairAt p q flights i = (f : Flight) × (slice_get flights i ≡ Some f) × (is_between p q f ≡ true)
+
+-- the flight at this index is the first on the event's pair: a join has none
+abbrev pub IsFlightOf : Event → List Flight → ℕ → Type 0
+IsFlightOf (Join r) flights i = Unit {0}
+IsFlightOf (Sent p q m) flights i = position (is_between p q) flights ≡ Some i
+IsFlightOf (Received p q m) flights i = position (is_between p q) flights ≡ Some i
+
+-- no two flights are on one pair
+abbrev pub AreDistinctFlights : List Flight → Type 0
+AreDistinctFlights [] = Unit {0}
+AreDistinctFlights (f ∷ flights) = (list_any (is_between f.from f.to) flights ≡ false) × AreDistinctFlights flights
+
+-- where the first flights have one for the event, so have the second, and they are as distinct
+pub record KeepsFlights (old new : List Flight) : Type 0 where
+  pub has : (e : Event) → HasFlight old e → HasFlight new e
+  pub distinct : AreDistinctFlights old → AreDistinctFlights new
 
 -- the event is counted
 pub record CountsEvent (e : Event) (old new : List Flight) : Type 0 where
@@ -45,7 +61,7 @@ pub record HasDue {A : Type 0} (event : A → Event) (r : List ℕ) (h : Holding
   pub x : A
   pub others : List A
   pub first : own_items event r h.waiting ≡ x ∷ others
-  pub ready : IsReady h.flights (event x)
+  pub ready : IsReceivable h.flights (event x)
 
 -- an item of the role at this place waits, and is the first of the role
 pub record WaitsAt {A : Type 0} (event : A → Event) (h : Holding A) (place : ℕ) : Type 0 where
@@ -57,18 +73,18 @@ pub record WaitsAt {A : Type 0} (event : A → Event) (h : Holding A) (place : �
 -- the first waiting item of the role at this place is ready
 pub record IsDueAt {A : Type 0} (event : A → Event) (h : Holding A) (place : ℕ) : Type 0 where
   pub waits : WaitsAt event h place
-  pub ready : IsReady h.flights (event waits.x)
+  pub ready : IsReceivable h.flights (event waits.x)
 
 -- the oldest item that waits is of the role at this place
-pub record IsOldestAt {A : Type 0} (event : A → Event) (h : Holding A) (place : ℕ) : Type 0 where
+pub record IsOldestOfRole {A : Type 0} (event : A → Event) (h : Holding A) (place : ℕ) : Type 0 where
   pub x : A
   pub role : slice_get h.roles place ≡ Some (subject_of (event x))
-  pub oldest : IsOldest h.waiting x
+  pub oldest : IsOldestWaiting h.waiting x
 
 -- nothing of the event's role waits, and the event is ready
-pub record IsNext {A : Type 0} (event : A → Event) (e : Event) (h : Holding A) : Type 0 where
+pub record IsNextArrival {A : Type 0} (event : A → Event) (e : Event) (h : Holding A) : Type 0 where
   pub none : own_items event (subject_of e) h.waiting ≡ []
-  pub ready : IsReady h.flights e
+  pub ready : IsReceivable h.flights e
 
 -- no role has an item that may be released
 abbrev pub IsQuiet : {A : Type 0} → (A → Event) → Holding A → Type 0
@@ -94,13 +110,13 @@ pub record IsTakenOut {A : Type 0} (event : A → Event) (old new : Holding A) (
   pub counts : CountsEvent (event x) old.flights new.flights
 
 -- the first waiting item of a role is released: it is ready
-pub record IsReleased {A : Type 0} (event : A → Event) (old new : Holding A) (x : A) : Type 0 where
+pub record IsReleasedFirst {A : Type 0} (event : A → Event) (old new : Holding A) (x : A) : Type 0 where
   pub taken : IsTakenOut event old new x
-  pub ready : IsReady old.flights (event x)
+  pub ready : IsReceivable old.flights (event x)
 
 -- the arrival, which is next, is released without waiting
-pub record IsPassed {A : Type 0} (event : A → Event) (x : A) (old new : Holding A) : Type 0 where
-  pub next : IsNext event (event x) old
+pub record PassesAtOnce {A : Type 0} (event : A → Event) (x : A) (old new : Holding A) : Type 0 where
+  pub next : IsNextArrival event (event x) old
   pub waiting : new.waiting ≡ old.waiting
   pub counts : CountsEvent (event x) old.flights new.flights
 
@@ -108,7 +124,7 @@ pub record IsPassed {A : Type 0} (event : A → Event) (x : A) (old new : Holdin
 pub data Releases {A : Type 0} (event : A → Event) (old : Holding A) : List A → Holding A → Type 0 where
   nothing : Releases event old [] old
   one_more : {given : List A} {mid new : Holding A} (x : A) → Releases event old given mid
-      → IsReleased event mid new x → Releases event old (given ++ x ∷ []) new
+      → IsReleasedFirst event mid new x → Releases event old (given ++ x ∷ []) new
 
 -- the first waiting item of the role at this place is taken out, counted, and put behind the others
 pub record IsTakenOnto {A : Type 0} (event : A → Event) (place : ℕ) (old new : Holding A) (released now : List A)
@@ -149,3 +165,4 @@ pub record IsSound {A : Type 0} (event : A → Event) (waiting : List A) (flight
   pub sends : (p q : List ℕ) → sent_on p q flights + length waiting ≤ pushed
   pub receptions : (p q : List ℕ) → received_on p q flights + length waiting ≤ pushed
   pub paired : AllByRecursion (λ x. HasFlight flights (event x)) waiting
+  pub distinct : AreDistinctFlights flights

@@ -3,14 +3,16 @@
 ghost use Rattle.std.specs.Prelude.{◌≡◌, ◌+◌, ◌<◌, ◌≤◌, ◌++◌, ◌∷◌, ◌↔◌, ℕ, true, List, [], IfOk, IsFalse, IsTrue, OnOk, OnErr, MatchOption, Some, drop, length, map, slice_get, vec_capacity, vec_len};
 ghost use Rattle.scrib_holdback.specs.FalseAlarms.{RaisesNoFalseAlarm};
 ghost use Rattle.scrib_holdback.specs.HoldBack.{IsHeldBack};
-ghost use Rattle.scrib_holdback.specs.Holdings.{IsAfter, IsExpired, IsOldest, IsPushed, IsUnchanged};
-ghost use Rattle.scrib_holdback.specs.Releases.{HasDue, IsAppended, IsDrained, IsDueAt, IsNext, IsOldestAt, IsPassed, IsQuiet, IsQuietAt, IsSameHolding, IsTakenOnto, OnlyReceivers, WaitsAt, is_send_to};
+ghost use Rattle.scrib_holdback.specs.Holdings.{IsAfter, IsExpired, IsOldestWaiting, IsPushed, IsSameAfterAny, PassesAlone};
+ghost use Rattle.scrib_holdback.specs.Releases.{HasDue, IsAppended, IsDrained, IsDueAt, IsNextArrival, IsOldestOfRole, PassesAtOnce, IsQuiet, IsQuietAt, IsReceivable, IsSameHolding, IsTakenOnto, OnlyReceivers, WaitsAt, is_send_to};
 ghost use Rattle.scrib_holdback.specs.Reorderings.{IsReordering};
 
 use crate::arrival::Arrival;
-use crate::flights::{Flight, count, is_ready, reserve};
+use crate::flights::{Flight, count, count_ready, is_ready, reserve};
+use crate::pair_hints::PairHints;
 use crate::waiting::Waiting;
 use scrib_types::event::Event;
+use scrib_types::shared_event::SharedEvent;
 use std::alloc::{AllocError, Global};
 use std::marker::Model;
 
@@ -27,6 +29,8 @@ use std::marker::Model;
 pub struct Holdback<A: Arrival> {
     waiting: Waiting<A>,
     flights: Vec<Flight>,
+    // Where the flights are. Correctness does not depend on it.
+    hints: PairHints,
 }
 
 impl<A: Arrival> Model for Holdback<A> {
@@ -51,7 +55,28 @@ impl<A: Arrival> Holdback<A> {
         Holdback {
             waiting: Waiting::new(alloc),
             flights: Vec::new(alloc),
+            hints: PairHints::new(),
         }
+    }
+
+    /// Takes the next arrival by its event alone, if it is released at once and nothing waits. The arrival isn't moved.
+    /// Returns whether it is so. If not, nothing changes, and [`Holdback::push`] has to take the arrival. It returns
+    /// `false` also where the arrival is the first message on its pair, and memory is refused.
+    #[inline(always)]
+    pub fn try_pass(&mut self, event: &SharedEvent) -> bool
+        ensures passed { IsTrue result → PassesAlone A.event event.now self.old self.new }
+        ensures same { IsFalse result → self.new ≡ self.old }
+    {
+        if !self.waiting.is_idle() {
+            return false;
+        }
+        let hint = self.hints.hint(event);
+        let Some(place) = count_ready(&mut self.flights, hint, event.get()) else {
+            return false;
+        };
+        self.waiting.count_idle();
+        self.hints.renew(event, hint, place);
+        true
     }
 
     /// Takes the next arrival, and puts what is released then behind what `released` has.
@@ -60,10 +85,10 @@ impl<A: Arrival> Holdback<A> {
     /// `AllocError` where memory or a reference count refuses it. Nothing is released, and the arrival is dropped.
     pub fn push(&mut self, arrival: A, released: &mut Vec<A>) -> Result<(), AllocError>
         ensures ok { OnOk result (IsPushed A.event arrival self.old self.new released.old.items released.new.items) }
-        ensures err { OnErr result (IsUnchanged A.event self.old self.new) }
+        ensures err { OnErr result (IsSameAfterAny A.event self.old self.new) }
         ensures err_released { OnErr result (released.new.items ≡ released.old.items) }
     {
-        if !self.is_next(arrival.event().get()) {
+        if !self.is_next(arrival.event()) {
             self.hold(arrival)?;
             return Ok(());
         }
@@ -75,7 +100,7 @@ impl<A: Arrival> Holdback<A> {
 
     /// The arrival that has waited longest.
     pub fn oldest(&self) -> Option<&A>
-        ensures { MatchOption result (self.now.waiting ≡ []) (λ x. IsOldest self.now.waiting x.now) }
+        ensures { MatchOption result (self.now.waiting ≡ []) (λ x. IsOldestWaiting self.now.waiting x.now) }
     {
         self.waiting.oldest()
     }
@@ -89,9 +114,9 @@ impl<A: Arrival> Holdback<A> {
         ensures expired { IfOk result (λ some. IsTrue some
             → IsExpired A.event self.old self.new released.old.items released.new.items) }
         ensures none { IfOk result (λ some. IsFalse some → self.old.waiting ≡ []) }
-        ensures unchanged { IfOk result (λ some. IsFalse some → IsUnchanged A.event self.old self.new) }
+        ensures unchanged { IfOk result (λ some. IsFalse some → IsSameAfterAny A.event self.old self.new) }
         ensures unreleased { IfOk result (λ some. IsFalse some → released.new.items ≡ released.old.items) }
-        ensures err { OnErr result (IsUnchanged A.event self.old self.new) }
+        ensures err { OnErr result (IsSameAfterAny A.event self.old self.new) }
         ensures err_released { OnErr result (released.new.items ≡ released.old.items) }
     {
         let Some(place) = self.place_of_oldest() else {
@@ -129,17 +154,24 @@ impl<A: Arrival> Holdback<A> {
 
     // The place of the oldest arrival's role.
     fn place_of_oldest(&self) -> Option<usize>
-        ensures { MatchOption result (self.now.waiting ≡ []) (λ place. IsOldestAt A.event self.now place) }
+        ensures { MatchOption result (self.now.waiting ≡ []) (λ place. IsOldestOfRole A.event self.now place) }
     {
         let arrival = self.waiting.oldest()?;
         self.waiting.place_of(arrival.event().get().subject())
     }
 
     // Whether an arrival with this event is released at once.
-    fn is_next(&self, event: &Event) -> bool
-        ensures { IsTrue result ↔ IsNext A.event event.now self.now }
+    fn is_next(&self, event: &SharedEvent) -> bool
+        ensures { IsTrue result ↔ IsNextArrival A.event event.now self.now }
     {
-        self.waiting.has_none(event.subject()) && is_ready(&self.flights, event)
+        self.waiting.has_none(event.get().subject()) && self.is_ready(event)
+    }
+
+    // Whether an arrival with this event may happen next.
+    fn is_ready(&self, event: &SharedEvent) -> bool
+        ensures { IsTrue result ↔ IsReceivable self.now.flights event.now }
+    {
+        is_ready(&self.flights, self.hints.hint(event), event.get())
     }
 
     // Puts the arrival behind what waits.
@@ -147,8 +179,10 @@ impl<A: Arrival> Holdback<A> {
         ensures ok { OnOk result (IsAppended A.event arrival self.old self.new) }
         ensures err { OnErr result (IsSameHolding self.old self.new) }
     {
-        let event = arrival.event().get();
-        reserve(&mut self.flights, event)?;
+        let shared = arrival.event();
+        let hint = self.hints.hint(shared);
+        let event = shared.get();
+        reserve(&mut self.flights, hint, event)?;
         let place = self.waiting.add_role(event.subject())?;
         self.waiting.push(place, arrival)?;
         Ok(())
@@ -156,18 +190,21 @@ impl<A: Arrival> Holdback<A> {
 
     // Releases the arrival at once. It makes room for all that may be released then.
     fn pass(&mut self, arrival: A, released: &mut Vec<A>) -> Result<(), AllocError>
-        requires { IsNext A.event (A.event arrival) self.old }
-        ensures ok { OnOk result (IsPassed A.event arrival self.old self.new) }
+        requires { IsNextArrival A.event (A.event arrival) self.old }
+        ensures ok { OnOk result (PassesAtOnce A.event arrival self.old self.new) }
         ensures appended { OnOk result (released.new.items ≡ released.old.items ++ arrival ∷ []) }
         ensures room { OnOk result (vec_len released.new + length self.new.waiting ≤ vec_capacity released.new) }
         ensures err { OnErr result (IsSameHolding self.old self.new) }
         ensures err_released { OnErr result (released.new.items ≡ released.old.items) }
     {
         released.reserve(self.waiting.bound() + 1)?;
-        let event = arrival.event().get();
-        reserve(&mut self.flights, event)?;
         self.waiting.skip()?;
-        count(&mut self.flights, event);
+        let shared = arrival.event();
+        let hint = self.hints.hint(shared);
+        let Some(pair) = count_ready(&mut self.flights, hint, shared.get()) else {
+            return Err(AllocError);
+        };
+        self.hints.renew(shared, hint, pair);
         released.push_reserved(arrival);
         Ok(())
     }
@@ -217,7 +254,7 @@ impl<A: Arrival> Holdback<A> {
         ensures no { IsFalse result → IsQuietAt A.event place self.now }
     {
         match self.waiting.first(place) {
-            Some(arrival) => is_ready(&self.flights, arrival.event().get()),
+            Some(arrival) => self.is_ready(arrival.event()),
             None => false,
         }
     }
@@ -234,7 +271,10 @@ impl<A: Arrival> Holdback<A> {
         let Some(arrival) = self.waiting.pop(place) else {
             unreachable!()
         };
-        count(&mut self.flights, arrival.event().get());
+        let shared = arrival.event();
+        let hint = self.hints.hint(shared);
+        let pair = count(&mut self.flights, hint, shared.get());
+        self.hints.renew(shared, hint, pair);
         released.push_reserved(arrival);
     }
 

@@ -6,4 +6,5 @@ mod flights;
 pub mod holdback;
 mod lanes;
 pub mod law;
+mod pair_hints;
 mod waiting;

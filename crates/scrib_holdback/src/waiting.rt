@@ -2,8 +2,8 @@
 
 ghost use Rattle.std.specs.Prelude.{◌≡◌, ◌≤◌, ◌<◌, ◌+◌, ◌^◌, ◌++◌, ◌∷◌, ◌↔◌, [], ℕ, List, true, IfOk, IsTrue, OnOk, OnErr, MatchOption, Some, length, slice_get, if◌then◌else◌, is_ok};
 ghost use Rattle.scrib_types.specs.Logs.{subject_of};
-ghost use Rattle.scrib_holdback.specs.Holdings.{IsOldest};
-ghost use Rattle.scrib_holdback.specs.Lanes.{HasNone, IsFirstItem, IsSkipped, IsTaken, IsTrimmed, StartsFull, items_in};
+ghost use Rattle.scrib_holdback.specs.Holdings.{IsOldestWaiting};
+ghost use Rattle.scrib_holdback.specs.Lanes.{HasNone, IsFirstItem, IsSlotSkipped, TakesFirst, IsTrimmed, StartsFull, waiting_items};
 ghost use Rattle.scrib_holdback.specs.Releases.{own_items};
 
 use crate::arrival::Arrival;
@@ -29,16 +29,17 @@ pub(crate) struct Waiting<A: Arrival> {
 }
 
 impl<A: Arrival> Model for Waiting<A> {
-    ghost use Rattle.scrib_holdback.specs.Lanes.{AreLaid, items_in, positions_at, roles_of};
+    ghost use Rattle.scrib_holdback.specs.Lanes.{AreLaid, waiting_items, positions_at, lane_roles};
     ghost use Rattle.scrib_holdback.specs.Waiters.{Waiters, waiters_code};
 
     ghost Value = { Waiters A };
 
     ghost coded = { waiters_code A.code };
 
-    ghost view = { λ w. record { roles = roles_of w.lanes.items; items = items_in w.slots.items; pushed = w.pushed } };
+    ghost view = { λ w.
+        record { roles = lane_roles w.lanes.items; items = waiting_items w.slots.items; pushed = w.pushed } };
 
-    ghost invariant = { λ w. AreLaid A.event (roles_of w.lanes.items) (positions_at w.lanes.items)
+    ghost invariant = { λ w. AreLaid A.event (lane_roles w.lanes.items) (positions_at w.lanes.items)
         w.slots.items w.pushed };
 }
 
@@ -126,6 +127,29 @@ impl<A: Arrival> Waiting<A> {
         Ok(())
     }
 
+    /// Whether nothing waits, and another arrival can be counted.
+    #[inline(always)]
+    pub(crate) fn is_idle(&self) -> bool
+        ensures none { IsTrue result → self.now.items ≡ [] }
+        ensures fits { IsTrue result → self.now.pushed + 1 < 2 ^ 64 }
+    {
+        if !self.slots.is_empty() {
+            return false;
+        }
+        self.pushed < usize::MAX
+    }
+
+    /// Counts an arrival that doesn't wait, where nothing does.
+    #[inline(always)]
+    pub(crate) fn count_idle(&mut self)
+        requires none { self.old.items ≡ [] }
+        requires fits { self.old.pushed + 1 < 2 ^ 64 }
+        ensures items { self.new.items ≡ self.old.items }
+        ensures pushed { self.new.pushed ≡ self.old.pushed + 1 }
+    {
+        self.pushed += 1;
+    }
+
     /// Whether nothing of the role waits.
     pub(crate) fn has_none(&self, role: &Role) -> bool
         ensures { IsTrue result ↔ (own_items A.event role.now self.now.items ≡ []) }
@@ -138,7 +162,7 @@ impl<A: Arrival> Waiting<A> {
 
     /// The oldest arrival.
     pub(crate) fn oldest(&self) -> Option<&A>
-        ensures { MatchOption result (self.now.items ≡ []) (λ x. IsOldest self.now.items x.now) }
+        ensures { MatchOption result (self.now.items ≡ []) (λ x. IsOldestWaiting self.now.items x.now) }
     {
         let slot = self.slots.front()?;
         slot.as_ref()
@@ -160,7 +184,7 @@ impl<A: Arrival> Waiting<A> {
         ensures pushed { self.new.pushed ≡ self.old.pushed }
         ensures fits { self.new.pushed < 2 ^ 64 }
         ensures taken { MatchOption result (HasNone A.event place self.old)
-            (λ x. IsTaken A.event place self.old self.new x) }
+            (λ x. TakesFirst A.event place self.old self.new x) }
     {
         let position = pop_position(&mut self.lanes, place)?;
         let index = position - (self.pushed - self.slots.len());
@@ -186,7 +210,7 @@ impl<A: Arrival> Waiting<A> {
 
 // Puts an empty slot behind the others. None is needed where there are no others.
 fn push_empty<A: Drop>(slots: &mut VecDeque<Option<A>>) -> Result<(), AllocError>
-    ensures ok { OnOk result (IsSkipped slots.old.items slots.new.items) }
+    ensures ok { OnOk result (IsSlotSkipped slots.old.items slots.new.items) }
     ensures err { OnErr result (slots.new.items ≡ slots.old.items) }
 {
     if slots.is_empty() {
@@ -208,7 +232,7 @@ fn trim<A: Drop>(slots: &mut VecDeque<Option<A>>)
 
 // Puts what the slot has behind the items.
 fn push_item<A: Drop>(items: &mut Vec<A>, slot: Option<A>) -> Result<(), AllocError>
-    ensures { OnOk result (items.new.items ≡ items.old.items ++ items_in (slot ∷ [])) }
+    ensures { OnOk result (items.new.items ≡ items.old.items ++ waiting_items (slot ∷ [])) }
 {
     if let Some(item) = slot {
         items.push(item)?;

@@ -1,8 +1,6 @@
-use Rattle.std.proofs.Common.{◌≡◌, ◌∙◌, sym, refl, ap, subst, true, position}
-use Rattle.std.specs.List.{list_any}
+use Rattle.std.proofs.Common.{◌∙◌, sym, ap, position}
 use Rattle.scrib_holdback.specs.Holdings.{is_between}
-use Rattle.scrib_holdback.specs.Releases.{SameCounts}
-use Rattle.scrib_holdback.proofs.FlightLemmas.{added_same, added_has, some_has}
+use Rattle.scrib_holdback.proofs.FlightLemmas.{none_found, some_has, found_has}
 use Rattle.scrib_holdback.proofs.flights.reserve_pair.Goals as goal
 
 pub returns-then-is_some-clause-made : goal.returns-then-is_some-clause-made
@@ -11,12 +9,11 @@ returns-then-is_some-clause-made c =
     (c.place_of.ensures ∙ ap (position (is_between c.args.from.now c.args.to.now)) c.deref.ensures.value)
     (sym c.is_some.ensures ∙ c.if-is_some.true)
 
-pub returns-clause-same : goal.returns-clause-same
-returns-clause-same c =
-    subst (SameCounts c.args.flights.now.items) (sym c.in_ok-push.ensures.items)
-    (added_same c.args.flights.now.items _ refl refl)
+pub add_pair-requires-clause-missing : goal.add_pair-requires-clause-missing
+add_pair-requires-clause-missing c =
+    none_found c.args.from.now c.args.to.now c.args.flights.now.items c.place_of.result
+    (c.place_of.ensures ∙ ap (position (is_between c.args.from.now c.args.to.now)) c.deref.ensures.value)
+    (sym c.is_some.ensures ∙ c.if-is_some.false)
 
 pub returns-clause-made : goal.returns-clause-made
-returns-clause-made c =
-    subst (λ z. list_any (is_between c.args.from.now c.args.to.now) z ≡ true) (sym c.in_ok-push.ensures.items)
-    (added_has c.args.from.now c.args.to.now c.args.flights.now.items _ c.in_ok-from.ensures c.in_ok-to.ensures)
+returns-clause-made c = found_has c.args.from.now c.args.to.now c.add_pair.new.flights.items _ c.in_ok-add_pair.ensures.made

@@ -1,6 +1,6 @@
 use Rattle.std.proofs.Common.{◌≡◌, ◌∙◌, false, sym, subst}
 use Rattle.std.proofs.lemmas.Bool.{true≢false}
-use Rattle.scrib_holdback.specs.Releases.{IsNext}
+use Rattle.scrib_holdback.specs.Releases.{IsNextArrival}
 use Rattle.scrib_holdback.proofs.ReleaseLemmas.{pushes_held, pushes_passed}
 use Rattle.scrib_holdback.proofs.holdback.Holdback.push.Goals as goal
 
@@ -8,7 +8,7 @@ pub returns-then-not-is_next-clause-ok : goal.returns-then-not-is_next-clause-ok
 returns-then-not-is_next-clause-ok g c =
     let no_ : c.is_next.result ≡ false = c.if-not-is_next.true in
     pushes_held g.A.Arrival.event c.args.arrival c.args.self.now c.hold.new.self c.args.released.now.items c.in_ok-hold.ensures.ok
-    (λ n. true≢false (sym (c.is_next.ensures.1 (subst (λ e. IsNext g.A.Arrival.event e c.args.self.now) (sym (c.get.ensures ∙ c.event.ensures)) n)) ∙ no_))
+    (λ n. true≢false (sym (c.is_next.ensures.1 (subst (λ e. IsNextArrival g.A.Arrival.event e c.args.self.now) (sym c.event.ensures) n)) ∙ no_))
 
 pub returns-clause-ok : goal.returns-clause-ok
 returns-clause-ok g c =

@@ -4,25 +4,25 @@ use Rattle.scrib_holdback.specs.Holdings.{Holding}
 use Rattle.scrib_holdback.proofs.HoldbackLemmas.{taken_at, sound_taken, taken_paired, counted_read, kept_read, has_read}
 use Rattle.scrib_holdback.proofs.holdback.Holdback.take.Goals as goal
 
-pub count-requires-clause-paired : goal.count-requires-clause-paired
-count-requires-clause-paired g c =
-    has_read c.deref_mut.result.now c.self.inside.flights.items c.get.result.now (g.A.Arrival.event c.in-Some.arrival) (sym c.deref_mut.ensures.value) (sym (c.get.ensures ∙ c.event.ensures))
+pub count-pair-requires-clause-paired : goal.count-pair-requires-clause-paired
+count-pair-requires-clause-paired g c =
+    has_read c.deref_mut.result.now c.self.inside.flights.items c.get.result.now (g.A.Arrival.event c.in-Some.arrival) (sym c.deref_mut.ensures.value) (sym (c.get.ensures ∙ c.event-shared.ensures))
     (taken_paired g.A.Arrival.event c.args.place c.self.inside.waiting c.pop.new.self c.self.inside.flights.items c.self.inside.waiting.pushed c.in-Some.arrival c.self.invariant c.in-Some.ensures.taken)
 
 pub invariant_of-self : goal.invariant_of-self
 invariant_of-self g c =
     let old : Holding g.row.A.Denot = record { roles = c.self.inside.waiting.roles; waiting = c.self.inside.waiting.items; flights = c.self.inside.flights.items } in
-    let new : Holding g.row.A.Denot = record { roles = c.pop.new.self.roles; waiting = c.pop.new.self.items; flights = c.count.new.flights } in
-    let counted = counted_read c.get.result.now (g.A.Arrival.event c.in-Some.arrival) old.flights c.deref_mut.result.now c.count.new.flights c.deref_mut.ensures.value (c.get.ensures ∙ c.event.ensures) c.count.ensures.counted in
-    let step = taken_at g.A.Arrival.event c.args.place c.self.inside.waiting c.pop.new.self c.self.inside.flights.items c.count.new.flights c.in-Some.arrival c.in-Some.ensures.taken counted in
-    rw (with_items_is c.self.inside.flights c.count.new.flights (c.count.auto.flights ∙ c.deref_mut.ensures.len), c.in-Some.ensures.pushed)
+    let new : Holding g.row.A.Denot = record { roles = c.pop.new.self.roles; waiting = c.pop.new.self.items; flights = c.count-pair.new.flights } in
+    let counted = counted_read c.get.result.now (g.A.Arrival.event c.in-Some.arrival) old.flights c.deref_mut.result.now c.count-pair.new.flights c.deref_mut.ensures.value (c.get.ensures ∙ c.event-shared.ensures) c.count-pair.ensures.counted in
+    let step = taken_at g.A.Arrival.event c.args.place c.self.inside.waiting c.pop.new.self c.self.inside.flights.items c.count-pair.new.flights c.in-Some.arrival c.in-Some.ensures.taken counted in
+    rw (with_items_is c.self.inside.flights c.count-pair.new.flights (c.count-pair.auto.flights ∙ c.deref_mut.ensures.len), c.in-Some.ensures.pushed)
     (sound_taken g.A.Arrival.event old new c.self.inside.waiting.pushed c.in-Some.arrival c.self.invariant step
-    (kept_read old.flights c.deref_mut.result.now c.count.new.flights c.deref_mut.ensures.value c.count.ensures.kept))
+    (kept_read old.flights c.deref_mut.result.now c.count-pair.new.flights c.deref_mut.ensures.value c.count-pair.ensures.kept))
 
 pub returns-clause-taken : goal.returns-clause-taken
 returns-clause-taken g c =
     let old : Holding g.row.A.Denot = record { roles = c.self.inside.waiting.roles; waiting = c.self.inside.waiting.items; flights = c.self.inside.flights.items } in
-    let counted = counted_read c.get.result.now (g.A.Arrival.event c.in-Some.arrival) old.flights c.deref_mut.result.now c.count.new.flights c.deref_mut.ensures.value (c.get.ensures ∙ c.event.ensures) c.count.ensures.counted in
-    let step = taken_at g.A.Arrival.event c.args.place c.self.inside.waiting c.pop.new.self c.self.inside.flights.items c.count.new.flights c.in-Some.arrival c.in-Some.ensures.taken counted in
-    rw (← c.self.view_is, with_items_is c.self.inside.flights c.count.new.flights (c.count.auto.flights ∙ c.deref_mut.ensures.len))
+    let counted = counted_read c.get.result.now (g.A.Arrival.event c.in-Some.arrival) old.flights c.deref_mut.result.now c.count-pair.new.flights c.deref_mut.ensures.value (c.get.ensures ∙ c.event-shared.ensures) c.count-pair.ensures.counted in
+    let step = taken_at g.A.Arrival.event c.args.place c.self.inside.waiting c.pop.new.self c.self.inside.flights.items c.count-pair.new.flights c.in-Some.arrival c.in-Some.ensures.taken counted in
+    rw (← c.self.view_is, with_items_is c.self.inside.flights c.count-pair.new.flights (c.count-pair.auto.flights ∙ c.deref_mut.ensures.len))
     (record { x = c.in-Some.arrival; role = c.in-Some.ensures.taken.role; taken = step; appended = c.push_reserved.ensures.items })

@@ -1,7 +1,7 @@
 use Rattle.std.proofs.Common.{◌≡◌, ◌∙◌, [], MatchOption, refl, subst, arith}
 use Rattle.std.proofs.lemmas.Bool.{false≢true}
-use Rattle.scrib_holdback.specs.Holdings.{IsOldest}
-use Rattle.scrib_holdback.specs.Lanes.{items_in}
+use Rattle.scrib_holdback.specs.Holdings.{IsOldestWaiting}
+use Rattle.scrib_holdback.specs.Lanes.{waiting_items}
 use Rattle.scrib_holdback.specs.Waiters.{Waiters}
 use Rattle.scrib_holdback.proofs.SlotLemmas.{no_slots, first_slot}
 use Rattle.scrib_holdback.proofs.WaitingLemmas.{oldest_lent}
@@ -16,5 +16,5 @@ returns-in_err-slot g c =
 pub returns : goal.returns
 returns g c =
     let k = first_slot c.self.inside.slots.items (omega (arith, c.in_ok-slot.ensures.variant.0 refl, c.self.inside.slots.ok.0)) c.self.invariant.full in
-    subst (λ (w : Waiters g.row.A.Denot). MatchOption c.as_ref.result (w.items ≡ []) (λ b. IsOldest w.items b.now)) c.self.view_is
-    (oldest_lent (items_in c.self.inside.slots.items) c.as_ref.result k.x (c.as_ref.ensures.value ∙ c.in_ok-slot.ensures.lookup ∙ k.slot c.in_ok-slot.slot.now) k.oldest)
+    subst (λ (w : Waiters g.row.A.Denot). MatchOption c.as_ref.result (w.items ≡ []) (λ b. IsOldestWaiting w.items b.now)) c.self.view_is
+    (oldest_lent (waiting_items c.self.inside.slots.items) c.as_ref.result k.x (c.as_ref.ensures.value ∙ c.in_ok-slot.ensures.lookup ∙ k.slot c.in_ok-slot.slot.now) k.oldest)

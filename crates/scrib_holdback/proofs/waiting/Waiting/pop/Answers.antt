@@ -1,6 +1,6 @@
 use Rattle.std.proofs.Common.{◌≡◌, ◌∙◌, ◌-◌, Some, None, length, get_or, set, ap, subst, arith}
 use Rattle.scrib_holdback.specs.Waiters.{Waiters}
-use Rattle.scrib_holdback.specs.Lanes.{items_in, roles_of, IsTaken, IsTrimmed}
+use Rattle.scrib_holdback.specs.Lanes.{waiting_items, lane_roles, TakesFirst, IsTrimmed}
 use Rattle.scrib_holdback.proofs.WaitingLemmas.{first_item, popped, lane_empty, taken_out}
 use Rattle.scrib_holdback.proofs.waiting.Waiting.pop.Goals as goal
 
@@ -40,6 +40,6 @@ returns-clause-taken g c =
     c.in_ok-position.ensures.left.0 c.self.invariant c.in_ok-position.ensures.left.1 c.in_ok-position.ensures.left.2
     (subst (λ z. IsTrimmed z c.trim.new.slots.items) slots c.trim.ensures.trimmed) c.trim.ensures.full in
     let read : c.take-arrival.result ≡ Some k.x = c.take-arrival.ensures.value ∙ c.index_mut.ensures.value ∙ ap (λ n. get_or c.self.inside.slots.items n c.index_mut.result.now) index ∙ k.slot c.index_mut.result.now in
-    let now : Waiters g.row.A.Denot = record { roles = roles_of c.pop_position.new.lanes.items; items = items_in c.trim.new.slots.items; pushed = c.self.inside.pushed } in
+    let now : Waiters g.row.A.Denot = record { roles = lane_roles c.pop_position.new.lanes.items; items = waiting_items c.trim.new.slots.items; pushed = c.self.inside.pushed } in
     taken_out g.A.Arrival.event c.args.place c.args.self.now now c.take-arrival.result k.x read
-    (subst (λ (w : Waiters g.row.A.Denot). IsTaken g.A.Arrival.event c.args.place w now k.x) c.self.view_is k.taken)
+    (subst (λ (w : Waiters g.row.A.Denot). TakesFirst g.A.Arrival.event c.args.place w now k.x) c.self.view_is k.taken)

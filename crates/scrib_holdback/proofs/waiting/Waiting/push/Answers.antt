@@ -1,7 +1,7 @@
 use Rattle.std.proofs.Common.{◌≡◌, ◌∙◌, ◌++◌, ◌∷◌, [], sym, ap, subst, slice_get, Some}
 use Rattle.scrib_types.specs.Logs.{subject_of}
 use Rattle.scrib_holdback.specs.Waiters.{Waiters}
-use Rattle.scrib_holdback.specs.Lanes.{items_in}
+use Rattle.scrib_holdback.specs.Lanes.{waiting_items}
 use Rattle.scrib_holdback.proofs.SlotLemmas.{items_pushed}
 use Rattle.scrib_holdback.proofs.WaitingLemmas.{laid_pushed}
 use Rattle.scrib_holdback.proofs.waiting.Waiting.push.Goals as goal
@@ -16,6 +16,6 @@ invariant_of-self-2 g c =
 
 pub returns-clause-items : goal.returns-clause-items
 returns-clause-items g c =
-    ap items_in (c.push_back_reserved.ensures.items ∙ ap (λ z. z ++ Some c.args.arrival ∷ []) c.in_ok-reserve.ensures.items)
+    ap waiting_items (c.push_back_reserved.ensures.items ∙ ap (λ z. z ++ Some c.args.arrival ∷ []) c.in_ok-reserve.ensures.items)
     ∙ items_pushed c.self.inside.slots.items c.args.arrival
     ∙ ap (λ (w : Waiters g.row.A.Denot). w.items ++ c.args.arrival ∷ []) c.self.view_is
