@@ -2,15 +2,15 @@
 use Rattle.std.proofs.Common.{◌≡◌, ◌∙◌, ℕ, true, false, List, [], ◌∷◌, ◌++◌, Option, None, Some, refl, sym, ap, subst, append_assoc, append-nil}
 use Rattle.std.proofs.lemmas.Bool.{true≢false}
 use Rattle.scrib_types.specs.declared.event.Event.{Event}
-use Rattle.scrib_holdback.specs.Holdings.{IsAfter, IsOldest, IsPushed, IsExpired}
+use Rattle.scrib_holdback.specs.Holdings.{IsAfter, IsOldestWaiting, IsPushed, IsExpired}
 use Rattle.scrib_hold_stage.specs.declared.noted.Noted.{Noted}
 use Rattle.scrib_hold_stage.specs.declared.conversation.Conversation.{Conversation}
-use Rattle.scrib_hold_stage.specs.Conversations.{event_of, waiting_in, waiting_at, IsOpen, IsClosedAt, IsPushedTo, IsOpenedIn, IsExpiredIn, IsOldestAt}
+use Rattle.scrib_hold_stage.specs.Conversations.{noted_event, waiting_in, waiting_at, IsOpen, IsClosedAt, IsPushedTo, IsOpenedIn, IsExpiredIn, IsOldestOfTime}
 
 -- an open conversation's event arrives
 pub pushed_open : {A : Type 0} (event : A → Event) (x : Noted A) (old new : Conversation A) (released now : List (Noted A))
     → old.opened ≡ true → new.opened ≡ old.opened → new.early.items ≡ old.early.items
-    → IsPushed (event_of event) x old.holdback new.holdback released now → IsPushedTo event x (Some old) (Some new) released now
+    → IsPushed (noted_event event) x old.holdback new.holdback released now → IsPushedTo event x (Some old) (Some new) released now
 pushed_open event x old new released now is_open same early p = record {
   given = p.given;
   appended = p.appended;
@@ -33,7 +33,7 @@ pushed_early event x old new released not_open same kept early = record {
     record {
       closed = same ∙ k.closed;
       wait = early ∙ ap (λ z. z ++ x ∷ []) k.wait;
-      fresh = subst (IsAfter (event_of event) [] [] []) (sym kept) k.fresh;
+      fresh = subst (IsAfter (noted_event event) [] [] []) (sym kept) k.fresh;
     },
     refl,
   );
@@ -45,7 +45,7 @@ pushed_early event x old new released not_open same kept early = record {
 -- these events arrived or wait for the opening, and of those that arrived these were released, and these expired
 abbrev pub IsPart : {A : Type 0} → (A → Event) → Conversation A → (arrivals released expired : List (Noted A)) → Type 0
 IsPart {A} event c arrivals released expired =
-    (pushed : List (Noted A)) × (arrivals ≡ pushed ++ c.early.items) × IsAfter (event_of event) pushed released expired c.holdback
+    (pushed : List (Noted A)) × (arrivals ≡ pushed ++ c.early.items) × IsAfter (noted_event event) pushed released expired c.holdback
 
 -- some of what waited has arrived
 pub record IsOpening {A : Type 0} (event : A → Event) (old new : Conversation A) (released now : List (Noted A)) : Type 0 where
@@ -64,7 +64,7 @@ opening_none event c released is_open = record {
 
 pub opening_more : {A : Type 0} (event : A → Event) (old mid new : Conversation A) (released between now : List (Noted A)) (x : Noted A) (rest : List (Noted A))
     → IsOpening event old mid released between → mid.early.items ≡ x ∷ rest → new.early.items ≡ rest → new.opened ≡ mid.opened
-    → IsPushed (event_of event) x mid.holdback new.holdback between now → IsOpening event old new released now
+    → IsPushed (noted_event event) x mid.holdback new.holdback between now → IsOpening event old new released now
 opening_more event old mid new released between now x rest o was left same p = record {
   given = o.given ++ p.given;
   appended = p.appended ∙ ap (λ z. z ++ p.given) o.appended ∙ append_assoc released o.given p.given;
@@ -72,7 +72,7 @@ opening_more event old mid new released between now x rest o was left same p = r
   part = λ arrivals earlier expired k. (let m = o.part arrivals earlier expired k in (
     m.0 ++ x ∷ [],
     m.1 ∙ ap (λ z. m.0 ++ z) was ∙ sym (append_assoc m.0 (x ∷ []) rest) ∙ ap (λ z. (m.0 ++ x ∷ []) ++ z) (sym left),
-    subst (λ z. IsAfter (event_of event) (m.0 ++ x ∷ []) z expired new.holdback) (append_assoc earlier o.given p.given) (p.after m.0 (earlier ++ o.given) expired m.2),
+    subst (λ z. IsAfter (noted_event event) (m.0 ++ x ∷ []) z expired new.holdback) (append_assoc earlier o.given p.given) (p.after m.0 (earlier ++ o.given) expired m.2),
   ));
 }
 
@@ -80,17 +80,17 @@ pub opening_done : {A : Type 0} (event : A → Event) (old started new : Convers
 opening_done event old started new released now early kept o none = record {
   given = o.given;
   appended = o.appended;
-  closed = λ waiting k. (let m = o.part waiting [] [] ([], sym (early ∙ k.wait), subst (IsAfter (event_of event) [] [] []) (sym kept) k.fresh) in
+  closed = λ waiting k. (let m = o.part waiting [] [] ([], sym (early ∙ k.wait), subst (IsAfter (noted_event event) [] [] []) (sym kept) k.fresh) in
       record {
         opened = o.opened;
         none_early = none;
-        after = subst (λ z. IsAfter (event_of event) z o.given [] new.holdback) (sym (m.1 ∙ ap (λ z. m.0 ++ z) none ∙ append-nil m.0)) m.2;
+        after = subst (λ z. IsAfter (noted_event event) z o.given [] new.holdback) (sym (m.1 ∙ ap (λ z. m.0 ++ z) none ∙ append-nil m.0)) m.2;
       });
-  opened = λ arrivals earlier expired k. (let m = o.part arrivals earlier expired (arrivals, sym (append-nil arrivals) ∙ ap (λ z. arrivals ++ z) (sym (early ∙ k.none_early)), subst (IsAfter (event_of event) arrivals earlier expired) (sym kept) k.after) in
+  opened = λ arrivals earlier expired k. (let m = o.part arrivals earlier expired (arrivals, sym (append-nil arrivals) ∙ ap (λ z. arrivals ++ z) (sym (early ∙ k.none_early)), subst (IsAfter (noted_event event) arrivals earlier expired) (sym kept) k.after) in
       record {
         opened = o.opened;
         none_early = none;
-        after = subst (λ z. IsAfter (event_of event) z (earlier ++ o.given) expired new.holdback) (sym (m.1 ∙ ap (λ z. m.0 ++ z) none ∙ append-nil m.0)) m.2;
+        after = subst (λ z. IsAfter (noted_event event) z (earlier ++ o.given) expired new.holdback) (sym (m.1 ∙ ap (λ z. m.0 ++ z) none ∙ append-nil m.0)) m.2;
       });
 }
 
@@ -99,13 +99,13 @@ pub opening_end : {A : Type 0} (event : A → Event) (old : Option (Conversation
 opening_end event old mid last released now same kept none p = record {
   given = p.given;
   appended = p.appended;
-  closed = λ waiting k. (let q = p.closed waiting k in record { opened = same ∙ q.opened; none_early = none; after = subst (IsAfter (event_of event) waiting p.given []) (sym kept) q.after });
-  opened = λ arrivals earlier expired k. (let q = p.opened arrivals earlier expired k in record { opened = same ∙ q.opened; none_early = none; after = subst (IsAfter (event_of event) arrivals (earlier ++ p.given) expired) (sym kept) q.after });
+  closed = λ waiting k. (let q = p.closed waiting k in record { opened = same ∙ q.opened; none_early = none; after = subst (IsAfter (noted_event event) waiting p.given []) (sym kept) q.after });
+  opened = λ arrivals earlier expired k. (let q = p.opened arrivals earlier expired k in record { opened = same ∙ q.opened; none_early = none; after = subst (IsAfter (noted_event event) arrivals (earlier ++ p.given) expired) (sym kept) q.after });
 }
 
 -- ---- the oldest event expires
 
-same_oldest : {A : Type 0} (items : List A) (x y : A) → IsOldest items x → IsOldest items y → x ≡ y
+same_oldest : {A : Type 0} (items : List A) (x y : A) → IsOldestWaiting items x → IsOldestWaiting items y → x ≡ y
 same_oldest items x y p q = let both : x ∷ p.0 ≡ y ∷ q.0 = sym p.1 ∙ q.1 in cc
 
 open_waiting : {A : Type 0} (c : Conversation A) → c.opened ≡ true → waiting_in c ≡ c.holdback.waiting
@@ -124,10 +124,10 @@ waiting_closed event arrivals None k = sym k
 waiting_closed event arrivals (Some c) k = closed_waiting c k.closed ∙ k.wait
 
 pub expired_open : {A : Type 0} (event : A → Event) (time : ℕ) (old new : Conversation A) (released now : List (Noted A))
-    → old.opened ≡ true → new.opened ≡ old.opened → new.early.items ≡ old.early.items → IsOldestAt time (Some old)
-    → IsExpired (event_of event) old.holdback new.holdback released now → IsExpiredIn event time (Some old) (Some new) released now
+    → old.opened ≡ true → new.opened ≡ old.opened → new.early.items ≡ old.early.items → IsOldestOfTime time (Some old)
+    → IsExpired (noted_event event) old.holdback new.holdback released now → IsExpiredIn event time (Some old) (Some new) released now
 expired_open {A} event time old new released now is_open same early at p =
-    let waited : IsOldest (waiting_in old) p.oldest = subst (λ (z : List (Noted A)). IsOldest z p.oldest) (sym (open_waiting old is_open)) p.waited in
+    let waited : IsOldestWaiting (waiting_in old) p.oldest = subst (λ (z : List (Noted A)). IsOldestWaiting z p.oldest) (sym (open_waiting old is_open)) p.waited in
     record {
       oldest = p.oldest;
       timed = ap (λ (z : Noted A). z.time) (same_oldest (waiting_in old) p.oldest at.0 waited at.1) ∙ at.2;
@@ -143,10 +143,10 @@ expired_open {A} event time old new released now is_open same early at p =
     }
 
 pub expired_early : {A : Type 0} (event : A → Event) (time : ℕ) (old new : Conversation A) (released now : List (Noted A)) (x : Noted A)
-    → old.opened ≡ false → new.opened ≡ old.opened → new.holdback ≡ old.holdback → IsOldestAt time (Some old)
+    → old.opened ≡ false → new.opened ≡ old.opened → new.holdback ≡ old.holdback → IsOldestOfTime time (Some old)
     → old.early.items ≡ x ∷ new.early.items → now ≡ released ++ x ∷ [] → IsExpiredIn event time (Some old) (Some new) released now
 expired_early {A} event time old new released now x not_open same kept at was appended =
-    let waited : IsOldest (waiting_in old) x = (new.early.items, closed_waiting old not_open ∙ was) in
+    let waited : IsOldestWaiting (waiting_in old) x = (new.early.items, closed_waiting old not_open ∙ was) in
     record {
       oldest = x;
       timed = ap (λ (z : Noted A). z.time) (same_oldest (waiting_in old) x at.0 waited at.1) ∙ at.2;
@@ -157,7 +157,7 @@ expired_early {A} event time old new released now x not_open same kept at was ap
         record {
           closed = same ∙ k.closed;
           wait = (let both : x ∷ new.early.items ≡ x ∷ waiting = sym was ∙ k.wait in cc);
-          fresh = subst (IsAfter (event_of event) [] [] []) (sym kept) k.fresh;
+          fresh = subst (IsAfter (noted_event event) [] [] []) (sym kept) k.fresh;
         },
         refl,
       );

@@ -4,7 +4,7 @@ use Rattle.std.specs.List.{AllByRecursion}
 use Rattle.std.proofs.lemmas.Bool.{true≢false, cases_Bool, cond-true, cond-false}
 use Rattle.std.proofs.lemmas.List.Elements.{filter-append}
 use Rattle.scrib_hold_stage.specs.declared.noted.Noted.{Noted}
-use Rattle.scrib_hold_stage.specs.Entries.{Entry, Notes, Opens, Passes, is_of, items_of, noted_in, opens, opening_from, HasTime, AreNumberedFrom}
+use Rattle.scrib_hold_stage.specs.Entries.{Entry, Notes, Opens, Passes, is_of, noted_of, noted_in, opens, opening_from, HasTime, AreNumberedFrom}
 use Rattle.scrib_hold_stage.specs.Deadlines.{IsInOrder}
 use Rattle.scrib_hold_stage.proofs.Lists.{all_weaker, each_item, no_item}
 
@@ -98,8 +98,8 @@ noted_in_order n (Passes ∷ es) a = noted_in_order (n + 1) es a.1
 -- ---- the items of a conversation
 
 -- more of the conversation's items
-pub own_added : {A : Type 0} (id : ℕ) (items more : List (Noted A)) → AllByRecursion (λ x. is_of id x ≡ true) more → items_of id (items ++ more) ≡ items_of id items ++ more
-own_added id items more own = filter-append (is_of id) items more ∙ ap (λ z. items_of id items ++ z) (each_item (is_of id) more own)
+pub own_added : {A : Type 0} (id : ℕ) (items more : List (Noted A)) → AllByRecursion (λ x. is_of id x ≡ true) more → noted_of id (items ++ more) ≡ noted_of id items ++ more
+own_added id items more own = filter-append (is_of id) items more ∙ ap (λ z. noted_of id items ++ z) (each_item (is_of id) more own)
 
 apart : (i k n : ℕ) → nat_eq i k ≡ false → nat_eq i n ≡ true → nat_eq k n ≡ false
 apart i k n differs same = elim (cases_Bool (nat_eq k n)) [
@@ -108,8 +108,8 @@ apart i k n differs same = elim (cases_Bool (nat_eq k n)) [
 ]
 
 -- more items of another
-pub others_added : {A : Type 0} (i k : ℕ) (items more : List (Noted A)) → nat_eq i k ≡ false → AllByRecursion (λ x. is_of i x ≡ true) more → items_of k (items ++ more) ≡ items_of k items
+pub others_added : {A : Type 0} (i k : ℕ) (items more : List (Noted A)) → nat_eq i k ≡ false → AllByRecursion (λ x. is_of i x ≡ true) more → noted_of k (items ++ more) ≡ noted_of k items
 others_added {A} i k items more differs own =
     filter-append (is_of k) items more
-    ∙ ap (λ z. items_of k items ++ z) (no_item (is_of k) more (all_weaker (λ (x : Noted A). is_of i x ≡ true) (λ (x : Noted A). is_of k x ≡ false) (λ x same. apart i k x.conversation differs same) more own))
-    ∙ append-nil (items_of k items)
+    ∙ ap (λ z. noted_of k items ++ z) (no_item (is_of k) more (all_weaker (λ (x : Noted A). is_of i x ≡ true) (λ (x : Noted A). is_of k x ≡ false) (λ x same. apart i k x.conversation differs same) more own))
+    ∙ append-nil (noted_of k items)

@@ -14,11 +14,11 @@ use Rattle.scrib_holdback.proofs.FalseAlarmLemmas.{no_false_alarm}
 use Rattle.scrib_hold_stage.specs.declared.noted.Noted.{Noted}
 use Rattle.scrib_hold_stage.specs.declared.conversation.Conversation.{Conversation}
 use Rattle.scrib_hold_stage.specs.declared.deadlines.Deadline.{Deadline}
-use Rattle.scrib_hold_stage.specs.Entries.{Entry, is_of, items_of, noted_in, opening_of}
-use Rattle.scrib_hold_stage.specs.Conversations.{event_of, waiting_at, IsOpenAt}
+use Rattle.scrib_hold_stage.specs.Entries.{Entry, is_of, noted_of, noted_in, opening_of}
+use Rattle.scrib_hold_stage.specs.Conversations.{noted_event, waiting_at, IsOpenAt}
 use Rattle.scrib_hold_stage.specs.Changes.{conversation_at}
 use Rattle.scrib_hold_stage.specs.Deadlines.{how_many, is_at, is_deadline, StartsAfter}
-use Rattle.scrib_hold_stage.specs.Stages.{State, AreHeld, IsHeld, IsKept, IsFinished}
+use Rattle.scrib_hold_stage.specs.Stages.{StageState, AreHeld, IsHeld, IsStageKept, IsFinished}
 use Rattle.scrib_hold_stage.specs.Steps.{IsExpiring}
 use Rattle.scrib_hold_stage.proofs.Lists.{many_all, many-here}
 use Rattle.scrib_hold_stage.proofs.ConversationLemmas.{waiting_open, waiting_closed}
@@ -35,7 +35,7 @@ no_waiting [] ds id none complete = refl
 no_waiting (x ∷ xs) ds id none complete =
     absurd (omega (arith, complete x.time (omega (arith, many-here (is_at x.time) x xs (eq-eqb x.time x.time refl))), ap (how_many (is_deadline id x.time)) none))
 
-pub none_waits : {A : Type 0} (event : A → Event) (bound : ℕ) (entries : List (Entry A)) (released expired : List (Noted A)) (s : State A) → IsKept event bound entries released expired s → StartsAfter s.time s.deadlines
+pub none_waits : {A : Type 0} (event : A → Event) (bound : ℕ) (entries : List (Entry A)) (released expired : List (Noted A)) (s : StageState A) → IsStageKept event bound entries released expired s → StartsAfter s.time s.deadlines
     → (id : ℕ) → waiting_at (conversation_at s.conversations id) ≡ []
 none_waits event bound entries released expired s a later id =
     no_waiting (waiting_at (conversation_at s.conversations id)) s.deadlines id (no_deadline s.time s.deadlines later a.listed.within) (a.listed.complete id)
@@ -47,32 +47,32 @@ own-append r xs ys = filter-append (is_own r) xs ys
 
 module _ {A : Type 0} (event : A → Event) where
   -- behind the same events
-  behind : (early xs ys : List (Noted A)) → IsReordering (map (event_of event) xs) (map (event_of event) ys) → IsReordering (map (event_of event) (early ++ xs)) (map (event_of event) (early ++ ys))
+  behind : (early xs ys : List (Noted A)) → IsReordering (map (noted_event event) xs) (map (noted_event event) ys) → IsReordering (map (noted_event event) (early ++ xs)) (map (noted_event event) (early ++ ys))
   behind early xs ys re r =
-      ap (own_events r) (map-append (event_of event) early ys) ∙ own-append r (map (event_of event) early) (map (event_of event) ys)
-      ∙ ap (λ z. own_events r (map (event_of event) early) ++ z) (re r)
-      ∙ sym (own-append r (map (event_of event) early) (map (event_of event) xs)) ∙ sym (ap (own_events r) (map-append (event_of event) early xs))
+      ap (own_events r) (map-append (noted_event event) early ys) ∙ own-append r (map (noted_event event) early) (map (noted_event event) ys)
+      ∙ ap (λ z. own_events r (map (noted_event event) early) ++ z) (re r)
+      ∙ sym (own-append r (map (noted_event event) early) (map (noted_event event) xs)) ∙ sym (ap (own_events r) (map-append (noted_event event) early xs))
 
-  open_reordered : (arrivals given late : List (Noted A)) (now : Option (Conversation A)) → IsOpenAt event arrivals given late now → waiting_at now ≡ [] → IsReordering (map (event_of event) arrivals) (map (event_of event) given)
+  open_reordered : (arrivals given late : List (Noted A)) (now : Option (Conversation A)) → IsOpenAt event arrivals given late now → waiting_at now ≡ [] → IsReordering (map (noted_event event) arrivals) (map (noted_event event) given)
   open_reordered arrivals given late None k none = absurd k
   open_reordered arrivals given late (Some c) k none =
       let empty : c.holdback.waiting ≡ [] = sym (waiting_open event arrivals given late c k) ∙ none in
-      subst (λ (z : List (Noted A)). IsReordering (map (event_of event) arrivals) (map (event_of event) z)) (append-nil given)
-      (reordered (event_of event) arrivals given late [] (subst (HoldsWithExpiries (event_of event) arrivals given late) empty k.after.held.holds))
+      subst (λ (z : List (Noted A)). IsReordering (map (noted_event event) arrivals) (map (noted_event event) z)) (append-nil given)
+      (reordered (noted_event event) arrivals given late [] (subst (HoldsWithExpiries (noted_event event) arrivals given late) empty k.after.held.holds))
 
   -- all was released
   module _ (bound : ℕ) (opening : Option ℕ) (events all expired : List (Noted A)) (now : Option (Conversation A)) where
-    pub all_reordered : IsHeld event bound opening events all expired now → waiting_at now ≡ [] → IsReordering (map (event_of event) events) (map (event_of event) all)
+    pub all_reordered : IsHeld event bound opening events all expired now → waiting_at now ≡ [] → IsReordering (map (noted_event event) events) (map (noted_event event) all)
     all_reordered h none = by opening h.held
       where
-        by : (o : Option ℕ) → AreHeld event bound o h.early h.arrivals h.given h.late now → IsReordering (map (event_of event) events) (map (event_of event) all)
+        by : (o : Option ℕ) → AreHeld event bound o h.early h.arrivals h.given h.late now → IsReordering (map (noted_event event) events) (map (noted_event event) all)
         by None k =
             let nothing : h.arrivals ≡ [] = sym (waiting_closed event h.arrivals now k.2) ∙ none in
             let same : all ≡ events = h.out ∙ ap (λ z. h.early ++ z) (k.0 ∙ sym nothing) ∙ sym h.all in
-            λ r. ap (λ z. own_events r (map (event_of event) z)) same
+            λ r. ap (λ z. own_events r (map (noted_event event) z)) same
         by (Some n) k =
-            subst (λ (z : List (Noted A)). IsReordering (map (event_of event) z) (map (event_of event) all)) (sym h.all)
-            (subst (λ (z : List (Noted A)). IsReordering (map (event_of event) (h.early ++ h.arrivals)) (map (event_of event) z)) (sym h.out) (behind h.early h.arrivals h.given (open_reordered h.arrivals h.given h.late now k.2 none)))
+            subst (λ (z : List (Noted A)). IsReordering (map (noted_event event) z) (map (noted_event event) all)) (sym h.all)
+            (subst (λ (z : List (Noted A)). IsReordering (map (noted_event event) (h.early ++ h.arrivals)) (map (noted_event event) z)) (sym h.out) (behind h.early h.arrivals h.given (open_reordered h.arrivals h.given h.late now k.2 none)))
 
     -- as many as there are
     pub all_count : IsHeld event bound opening events all expired now → waiting_at now ≡ [] → length all ≡ length events
@@ -97,21 +97,21 @@ module _ {A : Type 0} (event : A → Event) where
 
   -- where nothing expired, before the end
   module _ (events released more : List (Noted A)) (now : Option (Conversation A)) where
-    exact_now : (arrivals given : List (Noted A)) → IsOpenAt event arrivals given [] now → (a : Agreement) → IsExact a (map (event_of event) arrivals) (map (event_of event) given) (map (event_of event) (waiting_at now))
+    exact_now : (arrivals given : List (Noted A)) → IsOpenAt event arrivals given [] now → (a : Agreement) → IsExact a (map (noted_event event) arrivals) (map (noted_event event) given) (map (noted_event event) (waiting_at now))
     exact_now arrivals given k a = by now k
       where
-        by : (o : Option (Conversation A)) → IsOpenAt event arrivals given [] o → IsExact a (map (event_of event) arrivals) (map (event_of event) given) (map (event_of event) (waiting_at o))
+        by : (o : Option (Conversation A)) → IsOpenAt event arrivals given [] o → IsExact a (map (noted_event event) arrivals) (map (noted_event event) given) (map (noted_event event) (waiting_at o))
         by None j = absurd j
         by (Some c) j =
-            subst (λ (z : List (Noted A)). IsExact a (map (event_of event) arrivals) (map (event_of event) given) (map (event_of event) z)) (sym (waiting_open event arrivals given [] c j))
-            ((no_false_alarm (event_of event) arrivals given c.holdback.waiting j.after.held).exact a)
+            subst (λ (z : List (Noted A)). IsExact a (map (noted_event event) arrivals) (map (noted_event event) given) (map (noted_event event) z)) (sym (waiting_open event arrivals given [] c j))
+            ((no_false_alarm (noted_event event) arrivals given c.holdback.waiting j.after.held).exact a)
 
-    pub exact_then : IsOpenAt event events released [] now → IsReordering (map (event_of event) events) (map (event_of event) (released ++ more)) → length (released ++ more) ≡ length events
-        → (a : Agreement) → IsPermitted a (map (event_of event) (released ++ more)) ↔ IsPermittedInSomeOrder a (map (event_of event) events)
+    pub exact_then : IsOpenAt event events released [] now → IsReordering (map (noted_event event) events) (map (noted_event event) (released ++ more)) → length (released ++ more) ≡ length events
+        → (a : Agreement) → IsPermitted a (map (noted_event event) (released ++ more)) ↔ IsPermittedInSomeOrder a (map (noted_event event) events)
     exact_then k re long a = (
-      λ ok. (map (event_of event) (released ++ more), re, ok),
+      λ ok. (map (noted_event event) (released ++ more), re, ok),
       λ some. (let x = exact_now events released k a in
-          let none : map (event_of event) (waiting_at now) ≡ [] = x.none_waits some in
+          let none : map (noted_event event) (waiting_at now) ≡ [] = x.none_waits some in
           let few : length more ≡ 0 =
           omega (
             arith,
@@ -122,11 +122,11 @@ module _ {A : Type 0} (event : A → Event) where
             many_all released,
             many_all (waiting_at now),
             ap length none,
-            length-map (waiting_at now) (event_of event),
+            length-map (waiting_at now) (noted_event event),
           ) in
           let whole : released ++ more ≡ released = ap (λ z. released ++ z) (nil_from_length more few) ∙ append-nil released in
-          subst (λ (z : List (Noted A)). IsPermitted a (map (event_of event) z)) (sym whole)
-          (subst (IsPermitted a) (ap (λ z. map (event_of event) released ++ z) none ∙ append-nil (map (event_of event) released)) (x.permitted.1 some))),
+          subst (λ (z : List (Noted A)). IsPermitted a (map (noted_event event) z)) (sym whole)
+          (subst (IsPermitted a) (ap (λ z. map (noted_event event) released ++ z) none ∙ append-nil (map (noted_event event) released)) (x.permitted.1 some))),
     )
 
 -- ---- the law
@@ -146,16 +146,16 @@ open_unexpired {A} event bound n opening events released expired now h o none =
 
 -- of such a conversation, what was released and what waits
 pub no_alarm_yet : {A : Type 0} (event : A → Event) (bound n : ℕ) (opening : Option ℕ) (events released expired : List (Noted A)) (now : Option (Conversation A)) → IsHeld event bound opening events released expired now → opening ≡ Some n → expired ≡ []
-    → RaisesNoFalseAlarm (event_of event) events released (waiting_at now)
+    → RaisesNoFalseAlarm (noted_event event) events released (waiting_at now)
 no_alarm_yet {A} event bound n opening events released expired now h o none = by now (open_unexpired event bound n opening events released expired now h o none)
   where
-    by : (c : Option (Conversation A)) → IsOpenAt event events released [] c → RaisesNoFalseAlarm (event_of event) events released (waiting_at c)
+    by : (c : Option (Conversation A)) → IsOpenAt event events released [] c → RaisesNoFalseAlarm (noted_event event) events released (waiting_at c)
     by None j = absurd j
     by (Some c) j =
-        subst (λ (z : List (Noted A)). RaisesNoFalseAlarm (event_of event) events released z) (sym (waiting_open event events released [] c j))
-        (no_false_alarm (event_of event) events released c.holdback.waiting j.after.held)
+        subst (λ (z : List (Noted A)). RaisesNoFalseAlarm (noted_event event) events released z) (sym (waiting_open event events released [] c j))
+        (no_false_alarm (noted_event event) events released c.holdback.waiting j.after.held)
 
-pub finished : {A : Type 0} (event : A → Event) (old new : State A) (released now : List (Noted A)) → IsExpiring event old.time old new released now → StartsAfter old.time new.deadlines → IsFinished event old released now
+pub finished : {A : Type 0} (event : A → Event) (old new : StageState A) (released now : List (Noted A)) → IsExpiring event old.time old new released now → StartsAfter old.time new.deadlines → IsFinished event old released now
 finished {A} event old new released now p later = record {
   given = p.given;
   gone = p.gone;
@@ -165,19 +165,19 @@ finished {A} event old new released now p later = record {
       let same : old.time ≡ new.time = a.kept.timed ∙ sym k.timed in
       let none = none_waits event bound entries (earlier ++ p.given) (expired ++ p.gone) new k (subst (λ z. StartsAfter z new.deadlines) same later) id in
       let opening = opening_of id entries in
-      let events = items_of id (noted_in entries) in
-      let all = items_of id (earlier ++ p.given) in
+      let events = noted_of id (noted_in entries) in
+      let all = noted_of id (earlier ++ p.given) in
       let last = conversation_at new.conversations id in
-      let re = all_reordered event bound opening events all (items_of id (expired ++ p.gone)) last (k.held id) none in
-      let parts : all ≡ items_of id earlier ++ items_of id p.given = filter-append (is_of id) earlier p.given in
+      let re = all_reordered event bound opening events all (noted_of id (expired ++ p.gone)) last (k.held id) none in
+      let parts : all ≡ noted_of id earlier ++ noted_of id p.given = filter-append (is_of id) earlier p.given in
       record {
         reordering = re;
         exact = λ n o unexpired agreement.
-            subst (λ (z : List (Noted A)). IsPermitted agreement (map (event_of event) z) ↔ IsPermittedInSomeOrder agreement (map (event_of event) events)) (sym parts)
-            (exact_then event events (items_of id earlier) (items_of id p.given) (conversation_at old.conversations id)
-            (open_unexpired event bound n opening events (items_of id earlier) (items_of id expired) (conversation_at old.conversations id) (a.kept.held id) o unexpired)
-            (subst (λ (z : List (Noted A)). IsReordering (map (event_of event) events) (map (event_of event) z)) parts re)
-            (ap length (sym parts) ∙ all_count event bound opening events all (items_of id (expired ++ p.gone)) last (k.held id) none)
+            subst (λ (z : List (Noted A)). IsPermitted agreement (map (noted_event event) z) ↔ IsPermittedInSomeOrder agreement (map (noted_event event) events)) (sym parts)
+            (exact_then event events (noted_of id earlier) (noted_of id p.given) (conversation_at old.conversations id)
+            (open_unexpired event bound n opening events (noted_of id earlier) (noted_of id expired) (conversation_at old.conversations id) (a.kept.held id) o unexpired)
+            (subst (λ (z : List (Noted A)). IsReordering (map (noted_event event) events) (map (noted_event event) z)) parts re)
+            (ap length (sym parts) ∙ all_count event bound opening events all (noted_of id (expired ++ p.gone)) last (k.held id) none)
             agreement);
       });
 }

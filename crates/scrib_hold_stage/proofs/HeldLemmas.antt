@@ -5,7 +5,7 @@ use Rattle.scrib_types.specs.declared.event.Event.{Event}
 use Rattle.scrib_hold_stage.specs.declared.noted.Noted.{Noted}
 use Rattle.scrib_hold_stage.specs.declared.conversation.Conversation.{Conversation}
 use Rattle.scrib_hold_stage.specs.Entries.{is_of}
-use Rattle.scrib_hold_stage.specs.Conversations.{event_of, waiting_at, IsClosedAt, IsOpenAt, IsPushedTo, IsOpenedIn, IsExpiredIn}
+use Rattle.scrib_hold_stage.specs.Conversations.{noted_event, waiting_at, IsClosedAt, IsOpenAt, IsPushedTo, IsOpenedIn, IsExpiredIn}
 use Rattle.scrib_hold_stage.specs.Deadlines.{IsInOrder, how_many}
 use Rattle.scrib_hold_stage.specs.Stages.{AreHeld, IsHeld}
 use Rattle.scrib_hold_stage.proofs.Lists.{all_append, all_right, all_weaker, all_pass, many-append, none_pass, order_right}
@@ -37,12 +37,12 @@ pub open_parts : {A : Type 0} (event : A → Event) (arrivals released expired :
     → (p : Noted A → Bool) → how_many p arrivals ≡ how_many p released + how_many p (waiting_at now)
 open_parts event arrivals released expired None k p = absurd k
 open_parts event arrivals released expired (Some c) k p =
-    omega (arith, parts_count (event_of event) k.after.held.holds p, ap (how_many p) (waiting_open event arrivals released expired c k))
+    omega (arith, parts_count (noted_event event) k.after.held.holds p, ap (how_many p) (waiting_open event arrivals released expired c k))
 
 open_order : {A : Type 0} (event : A → Event) (arrivals released expired : List (Noted A)) (now : Option (Conversation A)) → IsOpenAt event arrivals released expired now → IsInOrder time_of arrivals → IsInOrder time_of (waiting_at now)
 open_order event arrivals released expired None k o = absurd k
 open_order {A} event arrivals released expired (Some c) k o =
-    subst (λ (z : List (Noted A)). IsInOrder time_of z) (sym (waiting_open event arrivals released expired c k)) (waiting_order (event_of event) time_of k.after.held.holds o)
+    subst (λ (z : List (Noted A)). IsInOrder time_of z) (sym (waiting_open event arrivals released expired c k)) (waiting_order (noted_event event) time_of k.after.held.holds o)
 
 -- where the events are in order, so is what waits
 pub held_order : {A : Type 0} (event : A → Event) (bound : ℕ) (opening : Option ℕ) (events released expired : List (Noted A)) (now : Option (Conversation A))

@@ -9,3 +9,4 @@ mod StageLemmas
 mod StepLemmas
 mod TakeLemmas
 mod FinishLemmas
+mod PassLemmas

@@ -12,36 +12,36 @@ use Rattle.indexmap.proofs.CallerLemmas.{updates-with_value_at}
 use Rattle.scrib_types.specs.declared.event.Event.{Event}
 use Rattle.scrib_hold_stage.specs.declared.noted.Noted.{Noted}
 use Rattle.scrib_hold_stage.specs.declared.conversation.Conversation.{Conversation}
-use Rattle.scrib_hold_stage.specs.Conversations.{IsClosed, IsClosedAt, IsOpenAt, IsPushedTo, IsOpenedIn, IsExpiredIn}
-use Rattle.scrib_hold_stage.specs.Changes.{Conversations, conversation_at, IsAt, LeavesOthers, IsMet, IsPushedOf, IsOpenedOf, IsExpiredOf}
+use Rattle.scrib_hold_stage.specs.Conversations.{IsUnopened, IsClosedAt, IsOpenAt, IsPushedTo, IsOpenedIn, IsExpiredIn}
+use Rattle.scrib_hold_stage.specs.Changes.{Conversations, conversation_at, IsPlaceOf, LeavesOthers, IsMet, IsPushedOf, IsOpenedOf, IsExpiredOf}
 
 -- the given place, if the id is there
-pub read_at : {A : Type 0} (cs : Conversations A) (at key id : ℕ) (c : Conversation A) → Some (key, c) ≡ slice_get cs at → key ≡ id → IsAt cs at id
+pub read_at : {A : Type 0} (cs : Conversations A) (at key id : ℕ) (c : Conversation A) → Some (key, c) ≡ slice_get cs at → key ≡ id → IsPlaceOf cs at id
 read_at {A} cs at key id c read same = (c, sym read ∙ ap (λ (n : ℕ). let o : Option (ℕ × Conversation A) = Some (n, c) in o) same)
 
 -- the place that a search returns
-pub found_at : {A : Type 0} (cs : Conversations A) (id : ℕ) (o : Option ℕ) → o ≡ position (nat_eq id) (keys_of cs) → IfSome o (λ at. IsAt cs at id)
+pub found_at : {A : Type 0} (cs : Conversations A) (id : ℕ) (o : Option ℕ) → o ≡ position (nat_eq id) (keys_of cs) → IfSome o (λ at. IsPlaceOf cs at id)
 found_at cs id None index = tt
 found_at {A} cs id (Some i) index =
     let p = position-Some (nat_eq id) (keys_of cs) i 0 (sym index) in
     let at : slice_get (keys_of cs) i ≡ Some id = slice_get-get_or (keys_of cs) i 0 p.0 ∙ ap Some (sym (eqb-true id (get_or (keys_of cs) i 0) p.1)) in
     by (slice_get cs i) refl (sym (slice_get-map (λ (e : ℕ × Conversation A). e.0) cs i) ∙ at)
   where
-    by : (o : Option (ℕ × Conversation A)) → slice_get cs i ≡ o → option_map (λ (e : ℕ × Conversation A). e.0) o ≡ Some id → IsAt cs i id
+    by : (o : Option (ℕ × Conversation A)) → slice_get cs i ≡ o → option_map (λ (e : ℕ × Conversation A). e.0) o ≡ Some id → IsPlaceOf cs i id
     by None e k = absurd (none-some id k)
     by (Some (key, c)) e k = let same : key ≡ id = same_Some key id k in (c, e ∙ ap (λ (n : ℕ). let o : Option (ℕ × Conversation A) = Some (n, c) in o) same)
 
 -- the conversation at the place of an id is that of the id
-pub there_at : {A : Type 0} (cs : Conversations A) (at id : ℕ) (p : IsAt cs at id) → IsDistinct nat_eq (keys_of cs) → conversation_at cs id ≡ Some p.0
+pub there_at : {A : Type 0} (cs : Conversations A) (at id : ℕ) (p : IsPlaceOf cs at id) → IsDistinct nat_eq (keys_of cs) → conversation_at cs id ≡ Some p.0
 there_at cs at id p distinct = lookup_from_place nat_eq_equiv cs at id p.0 distinct p.1
 
 -- a write at the place of an id is one under the id
-pub written_at : {A S : Type 0} (m : IndexMap ℕ (Conversation A) S) (at id : ℕ) (w : Conversation A) → IsAt m.entries at id → IsUnique nat_eq m
+pub written_at : {A S : Type 0} (m : IndexMap ℕ (Conversation A) S) (at id : ℕ) (w : Conversation A) → IsPlaceOf m.entries at id → IsUnique nat_eq m
     → (conversation_at (with_value_at m at w).entries id ≡ Some w) × LeavesOthers id m.entries (with_value_at m at w).entries
 written_at m at id w p unique = let u = updates-with_value_at m at w nat_eq_equiv unique id p.0 p.1 in (u.1, u.2)
 
 -- the conversation that was read at the place of an id
-pub value_at : {A : Type 0} (cs : Conversations A) (at id : ℕ) (c : Conversation A) → IsAt cs at id → IsDistinct nat_eq (keys_of cs) → Some c ≡ slice_get (values_of cs) at → conversation_at cs id ≡ Some c
+pub value_at : {A : Type 0} (cs : Conversations A) (at id : ℕ) (c : Conversation A) → IsPlaceOf cs at id → IsDistinct nat_eq (keys_of cs) → Some c ≡ slice_get (values_of cs) at → conversation_at cs id ≡ Some c
 value_at {A} cs at id c p distinct read =
     let here : slice_get (values_of cs) at ≡ Some p.0 = slice_get-map (λ (e : ℕ × Conversation A). e.1) cs at ∙ ap (option_map (λ (e : ℕ × Conversation A). e.1)) p.1 in
     there_at cs at id p distinct ∙ sym here ∙ sym read
@@ -52,11 +52,11 @@ pub met_before : {A : Type 0} (event : A → Event) (id : ℕ) (cs : Conversatio
 met_before event id cs = record { others = λ k differs. refl; closed = λ waiting k. k; opened = λ arrivals released expired k. k }
 
 pub met_now : {A : Type 0} (event : A → Event) (id : ℕ) (old new : Conversations A) (c : Conversation A) → conversation_at old id ≡ None → conversation_at new id ≡ Some c
-    → LeavesOthers id old new → IsClosed event [] c → IsMet event id old new
+    → LeavesOthers id old new → IsUnopened event [] c → IsMet event id old new
 met_now event id old new c none there others k = record {
   others = others;
   closed = λ waiting w. (let empty : waiting ≡ [] = subst (IsClosedAt event waiting) none w in
-      subst (IsClosedAt event waiting) (sym there) (subst (λ z. IsClosed event z c) (sym empty) k));
+      subst (IsClosedAt event waiting) (sym there) (subst (λ z. IsUnopened event z c) (sym empty) k));
   opened = λ arrivals released expired w. absurd (subst (IsOpenAt event arrivals released expired) none w);
 }
 

@@ -5,11 +5,11 @@ use Rattle.scrib_types.specs.declared.event.Event.{Event}
 use Rattle.scrib_hold_stage.specs.declared.noted.Noted.{Noted}
 use Rattle.scrib_hold_stage.specs.declared.conversation.Conversation.{Conversation}
 use Rattle.scrib_hold_stage.specs.declared.deadlines.Deadline.{Deadline}
-use Rattle.scrib_hold_stage.specs.Entries.{Entry, Notes, Opens, Passes, is_of, items_of, noted_in, opening_of}
+use Rattle.scrib_hold_stage.specs.Entries.{Entry, Notes, Opens, Passes, is_of, noted_of, noted_in, opening_of}
 use Rattle.scrib_hold_stage.specs.Conversations.{waiting_at, IsNotOldest}
 use Rattle.scrib_hold_stage.specs.Changes.{Conversations, conversation_at, LeavesOthers, IsPushedOf, IsOpenedOf, IsExpiredOf}
 use Rattle.scrib_hold_stage.specs.Deadlines.{IsInOrder, due_time, how_many, is_at, AreListed, StartsAfter}
-use Rattle.scrib_hold_stage.specs.Stages.{State, IsHeld, IsKept, IsAfter}
+use Rattle.scrib_hold_stage.specs.Stages.{StageState, IsHeld, IsStageKept, HasStaged}
 use Rattle.scrib_hold_stage.proofs.Lists.{all_weaker, all_kept, kept_pass, many-here, none_behind, one_at, order_kept, each_time}
 use Rattle.scrib_hold_stage.proofs.EntryLemmas.{noted-append, opening_stays, opening_other, opening_here, opening_before, numbered_push, noted_in_order, time_of, own_added, others_added}
 use Rattle.scrib_hold_stage.proofs.HeldLemmas.{held_same, held_order, AreOwn, push_held, push_own, push_waiting, open_again, open_first, open_own, open_waiting, expire_held, expire_own, expire_waiting}
@@ -18,11 +18,11 @@ use Rattle.scrib_hold_stage.proofs.DeadlineLemmas.{of_deadline, all_later, from_
 -- the conversation is held, after these entries
 abbrev pub HeldIn : {A : Type 0} → (A → Event) → (bound : ℕ) → List (Entry A) → (released expired : List (Noted A)) → Conversations A → ℕ → Type 0
 HeldIn event bound entries released expired conversations id =
-    IsHeld event bound (opening_of id entries) (items_of id (noted_in entries)) (items_of id released) (items_of id expired) (conversation_at conversations id)
+    IsHeld event bound (opening_of id entries) (noted_of id (noted_in entries)) (noted_of id released) (noted_of id expired) (conversation_at conversations id)
 
 -- ---- no entry was read
 
-pub kept_initially : {A : Type 0} (event : A → Event) (bound : ℕ) (s : State A) → s.bound ≡ bound → s.time ≡ 0 → s.conversations ≡ [] → s.deadlines ≡ [] → s.events ≡ 0 → s.expired ≡ 0 → IsAfter event bound [] [] [] s
+pub kept_initially : {A : Type 0} (event : A → Event) (bound : ℕ) (s : StageState A) → s.bound ≡ bound → s.time ≡ 0 → s.conversations ≡ [] → s.deadlines ≡ [] → s.events ≡ 0 → s.expired ≡ 0 → HasStaged event bound [] [] [] s
 kept_initially {A} event bound s b t c d e x =
     let none : (id : ℕ) → conversation_at s.conversations id ≡ None = λ id. ap (λ z. conversation_at z id) c in
     record {
@@ -47,48 +47,48 @@ kept_initially {A} event bound s b t c d e x =
 
 -- ---- an event is read
 
-module _ {A : Type 0} (event : A → Event) (bound : ℕ) (entries : List (Entry A)) (earlier expired before now : List (Noted A)) (x : Noted A) (old new : State A)
-    (p : IsPushedOf event x old.conversations new.conversations before now) (a : IsAfter event bound entries earlier expired old) (at : x.time ≡ old.time + 1) where
+module _ {A : Type 0} (event : A → Event) (bound : ℕ) (entries : List (Entry A)) (earlier expired before now : List (Noted A)) (x : Noted A) (old new : StageState A)
+    (p : IsPushedOf event x old.conversations new.conversations before now) (a : HasStaged event bound entries earlier expired old) (at : x.time ≡ old.time + 1) where
   mine : is_of x.conversation x ≡ true
   mine = eq-eqb x.conversation x.conversation refl
 
   given_own : AreOwn x.conversation p.pushed.given
   given_own =
-      push_own event bound x.conversation x (items_of x.conversation (noted_in entries)) (items_of x.conversation earlier) (items_of x.conversation expired) before now
+      push_own event bound x.conversation x (noted_of x.conversation (noted_in entries)) (noted_of x.conversation earlier) (noted_of x.conversation expired) before now
       (conversation_at old.conversations x.conversation) (conversation_at new.conversations x.conversation) p.pushed (opening_of x.conversation entries) (a.kept.held x.conversation)
       (kept_pass (is_of x.conversation) (noted_in entries)) mine
 
   held_here : HeldIn event bound (entries ++ Notes x ∷ []) (earlier ++ p.pushed.given) expired new.conversations x.conversation
   held_here =
       let i = x.conversation in
-      let more : items_of i (noted_in (entries ++ Notes x ∷ [])) ≡ items_of i (noted_in entries) ++ x ∷ [] = ap (items_of i) (noted-append entries (Notes x)) ∙ own_added i (noted_in entries) (x ∷ []) (mine, tt) in
+      let more : noted_of i (noted_in (entries ++ Notes x ∷ [])) ≡ noted_of i (noted_in entries) ++ x ∷ [] = ap (noted_of i) (noted-append entries (Notes x)) ∙ own_added i (noted_in entries) (x ∷ []) (mine, tt) in
       held_same event bound (opening_of i entries) (opening_of i (entries ++ Notes x ∷ []))
-      (items_of i (noted_in entries) ++ x ∷ []) (items_of i (noted_in (entries ++ Notes x ∷ [])))
-      (items_of i earlier ++ p.pushed.given) (items_of i (earlier ++ p.pushed.given))
-      (items_of i expired) (items_of i expired) (conversation_at new.conversations i) (conversation_at new.conversations i)
+      (noted_of i (noted_in entries) ++ x ∷ []) (noted_of i (noted_in (entries ++ Notes x ∷ [])))
+      (noted_of i earlier ++ p.pushed.given) (noted_of i (earlier ++ p.pushed.given))
+      (noted_of i expired) (noted_of i expired) (conversation_at new.conversations i) (conversation_at new.conversations i)
       (opening_other 1 i entries (Notes x) refl) more (own_added i earlier p.pushed.given given_own) refl refl
-      (push_held event bound i x (items_of i (noted_in entries)) (items_of i earlier) (items_of i expired) before now
+      (push_held event bound i x (noted_of i (noted_in entries)) (noted_of i earlier) (noted_of i expired) before now
       (conversation_at old.conversations i) (conversation_at new.conversations i) p.pushed (opening_of i entries) (a.kept.held i)
       (λ n o. omega (arith, at, a.kept.timed, opening_before 1 i n entries o)))
 
   held_there : (k : ℕ) → nat_eq x.conversation k ≡ false → HeldIn event bound (entries ++ Notes x ∷ []) (earlier ++ p.pushed.given) expired new.conversations k
   held_there k differs =
       let i = x.conversation in
-      let same : items_of k (noted_in (entries ++ Notes x ∷ [])) ≡ items_of k (noted_in entries) = ap (items_of k) (noted-append entries (Notes x)) ∙ others_added i k (noted_in entries) (x ∷ []) differs (mine, tt) in
+      let same : noted_of k (noted_in (entries ++ Notes x ∷ [])) ≡ noted_of k (noted_in entries) = ap (noted_of k) (noted-append entries (Notes x)) ∙ others_added i k (noted_in entries) (x ∷ []) differs (mine, tt) in
       held_same event bound (opening_of k entries) (opening_of k (entries ++ Notes x ∷ []))
-      (items_of k (noted_in entries)) (items_of k (noted_in (entries ++ Notes x ∷ [])))
-      (items_of k earlier) (items_of k (earlier ++ p.pushed.given))
-      (items_of k expired) (items_of k expired) (conversation_at old.conversations k) (conversation_at new.conversations k)
+      (noted_of k (noted_in entries)) (noted_of k (noted_in (entries ++ Notes x ∷ [])))
+      (noted_of k earlier) (noted_of k (earlier ++ p.pushed.given))
+      (noted_of k expired) (noted_of k expired) (conversation_at old.conversations k) (conversation_at new.conversations k)
       (opening_other 1 k entries (Notes x) refl) same (others_added i k earlier p.pushed.given differs given_own) refl (p.others k differs)
       (a.kept.held k)
 
   pub event_waits : (t : Noted A → Bool) → how_many t (waiting_at (conversation_at new.conversations x.conversation)) + how_many t p.pushed.given ≡ how_many t (waiting_at (conversation_at old.conversations x.conversation)) + how_many t (x ∷ [])
   event_waits =
-      push_waiting event bound x.conversation x (items_of x.conversation (noted_in entries)) (items_of x.conversation earlier) (items_of x.conversation expired) before now
+      push_waiting event bound x.conversation x (noted_of x.conversation (noted_in entries)) (noted_of x.conversation earlier) (noted_of x.conversation expired) before now
       (conversation_at old.conversations x.conversation) (conversation_at new.conversations x.conversation) p.pushed (opening_of x.conversation entries) (a.kept.held x.conversation)
 
   pub event_read : old.time + 1 < 2 ^ 64 → new.bound ≡ old.bound → new.time ≡ old.time + 1 → new.events ≡ old.events + 1 → new.expired ≡ old.expired → AreListed (old.time + 1) new.conversations new.deadlines → length new.deadlines ≤ length old.deadlines + 1
-      → IsKept event bound (entries ++ Notes x ∷ []) (earlier ++ p.pushed.given) expired new
+      → IsStageKept event bound (entries ++ Notes x ∷ []) (earlier ++ p.pushed.given) expired new
   event_read small b t e g l r = record {
     bounded = b ∙ a.kept.bounded;
     timed = omega (arith, t, a.kept.timed, length-append entries (Notes x ∷ []));
@@ -103,52 +103,52 @@ module _ {A : Type 0} (event : A → Event) (bound : ℕ) (entries : List (Entry
 
 -- ---- an opening is read
 
-module _ {A : Type 0} (event : A → Event) (bound : ℕ) (entries : List (Entry A)) (earlier expired before now : List (Noted A)) (i : ℕ) (old new : State A)
-    (p : IsOpenedOf event i old.conversations new.conversations before now) (a : IsAfter event bound entries earlier expired old) where
+module _ {A : Type 0} (event : A → Event) (bound : ℕ) (entries : List (Entry A)) (earlier expired before now : List (Noted A)) (i : ℕ) (old new : StageState A)
+    (p : IsOpenedOf event i old.conversations new.conversations before now) (a : HasStaged event bound entries earlier expired old) where
   opened_given_own : AreOwn i p.opened.given
   opened_given_own =
-      open_own event bound i (items_of i (noted_in entries)) (items_of i earlier) (items_of i expired) before now (conversation_at old.conversations i) (conversation_at new.conversations i) p.opened (opening_of i entries)
+      open_own event bound i (noted_of i (noted_in entries)) (noted_of i earlier) (noted_of i expired) before now (conversation_at old.conversations i) (conversation_at new.conversations i) p.opened (opening_of i entries)
       (a.kept.held i) (kept_pass (is_of i) (noted_in entries))
 
-  same_events : (k : ℕ) → items_of k (noted_in (entries ++ Opens i ∷ [])) ≡ items_of k (noted_in entries)
-  same_events k = ap (items_of k) (noted-append entries (Opens i) ∙ append-nil (noted_in entries))
+  same_events : (k : ℕ) → noted_of k (noted_in (entries ++ Opens i ∷ [])) ≡ noted_of k (noted_in entries)
+  same_events k = ap (noted_of k) (noted-append entries (Opens i) ∙ append-nil (noted_in entries))
 
   opened_here : HeldIn event bound (entries ++ Opens i ∷ []) (earlier ++ p.opened.given) expired new.conversations i
   opened_here = by (opening_of i entries) refl
     where
-      out : (opening : Option ℕ) → opening_of i (entries ++ Opens i ∷ []) ≡ opening → IsHeld event bound opening (items_of i (noted_in entries)) (items_of i earlier ++ p.opened.given) (items_of i expired) (conversation_at new.conversations i) → HeldIn event bound (entries ++ Opens i ∷ []) (earlier ++ p.opened.given) expired new.conversations i
+      out : (opening : Option ℕ) → opening_of i (entries ++ Opens i ∷ []) ≡ opening → IsHeld event bound opening (noted_of i (noted_in entries)) (noted_of i earlier ++ p.opened.given) (noted_of i expired) (conversation_at new.conversations i) → HeldIn event bound (entries ++ Opens i ∷ []) (earlier ++ p.opened.given) expired new.conversations i
       out opening o h =
           held_same event bound opening (opening_of i (entries ++ Opens i ∷ []))
-          (items_of i (noted_in entries)) (items_of i (noted_in (entries ++ Opens i ∷ [])))
-          (items_of i earlier ++ p.opened.given) (items_of i (earlier ++ p.opened.given))
-          (items_of i expired) (items_of i expired) (conversation_at new.conversations i) (conversation_at new.conversations i)
+          (noted_of i (noted_in entries)) (noted_of i (noted_in (entries ++ Opens i ∷ [])))
+          (noted_of i earlier ++ p.opened.given) (noted_of i (earlier ++ p.opened.given))
+          (noted_of i expired) (noted_of i expired) (conversation_at new.conversations i) (conversation_at new.conversations i)
           o (same_events i) (own_added i earlier p.opened.given opened_given_own) refl refl h
 
-      was : (opening : Option ℕ) → opening_of i entries ≡ opening → IsHeld event bound opening (items_of i (noted_in entries)) (items_of i earlier) (items_of i expired) (conversation_at old.conversations i)
-      was opening o = subst (λ z. IsHeld event bound z (items_of i (noted_in entries)) (items_of i earlier) (items_of i expired) (conversation_at old.conversations i)) o (a.kept.held i)
+      was : (opening : Option ℕ) → opening_of i entries ≡ opening → IsHeld event bound opening (noted_of i (noted_in entries)) (noted_of i earlier) (noted_of i expired) (conversation_at old.conversations i)
+      was opening o = subst (λ z. IsHeld event bound z (noted_of i (noted_in entries)) (noted_of i earlier) (noted_of i expired) (conversation_at old.conversations i)) o (a.kept.held i)
 
       by : (opening : Option ℕ) → opening_of i entries ≡ opening → HeldIn event bound (entries ++ Opens i ∷ []) (earlier ++ p.opened.given) expired new.conversations i
       by None o =
           out (Some (1 + length entries)) (opening_here 1 i entries (Opens i) (eq-eqb i i refl) o)
-          (open_first event bound i (items_of i (noted_in entries)) (items_of i earlier) (items_of i expired) before now (conversation_at old.conversations i) (conversation_at new.conversations i) p.opened
+          (open_first event bound i (noted_of i (noted_in entries)) (noted_of i earlier) (noted_of i expired) before now (conversation_at old.conversations i) (conversation_at new.conversations i) p.opened
           (1 + length entries) (was None o)
           (all_kept (λ (x : Noted A). x.time + bound < 1 + length entries) (is_of i) expired (all_weaker (λ (x : Noted A). x.time + bound ≤ length entries) (λ (x : Noted A). x.time + bound < 1 + length entries) (λ x h. omega arith) expired a.aged))
           (all_weaker (λ (x : Noted A). length entries < x.time + bound) (λ (x : Noted A). 1 + length entries ≤ x.time + bound) (λ x h. omega arith) (waiting_at (conversation_at old.conversations i)) (a.fresh i)))
       by (Some n) o =
           out (Some n) (opening_stays 1 i n entries (Opens i) o)
-          (open_again event bound i (items_of i (noted_in entries)) (items_of i earlier) (items_of i expired) before now (conversation_at old.conversations i) (conversation_at new.conversations i) p.opened n (was (Some n) o))
+          (open_again event bound i (noted_of i (noted_in entries)) (noted_of i earlier) (noted_of i expired) before now (conversation_at old.conversations i) (conversation_at new.conversations i) p.opened n (was (Some n) o))
 
   opened_there : (k : ℕ) → nat_eq i k ≡ false → HeldIn event bound (entries ++ Opens i ∷ []) (earlier ++ p.opened.given) expired new.conversations k
   opened_there k differs =
       held_same event bound (opening_of k entries) (opening_of k (entries ++ Opens i ∷ []))
-      (items_of k (noted_in entries)) (items_of k (noted_in (entries ++ Opens i ∷ [])))
-      (items_of k earlier) (items_of k (earlier ++ p.opened.given))
-      (items_of k expired) (items_of k expired) (conversation_at old.conversations k) (conversation_at new.conversations k)
+      (noted_of k (noted_in entries)) (noted_of k (noted_in (entries ++ Opens i ∷ [])))
+      (noted_of k earlier) (noted_of k (earlier ++ p.opened.given))
+      (noted_of k expired) (noted_of k expired) (conversation_at old.conversations k) (conversation_at new.conversations k)
       (opening_other 1 k entries (Opens i) (differ_back i k differs)) (same_events k) (others_added i k earlier p.opened.given differs opened_given_own) refl (p.others k differs)
       (a.kept.held k)
 
   pub opening_read : old.time + 1 < 2 ^ 64 → new.bound ≡ old.bound → new.time ≡ old.time + 1 → new.events ≡ old.events → new.expired ≡ old.expired → new.deadlines ≡ old.deadlines
-      → IsKept event bound (entries ++ Opens i ∷ []) (earlier ++ p.opened.given) expired new
+      → IsStageKept event bound (entries ++ Opens i ∷ []) (earlier ++ p.opened.given) expired new
   opening_read small b t e g d = record {
     bounded = b ∙ a.kept.bounded;
     timed = omega (arith, t, a.kept.timed, length-append entries (Opens i ∷ []));
@@ -157,7 +157,7 @@ module _ {A : Type 0} (event : A → Event) (bound : ℕ) (entries : List (Entry
     held = by_id i (HeldIn event bound (entries ++ Opens i ∷ []) (earlier ++ p.opened.given) expired new.conversations) opened_here opened_there;
     listed = subst (λ z. AreListed new.time new.conversations z) (sym d)
         (listed_fewer old.time new.time i old.conversations new.conversations old.deadlines a.kept.listed (omega (arith, t)) p.others
-        (λ n. omega (arith, open_waiting event bound i (items_of i (noted_in entries)) (items_of i earlier) (items_of i expired) before now (conversation_at old.conversations i) (conversation_at new.conversations i) p.opened (opening_of i entries) (a.kept.held i) (is_at n))));
+        (λ n. omega (arith, open_waiting event bound i (noted_of i (noted_in entries)) (noted_of i earlier) (noted_of i expired) before now (conversation_at old.conversations i) (conversation_at new.conversations i) p.opened (opening_of i entries) (a.kept.held i) (is_at n))));
     events = omega (arith, e, a.kept.events, ap length (noted-append entries (Opens i) ∙ append-nil (noted_in entries)));
     expired_count = g ∙ a.kept.expired_count;
     room = omega (arith, ap length d, t, a.kept.room);
@@ -165,9 +165,9 @@ module _ {A : Type 0} (event : A → Event) (bound : ℕ) (entries : List (Entry
 
 -- ---- another entry is read
 
-pub other_read : {A : Type 0} (event : A → Event) (bound : ℕ) (entries : List (Entry A)) (earlier expired : List (Noted A)) (old new : State A) → IsAfter event bound entries earlier expired old
+pub other_read : {A : Type 0} (event : A → Event) (bound : ℕ) (entries : List (Entry A)) (earlier expired : List (Noted A)) (old new : StageState A) → HasStaged event bound entries earlier expired old
     → old.time + 1 < 2 ^ 64 → new.bound ≡ old.bound → new.time ≡ old.time + 1 → new.conversations ≡ old.conversations → new.events ≡ old.events → new.expired ≡ old.expired → new.deadlines ≡ old.deadlines
-    → IsKept event bound (entries ++ Passes ∷ []) earlier expired new
+    → IsStageKept event bound (entries ++ Passes ∷ []) earlier expired new
 other_read {A} event bound entries earlier expired old new a small b t c e g d =
     let same : noted_in (entries ++ Passes ∷ []) ≡ noted_in entries = noted-append entries Passes ∙ append-nil (noted_in entries) in
     let other : LeavesOthers 0 old.conversations new.conversations = λ k differs. ap (λ z. conversation_at z k) c in
@@ -177,9 +177,9 @@ other_read {A} event bound entries earlier expired old new a small b t c e g d =
       fits = omega (arith, t, small);
       numbered = numbered_push 1 entries Passes a.kept.numbered tt;
       held = λ k. held_same event bound (opening_of k entries) (opening_of k (entries ++ Passes ∷ []))
-          (items_of k (noted_in entries)) (items_of k (noted_in (entries ++ Passes ∷ [])))
-          (items_of k earlier) (items_of k earlier) (items_of k expired) (items_of k expired) (conversation_at old.conversations k) (conversation_at new.conversations k)
-          (opening_other 1 k entries Passes refl) (ap (items_of k) same) refl refl (ap (λ z. conversation_at z k) c) (a.kept.held k);
+          (noted_of k (noted_in entries)) (noted_of k (noted_in (entries ++ Passes ∷ [])))
+          (noted_of k earlier) (noted_of k earlier) (noted_of k expired) (noted_of k expired) (conversation_at old.conversations k) (conversation_at new.conversations k)
+          (opening_other 1 k entries Passes refl) (ap (noted_of k) same) refl refl (ap (λ z. conversation_at z k) c) (a.kept.held k);
       listed = subst (λ z. AreListed new.time new.conversations z) (sym d)
           (listed_fewer old.time new.time 0 old.conversations new.conversations old.deadlines a.kept.listed (omega (arith, t)) other
           (λ n. omega (arith, ap (λ z. how_many (is_at n) (waiting_at (conversation_at z 0))) c)));
@@ -190,12 +190,12 @@ other_read {A} event bound entries earlier expired old new a small b t c e g d =
 
 -- ---- the first deadline passes
 
-module _ {A : Type 0} (event : A → Event) (bound : ℕ) (entries : List (Entry A)) (earlier expired : List (Noted A)) (old new : State A) (a : IsKept event bound entries earlier expired old) (d : Deadline)
+module _ {A : Type 0} (event : A → Event) (bound : ℕ) (entries : List (Entry A)) (earlier expired : List (Noted A)) (old new : StageState A) (a : IsStageKept event bound entries earlier expired old) (d : Deadline)
     (was : old.deadlines ≡ d ∷ new.deadlines) (b : new.bound ≡ old.bound) (t : new.time ≡ old.time) (e : new.events ≡ old.events) where
   in_order : IsInOrder time_of (waiting_at (conversation_at old.conversations d.conversation))
   in_order =
       let i = d.conversation in
-      held_order event bound (opening_of i entries) (items_of i (noted_in entries)) (items_of i earlier) (items_of i expired) (conversation_at old.conversations i) (a.held i)
+      held_order event bound (opening_of i entries) (noted_of i (noted_in entries)) (noted_of i earlier) (noted_of i expired) (conversation_at old.conversations i) (a.held i)
       (order_kept time_of (is_of i) (noted_in entries) (noted_in_order 1 entries a.numbered))
 
   listed_was : AreListed old.time old.conversations (d ∷ new.deadlines)
@@ -205,29 +205,29 @@ module _ {A : Type 0} (event : A → Event) (bound : ℕ) (entries : List (Entry
     pub expired_own : AreOwn d.conversation (p.expired.oldest ∷ p.expired.given)
     expired_own =
         let i = d.conversation in
-        expire_own event bound i d.time (items_of i (noted_in entries)) (items_of i earlier) (items_of i expired) before now (conversation_at old.conversations i) (conversation_at new.conversations i) p.expired (opening_of i entries)
+        expire_own event bound i d.time (noted_of i (noted_in entries)) (noted_of i earlier) (noted_of i expired) before now (conversation_at old.conversations i) (conversation_at new.conversations i) p.expired (opening_of i entries)
         (a.held i) (kept_pass (is_of i) (noted_in entries))
 
     expired_waiting : (q : Noted A → Bool) → how_many q (waiting_at (conversation_at new.conversations d.conversation)) + how_many q (p.expired.oldest ∷ p.expired.given) ≡ how_many q (waiting_at (conversation_at old.conversations d.conversation))
     expired_waiting =
         let i = d.conversation in
-        expire_waiting event bound i d.time (items_of i (noted_in entries)) (items_of i earlier) (items_of i expired) before now (conversation_at old.conversations i) (conversation_at new.conversations i) p.expired (opening_of i entries) (a.held i)
+        expire_waiting event bound i d.time (noted_of i (noted_in entries)) (noted_of i earlier) (noted_of i expired) before now (conversation_at old.conversations i) (conversation_at new.conversations i) p.expired (opening_of i entries) (a.held i)
 
     expired_here : HeldIn event bound entries (earlier ++ p.expired.oldest ∷ p.expired.given) (expired ++ p.expired.oldest ∷ []) new.conversations d.conversation
     expired_here =
         let i = d.conversation in
-        held_same event bound (opening_of i entries) (opening_of i entries) (items_of i (noted_in entries)) (items_of i (noted_in entries))
-        (items_of i earlier ++ p.expired.oldest ∷ p.expired.given) (items_of i (earlier ++ p.expired.oldest ∷ p.expired.given))
-        (items_of i expired ++ p.expired.oldest ∷ []) (items_of i (expired ++ p.expired.oldest ∷ [])) (conversation_at new.conversations i) (conversation_at new.conversations i)
+        held_same event bound (opening_of i entries) (opening_of i entries) (noted_of i (noted_in entries)) (noted_of i (noted_in entries))
+        (noted_of i earlier ++ p.expired.oldest ∷ p.expired.given) (noted_of i (earlier ++ p.expired.oldest ∷ p.expired.given))
+        (noted_of i expired ++ p.expired.oldest ∷ []) (noted_of i (expired ++ p.expired.oldest ∷ [])) (conversation_at new.conversations i) (conversation_at new.conversations i)
         refl refl (own_added i earlier (p.expired.oldest ∷ p.expired.given) expired_own) (own_added i expired (p.expired.oldest ∷ []) (expired_own.0, tt)) refl
-        (expire_held event bound i d.time (items_of i (noted_in entries)) (items_of i earlier) (items_of i expired) before now (conversation_at old.conversations i) (conversation_at new.conversations i) p.expired (opening_of i entries) (a.held i))
+        (expire_held event bound i d.time (noted_of i (noted_in entries)) (noted_of i earlier) (noted_of i expired) before now (conversation_at old.conversations i) (conversation_at new.conversations i) p.expired (opening_of i entries) (a.held i))
 
     expired_there : (k : ℕ) → nat_eq d.conversation k ≡ false → HeldIn event bound entries (earlier ++ p.expired.oldest ∷ p.expired.given) (expired ++ p.expired.oldest ∷ []) new.conversations k
     expired_there k differs =
         let i = d.conversation in
-        held_same event bound (opening_of k entries) (opening_of k entries) (items_of k (noted_in entries)) (items_of k (noted_in entries))
-        (items_of k earlier) (items_of k (earlier ++ p.expired.oldest ∷ p.expired.given))
-        (items_of k expired) (items_of k (expired ++ p.expired.oldest ∷ [])) (conversation_at old.conversations k) (conversation_at new.conversations k)
+        held_same event bound (opening_of k entries) (opening_of k entries) (noted_of k (noted_in entries)) (noted_of k (noted_in entries))
+        (noted_of k earlier) (noted_of k (earlier ++ p.expired.oldest ∷ p.expired.given))
+        (noted_of k expired) (noted_of k (expired ++ p.expired.oldest ∷ [])) (conversation_at old.conversations k) (conversation_at new.conversations k)
         refl refl (others_added i k earlier (p.expired.oldest ∷ p.expired.given) differs expired_own) (others_added i k expired (p.expired.oldest ∷ []) differs (expired_own.0, tt)) (p.others k differs)
         (a.held k)
 
@@ -243,7 +243,7 @@ module _ {A : Type 0} (event : A → Event) (bound : ℕ) (entries : List (Entry
       ),
     )
 
-    pub deadline_expired : new.expired ≡ old.expired + 1 → IsKept event bound entries (earlier ++ p.expired.oldest ∷ p.expired.given) (expired ++ p.expired.oldest ∷ []) new
+    pub deadline_expired : new.expired ≡ old.expired + 1 → IsStageKept event bound entries (earlier ++ p.expired.oldest ∷ p.expired.given) (expired ++ p.expired.oldest ∷ []) new
     deadline_expired g = record {
       bounded = b ∙ a.bounded;
       timed = t ∙ a.timed;
@@ -271,13 +271,13 @@ module _ {A : Type 0} (event : A → Event) (bound : ℕ) (entries : List (Entry
           omega (arith, some, ap (how_many (is_at n)) w, none_behind time_of n (y ∷ ys) all_less)
 
   pub deadline_skipped : new.expired ≡ old.expired → IsNotOldest d.time (conversation_at old.conversations d.conversation) → ((k : ℕ) → conversation_at new.conversations k ≡ conversation_at old.conversations k)
-      → IsKept event bound entries earlier expired new
+      → IsStageKept event bound entries earlier expired new
   deadline_skipped g other same = record {
     bounded = b ∙ a.bounded;
     timed = t ∙ a.timed;
     fits = omega (arith, t, a.fits);
     numbered = a.numbered;
-    held = λ k. subst (λ z. IsHeld event bound (opening_of k entries) (items_of k (noted_in entries)) (items_of k earlier) (items_of k expired) z) (sym (same k)) (a.held k);
+    held = λ k. subst (λ z. IsHeld event bound (opening_of k entries) (noted_of k (noted_in entries)) (noted_of k earlier) (noted_of k expired) z) (sym (same k)) (a.held k);
     listed = subst (λ z. AreListed z new.conversations new.deadlines) (sym t)
         (listed_rest old.time old.conversations new.conversations d new.deadlines listed_was (λ k differs. same k)
         (λ n some. (let had : 0 < how_many (is_at n) (waiting_at (conversation_at old.conversations d.conversation)) = subst (λ (z : Option (Conversation A)). 0 < how_many (is_at n) (waiting_at z)) (same d.conversation) some in
@@ -289,7 +289,7 @@ module _ {A : Type 0} (event : A → Event) (bound : ℕ) (entries : List (Entry
 
 -- ---- no deadline is left that has passed
 
-pub all_fresh : {A : Type 0} (event : A → Event) (bound due : ℕ) (entries : List (Entry A)) (released expired : List (Noted A)) (s : State A) → IsKept event bound entries released expired s → StartsAfter due s.deadlines
+pub all_fresh : {A : Type 0} (event : A → Event) (bound due : ℕ) (entries : List (Entry A)) (released expired : List (Noted A)) (s : StageState A) → IsStageKept event bound entries released expired s → StartsAfter due s.deadlines
     → (id : ℕ) → AllByRecursion (λ x. due < x.time) (waiting_at (conversation_at s.conversations id))
 all_fresh event bound due entries released expired s a later id =
     each_time time_of (λ n. due < n) (waiting_at (conversation_at s.conversations id))

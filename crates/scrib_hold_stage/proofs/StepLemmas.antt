@@ -9,8 +9,8 @@ use Rattle.scrib_hold_stage.specs.Entries.{Entry}
 use Rattle.scrib_hold_stage.specs.Conversations.{waiting_at}
 use Rattle.scrib_hold_stage.specs.Changes.{conversation_at}
 use Rattle.scrib_hold_stage.specs.Deadlines.{IsInOrder, due_time, StartsAfter}
-use Rattle.scrib_hold_stage.specs.Stages.{State, IsKept, IsAfter, Expires, nothing, one_more, IsRead}
-use Rattle.scrib_hold_stage.specs.Steps.{IsTaken, IsExpiring, IsGone, IsPassed, IsRipened}
+use Rattle.scrib_hold_stage.specs.Stages.{StageState, IsStageKept, HasStaged, Expires, nothing, one_more, IsRead}
+use Rattle.scrib_hold_stage.specs.Steps.{IsEntryTaken, IsExpiring, IsGone, IsDeadlinePassed, IsRipened}
 use Rattle.scrib_hold_stage.proofs.Lists.{all_append, all_weaker}
 use Rattle.scrib_hold_stage.proofs.DeadlineLemmas.{rest_later, rest_after}
 use Rattle.scrib_hold_stage.proofs.StageLemmas.{all_fresh}
@@ -21,7 +21,7 @@ ok_both (Ok x) f p q = f p q
 ok_both (Err e) f p q = tt
 
 -- nothing expires
-pub expiring_none : {A : Type 0} (event : A → Event) (due : ℕ) (old new : State A) (released : List (Noted A)) → new ≡ old → IsExpiring event due old new released released
+pub expiring_none : {A : Type 0} (event : A → Event) (due : ℕ) (old new : StageState A) (released : List (Noted A)) → new ≡ old → IsExpiring event due old new released released
 expiring_none event due old new released same = record {
   given = [];
   gone = [];
@@ -29,8 +29,8 @@ expiring_none event due old new released same = record {
   passed = tt;
   in_turn = λ bound entries earlier expired a. (nothing, tt);
   after = λ bound entries earlier expired a.
-      subst (λ z. IsKept event bound entries z (expired ++ []) new) (sym (append-nil earlier))
-      (subst (λ z. IsKept event bound entries earlier z new) (sym (append-nil expired)) (subst (IsKept event bound entries earlier expired) (sym same) a));
+      subst (λ z. IsStageKept event bound entries z (expired ++ []) new) (sym (append-nil earlier))
+      (subst (λ z. IsStageKept event bound entries earlier z new) (sym (append-nil expired)) (subst (IsStageKept event bound entries earlier expired) (sym same) a));
 }
 
 -- what expired before was earlier than the deadlines that are left
@@ -55,7 +55,7 @@ turn_more {A} d ds given gone more out o t (inr k) =
     )
 
 -- one more deadline passes
-pub expiring_join : {A : Type 0} (event : A → Event) (due : ℕ) (old mid new : State A) (released between now : List (Noted A)) → IsExpiring event due old mid released between → IsPassed event due mid new between now → IsExpiring event due old new released now
+pub expiring_join : {A : Type 0} (event : A → Event) (due : ℕ) (old mid new : StageState A) (released between now : List (Noted A)) → IsExpiring event due old mid released between → IsDeadlinePassed event due mid new between now → IsExpiring event due old new released now
 expiring_join {A} event due old mid new released between now p q = record {
   given = p.given ++ q.given;
   gone = p.gone ++ q.gone;
@@ -66,13 +66,13 @@ expiring_join {A} event due old mid new released between now p q = record {
       (subst (λ z. Expires p.given p.gone × AllByRecursion (λ (x : Noted A). StartsAfter x.time z) p.gone) q.was (p.in_turn bound entries earlier expired a))
       (q.one bound entries (earlier ++ p.given) (expired ++ p.gone) k));
   after = λ bound entries earlier expired a.
-      subst (λ z. IsKept event bound entries z (expired ++ (p.gone ++ q.gone)) new) (append_assoc earlier p.given q.given)
-      (subst (λ z. IsKept event bound entries ((earlier ++ p.given) ++ q.given) z new) (append_assoc expired p.gone q.gone)
+      subst (λ z. IsStageKept event bound entries z (expired ++ (p.gone ++ q.gone)) new) (append_assoc earlier p.given q.given)
+      (subst (λ z. IsStageKept event bound entries ((earlier ++ p.given) ++ q.given) z new) (append_assoc expired p.gone q.gone)
       (q.after bound entries (earlier ++ p.given) (expired ++ p.gone) (p.after bound entries earlier expired a)));
 }
 
 -- what expired had waited for long enough, and what waits hasn't
-pub ripened : {A : Type 0} (event : A → Event) (due : ℕ) (old new : State A) (released now : List (Noted A)) → IsExpiring event due old new released now → StartsAfter due new.deadlines → due + old.bound ≡ old.time → IsRipened event old new released now
+pub ripened : {A : Type 0} (event : A → Event) (due : ℕ) (old new : StageState A) (released now : List (Noted A)) → IsExpiring event due old new released now → StartsAfter due new.deadlines → due + old.bound ≡ old.time → IsRipened event old new released now
 ripened {A} event due old new released now p later now_is = record {
   given = p.given;
   gone = p.gone;
@@ -91,16 +91,16 @@ ripened {A} event due old new released now p later now_is = record {
 }
 
 -- nothing waits
-pub none_ripe : {A : Type 0} (event : A → Event) (old new : State A) (released : List (Noted A)) → new ≡ old → old.deadlines ≡ [] → IsRipened event old new released released
+pub none_ripe : {A : Type 0} (event : A → Event) (old new : StageState A) (released : List (Noted A)) → new ≡ old → old.deadlines ≡ [] → IsRipened event old new released released
 none_ripe {A} event old new released same empty = record {
   given = [];
   gone = [];
   appended = sym (append-nil released);
   in_turn = λ bound entries earlier expired a. nothing;
-  after = λ bound entries earlier expired a aged. (let k : IsKept event bound entries earlier expired new = subst (IsKept event bound entries earlier expired) (sym same) a in
-      let later : StartsAfter (length entries) new.deadlines = subst (StartsAfter (length entries)) (sym (ap (λ (s : State A). s.deadlines) same ∙ empty)) tt in
-      subst (λ z. IsAfter event bound entries z (expired ++ []) new) (sym (append-nil earlier))
-      (subst (λ z. IsAfter event bound entries earlier z new) (sym (append-nil expired)) (record {
+  after = λ bound entries earlier expired a aged. (let k : IsStageKept event bound entries earlier expired new = subst (IsStageKept event bound entries earlier expired) (sym same) a in
+      let later : StartsAfter (length entries) new.deadlines = subst (StartsAfter (length entries)) (sym (ap (λ (s : StageState A). s.deadlines) same ∙ empty)) tt in
+      subst (λ z. HasStaged event bound entries z (expired ++ []) new) (sym (append-nil earlier))
+      (subst (λ z. HasStaged event bound entries earlier z new) (sym (append-nil expired)) (record {
         kept = k;
         aged = subst (λ z. AllByRecursion (λ (x : Noted A). x.time + bound ≤ z) expired) a.timed aged;
         fresh = λ id. all_weaker (λ (x : Noted A). length entries < x.time) (λ (x : Noted A). length entries < x.time + bound) (λ x h. omega arith)
@@ -109,16 +109,16 @@ none_ripe {A} event old new released same empty = record {
 }
 
 -- nothing can have waited for so long
-pub unripe : {A : Type 0} (event : A → Event) (old new : State A) (released : List (Noted A)) → new ≡ old → old.time < old.bound → IsRipened event old new released released
+pub unripe : {A : Type 0} (event : A → Event) (old new : StageState A) (released : List (Noted A)) → new ≡ old → old.time < old.bound → IsRipened event old new released released
 unripe {A} event old new released same few = record {
   given = [];
   gone = [];
   appended = sym (append-nil released);
   in_turn = λ bound entries earlier expired a. nothing;
   after = λ bound entries earlier expired a aged. (let small : length entries < bound = omega (arith, few, a.timed, a.bounded) in
-      let k : IsKept event bound entries earlier expired new = subst (IsKept event bound entries earlier expired) (sym same) a in
-      subst (λ z. IsAfter event bound entries z (expired ++ []) new) (sym (append-nil earlier))
-      (subst (λ z. IsAfter event bound entries earlier z new) (sym (append-nil expired)) (record {
+      let k : IsStageKept event bound entries earlier expired new = subst (IsStageKept event bound entries earlier expired) (sym same) a in
+      subst (λ z. HasStaged event bound entries z (expired ++ []) new) (sym (append-nil earlier))
+      (subst (λ z. HasStaged event bound entries earlier z new) (sym (append-nil expired)) (record {
         kept = k;
         aged = subst (λ z. AllByRecursion (λ (x : Noted A). x.time + bound ≤ z) expired) a.timed aged;
         fresh = λ id. every (λ (x : Noted A). length entries < x.time + bound) (λ x. omega arith) (waiting_at (conversation_at new.conversations id));
@@ -130,7 +130,7 @@ unripe {A} event old new released same few = record {
     every P f (x ∷ xs) = (f x, every P f xs)
 
 -- an entry is read, and what had waited for long enough expires
-pub read_of : {A : Type 0} (event : A → Event) (entry : Entry A) (old mid next new : State A) (released between now : List (Noted A)) → IsTaken event entry old mid released between → IsRipened event mid next between now → new ≡ next → IsRead event entry old new released now
+pub read_of : {A : Type 0} (event : A → Event) (entry : Entry A) (old mid next new : StageState A) (released between now : List (Noted A)) → IsEntryTaken event entry old mid released between → IsRipened event mid next between now → new ≡ next → IsRead event entry old new released now
 read_of {A} event entry old mid next new released between now p q same = record {
   given = p.given;
   late = q.given;
@@ -142,6 +142,6 @@ read_of {A} event entry old mid next new released between now p q same = record 
       let longer : length entries ≤ mid.time = omega (arith, k.timed, length-append entries (entry ∷ [])) in
       let r = q.after bound (entries ++ entry ∷ []) (earlier ++ p.given) expired k
       (all_weaker (λ (x : Noted A). x.time + bound ≤ length entries) (λ (x : Noted A). x.time + bound ≤ mid.time) (λ x h. omega arith) expired a.aged) in
-      subst (λ z. IsAfter event bound (entries ++ entry ∷ []) z (expired ++ q.gone) new) (append_assoc earlier p.given q.given)
-      (subst (IsAfter event bound (entries ++ entry ∷ []) ((earlier ++ p.given) ++ q.given) (expired ++ q.gone)) (sym same) r));
+      subst (λ z. HasStaged event bound (entries ++ entry ∷ []) z (expired ++ q.gone) new) (append_assoc earlier p.given q.given)
+      (subst (HasStaged event bound (entries ++ entry ∷ []) ((earlier ++ p.given) ++ q.given) (expired ++ q.gone)) (sym same) r));
 }

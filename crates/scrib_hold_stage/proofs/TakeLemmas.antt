@@ -8,8 +8,8 @@ use Rattle.scrib_hold_stage.specs.Entries.{Entry, Opens, Passes, note}
 use Rattle.scrib_hold_stage.specs.Conversations.{IsNotOldest}
 use Rattle.scrib_hold_stage.specs.Changes.{conversation_at, IsPushedOf, IsOpenedOf, IsExpiredOf}
 use Rattle.scrib_hold_stage.specs.Deadlines.{AreListed}
-use Rattle.scrib_hold_stage.specs.Stages.{State, IsKept, IsAfter}
-use Rattle.scrib_hold_stage.specs.Steps.{IsTaken, IsPassed}
+use Rattle.scrib_hold_stage.specs.Stages.{StageState, IsStageKept, HasStaged}
+use Rattle.scrib_hold_stage.specs.Steps.{IsEntryTaken, IsDeadlinePassed}
 use Rattle.scrib_hold_stage.proofs.EntryLemmas.{noted_count}
 use Rattle.scrib_hold_stage.proofs.HeldLemmas.{AreOwn}
 use Rattle.scrib_hold_stage.proofs.DeadlineLemmas.{listed_more, listed_same}
@@ -27,38 +27,38 @@ first_given (r ∷ rs) given y e = first_given rs given y e
 
 -- ---- an event
 
-module _ {A : Type 0} (event : A → Event) (id : ℕ) (arrival : A) (old begun new : State A) (released now : List (Noted A)) (begins : begun ≡ record old { time = old.time + 1 }) (small : old.time + 1 < 2 ^ 64)
+module _ {A : Type 0} (event : A → Event) (id : ℕ) (arrival : A) (old begun new : StageState A) (released now : List (Noted A)) (begins : begun ≡ record old { time = old.time + 1 }) (small : old.time + 1 < 2 ^ 64)
     (pushed : IsPushedOf event (record { conversation = id; time = begun.time; arrival = arrival }) begun.conversations new.conversations released now)
     (b : new.bound ≡ begun.bound) (t : new.time ≡ begun.time) (e : new.events ≡ min (begun.events + 1) (2 ^ 64 - 1)) (g : new.expired ≡ begun.expired) where
   abbrev item : Noted A
   item = record { conversation = id; time = old.time + 1; arrival = arrival }
 
   item_pushed : IsPushedOf event item old.conversations new.conversations released now
-  item_pushed = subst (λ (s : State A). IsPushedOf event (record { conversation = id; time = s.time; arrival = arrival }) s.conversations new.conversations released now) begins pushed
+  item_pushed = subst (λ (s : StageState A). IsPushedOf event (record { conversation = id; time = s.time; arrival = arrival }) s.conversations new.conversations released now) begins pushed
 
   time_is : begun.time ≡ old.time + 1
-  time_is = ap (λ (s : State A). s.time) begins
+  time_is = ap (λ (s : StageState A). s.time) begins
 
   events_are : begun.events ≡ old.events
-  events_are = ap (λ (s : State A). s.events) begins
+  events_are = ap (λ (s : StageState A). s.events) begins
 
-  by_listed : ((bound : ℕ) (entries : List (Entry A)) (earlier expired : List (Noted A)) → IsAfter event bound entries earlier expired old → AreListed (old.time + 1) new.conversations new.deadlines)
-      → length new.deadlines ≤ length old.deadlines + 1 → IsTaken event (note id (old.time + 1) arrival) old new released now
+  by_listed : ((bound : ℕ) (entries : List (Entry A)) (earlier expired : List (Noted A)) → HasStaged event bound entries earlier expired old → AreListed (old.time + 1) new.conversations new.deadlines)
+      → length new.deadlines ≤ length old.deadlines + 1 → IsEntryTaken event (note id (old.time + 1) arrival) old new released now
   by_listed l r = record {
     given = item_pushed.pushed.given;
     appended = item_pushed.pushed.appended;
     after = λ bound entries earlier expired a.
         event_read event bound entries earlier expired released now item old new item_pushed a refl small
-        (b ∙ ap (λ (s : State A). s.bound) begins) (t ∙ time_is)
+        (b ∙ ap (λ (s : StageState A). s.bound) begins) (t ∙ time_is)
         (counted_up old.events new.events (e ∙ ap (λ n. min (n + 1) (2 ^ 64 - 1)) events_are) (omega (arith, small, a.kept.events, a.kept.timed, noted_count entries)))
-        (g ∙ ap (λ (s : State A). s.expired) begins) (l bound entries earlier expired a) r;
+        (g ∙ ap (λ (s : StageState A). s.expired) begins) (l bound entries earlier expired a) r;
   }
 
   deadlines_are : begun.deadlines ≡ old.deadlines
-  deadlines_are = ap (λ (s : State A). s.deadlines) begins
+  deadlines_are = ap (λ (s : StageState A). s.deadlines) begins
 
   -- it waits
-  pub taken_waiting : (d : Deadline) → new.deadlines ≡ begun.deadlines ++ d ∷ [] → d.time ≡ begun.time → d.conversation ≡ id → IsTaken event (note id (old.time + 1) arrival) old new released now
+  pub taken_waiting : (d : Deadline) → new.deadlines ≡ begun.deadlines ++ d ∷ [] → d.time ≡ begun.time → d.conversation ≡ id → IsEntryTaken event (note id (old.time + 1) arrival) old new released now
   taken_waiting d more at of =
       let now_are : new.deadlines ≡ old.deadlines ++ d ∷ [] = more ∙ ap (λ z. z ++ d ∷ []) deadlines_are in
       by_listed
@@ -68,7 +68,7 @@ module _ {A : Type 0} (event : A → Event) (id : ℕ) (arrival : A) (old begun 
       (omega (arith, ap length now_are, length-append old.deadlines (d ∷ [])))
 
   -- it is released at once
-  pub taken_at_once : new.deadlines ≡ begun.deadlines → (start : ℕ) (y : Noted A) → start ≡ length released → slice_get now start ≡ Some y → y.time ≡ begun.time → IsTaken event (note id (old.time + 1) arrival) old new released now
+  pub taken_at_once : new.deadlines ≡ begun.deadlines → (start : ℕ) (y : Noted A) → start ≡ length released → slice_get now start ≡ Some y → y.time ≡ begun.time → IsEntryTaken event (note id (old.time + 1) arrival) old new released now
   taken_at_once same start y from there at =
       let now_are : new.deadlines ≡ old.deadlines = same ∙ deadlines_are in
       let first = first_given released item_pushed.pushed.given y (ap (λ z. slice_get z (length released)) (sym item_pushed.pushed.appended) ∙ ap (λ n. slice_get now n) (sym from) ∙ there) in
@@ -80,29 +80,29 @@ module _ {A : Type 0} (event : A → Event) (id : ℕ) (arrival : A) (old begun 
 
 -- ---- an opening, and another entry
 
-pub taken_opening : {A : Type 0} (event : A → Event) (id : ℕ) (old begun new : State A) (released now : List (Noted A)) → begun ≡ record old { time = old.time + 1 } → old.time + 1 < 2 ^ 64
+pub taken_opening : {A : Type 0} (event : A → Event) (id : ℕ) (old begun new : StageState A) (released now : List (Noted A)) → begun ≡ record old { time = old.time + 1 } → old.time + 1 < 2 ^ 64
     → IsOpenedOf event id begun.conversations new.conversations released now → new.bound ≡ begun.bound → new.time ≡ begun.time → new.events ≡ begun.events → new.expired ≡ begun.expired → new.deadlines ≡ begun.deadlines
-    → IsTaken event (Opens id) old new released now
+    → IsEntryTaken event (Opens id) old new released now
 taken_opening {A} event id old begun new released now begins small opened b t e g d =
-    let p : IsOpenedOf event id old.conversations new.conversations released now = subst (λ (s : State A). IsOpenedOf event id s.conversations new.conversations released now) begins opened in
+    let p : IsOpenedOf event id old.conversations new.conversations released now = subst (λ (s : StageState A). IsOpenedOf event id s.conversations new.conversations released now) begins opened in
     record {
       given = p.opened.given;
       appended = p.opened.appended;
       after = λ bound entries earlier expired a.
           opening_read event bound entries earlier expired released now id old new p a small
-          (b ∙ ap (λ (s : State A). s.bound) begins) (t ∙ ap (λ (s : State A). s.time) begins) (e ∙ ap (λ (s : State A). s.events) begins)
-          (g ∙ ap (λ (s : State A). s.expired) begins) (d ∙ ap (λ (s : State A). s.deadlines) begins);
+          (b ∙ ap (λ (s : StageState A). s.bound) begins) (t ∙ ap (λ (s : StageState A). s.time) begins) (e ∙ ap (λ (s : StageState A). s.events) begins)
+          (g ∙ ap (λ (s : StageState A). s.expired) begins) (d ∙ ap (λ (s : StageState A). s.deadlines) begins);
     }
 
-pub taken_other : {A : Type 0} (event : A → Event) (old new : State A) (released : List (Noted A)) → new ≡ record old { time = old.time + 1 } → old.time + 1 < 2 ^ 64 → IsTaken event Passes old new released released
+pub taken_other : {A : Type 0} (event : A → Event) (old new : StageState A) (released : List (Noted A)) → new ≡ record old { time = old.time + 1 } → old.time + 1 < 2 ^ 64 → IsEntryTaken event Passes old new released released
 taken_other {A} event old new released begins small = record {
   given = [];
   appended = sym (append-nil released);
   after = λ bound entries earlier expired a.
-      subst (λ z. IsKept event bound (entries ++ Passes ∷ []) z expired new) (sym (append-nil earlier))
+      subst (λ z. IsStageKept event bound (entries ++ Passes ∷ []) z expired new) (sym (append-nil earlier))
       (other_read event bound entries earlier expired old new a small
-      (ap (λ (s : State A). s.bound) begins) (ap (λ (s : State A). s.time) begins) (ap (λ (s : State A). s.conversations) begins)
-      (ap (λ (s : State A). s.events) begins) (ap (λ (s : State A). s.expired) begins) (ap (λ (s : State A). s.deadlines) begins));
+      (ap (λ (s : StageState A). s.bound) begins) (ap (λ (s : StageState A). s.time) begins) (ap (λ (s : StageState A). s.conversations) begins)
+      (ap (λ (s : StageState A). s.events) begins) (ap (λ (s : StageState A). s.expired) begins) (ap (λ (s : StageState A). s.deadlines) begins));
 }
 
 -- ---- a deadline passes
@@ -111,8 +111,8 @@ taken_other {A} event old new released begins small = record {
 own_of : {A : Type 0} (id : ℕ) (x : Noted A) (xs : List (Noted A)) → AreOwn id (x ∷ xs) → AreOwn x.conversation xs
 own_of id x xs own = subst (λ n. AreOwn n xs) (eqb-true id x.conversation own.0) own.1
 
-module _ {A : Type 0} (event : A → Event) (due : ℕ) (old new : State A) (d : Deadline) (was : old.deadlines ≡ d ∷ new.deadlines) (le : d.time ≤ due) (b : new.bound ≡ old.bound) (t : new.time ≡ old.time) (e : new.events ≡ old.events) where
-  pub one_expired : (released now : List (Noted A)) → IsExpiredOf event d.conversation d.time old.conversations new.conversations released now → new.expired ≡ min (old.expired + 1) (2 ^ 64 - 1) → IsPassed event due old new released now
+module _ {A : Type 0} (event : A → Event) (due : ℕ) (old new : StageState A) (d : Deadline) (was : old.deadlines ≡ d ∷ new.deadlines) (le : d.time ≤ due) (b : new.bound ≡ old.bound) (t : new.time ≡ old.time) (e : new.events ≡ old.events) where
+  pub one_expired : (released now : List (Noted A)) → IsExpiredOf event d.conversation d.time old.conversations new.conversations released now → new.expired ≡ min (old.expired + 1) (2 ^ 64 - 1) → IsDeadlinePassed event due old new released now
   one_expired released now p g = record {
     given = p.expired.oldest ∷ p.expired.given;
     gone = p.expired.oldest ∷ [];
@@ -133,7 +133,7 @@ module _ {A : Type 0} (event : A → Event) (due : ℕ) (old new : State A) (d :
         (counted_up old.expired new.expired g (omega (arith, a.expired_count, a.room, ap length was, a.fits)));
   }
 
-  pub none_expired : (released now : List (Noted A)) → now ≡ released → new.expired ≡ old.expired → IsNotOldest d.time (conversation_at old.conversations d.conversation) → ((k : ℕ) → conversation_at new.conversations k ≡ conversation_at old.conversations k) → IsPassed event due old new released now
+  pub none_expired : (released now : List (Noted A)) → now ≡ released → new.expired ≡ old.expired → IsNotOldest d.time (conversation_at old.conversations d.conversation) → ((k : ℕ) → conversation_at new.conversations k ≡ conversation_at old.conversations k) → IsDeadlinePassed event due old new released now
   none_expired released now unchanged g other same = record {
     given = [];
     gone = [];
@@ -143,7 +143,7 @@ module _ {A : Type 0} (event : A → Event) (due : ℕ) (old new : State A) (d :
     was = was;
     one = λ bound entries earlier expired a. inl (refl, refl);
     after = λ bound entries earlier expired a.
-        subst (λ z. IsKept event bound entries z (expired ++ []) new) (sym (append-nil earlier))
-        (subst (λ z. IsKept event bound entries earlier z new) (sym (append-nil expired))
+        subst (λ z. IsStageKept event bound entries z (expired ++ []) new) (sym (append-nil earlier))
+        (subst (λ z. IsStageKept event bound entries earlier z new) (sym (append-nil expired))
         (deadline_skipped event bound entries earlier expired old new a d was b t e g other same));
   }

@@ -1,11 +1,11 @@
 -- The conversations by id, and what calls do to them (this project's own). Only contracts of private functions cite
 -- this file, but for `conversation_at`.
-use Rattle.std.specs.Prelude.{◌≡◌, ℕ, false, List, Option, Some, slice_get, nat_eq}
+use Rattle.std.specs.Prelude.{◌≡◌, ℕ, false, List, [], ◌∷◌, ◌++◌, Option, Some, slice_get, nat_eq}
 use Rattle.std.specs.Map.{lookup}
 use Rattle.scrib_types.specs.declared.event.Event.{Event}
 use Rattle.scrib_hold_stage.specs.declared.noted.Noted.{Noted}
 use Rattle.scrib_hold_stage.specs.declared.conversation.Conversation.{Conversation}
-use Rattle.scrib_hold_stage.specs.Conversations.{IsClosedAt, IsOpenAt, IsExpiredIn, IsOpenedIn, IsPushedTo}
+use Rattle.scrib_hold_stage.specs.Conversations.{noted_event, IsClosedAt, IsOpenAt, IsExpiredIn, IsOpenedIn, IsPushedTo}
 
 -- the conversations that were met, each with its id
 abbrev pub Conversations : Type 0 → Type 0
@@ -16,8 +16,8 @@ abbrev pub conversation_at : {A : Type 0} → Conversations A → ℕ → Option
 conversation_at conversations id = lookup (nat_eq id) conversations
 
 -- the conversation at this place is that of the id
-abbrev pub IsAt : {A : Type 0} → Conversations A → (at id : ℕ) → Type 0
-IsAt {A} conversations at id = (c : Conversation A) × (slice_get conversations at ≡ Some (id, c))
+abbrev pub IsPlaceOf : {A : Type 0} → Conversations A → (at id : ℕ) → Type 0
+IsPlaceOf {A} conversations at id = (c : Conversation A) × (slice_get conversations at ≡ Some (id, c))
 
 -- the other conversations are the same
 abbrev pub LeavesOthers : {A : Type 0} → ℕ → (old new : Conversations A) → Type 0
@@ -37,6 +37,12 @@ pub record IsPushedOf {A : Type 0} (event : A → Event) (x : Noted A) (old new 
     (released now : List (Noted A)) : Type 0 where
   pub others : LeavesOthers x.conversation old new
   pub pushed : IsPushedTo event x (conversation_at old x.conversation) (conversation_at new x.conversation) released now
+
+-- an item of this event was taken by its conversation, whichever: it is released at once, and nothing else is
+abbrev pub PassesAloneOf : {A : Type 0} → (A → Event) → (id : ℕ) → Event → (old new : Conversations A) → Type 0
+PassesAloneOf {A} event id e old new =
+    (x : Noted A) → x.conversation ≡ id → noted_event event x ≡ e → (released : List (Noted A))
+    → IsPushedOf event x old new released (released ++ x ∷ [])
 
 -- the conversation is open from now on, and these items are released then, behind those that were
 pub record IsOpenedOf {A : Type 0} (event : A → Event) (id : ℕ) (old new : Conversations A)

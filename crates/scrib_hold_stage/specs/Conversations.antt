@@ -1,13 +1,13 @@
 -- Conversations in a stage, and what calls do to one (this project's own).
-use Rattle.std.specs.Prelude.{◌≡◌, ℕ, true, false, List, [], ◌∷◌, ◌++◌, Option, None, Some, if◌then◌else◌}
+use Rattle.std.specs.Prelude.{◌≡◌, ℕ, true, false, List, [], ◌∷◌, ◌++◌, Option, None, Some, MatchOption, if◌then◌else◌}
 use Rattle.scrib_types.specs.declared.event.Event.{Event}
-use Rattle.scrib_holdback.specs.Holdings.{IsAfter, IsOldest}
+use Rattle.scrib_holdback.specs.Holdings.{IsAfter, IsOldestWaiting}
 use Rattle.scrib_hold_stage.specs.declared.noted.Noted.{Noted}
 use Rattle.scrib_hold_stage.specs.declared.conversation.Conversation.{Conversation}
 
 -- the event of an item
-abbrev pub event_of : {A : Type 0} → (A → Event) → Noted A → Event
-event_of event x = event x.arrival
+abbrev pub noted_event : {A : Type 0} → (A → Event) → Noted A → Event
+noted_event event x = event x.arrival
 
 -- what waits in the conversation, in order of arrival
 abbrev pub waiting_in : {A : Type 0} → Conversation A → List (Noted A)
@@ -19,28 +19,27 @@ waiting_at None = []
 waiting_at (Some c) = waiting_in c
 
 -- the conversation is not open yet, and these events wait for its opening
-pub record IsClosed {A : Type 0} (event : A → Event) (arrivals : List (Noted A)) (c : Conversation A) : Type 0 where
+pub record IsUnopened {A : Type 0} (event : A → Event) (arrivals : List (Noted A)) (c : Conversation A) : Type 0 where
   pub closed : c.opened ≡ false
   pub wait : c.early.items ≡ arrivals
-  pub fresh : IsAfter (event_of event) [] [] [] c.holdback
+  pub fresh : IsAfter (noted_event event) [] [] [] c.holdback
 
 -- the conversation is open: these events arrived since, of which these were released, and these of them expired
 pub record IsOpen {A : Type 0} (event : A → Event) (arrivals released expired : List (Noted A)) (c : Conversation A)
     : Type 0 where
   pub opened : c.opened ≡ true
   pub none_early : c.early.items ≡ []
-  pub after : IsAfter (event_of event) arrivals released expired c.holdback
+  pub after : IsAfter (noted_event event) arrivals released expired c.holdback
 
 -- the same, where the conversation may not have been met
 abbrev pub IsClosedAt : {A : Type 0} → (A → Event) → List (Noted A) → Option (Conversation A) → Type 0
 IsClosedAt event arrivals None = arrivals ≡ []
-IsClosedAt event arrivals (Some c) = IsClosed event arrivals c
+IsClosedAt event arrivals (Some c) = IsUnopened event arrivals c
 
 -- the same
 abbrev pub IsOpenAt : {A : Type 0} → (A → Event) → (arrivals released expired : List (Noted A))
     → Option (Conversation A) → Type 0
-IsOpenAt event arrivals released expired None = ⊥
-IsOpenAt event arrivals released expired (Some c) = IsOpen event arrivals released expired c
+IsOpenAt event arrivals released expired o = MatchOption o ⊥ (λ c. IsOpen event arrivals released expired c)
 
 -- items were put behind those that were
 abbrev pub IsAddedTo : {A : Type 0} → (released now : List A) → Type 0
@@ -56,6 +55,12 @@ pub record IsPushedTo {A : Type 0} (event : A → Event) (x : Noted A) (old new 
   pub opened : (arrivals earlier expired : List (Noted A)) → IsOpenAt event arrivals earlier expired old
       → IsOpenAt event (arrivals ++ x ∷ []) (earlier ++ given) expired new
 
+-- an item of this event was taken, whichever: it is released at once, and nothing else is
+abbrev pub PassesAloneIn : {A : Type 0} → (A → Event) → Event → (old new : Conversation A) → Type 0
+PassesAloneIn {A} event e old new =
+    (x : Noted A) → noted_event event x ≡ e → (released : List (Noted A))
+    → IsPushedTo event x (Some old) (Some new) released (released ++ x ∷ [])
+
 -- the conversation is open from now on: what waited for this arrives, and these items are released
 pub record IsOpenedIn {A : Type 0} (event : A → Event) (old new : Option (Conversation A))
     (released now : List (Noted A)) : Type 0 where
@@ -70,7 +75,7 @@ pub record IsExpiredIn {A : Type 0} (event : A → Event) (time : ℕ) (old new 
     (released now : List (Noted A)) : Type 0 where
   pub oldest : Noted A
   pub timed : oldest.time ≡ time
-  pub waited : IsOldest (waiting_at old) oldest
+  pub waited : IsOldestWaiting (waiting_at old) oldest
   pub given : List (Noted A)
   pub appended : now ≡ released ++ oldest ∷ given
   pub closed : (waiting : List (Noted A)) → IsClosedAt event (oldest ∷ waiting) old
@@ -79,9 +84,9 @@ pub record IsExpiredIn {A : Type 0} (event : A → Event) (time : ℕ) (old new 
       → IsOpenAt event arrivals (earlier ++ oldest ∷ given) (expired ++ oldest ∷ []) new
 
 -- the oldest item that waits is of this time
-abbrev pub IsOldestAt : {A : Type 0} → ℕ → Option (Conversation A) → Type 0
-IsOldestAt {A} time now = (x : Noted A) × IsOldest (waiting_at now) x × (x.time ≡ time)
+abbrev pub IsOldestOfTime : {A : Type 0} → ℕ → Option (Conversation A) → Type 0
+IsOldestOfTime {A} time now = (x : Noted A) × IsOldestWaiting (waiting_at now) x × (x.time ≡ time)
 
 -- it is not
 abbrev pub IsNotOldest : {A : Type 0} → ℕ → Option (Conversation A) → Type 0
-IsNotOldest {A} time now = (x : Noted A) → IsOldest (waiting_at now) x → x.time ≡ time → ⊥
+IsNotOldest {A} time now = (x : Noted A) → IsOldestWaiting (waiting_at now) x → x.time ≡ time → ⊥

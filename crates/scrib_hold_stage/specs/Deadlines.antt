@@ -1,6 +1,6 @@
 -- When the events that wait expire (this project's own). Only contracts of private functions and `IsKept` cite this
 -- file.
-use Rattle.std.specs.Prelude.{ℕ, ◌<◌, ◌≤◌, ◌&&◌, Bool, List, [], ◌∷◌, length, filter, nat_eq}
+use Rattle.std.specs.Prelude.{ℕ, ◌+◌, ◌<◌, ◌≤◌, ◌&&◌, Bool, List, [], ◌∷◌, length, filter, nat_eq}
 use Rattle.std.specs.List.{AllByRecursion}
 use Rattle.scrib_hold_stage.specs.declared.noted.Noted.{Noted}
 use Rattle.scrib_hold_stage.specs.declared.deadlines.Deadline.{Deadline}
@@ -40,3 +40,8 @@ pub record AreListed {A : Type 0} (time : ℕ) (conversations : Conversations A)
 abbrev pub StartsAfter : ℕ → List Deadline → Type 0
 StartsAfter due [] = Unit {0}
 StartsAfter due (d ∷ deadlines) = due < d.time
+
+-- the event of the first deadline, if there is one, does not expire at this time
+abbrev pub StartsLate : (time bound : ℕ) → List Deadline → Type 0
+StartsLate time bound [] = Unit {0}
+StartsLate time bound (d ∷ deadlines) = time < d.time + bound

@@ -17,8 +17,8 @@ abbrev pub is_of : {A : Type 0} → ℕ → Noted A → Bool
 is_of id x = nat_eq id x.conversation
 
 -- the items of the conversation, in order
-abbrev pub items_of : {A : Type 0} → ℕ → List (Noted A) → List (Noted A)
-items_of id items = filter (is_of id) items
+abbrev pub noted_of : {A : Type 0} → ℕ → List (Noted A) → List (Noted A)
+noted_of id items = filter (is_of id) items
 
 -- the events among the entries, in order
 abbrev pub noted_in : {A : Type 0} → List (Entry A) → List (Noted A)

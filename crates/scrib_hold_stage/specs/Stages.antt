@@ -11,14 +11,14 @@ use Rattle.scrib_hold_stage.specs.declared.noted.Noted.{Noted}
 use Rattle.scrib_hold_stage.specs.declared.conversation.Conversation.{Conversation}
 use Rattle.scrib_hold_stage.specs.declared.deadlines.Deadline.{Deadline}
 use Rattle.scrib_hold_stage.specs.declared.stage.HoldStage.{HoldStage}
-use Rattle.scrib_hold_stage.specs.Entries.{Entry, is_of, items_of, noted_in, opening_of, AreNumberedFrom}
-use Rattle.scrib_hold_stage.specs.Conversations.{event_of, IsClosedAt, IsOpenAt, waiting_at}
+use Rattle.scrib_hold_stage.specs.Entries.{Entry, note, is_of, noted_of, noted_in, opening_of, AreNumberedFrom}
+use Rattle.scrib_hold_stage.specs.Conversations.{noted_event, IsClosedAt, IsOpenAt, waiting_at}
 use Rattle.scrib_hold_stage.specs.Changes.{Conversations, conversation_at}
 use Rattle.scrib_hold_stage.specs.Deadlines.{AreListed}
 
 -- what contracts see of a stage: its bound, the number of entries that were read, the conversations that were met, the
 -- deadlines of events that had to wait, how many events were taken, and how many of them expired
-pub record State (A : Type 0) : Type 0 where
+pub record StageState (A : Type 0) : Type 0 where
   pub bound : ℕ
   pub time : ℕ
   pub conversations : Conversations A
@@ -27,8 +27,8 @@ pub record State (A : Type 0) : Type 0 where
   pub expired : ℕ
 
 -- this state
-abbrev pub state_of : {A : Type 0} → HoldStage A → State A
-state_of stage =
+abbrev pub stage_state : {A : Type 0} → HoldStage A → StageState A
+stage_state stage =
     record {
       bound = stage.bound;
       time = stage.time;
@@ -60,14 +60,14 @@ pub record IsHeld {A : Type 0} (event : A → Event) (bound : ℕ) (opening : Op
   pub held : AreHeld event bound opening early arrivals given late now
 
 -- What a stage keeps. The time is the number of entries that were read. Each conversation is held.
-pub record IsKept {A : Type 0} (event : A → Event) (bound : ℕ) (entries : List (Entry A))
-    (released expired : List (Noted A)) (s : State A) : Type 0 where
+pub record IsStageKept {A : Type 0} (event : A → Event) (bound : ℕ) (entries : List (Entry A))
+    (released expired : List (Noted A)) (s : StageState A) : Type 0 where
   pub bounded : s.bound ≡ bound
   pub timed : s.time ≡ length entries
   pub fits : s.time < 2 ^ 64
   pub numbered : AreNumberedFrom 1 entries
-  pub held : (id : ℕ) → IsHeld event bound (opening_of id entries) (items_of id (noted_in entries))
-      (items_of id released) (items_of id expired) (conversation_at s.conversations id)
+  pub held : (id : ℕ) → IsHeld event bound (opening_of id entries) (noted_of id (noted_in entries))
+      (noted_of id released) (noted_of id expired) (conversation_at s.conversations id)
   pub listed : AreListed s.time s.conversations s.deadlines
   pub events : s.events ≡ length (noted_in entries)
   pub expired_count : s.expired ≡ length expired
@@ -75,9 +75,9 @@ pub record IsKept {A : Type 0} (event : A → Event) (bound : ℕ) (entries : Li
 
 -- The stage after these entries of a script: these events were released, and these of them expired. What expired had
 -- waited while as many entries were read as the bound says, and what waits hasn't.
-pub record IsAfter {A : Type 0} (event : A → Event) (bound : ℕ) (entries : List (Entry A))
-    (released expired : List (Noted A)) (s : State A) : Type 0 where
-  pub kept : IsKept event bound entries released expired s
+pub record HasStaged {A : Type 0} (event : A → Event) (bound : ℕ) (entries : List (Entry A))
+    (released expired : List (Noted A)) (s : StageState A) : Type 0 where
+  pub kept : IsStageKept event bound entries released expired s
   pub aged : AllByRecursion (λ x. x.time + bound ≤ length entries) expired
   pub fresh : (id : ℕ) → AllByRecursion (λ x. length entries < x.time + bound)
       (waiting_at (conversation_at s.conversations id))
@@ -92,34 +92,41 @@ pub data Expires {A : Type 0} : (given gone : List (Noted A)) → Type 0 where
 
 -- The entry was read. After any earlier ones, some items are released then for the entry itself, and others as these
 -- expire.
-pub record IsRead {A : Type 0} (event : A → Event) (entry : Entry A) (old new : State A)
+pub record IsRead {A : Type 0} (event : A → Event) (entry : Entry A) (old new : StageState A)
     (released now : List (Noted A)) : Type 0 where
   pub given : List (Noted A)
   pub late : List (Noted A)
   pub gone : List (Noted A)
   pub appended : now ≡ released ++ (given ++ late)
   pub in_turn : (bound : ℕ) (entries : List (Entry A)) (earlier expired : List (Noted A))
-      → IsAfter event bound entries earlier expired old → Expires late gone
+      → HasStaged event bound entries earlier expired old → Expires late gone
   pub after : (bound : ℕ) (entries : List (Entry A)) (earlier expired : List (Noted A))
-      → IsAfter event bound entries earlier expired old
-      → IsAfter event bound (entries ++ entry ∷ []) (earlier ++ (given ++ late)) (expired ++ gone) new
+      → HasStaged event bound entries earlier expired old
+      → HasStaged event bound (entries ++ entry ∷ []) (earlier ++ (given ++ late)) (expired ++ gone) new
+
+-- An event of the conversation was read, with any arrival beside it: it is released, and nothing else is.
+abbrev pub PassesStageAlone : {A : Type 0} → (A → Event) → (id : ℕ) → Event → (old new : StageState A) → Type 0
+PassesStageAlone {A} event id e old new =
+    (arrival : A) → event arrival ≡ e → (released : List (Noted A))
+    → IsRead event (note id (old.time + 1) arrival) old new released
+    (released ++ record { conversation = id; time = old.time + 1; arrival = arrival } ∷ [])
 
 -- What was released in all of the conversation's events: a reordering of them. If the conversation was opened and none
 -- of its events expired, it is permitted exactly where some reordering is.
-pub record IsReleased {A : Type 0} (event : A → Event) (opening : Option ℕ)
+pub record IsReleasedInAll {A : Type 0} (event : A → Event) (opening : Option ℕ)
     (events expired all : List (Noted A)) : Type 0 where
-  pub reordering : IsReordering (map (event_of event) events) (map (event_of event) all)
+  pub reordering : IsReordering (map (noted_event event) events) (map (noted_event event) all)
   pub exact : (n : ℕ) → opening ≡ Some n → expired ≡ [] → (a : Agreement)
-      → IsPermitted a (map (event_of event) all) ↔ IsPermittedInSomeOrder a (map (event_of event) events)
+      → IsPermitted a (map (noted_event event) all) ↔ IsPermittedInSomeOrder a (map (noted_event event) events)
 
 -- The script ended: what waited is released, behind what was, as these expire. The law, of each conversation.
-pub record IsFinished {A : Type 0} (event : A → Event) (s : State A) (released now : List (Noted A)) : Type 0 where
+pub record IsFinished {A : Type 0} (event : A → Event) (s : StageState A) (released now : List (Noted A)) : Type 0 where
   pub given : List (Noted A)
   pub gone : List (Noted A)
   pub appended : now ≡ released ++ given
   pub in_turn : (bound : ℕ) (entries : List (Entry A)) (earlier expired : List (Noted A))
-      → IsAfter event bound entries earlier expired s → Expires given gone
+      → HasStaged event bound entries earlier expired s → Expires given gone
   pub law : (bound : ℕ) (entries : List (Entry A)) (earlier expired : List (Noted A))
-      → IsAfter event bound entries earlier expired s
-      → (id : ℕ) → IsReleased event (opening_of id entries) (items_of id (noted_in entries)) (items_of id expired)
-      (items_of id (earlier ++ given))
+      → HasStaged event bound entries earlier expired s
+      → (id : ℕ) → IsReleasedInAll event (opening_of id entries) (noted_of id (noted_in entries)) (noted_of id expired)
+      (noted_of id (earlier ++ given))

@@ -6,30 +6,30 @@ use Rattle.scrib_hold_stage.specs.declared.noted.Noted.{Noted}
 use Rattle.scrib_hold_stage.specs.declared.deadlines.Deadline.{Deadline}
 use Rattle.scrib_hold_stage.specs.Entries.{Entry, is_of}
 use Rattle.scrib_hold_stage.specs.Deadlines.{StartsAfter}
-use Rattle.scrib_hold_stage.specs.Stages.{State, IsAfter, IsKept, Expires}
+use Rattle.scrib_hold_stage.specs.Stages.{StageState, HasStaged, IsStageKept, Expires}
 
 -- the entry was read, but for what expires then
-pub record IsTaken {A : Type 0} (event : A → Event) (entry : Entry A) (old new : State A)
+pub record IsEntryTaken {A : Type 0} (event : A → Event) (entry : Entry A) (old new : StageState A)
     (released now : List (Noted A)) : Type 0 where
   pub given : List (Noted A)
   pub appended : now ≡ released ++ given
   pub after : (bound : ℕ) (entries : List (Entry A)) (earlier expired : List (Noted A))
-      → IsAfter event bound entries earlier expired old
-      → IsKept event bound (entries ++ entry ∷ []) (earlier ++ given) expired new
+      → HasStaged event bound entries earlier expired old
+      → IsStageKept event bound (entries ++ entry ∷ []) (earlier ++ given) expired new
 
 -- items that had waited since this time or longer expired, and others were released
-pub record IsExpiring {A : Type 0} (event : A → Event) (due : ℕ) (old new : State A)
+pub record IsExpiring {A : Type 0} (event : A → Event) (due : ℕ) (old new : StageState A)
     (released now : List (Noted A)) : Type 0 where
   pub given : List (Noted A)
   pub gone : List (Noted A)
   pub appended : now ≡ released ++ given
   pub passed : AllByRecursion (λ x. x.time ≤ due) gone
   pub in_turn : (bound : ℕ) (entries : List (Entry A)) (earlier expired : List (Noted A))
-      → IsKept event bound entries earlier expired old
+      → IsStageKept event bound entries earlier expired old
       → Expires given gone × AllByRecursion (λ x. StartsAfter x.time new.deadlines) gone
   pub after : (bound : ℕ) (entries : List (Entry A)) (earlier expired : List (Noted A))
-      → IsKept event bound entries earlier expired old
-      → IsKept event bound entries (earlier ++ given) (expired ++ gone) new
+      → IsStageKept event bound entries earlier expired old
+      → IsStageKept event bound entries (earlier ++ given) (expired ++ gone) new
 
 -- the item of the deadline expired, and others of its conversation were released behind it
 pub record IsGone {A : Type 0} (d : Deadline) (given gone : List (Noted A)) : Type 0 where
@@ -41,7 +41,7 @@ pub record IsGone {A : Type 0} (d : Deadline) (given gone : List (Noted A)) : Ty
   pub own : AllByRecursion (λ y. is_of x.conversation y ≡ true) others
 
 -- The first deadline, which is not later than this, passed. Its item expired, or was released before.
-pub record IsPassed {A : Type 0} (event : A → Event) (due : ℕ) (old new : State A)
+pub record IsDeadlinePassed {A : Type 0} (event : A → Event) (due : ℕ) (old new : StageState A)
     (released now : List (Noted A)) : Type 0 where
   pub given : List (Noted A)
   pub gone : List (Noted A)
@@ -50,21 +50,21 @@ pub record IsPassed {A : Type 0} (event : A → Event) (due : ℕ) (old new : St
   pub first : Deadline
   pub was : old.deadlines ≡ first ∷ new.deadlines
   pub one : (bound : ℕ) (entries : List (Entry A)) (earlier expired : List (Noted A))
-      → IsKept event bound entries earlier expired old
+      → IsStageKept event bound entries earlier expired old
       → ((given ≡ []) × (gone ≡ [])) ⊎ IsGone first given gone
   pub after : (bound : ℕ) (entries : List (Entry A)) (earlier expired : List (Noted A))
-      → IsKept event bound entries earlier expired old
-      → IsKept event bound entries (earlier ++ given) (expired ++ gone) new
+      → IsStageKept event bound entries earlier expired old
+      → IsStageKept event bound entries (earlier ++ given) (expired ++ gone) new
 
 -- what had waited for long enough expired, if what expired before had
-pub record IsRipened {A : Type 0} (event : A → Event) (old new : State A) (released now : List (Noted A))
+pub record IsRipened {A : Type 0} (event : A → Event) (old new : StageState A) (released now : List (Noted A))
     : Type 0 where
   pub given : List (Noted A)
   pub gone : List (Noted A)
   pub appended : now ≡ released ++ given
   pub in_turn : (bound : ℕ) (entries : List (Entry A)) (earlier expired : List (Noted A))
-      → IsKept event bound entries earlier expired old → Expires given gone
+      → IsStageKept event bound entries earlier expired old → Expires given gone
   pub after : (bound : ℕ) (entries : List (Entry A)) (earlier expired : List (Noted A))
-      → IsKept event bound entries earlier expired old
+      → IsStageKept event bound entries earlier expired old
       → AllByRecursion (λ x. x.time + bound ≤ old.time) expired
-      → IsAfter event bound entries (earlier ++ given) (expired ++ gone) new
+      → HasStaged event bound entries (earlier ++ given) (expired ++ gone) new

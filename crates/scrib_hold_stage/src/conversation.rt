@@ -1,12 +1,13 @@
 //! One conversation: its events wait for its opening, and from then on until they may have happened.
 
 ghost use Rattle.std.specs.Prelude.{◌≡◌, ◌++◌, [], List, IfOk, IsFalse, IsTrue, OnErr, OnOk, MatchOption, Some};
-ghost use Rattle.scrib_holdback.specs.Holdings.{IsOldest};
-ghost use Rattle.scrib_hold_stage.specs.Conversations.{IsAddedTo, IsClosed, IsExpiredIn, IsNotOldest, IsOldestAt, IsOpenedIn, IsPushedTo, waiting_in};
+ghost use Rattle.scrib_holdback.specs.Holdings.{IsOldestWaiting};
+ghost use Rattle.scrib_hold_stage.specs.Conversations.{IsAddedTo, IsUnopened, IsExpiredIn, IsNotOldest, IsOldestOfTime, IsOpenedIn, IsPushedTo, PassesAloneIn, waiting_in};
 
 use crate::noted::Noted;
 use scrib_holdback::arrival::Arrival;
 use scrib_holdback::holdback::Holdback;
+use scrib_types::shared_event::SharedEvent;
 use std::alloc::{AllocError, Global};
 use std::collections::VecDeque;
 
@@ -21,7 +22,7 @@ pub(crate) struct Conversation<A: Arrival> {
 impl<A: Arrival> Conversation<A> {
     /// Returns a conversation before its opening, without events.
     pub(crate) fn new(alloc: Global) -> Conversation<A>
-        ensures { IsClosed A.event [] result }
+        ensures { IsUnopened A.event [] result }
     {
         Conversation {
             opened: false,
@@ -48,6 +49,19 @@ impl<A: Arrival> Conversation<A> {
         }
         self.early.push_back(noted)?;
         Ok(())
+    }
+
+    /// Takes the next event by itself, if it is released at once and nothing waits. Returns whether it is so. If not,
+    /// nothing changes.
+    #[inline(always)]
+    pub(crate) fn try_pass(&mut self, event: &SharedEvent) -> bool
+        ensures passed { IsTrue result → PassesAloneIn A.event event.now self.old self.new }
+        ensures same { IsFalse result → self.new ≡ self.old }
+    {
+        if !self.opened {
+            return false;
+        }
+        self.holdback.try_pass(event)
     }
 
     /// Opens the conversation. What waited for this arrives, in order.
@@ -99,7 +113,7 @@ impl<A: Arrival> Conversation<A> {
 
     // Whether the oldest event that waits is of this time.
     fn is_oldest(&self, time: u64) -> bool
-        ensures yes { IsTrue result → IsOldestAt time (Some self.now) }
+        ensures yes { IsTrue result → IsOldestOfTime time (Some self.now) }
         ensures no { IsFalse result → IsNotOldest time (Some self.now) }
     {
         match self.oldest() {
@@ -110,7 +124,7 @@ impl<A: Arrival> Conversation<A> {
 
     // The oldest event that waits.
     fn oldest(&self) -> Option<&Noted<A>>
-        ensures { MatchOption result (waiting_in self.now ≡ []) (λ x. IsOldest (waiting_in self.now) x.now) }
+        ensures { MatchOption result (waiting_in self.now ≡ []) (λ x. IsOldestWaiting (waiting_in self.now) x.now) }
     {
         if self.opened {
             return self.holdback.oldest();

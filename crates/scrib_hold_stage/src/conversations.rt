@@ -2,12 +2,13 @@
 
 ghost use Rattle.std.specs.Prelude.{◌≡◌, ℕ, None, OnErr, OnOk, IfOk, IfSome, IsFalse, IsTrue};
 ghost use Rattle.scrib_hold_stage.specs.Conversations.{IsAddedTo, IsNotOldest};
-ghost use Rattle.scrib_hold_stage.specs.Changes.{IsMet, IsAt, IsExpiredOf, IsOpenedOf, IsPushedOf, conversation_at};
+ghost use Rattle.scrib_hold_stage.specs.Changes.{IsMet, IsPlaceOf, IsExpiredOf, IsOpenedOf, IsPushedOf, PassesAloneOf, conversation_at};
 
 use crate::conversation::Conversation;
 use crate::noted::Noted;
 use indexmap::IndexMap;
 use scrib_holdback::arrival::Arrival;
+use scrib_types::shared_event::SharedEvent;
 use std::alloc::{AllocError, Global};
 
 /// Takes the next event of its conversation, and puts what is released then behind what `released` has.
@@ -29,6 +30,27 @@ pub(crate) fn push_to<A: Arrival>(
         return Err(AllocError);
     };
     conversation.push(noted, released)
+}
+
+/// Takes the next event of the conversation by itself, if it is released at once and nothing waits there. Returns
+/// whether it is so. If not, nothing changes.
+#[inline(always)]
+pub(crate) fn pass_to<A: Arrival>(
+    conversations: &mut IndexMap<u32, Conversation<A>>,
+    id: u32,
+    event: &SharedEvent,
+) -> bool
+    ensures passed { IsTrue result
+        → PassesAloneOf A.event id event.now conversations.old.entries conversations.new.entries }
+    ensures same { IsFalse result → conversations.new.entries ≡ conversations.old.entries }
+{
+    let Some(place) = place_of(conversations, id) else {
+        return false;
+    };
+    let Some(conversation) = conversations.get_index_mut(place) else {
+        return false;
+    };
+    conversation.try_pass(event)
 }
 
 /// Opens the conversation. What waited for this arrives, in order.
@@ -87,7 +109,7 @@ fn meet<A: Arrival>(
     alloc: Global,
     id: u32,
 ) -> Result<usize, AllocError>
-    ensures place { IfOk result (λ at. IsAt conversations.new.entries at id) }
+    ensures place { IfOk result (λ at. IsPlaceOf conversations.new.entries at id) }
     ensures met { OnOk result (IsMet A.event id conversations.old.entries conversations.new.entries) }
 {
     if let Some(place) = place_of(conversations, id) {
@@ -99,8 +121,9 @@ fn meet<A: Arrival>(
 
 // Returns the place of the conversation. Ids are mostly given one after another, so the place that such an id has is
 // tried first.
+#[inline(always)]
 fn place_of<A: Arrival>(conversations: &IndexMap<u32, Conversation<A>>, id: u32) -> Option<usize>
-    ensures found { IfSome result (λ at. IsAt conversations.now.entries at id) }
+    ensures found { IfSome result (λ at. IsPlaceOf conversations.now.entries at id) }
     ensures absent { result ≡ None → conversation_at conversations.now.entries id ≡ None }
 {
     let usual = match conversations.get_index(0) {

@@ -1,7 +1,7 @@
 //! When events that wait expire.
 
-ghost use Rattle.std.specs.Prelude.{◌≡◌, ◌≤◌, ◌∷◌, IfSome, None};
-ghost use Rattle.scrib_hold_stage.specs.Deadlines.{StartsAfter};
+ghost use Rattle.std.specs.Prelude.{◌≡◌, ◌≤◌, ◌∷◌, IfSome, IsTrue, None};
+ghost use Rattle.scrib_hold_stage.specs.Deadlines.{StartsAfter, StartsLate};
 
 use std::collections::VecDeque;
 
@@ -22,5 +22,16 @@ pub(crate) fn pop_due(deadlines: &mut VecDeque<Deadline>, due: u64) -> Option<De
     match deadlines.front() {
         Some(first) if first.time <= due => deadlines.pop_front(),
         _ => None,
+    }
+}
+
+/// Whether no event expires at this time.
+#[inline(always)]
+pub(crate) fn none_due(deadlines: &VecDeque<Deadline>, time: u64, bound: u64) -> bool
+    ensures { IsTrue result → StartsLate time bound deadlines.now.items }
+{
+    match deadlines.front() {
+        Some(first) => time.saturating_sub(bound) < first.time,
+        None => true,
     }
 }

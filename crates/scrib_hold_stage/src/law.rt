@@ -3,9 +3,9 @@
 ghost use Rattle.std.specs.Prelude.{◌≡◌, ℕ, List, [], Some};
 ghost use Rattle.scrib_holdback.specs.FalseAlarms.{RaisesNoFalseAlarm};
 ghost use Rattle.scrib_hold_stage.specs.Changes.{conversation_at};
-ghost use Rattle.scrib_hold_stage.specs.Conversations.{event_of, waiting_at};
-ghost use Rattle.scrib_hold_stage.specs.Entries.{Entry, items_of, noted_in, opening_of};
-ghost use Rattle.scrib_hold_stage.specs.Stages.{IsAfter, state_of};
+ghost use Rattle.scrib_hold_stage.specs.Conversations.{noted_event, waiting_at};
+ghost use Rattle.scrib_hold_stage.specs.Entries.{Entry, noted_of, noted_in, opening_of};
+ghost use Rattle.scrib_hold_stage.specs.Stages.{HasStaged, stage_state};
 
 use crate::noted::Noted;
 use crate::stage::HoldStage;
@@ -16,8 +16,8 @@ use scrib_holdback::arrival::Arrival;
 /// waits.
 pub fn raises_no_false_alarm<A: Arrival>(stage: &HoldStage<A>)
     ensures { (bound : ℕ) (entries : List (Entry A)) (released expired : List (Noted A))
-        → IsAfter A.event bound entries released expired (state_of stage.now)
-        → (id n : ℕ) → opening_of id entries ≡ Some n → items_of id expired ≡ []
-        → RaisesNoFalseAlarm (event_of A.event) (items_of id (noted_in entries)) (items_of id released)
-        (waiting_at (conversation_at (state_of stage.now).conversations id)) }
+        → HasStaged A.event bound entries released expired (stage_state stage.now)
+        → (id n : ℕ) → opening_of id entries ≡ Some n → noted_of id expired ≡ []
+        → RaisesNoFalseAlarm (noted_event A.event) (noted_of id (noted_in entries)) (noted_of id released)
+        (waiting_at (conversation_at (stage_state stage.now).conversations id)) }
 {}

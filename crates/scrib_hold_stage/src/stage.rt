@@ -4,15 +4,16 @@ ghost use Rattle.std.specs.Prelude.{◌≡◌, ◌+◌, ◌^◌, ◌<◌, ℕ, L
 ghost use Rattle.scrib_hold_stage.specs.Entries.{Entry, Opens, Passes, note, noted_in};
 ghost use Rattle.scrib_hold_stage.specs.Conversations.{IsAddedTo};
 ghost use Rattle.scrib_hold_stage.specs.Deadlines.{StartsAfter};
-ghost use Rattle.scrib_hold_stage.specs.Stages.{IsAfter, IsFinished, IsRead, state_of};
-ghost use Rattle.scrib_hold_stage.specs.Steps.{IsExpiring, IsPassed, IsRipened, IsTaken};
+ghost use Rattle.scrib_hold_stage.specs.Stages.{HasStaged, IsFinished, IsRead, PassesStageAlone, stage_state};
+ghost use Rattle.scrib_hold_stage.specs.Steps.{IsExpiring, IsDeadlinePassed, IsRipened, IsEntryTaken};
 
 use crate::conversation::Conversation;
-use crate::conversations::{open, push_to, release_at};
-use crate::deadlines::{Deadline, pop_due};
+use crate::conversations::{open, pass_to, push_to, release_at};
+use crate::deadlines::{Deadline, none_due, pop_due};
 use crate::noted::Noted;
 use indexmap::IndexMap;
 use scrib_holdback::arrival::Arrival;
+use scrib_types::shared_event::SharedEvent;
 use std::alloc::{AllocError, Global};
 use std::collections::VecDeque;
 
@@ -47,14 +48,14 @@ pub struct HoldStage<A: Arrival> {
     // Of the events that had to wait, in order. An event that was released since has its deadline until that passes.
     deadlines: VecDeque<Deadline>,
     counts: Counts,
-    // How many events were released.
-    released: u64,
+    // How many events wait.
+    waiting: u64,
 }
 
 impl<A: Arrival> HoldStage<A> {
     /// Returns a stage before the first entry. An event waits while at most this many further entries are read.
     pub fn new(alloc: Global, bound: u64) -> HoldStage<A>
-        ensures { IsAfter A.event bound [] [] [] (state_of result) }
+        ensures { HasStaged A.event bound [] [] [] (stage_state result) }
     {
         HoldStage {
             alloc,
@@ -68,7 +69,7 @@ impl<A: Arrival> HoldStage<A> {
                 at_once: 0,
                 expired: 0,
             },
-            released: 0,
+            waiting: 0,
         }
     }
 
@@ -84,14 +85,37 @@ impl<A: Arrival> HoldStage<A> {
         released: &mut Vec<Noted<A>>,
     ) -> Result<(), AllocError>
         ensures ok { OnOk result (IsRead A.event (note conversation (self.old.time + 1) arrival)
-            (state_of self.old) (state_of self.new) released.old.items released.new.items) }
+            (stage_state self.old) (stage_state self.new) released.old.items released.new.items) }
         ensures err { OnErr result (IsAddedTo released.old.items released.new.items) }
     {
         let start = released.len();
         self.take(conversation, arrival, released)?;
         self.ripen(released)?;
-        self.tally(released.len().saturating_sub(start));
+        self.tally(1, released.len().saturating_sub(start));
         Ok(())
+    }
+
+    /// Reads an entry that is an event of the conversation by the event alone, in the usual case: the event is released
+    /// at once, nothing of its conversation waits, and nothing expires. The event isn't moved. Returns whether it is so.
+    /// If not, nothing is read, and [`HoldStage::push`] has to read the entry. So it is also where memory is refused.
+    #[inline(always)]
+    pub fn try_pass(&mut self, conversation: u32, event: &SharedEvent) -> bool
+        ensures passed { IsTrue result
+            → PassesStageAlone A.event conversation event.now (stage_state self.old) (stage_state self.new) }
+        ensures same { IsFalse result → stage_state self.new ≡ stage_state self.old }
+    {
+        let Some(time) = self.time.checked_add(1) else {
+            return false;
+        };
+        if !none_due(&self.deadlines, time, self.bound) {
+            return false;
+        }
+        if !pass_to(&mut self.conversations, conversation, event) {
+            return false;
+        }
+        self.time = time;
+        self.counts.events = self.counts.events.saturating_add(1);
+        true
     }
 
     /// Reads an entry that opens the conversation. What waited for this arrives.
@@ -104,13 +128,13 @@ impl<A: Arrival> HoldStage<A> {
         released: &mut Vec<Noted<A>>,
     ) -> Result<(), AllocError>
         ensures ok { OnOk result (IsRead A.event (Opens conversation)
-            (state_of self.old) (state_of self.new) released.old.items released.new.items) }
+            (stage_state self.old) (stage_state self.new) released.old.items released.new.items) }
         ensures err { OnErr result (IsAddedTo released.old.items released.new.items) }
     {
         let start = released.len();
         self.take_opening(conversation, released)?;
         self.ripen(released)?;
-        self.tally(released.len().saturating_sub(start));
+        self.tally(0, released.len().saturating_sub(start));
         Ok(())
     }
 
@@ -120,13 +144,13 @@ impl<A: Arrival> HoldStage<A> {
     /// As those of [`HoldStage::push`].
     pub fn skip(&mut self, released: &mut Vec<Noted<A>>) -> Result<(), AllocError>
         ensures ok { OnOk result (IsRead A.event Passes
-            (state_of self.old) (state_of self.new) released.old.items released.new.items) }
+            (stage_state self.old) (stage_state self.new) released.old.items released.new.items) }
         ensures err { OnErr result (IsAddedTo released.old.items released.new.items) }
     {
         let start = released.len();
         self.begin()?;
         self.ripen(released)?;
-        self.tally(released.len().saturating_sub(start));
+        self.tally(0, released.len().saturating_sub(start));
         Ok(())
     }
 
@@ -139,9 +163,9 @@ impl<A: Arrival> HoldStage<A> {
     /// # Errors
     /// `AllocError` where memory is refused. Some of what should be released is.
     pub fn finish(mut self, released: &mut Vec<Noted<A>>) -> Result<Counts, AllocError>
-        ensures law { OnOk result (IsFinished A.event (state_of self) released.old.items released.new.items) }
+        ensures law { OnOk result (IsFinished A.event (stage_state self) released.old.items released.new.items) }
         ensures counts { IfOk result (λ counts. (bound : ℕ) (entries : List (Entry A))
-            (earlier expired : List (Noted A)) → IsAfter A.event bound entries earlier expired (state_of self)
+            (earlier expired : List (Noted A)) → HasStaged A.event bound entries earlier expired (stage_state self)
             → (counts.events ≡ length (noted_in entries)) × (counts.expired ≡ length expired)) }
         ensures err { OnErr result (IsAddedTo released.old.items released.new.items) }
     {
@@ -158,8 +182,8 @@ impl<A: Arrival> HoldStage<A> {
         arrival: A,
         released: &mut Vec<Noted<A>>,
     ) -> Result<(), AllocError>
-        ensures ok { OnOk result (IsTaken A.event (note conversation (self.old.time + 1) arrival)
-            (state_of self.old) (state_of self.new) released.old.items released.new.items) }
+        ensures ok { OnOk result (IsEntryTaken A.event (note conversation (self.old.time + 1) arrival)
+            (stage_state self.old) (stage_state self.new) released.old.items released.new.items) }
         ensures err { OnErr result (released.new.items ≡ released.old.items) }
     {
         self.begin()?;
@@ -187,8 +211,8 @@ impl<A: Arrival> HoldStage<A> {
         conversation: u32,
         released: &mut Vec<Noted<A>>,
     ) -> Result<(), AllocError>
-        ensures ok { OnOk result (IsTaken A.event (Opens conversation)
-            (state_of self.old) (state_of self.new) released.old.items released.new.items) }
+        ensures ok { OnOk result (IsEntryTaken A.event (Opens conversation)
+            (stage_state self.old) (stage_state self.new) released.old.items released.new.items) }
         ensures err { OnErr result (IsAddedTo released.old.items released.new.items) }
     {
         self.begin()?;
@@ -207,19 +231,19 @@ impl<A: Arrival> HoldStage<A> {
         Ok(())
     }
 
-    // Counts events that were released, and how many wait now.
-    fn tally(&mut self, given: usize)
-        ensures { state_of self.new ≡ state_of self.old }
+    // Counts how many events wait now that so many were taken, and so many were released.
+    fn tally(&mut self, taken: u64, given: usize)
+        ensures { stage_state self.new ≡ stage_state self.old }
     {
-        self.released = self.released.saturating_add(given as u64);
-        let waiting = self.counts.events.saturating_sub(self.released);
-        self.counts.at_once = self.counts.at_once.max(waiting);
+        let waiting = self.waiting.saturating_add(taken);
+        self.waiting = waiting.saturating_sub(given as u64);
+        self.counts.at_once = self.counts.at_once.max(self.waiting);
     }
 
     // Releases the events that have waited for long enough.
     fn ripen(&mut self, released: &mut Vec<Noted<A>>) -> Result<(), AllocError>
         ensures ok { OnOk result
-            (IsRipened A.event (state_of self.old) (state_of self.new) released.old.items released.new.items) }
+            (IsRipened A.event (stage_state self.old) (stage_state self.new) released.old.items released.new.items) }
         ensures err { OnErr result (IsAddedTo released.old.items released.new.items) }
     {
         if self.deadlines.is_empty() {
@@ -234,7 +258,8 @@ impl<A: Arrival> HoldStage<A> {
     // Releases the events that wait since this time or longer, the oldest first.
     fn expire(&mut self, due: u64, released: &mut Vec<Noted<A>>) -> Result<(), AllocError>
         ensures ok { OnOk result
-            (IsExpiring A.event due (state_of self.old) (state_of self.new) released.old.items released.new.items) }
+            (IsExpiring A.event due (stage_state self.old) (stage_state self.new)
+            released.old.items released.new.items) }
         ensures done { OnOk result (StartsAfter due self.new.deadlines.items) }
         ensures err { OnErr result (IsAddedTo released.old.items released.new.items) }
     {
@@ -245,11 +270,12 @@ impl<A: Arrival> HoldStage<A> {
     // Lets the first deadline pass, if it is not later than this. Returns whether there was one.
     fn pass_deadline(&mut self, due: u64, released: &mut Vec<Noted<A>>) -> Result<bool, AllocError>
         ensures passed { IfOk result (λ some. IsTrue some
-            → IsPassed A.event due (state_of self.old) (state_of self.new) released.old.items released.new.items) }
+            → IsDeadlinePassed A.event due (stage_state self.old) (stage_state self.new)
+            released.old.items released.new.items) }
         ensures fewer { IfOk result (λ some. IsTrue some
             → length self.new.deadlines.items < length self.old.deadlines.items) }
         ensures none { IfOk result (λ some. IsFalse some → StartsAfter due self.old.deadlines.items) }
-        ensures same { IfOk result (λ some. IsFalse some → state_of self.new ≡ state_of self.old) }
+        ensures same { IfOk result (λ some. IsFalse some → stage_state self.new ≡ stage_state self.old) }
         ensures unreleased { IfOk result (λ some. IsFalse some → released.new.items ≡ released.old.items) }
         ensures err { OnErr result (released.new.items ≡ released.old.items) }
     {

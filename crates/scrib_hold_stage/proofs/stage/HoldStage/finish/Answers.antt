@@ -1,8 +1,8 @@
-use Rattle.scrib_hold_stage.specs.Stages.{state_of}
+use Rattle.scrib_hold_stage.specs.Stages.{stage_state}
 use Rattle.scrib_hold_stage.proofs.FinishLemmas.{finished}
 use Rattle.scrib_hold_stage.proofs.stage.HoldStage.finish.Goals as goal
 
 pub returns-clause-law : goal.returns-clause-law
 returns-clause-law g c =
-    finished g.A.Arrival.event (state_of c.args.self) (state_of c.expire.new.self) c.args.released.now.items c.expire.new.released.items
+    finished g.A.Arrival.event (stage_state c.args.self) (stage_state c.expire.new.self) c.args.released.now.items c.expire.new.released.items
     c.in_ok-expire.ensures.ok c.in_ok-expire.ensures.done

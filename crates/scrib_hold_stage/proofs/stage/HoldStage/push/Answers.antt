@@ -1,8 +1,8 @@
-use Rattle.scrib_hold_stage.specs.Stages.{state_of}
+use Rattle.scrib_hold_stage.specs.Stages.{stage_state}
 use Rattle.scrib_hold_stage.proofs.StepLemmas.{read_of}
 use Rattle.scrib_hold_stage.proofs.stage.HoldStage.push.Goals as goal
 
 pub returns-clause-ok : goal.returns-clause-ok
 returns-clause-ok g c =
-    read_of g.A.Arrival.event _ (state_of c.args.self.now) (state_of c.take.new.self) (state_of c.ripen.new.self) (state_of c.tally.new.self)
+    read_of g.A.Arrival.event _ (stage_state c.args.self.now) (stage_state c.take.new.self) (stage_state c.ripen.new.self) (stage_state c.tally.new.self)
     c.args.released.now.items c.take.new.released.items c.ripen.new.released.items c.in_ok-take.ensures.ok c.in_ok-ripen.ensures.ok c.tally.ensures
