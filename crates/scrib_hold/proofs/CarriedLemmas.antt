@@ -4,12 +4,16 @@ use Rattle.std.proofs.lemmas.List.{append_assoc, append-nil, map-append, reverse
 use Rattle.scrib_core.specs.declared.step.Step.{Step}
 use Rattle.scrib_core.specs.Answers.{State, Answers}
 use Rattle.scrib_core.specs.declared.format.Format.{Format}
+use Rattle.scrib_core.specs.declared.format.Format.TheVariants as format
+use Rattle.scrib_core.specs.declared.step.Step.TheVariants.{Note}
 use Rattle.scrib_script_reader.specs.declared.item.Item.{Item}
+use Rattle.scrib_script_reader.specs.declared.item.Item.TheVariants as item
+use Rattle.scrib_script_reader.specs.declared.short_line.ShortLine.TheVariants as short
 use Rattle.scrib_script_reader.specs.Scripts.{steps_of, item_list}
 use Rattle.scrib_hold_stage.specs.declared.noted.Noted.{Noted}
 use Rattle.scrib_cli.specs.declared.output_mode.OutputMode.TheVariants.{Printed}
 use Rattle.scrib_cli.specs.Scripts.{written}
-use Rattle.scrib_cli.specs.Progress.{IsCarriedOut}
+use Rattle.scrib_cli.specs.Progress.{IsCarriedOut, IsShortCarriedOut, WasCarriedOut}
 use Rattle.scrib_cli.proofs.RunLemmas.{answers_more, steps_more, written_more, does_shown, does_answers}
 use Rattle.scrib_hold.specs.HeldScripts.{Asked, item_of}
 use Rattle.scrib_hold.specs.Progress.{AreCarriedOut, AreCarriedInPart}
@@ -31,6 +35,23 @@ carried_item o i w v a b d = (
   does_answers (Printed o) i w v d.0 d.1 d.2,
   d.3 ∙ ap (λ (t : List ℕ). a ++ t) (does_shown (Printed o) i w v d.0 d.1 d.2),
 )
+
+-- a note whose line asks for no format
+pub carried_short : (o : Format) (x : Noted Asked) (w v : State) (was now : Option (List ℕ)) → x.arrival.1 ≡ format.Line → IsShortCarriedOut (Printed o) (short.Note x.conversation x.arrival.0) w v was now
+    → IsCarriedOut (Printed o) (item_of x) w v was now
+carried_short o x w v was now line d =
+    subst (λ (f : Format). IsCarriedOut (Printed o) (item.Step f (Note x.conversation x.arrival.0)) w v was now) (sym line) (by d.0 d.1 d.2)
+  where
+    by : (found : Option Item) → item_list found ≡ item.Step format.Line (Note x.conversation x.arrival.0) ∷ [] → WasCarriedOut (Printed o) found w v was now
+        → IsCarriedOut (Printed o) (item.Step format.Line (Note x.conversation x.arrival.0)) w v was now
+    by None same done = absurd (cc)
+    by (Some i) same done =
+        let is : i ≡ item.Step format.Line (Note x.conversation x.arrival.0) = cc in
+        subst (λ (j : Item). IsCarriedOut (Printed o) j w v was now) is done
+
+pub carried_other : (o : Format) (x : Noted Asked) (f : Format) (w v : State) (was now : Option (List ℕ)) → x.arrival.1 ≡ f → IsCarriedOut (Printed o) (item.Step f (Note x.conversation x.arrival.0)) w v was now
+    → IsCarriedOut (Printed o) (item_of x) w v was now
+carried_other o x f w v was now is d = subst (λ (g : Format). IsCarriedOut (Printed o) (item.Step g (Note x.conversation x.arrival.0)) w v was now) (sym is) d
 
 -- nothing, or one item
 pub carried_found : (o : Format) (found : Option Item) (i : Item) (w v : State) (a b : List ℕ) → found ≡ Some i → IsCarriedOut (Printed o) i w v (Some a) (Some b) → AreCarriedOut o (item_list found) w v a b

@@ -3,3 +3,4 @@ mod EntryLemmas
 mod MonitorLemmas
 mod HeldRunLemmas
 mod InputLemmas
+mod LineLemmas

@@ -12,16 +12,16 @@ use Rattle.scrib_hold_stage.specs.declared.stage.Counts.{Counts}
 use Rattle.scrib_hold_stage.specs.Entries as stage
 use Rattle.scrib_hold_stage.specs.Entries.{noted_in}
 use Rattle.scrib_hold_stage.specs.Stages as stages
-use Rattle.scrib_hold_stage.specs.Stages.{IsAfter, IsRead, IsFinished}
+use Rattle.scrib_hold_stage.specs.Stages.{HasStaged, IsRead, IsFinished}
 use Rattle.scrib_cli.specs.Scripts.{written}
 use Rattle.scrib_hold.specs.declared.held_monitor.HeldMonitor.{HeldMonitor}
-use Rattle.scrib_hold.specs.HeldScripts.{Asked, event_in, staged, staged_from, item_of, passing, is_end, ends_inside, end_item, LetsOut, nothing, one_more, AreHeldItems, IsOutputOf, AreLetOut, IsBeginningOf}
-use Rattle.scrib_hold.specs.Progress.{AreCarriedOut, AreCarriedInPart, HasTaken, TakesEntry, FailsAt, Ends, EndFails}
+use Rattle.scrib_hold.specs.HeldScripts.{Asked, event_in, staged, staged_from, item_of, passing, is_end_inside, ends_inside, end_item, LetsOut, nothing, one_more, AreHeldItems, IsOutputOf, AreLetOut, IsBeginningOf}
+use Rattle.scrib_hold.specs.Progress.{AreCarriedOut, AreCarriedInPart, HasTaken, TakesEntry, FailsAtEntry, Ends, HeldEndFails}
 use Rattle.scrib_hold.proofs.CarriedLemmas.{carried_none, carried_more}
 use Rattle.scrib_hold.proofs.EntryLemmas.{staged_more, length_staged, inside_more, noted_more, law_of}
 
 -- a new monitor
-pub taken_none : (o : Format) (bound : ℕ) (m : HeldMonitor) → m.format ≡ o → IsAfter event_in bound [] [] [] (stages.state_of m.stage) → state_of m.core ≡ initial
+pub taken_none : (o : Format) (bound : ℕ) (m : HeldMonitor) → m.format ≡ o → HasStaged event_in bound [] [] [] (stages.stage_state m.stage) → state_of m.core ≡ initial
     → m.ended_inside ≡ ends_inside [] → HasTaken o bound m [] []
 taken_none o bound m format after core inside = record {
   format = format;
@@ -42,16 +42,16 @@ carried_behind o p items w v a b before same c = (c.0, c.1, ap (λ (f : Format).
 -- ---- one entry more
 
 -- the stage read the entry
-module _ (old : HeldMonitor) (e : Entry) (after : stages.State Asked) (released : List (Noted Asked))
-    (read : IsRead event_in (staged (old.stage.time + 1) e) (stages.state_of old.stage) after [] released) where
+module _ (old : HeldMonitor) (e : Entry) (after : stages.StageState Asked) (released : List (Noted Asked))
+    (read : IsRead event_in (staged (old.stage.time + 1) e) (stages.stage_state old.stage) after [] released) where
   entries_after : (o : Format) (bound : ℕ) (entries : List Entry) (before : List ℕ) → (c : HasTaken o bound old entries before)
-      → IsAfter event_in bound (staged_from 1 (entries ++ e ∷ [])) (c.released ++ (read.given ++ read.late)) (c.expired ++ read.gone) after
+      → HasStaged event_in bound (staged_from 1 (entries ++ e ∷ [])) (c.released ++ (read.given ++ read.late)) (c.expired ++ read.gone) after
   entries_after o bound entries before c =
       let timed : old.stage.time ≡ length (staged_from 1 entries) = c.staged.kept.timed in
       let number : 1 + length entries ≡ old.stage.time + 1 = omega (arith, timed, length_staged 1 entries) in
       let same : staged_from 1 (entries ++ e ∷ []) ≡ staged_from 1 entries ++ staged (old.stage.time + 1) e ∷ [] =
       staged_more 1 entries e ∙ ap (λ (k : ℕ). staged_from 1 entries ++ staged k e ∷ []) number in
-      subst (λ (l : List (stage.Entry Asked)). IsAfter event_in bound l (c.released ++ (read.given ++ read.late)) (c.expired ++ read.gone) after) (sym same)
+      subst (λ (l : List (stage.Entry Asked)). HasStaged event_in bound l (c.released ++ (read.given ++ read.late)) (c.expired ++ read.gone) after) (sym same)
       (read.after bound (staged_from 1 entries) c.released c.expired c.staged)
 
   lets_more : (o : Format) (bound : ℕ) (entries : List Entry) (before : List ℕ) → (c : HasTaken o bound old entries before)
@@ -63,31 +63,36 @@ module _ (old : HeldMonitor) (e : Entry) (after : stages.State Asked) (released 
   let_out_is : (found : Option Item) → item_list found ≡ passing e → item_list found ++ map item_of released ≡ passing e ++ map item_of (read.given ++ read.late)
   let_out_is found same = ap (λ (l : List Item). l ++ map item_of released) same ∙ ap (λ (l : List (Noted Asked)). passing e ++ map item_of l) read.appended
 
-  pub took_entry : (new : HeldMonitor) (found : Option Item) → item_list found ≡ passing e → stages.state_of new.stage ≡ after → new.format ≡ old.format
-      → new.ended_inside ≡ cond old.ended_inside true (is_end e)
-      → AreCarriedOut old.format (item_list found ++ map item_of released) (state_of old.core) (state_of new.core) old.gathered.bytes.items new.gathered.bytes.items
+  pub took_items : (new : HeldMonitor) (more : List Item) → more ≡ passing e ++ map item_of (read.given ++ read.late) → stages.stage_state new.stage ≡ after → new.format ≡ old.format
+      → new.ended_inside ≡ cond old.ended_inside true (is_end_inside e)
+      → AreCarriedOut old.format more (state_of old.core) (state_of new.core) old.gathered.bytes.items new.gathered.bytes.items
       → TakesEntry old new e
-  took_entry new found same stage_is format inside carried =
-      let more = passing e ++ map item_of (read.given ++ read.late) in
+  took_items new more all stage_is format inside carried =
       let here : AreCarriedOut old.format (passing e ++ map item_of (read.given ++ read.late)) (state_of old.core) (state_of new.core) old.gathered.bytes.items new.gathered.bytes.items =
-      subst (λ (l : List Item). AreCarriedOut old.format l (state_of old.core) (state_of new.core) old.gathered.bytes.items new.gathered.bytes.items) (let_out_is found same) carried in
+      subst (λ (l : List Item). AreCarriedOut old.format l (state_of old.core) (state_of new.core) old.gathered.bytes.items new.gathered.bytes.items) all carried in
       record {
-        out = written old.format more here.0;
+        out = written old.format (passing e ++ map item_of (read.given ++ read.late)) here.0;
         grows = here.2;
         after = λ o bound entries before c. record {
           format = format ∙ c.format;
           released = c.released ++ (read.given ++ read.late);
           expired = c.expired ++ read.gone;
           items = c.items ++ (passing e ++ map item_of (read.given ++ read.late));
-          staged = subst (λ (s : stages.State Asked). IsAfter event_in bound (staged_from 1 (entries ++ e ∷ [])) (c.released ++ (read.given ++ read.late)) (c.expired ++ read.gone) s) (sym stage_is) (entries_after o bound entries before c);
+          staged = subst (λ (s : stages.StageState Asked). HasStaged event_in bound (staged_from 1 (entries ++ e ∷ [])) (c.released ++ (read.given ++ read.late)) (c.expired ++ read.gone) s) (sym stage_is) (entries_after o bound entries before c);
           lets = lets_more o bound entries before c;
           noted = λ id. noted_more id c.items c.released (read.given ++ read.late) e (c.noted id);
-          inside = inside ∙ ap (λ (b : Bool). cond b true (is_end e)) c.inside ∙ sym (inside_more entries e);
+          inside = inside ∙ ap (λ (b : Bool). cond b true (is_end_inside e)) c.inside ∙ sym (inside_more entries e);
           carried =
               carried_more o c.items (passing e ++ map item_of (read.given ++ read.late)) initial (state_of old.core) (state_of new.core) [] before (before ++ written old.format (passing e ++ map item_of (read.given ++ read.late)) here.0) c.carried
               (carried_behind o old.format (passing e ++ map item_of (read.given ++ read.late)) (state_of old.core) (state_of new.core) old.gathered.bytes.items new.gathered.bytes.items before c.format here);
         };
       }
+
+  pub took_entry : (new : HeldMonitor) (found : Option Item) → item_list found ≡ passing e → stages.stage_state new.stage ≡ after → new.format ≡ old.format
+      → new.ended_inside ≡ cond old.ended_inside true (is_end_inside e)
+      → AreCarriedOut old.format (item_list found ++ map item_of released) (state_of old.core) (state_of new.core) old.gathered.bytes.items new.gathered.bytes.items
+      → TakesEntry old new e
+  took_entry new found same stage_is format inside carried = took_items new (item_list found ++ map item_of released) (let_out_is found same) stage_is format inside carried
 
 -- what was carried out of what is let out is a beginning of the output
 begins_with : (o p : Format) (bound : ℕ) (first later : List Entry) (items done undone all : List Item) (w v : State) (before a b : List ℕ) → p ≡ o
@@ -158,7 +163,7 @@ begun_less o bound entries whole part rest is b = record {
 }
 
 -- the stage failed
-pub failed_unread : (old new : HeldMonitor) (e : Entry) → new.gathered.bytes.items ≡ old.gathered.bytes.items → FailsAt old new e
+pub failed_unread : (old new : HeldMonitor) (e : Entry) → new.gathered.bytes.items ≡ old.gathered.bytes.items → FailsAtEntry old new e
 failed_unread old new e same = record {
   out = [];
   grows = same ∙ sym (append-nil old.gathered.bytes.items);
@@ -166,11 +171,11 @@ failed_unread old new e same = record {
 }
 
 -- an item failed
-pub failed_entry : (old new : HeldMonitor) (e : Entry) (after : stages.State Asked) (released : List (Noted Asked)) (found : Option Item)
-    → IsRead event_in (staged (old.stage.time + 1) e) (stages.state_of old.stage) after [] released → item_list found ≡ passing e
-    → AreCarriedInPart old.format (item_list found ++ map item_of released) (state_of old.core) old.gathered.bytes.items new.gathered.bytes.items
-    → FailsAt old new e
-failed_entry old new e after released found read same part =
+pub failed_items : (old new : HeldMonitor) (e : Entry) (after : stages.StageState Asked) (released : List (Noted Asked)) (more : List Item)
+    → (read : IsRead event_in (staged (old.stage.time + 1) e) (stages.stage_state old.stage) after [] released) → more ≡ passing e ++ map item_of (read.given ++ read.late)
+    → AreCarriedInPart old.format more (state_of old.core) old.gathered.bytes.items new.gathered.bytes.items
+    → FailsAtEntry old new e
+failed_items old new e after released more read all part =
     let done = part.0 in
     record {
       out = written old.format done part.4.0;
@@ -178,15 +183,22 @@ failed_entry old new e after released found read same part =
       after = λ o bound entries before c.
           let lets = lets_more old e after released read o bound entries before c in
           let is : c.items ++ (passing e ++ map item_of (read.given ++ read.late)) ≡ c.items ++ (part.0 ++ part.1) =
-          ap (λ (l : List Item). c.items ++ l) (sym (let_out_is old e after released read found same) ∙ part.3) in
+          ap (λ (l : List Item). c.items ++ l) (sym all ∙ part.3) in
           subst (λ (l : List Entry). IsBeginningOf o bound l (before ++ written old.format part.0 part.4.0)) (append-nil (entries ++ e ∷ []))
           (begins_with o old.format bound (entries ++ e ∷ []) [] c.items part.0 part.1 (c.items ++ (passing e ++ map item_of (read.given ++ read.late))) (state_of old.core) part.2 before old.gathered.bytes.items new.gathered.bytes.items
           c.format c.carried is (inl (c.released ++ (read.given ++ read.late), c.expired ++ read.gone, lets)) part.4);
     }
 
+pub failed_entry : (old new : HeldMonitor) (e : Entry) (after : stages.StageState Asked) (released : List (Noted Asked)) (found : Option Item)
+    → IsRead event_in (staged (old.stage.time + 1) e) (stages.stage_state old.stage) after [] released → item_list found ≡ passing e
+    → AreCarriedInPart old.format (item_list found ++ map item_of released) (state_of old.core) old.gathered.bytes.items new.gathered.bytes.items
+    → FailsAtEntry old new e
+failed_entry old new e after released found read same part =
+    failed_items old new e after released (item_list found ++ map item_of released) read (let_out_is old e after released read found same) part
+
 -- ---- the end of the script
 
-module _ (old : HeldMonitor) (released : List (Noted Asked)) (finished : IsFinished event_in (stages.state_of old.stage) [] released) where
+module _ (old : HeldMonitor) (released : List (Noted Asked)) (finished : IsFinished event_in (stages.stage_state old.stage) [] released) where
   items_at_end : (o : Format) (bound : ℕ) (entries : List Entry) (before : List ℕ) → (c : HasTaken o bound old entries before)
       → AreHeldItems bound entries c.expired (c.items ++ (map item_of finished.given ++ end_item (ends_inside entries)))
   items_at_end o bound entries before c = record {
@@ -206,7 +218,7 @@ module _ (old : HeldMonitor) (released : List (Noted Asked)) (finished : IsFinis
       ap (λ (l : List (Noted Asked)). map item_of l ++ item_list found) finished.appended ∙ ap (λ (l : List Item). map item_of finished.given ++ l) (end ∙ ap end_item c.inside)
 
   pub ended : (new : HeldMonitor) (counts : Counts) (found : Option Item) → item_list found ≡ end_item old.ended_inside
-      → ((bound : ℕ) (entries : List (stage.Entry Asked)) (earlier expired : List (Noted Asked)) → IsAfter event_in bound entries earlier expired (stages.state_of old.stage)
+      → ((bound : ℕ) (entries : List (stage.Entry Asked)) (earlier expired : List (Noted Asked)) → HasStaged event_in bound entries earlier expired (stages.stage_state old.stage)
       → (counts.events ≡ length (noted_in entries)) × (counts.expired ≡ length expired))
       → AreCarriedOut old.format (map item_of released ++ item_list found) (state_of old.core) (state_of new.core) old.gathered.bytes.items new.gathered.bytes.items
       → Ends old new counts
@@ -233,7 +245,7 @@ module _ (old : HeldMonitor) (released : List (Noted Asked)) (finished : IsFinis
 
   pub failed_last : (new : HeldMonitor) (found : Option Item) → item_list found ≡ end_item old.ended_inside
       → AreCarriedInPart old.format (map item_of released ++ item_list found) (state_of old.core) old.gathered.bytes.items new.gathered.bytes.items
-      → EndFails old new
+      → HeldEndFails old new
   failed_last new found end part = record {
     out = written old.format part.0 part.4.0;
     grows = part.4.2;
@@ -246,7 +258,7 @@ module _ (old : HeldMonitor) (released : List (Noted Asked)) (finished : IsFinis
   }
 
 -- the stage failed at the end
-pub failed_unfinished : (old new : HeldMonitor) → new.gathered.bytes.items ≡ old.gathered.bytes.items → EndFails old new
+pub failed_unfinished : (old new : HeldMonitor) → new.gathered.bytes.items ≡ old.gathered.bytes.items → HeldEndFails old new
 failed_unfinished old new same = record {
   out = [];
   grows = same ∙ sym (append-nil old.gathered.bytes.items);

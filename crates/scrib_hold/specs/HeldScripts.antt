@@ -13,15 +13,15 @@ use Rattle.scrib_script_reader.specs.declared.item.Item.TheVariants as item
 use Rattle.scrib_script_reader.specs.declared.entry.Entry.{Entry}
 use Rattle.scrib_script_reader.specs.declared.entry.Entry.TheVariants as entry
 use Rattle.scrib_script_reader.specs.Scripts.{lines, steps_of}
-use Rattle.scrib_script_reader.specs.Entries.{SpellsEntries, items_in}
+use Rattle.scrib_script_reader.specs.Entries.{SpellsEntries, entry_items}
 use Rattle.scrib_holdback.specs.Reorderings.{IsReordering}
 use Rattle.scrib_holdback.specs.FalseAlarms.{IsPermittedInSomeOrder}
 use Rattle.scrib_hold_stage.specs.declared.noted.Noted.{Noted}
 use Rattle.scrib_hold_stage.specs.declared.stage.Counts.{Counts}
 use Rattle.scrib_hold_stage.specs.Entries as stage
-use Rattle.scrib_hold_stage.specs.Entries.{note, Opens, Passes, items_of, noted_in, opening_of}
+use Rattle.scrib_hold_stage.specs.Entries.{note, Opens, Passes, noted_of, noted_in, opening_of}
 use Rattle.scrib_hold_stage.specs.Stages as stages
-use Rattle.scrib_hold_stage.specs.Stages.{IsAfter, Expires}
+use Rattle.scrib_hold_stage.specs.Stages.{HasStaged, Expires}
 use Rattle.scrib_cli.specs.Scripts.{written}
 
 -- an event, and the format of the reply to it
@@ -56,14 +56,14 @@ passing (entry.Item item.EndOfText) = []
 passing entry.Skipped = []
 
 -- the entry is an end inside a module text
-abbrev pub is_end : Entry → Bool
-is_end (entry.Item item.EndOfText) = true
-is_end _ = false
+abbrev pub is_end_inside : Entry → Bool
+is_end_inside (entry.Item item.EndOfText) = true
+is_end_inside _ = false
 
 -- some entry is one
 abbrev pub ends_inside : List Entry → Bool
 ends_inside [] = false
-ends_inside (e ∷ entries) = if is_end e then true else ends_inside entries
+ends_inside (e ∷ entries) = if is_end_inside e then true else ends_inside entries
 
 -- the item of an end inside a module text, if there is one
 abbrev pub end_item : Bool → List Item
@@ -72,7 +72,7 @@ end_item b = if b then item.EndOfText ∷ [] else []
 -- the stage after these entries of a script: these events were released, and these of them expired
 abbrev pub IsStageAfter : ℕ → List Entry → (released expired : List (Noted Asked)) → Type 0
 IsStageAfter bound entries released expired =
-    (s : stages.State Asked) × IsAfter event_in bound (staged_from 1 entries) released expired s
+    (s : stages.StageState Asked) × HasStaged event_in bound (staged_from 1 entries) released expired s
 
 -- The items that these entries let out. Behind what passes at once come the events that are released for the entry
 -- itself, and then those that are released as events expire, the oldest first.
@@ -85,19 +85,20 @@ pub data LetsOut (bound : ℕ) : List Entry → (released expired : List (Noted 
       (items ++ (passing e ++ map item_of (given ++ late)))
 
 -- the events of a conversation that the items note, in order
-abbrev pub events_of : ℕ → List Item → List Event
-events_of id [] = []
-events_of id (item.Step f (Note k e) ∷ items) = if nat_eq id k then e ∷ events_of id items else events_of id items
-events_of id (_ ∷ items) = events_of id items
+abbrev pub noted_events_of : ℕ → List Item → List Event
+noted_events_of id [] = []
+noted_events_of id (item.Step f (Note k e) ∷ items) =
+    if nat_eq id k then e ∷ noted_events_of id items else noted_events_of id items
+noted_events_of id (_ ∷ items) = noted_events_of id items
 
 -- The law of no false alarms, of one conversation. Its events are carried out in an order that its roles could have
 -- brought about. If it is opened and none of its events expired, what is carried out is permitted exactly where some
 -- such order is.
-pub record RaisesNoFalseAlarm (id : ℕ) (entries : List Entry) (expired : List (Noted Asked)) (items : List Item)
+pub record RaisesNoFalseAlarmOf (id : ℕ) (entries : List Entry) (expired : List (Noted Asked)) (items : List Item)
     : Type 0 where
-  pub reordering : IsReordering (events_of id (items_in entries)) (events_of id items)
-  pub exact : (n : ℕ) → opening_of id (staged_from 1 entries) ≡ Some n → items_of id expired ≡ [] → (a : Agreement)
-      → IsPermitted a (events_of id items) ↔ IsPermittedInSomeOrder a (events_of id (items_in entries))
+  pub reordering : IsReordering (noted_events_of id (entry_items entries)) (noted_events_of id items)
+  pub exact : (n : ℕ) → opening_of id (staged_from 1 entries) ≡ Some n → noted_of id expired ≡ [] → (a : Agreement)
+      → IsPermitted a (noted_events_of id items) ↔ IsPermittedInSomeOrder a (noted_events_of id (entry_items entries))
 
 -- The items of a whole script, in the order in which they are carried out. After what its entries let out come the
 -- events that waited at its end, as they expire, and then an end inside a module text. The law holds of each
@@ -110,7 +111,7 @@ pub record AreHeldItems (bound : ℕ) (entries : List Entry) (expired : List (No
   pub let_out : List Item
   pub lets : LetsOut bound entries released expired let_out
   pub in_turn : Expires waited gone
-  pub law : (id : ℕ) → RaisesNoFalseAlarm id entries expired items
+  pub law : (id : ℕ) → RaisesNoFalseAlarmOf id entries expired items
   pub is : items ≡ let_out ++ (map item_of waited ++ end_item (ends_inside entries))
 
 -- The output of a script of these entries: the replies of a new monitor to the items. The counts are of its events,

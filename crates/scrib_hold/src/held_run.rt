@@ -4,6 +4,7 @@ use crate::held_monitor::HeldMonitor;
 use scrib_core::format::Format;
 use scrib_hold_stage::stage::Counts;
 use scrib_script_io::fault::ScriptFault;
+use scrib_script_reader::limits::Limits;
 use scrib_script_reader::script::Script;
 use std::alloc::Global;
 use std::io::Write;
@@ -16,18 +17,19 @@ pub struct HeldRun {
 }
 
 impl HeldRun {
-    ghost use Rattle.std.specs.Prelude.{◌≡◌, ◌<◌, true, length, IfOk, IfErr, OnOk, OnErr};
+    ghost use Rattle.std.specs.Prelude.{◌≡◌, ◌<◌, ◌+◌, ◌^◌, true, length, IfOk, IfErr, OnOk, OnErr};
     ghost use Rattle.std.specs.Io.KnownBytes.{Appends};
     ghost use Rattle.scrib_script_io.specs.Faults.{of_output, of_script};
-    ghost use Rattle.scrib_hold.specs.Progress.{IsNew, RunAdvances, PieceFails, GathersFront, GatherFails, Writes};
-    ghost use Rattle.scrib_hold.specs.Progress.{EndSucceeds, EndIsCut, TakesLast};
+    ghost use Rattle.scrib_hold.specs.Progress.{IsNewHeld, HeldRunAdvances, HeldPieceFails, GathersHeldFront, GatherFails, Writes};
+    ghost use Rattle.scrib_hold.specs.Progress.{HeldEndSucceeds, EndIsCut, TakesLast};
 
-    /// Returns a run before the first byte of its script.
-    pub fn new(alloc: Global, format: Format, bound: u64) -> HeldRun
-        ensures { IsNew format bound result }
+    /// Returns a run before the first byte of its script, which may have these limits.
+    pub fn new(alloc: Global, format: Format, bound: u64, limits: Limits) -> HeldRun
+        requires { limits.lines + 1 < 2 ^ 64 }
+        ensures { IsNewHeld format bound limits result }
     {
         HeldRun {
-            script: Script::new(alloc),
+            script: Script::with_limits(alloc, limits),
             monitor: HeldMonitor::new(alloc, format, bound),
         }
     }
@@ -39,9 +41,9 @@ impl HeldRun {
     /// - `Write` where the writer fails.
     /// - `OutOfMemory` where there is no memory for a line, the stage or a text.
     pub fn take_piece<W: Write>(&mut self, writer: &mut W, piece: &[u8]) -> Result<(), ScriptFault>
-        ensures ok { OnOk result (Writes (λ out. RunAdvances self.old self.new piece.now out)
+        ensures ok { OnOk result (Writes (λ out. HeldRunAdvances self.old self.new piece.now out)
             (W.contents writer.old) (W.contents writer.new)) }
-        ensures err { OnErr result (Writes (λ out. PieceFails self.old piece.now out)
+        ensures err { OnErr result (Writes (λ out. HeldPieceFails self.old piece.now out)
             (W.contents writer.old) (W.contents writer.new)) }
         ensures fault { IfErr result (λ e. of_script e ≡ true) }
     {
@@ -52,8 +54,8 @@ impl HeldRun {
 
     // Consumes the bytes, carries out what they let out, and gathers the replies.
     fn gather_piece(&mut self, piece: &[u8]) -> Result<(), ScriptFault>
-        ensures ok { OnOk result (RunAdvances self.old self.new piece.now self.new.monitor.gathered.bytes.items) }
-        ensures err { OnErr result (PieceFails self.old piece.now self.new.monitor.gathered.bytes.items) }
+        ensures ok { OnOk result (HeldRunAdvances self.old self.new piece.now self.new.monitor.gathered.bytes.items) }
+        ensures err { OnErr result (HeldPieceFails self.old piece.now self.new.monitor.gathered.bytes.items) }
         ensures fault { IfErr result (λ e. of_script e ≡ true) }
     {
         self.monitor.gathered.clear();
@@ -66,7 +68,24 @@ impl HeldRun {
 
     // Consumes the bytes up to the end of the next line, and gathers what its entry lets out. Returns what is left.
     fn gather_next<'a>(&mut self, piece: &'a [u8]) -> Result<&'a [u8], ScriptFault>
-        ensures ok { IfOk result (λ rest. GathersFront self.old self.new piece.now rest.now) }
+        ensures ok { IfOk result (λ rest. GathersHeldFront self.old self.new piece.now rest.now) }
+        ensures shorter { IfOk result (λ rest. 0 < length piece.now → length rest.now < length piece.now) }
+        ensures err { OnErr result (GatherFails self.old self.new piece.now) }
+        ensures fault { IfErr result (λ e. of_script e ≡ true) }
+    {
+        match self.script.next_short(piece) {
+            Some((line, rest)) => {
+                self.monitor.take_short(line)?;
+                Ok(rest)
+            }
+            None => self.gather_other(piece),
+        }
+    }
+
+    // The same where the next line is none that `next_short` reads.
+    #[inline(never)]
+    fn gather_other<'a>(&mut self, piece: &'a [u8]) -> Result<&'a [u8], ScriptFault>
+        ensures ok { IfOk result (λ rest. GathersHeldFront self.old self.new piece.now rest.now) }
         ensures shorter { IfOk result (λ rest. 0 < length piece.now → length rest.now < length piece.now) }
         ensures err { OnErr result (GatherFails self.old self.new piece.now) }
         ensures fault { IfErr result (λ e. of_script e ≡ true) }
@@ -84,7 +103,7 @@ impl HeldRun {
     /// # Errors
     /// `Write` where the writer fails, and `OutOfMemory` where there is no memory for a line, the stage or a text.
     pub fn finish<W: Write>(&mut self, writer: &mut W) -> Result<Counts, ScriptFault>
-        ensures ok { IfOk result (λ counts. Writes (λ out. EndSucceeds self.old counts out)
+        ensures ok { IfOk result (λ counts. Writes (λ out. HeldEndSucceeds self.old counts out)
             (W.contents writer.old) (W.contents writer.new)) }
         ensures err { OnErr result (Writes (λ out. EndIsCut self.old out)
             (W.contents writer.old) (W.contents writer.new)) }
@@ -97,7 +116,7 @@ impl HeldRun {
 
     // Carries out what the end of the script lets out, and gathers the replies.
     fn gather_end(&mut self) -> Result<Counts, ScriptFault>
-        ensures ok { IfOk result (λ counts. EndSucceeds self.old counts self.new.monitor.gathered.bytes.items) }
+        ensures ok { IfOk result (λ counts. HeldEndSucceeds self.old counts self.new.monitor.gathered.bytes.items) }
         ensures err { OnErr result (EndIsCut self.old self.new.monitor.gathered.bytes.items) }
         ensures fault { IfErr result (λ e. of_output e ≡ true) }
     {

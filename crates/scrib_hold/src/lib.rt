@@ -3,6 +3,7 @@
 
 mod held_monitor;
 mod held_run;
+pub mod hold_limits;
 pub mod run_held_script;
 mod staged;
 mod taking;

@@ -1,13 +1,14 @@
 //! Runs a whole script from a reader, with its events held back.
 
-ghost use Rattle.std.specs.Prelude.{◌≡◌, ◌<◌, ℕ, List, true, IfOk, IfErr, OnOk, OnErr, IfSome, length};
+ghost use Rattle.std.specs.Prelude.{◌≡◌, ◌<◌, ◌+◌, ◌^◌, ℕ, List, true, IfOk, IfErr, OnOk, OnErr, IfSome, length};
 ghost use Rattle.std.specs.Io.KnownBytes.{Appends};
 ghost use Rattle.scrib_script_io.specs.Faults.{of_script};
-ghost use Rattle.scrib_script_reader.specs.Limits.{of_scripts, IsWithinLimits};
+ghost use Rattle.scrib_script_reader.specs.Limits.{IsWithinLimits};
 ghost use Rattle.scrib_hold.specs.HeldScripts.{IsHeldOutput, IsHeldPart};
-ghost use Rattle.scrib_hold.specs.Progress.{IsNew, RunSucceeds, RunFails};
+ghost use Rattle.scrib_hold.specs.Progress.{IsNewHeld, HeldRunSucceeds, HeldRunFails};
 
 use crate::held_run::HeldRun;
+pub use crate::hold_limits::HoldLimits;
 pub use scrib_core::format::Format;
 pub use scrib_hold_stage::stage::Counts;
 pub use scrib_script_io::fault::ScriptFault;
@@ -35,28 +36,29 @@ const SCRIPT_PIECE_BYTES: usize = 65_536;
 ///
 /// # Errors
 /// After an error, a beginning of the output is written.
-/// - `Read` where the reader fails, and in the line of the first byte past 16,777,216 lines or 1,099,511,627,776 bytes.
+/// - `Read` where the reader fails, and in the line of the first byte past the script's limits.
 /// - `Write` where the writer fails.
 /// - `OutOfMemory` where there is no memory for a line, for events that wait, or for a reply's text. A step that lacks
 ///   memory is refused in its reply, and the script continues.
 pub fn run_held_script<R: Read, W: Write>(
     alloc: Global,
     format: Format,
-    bound: u64,
+    limits: HoldLimits,
     reader: &mut R,
     writer: &mut W,
 ) -> Result<Counts, ScriptFault>
+    requires { limits.script.lines + 1 < 2 ^ 64 }
     ensures ok { IfOk result (λ counts. IfSome (R.remaining reader.old) (λ input. (output : List ℕ)
-        × IsHeldOutput format bound input counts output
+        × IsHeldOutput format limits.bound input counts output
         × Appends (W.contents writer.old) (W.contents writer.new) output)) }
     ensures err { OnErr result (IfSome (R.remaining reader.old) (λ input. (part : List ℕ)
-        × IsHeldPart format bound input part
+        × IsHeldPart format limits.bound input part
         × Appends (W.contents writer.old) (W.contents writer.new) part)) }
     ensures fault { IfErr result (λ e. of_script e ≡ true) }
-    ensures within { OnOk result (IfSome (R.remaining reader.old) (λ input. IsWithinLimits of_scripts input)) }
+    ensures within { OnOk result (IfSome (R.remaining reader.old) (λ input. IsWithinLimits limits.script input)) }
 {
     let mut piece = vec![in alloc; 0u8; SCRIPT_PIECE_BYTES]?;
-    let mut run = HeldRun::new(alloc, format, bound);
+    let mut run = HeldRun::new(alloc, format, limits.bound, limits.script);
     let counts = run_by_pieces(&mut run, reader, writer, piece.as_mut_slice())?;
     // Freeing long logs takes up to a tenth of a run, and the process ends here.
     forget(run);
@@ -72,11 +74,11 @@ fn run_by_pieces<R: Read, W: Write>(
     writer: &mut W,
     piece: &mut [u8],
 ) -> Result<Counts, ScriptFault>
-    requires new { IsNew run.old.monitor.format run.old.monitor.stage.bound run.old }
+    requires new { IsNewHeld run.old.monitor.format run.old.monitor.stage.bound run.old.script.limits run.old }
     requires some { 0 < length piece.old }
-    ensures ok { IfOk result (λ counts. RunSucceeds run.old.monitor.format run.old.monitor.stage.bound
-        (R.remaining reader.old) counts (W.contents writer.old) (W.contents writer.new)) }
-    ensures err { OnErr result (RunFails run.old.monitor.format run.old.monitor.stage.bound
+    ensures ok { IfOk result (λ counts. HeldRunSucceeds run.old.monitor.format run.old.monitor.stage.bound
+        run.old.script.limits (R.remaining reader.old) counts (W.contents writer.old) (W.contents writer.new)) }
+    ensures err { OnErr result (HeldRunFails run.old.monitor.format run.old.monitor.stage.bound
         (R.remaining reader.old) (W.contents writer.old) (W.contents writer.new)) }
     ensures fault { IfErr result (λ e. of_script e ≡ true) }
 {

@@ -1,12 +1,13 @@
 //! What a stage does with an entry of a script.
 
-ghost use Rattle.std.specs.Prelude.{◌≡◌, ℕ, ◌+◌, IfOk, OnOk};
+ghost use Rattle.std.specs.Prelude.{◌≡◌, ℕ, ◌+◌, IfOk, IsFalse, IsTrue, OnOk};
 ghost use Rattle.scrib_script_reader.specs.declared.entry.Entry.TheVariants as entry;
 ghost use Rattle.scrib_script_reader.specs.declared.item.Item.TheVariants as item;
 ghost use Rattle.scrib_script_reader.specs.Scripts.{item_list};
-ghost use Rattle.scrib_hold_stage.specs.Stages.{IsRead, state_of};
+ghost use Rattle.scrib_hold_stage.specs.Stages.{IsRead, stage_state};
 ghost use Rattle.scrib_hold.specs.HeldScripts.{event_in, passing, staged};
-ghost use Rattle.scrib_hold.specs.StagedEntries.{as_entry, passing_of};
+ghost use Rattle.scrib_script_reader.specs.ShortLines.{short_entry};
+ghost use Rattle.scrib_hold.specs.StagedEntries.{as_entry, passing_of, PassesLine};
 
 use scrib_core::format::Format;
 use scrib_core::step::Step;
@@ -14,6 +15,7 @@ use scrib_hold_stage::noted::Noted;
 use scrib_hold_stage::stage::HoldStage;
 use scrib_script_reader::entry::Entry;
 use scrib_script_reader::item::Item;
+use scrib_script_reader::short_line::ShortLine;
 use scrib_types::shared_event::SharedEvent;
 use std::alloc::AllocError;
 
@@ -36,6 +38,7 @@ pub enum Staged {
 }
 
 // Returns what a stage does with a step.
+#[inline(always)]
 fn staged_step(format: Format, step: Step) -> Staged
     ensures entry { (n : ℕ) → staged n (entry.Item (item.Step format step)) ≡ as_entry n result }
     ensures passing { passing (entry.Item (item.Step format step)) ≡ passing_of result }
@@ -59,6 +62,7 @@ fn staged_step(format: Format, step: Step) -> Staged
 }
 
 // Returns what a stage does with an entry. An end inside a module text waits for the end of the script.
+#[inline(always)]
 fn staged_of(entry: Entry) -> Staged
     ensures entry { (n : ℕ) → staged n entry ≡ as_entry n result }
     ensures passing { passing entry ≡ passing_of result }
@@ -75,13 +79,14 @@ fn staged_of(entry: Entry) -> Staged
 ///
 /// # Errors
 /// `AllocError` where memory is refused. The stage is then of no more use.
+#[inline(always)]
 pub(crate) fn read_entry(
     stage: &mut HoldStage<(SharedEvent, Format)>,
     entry: Entry,
     released: &mut Vec<Noted<(SharedEvent, Format)>>,
 ) -> Result<Option<Item>, AllocError>
     ensures read { OnOk result (IsRead event_in (staged (stage.old.time + 1) entry)
-        (state_of stage.old) (state_of stage.new) released.old.items released.new.items) }
+        (stage_state stage.old) (stage_state stage.new) released.old.items released.new.items) }
     ensures passed { IfOk result (λ passed. item_list passed ≡ passing entry) }
 {
     match staged_of(entry) {
@@ -97,5 +102,37 @@ pub(crate) fn read_entry(
             stage.skip(released)?;
             Ok(found)
         }
+    }
+}
+
+/// Puts the entry of the line into the stage, if it is an event that the stage releases at once, and nothing else then.
+/// Returns whether it is so. If not, the stage has read nothing.
+#[inline(always)]
+pub(crate) fn passes_line(stage: &mut HoldStage<(SharedEvent, Format)>, line: &ShortLine) -> bool
+    ensures passed { IsTrue result → PassesLine line.now stage.old stage.new }
+    ensures same { IsFalse result → stage_state stage.new ≡ stage_state stage.old }
+{
+    match line {
+        ShortLine::Note { id, event } => stage.try_pass(*id, event),
+        ShortLine::Ask { .. } | ShortLine::Open { .. } | ShortLine::Bad(..) | ShortLine::Skipped =>
+            false,
+    }
+}
+
+/// Returns the entry of the line.
+#[inline(always)]
+pub(crate) fn entry_of(line: ShortLine) -> Entry
+    ensures { result ≡ short_entry line }
+{
+    match line {
+        ShortLine::Note { id, event } => {
+            Entry::Item(Item::Step(Format::Line, Step::Note { id, event }))
+        }
+        ShortLine::Ask { id } => Entry::Item(Item::Step(Format::Line, Step::Ask { id })),
+        ShortLine::Open { id, name } => {
+            Entry::Item(Item::Step(Format::Line, Step::Open { id, name }))
+        }
+        ShortLine::Bad(number) => Entry::Item(Item::BadLine(number)),
+        ShortLine::Skipped => Entry::Skipped,
     }
 }

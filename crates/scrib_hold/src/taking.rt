@@ -10,7 +10,7 @@ ghost use Rattle.scrib_hold.specs.HeldScripts.{item_of};
 ghost use Rattle.scrib_hold.specs.Progress.{AreCarriedOut, AreCarriedInPart};
 
 use scrib_cli::gathered::Gathered;
-use scrib_cli::item_output::gather_item;
+use scrib_cli::item_output::{gather_item, gather_short};
 use scrib_cli::output_mode::OutputMode;
 use scrib_core::format::Format;
 use scrib_core::monitor::Core;
@@ -18,6 +18,7 @@ use scrib_core::step::Step;
 use scrib_hold_stage::noted::Noted;
 use scrib_script_io::fault::ScriptFault;
 use scrib_script_reader::item::Item;
+use scrib_script_reader::short_line::ShortLine;
 use scrib_types::shared_event::SharedEvent;
 
 // Carries out an event that was released, and gathers the reply. After an error the gathered texts are unchanged.
@@ -34,8 +35,17 @@ fn gather_event(
 {
     let id = noted.conversation;
     let (event, asked) = noted.arrival;
-    let item = Item::Step(asked, Step::Note { id, event });
-    gather_item(gathered, core, item, OutputMode::Printed(format))
+    match asked {
+        // most events of a long script
+        Format::Line => {
+            let line = ShortLine::Note { id, event };
+            gather_short(gathered, core, line, OutputMode::Printed(format))
+        }
+        Format::Json => {
+            let item = Item::Step(Format::Json, Step::Note { id, event });
+            gather_item(gathered, core, item, OutputMode::Printed(format))
+        }
+    }
 }
 
 /// Carries out the events that were released, in order, and gathers the replies.

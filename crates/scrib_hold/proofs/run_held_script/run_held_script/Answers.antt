@@ -5,17 +5,17 @@ use Rattle.scrib_hold.proofs.InputLemmas.{new_itself, flushed, flush_failed, ran
 use Rattle.scrib_hold.proofs.run_held_script.run_held_script.Goals as goal
 
 pub run_by_pieces-requires-clause-new : goal.run_by_pieces-requires-clause-new
-run_by_pieces-requires-clause-new g c = new_itself c.args.format c.args.bound c.new-run.result c.new-run.ensures
+run_by_pieces-requires-clause-new g c = new_itself c.args.format c.args.limits.bound c.args.limits.script c.new-run.result c.new-run.ensures
 
 pub returns-in_err-piece-clause-err : goal.returns-in_err-piece-clause-err
 returns-in_err-piece-clause-err g c =
     let p = err_from_is_err_and c.from_residual.result c.from_residual.ensures.1 in
-    rw p.1 (never_started c.args.format c.args.bound (g.R.Read.remaining c.args.reader.now) (g.W.Write.contents c.args.writer.now))
+    rw p.1 (never_started c.args.format c.args.limits.bound (g.R.Read.remaining c.args.reader.now) (g.W.Write.contents c.args.writer.now))
 
 pub returns-in_err-counts-clause-err : goal.returns-in_err-counts-clause-err
 returns-in_err-counts-clause-err g c =
     let p = err_from_is_err_and c.from_residual-in_err-counts.result c.from_residual-in_err-counts.ensures.1 in
-    rw p.1 (same_failure c.args.format c.args.bound c.new-run.result (g.R.Read.remaining c.args.reader.now) (g.W.Write.contents c.args.writer.now) (g.W.Write.contents c.run_by_pieces.new.writer) c.new-run.ensures c.in_err-counts.ensures.err)
+    rw p.1 (same_failure c.args.format c.args.limits.bound c.args.limits.script c.new-run.result (g.R.Read.remaining c.args.reader.now) (g.W.Write.contents c.args.writer.now) (g.W.Write.contents c.run_by_pieces.new.writer) c.new-run.ensures c.in_err-counts.ensures.err)
 
 pub returns-in_err-counts-clause-fault : goal.returns-in_err-counts-clause-fault
 returns-in_err-counts-clause-fault g c =
@@ -25,14 +25,15 @@ returns-in_err-counts-clause-fault g c =
 pub returns-in_err-flush_out-clause-err : goal.returns-in_err-flush_out-clause-err
 returns-in_err-flush_out-clause-err g c =
     let p = err_from_is_err_and c.from_residual-in_err-flush_out.result c.from_residual-in_err-flush_out.ensures.1 in
-    let ran = same_success c.args.format c.args.bound c.new-run.result c.in_ok-counts.counts (g.R.Read.remaining c.args.reader.now) (g.W.Write.contents c.args.writer.now) (g.W.Write.contents c.run_by_pieces.new.writer) c.new-run.ensures c.in_ok-counts.ensures.ok in
-    rw p.1 (flush_failed c.args.format c.args.bound (g.R.Read.remaining c.args.reader.now) c.in_ok-counts.counts (g.W.Write.contents c.args.writer.now) (g.W.Write.contents c.run_by_pieces.new.writer) (g.W.Write.contents c.flush_out.new.writer) ran c.flush_out.ensures.kept)
+    let ran = same_success c.args.format c.args.limits.bound c.args.limits.script c.new-run.result c.in_ok-counts.counts (g.R.Read.remaining c.args.reader.now) (g.W.Write.contents c.args.writer.now) (g.W.Write.contents c.run_by_pieces.new.writer) c.new-run.ensures c.in_ok-counts.ensures.ok in
+    rw p.1 (flush_failed c.args.format c.args.limits.bound c.args.limits.script (g.R.Read.remaining c.args.reader.now) c.in_ok-counts.counts (g.W.Write.contents c.args.writer.now) (g.W.Write.contents c.run_by_pieces.new.writer) (g.W.Write.contents c.flush_out.new.writer) ran c.flush_out.ensures.kept)
 
 pub returns-clause-ok : goal.returns-clause-ok
 returns-clause-ok g c =
-    let ran = same_success c.args.format c.args.bound c.new-run.result c.in_ok-counts.counts (g.R.Read.remaining c.args.reader.now) (g.W.Write.contents c.args.writer.now) (g.W.Write.contents c.run_by_pieces.new.writer) c.new-run.ensures c.in_ok-counts.ensures.ok in
-    flushed c.args.format c.args.bound (g.R.Read.remaining c.args.reader.now) c.in_ok-counts.counts (g.W.Write.contents c.args.writer.now) (g.W.Write.contents c.run_by_pieces.new.writer) (g.W.Write.contents c.flush_out.new.writer) ran c.flush_out.ensures.kept
+    let ran = same_success c.args.format c.args.limits.bound c.args.limits.script c.new-run.result c.in_ok-counts.counts (g.R.Read.remaining c.args.reader.now) (g.W.Write.contents c.args.writer.now) (g.W.Write.contents c.run_by_pieces.new.writer) c.new-run.ensures c.in_ok-counts.ensures.ok in
+    flushed c.args.format c.args.limits.bound c.args.limits.script (g.R.Read.remaining c.args.reader.now) c.in_ok-counts.counts (g.W.Write.contents c.args.writer.now) (g.W.Write.contents c.run_by_pieces.new.writer) (g.W.Write.contents c.flush_out.new.writer) ran c.flush_out.ensures.kept
 
 pub returns-clause-within : goal.returns-clause-within
 returns-clause-within g c =
-    ran_within c.new-run.result.monitor.format c.new-run.result.monitor.stage.bound (g.R.Read.remaining c.args.reader.now) c.in_ok-counts.counts (g.W.Write.contents c.args.writer.now) (g.W.Write.contents c.run_by_pieces.new.writer) c.in_ok-counts.ensures.ok
+    let ran = same_success c.args.format c.args.limits.bound c.args.limits.script c.new-run.result c.in_ok-counts.counts (g.R.Read.remaining c.args.reader.now) (g.W.Write.contents c.args.writer.now) (g.W.Write.contents c.run_by_pieces.new.writer) c.new-run.ensures c.in_ok-counts.ensures.ok in
+    ran_within c.args.format c.args.limits.bound c.args.limits.script (g.R.Read.remaining c.args.reader.now) c.in_ok-counts.counts (g.W.Write.contents c.args.writer.now) (g.W.Write.contents c.run_by_pieces.new.writer) ran

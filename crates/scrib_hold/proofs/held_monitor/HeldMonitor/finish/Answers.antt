@@ -4,7 +4,7 @@ use Rattle.scrib_hold_stage.specs.declared.noted.Noted.{Noted}
 use Rattle.scrib_hold_stage.specs.declared.stage.HoldStage.{HoldStage}
 use Rattle.scrib_hold_stage.specs.Entries.{Entry, noted_in}
 use Rattle.scrib_hold_stage.specs.Stages as stages
-use Rattle.scrib_hold_stage.specs.Stages.{IsAfter, IsFinished}
+use Rattle.scrib_hold_stage.specs.Stages.{HasStaged, IsFinished}
 use Rattle.scrib_hold.specs.HeldScripts.{Asked, event_in}
 use Rattle.scrib_hold.proofs.MonitorLemmas.{ended, failed_last, failed_unfinished}
 use Rattle.scrib_hold.proofs.held_monitor.HeldMonitor.finish.Goals as goal
@@ -17,15 +17,15 @@ returns-in_err-counts-clause-err c =
 pub returns-in_err-gather_last-clause-err : goal.returns-in_err-gather_last-clause-err
 returns-in_err-gather_last-clause-err c =
     let p = err_from_is_err_and c.from_residual-in_err-gather_last.result c.from_residual-in_err-gather_last.ensures.1 in
-    let law = subst (λ (l : List (Noted Asked)). IsFinished event_in (stages.state_of c.replace-stage.result) l c.finish.new.released.items) c.clear.ensures.items c.in_ok-counts.ensures.law in
-    let finished = subst (λ (s : HoldStage Asked). IsFinished event_in (stages.state_of s) [] c.finish.new.released.items) c.replace-stage.ensures.value law in
+    let law = subst (λ (l : List (Noted Asked)). IsFinished event_in (stages.stage_state c.replace-stage.result) l c.finish.new.released.items) c.clear.ensures.items c.in_ok-counts.ensures.law in
+    let finished = subst (λ (s : HoldStage Asked). IsFinished event_in (stages.stage_state s) [] c.finish.new.released.items) c.replace-stage.ensures.value law in
     rw p.1 (failed_last c.args.self.now c.finish.new.released.items finished _ c.end_of.result c.end_of.ensures c.in_err-gather_last.ensures.err)
 
 pub returns-clause-ok : goal.returns-clause-ok
 returns-clause-ok c =
-    let law = subst (λ (l : List (Noted Asked)). IsFinished event_in (stages.state_of c.replace-stage.result) l c.finish.new.released.items) c.clear.ensures.items c.in_ok-counts.ensures.law in
-    let finished = subst (λ (s : HoldStage Asked). IsFinished event_in (stages.state_of s) [] c.finish.new.released.items) c.replace-stage.ensures.value law in
+    let law = subst (λ (l : List (Noted Asked)). IsFinished event_in (stages.stage_state c.replace-stage.result) l c.finish.new.released.items) c.clear.ensures.items c.in_ok-counts.ensures.law in
+    let finished = subst (λ (s : HoldStage Asked). IsFinished event_in (stages.stage_state s) [] c.finish.new.released.items) c.replace-stage.ensures.value law in
     let counted =
-    subst (λ (s : HoldStage Asked). (bound : ℕ) (entries : List (Entry Asked)) (earlier expired : List (Noted Asked)) → IsAfter event_in bound entries earlier expired (stages.state_of s)
+    subst (λ (s : HoldStage Asked). (bound : ℕ) (entries : List (Entry Asked)) (earlier expired : List (Noted Asked)) → HasStaged event_in bound entries earlier expired (stages.stage_state s)
     → (c.in_ok-counts.counts.events ≡ length (noted_in entries)) × (c.in_ok-counts.counts.expired ≡ length expired)) c.replace-stage.ensures.value c.in_ok-counts.ensures.counts in
     ended c.args.self.now c.finish.new.released.items finished _ c.in_ok-counts.counts c.end_of.result c.end_of.ensures counted c.in_ok-gather_last.ensures.ok

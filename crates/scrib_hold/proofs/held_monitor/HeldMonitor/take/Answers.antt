@@ -15,13 +15,13 @@ returns-in_err-passing-clause-err c =
 pub returns-in_err-gather_let_out-clause-err : goal.returns-in_err-gather_let_out-clause-err
 returns-in_err-gather_let_out-clause-err c =
     let p = err_from_is_err_and c.from_residual-in_err-gather_let_out.result c.from_residual-in_err-gather_let_out.ensures.1 in
-    let read = subst (λ (l : List (Noted Asked)). IsRead event_in (staged (c.args.self.now.stage.time + 1) c.args.entry) (stages.state_of c.args.self.now.stage) (stages.state_of c.read_entry.new.stage) l c.read_entry.new.released.items)
+    let read = subst (λ (l : List (Noted Asked)). IsRead event_in (staged (c.args.self.now.stage.time + 1) c.args.entry) (stages.stage_state c.args.self.now.stage) (stages.stage_state c.read_entry.new.stage) l c.read_entry.new.released.items)
     c.clear.ensures.items c.in_ok-passing.ensures.read in
-    rw p.1 (failed_entry c.args.self.now _ c.args.entry (stages.state_of c.read_entry.new.stage) c.read_entry.new.released.items c.in_ok-passing.passing read c.in_ok-passing.ensures.passed c.in_err-gather_let_out.ensures.err)
+    rw p.1 (failed_entry c.args.self.now _ c.args.entry (stages.stage_state c.read_entry.new.stage) c.read_entry.new.released.items c.in_ok-passing.passing read c.in_ok-passing.ensures.passed c.in_err-gather_let_out.ensures.err)
 
 pub returns-clause-ok : goal.returns-clause-ok
 returns-clause-ok c =
-    let read = subst (λ (l : List (Noted Asked)). IsRead event_in (staged (c.args.self.now.stage.time + 1) c.args.entry) (stages.state_of c.args.self.now.stage) (stages.state_of c.read_entry.new.stage) l c.read_entry.new.released.items)
+    let read = subst (λ (l : List (Noted Asked)). IsRead event_in (staged (c.args.self.now.stage.time + 1) c.args.entry) (stages.stage_state c.args.self.now.stage) (stages.stage_state c.read_entry.new.stage) l c.read_entry.new.released.items)
     c.clear.ensures.items c.in_ok-passing.ensures.read in
-    took_entry c.args.self.now c.args.entry (stages.state_of c.read_entry.new.stage) c.read_entry.new.released.items read _ c.in_ok-passing.passing c.in_ok-passing.ensures.passed refl refl
+    took_entry c.args.self.now c.args.entry (stages.stage_state c.read_entry.new.stage) c.read_entry.new.released.items read _ c.in_ok-passing.passing c.in_ok-passing.ensures.passed refl refl
     c.stays_inside-inside.ensures c.in_ok-gather_let_out.ensures.ok

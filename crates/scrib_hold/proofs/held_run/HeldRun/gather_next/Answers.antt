@@ -1,22 +1,27 @@
-use Rattle.std.proofs.Common.{refl}
-use Rattle.std.proofs.lemmas.Result.{err_from_is_err_and}
-use Rattle.scrib_hold.proofs.HeldRunLemmas.{gathers_none, gathers_entry, fails_unread, fails_entry}
+use Rattle.std.proofs.lemmas.Result.{err_from_is_err_and, IfOk-weaker, on_err_weaker}
+use Rattle.scrib_script_reader.specs.ShortLines.{short_entry}
+use Rattle.scrib_hold.proofs.HeldRunLemmas.{gathers_line, fails_line, gathers_later, fails_later}
 use Rattle.scrib_hold.proofs.held_run.HeldRun.gather_next.Goals as goal
 
-pub returns-in_err-entry-clause-err : goal.returns-in_err-entry-clause-err
-returns-in_err-entry-clause-err c =
+pub returns-in_err-take_short-in-Some-clause-err : goal.returns-in_err-take_short-in-Some-clause-err
+returns-in_err-take_short-in-Some-clause-err c =
     let p = err_from_is_err_and c.from_residual.result c.from_residual.ensures.1 in
-    rw p.1 (fails_unread c.args.self.now _ c.args.piece.now refl)
+    rw p.1 (fails_line c.args.self.now _ c.next_short.new.self c.args.piece.now c.in-Some.rest.now (short_entry c.in-Some.line) c.in-Some.ensures.entry
+    c.in_err-take_short-in-Some.ensures.err)
 
-pub returns-in_default-clause-ok : goal.returns-in_default-clause-ok
-returns-in_default-clause-ok c =
-    gathers_none c.args.self.now c.next_entry.new.self c.args.piece.now c.in_ok-entry.rest.now c.in_ok-entry.entry c.in_default.is c.in_ok-entry.ensures.taken
+pub returns-in_ok-take_short-in-Some-clause-ok : goal.returns-in_ok-take_short-in-Some-clause-ok
+returns-in_ok-take_short-in-Some-clause-ok c =
+    gathers_line c.args.self.now c.next_short.new.self c.take_short.new.self c.args.piece.now c.in-Some.rest.now (short_entry c.in-Some.line) c.in-Some.ensures.entry
+    c.in_ok-take_short-in-Some.ensures.ok
 
-pub returns-in_err-take-clause-err : goal.returns-in_err-take-clause-err
-returns-in_err-take-clause-err c =
-    let p = err_from_is_err_and c.from_residual-in_err-take.result c.from_residual-in_err-take.ensures.1 in
-    rw p.1 (fails_entry c.args.self.now _ c.next_entry.new.self c.args.piece.now c.in_ok-entry.rest.now c.in_ok-entry.entry c.in-Some.entry c.in-Some.is c.in_ok-entry.ensures.taken c.in_err-take.ensures.err)
+pub returns-in-None-clause-ok : goal.returns-in-None-clause-ok
+returns-in-None-clause-ok c =
+    IfOk-weaker c.gather_other.result _ _
+    (λ rest f. gathers_later c.args.self.now c.gather_other.new.self c.next_short.new.self c.args.piece.now rest.now c.in-None.ensures.entry f)
+    c.gather_other.ensures.ok
 
-pub returns-clause-ok : goal.returns-clause-ok
-returns-clause-ok c =
-    gathers_entry c.args.self.now c.next_entry.new.self c.take.new.self c.args.piece.now c.in_ok-entry.rest.now c.in_ok-entry.entry c.in-Some.entry c.in-Some.is c.in_ok-entry.ensures.taken c.in_ok-take.ensures.ok
+pub returns-in-None-clause-err : goal.returns-in-None-clause-err
+returns-in-None-clause-err c =
+    on_err_weaker c.gather_other.result
+    (λ f. fails_later c.args.self.now c.gather_other.new.self c.next_short.new.self c.args.piece.now c.in-None.ensures.entry f)
+    c.gather_other.ensures.err
