@@ -1,0 +1,12 @@
+mod SpelledLines
+mod TextLines
+mod PutTexts
+mod FirstLines
+mod Walks
+mod Placements
+mod LineGivings
+mod Passings
+mod EntryLemmas
+mod StageLemmas
+mod RunLemmas
+mod InputLemmas

@@ -1,0 +1,4 @@
+pub mod HeldLines
+pub mod Lines
+pub mod Placement
+pub mod Progress
