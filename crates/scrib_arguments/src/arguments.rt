@@ -65,6 +65,25 @@ fn count_arg<'a>(alloc: Global, name: &'a str, help: &'a str, default_count: &'a
         .default_value(default_count)
 }
 
+fn endless_arg<'a>(alloc: Global) -> Arg<'a> {
+    flag_arg(
+        alloc,
+        "endless",
+        "Read a script of any length, as one that a pipe feeds for months",
+    )
+}
+
+fn hold_arg<'a>(alloc: Global) -> Arg<'a> {
+    Arg::new(alloc, "hold").long("hold").value_name("N").help(
+        "Hold each event back until it may have happened, for at most N lines, 1 to 16777216",
+    )
+}
+
+fn lines_arg<'a>(alloc: Global) -> Arg<'a> {
+    let help = "For how many lines an event may wait, 1 to 16777216";
+    count_arg(alloc, "lines", help, "10000")
+}
+
 fn shards_arg<'a>(alloc: Global) -> Arg<'a> {
     count_arg(
         alloc,
@@ -127,6 +146,17 @@ fn watch_command<'a>(alloc: Global) -> Result<Command<'a>, AllocError> {
         .about("Runs a script of edits and events, and prints a line for each reply")
         .after_help(help::WATCH)
         .arg(json_arg(alloc))?
+        .arg(hold_arg(alloc))?
+        .arg(endless_arg(alloc))?
+        .arg(file_arg(alloc))
+}
+
+fn hold_command<'a>(alloc: Global) -> Result<Command<'a>, AllocError> {
+    Command::new(alloc, "hold")
+        .about("Prints a script with its events in an order in which they may have happened")
+        .after_help(help::HOLD)
+        .arg(lines_arg(alloc))?
+        .arg(endless_arg(alloc))?
         .arg(file_arg(alloc))
 }
 
@@ -171,6 +201,7 @@ fn with_module_commands<'a>(alloc: Global, line: Command<'a>) -> Result<Command<
 // Adds the commands that read a script.
 fn with_script_commands<'a>(alloc: Global, line: Command<'a>) -> Result<Command<'a>, AllocError> {
     let line = with_command(line, watch_command(alloc))?;
+    let line = with_command(line, hold_command(alloc))?;
     let line = with_command(line, explain_command(alloc))?;
     with_command(line, run_command(alloc))
 }

@@ -75,13 +75,34 @@ Lines of a script:
   turn ID                  judges up to 256 more events of a stale conversation
   json LINE                one of these lines, its reply as one JSON object
   # ..                     a comment
-Each line is answered before the next one is read.
+Each line is answered before the next one is read. With --hold an event is
+answered once it is released, and standard error has the counts at the end:
+  scribmon: 5400 events, 812 waited, at most 31 at once, 0 released by the limit
 
 Example:
   scribmon watch examples/01_hello/receive_before_send.script
 
 Exit status:
   0  the script was read to its end; refusals and offences are replies
+  1  a read or write failed; memory ran out
+  2  the command line was refused\n";
+
+// After the options of `hold`.
+pub(crate) const HOLD: &str = "\
+Prints the script that `scribmon watch --hold N` carries out, for any program
+that reads scripts. Events wait for the opening of their conversation, and a
+reception waits until its message was sent. Each role's events stay in their
+order. An event that has waited while N lines were read is printed as it is.
+All other lines are printed at once, but for comments, which are left out.
+Standard error has the counts at the end:
+  scribmon: 5400 events, 812 waited, at most 31 at once, 0 released by the limit
+The lines of a script are those of `scribmon watch --help`.
+
+Example:
+  scribmon hold examples/12_skewed_clocks/skewed.script | scribmon watch
+
+Exit status:
+  0  the script was read to its end
   1  a read or write failed; memory ran out
   2  the command line was refused\n";
 

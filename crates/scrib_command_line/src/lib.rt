@@ -1,6 +1,7 @@
 //! Runs the commands of the command line.
 #![tactic(auto)]
 
+mod held_scripts;
 mod outcomes;
 mod request;
 pub mod run_command_line;

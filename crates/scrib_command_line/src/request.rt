@@ -1,11 +1,17 @@
 //! Reads the options of a command line.
 
+ghost use Rattle.std.specs.Prelude.{◌<◌, ◌+◌, ◌^◌};
+
 use clap::ArgMatches;
 use scrib_cli::id::id_of;
 use scrib_cli::role_query::{Form, RoleQuery};
 use scrib_core::format::Format;
 use scrib_run_service::shape::{Shape, ShapeFault};
+use scrib_script_reader::limits::Limits;
 use scrib_types::profile::Profile;
+
+// The most lines for which an event may wait.
+const MAX_BOUND: u32 = 16_777_216;
 
 // The format of the output: JSON with `--json`, else lines of text.
 pub(crate) fn format_of(matches: &ArgMatches) -> Format {
@@ -13,6 +19,25 @@ pub(crate) fn format_of(matches: &ArgMatches) -> Format {
         Format::Json
     } else {
         Format::Line
+    }
+}
+
+// The limits of the script: none with `--endless`.
+pub(crate) fn limits_of(matches: &ArgMatches) -> Limits
+    ensures { result.lines + 1 < 2 ^ 64 }
+{
+    if matches.get_flag("endless") {
+        Limits::endless()
+    } else {
+        Limits::of_scripts()
+    }
+}
+
+// For how many lines an event may wait, by this word. Fails with the message for the user where it is out of range.
+pub(crate) fn bound_of(word: &str) -> Result<u64, &'static str> {
+    match id_of(word) {
+        Some(bound @ 1..=MAX_BOUND) => Ok(u64::from(bound)),
+        _ => Err("an event may wait for 1 to 16777216 lines"),
     }
 }
 

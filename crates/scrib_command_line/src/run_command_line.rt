@@ -1,7 +1,8 @@
 //! Runs a command line.
 
+use crate::held_scripts::hold;
 use crate::outcomes::{REFUSED_STATUS, flush_and_print_fault, print_fault, print_usage};
-use crate::subcommands::{explain_by_id, run_over_service, run_simple_command};
+use crate::subcommands::{explain_by_id, run_over_service, run_simple_command, run_watch};
 use clap::ArgMatches;
 use scrib_arguments::arguments::command;
 use scrib_cli::commands::fault::CommandFault;
@@ -57,7 +58,9 @@ where
 {
     match matches.subcommand() {
         Some(("explain", matches)) => explain_by_id(system, streams, matches),
+        Some(("hold", matches)) => hold(system, streams, matches),
         Some(("run", matches)) => run_over_service(system, streams, matches),
+        Some(("watch", matches)) => run_watch(system, streams, matches),
         Some((name, matches)) => {
             let outcome = run_simple_command(system, streams, name, matches);
             flush_and_print_fault(streams, &outcome)

@@ -1,7 +1,8 @@
 //! Runs the commands of the program.
 
+use crate::held_scripts::watch_held;
 use crate::outcomes::{flush_and_print_fault, refuse_value};
-use crate::request::{format_of, profile_of, query_of, shape_of};
+use crate::request::{format_of, limits_of, profile_of, query_of, shape_of};
 use crate::run_command_line::Streams;
 use crate::run_files::{RunScripts, run_files};
 use clap::ArgMatches;
@@ -51,9 +52,28 @@ pub(crate) fn run_simple_command<'a, R: Files + AllocGlobal, I: Input, W: Write,
                 path: matches.get_str("FILE"),
                 reader: streams.input.reader(),
             };
-            watch(alloc, format_of(matches), input, streams.output)
+            watch(
+                alloc,
+                format_of(matches),
+                limits_of(matches),
+                input,
+                streams.output,
+            )
         }
     }
+}
+
+// Runs `watch`, and returns the exit status.
+pub(crate) fn run_watch<R: Files + AllocGlobal, I: Input, W: Write, E: Print + Eprint>(
+    system: &R,
+    streams: &mut Streams<'_, I, W, E>,
+    matches: &ArgMatches<'_>,
+) -> u8 {
+    if let Some(bound) = matches.get_str("hold") {
+        return watch_held(system, streams, matches, bound);
+    }
+    let watched = run_simple_command(system, streams, "watch", matches);
+    flush_and_print_fault(streams, &watched)
 }
 
 // Runs `explain`, and returns the exit status.
