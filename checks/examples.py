@@ -46,6 +46,12 @@ NAME = re.compile(r"[a-z0-9_]{1,60}\Z")
 TRY_SECONDS = 3600
 TRY_STACK = 1 << 30
 
+# The three logs of 12_skewed_clocks in the order of their times, as a script.
+SKEWED = (
+    "LC_ALL=C sort 12_skewed_clocks/client.log 12_skewed_clocks/shop.log 12_skewed_clocks/bank.log"
+    " | python3 10_service_log/to_script.py 10_service_log/shop.scr"
+)
+
 # The scripts of examples/: folder and name, command, and the shell command that prints the input there.
 NUMBERED = [
     ("01_hello/good", "watch", "./put.sh 01_hello/hello.scr 01_hello/good.script"),
@@ -67,6 +73,9 @@ NUMBERED = [
     ("09_in_flight/in_flight", "explain 1", "./put.sh 01_hello/hello.scr 09_in_flight/in_flight.script"),
     ("09_in_flight/three_queues", "explain 1", "./put.sh 06_map_reduce/map_reduce.scr 09_in_flight/three_queues.script"),
     ("10_service_log/services", "watch", "cd 10_service_log && python3 to_script.py shop.scr < services.log"),
+    ("12_skewed_clocks/held", "files watch --hold 1000", SKEWED),
+    ("12_skewed_clocks/unheld", "watch", SKEWED),
+    ("12_skewed_clocks/skewed", "files watch --hold 100", "cat 12_skewed_clocks/skewed.script"),
 ]
 
 
