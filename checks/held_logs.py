@@ -1,7 +1,7 @@
 #!/usr/bin/env python3
 """Tries `watch --hold` and `hold` on conversations whose reports arrive out of order.
 
-    held_logs.py [--program FILE] [--seed N] [--conversations N]
+    held_logs.py [--program FILE] [--seed N] [--conversations N] [--cuts N]
     held_logs.py --print [--seed N] [--conversations N] [--skew MS] [--batch MS] [--faults]
 
 Generates correct conversations of the six example protocols. Each role reports its own events in order. The reports of
@@ -12,7 +12,8 @@ nothing is tried. Else the script asks:
 - Has each conversation with a fault that offends in every order an offence?
 - Is each log of at most ten events an offence exactly where no reordering of it is permitted? `watch` judges every
   reordering.
-- Does `hold` piped into `watch` print the replies of `watch --hold`, line numbers apart?
+- Does `hold` piped into `watch` print the replies of `watch --hold`, but for the numbers of bad lines? Also of each
+  stored script of the worked examples, cut at some places, and where it has no last line feed?
 """
 
 import argparse
@@ -21,6 +22,8 @@ import random
 import re
 import subprocess
 import sys
+
+import examples
 
 TOP = pathlib.Path(__file__).resolve().parent.parent
 PROGRAM = TOP / "crates/scribmon/out/scribmon"
@@ -124,6 +127,7 @@ def reported(pick, events, skew, batch):
 
 
 def puts():
+    yield "profile reception\n"
     for name, _, _, _ in PROTOCOLS:
         yield "put\n" + (TOP / "examples" / f"{name}.scr").read_text().rstrip("\n") + "\n%%\n"
 
@@ -144,11 +148,16 @@ def script(pick, conversations, skew, batch, has_faults):
     return "".join(puts()) + "".join(f"{text}\n" for _, text in lines), asks
 
 
-def output(program, words, text):
-    ran = subprocess.run([program, *words], input=text.encode(), stdout=subprocess.PIPE, stderr=subprocess.PIPE)
+def run(program, words, script):
+    """The bytes that the program prints for a script."""
+    ran = subprocess.run([program, *words], input=script, stdout=subprocess.PIPE, stderr=subprocess.PIPE)
     if ran.returncode:
         sys.exit(f"scribmon {' '.join(words)} ended with status {ran.returncode}: {ran.stderr.decode()}")
-    return ran.stdout.decode()
+    return ran.stdout
+
+
+def output(program, words, text):
+    return run(program, words, text.encode()).decode()
 
 
 def offences(program, words, text, asks):
@@ -176,9 +185,30 @@ def try_disturbances(program, pick, conversations):
         if held or len(caught) != conversations:
             sys.exit("watch --hold is wrong")
         for text in (right, wrong):
-            piped = output(program, ["watch"], output(program, ["hold", "--lines", str(LIMIT)], text))
-            if piped != output(program, ["watch", "--hold", str(LIMIT)], text):
-                sys.exit("hold piped into watch prints other replies than watch --hold")
+            try_piped(program, text.encode(), LIMIT)
+            try_piped(program, text.encode(), 20)
+
+
+def same_but_for_numbers(replies):
+    return re.sub(rb"refused BadLine \d+", b"refused BadLine", replies)
+
+
+def try_piped(program, script, lines):
+    """Compares `hold` piped into `watch` with `watch --hold`."""
+    held = run(program, ["watch", "--hold", str(lines)], script)
+    piped = run(program, ["watch"], run(program, ["hold", "--lines", str(lines)], script))
+    if same_but_for_numbers(held) != same_but_for_numbers(piped):
+        sys.stderr.buffer.write(script)
+        sys.exit(f"hold --lines {lines} piped into watch prints other replies than watch --hold {lines}")
+
+
+def try_stored_scripts(program, pick, cuts):
+    """Tries the inputs of the worked examples of `watch`: whole, without their last byte, and cut at some places."""
+    scripts = [example.input for example in examples.read_examples() if example.text.split(b"\n")[1] == b"watch"]
+    for script in scripts:
+        for cut in [len(script), len(script) - 1, *(pick.randrange(len(script) + 1) for _ in range(cuts))]:
+            try_piped(program, script[:max(cut, 0)], pick.choice([1, 2, 3, 5, 10_000]))
+    print(f"{len(scripts)} stored scripts, each at {cuts + 2} places")
 
 
 def orders(lists):
@@ -244,6 +274,7 @@ def main():
     parser.add_argument("--program", metavar="FILE", type=pathlib.Path, default=PROGRAM, help="scribmon (default: the built one)")
     parser.add_argument("--seed", metavar="N", type=int, default=1, help="of the generated conversations (default: 1)")
     parser.add_argument("--conversations", metavar="N", type=int, default=300, help="how many conversations a script has (default: 300)")
+    parser.add_argument("--cuts", metavar="N", type=int, default=8, help="at how many places each stored script is cut (default: 8)")
     parser.add_argument("--print", action="store_true", help="print a script and try nothing")
     parser.add_argument("--skew", metavar="MS", type=float, default=2, help="how far the roles' clocks differ, with --print (default: 2)")
     parser.add_argument("--batch", metavar="MS", type=float, default=0, help="how long a role gathers reports, with --print (default: 0)")
@@ -258,6 +289,7 @@ def main():
         sys.exit(f"{words.program} is not built")
     try_disturbances(words.program, pick, words.conversations)
     try_small_logs(words.program, pick, words.conversations)
+    try_stored_scripts(words.program, pick, words.cuts)
 
 
 if __name__ == "__main__":

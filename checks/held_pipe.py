@@ -18,7 +18,8 @@ TEXT = b"""put
 module demo; global protocol Hello(role A, role B) { hello() from A to B; bye() from B to A; }
 %%
 """
-EXCHANGES = [
+# With `watch`: the lines that are sent, and the replies that then come.
+WATCHED = [
     (TEXT, b"put demo: +demo.Hello\n"),
     (b"open 1 demo.Hello\n", b"open 1: demo.Hello\n"),
     (b"join 1 A\n", b"1.1 permitted\n"),
@@ -28,6 +29,25 @@ EXCHANGES = [
     (b"recv 1 B A bye()\n", b"1.4 offence at 4 by A, allowed: none\n"),
     (b"nothing\n", b"refused BadLine 10\n"),
 ]
+# With `watch --hold`: a reception waits for its send, and the reply to it comes with that of the send.
+HELD = [
+    (TEXT, b"put demo: +demo.Hello\n"),
+    (b"open 1 demo.Hello\n", b"open 1: demo.Hello\n"),
+    (b"join 1 B\n", b"1.1 permitted\n"),
+    (b"recv 1 A B hello()\njoin 1 A\n", b"1.2 permitted\n"),
+    (b"send 1 A B hello()\n", b"1.3 permitted\n1.4 permitted\n"),
+    (b"nothing\n", b"refused BadLine 9\n"),
+]
+# With `hold`: the same lines, and what is printed of them.
+PRINTED = [
+    (TEXT, TEXT),
+    (b"open 1 demo.Hello\n", b"open 1 demo.Hello\n"),
+    (b"join 1 B\n", b"join 1 B\n"),
+    (b"recv 1 A B hello()\njoin 1 A\n", b"join 1 A\n"),
+    (b"send 1 A B hello()\n", b"send 1 A B hello()\nrecv 1 A B hello()\n"),
+    (b"nothing\n", b"nothing\n"),
+]
+RUNS = [(["watch"], WATCHED), (["watch", "--hold", "100"], HELD), (["hold"], PRINTED)]
 
 
 def reply(program, wanted):
@@ -42,24 +62,31 @@ def reply(program, wanted):
     return got
 
 
+def replies_in_turn(path, words, exchanges):
+    """Whether the program prints each reply before the next line is sent."""
+    pipe = subprocess.PIPE
+    program = subprocess.Popen([path, *words], stdin=pipe, stdout=pipe, stderr=subprocess.DEVNULL)
+    for line, wanted in exchanges:
+        program.stdin.write(line)
+        program.stdin.flush()
+        got = reply(program, wanted)
+        if got != wanted:
+            print("%s: after %r came %r and not %r" % (" ".join(words), line, got, wanted))
+            program.kill()
+            return False
+    program.stdin.close()
+    return program.wait() == 0
+
+
 def main():
     parser = argparse.ArgumentParser(description=__doc__, formatter_class=argparse.RawDescriptionHelpFormatter)
     parser.add_argument("--program", metavar="FILE", default=PROGRAM, help="the built scribmon")
     options = parser.parse_args()
     if not os.path.exists(options.program):
         parser.error("%s is not built: make build" % options.program)
-    program = subprocess.Popen([options.program, "watch"], stdin=subprocess.PIPE, stdout=subprocess.PIPE)
-    for line, wanted in EXCHANGES:
-        program.stdin.write(line)
-        program.stdin.flush()
-        got = reply(program, wanted)
-        if got != wanted:
-            print("after %r came %r and not %r" % (line, got, wanted))
-            program.kill()
-            return 1
-    program.stdin.close()
-    program.wait()
-    print("%d replies, each before the next line was sent" % len(EXCHANGES))
+    if not all(replies_in_turn(options.program, words, exchanges) for words, exchanges in RUNS):
+        return 1
+    print("%d replies, each before the next line was sent" % sum(len(exchanges) for _, exchanges in RUNS))
     return 0
 
 
