@@ -23,8 +23,9 @@ try: run ## the same as run
 # The kit proves crates side by side, in copies without the edits, and keeps what passed for the gate. Each crate of the
 # longest chain gets all processors. Those beside the chain fill what is left: they run at low priority, in a copy of
 # their own, until the last run waits for what is still being proved.
-CHAIN = scrib_elaborate scrib_shards
+CHAIN = scrib_elaborate scrib_shards scrib_run_service
 BESIDE = scrib_parser scrib_record scrib_global scrib_hold_stage scrib_arguments
+LAST = scrib_cli scrib_hold_lines
 
 build: ## proves and builds crates/scribmon/out/scribmon: about an hour
 	@work=$$(mktemp -d) && trap 'rm -rf "$$work"' EXIT && \
@@ -33,7 +34,8 @@ build: ## proves and builds crates/scribmon/out/scribmon: about an hour
 	  tar -c --exclude=out --exclude=must-fail $(UNNEEDED:%=--exclude=%) HANDLES crates.txt crates | tar -x -C "$$work/$$copy" && \
 	  for crate in $(UNNEEDED); do sed -i "/^$$crate[ :]/d" "$$work/$$copy/crates.txt"; done || exit 1; \
 	done && \
-	{ (sleep 10; cd "$$work/beside" && nice -n 19 $(RT) ci $(BESIDE); nice -n 19 $(RT) ci scrib_cli) > /dev/null 2>&1 & } && \
+	{ (sleep 10; cd "$$work/beside" && nice -n 19 $(RT) ci $(BESIDE); \
+	  for crate in $(LAST); do nice -n 19 $(RT) ci $$crate; done) > /dev/null 2>&1 & } && \
 	(cd "$$work/chain" && for crate in $(CHAIN); do $(RT) ci $$crate || exit 1; done && $(RT) ci) && \
 	mkdir -p $(dir $(PROGRAM)) && cp "$$work/chain/$(PROGRAM)" $(PROGRAM)
 	$(PROGRAM) --version
@@ -63,6 +65,7 @@ prove: ## proves one crate, CRATE=.., over what earlier checks kept
 checks: ## tries the built programs outside the gate: some ten minutes
 	$(PYTHON) checks/documents.py
 	$(PYTHON) checks/held_pipe.py
+	$(PYTHON) checks/held_logs.py
 	$(PYTHON) checks/generated_logs.py | $(PROGRAM) watch --json | $(PYTHON) checks/json_lines.py
 	$(PYTHON) checks/little_memory.py
 	$(PYTHON) checks/broken_input.py --rounds 1000
