@@ -18,3 +18,4 @@ pub mod ByteLemmas
 pub mod NumberingLemmas
 pub mod NumberingSteps
 pub mod FlightLemmas
+pub mod Blocks

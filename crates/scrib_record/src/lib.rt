@@ -12,6 +12,7 @@ pub mod fault;
 mod flat;
 mod judging;
 pub mod law;
+mod long_bytes;
 mod machines;
 mod numbered_edge;
 mod numberer;

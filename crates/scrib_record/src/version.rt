@@ -5,10 +5,10 @@ ghost use Rattle.scrib_types.specs.Meaning.{agreement_of};
 ghost use Rattle.scrib_record.specs.Flat.{flat_form};
 
 use crate::compilation::{Compilation, Compiled};
+use crate::long_bytes::same_long_bytes;
 use crate::role_hints::RoleHints;
 use crate::role_state::place_of;
 use scrib_machine::machine::Machine;
-use scrib_types::bytes::same_bytes;
 use scrib_types::containers::Items;
 use scrib_types::name::Role;
 use scrib_types::protocol::Protocol;
@@ -137,7 +137,7 @@ impl Version {
     pub fn same_meaning(&self, other: &Version) -> bool
         ensures { IsTrue result ↔ (meaning_of self.now ≡ meaning_of other.now) }
     {
-        same_bytes(self.edition.flat.as_slice(), other.edition.flat.as_slice())
+        same_long_bytes(self.edition.flat.as_slice(), other.edition.flat.as_slice())
     }
 
     /// Returns whether the stamps are equal: first the numbers are compared, and then the meanings.
