@@ -131,7 +131,7 @@ send_flight p t j bs r q m l k f d ih (no n) = let y = ih (f.1 n) in (Flight p t
 
 mutual
   pub can_send : (g : GlobalTree) (r q : List ℕ) (m : Message) (l k : LocalTree) → Follows g r l → LocalTransition l (Sends q m) k → (h : GlobalTree) × Transition g (Sent r q m) h
-  can_send GlobalEnd r q m l k f d = absurd (f q m k d)
+  can_send GlobalEnd r q m l k f d = absurd (f (Sends q m) k d)
   can_send (GlobalVar i) r q m l k f d = absurd f
   can_send (GlobalRec g) r q m l k f d = project_sends (alike_send f.like d).1 r (GlobalRec g) f.projects f.sound f.closed
   can_send (Comm p t bs) r q m l k f d =

@@ -14,7 +14,7 @@ abbrev mutual
   pub Carries : GlobalTree → List ℕ → List ℕ → List Message → Type 0
   Carries GlobalEnd a b w = w ≡ []
   Carries (GlobalVar k) a b w = ⊥
-  Carries (GlobalRec g) a b w = (w ≡ []) × Closed (GlobalRec g) 0 × Sound g
+  Carries (GlobalRec g) a b w = (w ≡ []) × Closed (GlobalRec g) 0 × Sound (GlobalRec g)
   Carries (Comm p q bs) a b w = (p ≢ q) × NonEmpty bs × (a ≡ p → w ≡ []) × (a ≡ q → w ≡ []) × CarriesAll bs a b w
   Carries (Flight p q j bs) a b w = (a ≡ q → w ≡ []) × CarriesAt bs j p q a b w
 

@@ -8,13 +8,13 @@ use Rattle.scrib_types.specs.Traces.{Offers, LocalTransition, sends, receives}
 use Rattle.scrib_global.specs.Transitions.{global_unfolding}
 use Rattle.scrib_global.proofs.Substitution.{Closed, ClosedAll, closed_unfolding, NonEmpty, Lack, Distinct, Sound, SoundAll, sound_unfolding}
 use Rattle.scrib_global.proofs.ProjectionLemmas.{Projects, p_end, p_var, p_send, p_recv, p_other, p_idle, p_rec, ProjectEach, each_none, each_one, ProjectMerged, merged_none, merged_one, project_unfolding_idle, project_unfolding}
-use Rattle.scrib_global.proofs.WiderTypes.{wider_trans, second_wider, merged_wider, wider_alike, alike_trans}
-use Rattle.scrib_global.proofs.Locals.{does_as, Alike, alike_unroll, alike_step, alike_send}
+use Rattle.scrib_global.proofs.WiderTypes.{wider_trans, second_wider, merged_wider, offering_of, wider_alike, alike_trans}
+use Rattle.scrib_global.proofs.Locals.{does_as, Alike, alike_unroll, alike_step, alike_send, alike_stops}
 
 -- at a recursion: the type is like the recursion's projection
 pub record FollowsRec (g : GlobalTree) (r : List ℕ) (l : LocalTree) : Type 0 where
   pub closed : Closed (GlobalRec g) 0
-  pub sound : Sound g
+  pub sound : Sound (GlobalRec g)
   pub x : LocalTree
   pub projects : Projects (GlobalRec g) r x
   pub like : Alike l x
@@ -30,7 +30,7 @@ SendsOnly q bs l = (r : List ℕ) (m : Message) (k : LocalTree) → LocalTransit
 -- The same type follows every branch of a communication that its role takes no part in.
 abbrev mutual
   pub Follows : GlobalTree → List ℕ → LocalTree → Type 0
-  Follows GlobalEnd r l = (q : List ℕ) (m : Message) (k : LocalTree) → LocalTransition l (Sends q m) k → ⊥
+  Follows GlobalEnd r l = (d : Action) (k : LocalTree) → LocalTransition l d k → ⊥
   Follows (GlobalVar k) r l = ⊥
   Follows (GlobalRec g) r l = FollowsRec g r l
   Follows (Comm p q bs) r l = (p ≢ q) × NonEmpty bs × (r ≡ p → SendsOnly q bs l × FollowsBy bs (Sends q) r l) × (r ≡ q → FollowsBy bs (Receives p) r l) × (r ≢ p → r ≢ q → FollowsAll bs r l)
@@ -68,7 +68,7 @@ lack_offered r (each_one p pe) n f m k (inr h) = lack_offered r pe n f.1 m k h.1
 -- a type that is like a projection follows
 mutual
   pub follows_project : (r : List ℕ) {g : GlobalTree} {x : LocalTree} → Projects g r x → Sound g → Closed g 0 → (l : LocalTree) → Alike l x → Follows g r l
-  follows_project r p_end s c l al = λ q m k d. does_as (alike_send al d).1
+  follows_project r p_end s c l al = λ d k t. does_as (alike_stops al t).2
   follows_project r p_var s c l al = absurd (omega arith)
   follows_project r (p_send {q} {bs} {ls} e pe) s c l al = (
     s.0,
@@ -92,7 +92,7 @@ mutual
     s.1,
     λ e. absurd (n1 e),
     λ e. absurd (n2 e),
-    λ a b. (follows_project r pj s.3.0 c.0 l (alike_trans al (wider_alike (merged_wider pm))), follows_merged r pm s.3.1 c.1 l al),
+    λ a b. (follows_project r pj s.3.0 c.0 l (alike_trans al (wider_alike (merged_wider pm) (offering_of pj s.3.0))), follows_merged r pm s.3.1 c.1 l al),
   )
   follows_project r (p_idle {g} c' a) s c l al = record { closed = c; sound = s; x = LocalEnd; projects = p_idle c' a; like = al }
   follows_project r (p_rec {l = y} h p) s c l al = record { closed = c; sound = s; x = LocalRec y; projects = p_rec h p; like = al }
@@ -109,9 +109,9 @@ mutual
   follows_merged : (r : List ℕ) {bs : GlobalBranches} {j x : LocalTree} → ProjectMerged bs r j x → SoundAll bs → ClosedAll bs 0 → (l : LocalTree) → Alike l x → FollowsAll bs r l
   follows_merged r merged_none s c l al = tt
   follows_merged r (merged_one p m pm) s c l al =
-      (follows_project r p s.0 c.0 l (alike_trans al (wider_alike (wider_trans (merged_wider pm) (second_wider m)))), follows_merged r pm s.1 c.1 l al)
+      (follows_project r p s.0 c.0 l (alike_trans al (wider_alike (wider_trans (merged_wider pm) (second_wider m)) (offering_of p s.0))), follows_merged r pm s.1 c.1 l al)
 
-follows_begun : (r : List ℕ) (g : GlobalTree) {x : LocalTree} → Projects (GlobalRec g) r x → Closed (GlobalRec g) 0 → Sound g → (l : LocalTree) → Alike l x → Follows (global_unfolding g) r l
+follows_begun : (r : List ℕ) (g : GlobalTree) {x : LocalTree} → Projects (GlobalRec g) r x → Closed (GlobalRec g) 0 → Sound (GlobalRec g) → (l : LocalTree) → Alike l x → Follows (global_unfolding g) r l
 follows_begun r g (p_idle c' a) c s l al =
     follows_project r (project_unfolding_idle r g s c a) (sound_unfolding g s) (closed_unfolding g c) l al
 follows_begun r g (p_rec {l = y} h p) c s l al =

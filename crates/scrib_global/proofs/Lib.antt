@@ -19,3 +19,7 @@ pub mod JudgementLemmas
 mod UndeclaredFlights
 mod FlightLists
 mod Samples
+mod MovingStates
+mod Extensions
+pub mod Completion
+pub mod Progress

@@ -43,13 +43,15 @@ pub same_from : {l k k' : LocalTree} {q p : List ℕ} {m n : Message} → LocalT
 same_from (receives a) b = sym (does_as b).0
 same_from (unfolds a) b = same_from a (does_as b)
 
--- it does what the other does, and after a trace of the other it sends only what the other sends
+-- It does what the other does. After a trace of the other it sends only what the other sends, and does nothing where
+-- the other does nothing.
 pub record Alike (l x : LocalTree) : Type 0 where
   pub traces : (w : List Action) → IsTrace x w → IsTrace l w
   pub only : (w : List Action) (q : List ℕ) (m : Message) → IsTrace x w → IsTrace l (w ++ Sends q m ∷ []) → IsTrace x (w ++ Sends q m ∷ [])
+  pub stops : (w : List Action) (d : Action) → IsTrace x w → IsTrace l (w ++ d ∷ []) → (b : Action) × IsTrace x (w ++ b ∷ [])
 
 pub alike_refl : (l : LocalTree) → Alike l l
-alike_refl l = record { traces = λ w t. t; only = λ w q m t s. s }
+alike_refl l = record { traces = λ w t. t; only = λ w q m t s. s; stops = λ w d t s. (d, s) }
 
 roll : (x : LocalTree) (w : List Action) → IsTrace (unfolding_of x) w → IsTrace (LocalRec x) w
 roll x [] t = tt
@@ -63,6 +65,7 @@ pub alike_unroll : {l x : LocalTree} → Alike l (LocalRec x) → Alike l (unfol
 alike_unroll {x} a = record {
   traces = λ w t. a.traces w (roll x w t);
   only = λ w q m t s. unroll x (w ++ Sends q m ∷ []) (a.only w q m (roll x w t) s);
+  stops = λ w d t s. let v = a.stops w d (roll x w t) s in (v.0, unroll x (w ++ v.0 ∷ []) v.1);
 }
 
 pub alike_step : {l x y : LocalTree} {d : Action} → Alike l x → LocalTransition x d y → (k : LocalTree) × LocalTransition l d k × Alike k y
@@ -73,8 +76,12 @@ alike_step {y} {d} a s =
       record {
         traces = λ w u. let v = a.traces (d ∷ w) (y, s, u) in subst (λ z. IsTrace z w) (does_one v.1 t.1) v.2;
         only = λ w q m u e. let v = a.only (d ∷ w) q m (y, s, u) (t.0, t.1, e) in subst (λ z. IsTrace z (w ++ Sends q m ∷ [])) (does_one v.1 s) v.2;
+        stops = λ w b u e. let v = a.stops (d ∷ w) b (y, s, u) (t.0, t.1, e) in (v.0, subst (λ z. IsTrace z (w ++ v.0 ∷ [])) (does_one v.1.1 s) v.1.2);
       },
     )
 
 pub alike_send : {l x k : LocalTree} {q : List ℕ} {m : Message} → Alike l x → LocalTransition l (Sends q m) k → (y : LocalTree) × LocalTransition x (Sends q m) y
 alike_send {k} {q} {m} a s = let t = a.only [] q m tt (k, s, tt) in (t.0, t.1)
+
+pub alike_stops : {l x k : LocalTree} {d : Action} → Alike l x → LocalTransition l d k → (b : Action) × (y : LocalTree) × LocalTransition x b y
+alike_stops {k} {d} a s = let t = a.stops [] d tt (k, s, tt) in (t.0, t.1.0, t.1.1)

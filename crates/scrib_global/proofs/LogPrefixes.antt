@@ -33,7 +33,7 @@ pub joined_none : (roles : List (List ℕ)) → AllJoined roles []
 joined_none roles [] after e eq = absurd (cc)
 joined_none roles (x ∷ xs) after e eq = absurd (cc)
 
-joined_end : (roles : List (List ℕ)) (log : List Event) (e : Event) → AllJoined roles log → IsJoined roles log e → AllJoined roles (log ++ e ∷ [])
+pub joined_end : (roles : List (List ℕ)) (log : List Event) (e : Event) → AllJoined roles log → IsJoined roles log e → AllJoined roles (log ++ e ∷ [])
 joined_end roles log e all here before after f eq =
     elim (split_cases log before after e f eq) [
       | inl p ↦ let P : List Event → Type 0 = λ b. IsJoined roles b f in

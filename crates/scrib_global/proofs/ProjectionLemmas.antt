@@ -70,7 +70,7 @@ mutual
   project_substitute_merged r t x pt h n (merged_one p m pm) = merged_one (project_substitute r t x pt h n p) (merges_substitute x n m) (project_substitute_merged r t x pt h n pm)
 
 -- the projection of a recursion's unfolding is the unfolded projection
-pub project_unfolding_idle : (r : List ℕ) (g : GlobalTree) → Sound g → Closed (GlobalRec g) 0 → Absent r g → Projects (global_unfolding g) r LocalEnd
+pub project_unfolding_idle : (r : List ℕ) (g : GlobalTree) → Sound (GlobalRec g) → Closed (GlobalRec g) 0 → Absent r g → Projects (global_unfolding g) r LocalEnd
 project_unfolding_idle r g s c a =
     project_absent r (global_unfolding g) (sound_unfolding g s) (closed_unfolding g c) (absent_unfolding r g a)
 

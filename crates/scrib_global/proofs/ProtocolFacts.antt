@@ -6,7 +6,7 @@ use Rattle.std.proofs.lemmas.Bool.Decides.{Decides-eqb}
 use Rattle.scrib_types.specs.declared.message.Message.{Message}
 use Rattle.scrib_types.specs.Trees.{GlobalTree, GlobalEnd, GlobalVar, GlobalRec, Comm, Flight, GlobalBranches, NoBranch, Branch, LocalTree, LocalEnd, LocalVar, LocalRec, Send, Recv, LocalBranches, NoChoice, Choice}
 use Rattle.scrib_types.specs.Projection.{open_depth, branches_open_depth, is_closed, occurs, branches_occur, merged_two, merged_with, merged, with_choice, seen_by, projection, branch_projections, widest}
-use Rattle.scrib_types.specs.WellFormed.{has_role, same_operator, has_operator, distinct_operators, has_branches, well_formed, branches_well_formed, projects, is_protocol}
+use Rattle.scrib_types.specs.WellFormed.{has_role, same_operator, has_operator, distinct_operators, has_branches, leads_to_communication, uses, well_formed, branches_well_formed, projects, is_protocol}
 use Rattle.scrib_types.specs.Agreement.{Agreement}
 use Rattle.scrib_types.specs.Merges.{merges_of}
 use Rattle.scrib_global.proofs.Names.{which, same_name, name_is, name_not, name_itself}
@@ -149,11 +149,14 @@ parts roles p q bs h =
 pub rec_body : (roles : List (List ℕ)) (g : GlobalTree) → well_formed roles (GlobalRec g) ≡ true → well_formed roles g ≡ true
 rec_body roles g h = (and_parts _ (well_formed roles g) h).1
 
+guarded_body : (roles : List (List ℕ)) (g : GlobalTree) → well_formed roles (GlobalRec g) ≡ true → leads_to_communication g ≡ true
+guarded_body roles g h = (and_parts (leads_to_communication g) (uses 0 g) (and_parts _ (well_formed roles g) h).0).0
+
 mutual
   pub sound_of : (roles : List (List ℕ)) (g : GlobalTree) → well_formed roles g ≡ true → Sound g
   sound_of roles GlobalEnd h = tt
   sound_of roles (GlobalVar k) h = tt
-  sound_of roles (GlobalRec g) h = sound_of roles g (rec_body roles g h)
+  sound_of roles (GlobalRec g) h = (guarded_body roles g h, sound_of roles g (rec_body roles g h))
   sound_of roles (Comm p q bs) h = let y = parts roles p q bs h in (y.apart, y.some, y.distinct, sound_of_all roles bs y.branches)
   sound_of roles (Flight p q j bs) h = absurd (true≢false (sym h))
 

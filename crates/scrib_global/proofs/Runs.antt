@@ -18,7 +18,7 @@ use Rattle.scrib_global.specs.Runs.{Run, stays, goes}
 use Rattle.scrib_global.specs.InFlight.{OnPath, ends, repeats, chooses, flies}
 use Rattle.scrib_global.specs.Simulation.{Leads, Awaits, Simulates}
 use Rattle.scrib_global.proofs.Names.{which, NotPair, pair_cases}
-use Rattle.scrib_global.proofs.Substitution.{NonEmpty}
+use Rattle.scrib_global.proofs.Substitution.{Absent, NonEmpty}
 use Rattle.scrib_global.proofs.ProjectionLemmas.{project_absent}
 use Rattle.scrib_global.proofs.Locals.{does_one, alike_refl}
 use Rattle.scrib_global.proofs.FollowingTypes.{Follows, follows_project}
@@ -38,10 +38,13 @@ run_as stays = refl
 run_as (goes {h = k} st rn) = (k, st, rn)
 
 -- the types at the start
-start_out : (a : Agreement) → Given a → (r : List ℕ) → has_role r a.roles ≡ false → Follows a.global r LocalEnd
-start_out a f r n = follows_project r (project_absent r a.global f.sound f.closed (f.strangers r n)) f.sound f.closed LocalEnd (alike_refl LocalEnd)
+pub start_absent : (a : Agreement) → Given a → (r : List ℕ) → Absent r a.global → Follows a.global r LocalEnd
+start_absent a f r n = follows_project r (project_absent r a.global f.sound f.closed n) f.sound f.closed LocalEnd (alike_refl LocalEnd)
 
-start_in : (a : Agreement) → Given a → (r : List ℕ) (l : LocalTree) → projection widest r a.global ≡ Some l → Follows a.global r l
+start_out : (a : Agreement) → Given a → (r : List ℕ) → has_role r a.roles ≡ false → Follows a.global r LocalEnd
+start_out a f r n = start_absent a f r (f.strangers r n)
+
+pub start_in : (a : Agreement) → Given a → (r : List ℕ) (l : LocalTree) → projection widest r a.global ≡ Some l → Follows a.global r l
 start_in a f r l p = follows_project r (projects_of r a.global l p) f.sound f.closed l (alike_refl l)
 
 -- traces
@@ -63,7 +66,7 @@ follow_goes log g h k e i r st ih (no n) l f =
     let z = ih l (others st r l n f) in
     (z.0, subst (λ w. Leads l w z.0) (sym (own_no r e log i n)) z.1, z.2)
 
-run_follows : (log : List Event) (g h : GlobalTree) → Run g (actions log) h → (r : List ℕ) (l : LocalTree) → Follows g r l → (y : LocalTree) × Leads l (own_actions r log) y × Follows h r y
+pub run_follows : (log : List Event) (g h : GlobalTree) → Run g (actions log) h → (r : List ℕ) (l : LocalTree) → Follows g r l → (y : LocalTree) × Leads l (own_actions r log) y × Follows h r y
 run_follows [] g h rn r l f = (l, refl, subst (λ z. Follows z r l) (run_as rn) f)
 run_follows (Join s ∷ log) g h rn r l f = run_follows log g h rn r l f
 run_follows (Sent p q m ∷ log) g h rn r l f =
@@ -113,11 +116,11 @@ run_front (Join s ∷ before) after g h rn = run_front before after g h rn
 run_front (Sent p q m ∷ before) after g h rn = let x = run_as rn in let y = run_front before after x.0 h x.2 in (y.0, goes x.1 y.1)
 run_front (Received p q m ∷ before) after g h rn = let x = run_as rn in let y = run_front before after x.0 h x.2 in (y.0, goes x.1 y.1)
 
-run_on : {g h k : GlobalTree} {w : List Event} → Run g w h → (e : Event) → Transition h e k → Run g (w ++ e ∷ []) k
+pub run_on : {g h k : GlobalTree} {w : List Event} → Run g w h → (e : Event) → Transition h e k → Run g (w ++ e ∷ []) k
 run_on stays e st = goes st stays
 run_on (goes x rn) e st = goes x (run_on rn e st)
 
-actions_on : (log : List Event) (e : Event) → is_action e ≡ true → actions (log ++ e ∷ []) ≡ actions log ++ e ∷ []
+pub actions_on : (log : List Event) (e : Event) → is_action e ≡ true → actions (log ++ e ∷ []) ≡ actions log ++ e ∷ []
 actions_on [] e i = rw i refl
 actions_on (Join s ∷ log) e i = actions_on log e i
 actions_on (Sent p q m ∷ log) e i = ap (λ z. Sent p q m ∷ z) (actions_on log e i)
@@ -217,7 +220,7 @@ path_carries repeats a b w c = sym c.0
 path_carries (chooses x rest) a b w c = path_carries rest a b w (all_carries x a b w c.4)
 path_carries (flies {p} {q} {m} {g} {w = v} x rest) a b w c = path_flies p q m g v a b w (carries_at x p q a b w c.1) (λ u d. path_carries rest a b u d) (pair_cases a p b q)
 
-run_carried : (a : Agreement) → Given a → (log : List Event) (h : GlobalTree) → Run a.global (actions log) h → (p q : List ℕ) → Carries h p q (flights p q log)
+pub run_carried : (a : Agreement) → Given a → (log : List Event) (h : GlobalTree) → Run a.global (actions log) h → (p q : List ℕ) → Carries h p q (flights p q log)
 run_carried a f log h rn p q =
     let y = run_carries log a.global h rn p q [] (carries_start a.global f.sound f.closed p q) in
     subst (λ z. Carries h p q z) (sym (flights_are p q log y.0 y.1)) y.2

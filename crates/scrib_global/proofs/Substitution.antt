@@ -4,6 +4,7 @@ use Rattle.std.proofs.lemmas.Bool.{true≢false}
 use Rattle.std.proofs.lemmas.Bool.Decides.{Decides-eqb}
 use Rattle.scrib_types.specs.declared.message.Message.{Message}
 use Rattle.scrib_types.specs.Trees.{GlobalTree, GlobalEnd, GlobalVar, GlobalRec, Comm, Flight, GlobalBranches, NoBranch, Branch}
+use Rattle.scrib_types.specs.WellFormed.{leads_to_communication}
 use Rattle.scrib_global.specs.Transitions.{substitute, substitute_all, global_unfolding}
 
 -- n recursions round it bind all its variables
@@ -45,12 +46,12 @@ abbrev pub Distinct : GlobalBranches → Type 0
 Distinct NoBranch = Unit {0}
 Distinct (Branch m g bs) = Lack m bs × Distinct bs
 
--- no flights, no communication with oneself, a branch at least, and different messages
+-- no flights, guarded recursions, no communication with oneself, a branch at least, and different messages
 abbrev mutual
   pub Sound : GlobalTree → Type 0
   Sound GlobalEnd = Unit {0}
   Sound (GlobalVar k) = Unit {0}
-  Sound (GlobalRec g) = Sound g
+  Sound (GlobalRec g) = (leads_to_communication g ≡ true) × Sound g
   Sound (Comm p q bs) = (p ≢ q) × NonEmpty bs × Distinct bs × SoundAll bs
   Sound (Flight p q j bs) = ⊥
 
@@ -154,6 +155,14 @@ some_substitute : (t : GlobalTree) (bs : GlobalBranches) (n : ℕ) → NonEmpty 
 some_substitute t NoBranch n f = f
 some_substitute t (Branch m g bs) n f = tt
 
+-- a guarded recursion stays guarded
+pub leads_substitute : (t g : GlobalTree) (n : ℕ) → leads_to_communication g ≡ true → leads_to_communication (substitute t g n) ≡ true
+leads_substitute t GlobalEnd n h = h
+leads_substitute t (GlobalVar i) n h = absurd (true≢false (sym h))
+leads_substitute t (GlobalRec g) n h = leads_substitute t g (n + 1) h
+leads_substitute t (Comm p q bs) n h = refl
+leads_substitute t (Flight p q j bs) n h = h
+
 sound_var : (t : GlobalTree) (i : ℕ) → Sound t → (b : Bool) → Sound (if b then t else GlobalVar i)
 sound_var t i s true = s
 sound_var t i s false = tt
@@ -162,7 +171,7 @@ mutual
   pub sound_substitute : (t : GlobalTree) → Sound t → (g : GlobalTree) (n : ℕ) → Sound g → Sound (substitute t g n)
   sound_substitute t st GlobalEnd n s = tt
   sound_substitute t st (GlobalVar i) n s = sound_var t i st (i == n)
-  sound_substitute t st (GlobalRec g) n s = sound_substitute t st g (n + 1) s
+  sound_substitute t st (GlobalRec g) n s = (leads_substitute t g (n + 1) s.0, sound_substitute t st g (n + 1) s.1)
   sound_substitute t st (Comm p q bs) n s = (s.0, some_substitute t bs n s.1, distinct_substitute t bs n s.2, sound_substitute_all t st bs n s.3)
   sound_substitute t st (Flight p q j bs) n s = s
 
@@ -174,8 +183,8 @@ mutual
 pub closed_unfolding : (g : GlobalTree) → Closed (GlobalRec g) 0 → Closed (global_unfolding g) 0
 closed_unfolding g c = closed_substitute (GlobalRec g) c g 0 c
 
-pub sound_unfolding : (g : GlobalTree) → Sound g → Sound (global_unfolding g)
-sound_unfolding g s = sound_substitute (GlobalRec g) s g 0 s
+pub sound_unfolding : (g : GlobalTree) → Sound (GlobalRec g) → Sound (global_unfolding g)
+sound_unfolding g s = sound_substitute (GlobalRec g) s g 0 s.1
 
 pub absent_unfolding : (r : List ℕ) (g : GlobalTree) → Absent r g → Absent r (global_unfolding g)
 absent_unfolding r g a = absent_substitute r (GlobalRec g) a g 0 a

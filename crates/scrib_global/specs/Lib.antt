@@ -10,3 +10,5 @@ pub mod Offences
 pub mod Named
 pub mod Sorted
 pub mod Explained
+pub mod Complete
+pub mod Progress

@@ -7,6 +7,7 @@ ghost use Rattle.scrib_types.specs.GlobalView.{global_of};
 ghost use Rattle.scrib_types.specs.Projection.{projection, widest};
 ghost use Rattle.scrib_types.specs.Meaning.{agreement_of};
 ghost use Rattle.scrib_global.specs.Simulation.{Simulates};
+ghost use Rattle.scrib_global.specs.Progress.{Progresses};
 
 use scrib_types::global::GlobalType;
 use scrib_types::name::Role;
@@ -18,6 +19,12 @@ use scrib_types::protocol::Protocol;
 /// receive the oldest of them.
 pub fn permits_its_runs(protocol: &Protocol)
     ensures { Simulates (agreement_of protocol.now) }
+{}
+
+/// A law: an accepted protocol cannot get stuck. A permitted log is complete, or some join, send or reception may come
+/// next. Where each role that acts has joined, a send or a reception may.
+pub fn progresses(protocol: &Protocol)
+    ensures { Progresses (agreement_of protocol.now) }
 {}
 
 /// A law: where the plain profile has a projection, the reception profile has the same one.

@@ -1,5 +1,6 @@
-//! Conversations as a whole: the judgement of a log by the definitions, and the messages in flight after it. Its law is
-//! that a protocol permits exactly the runs of its global type over first-in-first-out queues.
+//! Conversations as a whole: the judgement of a log by the definitions, and the messages in flight after it. By its
+//! laws a protocol permits exactly the runs of its global type over first-in-first-out queues. It cannot get
+//! stuck.
 #![tactic(auto)]
 
 mod allowed;
