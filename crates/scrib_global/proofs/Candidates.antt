@@ -106,7 +106,7 @@ trace_named [] l a t = (does_named t.1).0
 trace_named (b ∷ w) l a t = (does_named t.1).1 a (trace_named w t.0 a t.2)
 
 -- an action that is permitted is a candidate
-all_last : {X : Type 0} (P : X → Type 0) (xs : List X) (y : X) → AllByRecursion P (xs ++ y ∷ []) → P y
+pub all_last : {X : Type 0} (P : X → Type 0) (xs : List X) (y : X) → AllByRecursion P (xs ++ y ∷ []) → P y
 all_last P [] y h = h.0
 all_last P (x ∷ xs) y h = all_last P xs y h.1
 

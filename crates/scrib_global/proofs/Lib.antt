@@ -20,6 +20,7 @@ mod UndeclaredFlights
 mod FlightLists
 mod Samples
 mod MovingStates
+mod StartingTypes
 mod Extensions
 pub mod Completion
 pub mod Progress

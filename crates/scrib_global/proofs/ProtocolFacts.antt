@@ -83,7 +83,7 @@ mutual
   absent_of_all r (Branch m g bs) h = let y = or_none (occurs r g) (branches_occur r bs) h in (absent_of r g y.0, absent_of_all r bs y.1)
 
 mutual
-  occurs_not : (r : List ℕ) (g : GlobalTree) → Absent r g → occurs r g ≡ false
+  pub occurs_not : (r : List ℕ) (g : GlobalTree) → Absent r g → occurs r g ≡ false
   occurs_not r GlobalEnd h = refl
   occurs_not r (GlobalVar k) h = refl
   occurs_not r (GlobalRec g) h = occurs_not r g h

@@ -40,7 +40,7 @@ recursions (LocalRec body) = recursions body + 1
 recursions (Send q ls) = 0
 recursions (Recv p ls) = 0
 
-substitute_recursions : (t body : LocalTree) (n : ℕ) → acts_first body ≡ true → recursions (substitute t body n) ≡ recursions body
+pub substitute_recursions : (t body : LocalTree) (n : ℕ) → acts_first body ≡ true → recursions (substitute t body n) ≡ recursions body
 substitute_recursions t LocalEnd n h = absurd (true≢false (sym h))
 substitute_recursions t (LocalVar k) n h = absurd (true≢false (sym h))
 substitute_recursions t (LocalRec b) n h = ap (λ i. i + 1) (substitute_recursions t b (n + 1) h)

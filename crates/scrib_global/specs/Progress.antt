@@ -1,11 +1,14 @@
 -- Progress: a conversation cannot get stuck before its end (deadlock freedom as in Deniélou and Yoshida, ICALP 2013; its
 -- form over logs with joins is this project's own).
-use Rattle.std.specs.Prelude.{◌≡◌, ◌⊎◌, ℕ, true, List, [], ◌∷◌, ◌++◌}
+use Rattle.std.specs.Prelude.{◌≡◌, ◌↔◌, ◌⊎◌, ℕ, true, false, List, [], ◌∷◌, ◌++◌}
 use Rattle.scrib_types.specs.declared.event.Event.{Event}
+use Rattle.scrib_types.specs.declared.event.Event.TheVariants.{Join}
+use Rattle.scrib_types.specs.Trees.{GlobalEnd}
 use Rattle.scrib_types.specs.Projection.{occurs}
 use Rattle.scrib_types.specs.Agreement.{Agreement}
 use Rattle.scrib_types.specs.Permitted.{IsPermitted}
-use Rattle.scrib_types.specs.Logs.{is_action, has_joined}
+use Rattle.scrib_types.specs.Logs.{is_action, actions, has_joined, AllJoined}
+use Rattle.scrib_global.specs.Runs.{Run}
 use Rattle.scrib_global.specs.Complete.{IsComplete}
 
 -- each role that is a sender or a receiver somewhere in the global type has joined
@@ -18,3 +21,13 @@ pub record Progresses (a : Agreement) : Type 0 where
   pub next : (log : List Event) → IsPermitted a log → IsComplete a log ⊎ ((e : Event) × IsPermitted a (log ++ e ∷ []))
   pub acts : (log : List Event) → IsPermitted a log → HaveActorsJoined a log
       → IsComplete a log ⊎ ((e : Event) × (is_action e ≡ true) × IsPermitted a (log ++ e ∷ []))
+
+-- A log is complete exactly where its joins are lawful and its sends and receptions take the global type to its end.
+-- Then each role that acts has joined. Only the joins of roles that never act may follow, and leave the log complete.
+pub record Completes (a : Agreement) : Type 0 where
+  pub exact : (log : List Event) → IsComplete a log ↔ (AllJoined a.roles log × Run a.global (actions log) GlobalEnd)
+  pub joined : (log : List Event) → IsComplete a log → HaveActorsJoined a log
+  pub last : (log : List Event) → IsComplete a log → (e : Event) → IsPermitted a (log ++ e ∷ [])
+      → (r : List ℕ) × (e ≡ Join r) × (occurs r a.global ≡ false)
+  pub stays : (log : List Event) → IsComplete a log → (e : Event) → IsPermitted a (log ++ e ∷ [])
+      → IsComplete a (log ++ e ∷ [])

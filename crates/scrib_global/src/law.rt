@@ -7,7 +7,7 @@ ghost use Rattle.scrib_types.specs.GlobalView.{global_of};
 ghost use Rattle.scrib_types.specs.Projection.{projection, widest};
 ghost use Rattle.scrib_types.specs.Meaning.{agreement_of};
 ghost use Rattle.scrib_global.specs.Simulation.{Simulates};
-ghost use Rattle.scrib_global.specs.Progress.{Progresses};
+ghost use Rattle.scrib_global.specs.Progress.{Progresses, Completes};
 
 use scrib_types::global::GlobalType;
 use scrib_types::name::Role;
@@ -25,6 +25,13 @@ pub fn permits_its_runs(protocol: &Protocol)
 /// next. Where each role that acts has joined, a send or a reception may.
 pub fn progresses(protocol: &Protocol)
     ensures { Progresses (agreement_of protocol.now) }
+{}
+
+/// A law: a log is complete exactly where its joins are lawful and its sends and receptions take the global type to its
+/// end. Then each role that acts has joined. Only the joins of roles that never act may follow, and leave the log
+/// complete.
+pub fn completes(protocol: &Protocol)
+    ensures { Completes (agreement_of protocol.now) }
 {}
 
 /// A law: where the plain profile has a projection, the reception profile has the same one.
