@@ -1,6 +1,7 @@
--- One event more after a permitted log.
-use Rattle.std.proofs.Common.{◌≡◌, inl, inr, true, false, List, [], ◌∷◌, ◌++◌, ℕ, refl, sym, ap, subst}
-use Rattle.std.proofs.lemmas.Bool.{true≢false, cases_Bool}
+-- One event more, and a run of further events, after a permitted log.
+use Rattle.std.proofs.Common.{◌≡◌, ◌||◌, inl, inr, true, false, List, [], ◌∷◌, ◌++◌, ℕ, refl, sym, ap, subst, append_assoc, append-nil}
+use Rattle.std.specs.List.{AllByRecursion}
+use Rattle.std.proofs.lemmas.Bool.{true≢false, cases_Bool, or_right}
 use Rattle.scrib_types.specs.declared.event.Action.{Action}
 use Rattle.scrib_types.specs.declared.event.Event.{Event}
 use Rattle.scrib_types.specs.declared.event.Event.TheVariants.{Join, Sent, Received}
@@ -10,16 +11,17 @@ use Rattle.scrib_types.specs.WellFormed.{has_role}
 use Rattle.scrib_types.specs.Agreement.{Agreement}
 use Rattle.scrib_types.specs.Permitted.{IsPermitted}
 use Rattle.scrib_types.specs.Traces.{LocalTransition}
-use Rattle.scrib_types.specs.Logs.{subject_of, action_of, is_action, actions, own_actions, has_joined, IsJoined, AllJoined}
+use Rattle.scrib_types.specs.Logs.{subject_of, action_of, is_action, is_join_of, actions, own_actions, has_joined, IsJoined, AllJoined}
 use Rattle.scrib_global.specs.Transitions.{Transition}
 use Rattle.scrib_global.specs.Runs.{Run}
 use Rattle.scrib_global.specs.Simulation.{Leads}
+use Rattle.scrib_global.proofs.Names.{name_itself}
 use Rattle.scrib_global.proofs.Substitution.{Absent}
 use Rattle.scrib_global.proofs.Locals.{does_as}
 use Rattle.scrib_global.proofs.TransitionLemmas.{subject}
 use Rattle.scrib_global.proofs.ProtocolFacts.{Given, absent_of}
 use Rattle.scrib_global.proofs.LogPrefixes.{joined_end}
-use Rattle.scrib_global.proofs.Runs.{start_absent, run_follows, run_on, actions_on, run_permitted}
+use Rattle.scrib_global.proofs.Runs.{run_as, start_absent, run_follows, run_on, actions_on, run_permitted}
 
 -- a role whose projection is the end has no action
 leads_end : (w : List Action) (k : LocalTree) → Leads LocalEnd w k → LocalEnd ≡ k
@@ -68,3 +70,35 @@ pub joins_next : (a : Agreement) → Given a → (log : List Event) (h : GlobalT
 joins_next a f log h all rn r d n =
     let more : Run a.global (actions (log ++ Join r ∷ [])) h = subst (λ z. Run a.global z h) (sym (actions_join log r)) rn in
     (run_permitted a f (log ++ Join r ∷ []) (joined_end a.roles log (Join r) all (d, n)) h more, more)
+
+pub joined_last : (log : List Event) (r : List ℕ) → has_joined r (log ++ Join r ∷ []) ≡ true
+joined_last [] r = ap (λ b. b || false) (name_itself r)
+joined_last (e ∷ log) r = or_right (is_join_of r e) (has_joined r (log ++ Join r ∷ [])) (joined_last log r)
+
+-- further events by which the run reaches this state
+abbrev pub Extends : Agreement → List Event → GlobalTree → Type 0
+Extends a log h = (more : List Event) × IsPermitted a (log ++ more) × Run a.global (actions (log ++ more)) h
+
+after : (a : Agreement) (log more : List Event) (h : GlobalTree) → Extends a (log ++ more) h → Extends a log h
+after a log more h x =
+    let e : (log ++ more) ++ x.0 ≡ log ++ (more ++ x.0) = append_assoc log more x.0 in
+    (more ++ x.0, subst (IsPermitted a) e x.1, subst (λ z. Run a.global (actions z) h) e x.2)
+
+-- the role joins first, where it hasn't
+acts_or_joins : (a : Agreement) → Given a → (log : List Event) (h k : GlobalTree) → AllJoined a.roles log → Run a.global (actions log) h → (e : Event) → is_action e ≡ true → Transition h e k → Extends a log k
+acts_or_joins a f log h k all rn e i st = elim (cases_Bool (has_joined (subject_of e) log)) [
+  | inl j ↦ let x = acts_next a f log h k all rn e i st j in (e ∷ [], x.0, x.1)
+  | inr n ↦
+      let r = subject_of e in
+      let x = joins_next a f log h all rn r (next_declared a f log h k rn e st) n in
+      let y = acts_next a f (log ++ Join r ∷ []) h k x.0.joined x.1 e i st (joined_last log r) in
+      after a log (Join r ∷ []) k (e ∷ [], y.0, y.1)
+]
+
+-- a run of the reached state, with the joins that it needs
+pub extends : (a : Agreement) → Given a → (v log : List Event) (h k : GlobalTree) → IsPermitted a log → Run a.global (actions log) h → AllByRecursion (λ e. is_action e ≡ true) v → Run h v k → Extends a log k
+extends a f [] log h k p rn all r = ([], subst (IsPermitted a) (sym (append-nil log)) p, subst (λ z. Run a.global (actions z) k) (sym (append-nil log)) (subst (λ z. Run a.global (actions log) z) (run_as r) rn))
+extends a f (e ∷ v) log h k p rn all r =
+    let x = run_as r in
+    let y = acts_or_joins a f log h x.0 p.joined rn e all.0 x.1 in
+    after a log y.0 k (extends a f v (log ++ y.0) x.0 k y.1 y.2 all.1 x.2)

@@ -24,3 +24,4 @@ mod StartingTypes
 mod Extensions
 pub mod Completion
 pub mod Progress
+pub mod Draining

@@ -29,11 +29,11 @@ use Rattle.scrib_global.proofs.Events.{own_yes, own_no, sent_yes, sent_no, effec
 use Rattle.scrib_global.proofs.ProtocolFacts.{Given, given, projects_of}
 
 -- what a run of a known list is
-abbrev RunAs : GlobalTree → List Event → GlobalTree → Type 0
+abbrev pub RunAs : GlobalTree → List Event → GlobalTree → Type 0
 RunAs g [] h = g ≡ h
 RunAs g (e ∷ w) h = (k : GlobalTree) × Transition g e k × Run k w h
 
-run_as : {g h : GlobalTree} {w : List Event} → Run g w h → RunAs g w h
+pub run_as : {g h : GlobalTree} {w : List Event} → Run g w h → RunAs g w h
 run_as stays = refl
 run_as (goes {h = k} st rn) = (k, st, rn)
 

@@ -1,5 +1,6 @@
--- Progress: a conversation cannot get stuck before its end (deadlock freedom as in Deniélou and Yoshida, ICALP 2013; its
--- form over logs with joins is this project's own).
+-- Progress: a conversation cannot get stuck before its end, and each message in flight can be received. (Deadlock
+-- freedom is that of Deniélou and Yoshida, ICALP 2013, and eventual reception that of Lange and Yoshida, CAV 2019. Their
+-- form over logs with joins is this project's own.)
 use Rattle.std.specs.Prelude.{◌≡◌, ◌↔◌, ◌⊎◌, ℕ, true, false, List, [], ◌∷◌, ◌++◌}
 use Rattle.scrib_types.specs.declared.event.Event.{Event}
 use Rattle.scrib_types.specs.declared.event.Event.TheVariants.{Join}
@@ -8,6 +9,7 @@ use Rattle.scrib_types.specs.Projection.{occurs}
 use Rattle.scrib_types.specs.Agreement.{Agreement}
 use Rattle.scrib_types.specs.Permitted.{IsPermitted}
 use Rattle.scrib_types.specs.Logs.{is_action, actions, has_joined, AllJoined}
+use Rattle.scrib_types.specs.Queues.{received, flights, IsPrefix}
 use Rattle.scrib_global.specs.Runs.{Run}
 use Rattle.scrib_global.specs.Complete.{IsComplete}
 
@@ -31,3 +33,13 @@ pub record Completes (a : Agreement) : Type 0 where
       → (r : List ℕ) × (e ≡ Join r) × (occurs r a.global ≡ false)
   pub stays : (log : List Event) → IsComplete a log → (e : Event) → IsPermitted a (log ++ e ∷ [])
       → IsComplete a (log ++ e ∷ [])
+
+-- These further events are permitted. After them all that was in flight is received, in order. Nothing is in flight.
+pub record IsDrainedBy (a : Agreement) (log more : List Event) : Type 0 where
+  pub permitted : IsPermitted a (log ++ more)
+  pub delivered : (p q : List ℕ) → IsPrefix (received p q log ++ flights p q log) (received p q (log ++ more))
+  pub empty : (p q : List ℕ) → flights p q (log ++ more) ≡ []
+
+-- after each permitted log there are further events after which all that is in flight now is received
+abbrev pub CanBeReceived : Agreement → Type 0
+CanBeReceived a = (log : List Event) → IsPermitted a log → (more : List Event) × IsDrainedBy a log more

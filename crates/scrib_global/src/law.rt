@@ -7,7 +7,7 @@ ghost use Rattle.scrib_types.specs.GlobalView.{global_of};
 ghost use Rattle.scrib_types.specs.Projection.{projection, widest};
 ghost use Rattle.scrib_types.specs.Meaning.{agreement_of};
 ghost use Rattle.scrib_global.specs.Simulation.{Simulates};
-ghost use Rattle.scrib_global.specs.Progress.{Progresses, Completes};
+ghost use Rattle.scrib_global.specs.Progress.{Progresses, Completes, CanBeReceived};
 
 use scrib_types::global::GlobalType;
 use scrib_types::name::Role;
@@ -32,6 +32,11 @@ pub fn progresses(protocol: &Protocol)
 /// complete.
 pub fn completes(protocol: &Protocol)
     ensures { Completes (agreement_of protocol.now) }
+{}
+
+/// A law: after each permitted log there are further events after which all that is in flight now is received.
+pub fn can_be_received(protocol: &Protocol)
+    ensures { CanBeReceived (agreement_of protocol.now) }
 {}
 
 /// A law: where the plain profile has a projection, the reception profile has the same one.
