@@ -38,10 +38,10 @@ among_cases a [] ys h = inr h
 among_cases a (x ∷ xs) ys (inl e) = inl (inl e)
 among_cases a (x ∷ xs) ys (inr h) = elim (among_cases a xs ys h) [ inl p ↦ inl (inr p) | inr q ↦ inr q ]
 
-contains_first : (x : Action) (xs : List Action) → Contains (x ∷ xs) x
+pub contains_first : (x : Action) (xs : List Action) → Contains (x ∷ xs) x
 contains_first x xs = Contains-append_left (x ∷ []) xs x (Contains-push [] x)
 
-contains_among : (a : Action) (xs : List Action) → Among a xs → Contains xs a
+pub contains_among : (a : Action) (xs : List Action) → Among a xs → Contains xs a
 contains_among a [] h = absurd h
 contains_among a (x ∷ xs) (inl e) = subst (λ z. Contains (x ∷ xs) z) (sym e) (contains_first x xs)
 contains_among a (x ∷ xs) (inr h) = Contains-append_right (x ∷ []) xs a (contains_among a xs h)

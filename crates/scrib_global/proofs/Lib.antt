@@ -25,3 +25,8 @@ mod Extensions
 pub mod Completion
 pub mod Progress
 pub mod Draining
+mod FormedTypes
+mod OfferedActions
+mod NextLogs
+mod NextLemmas
+mod NextLists

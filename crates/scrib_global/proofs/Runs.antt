@@ -27,6 +27,7 @@ use Rattle.scrib_global.proofs.FlightPaths.{Carries, CarriesAll, CarriesAt, Effe
 use Rattle.scrib_global.proofs.EnabledEvents.{can_send, can_receive}
 use Rattle.scrib_global.proofs.Events.{own_yes, own_no, sent_yes, sent_no, effect_log, log_effect, received_head, flights_are, all_declared, own_nothing, split_cases}
 use Rattle.scrib_global.proofs.ProtocolFacts.{Given, given, projects_of}
+use Rattle.scrib_global.proofs.Steps.{leads_trace}
 
 -- what a run of a known list is
 abbrev pub RunAs : GlobalTree → List Event → GlobalTree → Type 0
@@ -47,12 +48,8 @@ start_out a f r n = start_absent a f r (f.strangers r n)
 pub start_in : (a : Agreement) → Given a → (r : List ℕ) (l : LocalTree) → projection widest r a.global ≡ Some l → Follows a.global r l
 start_in a f r l p = follows_project r (projects_of r a.global l p) f.sound f.closed l (alike_refl l)
 
--- traces
-leads_trace : (w : List Action) (l k : LocalTree) → Leads l w k → IsTrace l w
-leads_trace [] l k h = tt
-leads_trace (d ∷ w) l k h = (h.0, h.1, leads_trace w h.0 k h.2)
-
-leads_one : (w : List Action) (l k k' : LocalTree) → Leads l w k → Leads l w k' → k ≡ k'
+-- the type that the actions lead to is one
+pub leads_one : (w : List Action) (l k k' : LocalTree) → Leads l w k → Leads l w k' → k ≡ k'
 leads_one [] l k k' h i = sym h ∙ i
 leads_one (d ∷ w) l k k' h i = leads_one w h.0 k k' h.2 (subst (λ x. Leads x w k') (does_one i.1 h.1) i.2)
 

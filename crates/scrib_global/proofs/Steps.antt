@@ -1,5 +1,5 @@
 -- What an action leaves of a local type, and of a list of actions.
-use Rattle.std.proofs.Common.{◌≡◌, ◌↔◌, IsTrue, IfOk, Result, Ok, Err, Bool, true, false, ℕ, suc, ◌+◌, ◌<◌, ◌≤◌, ◌==◌, List, ◌∷◌, Option, Some, None, if◌then◌else◌, length, get_or, drop, refl, sym, ap, ◌∙◌, subst, arith, add-one}
+use Rattle.std.proofs.Common.{◌≡◌, ◌↔◌, IsTrue, IfOk, Result, Ok, Err, Bool, true, false, ℕ, suc, ◌+◌, ◌<◌, ◌≤◌, ◌==◌, List, [], ◌∷◌, is_some, Option, Some, None, if◌then◌else◌, length, get_or, drop, refl, sym, ap, ◌∙◌, subst, arith, add-one}
 use Rattle.std.proofs.Math.Seq.{drop-cons}
 use Rattle.std.proofs.lemmas.List.{drop_all}
 use Rattle.std.proofs.lemmas.Bool.{true≢false}
@@ -11,7 +11,8 @@ use Rattle.scrib_types.specs.LocalView.{local_of}
 use Rattle.scrib_types.specs.Trees.{LocalTree, LocalEnd, LocalVar, LocalRec, Send, Recv, LocalBranches}
 use Rattle.scrib_types.specs.Traces.{substitute, unfolding_of, LocalTransition, sends, receives, unfolds, IsTrace}
 use Rattle.scrib_global.specs.Unfolded.{acts_first}
-use Rattle.scrib_global.specs.Steps.{Leaves, Continues}
+use Rattle.scrib_global.specs.Simulation.{Leads}
+use Rattle.scrib_global.specs.Steps.{Leaves, Continues, LeavesAfter}
 use Rattle.scrib_global.proofs.Locals.{does_as, does_one}
 
 -- a variable acts no sooner than what is put in its place
@@ -75,28 +76,37 @@ recv_leaves p r ls m a (Ok None) is same h = λ k d. h k (does_as (subst (λ x. 
 recv_leaves p r ls m a (Ok (Some l)) is same h = subst (λ x. LocalTransition (Recv p ls) x (local_of l)) (sym is) (subst (λ q. LocalTransition (Recv p ls) (Receives q m) (local_of l)) (sym same) (receives h))
 recv_leaves p r ls m a (Err f) is same h = tt
 
--- actions, one after another: the actions from i on are a trace of what is left where all are one of the whole
+-- a trace is what leads to a type
+pub leads_trace : (w : List Action) (l k : LocalTree) → Leads l w k → IsTrace l w
+leads_trace [] l k h = tt
+leads_trace (a ∷ w) l k h = (h.0, h.1, leads_trace w h.0 k h.2)
+
+pub trace_leads : (w : List Action) (l : LocalTree) → IsTrace l w → (k : LocalTree) × Leads l w k
+trace_leads [] l t = (l, refl)
+trace_leads (a ∷ w) l t = let y = trace_leads w t.0 t.2 in (y.0, (t.0, t.1, y.1))
+
+-- actions, one after another: the actions from i on lead from what is left to the types to which all lead from the whole
 abbrev pub Remains : LocalTree → List Action → LocalTree → List Action → Type 0
-Remains left rest l all = IsTrace left rest ↔ IsTrace l all
+Remains left rest l all = (k : LocalTree) → Leads left rest k ↔ Leads l all k
 
 actions_from : (acts : List Action) (i : ℕ) (a : Action) → i < length acts → a ≡ get_or acts i a → drop i acts ≡ a ∷ drop (i + 1) acts
 actions_from acts i a n is = rw add-one (drop-cons acts i a n ∙ ap (λ z. z ∷ drop (suc i) acts) (sym is))
 
 pub remains_next : (acts : List Action) (i : ℕ) (a : Action) (left next l : LocalTree) → i < length acts → a ≡ get_or acts i a → LocalTransition left a next → Remains left (drop i acts) l acts → Remains next (drop (i + 1) acts) l acts
-remains_next acts i a left next l n is d inv =
+remains_next acts i a left next l n is d inv k =
     let from = actions_from acts i a n is in (
-      λ t. inv.0 (subst (IsTrace left) (sym from) (next, d, t)),
-      λ t. let s : IsTrace left (a ∷ drop (i + 1) acts) = subst (IsTrace left) from (inv.1 t) in subst (λ x. IsTrace x (drop (i + 1) acts)) (does_one s.1 d) s.2,
+      λ h. (inv k).0 (subst (λ w. Leads left w k) (sym from) (next, d, h)),
+      λ h. let s : Leads left (a ∷ drop (i + 1) acts) k = subst (λ w. Leads left w k) from ((inv k).1 h) in subst (λ x. Leads x (drop (i + 1) acts) k) (does_one s.1 d) s.2,
     )
 
-pub remains_not : (acts : List Action) (i : ℕ) (a : Action) (left l : LocalTree) → i < length acts → a ≡ get_or acts i a → ((k : LocalTree) → LocalTransition left a k → ⊥) → Remains left (drop i acts) l acts → IsTrue false ↔ IsTrace l acts
-remains_not acts i a left l n is d inv = (
-  λ t. absurd (true≢false (sym t)),
-  λ t. let s : IsTrace left (a ∷ drop (i + 1) acts) = subst (IsTrace left) (actions_from acts i a n is) (inv.1 t) in absurd (d s.0 s.1),
-)
+pub remains_not : (acts : List Action) (i : ℕ) (a : Action) (left l : LocalTree) → i < length acts → a ≡ get_or acts i a → ((k : LocalTree) → LocalTransition left a k → ⊥) → Remains left (drop i acts) l acts → (k : LocalTree) → Leads l acts k → ⊥
+remains_not acts i a left l n is d inv k h =
+    let s : Leads left (a ∷ drop (i + 1) acts) k = subst (λ w. Leads left w k) (actions_from acts i a n is) ((inv k).1 h) in d s.0 s.1
 
-pub remains_all : (acts : List Action) (i : ℕ) (left l : LocalTree) → length acts ≤ i → Remains left (drop i acts) l acts → IsTrue true ↔ IsTrace l acts
-remains_all acts i left l n inv = (
-  λ t. inv.0 (subst (IsTrace left) (sym (drop_all i acts n)) tt),
-  λ t. refl,
-)
+pub remains_all : (acts : List Action) (i : ℕ) (left l : LocalTree) → length acts ≤ i → Remains left (drop i acts) l acts → Leads l acts left
+remains_all acts i left l n inv = (inv left).0 (subst (λ w. Leads left w left) (sym (drop_all i acts n)) refl)
+
+-- whether something is left is whether the actions are a trace
+pub leaves_trace : (l : LocalTree) (w : List Action) (o : Option Local) → LeavesAfter l w o → IsTrue (is_some o) ↔ IsTrace l w
+leaves_trace l w None h = (λ t. absurd (true≢false (sym t)), λ t. let y = trace_leads w l t in absurd (h y.0 y.1))
+leaves_trace l w (Some next) h = (λ t. leads_trace w l (local_of next) h, λ t. refl)

@@ -12,3 +12,5 @@ pub mod Sorted
 pub mod Explained
 pub mod Complete
 pub mod Progress
+pub mod Next
+pub mod NextEvents

@@ -162,7 +162,11 @@ fn push_receptions(
     Ok(())
 }
 
-fn sends(to: &Role, message: &SharedMessage) -> Result<Action, AllocError>
+/// The send of the message to the role.
+///
+/// # Errors
+/// `AllocError` where memory is refused, here and in the function below.
+pub fn sends(to: &Role, message: &SharedMessage) -> Result<Action, AllocError>
     ensures { IfOk result (λ action. action ≡ act.Sends to.now message.now) }
 {
     let to = to.copy()?;
@@ -170,7 +174,8 @@ fn sends(to: &Role, message: &SharedMessage) -> Result<Action, AllocError>
     Ok(Action::Sends { to, message })
 }
 
-fn receives(from: &Role, message: &SharedMessage) -> Result<Action, AllocError>
+/// The reception of the message from the role.
+pub fn receives(from: &Role, message: &SharedMessage) -> Result<Action, AllocError>
     ensures { IfOk result (λ action. action ≡ act.Receives from.now message.now) }
 {
     let from = from.copy()?;

@@ -9,6 +9,7 @@ pub mod fault;
 pub mod judge;
 pub mod law;
 mod logs;
+pub mod next;
 mod permitted;
 mod queues;
 mod sorted;

@@ -31,8 +31,8 @@ fn is_join_of(role: &Role, event: &SharedEvent) -> bool
     }
 }
 
-// Whether the role joined.
-fn has_joined(role: &Role, log: &[SharedEvent]) -> bool
+/// Whether the role joined.
+pub fn has_joined(role: &Role, log: &[SharedEvent]) -> bool
     ensures { result ≡ logs.has_joined role.now log.now }
 {
     for event in log {

@@ -20,14 +20,26 @@ use std::alloc::{AllocError, Global};
 pub fn is_trace(alloc: Global, local: Local, actions: &[Action]) -> Result<bool, AllocError>
     ensures { IfOk result (λ is. IsTrue is ↔ IsTrace (local_of local) actions.now) }
 {
+    let left = left_after(alloc, local, actions)?;
+    Ok(left.is_some())
+}
+
+/// What these actions, one after another, leave of the local type, or `None` where the type cannot make them.
+pub fn left_after(
+    alloc: Global,
+    local: Local,
+    actions: &[Action],
+) -> Result<Option<Local>, AllocError>
+    ensures { IfOk result (spec.LeavesAfter (local_of local) actions.now) }
+{
     let mut left = local;
     for action in actions {
         match after(alloc, &left, action)? {
             Some(next) => left = next,
-            None => return Ok(false),
+            None => return Ok(None),
         }
     }
-    Ok(true)
+    Ok(Some(left))
 }
 
 // The continuation of the local type after the action, or `None` where the type cannot make it.
