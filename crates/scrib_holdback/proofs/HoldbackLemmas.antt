@@ -1,5 +1,5 @@
 -- What a holdback keeps.
-use Rattle.std.proofs.Common.{◌≡◌, ◌&&◌, Bool, true, false, ℕ, ◌+◌, ◌≤◌, List, [], ◌∷◌, ◌++◌, length, length-append, slice_get, Option, Some, None, MatchOption, refl, sym, ap, ◌∙◌, subst, arith}
+use Rattle.std.proofs.Common.{◌≡◌, ◌&&◌, ◌||◌, Bool, true, false, ℕ, ◌+◌, ◌≤◌, List, [], ◌∷◌, ◌++◌, drop, length, length-append, slice_get, Option, Some, None, MatchOption, refl, sym, ap, ◌∙◌, subst, arith}
 use Rattle.std.specs.List.{AllByRecursion}
 use Rattle.std.specs.Str.{bytes_eq}
 use Rattle.std.proofs.lemmas.Bool.{true≢false}
@@ -12,10 +12,10 @@ use Rattle.scrib_holdback.specs.declared.flights.Flight.{Flight}
 use Rattle.scrib_holdback.specs.Holdings.{Holding, PassesAlone}
 use Rattle.scrib_holdback.specs.Waiters.{Waiters}
 use Rattle.scrib_holdback.specs.Lanes.{HasNone, IsFirstItem, TakesFirst}
-use Rattle.scrib_holdback.specs.Releases.{IsReceivable, HasFlight, KeepsFlights, CountsEvent, SameCounts, own_items, HasDue, WaitsAt, IsDueAt, IsNextArrival, PassesAtOnce, IsQuietAt, is_send_to, IsTakenOut, IsTakenOnto, IsDrained, IsSound}
+use Rattle.scrib_holdback.specs.Releases.{IsReceivable, HasFlight, KeepsFlights, CountsEvent, SameCounts, own_items, HasDue, WaitsAt, IsDueAt, IsNextArrival, IsApart, PassesAtOnce, IsQuietAt, is_send_to, sends_to, IsTakenOut, IsTakenOnto, IsDrained, IsSound}
 use Rattle.scrib_holdback.proofs.OwnEvents.{name_itself, same_name}
 use Rattle.scrib_holdback.proofs.Positions.{all_here, all_without, all_weaker, all_pushed}
-use Rattle.scrib_holdback.proofs.ReleaseLemmas.{own_items-append, own_item_yes, drained_one, drained_none, pushes_passed}
+use Rattle.scrib_holdback.proofs.ReleaseLemmas.{own_items-append, own_item_yes, drained_one, drained_none, drop_behind, pushes_passed}
 
 -- an event sends one message at most
 sent_at_most : (p q : List ℕ) (e : Event) → length (sent p q (e ∷ [])) ≤ 1
@@ -86,6 +86,11 @@ sound_passed {A} event waiting now old mid new pushed e s same counts keeps coun
       distinct = kept.distinct (keeps.distinct s.distinct);
     }
 
+-- the same where no pair is added
+pub sound_counted : {A : Type 0} (event : A → Event) (waiting now : List A) (old new : List Flight) (pushed : ℕ) (e : Event) → IsSound event waiting old pushed → now ≡ waiting → CountsEvent e old new → KeepsFlights old new → IsSound event now new (pushed + 1)
+sound_counted event waiting now old new pushed e s same counted kept =
+    sound_passed event waiting now old old new pushed e s same (record { sends = λ p q. refl; receptions = λ p q. refl }) (record { has = λ f h. h; distinct = λ d. d }) counted kept
+
 -- the bounds after an arrival is counted that is not released
 pub sound_skipped : {A : Type 0} (event : A → Event) (waiting now : List A) (old new : List Flight) (pushed : ℕ) → IsSound event waiting old pushed → now ≡ waiting → new ≡ old → IsSound event now new (pushed + 1)
 sound_skipped {A} event waiting now old new pushed s same flights =
@@ -124,6 +129,35 @@ passes_alone {A} event e old new none same ready counted = λ x is released.
     pushes_passed event x old new new released (released ++ x ∷ []) (released ++ x ∷ []) (length released) k refl refl
     (drained_none event new (released ++ x ∷ []))
     (λ only r due. none_due event new r (ap (own_items event r) (same ∙ none)) due))
+
+-- the receiver of an item that was released alone
+sent_alone : {A : Type 0} (event : A → Event) (x : A) (e : Event) (released : List A) (r : List ℕ) → event x ≡ e → sends_to event r (drop (length released) (released ++ x ∷ [])) ≡ true → is_send_to r e ≡ true
+sent_alone event x e released r is some =
+    let behind : drop (length released) (released ++ x ∷ []) ≡ x ∷ [] = drop_behind released (x ∷ []) (released ++ x ∷ []) (length released) refl refl in
+    ap (is_send_to r) (sym is) ∙ or_nothing (is_send_to r (event x)) (subst (λ z. sends_to event r z ≡ true) behind some)
+  where
+    or_nothing : (b : Bool) → (b || false) ≡ true → b ≡ true
+    or_nothing true h = refl
+    or_nothing false h = h
+
+-- an arrival that passes where nothing waits of its role, nor of its receiver's
+pub passes_apart : {A : Type 0} (event : A → Event) (e : Event) (old new : Holding A) → IsApart event e old → new.waiting ≡ old.waiting → IsReceivable old.flights e → CountsEvent e old.flights new.flights → PassesAlone event e old new
+passes_apart {A} event e old new apart same ready counted = λ x is released.
+    (let next : IsNextArrival event (event x) old = record { none = subst (λ z. own_items event (subject_of z) old.waiting ≡ []) (sym is) apart.none; ready = subst (IsReceivable old.flights) (sym is) ready } in
+    let k : PassesAtOnce event x old new = record { next = next; waiting = same; counts = subst (λ z. CountsEvent z old.flights new.flights) (sym is) counted } in
+    pushes_passed event x old new new released (released ++ x ∷ []) (released ++ x ∷ []) (length released) k refl refl
+    (drained_none event new (released ++ x ∷ []))
+    (λ only r due. none_due event new r (ap (own_items event r) same ∙ apart.receivers r (sent_alone event x e released r is (only r due))) due))
+
+-- nothing waits of the role that a send is to
+pub none_for_receiver : {A : Type 0} (event : A → Event) (items : List A) (e : Event) (p q : List ℕ) (m : Message) → e ≡ Sent p q m → own_items event q items ≡ [] → (r : List ℕ) → is_send_to r e ≡ true → own_items event r items ≡ []
+none_for_receiver event items e p q m is none r to =
+    let at : bytes_eq r q ≡ true = ap (is_send_to r) (sym is) ∙ to in
+    ap (λ z. own_items event z items) (same_name r q at) ∙ none
+
+-- an event that was read is as far apart from what waits
+pub apart_read : {A : Type 0} (event : A → Event) (e f : Event) (old read : Holding A) → f ≡ e → read ≡ old → IsApart event f old → IsApart event e read
+apart_read event e f old read is same h = subst (λ z. IsApart event z read) is (subst (λ z. IsApart event f z) (sym same) h)
 
 -- what is due at a place, by the first item of its role
 pub due_at : {A : Type 0} (event : A → Event) (place : ℕ) (w : Waiters A) (flights : List Flight) (x : A) → IsFirstItem event place w x → IsReceivable flights (event x) → IsDueAt event record { roles = w.roles; waiting = w.items; flights = flights } place

@@ -56,6 +56,12 @@ pub record SameCounts (old new : List Flight) : Type 0 where
 abbrev pub own_items : {A : Type 0} → (A → Event) → List ℕ → List A → List A
 own_items event r items = filter (λ x. is_own r (event x)) items
 
+-- the event is a send to the role
+abbrev pub is_send_to : List ℕ → Event → Bool
+is_send_to r (Join s) = false
+is_send_to r (Sent p q m) = bytes_eq r q
+is_send_to r (Received p q m) = false
+
 -- the first waiting item of the role is ready
 pub record HasDue {A : Type 0} (event : A → Event) (r : List ℕ) (h : Holding A) : Type 0 where
   pub x : A
@@ -85,6 +91,11 @@ pub record IsOldestOfRole {A : Type 0} (event : A → Event) (h : Holding A) (pl
 pub record IsNextArrival {A : Type 0} (event : A → Event) (e : Event) (h : Holding A) : Type 0 where
   pub none : own_items event (subject_of e) h.waiting ≡ []
   pub ready : IsReceivable h.flights e
+
+-- nothing waits of the event's role, nor of the role that it is sent to
+pub record IsApart {A : Type 0} (event : A → Event) (e : Event) (h : Holding A) : Type 0 where
+  pub none : own_items event (subject_of e) h.waiting ≡ []
+  pub receivers : (r : List ℕ) → is_send_to r e ≡ true → own_items event r h.waiting ≡ []
 
 -- no role has an item that may be released
 abbrev pub IsQuiet : {A : Type 0} → (A → Event) → Holding A → Type 0
@@ -133,12 +144,6 @@ pub record IsTakenOnto {A : Type 0} (event : A → Event) (place : ℕ) (old new
   pub role : slice_get old.roles place ≡ Some (subject_of (event x))
   pub taken : IsTakenOut event old new x
   pub appended : now ≡ released ++ x ∷ []
-
--- the event is a send to the role
-abbrev pub is_send_to : List ℕ → Event → Bool
-is_send_to r (Join s) = false
-is_send_to r (Sent p q m) = bytes_eq r q
-is_send_to r (Received p q m) = false
 
 -- some of the items is a send to the role
 abbrev pub sends_to : {A : Type 0} → (A → Event) → List ℕ → List A → Bool

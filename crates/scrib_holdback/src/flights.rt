@@ -1,6 +1,6 @@
 //! How many messages were sent and received on each pair of roles.
 
-ghost use Rattle.std.specs.Prelude.{◌≡◌, ◌<◌, ◌+◌, ◌^◌, ◌↔◌, ℕ, List, IsTrue, IsSome, IsNone, IfOk, MatchOption, OnErr, OnOk, None, Some, position};
+ghost use Rattle.std.specs.Prelude.{◌≡◌, ◌<◌, ◌+◌, ◌^◌, ◌↔◌, ℕ, List, IsTrue, IsSome, IsNone, IfOk, IfSome, MatchOption, OnErr, OnOk, None, Some, position};
 ghost use Rattle.std.specs.List.{list_any};
 ghost use Rattle.scrib_holdback.specs.Holdings.{is_between, received_on, sent_on};
 ghost use Rattle.scrib_holdback.specs.Releases.{AreDistinctFlights, CountsEvent, HasFlight, IsFlightOf, IsPairAt, IsReceivable, KeepsFlights, SameCounts};
@@ -104,6 +104,23 @@ pub(crate) fn count_ready(flights: &mut Vec<Flight>, hint: usize, event: &Event)
     Some(place)
 }
 
+/// The index of the event's flight, if the event may happen next. Returns `None` also where the flight is missing. The
+/// hint is as in [`is_ready`].
+#[inline(always)]
+pub(crate) fn ready_flight(flights: &[Flight], hint: usize, event: &Event) -> Option<usize>
+    requires { AreDistinctFlights flights.now }
+    ensures at { IfSome result (IsFlightOf event.now flights.now) }
+    ensures ready { IsSome result → IsReceivable flights.now event.now }
+{
+    let Some(place) = flight_of(flights, hint, event) else {
+        return None;
+    };
+    if !is_ready_at(flights, place, event) {
+        return None;
+    }
+    Some(place)
+}
+
 // Counts the event, if it is a send, the first on its pair. Returns the index of the flight that it adds. Returns
 // `None` also where there is no memory for the flight.
 #[inline(never)]
@@ -153,9 +170,9 @@ fn is_ready_at(flights: &[Flight], place: usize, event: &Event) -> bool
     }
 }
 
-// Counts the event, whose flight is at this index.
+/// Counts the event, whose flight is at this index.
 #[inline(always)]
-fn count_at(flights: &mut [Flight], place: usize, event: &Event)
+pub(crate) fn count_at(flights: &mut [Flight], place: usize, event: &Event)
     requires at { IsFlightOf event.now flights.old place }
     requires sends { (p q : List ℕ) → sent_on p q flights.old + 1 < 2 ^ 64 }
     requires receptions { (p q : List ℕ) → received_on p q flights.old + 1 < 2 ^ 64 }

@@ -4,11 +4,11 @@ ghost use Rattle.std.specs.Prelude.{◌≡◌, ◌+◌, ◌<◌, ◌≤◌, ◌+
 ghost use Rattle.scrib_holdback.specs.FalseAlarms.{RaisesNoFalseAlarm};
 ghost use Rattle.scrib_holdback.specs.HoldBack.{IsHeldBack};
 ghost use Rattle.scrib_holdback.specs.Holdings.{IsAfter, IsExpired, IsOldestWaiting, IsPushed, IsSameAfterAny, PassesAlone};
-ghost use Rattle.scrib_holdback.specs.Releases.{HasDue, IsAppended, IsDrained, IsDueAt, IsNextArrival, IsOldestOfRole, PassesAtOnce, IsQuiet, IsQuietAt, IsReceivable, IsSameHolding, IsTakenOnto, OnlyReceivers, WaitsAt, is_send_to};
+ghost use Rattle.scrib_holdback.specs.Releases.{HasDue, IsAppended, IsApart, IsDrained, IsDueAt, IsNextArrival, IsOldestOfRole, PassesAtOnce, IsQuiet, IsQuietAt, IsReceivable, IsSameHolding, IsTakenOnto, OnlyReceivers, WaitsAt, is_send_to, own_items};
 ghost use Rattle.scrib_holdback.specs.Reorderings.{IsReordering};
 
 use crate::arrival::Arrival;
-use crate::flights::{Flight, count, count_ready, is_ready, reserve};
+use crate::flights::{Flight, count, count_at, count_ready, is_ready, ready_flight, reserve};
 use crate::pair_hints::PairHints;
 use crate::waiting::Waiting;
 use scrib_types::event::Event;
@@ -59,16 +59,17 @@ impl<A: Arrival> Holdback<A> {
         }
     }
 
-    /// Takes the next arrival by its event alone, if it is released at once and nothing waits. The arrival isn't moved.
-    /// Returns whether it is so. If not, nothing changes, and [`Holdback::push`] has to take the arrival. It returns
-    /// `false` also where the arrival is the first message on its pair, and memory is refused.
+    /// Takes the next arrival by its event alone, if it is released at once and nothing waits of its role, nor of the role
+    /// that it is sent to. The arrival isn't moved. Returns whether it is so. If not, nothing changes, and
+    /// [`Holdback::push`] has to take the arrival. It returns `false` also where memory is refused, and where the arrival
+    /// is the first message on its pair while something waits.
     #[inline(always)]
     pub fn try_pass(&mut self, event: &SharedEvent) -> bool
         ensures passed { IsTrue result → PassesAlone A.event event.now self.old self.new }
         ensures same { IsFalse result → self.new ≡ self.old }
     {
         if !self.waiting.is_idle() {
-            return false;
+            return self.try_pass_among(event);
         }
         let hint = self.hints.hint(event);
         let Some(place) = count_ready(&mut self.flights, hint, event.get()) else {
@@ -150,6 +151,48 @@ impl<A: Arrival> Holdback<A> {
     {
         let waiting = self.waiting.into_vec()?;
         Ok(waiting)
+    }
+
+    // The same where something waits.
+    #[inline(never)]
+    fn try_pass_among(&mut self, event: &SharedEvent) -> bool
+        ensures passed { IsTrue result → PassesAlone A.event event.now self.old self.new }
+        ensures same { IsFalse result → self.new ≡ self.old }
+    {
+        let unshared = event.get();
+        if !self.is_apart(unshared) {
+            return false;
+        }
+        let hint = self.hints.hint(event);
+        let Some(place) = ready_flight(&self.flights, hint, unshared) else {
+            return false;
+        };
+        let Ok(()) = self.waiting.skip() else {
+            return false;
+        };
+        count_at(&mut self.flights, place, unshared);
+        self.hints.renew(event, hint, place);
+        true
+    }
+
+    // Whether nothing waits of the event's role, nor of the role that it is sent to.
+    #[inline(always)]
+    fn is_apart(&self, event: &Event) -> bool
+        ensures { IsTrue result → IsApart A.event event.now self.now }
+    {
+        self.has_idle_receiver(event) && self.waiting.has_none(event.subject())
+    }
+
+    // Whether nothing waits of the role that the event is sent to. Only a send is sent.
+    #[inline(always)]
+    fn has_idle_receiver(&self, event: &Event) -> bool
+        ensures { IsTrue result → (r : List ℕ) → is_send_to r event.now ≡ true
+            → own_items A.event r self.now.waiting ≡ [] }
+    {
+        match event {
+            Event::Sent { to, .. } => self.waiting.has_none(to),
+            Event::Join { .. } | Event::Received { .. } => true,
+        }
     }
 
     // The place of the oldest arrival's role.

@@ -115,6 +115,7 @@ impl<A: Arrival> Waiting<A> {
     /// # Errors
     /// `AllocError` where memory is refused. Nothing changes. While nothing waits it takes none.
     pub(crate) fn skip(&mut self) -> Result<(), AllocError>
+        ensures roles { self.new.roles ≡ self.old.roles }
         ensures items { self.new.items ≡ self.old.items }
         ensures pushed { self.new.pushed ≡ (if is_ok result then self.old.pushed + 1 else self.old.pushed) }
         ensures fits { OnOk result (self.new.pushed < 2 ^ 64) }
@@ -151,6 +152,7 @@ impl<A: Arrival> Waiting<A> {
     }
 
     /// Whether nothing of the role waits.
+    #[inline(always)]
     pub(crate) fn has_none(&self, role: &Role) -> bool
         ensures { IsTrue result ↔ (own_items A.event role.now self.now.items ≡ []) }
     {
