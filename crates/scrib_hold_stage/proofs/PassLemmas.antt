@@ -1,5 +1,6 @@
 -- Events that are released at once and alone, at entries at which nothing expires.
 use Rattle.std.proofs.Common.{◌≡◌, ◌∙◌, zero, suc, ℕ, ◌+◌, ◌-◌, ◌^◌, ◌<◌, ◌≤◌, min, ltb, true, List, [], ◌∷◌, ◌++◌, Some, length, slice_get, refl, sym, ap, subst, inl, inr, arith}
+use Rattle.std.specs.List.{AllByRecursion}
 use Rattle.std.specs.Map.{values_of}
 use Rattle.std.proofs.lemmas.Bool.{cases_Bool, ltb-true, ltb-false}
 use Rattle.indexmap.specs.Layout.{set_value_at}
@@ -8,15 +9,16 @@ use Rattle.scrib_holdback.specs.Holdings.{PassesAlone}
 use Rattle.scrib_hold_stage.specs.declared.noted.Noted.{Noted}
 use Rattle.scrib_hold_stage.specs.declared.conversation.Conversation.{Conversation}
 use Rattle.scrib_hold_stage.specs.declared.deadlines.Deadline.{Deadline}
-use Rattle.scrib_hold_stage.specs.Entries.{note}
-use Rattle.scrib_hold_stage.specs.Conversations.{noted_event, PassesAloneIn}
+use Rattle.scrib_hold_stage.specs.Entries.{Entry, note}
+use Rattle.scrib_hold_stage.specs.Conversations.{noted_event, waiting_at, IsNotOldest, PassesAloneIn}
 use Rattle.scrib_hold_stage.specs.Changes.{Conversations, conversation_at, LeavesOthers, IsPushedOf, PassesAloneOf}
 use Rattle.scrib_hold_stage.specs.Deadlines.{StartsAfter, StartsLate}
 use Rattle.scrib_hold_stage.specs.Stages as stages
-use Rattle.scrib_hold_stage.specs.Stages.{StageState, IsRead}
+use Rattle.scrib_hold_stage.specs.Stages.{StageState, HasStaged, IsRead}
 use Rattle.scrib_hold_stage.specs.Steps.{IsRipened}
 use Rattle.scrib_hold_stage.proofs.ConversationLemmas.{pushed_open}
 use Rattle.scrib_hold_stage.proofs.MapLemmas.{met_before, pushed_of}
+use Rattle.scrib_hold_stage.proofs.StageLemmas.{deadline_skipped}
 use Rattle.scrib_hold_stage.proofs.StepLemmas.{expiring_none, ripened, unripe, read_of}
 use Rattle.scrib_hold_stage.proofs.TakeLemmas.{taken_at_once}
 
@@ -73,3 +75,37 @@ passes_alone {A} event id e old new small p b t d n g late = λ arrival is relea
     (subst (λ z. StartsLate new.time z old.deadlines) (sym b) (subst (λ z. StartsLate z old.bound old.deadlines) (sym t) late)) in
     read_of event (note id (old.time + 1) arrival) old new new new released (released ++ x ∷ []) (released ++ x ∷ []) taken
     (none_late event new (released ++ x ∷ []) quiet) refl)
+
+-- ---- a deadline passes whose event waits no more
+
+dropped : {A : Type 0} (event : A → Event) (old new : StageState A) (d : Deadline) → old.deadlines ≡ d ∷ new.deadlines → new.bound ≡ old.bound → new.time ≡ old.time → new.conversations ≡ old.conversations → new.events ≡ old.events → new.expired ≡ old.expired
+    → IsNotOldest d.time (conversation_at old.conversations d.conversation) → (bound : ℕ) (entries : List (Entry A)) (earlier expired : List (Noted A)) → HasStaged event bound entries earlier expired old → HasStaged event bound entries earlier expired new
+dropped {A} event old new d was b t c e g other bound entries earlier expired a = record {
+  kept = deadline_skipped event bound entries earlier expired old new a.kept d was b t e g other (λ k. ap (λ (z : Conversations A). conversation_at z k) c);
+  aged = a.aged;
+  fresh = λ id. subst (λ (z : Conversations A). AllByRecursion (λ (x : Noted A). length entries < x.time + bound) (waiting_at (conversation_at z id))) (sym c) (a.fresh id);
+}
+
+-- an entry is read after that
+read_after : {A : Type 0} (event : A → Event) (entry : Entry A) (old mid new : StageState A) (released now : List (Noted A))
+    → ((bound : ℕ) (entries : List (Entry A)) (earlier expired : List (Noted A)) → HasStaged event bound entries earlier expired old → HasStaged event bound entries earlier expired mid)
+    → IsRead event entry mid new released now → IsRead event entry old new released now
+read_after event entry old mid new released now to r = record {
+  given = r.given;
+  late = r.late;
+  gone = r.gone;
+  appended = r.appended;
+  in_turn = λ bound entries earlier expired a. r.in_turn bound entries earlier expired (to bound entries earlier expired a);
+  after = λ bound entries earlier expired a. r.after bound entries earlier expired (to bound entries earlier expired a);
+}
+
+pub passes_beside : {A : Type 0} (event : A → Event) (id : ℕ) (e : Event) (old new : StageState A) (d : Deadline) → old.deadlines ≡ d ∷ new.deadlines → IsNotOldest d.time (conversation_at old.conversations d.conversation)
+    → old.time + 1 < 2 ^ 64 → PassesAloneOf event id e old.conversations new.conversations
+    → new.bound ≡ old.bound → new.time ≡ old.time + 1 → new.events ≡ min (old.events + 1) (2 ^ 64 - 1) → new.expired ≡ old.expired
+    → StartsLate (old.time + 1) old.bound new.deadlines → stages.PassesStageAlone event id e old new
+passes_beside {A} event id e old new d was other small p b t n g late = λ arrival is released.
+    (let mid : StageState A = record old { deadlines = new.deadlines } in
+    let x : Noted A = record { conversation = id; time = old.time + 1; arrival = arrival } in
+    read_after event (note id (old.time + 1) arrival) old mid new released (released ++ x ∷ [])
+    (dropped event old mid d was refl refl refl refl refl other)
+    (passes_alone event id e mid new small p b t refl n g late arrival is released))

@@ -51,8 +51,8 @@ impl<A: Arrival> Conversation<A> {
         Ok(())
     }
 
-    /// Takes the next event by itself, if it is released at once and nothing waits. Returns whether it is so. If not,
-    /// nothing changes.
+    /// Takes the next event by itself, if `scrib_holdback` releases it at once, and nothing else. Returns whether it is so.
+    /// If not, nothing changes.
     #[inline(always)]
     pub(crate) fn try_pass(&mut self, event: &SharedEvent) -> bool
         ensures passed { IsTrue result → PassesAloneIn A.event event.now self.old self.new }
@@ -111,8 +111,9 @@ impl<A: Arrival> Conversation<A> {
         Ok(true)
     }
 
-    // Whether the oldest event that waits is of this time.
-    fn is_oldest(&self, time: u64) -> bool
+    /// Whether the oldest event that waits is of this time.
+    #[inline(always)]
+    pub(crate) fn is_oldest(&self, time: u64) -> bool
         ensures yes { IsTrue result → IsOldestOfTime time (Some self.now) }
         ensures no { IsFalse result → IsNotOldest time (Some self.now) }
     {

@@ -103,6 +103,24 @@ pub(crate) fn release_at<A: Arrival>(
     conversation.release_at(time, released)
 }
 
+/// Whether the oldest event that waits in the conversation, if there is one, is of another time.
+#[inline(always)]
+pub(crate) fn is_not_oldest<A: Arrival>(
+    conversations: &IndexMap<u32, Conversation<A>>,
+    id: u32,
+    time: u64,
+) -> bool
+    ensures { IsTrue result → IsNotOldest time (conversation_at conversations.now.entries id) }
+{
+    let Some(place) = place_of(conversations, id) else {
+        return true;
+    };
+    match conversations.get_index(place) {
+        Some((key, conversation)) if *key == id => !conversation.is_oldest(time),
+        _ => false,
+    }
+}
+
 // Returns the place of the conversation, which is added where it was not met.
 fn meet<A: Arrival>(
     conversations: &mut IndexMap<u32, Conversation<A>>,

@@ -1,6 +1,6 @@
 //! When events that wait expire.
 
-ghost use Rattle.std.specs.Prelude.{◌≡◌, ◌≤◌, ◌∷◌, IfSome, IsTrue, None};
+ghost use Rattle.std.specs.Prelude.{◌≡◌, ◌≤◌, ◌∷◌, IfSome, IsTrue, None, drop};
 ghost use Rattle.scrib_hold_stage.specs.Deadlines.{StartsAfter, StartsLate};
 
 use std::collections::VecDeque;
@@ -32,6 +32,29 @@ pub(crate) fn none_due(deadlines: &VecDeque<Deadline>, time: u64, bound: u64) ->
 {
     match deadlines.front() {
         Some(first) => time.saturating_sub(bound) < first.time,
+        None => true,
+    }
+}
+
+/// The first deadline, if no other is of an event that expires at this time.
+#[inline(always)]
+pub(crate) fn only_due(deadlines: &VecDeque<Deadline>, time: u64, bound: u64) -> Option<&Deadline>
+    ensures first { IfSome result (λ d. deadlines.now.items ≡ d.now ∷ drop 1 deadlines.now.items) }
+    ensures late { IfSome result (λ _. StartsLate time bound (drop 1 deadlines.now.items)) }
+{
+    if !is_second_late(deadlines, time, bound) {
+        return None;
+    }
+    deadlines.front()
+}
+
+// Whether the event of the second deadline does not expire at this time.
+#[inline(always)]
+fn is_second_late(deadlines: &VecDeque<Deadline>, time: u64, bound: u64) -> bool
+    ensures { IsTrue result → StartsLate time bound (drop 1 deadlines.now.items) }
+{
+    match deadlines.get(1) {
+        Some(second) => time.saturating_sub(bound) < second.time,
         None => true,
     }
 }

@@ -8,8 +8,8 @@ ghost use Rattle.scrib_hold_stage.specs.Stages.{HasStaged, IsFinished, IsRead, P
 ghost use Rattle.scrib_hold_stage.specs.Steps.{IsExpiring, IsDeadlinePassed, IsRipened, IsEntryTaken};
 
 use crate::conversation::Conversation;
-use crate::conversations::{open, pass_to, push_to, release_at};
-use crate::deadlines::{Deadline, none_due, pop_due};
+use crate::conversations::{is_not_oldest, open, pass_to, push_to, release_at};
+use crate::deadlines::{Deadline, none_due, only_due, pop_due};
 use crate::noted::Noted;
 use indexmap::IndexMap;
 use scrib_holdback::arrival::Arrival;
@@ -96,8 +96,8 @@ impl<A: Arrival> HoldStage<A> {
     }
 
     /// Reads an entry that is an event of the conversation by the event alone, in the usual case: the event is released
-    /// at once, nothing of its conversation waits, and nothing expires. The event isn't moved. Returns whether it is so.
-    /// If not, nothing is read, and [`HoldStage::push`] has to read the entry. So it is also where memory is refused.
+    /// at once, and nothing else is. The event isn't moved. Returns whether it is so. If not, nothing is read, and
+    /// [`HoldStage::push`] has to read the entry. So it is also where memory is refused.
     #[inline(always)]
     pub fn try_pass(&mut self, conversation: u32, event: &SharedEvent) -> bool
         ensures passed { IsTrue result
@@ -108,11 +108,34 @@ impl<A: Arrival> HoldStage<A> {
             return false;
         };
         if !none_due(&self.deadlines, time, self.bound) {
+            return self.pass_beside_deadline(time, conversation, event);
+        }
+        if !pass_to(&mut self.conversations, conversation, event) {
+            return false;
+        }
+        self.time = time;
+        self.counts.events = self.counts.events.saturating_add(1);
+        true
+    }
+
+    // The same at the time of a deadline, if it is the only one, and its event was released before. The deadline passes.
+    #[inline(never)]
+    fn pass_beside_deadline(&mut self, time: u64, conversation: u32, event: &SharedEvent) -> bool
+        requires { time ≡ self.old.time + 1 }
+        ensures passed { IsTrue result
+            → PassesStageAlone A.event conversation event.now (stage_state self.old) (stage_state self.new) }
+        ensures same { IsFalse result → stage_state self.new ≡ stage_state self.old }
+    {
+        let Some(deadline) = only_due(&self.deadlines, time, self.bound) else {
+            return false;
+        };
+        if !is_not_oldest(&self.conversations, deadline.conversation, deadline.time) {
             return false;
         }
         if !pass_to(&mut self.conversations, conversation, event) {
             return false;
         }
+        let _passed = self.deadlines.pop_front();
         self.time = time;
         self.counts.events = self.counts.events.saturating_add(1);
         true
