@@ -1,10 +1,9 @@
 //! The exchanges of a protocol, by number.
 
-ghost use Rattle.std.specs.Prelude.{◌≡◌, IfOk, IfSome, None};
+ghost use Rattle.std.specs.Prelude.{◌≡◌, ◌≤◌, IfOk, IfSome, None};
 ghost use Rattle.scrib_record.specs.Exchanges as spec;
 
 use scrib_types::event::Event;
-use scrib_types::hashing::{empty_slots, slot_of};
 use scrib_types::shared_event::SharedEvent;
 use scrib_types::shared_message::SharedMessage;
 use std::alloc::{AllocError, Global};
@@ -77,17 +76,22 @@ pub struct Located {
 #[derive(Drop)]
 pub struct Exchanges {
     list: Vec<Exchange>,
-    // The number of each exchange, in the first free slot from that of its hash on. Correctness does not depend on it.
-    slots: Vec<Option<usize>>,
+    // The number of each exchange, in the first free slot from that of its hash on. The other slots hold a number that
+    // no exchange has. Correctness does not depend on them.
+    slots: Vec<usize>,
+    // The last slot. The number of slots is a power of two.
+    last_slot: usize,
 }
 
 impl Model for Exchanges {
-    ghost use Rattle.std.specs.Prelude.{List};
+    ghost use Rattle.std.specs.Prelude.{◌<◌, List, length};
     ghost use Rattle.scrib_record.specs.declared.exchanges.Exchange.{Exchange};
 
     ghost Value = { List Exchange };
 
     ghost view = { λ e. e.list.items };
+
+    ghost invariant = { λ e. e.last_slot < length e.slots.items };
 }
 
 impl Exchanges {
@@ -98,10 +102,18 @@ impl Exchanges {
     pub fn from_vec(alloc: Global, list: Vec<Exchange>) -> Result<Exchanges, AllocError>
         ensures { IfOk result (λ exchanges. exchanges ≡ list.items) }
     {
-        let count = list.len().saturating_mul(2).max(FEWEST_SLOTS);
-        let empty = empty_slots(alloc, count.next_power_of_two())?;
-        let slots = slots_of(&list, empty);
-        Ok(Exchanges { list, slots })
+        let count = list
+            .len()
+            .saturating_mul(2)
+            .max(FEWEST_SLOTS)
+            .next_power_of_two();
+        let mut slots = vec![in alloc; list.len(); count]?;
+        enter_all(&list, slots.as_mut_slice());
+        Ok(Exchanges {
+            list,
+            slots,
+            last_slot: count - 1,
+        })
     }
 
     /// Returns the exchanges, in the order of their numbers.
@@ -112,9 +124,22 @@ impl Exchanges {
         self.list.as_slice()
     }
 
-    /// Returns the exchange of which the event is the send or the reception, if there is one.
+    /// Returns the exchange of which the event is the send or the reception, if there is one. Most are in the first slot
+    /// of their hash.
     #[inline(always)]
     pub fn find(&self, event: &SharedEvent) -> Option<Located>
+        ensures found { IfSome result (spec.IsLocated self.now event.now) }
+        ensures absent { result ≡ None → spec.IsAbsent self.now event.now }
+    {
+        let first = slot_of(event.exchange_hash(), self.last_slot);
+        if let Some(located) = located_at(&self.list, self.slots[first], event) {
+            return Some(located);
+        }
+        self.find_further(event)
+    }
+
+    // Returns the exchange of which the event is the send or the reception, if there is one.
+    fn find_further(&self, event: &SharedEvent) -> Option<Located>
         ensures found { IfSome result (spec.IsLocated self.now event.now) }
         ensures absent { result ≡ None → spec.IsAbsent self.now event.now }
     {
@@ -127,48 +152,53 @@ impl Exchanges {
     }
 
     // Returns the number of an exchange with this hash, if the slots have one. It is only a hint.
-    #[inline(always)]
     fn hinted(&self, hash: u64) -> Option<usize> {
-        let mut slot = slot_of(hash, self.slots.len());
+        let mut slot = slot_of(hash, self.last_slot);
         for _ in 0..self.slots.len() {
-            let number = (*self.slots.get(slot)?)?;
+            let number = *self.slots.get(slot)?;
             if self.list.get(number)?.send.exchange_hash() == hash {
                 return Some(number);
             }
-            slot = next_slot(slot, self.slots.len());
+            slot = next_slot(slot, self.last_slot);
         }
         None
     }
 }
 
-// Returns the slots with the number of each exchange.
-fn slots_of(list: &[Exchange], empty: Vec<Option<usize>>) -> Vec<Option<usize>> {
-    let mut slots = empty;
+// Writes the number of each exchange into the slots, whose number is a power of two.
+fn enter_all(list: &[Exchange], slots: &mut [usize]) {
     for (number, exchange) in list.iter().enumerate() {
-        enter(&mut slots, exchange.send.exchange_hash(), number);
+        enter(slots, exchange.send.exchange_hash(), number, list.len());
     }
-    slots
 }
 
-// Writes the number into the first free slot from that of the hash on.
-fn enter(slots: &mut Vec<Option<usize>>, hash: u64, number: usize) {
-    let count = slots.len();
-    let mut slot = slot_of(hash, count);
-    for _ in 0..count {
+// Writes the number into the first slot from that of the hash on that holds `free`.
+fn enter(slots: &mut [usize], hash: u64, number: usize, free: usize) {
+    let last_slot = slots.len().saturating_sub(1);
+    let mut slot = slot_of(hash, last_slot);
+    for _ in 0..slots.len() {
         match slots.get_mut(slot) {
-            Some(free) if free.is_none() => {
-                *free = Some(number);
+            Some(held) if *held == free => {
+                *held = number;
                 return;
             }
-            _ => slot = next_slot(slot, count),
+            _ => slot = next_slot(slot, last_slot),
         }
     }
 }
 
-// Returns the slot after this one, in a table of `count` slots, a power of two.
+// Returns the slot of an exchange with this hash, in a table of which this is the last one.
 #[inline(always)]
-fn next_slot(slot: usize, count: usize) -> usize {
-    slot.wrapping_add(1) & count.saturating_sub(1)
+fn slot_of(hash: u64, last_slot: usize) -> usize
+    ensures { result ≤ last_slot }
+{
+    (hash >> 32) as usize & last_slot
+}
+
+// Returns the slot after this one, in a table of which this is the last one.
+#[inline(always)]
+fn next_slot(slot: usize, last_slot: usize) -> usize {
+    slot.wrapping_add(1) & last_slot
 }
 
 // Returns the exchange of this number, if the event is its send or its reception.

@@ -1,7 +1,7 @@
 use Rattle.std.proofs.Common.{◌∙◌, List, subst, sym}
 use Rattle.scrib_record.specs.declared.exchanges.Exchange.{Exchange}
 use Rattle.scrib_record.specs.Exchanges.{IsNumberOf}
-use Rattle.scrib_record.proofs.exchanges.Exchanges.find.Goals as goal
+use Rattle.scrib_record.proofs.exchanges.Exchanges.find_further.Goals as goal
 
 pub returns-clause-absent : goal.returns-clause-absent
 returns-clause-absent c e k h =
