@@ -1,7 +1,7 @@
 -- The results of a configuration at an event.
-use Rattle.std.proofs.Common.{◌≡◌, ◌↔◌, Bool, true, false, not, ℕ, ◌<◌, List, [], ◌∷◌, ◌++◌, Option, Some, None, Contains, length, get_or, nat_lt, set, slice_get, refl, sym, ap, subst, ◌∙◌, arith}
+use Rattle.std.proofs.Common.{◌≡◌, Bool, true, false, not, ℕ, ◌<◌, List, [], ◌∷◌, ◌++◌, Option, Some, None, Contains, length, get_or, nat_lt, set, slice_get, refl, sym, ap, subst, ◌∙◌, arith}
 use Rattle.std.proofs.lemmas.Bool.{true≢false, ltb-true}
-use Rattle.std.proofs.lemmas.Option.{slice_get_read}
+use Rattle.std.proofs.lemmas.Option.{same_Some, slice_get_read}
 use Rattle.scrib_types.specs.declared.message.Message.{Message}
 use Rattle.scrib_types.specs.declared.event.Action.{Action}
 use Rattle.scrib_types.specs.declared.event.Action.TheVariants.{Sends, Receives}
@@ -18,10 +18,10 @@ use Rattle.scrib_record.specs.RoleMachines.{AreMachinesOf}
 use Rattle.scrib_record.specs.Following.{MayAct, MayFollow}
 use Rattle.scrib_record.specs.declared.numbered_edge.NumberedEdge.TheVariants as edges
 use Rattle.scrib_record.specs.Configurations.{AreFlying, AreQueued, LeadsTo, IsBetween, IsNumberedBy, IsAtFront, IsNext, exchanges_of, flight_of, in_flight, message_at}
-use Rattle.scrib_record.specs.Exchanges.{IsNumberOf, IsAbsent, Numbered, IsNumberingOf, row_at}
+use Rattle.scrib_record.specs.Exchanges.{IsNumberOf, IsAbsent, HasRow, Numbered, IsNumberingOf, row_at}
 use Rattle.scrib_record.specs.Places.{place_in}
 use Rattle.scrib_record.proofs.FlightLemmas.{others_same, pushed, taken, queued_pushed, queued_taken}
-use Rattle.scrib_record.proofs.NumberingLemmas.{same_number, is_row, send_steps, reception_steps, numbered_send, numbered_reception}
+use Rattle.scrib_record.proofs.NumberingLemmas.{same_number, is_row, has_row, send_steps, reception_steps, numbered_send, numbered_reception}
 use Rattle.scrib_record.proofs.RolePlaces.{place_at, place_for, place_role, place_within, not_declared, is_declared}
 use Rattle.scrib_record.proofs.MachineLemmas.{valid}
 use Rattle.scrib_record.proofs.Partners.{acts_among}
@@ -37,6 +37,12 @@ read_at xs known i x same n is = ap (λ ys. slice_get ys i) (sym same) ∙ slice
 
 pub role_state_read : (a : Agreement) (ms : List (List (List Edge))) (log : List Event) (c : Configuration) (r : List ℕ) (i : ℕ) (s : RoleState) → LeadsTo a ms log c → place_in a.roles r ≡ Some i → s ≡ get_or c.role_states.items i s → slice_get c.role_states.items i ≡ Some s
 role_state_read a ms log c r i s st e is = read_at c.role_states.items c.role_states.items i s refl (role_state_within a ms log c r i st e) is
+
+-- a role that had joined when its state was read has joined when it is read again
+pub joined_again : (a : Agreement) (ms : List (List (List Edge))) (log : List Event) (c : Configuration) (r : List ℕ) (i : ℕ) (s t : RoleState) → LeadsTo a ms log c → place_in a.roles r ≡ Some i → s ≡ get_or c.role_states.items i s → t ≡ get_or c.role_states.items i t → s.joined ≡ true → t.joined ≡ true
+joined_again a ms log c r i s t st e is again j =
+    let same : t ≡ s = same_Some t s (sym (role_state_read a ms log c r i t st e again) ∙ role_state_read a ms log c r i s st e is) in
+    ap (λ (x : RoleState). x.joined) same ∙ j
 
 pub machine_read : (a : Agreement) (ms xs : List (List (List Edge))) (r : List ℕ) (i : ℕ) (m : List (List Edge)) → AreMachinesOf a ms → xs ≡ ms → place_in a.roles r ≡ Some i → m ≡ get_or xs i m → slice_get ms i ≡ Some m
 machine_read a ms xs r i m w same e is =
@@ -139,6 +145,10 @@ at_state a ms log c r i s st e is =
     let here = role_state_read a ms log c r i s st e is in
     let t = role_state_for a ms log c.role_states.items r i s st.states_are e here in
     (t.machine, t.runs, is_at a ms log c r i s t.machine st.follow st e here t.runs)
+
+-- the machine of a role has a row for its state
+pub row_there : (a : Agreement) (ms : List (List (List Edge))) (log : List Event) (n : Numbered) (r : List ℕ) (i : ℕ) (s : RoleState) (f : List (List Edge)) → IsNumberingOf a.roles ms n.exchanges n.machines → IsAt a ms log r i s f → slice_get ms i ≡ Some f → HasRow n.machines i s.state
+row_there a ms log n r i s f w at runs = has_row a.roles ms n r i s.state f w (place_role a.roles r i at.place) runs (state_within a ms log r i s f at)
 
 -- the role acts somewhere
 acts_somewhere : (a : Agreement) (ms : List (List (List Edge))) (log : List Event) (c : Configuration) (r : List ℕ) (act : Action) → LeadsTo a ms log c → MayAct a log r act → IsSomewhere a ms log r

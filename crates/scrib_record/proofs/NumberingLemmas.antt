@@ -1,7 +1,6 @@
 -- Exchanges by number, and the edges of machines by the numbers of their exchanges.
-use Rattle.std.proofs.Common.{◌≡◌, ◌⊎◌, ℕ, zero, suc, ◌+◌, ◌<◌, List, [], ◌∷◌, ◌++◌, Option, Some, None, Contains, length, get_or, slice_get, refl, sym, ap, subst, ◌∙◌, inl, inr, arith}
+use Rattle.std.proofs.Common.{◌≡◌, ℕ, zero, suc, ◌<◌, List, [], ◌∷◌, ◌++◌, Some, Contains, length, get_or, slice_get, refl, sym, ap, subst, ◌∙◌, arith}
 use Rattle.std.specs.List.{AllZip}
-use Rattle.std.proofs.lemmas.List.{get_or_default}
 use Rattle.std.proofs.lemmas.Option.{same_Some, get_or_from_slice_get, slice_get_within}
 use Rattle.scrib_types.specs.declared.message.Message.{Message}
 use Rattle.scrib_types.specs.declared.event.Action.{Action}
@@ -18,7 +17,7 @@ use Rattle.scrib_record.specs.declared.exchanges.Located.{Located}
 use Rattle.scrib_record.specs.declared.numbered_edge.NumberedEdge.{NumberedEdge}
 use Rattle.scrib_record.specs.declared.numbered_edge.NumberedEdge.TheVariants.{Joins, Sends, Receives}
 use Rattle.scrib_record.specs.Configurations.{IsBetween, message_at, message_in}
-use Rattle.scrib_record.specs.Exchanges.{IsExchange, IsNumberOf, IsLocated, IsAbsent, AreExchanges, IsEdge, AreRows, Numbered, IsNumberingOf, row_of, row_at}
+use Rattle.scrib_record.specs.Exchanges.{IsNumberOf, IsLocated, AreExchanges, IsEdge, HasRow, Numbered, IsNumberingOf, row_of, row_at}
 use Rattle.scrib_record.specs.Places.{place_in}
 use Rattle.scrib_record.proofs.RolePlaces.{same_role}
 
@@ -126,6 +125,20 @@ is_row roles ms n role i s m w here at within =
     some_at [] i h = absurd (omega arith)
     some_at (x ∷ xs) zero h = (x, refl)
     some_at (x ∷ xs) (suc i) h = some_at xs i (omega arith)
+
+-- the machine at the place of a role has rows, one for each state
+pub has_row : (roles : List (List ℕ)) (ms : List (List (List Edge))) (n : Numbered) (role : List ℕ) (i s : ℕ) (m : List (List Edge)) → IsNumberingOf roles ms n.exchanges n.machines → slice_get roles i ≡ Some role → slice_get ms i ≡ Some m → s < length m → HasRow n.machines i s
+has_row roles ms n role i s m w here at within =
+    let rows = w.rows i role m here at in
+    let rows_are : get_or n.machines i [] ≡ rows.0 = get_or_from_slice_get n.machines i rows.0 [] rows.1 in
+    let long : length (get_or n.machines i []) ≡ length m = ap length rows_are ∙ zip_length (AllZip (IsEdge n.exchanges role)) rows.0 m rows.2 in
+    record { place_within = slice_get_within n.machines i rows.0 rows.1; state_within = omega (arith, long, within) }
+  where
+    zip_length : {A B : Type 0} (R : A → B → Type 0) (xs : List A) (ys : List B) → AllZip R xs ys → length xs ≡ length ys
+    zip_length R [] [] z = refl
+    zip_length R [] (y ∷ ys) z = absurd z
+    zip_length R (x ∷ xs) [] z = absurd z
+    zip_length R (x ∷ xs) (y ∷ ys) z = ap suc (zip_length R xs ys z.1)
 
 edge_in : (m : List (List Edge)) (s : ℕ) (edges : List Edge) (a : Action) (n : ℕ) → slice_get m s ≡ Some edges → Steps m s a n → (k : ℕ) × (slice_get edges k ≡ Some record { action = a; next = n })
 edge_in m s edges a n here step =

@@ -1,6 +1,6 @@
 -- Exchanges by number, and edges by the numbers of their exchanges (this project's own). Only contracts of private
 -- functions cite this file.
-use Rattle.std.specs.Prelude.{◌≡◌, ◌⊎◌, ℕ, true, List, [], ◌∷◌, ◌++◌, length, get_or, slice_get, Some}
+use Rattle.std.specs.Prelude.{◌≡◌, ◌⊎◌, ℕ, ◌<◌, true, List, [], ◌∷◌, ◌++◌, length, get_or, slice_get, Some}
 use Rattle.std.specs.List.{AllZip}
 use Rattle.std.specs.Str.{bytes_eq}
 use Rattle.std.proofs.lemmas.Slice.Eq.{bytes_eq-Decides}
@@ -108,6 +108,11 @@ row_of rows state = get_or rows state []
 -- the edges of the state of the machine at this place, or none
 abbrev pub row_at : List (List (List NumberedEdge)) → (place state : ℕ) → List NumberedEdge
 row_at machines place state = row_of (get_or machines place []) state
+
+-- there is a machine at this place, and it has this state
+pub record HasRow (machines : List (List (List NumberedEdge))) (place state : ℕ) : Type 0 where
+  pub place_within : place < length machines
+  pub state_within : state < length (get_or machines place [])
 
 -- a version, its exchanges, and the rows of each role's machine by their numbers
 pub record Numbered : Type 0 where

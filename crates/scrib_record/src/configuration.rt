@@ -65,6 +65,7 @@ impl Configuration {
     ///
     /// # Errors
     /// `AllocError` where memory was refused. The configuration is unchanged then.
+    #[inline(always)]
     pub fn advance(&mut self, version: &Version, event: &SharedEvent) -> Result<bool, AllocError>
         requires { conf.IsReached (meaning_of version.now) version.now.machines self.old }
         ensures ok { IfOk result (conf.Advances (meaning_of version.now) version.now.machines event.now self.old
@@ -96,6 +97,7 @@ impl Configuration {
         true
     }
 
+    #[inline(always)]
     fn send(&mut self, _version: &Version, event: &SharedEvent) -> Result<bool, AllocError>
         requires reached { conf.IsReached (meaning_of _version.now) _version.now.machines self.old }
         requires sent { conf.IsSend event.now }
@@ -119,13 +121,11 @@ impl Configuration {
         };
         self.queues
             .send(exchange.from, exchange.to, exchange.number)?;
-        self.role_states[exchange.from] = RoleState {
-            joined: true,
-            state,
-        };
+        self.role_states[exchange.from].state = state;
         Ok(true)
     }
 
+    #[inline(always)]
     fn receive(&mut self, _version: &Version, event: &SharedEvent) -> bool
         requires reached { conf.IsReached (meaning_of _version.now) _version.now.machines self.old }
         requires received { conf.IsReception event.now }
@@ -151,10 +151,7 @@ impl Configuration {
         {
             return false;
         }
-        self.role_states[exchange.to] = RoleState {
-            joined: true,
-            state,
-        };
+        self.role_states[exchange.to].state = state;
         true
     }
 }

@@ -136,27 +136,23 @@ impl Numbering {
         self.shared.exchanges.find(event)
     }
 
-    /// Returns the edges of the state of the machine at this place, or none if there is no such state.
+    /// Returns the edges of the state of the machine at this place.
     #[inline(always)]
     pub fn row(&self, place: usize, state: u32) -> &[NumberedEdge]
+        requires { spec.HasRow self.now.machines place state }
         ensures { result.now ≡ spec.row_at self.now.machines place state }
     {
-        match self.shared.machines.as_slice().get(place) {
-            Some(rows) => row_of(rows, state),
-            None => &[],
-        }
+        row_of(&self.shared.machines.as_slice()[place], state)
     }
 }
 
-// Returns the edges of the state, or none if there is no such state.
+// Returns the edges of the state.
 #[inline(always)]
 fn row_of(rows: &Rows, state: u32) -> &[NumberedEdge]
+    requires { state < length rows.now }
     ensures { result.now ≡ spec.row_of rows.now state }
 {
-    match rows.as_slice().get(state as usize) {
-        Some(row) => row.as_slice(),
-        None => &[],
-    }
+    rows.as_slice()[state as usize].as_slice()
 }
 
 // Numbers the edges of the machine of each role. New exchanges are appended.

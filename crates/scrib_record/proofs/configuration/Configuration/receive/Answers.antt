@@ -1,16 +1,14 @@
-use Rattle.std.proofs.Common.{◌≡◌, ◌∙◌, ap, arith, refl, subst, sym, Contains, List}
+use Rattle.std.proofs.Common.{◌≡◌, ap, arith, refl, subst, sym, Contains, List}
 use Rattle.scrib_types.specs.declared.event.Action.TheVariants.{Receives}
-use Rattle.scrib_types.specs.declared.event.Event.{Event}
-use Rattle.scrib_types.specs.declared.event.Event.TheVariants.{Received}
 use Rattle.scrib_types.specs.FlatEvents.{exchange_bytes}
 use Rattle.scrib_queues.specs.Channels.{Channels}
 use Rattle.scrib_record.specs.declared.exchanges.Exchange.{Exchange}
 use Rattle.scrib_record.specs.declared.numbered_edge.NumberedEdge.{NumberedEdge}
 use Rattle.scrib_record.specs.declared.numbered_edge.NumberedEdge.TheVariants as edges
-use Rattle.scrib_record.specs.Configurations.{AreQueued, LeadsTo, IsAtFront, IsNext, flight_of, message_at}
+use Rattle.scrib_record.specs.Configurations.{AreQueued, LeadsTo, IsAtFront, flight_of, message_at}
 use Rattle.scrib_record.specs.Exchanges.{IsAbsent}
 use Rattle.scrib_record.specs.Versions.{meaning_of}
-use Rattle.scrib_record.proofs.AdvanceLemmas.{unnumbered, not_yet, already, numbered_with, exchanges_are, refused, at_state, act_unjoined, reception_absent, reception_stuck, reception_step, receive_early, receives_on, was_taken}
+use Rattle.scrib_record.proofs.AdvanceLemmas.{unnumbered, not_yet, already, numbered_with, exchanges_are, refused, at_state, joined_again, row_there, act_unjoined, reception_absent, reception_stuck, reception_step, receive_early, receives_on, was_taken}
 use Rattle.scrib_record.proofs.ConfigurationLemmas.{role_state_within}
 use Rattle.scrib_record.proofs.FlightLemmas.{was_other}
 use Rattle.scrib_record.proofs.NumberingLemmas.{is_found}
@@ -92,12 +90,13 @@ returns c log st =
     let w = numbered_with a.roles v.machines self.numbering n st.numbered c.in-Some.is in
     let found = is_found a.roles n.exchanges got.0 got.1 got.2 c.args.event.now l w.exchanges c.in-Some-find.ensures.found (ap exchange_bytes got.3) in
     let there = at_state a v.machines log self got.1 l.to s st found.to c.index-receiver.ensures in
+    let joined = joined_again a v.machines log self got.1 l.to s c.index_mut.result.now st found.to c.index-receiver.ensures c.index_mut.ensures.value (already _ c.if-not-receiver.false) in
     let here = subst (λ (row : List NumberedEdge). Contains row (edges.Receives l.number next)) c.row-row.ensures c.in-Some-after_reception.ensures.found in
     let step = reception_step a v.machines log n got.0 got.1 got.2 l.to l.number next s there.0 w there.2 there.1 found.number here in
     let es = exchanges_are self.numbering n c.in-Some.is in
     let popped = was_taken l.number c.receive.result _ _ c.if-not-receive.false c.receive.ensures.taken in
     rw got.3
-    (receives_on a v.machines log self _ got.0 got.1 got.2 l.from l.to l.number s _ there.0 st there.2 there.1 found.from (already _ c.if-not-receiver.false) refl step refl c.receive.ensures.roles refl
+    (receives_on a v.machines log self _ got.0 got.1 got.2 l.from l.to l.number s _ there.0 st there.2 there.1 found.from (already _ c.if-not-receiver.false) joined step refl c.receive.ensures.roles refl
     (subst (λ (xs : List Exchange). message_at xs l.number ≡ got.2) es found.message) popped c.receive.ensures.others)
 
 pub index-receiver-requires : goal.index-receiver-requires
@@ -111,6 +110,22 @@ index-receiver-requires c =
     let w = numbered_with a.roles v.machines self.numbering n st.numbered c.in-Some.is in
     let found = is_found a.roles n.exchanges got.0 got.1 got.2 c.args.event.now c.in-Some-find.exchange w.exchanges c.in-Some-find.ensures.found (ap exchange_bytes got.3) in
     omega (arith, role_state_within a v.machines c.requires.reached.0 self got.1 c.in-Some-find.exchange.to st found.to, self.role_states.ok.0)
+
+pub row-row-requires : goal.row-row-requires
+row-row-requires c =
+    let v = c.args._version.now in
+    let a = meaning_of v in
+    let self = c.args.self.now in
+    let n = c.in-Some.numbering in
+    let l = c.in-Some-find.exchange in
+    let s = c.index-receiver.result.now in
+    let got = c.requires.received in
+    let log = c.requires.reached.0 in
+    let st = c.requires.reached.1 in
+    let w = numbered_with a.roles v.machines self.numbering n st.numbered c.in-Some.is in
+    let found = is_found a.roles n.exchanges got.0 got.1 got.2 c.args.event.now l w.exchanges c.in-Some-find.ensures.found (ap exchange_bytes got.3) in
+    let there = at_state a v.machines log self got.1 l.to s st found.to c.index-receiver.ensures in
+    row_there a v.machines log n got.1 l.to s there.0 w there.2 there.1
 
 pub receive-requires-clause-sender : goal.receive-requires-clause-sender
 receive-requires-clause-sender c =

@@ -1,15 +1,13 @@
-use Rattle.std.proofs.Common.{◌≡◌, ◌∙◌, ap, arith, refl, subst, sym, Contains, List}
+use Rattle.std.proofs.Common.{◌≡◌, ap, arith, refl, subst, sym, Contains, List}
 use Rattle.scrib_types.specs.declared.event.Action.TheVariants.{Sends}
-use Rattle.scrib_types.specs.declared.event.Event.{Event}
-use Rattle.scrib_types.specs.declared.event.Event.TheVariants.{Sent}
 use Rattle.scrib_types.specs.FlatEvents.{exchange_bytes}
 use Rattle.scrib_record.specs.declared.exchanges.Exchange.{Exchange}
 use Rattle.scrib_record.specs.declared.numbered_edge.NumberedEdge.{NumberedEdge}
 use Rattle.scrib_record.specs.declared.numbered_edge.NumberedEdge.TheVariants as edges
-use Rattle.scrib_record.specs.Configurations.{IsBetween, IsNext, message_at}
+use Rattle.scrib_record.specs.Configurations.{IsBetween, message_at}
 use Rattle.scrib_record.specs.Exchanges.{IsAbsent}
 use Rattle.scrib_record.specs.Versions.{meaning_of}
-use Rattle.scrib_record.proofs.AdvanceLemmas.{unnumbered, not_yet, already, numbered_with, exchanges_are, refused, at_state, act_unjoined, send_absent, send_stuck, send_step, sends_on}
+use Rattle.scrib_record.proofs.AdvanceLemmas.{unnumbered, not_yet, already, numbered_with, exchanges_are, refused, at_state, joined_again, row_there, act_unjoined, send_absent, send_stuck, send_step, sends_on}
 use Rattle.scrib_record.proofs.ConfigurationLemmas.{role_state_within}
 use Rattle.scrib_record.proofs.NumberingLemmas.{is_found}
 use Rattle.scrib_record.proofs.RolePlaces.{place_within}
@@ -73,12 +71,13 @@ returns-clause-ok c log st =
     let w = numbered_with a.roles v.machines self.numbering n st.numbered c.in-Some.is in
     let found = is_found a.roles n.exchanges sent.0 sent.1 sent.2 c.args.event.now l w.exchanges c.in-Some-find.ensures.found (ap exchange_bytes sent.3) in
     let there = at_state a v.machines log self sent.0 l.from s st found.from c.index-sender.ensures in
+    let joined = joined_again a v.machines log self sent.0 l.from s c.index_mut.result.now st found.from c.index-sender.ensures c.index_mut.ensures.value (already _ c.if-not-sender.false) in
     let here = subst (λ (row : List NumberedEdge). Contains row (edges.Sends l.number next)) c.row-row.ensures c.in-Some-after_send.ensures.found in
     let step = send_step a v.machines log n sent.0 sent.1 sent.2 l.from l.number next s there.0 w there.2 there.1 found.number here in
     let es = exchanges_are self.numbering n c.in-Some.is in
     let done = c.in_ok-send.ensures in
     rw sent.3
-    (sends_on a v.machines log self _ sent.0 sent.1 sent.2 l.from l.to l.number s _ there.0 st there.2 there.1 found.to (already _ c.if-not-sender.false) refl step refl done.roles refl
+    (sends_on a v.machines log self _ sent.0 sent.1 sent.2 l.from l.to l.number s _ there.0 st there.2 there.1 found.to (already _ c.if-not-sender.false) joined step refl done.roles refl
     (subst (λ (xs : List Exchange). IsBetween xs l.from l.to l.number) es found.between) (subst (λ (xs : List Exchange). message_at xs l.number ≡ sent.2) es found.message) done.sent done.others)
 
 pub index-sender-requires : goal.index-sender-requires
@@ -92,6 +91,22 @@ index-sender-requires c =
     let w = numbered_with a.roles v.machines self.numbering n st.numbered c.in-Some.is in
     let found = is_found a.roles n.exchanges sent.0 sent.1 sent.2 c.args.event.now c.in-Some-find.exchange w.exchanges c.in-Some-find.ensures.found (ap exchange_bytes sent.3) in
     omega (arith, role_state_within a v.machines c.requires.reached.0 self sent.0 c.in-Some-find.exchange.from st found.from, self.role_states.ok.0)
+
+pub row-row-requires : goal.row-row-requires
+row-row-requires c =
+    let v = c.args._version.now in
+    let a = meaning_of v in
+    let self = c.args.self.now in
+    let n = c.in-Some.numbering in
+    let l = c.in-Some-find.exchange in
+    let s = c.index-sender.result.now in
+    let sent = c.requires.sent in
+    let log = c.requires.reached.0 in
+    let st = c.requires.reached.1 in
+    let w = numbered_with a.roles v.machines self.numbering n st.numbered c.in-Some.is in
+    let found = is_found a.roles n.exchanges sent.0 sent.1 sent.2 c.args.event.now l w.exchanges c.in-Some-find.ensures.found (ap exchange_bytes sent.3) in
+    let there = at_state a v.machines log self sent.0 l.from s st found.from c.index-sender.ensures in
+    row_there a v.machines log n sent.0 l.from s there.0 w there.2 there.1
 
 pub send-requires-clause-receiver : goal.send-requires-clause-receiver
 send-requires-clause-receiver c =
