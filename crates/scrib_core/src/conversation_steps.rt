@@ -5,7 +5,6 @@ ghost use Rattle.std.specs.Option.{option_copied};
 ghost use Rattle.scrib_core.specs.ConversationSteps.{IsOpened, OpenFails, IsNotedAt, NoteFails, IsTurnedAt, IsAskedAt, VerdictFails, IsBegun, IsPresent, IsSoundComparison, IsSoundForRecord};
 ghost use Rattle.scrib_core.specs.Permitted.{IsOutcomeTest};
 
-use crate::holders::{Holders, name_slot};
 use crate::places::{place_of, record_of};
 use crate::reply::Refusal;
 use crate::verdicts::{is_permitted_answer, verdict_of};
@@ -43,8 +42,7 @@ pub struct Opening<'a> {
     pub name: &'a Dotted,
 }
 
-/// Opens a conversation of the protocol, if fewer than the limit are open. Returns the protocol's name. The holders say
-/// which conversation may have the numbering of the version, and this one is noted there.
+/// Opens a conversation of the protocol, if fewer than the limit are open. Returns the protocol's name.
 ///
 /// # Errors
 /// `AlreadyOpen`, `UnknownProtocol`, `TooManyConversations` or `OutOfMemory`, whichever applies first. Nothing changes
@@ -52,7 +50,6 @@ pub struct Opening<'a> {
 pub fn open(
     library: &Library,
     records: &mut IndexMap<u32, Record>,
-    holders: &mut Holders,
     opening: Opening<'_>,
 ) -> Result<Dotted, Refusal>
     ensures name { IfOk result (λ n. n ≡ opening.entry.name.now) }
@@ -73,8 +70,7 @@ pub fn open(
     if records.len() >= opening.limit {
         return Err(Refusal::TooManyConversations);
     }
-    let slot = name_slot(name);
-    let known = holders.numbering(records, slot);
+    let known = library.numbering(name);
     let Ok(reply_name) = shared.copy() else {
         return Err(Refusal::OutOfMemory);
     };
@@ -82,10 +78,7 @@ pub fn open(
         return Err(Refusal::OutOfMemory);
     };
     match records.insert(opening.id, record) {
-        Ok(_) => {
-            holders.note(slot, opening.id);
-            Ok(reply_name)
-        }
+        Ok(_) => Ok(reply_name),
         Err(_) => Err(Refusal::OutOfMemory),
     }
 }
@@ -140,15 +133,13 @@ fn present_of<'a>(
     library.present_at_hint(conversation.hint(), conversation.name())
 }
 
-/// Judges up to 256 further events of a conversation with a stale verdict. The holders say which conversation may have
-/// the numbering of the version, and this one is noted there if it held another version.
+/// Judges up to 256 further events of a conversation with a stale verdict.
 ///
 /// # Errors
 /// `NoConversation` or `OutOfMemory`. Nothing changes then.
 pub fn turn(
     library: &Library,
     records: &mut IndexMap<u32, Record>,
-    holders: &mut Holders,
     comparison: Comparison,
     id: u32,
 ) -> Result<Judged, Refusal>
@@ -161,20 +152,16 @@ pub fn turn(
     let Some(at) = place_of(records, id) else {
         return Err(Refusal::NoConversation);
     };
-    let known = numbering_for_turn(library, records, holders, at);
     let (_, record) = records.pair_mut(at);
+    let known = numbering_for_turn(library, record);
     let Ok(name) = record.name().copy() else {
         return Err(Refusal::OutOfMemory);
     };
-    let held = record.held_number();
     let (hint, present) = present_of(library, record, comparison);
     match record.turn(present, comparison, known) {
         Ok(verdict) => {
             record.set_hint(hint);
             let events = record.log().len();
-            if record.held_number() != held {
-                holders.note(name_slot(&name), id);
-            }
             Ok(Judged {
                 name,
                 events,
@@ -185,20 +172,14 @@ pub fn turn(
     }
 }
 
-// Returns the numbering that the holders hint at for the protocol of the record at this place. Returns none where the
-// record holds the present version, since its turn needs none then.
-fn numbering_for_turn(
-    library: &Library,
-    records: &IndexMap<u32, Record>,
-    holders: &Holders,
-    at: usize,
-) -> Option<Numbering> {
-    let (_, record) = records.get_index(at)?;
+// Returns the library's numbering of the record's protocol. Returns none where the record holds the present version,
+// since its turn needs none then.
+fn numbering_for_turn(library: &Library, record: &Record) -> Option<Numbering> {
     let held = record.held_number();
     if held.is_some_and(|number| library.numbered_at(record.hint(), number).is_some()) {
         return None;
     }
-    holders.numbering(records, name_slot(record.name()))
+    library.numbering(record.name())
 }
 
 /// Returns the verdict on a conversation, or `Stale`.

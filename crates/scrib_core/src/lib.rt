@@ -4,7 +4,6 @@
 pub mod conversation_steps;
 pub mod ended;
 pub mod format;
-pub mod holders;
 pub mod law;
 pub mod monitor;
 pub mod places;

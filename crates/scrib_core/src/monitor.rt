@@ -13,7 +13,6 @@ ghost use Rattle.scrib_core.specs.ReplyValues.{note_reply_of, open_reply_of, ver
 ghost use Rattle.scrib_core.specs.Runs.{PermitsRuns};
 
 use crate::conversation_steps::{Judged, Noted, Opening, ask, is_permitted, note, open, turn};
-use crate::holders::Holders;
 use crate::reply::{
     Edit, Refusal, Reply, edit_reply, note_reply, open_reply, profile_reply, verdict_reply,
 };
@@ -39,8 +38,6 @@ pub struct Core {
     alloc: Global,
     library: Library,
     records: IndexMap<u32, Record>,
-    // Where the numbering of a version may be found. Correctness does not depend on it.
-    holders: Holders,
 }
 
 impl Model for Core {
@@ -74,7 +71,6 @@ impl Core {
             alloc,
             library: Library::with_profile(alloc, profile),
             records: IndexMap::new(alloc),
-            holders: Holders::new(),
         }
     }
 
@@ -193,7 +189,7 @@ impl Core {
             id,
             name,
         };
-        open(&self.library, &mut self.records, &mut self.holders, opening)
+        open(&self.library, &mut self.records, opening)
     }
 
     /// Returns the protocol of a conversation, if the library has it, and the log.
@@ -296,13 +292,7 @@ impl Core {
         ensures refused { LeavesRefused result self.old self.new }
     {
         self.library.are_numbered();
-        let turned = turn(
-            &self.library,
-            &mut self.records,
-            &mut self.holders,
-            Comparison::Numbers,
-            id,
-        );
+        let turned = turn(&self.library, &mut self.records, Comparison::Numbers, id);
         verdict_reply(id, turned)
     }
 

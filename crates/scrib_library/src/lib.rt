@@ -13,6 +13,7 @@ mod meanings;
 mod module_store;
 mod name_filter;
 mod names;
+mod numberings;
 mod plan;
 mod profiles;
 mod reaching;

@@ -13,6 +13,7 @@ use crate::changes::Changes;
 use crate::fault::EditFault;
 use crate::hints::Hints;
 use crate::module_store::ModuleStore;
+use crate::numberings::Numberings;
 use crate::plan::{Plan, plan_put, plan_withdrawal};
 use crate::profiles::check_change;
 use crate::read::read;
@@ -21,6 +22,7 @@ use crate::versions::{
     NamedVersion, apply_edits, found_at_hint, named_at_hint, numbered_at, version_at_hint,
 };
 use scrib_parser::interner::Interner;
+use scrib_record::numbering::Numbering;
 use scrib_record::version::Version;
 use scrib_types::name::Dotted;
 use scrib_types::profile::Profile;
@@ -48,6 +50,8 @@ pub struct Library {
     used: u32,
     // Where the index of a version is looked up first.
     hints: Hints,
+    // The numberings of the versions that conversations had. Correctness does not depend on them.
+    numberings: Numberings,
     // Names and messages of recent texts, which the next text shares. Correctness does not depend on them.
     interner: Interner,
 }
@@ -91,6 +95,7 @@ impl Library {
             versions: Vec::new(alloc),
             used: 0,
             hints: Hints::new(alloc),
+            numberings: Numberings::new(alloc),
             interner: Interner::new(),
         }
     }
@@ -112,6 +117,7 @@ impl Library {
     {
         let tree = read(self.alloc, text, &mut self.interner)?;
         self.hints.make_room(self.alloc)?;
+        self.numberings.make_room()?;
         let placed = self.modules.put(tree)?;
         let new = &self.modules.as_slice()[placed.at];
         let gone = placed.replaced.as_ref();
@@ -131,7 +137,12 @@ impl Library {
                     used,
                     changes,
                 } = plan;
-                apply_edits(&mut self.versions, &mut self.hints, edits);
+                apply_edits(
+                    &mut self.versions,
+                    &mut self.hints,
+                    &mut self.numberings,
+                    edits,
+                );
                 self.used = used;
                 Ok(changes)
             }
@@ -162,7 +173,12 @@ impl Library {
         let gone = &self.modules.as_slice()[at];
         let plan = plan_withdrawal(self.alloc, gone, &mut self.versions, &self.hints, self.used)?;
         let Plan { edits, changes, .. } = plan;
-        apply_edits(&mut self.versions, &mut self.hints, edits);
+        apply_edits(
+            &mut self.versions,
+            &mut self.hints,
+            &mut self.numberings,
+            edits,
+        );
         self.modules.take_out(at);
         Ok(changes)
     }
@@ -231,6 +247,15 @@ impl Library {
         ensures number { IsNumber self.now name.now (option_map (λ found. number_of found.1.now) result) }
     {
         named_at_hint(&self.versions, self.hints.place_of(name), name)
+    }
+
+    /// Returns a numbering that is likely to be that of the protocol's present version, shared. It is made on the first
+    /// call for a version. Returns none if the name has no version or if memory was refused. The caller compares the
+    /// version of the numbering with the one that it wants.
+    pub fn numbering(&self, name: &Dotted) -> Option<Numbering> {
+        let (at, version) = self.present_at_hint(self.hints.place_of(name), name);
+        let version = version?;
+        self.numberings.share(at, version)
     }
 
     /// Returns the number of versions ever used.

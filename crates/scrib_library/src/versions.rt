@@ -10,6 +10,7 @@ ghost use Rattle.scrib_library.specs.Drafts.{edit_names, IsApplied, AreApplied};
 use crate::changes::ChangeKind;
 use crate::hints::{Hints, hint_slot};
 use crate::names::compare;
+use crate::numberings::Numberings;
 use scrib_record::version::Version;
 use scrib_types::name::Dotted;
 use std::mem::replace;
@@ -90,21 +91,32 @@ pub fn numbered_at(versions: &[NamedVersion], place: usize, number: u32) -> Opti
     }
 }
 
-/// Applies the edits, which are of different names. There must be room for the new versions. The hints are renewed.
-pub fn apply_edits(versions: &mut Vec<NamedVersion>, hints: &mut Hints, edits: Vec<VersionEdit>)
+/// Applies the edits, which are of different names. There must be room for the new versions. The hints are renewed, and
+/// a new version has no numbering yet.
+pub fn apply_edits(
+    versions: &mut Vec<NamedVersion>,
+    hints: &mut Hints,
+    numberings: &mut Numberings,
+    edits: Vec<VersionEdit>,
+)
     requires versions { AreInOrder (version_names versions.old.items) }
     requires edits { AreInOrder (edit_names edits.items) }
     requires room { vec_len versions.old + vec_len edits ≤ vec_capacity versions.old }
     ensures { AreApplied versions.old.items edits.items versions.new.items }
 {
     for edit in edits {
-        apply_edit(versions, hints, edit);
+        apply_edit(versions, hints, numberings, edit);
     }
     hints.renew();
 }
 
 // Applies the edit. There must be room for one more version. The index that the hints give is tried first.
-fn apply_edit(versions: &mut Vec<NamedVersion>, hints: &mut Hints, edit: VersionEdit)
+fn apply_edit(
+    versions: &mut Vec<NamedVersion>,
+    hints: &mut Hints,
+    numberings: &mut Numberings,
+    edit: VersionEdit,
+)
     requires versions { AreInOrder (version_names versions.old.items) }
     requires room { vec_len versions.old < vec_capacity versions.old }
     ensures made { IsApplied versions.old.items edit versions.new.items }
@@ -119,14 +131,17 @@ fn apply_edit(versions: &mut Vec<NamedVersion>, hints: &mut Hints, edit: Version
     ) {
         (Ok(at), Some(version)) => {
             let _before = replace(&mut versions[at], NamedVersion { name, version });
+            numberings.renew(at);
         }
         (Ok(at), None) => {
             let _before = versions.remove(at);
             hints.remove(at);
+            numberings.remove(at);
         }
         (Err(at), Some(version)) => {
             let _ = versions.insert(at, NamedVersion { name, version });
             hints.insert(at, slot);
+            numberings.insert(at);
         }
         (Err(_), None) => {}
     }

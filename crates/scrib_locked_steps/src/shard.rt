@@ -8,7 +8,6 @@ ghost use Rattle.scrib_locked_steps.specs.Shards.{IsLawfulShard, book_of};
 
 use crate::index::ProtocolName;
 use indexmap::IndexMap;
-use scrib_core::holders::Holders;
 use scrib_record::record::Record;
 use std::alloc::Global;
 use std::marker::Model;
@@ -20,8 +19,6 @@ pub struct Shard {
     pub(crate) alloc: Global,
     pub(crate) capacity: usize,
     pub(crate) records: IndexMap<u32, Record>,
-    // Where the numbering of a version may be found. Correctness does not depend on it.
-    pub(crate) holders: Holders,
     pub(crate) index: IndexMap<ProtocolName, Vec<u32>>,
     pub(crate) book: u64,
 }
@@ -50,7 +47,6 @@ impl Shard {
             alloc,
             capacity,
             records: IndexMap::new(alloc),
-            holders: Holders::new(),
             index: IndexMap::new(alloc),
             book: 0,
         }

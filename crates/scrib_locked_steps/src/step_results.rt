@@ -37,7 +37,7 @@ pub fn open_step(
         id,
         name,
     };
-    let opened = open(library, &mut shard.records, &mut shard.holders, opening)?;
+    let opened = open(library, &mut shard.records, opening)?;
     if list(&mut shard.index, shard.alloc, name, id).is_err() {
         // A conversation that the index does not list is not opened.
         shard.records.pop();
@@ -77,13 +77,7 @@ pub fn turn_step(library: &Library, shard: &mut Shard, id: u32) -> Result<Judged
     ensures err { OnErr result (shard.new.records ≡ shard.old.records) }
     ensures limit { shard.new.capacity ≡ shard.old.capacity }
 {
-    turn(
-        library,
-        &mut shard.records,
-        &mut shard.holders,
-        Comparison::Whole,
-        id,
-    )
+    turn(library, &mut shard.records, Comparison::Whole, id)
 }
 
 /// Returns the verdict on a conversation, or `Stale`.

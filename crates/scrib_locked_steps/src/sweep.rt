@@ -6,7 +6,6 @@ ghost use Rattle.scrib_locked_steps.specs.Sweeping.{is_stale_of, stale_ids_of, I
 
 use crate::shard::Shard;
 use indexmap::IndexMap;
-use scrib_core::holders::name_slot;
 use scrib_library::library::Library;
 use scrib_record::answer::Answer;
 use scrib_record::comparison::Comparison;
@@ -111,9 +110,7 @@ fn sweep_conversation(library: &Library, shard: &mut Shard, id: u32) -> Result<u
         return Err(AllocError);
     };
     let present = library.present(conversation.name());
-    let mut known = shard
-        .holders
-        .numbering(&shard.records, name_slot(conversation.name()));
+    let mut known = library.numbering(conversation.name());
     let mut comparison = Comparison::Whole;
     let mut turns = 0;
     loop {
@@ -144,11 +141,7 @@ fn turn_under(
     ensures err { OnErr result (shard.new.records ≡ shard.old.records) }
     ensures limit { shard.new.capacity ≡ shard.old.capacity }
 {
-    let verdict = turn_in_records(present, comparison, &mut shard.records, id, known)?;
-    if let Some(conversation) = shard.records.get(&id) {
-        shard.holders.note(name_slot(conversation.name()), id);
-    }
-    Ok(verdict)
+    turn_in_records(present, comparison, &mut shard.records, id, known)
 }
 
 // As `turn_under`, in the records of a shard.

@@ -88,12 +88,6 @@ impl Record {
         })
     }
 
-    /// Returns the numbering of the version under which the events are judged, shared, so that other records need not
-    /// make it anew. There is none if they are judged withdrawn, or if the reference count cannot rise.
-    pub fn numbering(&self) -> Option<Numbering> {
-        self.judging.configuration.numbering.as_ref()?.share().ok()
-    }
-
     /// Returns the full name of the protocol.
     pub fn name(&self) -> &Dotted
         ensures { result.now ≡ self.now.name }

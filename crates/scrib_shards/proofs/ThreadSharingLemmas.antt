@@ -22,6 +22,7 @@ use Rattle.std.proofs.vec.Vec.TheSendSync as Vecs
 use Rattle.std.proofs.sync.Mutex.TheSendSync as Mutexes
 use Rattle.crossbeam_utils.proofs.cache_padded.CachePadded.TheSendSync as CachePaddeds
 use Rattle.crossbeam_utils.proofs.sync.sharded_lock.ShardedLock.TheSendSync as ShardedLocks
+use Rattle.once_cell.proofs.race.once_box.OnceBox.TheSendSync as OnceBoxes
 use Rattle.sqlite_items.proofs.boxed.Boxed.TheSendSync as Boxeds
 use Rattle.sqlite_items.proofs.items.Items.TheSendSync as Itemss
 use Rattle.indexmap.proofs.columns.Columns.TheSendSync as Columnss
@@ -51,7 +52,6 @@ use Rattle.scrib_record.proofs.exchanges.Exchange.TheSendSync as ExchangeEntries
 use Rattle.scrib_record.proofs.exchanges.Exchanges.TheSendSync as ExchangeTables
 use Rattle.scrib_record.proofs.numbered_edge.NumberedEdge.TheSendSync as NumberedEdges
 use Rattle.scrib_record.proofs.role_state.RoleState.TheSendSync as RoleStates
-use Rattle.scrib_core.proofs.holders.Holders.TheSendSync as Holderss
 use Rattle.crossbeam_utils.specs.contracts.cache_padded.CachePadded as CachePadded
 use Rattle.crossbeam_utils.specs.contracts.sync.sharded_lock.ShardedLock as ShardedLock
 use Rattle.scrib_types.proofs.global.GlobalType.TheLaws.TheKnot as types
@@ -63,6 +63,10 @@ use Rattle.scrib_record.specs.contracts.judging.Judging as Judging
 use Rattle.scrib_record.specs.contracts.numbering.Numbering as Numbering
 use Rattle.scrib_record.specs.contracts.record.Record as Record
 use Rattle.scrib_record.specs.contracts.version.Version as Version
+use Rattle.scrib_parser.specs.contracts.interner.Interner as Interner
+use Rattle.scrib_library.specs.contracts.hints.Hints as Hints
+use Rattle.scrib_library.specs.contracts.module_store.ModuleStore as ModuleStore
+use Rattle.scrib_library.specs.contracts.numberings.Numberings as Numberings
 use Rattle.scrib_library.specs.contracts.versions.NamedVersion as NamedVersion
 use Rattle.scrib_library.specs.contracts.library.Library as Library
 use Rattle.scrib_locked_steps.specs.contracts.shard.Shard as Shard
@@ -196,13 +200,6 @@ ruleset numbered = (
   NumberedEdges.the_sync,
 )
 
-ruleset held = (
-  Holderss.the_field_send,
-  Holderss.the_field_sync,
-  Holderss.the_send,
-  Holderss.the_sync,
-)
-
 version_send : IsSend Version.the_row
 version_send = search (types.crosses, plain) depth 60 fits 20000
 
@@ -227,17 +224,53 @@ modules_send = search (tree_send, plain) depth 60 fits 20000
 modules_sync : IsSync Modules.the_row
 modules_sync = search (tree_sync, plain) depth 60 fits 20000
 
-library_send : IsSend Library.the_row
-library_send = search (named_send, modules_send, plain) depth 60 fits 20000
-
-library_sync : IsSync Library.the_row
-library_sync = search (named_sync, modules_sync, plain) depth 60 fits 20000
-
 numbering_send : IsSend Numbering.the_row
 numbering_send = search (version_send, version_sync, numbered, plain) depth 60 fits 20000
 
 numbering_sync : IsSync Numbering.the_row
 numbering_sync = search (version_send, version_sync, numbered, plain) depth 60 fits 20000
+
+numberings_send : IsSend Numberings.the_row
+numberings_send = search (numbering_send, OnceBoxes.the_send, plain) depth 60 fits 20000
+
+numberings_sync : IsSync Numberings.the_row
+numberings_sync = search (numbering_send, numbering_sync, OnceBoxes.the_sync, plain) depth 60 fits 20000
+
+store_send : IsSend ModuleStore.the_row
+store_send = search (modules_send, plain) depth 60 fits 20000
+
+store_sync : IsSync ModuleStore.the_row
+store_sync = search (modules_sync, plain) depth 60 fits 20000
+
+hints_send : IsSend Hints.the_row
+hints_send = search (plain) depth 60 fits 20000
+
+hints_sync : IsSync Hints.the_row
+hints_sync = search (plain) depth 60 fits 20000
+
+interner_send : IsSend Interner.the_row
+interner_send = search (plain) depth 60 fits 20000
+
+interner_sync : IsSync Interner.the_row
+interner_sync = search (plain) depth 60 fits 20000
+
+-- of few lemmas, since a search over all fields takes too many steps
+ruleset library_fields = (
+  Globals.the_field_send,
+  Globals.the_field_sync,
+  Globals.the_send,
+  Globals.the_sync,
+  Vecs.the_send,
+  Vecs.the_sync,
+  heap.crosses,
+  sendable,
+)
+
+library_send : IsSend Library.the_row
+library_send = search (declared_send, store_send, named_send, hints_send, numberings_send, interner_send, library_fields) depth 60 fits 20000
+
+library_sync : IsSync Library.the_row
+library_sync = search (declared_sync, store_sync, named_sync, hints_sync, numberings_sync, interner_sync, library_fields) depth 60 fits 20000
 
 configuration_send : IsSend Configuration.the_row
 configuration_send = search (numbering_send, plain) depth 60 fits 20000
@@ -262,10 +295,10 @@ record_sync : IsSync Record.the_row
 record_sync = search (declared_sync, judging_sync, plain) depth 60 fits 20000
 
 shard_send : IsSend Shard.the_row
-shard_send = search (record_send, held, plain) depth 60 fits 20000
+shard_send = search (record_send, plain) depth 60 fits 20000
 
 shard_sync : IsSync Shard.the_row
-shard_sync = search (record_sync, held, plain) depth 60 fits 20000
+shard_sync = search (record_sync, plain) depth 60 fits 20000
 
 library_lock : IsSync (ShardedLock.the_row Library.the_row Heap.the_row ghosts)
 library_lock = search (ShardedLocks.the_sync, library_send, library_sync, heap.crosses, sendable) depth 60 fits 20000

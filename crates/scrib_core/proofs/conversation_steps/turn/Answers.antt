@@ -47,8 +47,8 @@ returns-in-Err-clause-err c =
     let there = there_read rs c.in-Some.at c.args.id c.pair_mut-record.result.0.now c.pair_mut-record.result.1.now c.pair_mut-record.ensures.unique c.in-Some.ensures.found c.pair_mut-record.ensures.value in
     kept rs _ c.args.id c.pair_mut-record.result.1.now c.turn.new.self there (set_there rs c.in-Some.at c.args.id c.turn.new.self c.pair_mut-record.ensures.unique c.in-Some.ensures.found) c.in-Err.ensures.err
 
-pub returns-after-ne-clause-ok : goal.returns-after-ne-clause-ok
-returns-after-ne-clause-ok c =
+pub returns-in-Ok-turn-clause-ok : goal.returns-in-Ok-turn-clause-ok
+returns-in-Ok-turn-clause-ok c =
     let rs = c.args.records.now.entries in
     let r = c.pair_mut-record.result.1.now in
     let after = c.set_hint.new.self in
