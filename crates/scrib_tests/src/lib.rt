@@ -1,8 +1,10 @@
 //! Tests that need code: what is written for readers that give little or fail, and for writers that take little or fail,
-//! where a script is too long by smaller limits than its own, and what is held back of short logs.
+//! where a script is too long by smaller limits than its own, what is held back of short logs, and what may come next.
 #![tactic(auto)]
 
 #[cfg(test)]
 mod holding;
+#[cfg(test)]
+mod next;
 #[cfg(test)]
 mod running;
