@@ -169,9 +169,12 @@ impl Gathered {
         written
     }
 
-    // Writes all texts and drops them, where they are long. After an error, a prefix of them is written.
+    /// Writes all texts and drops them, where they have more than 65,536 bytes.
+    ///
+    /// # Errors
+    /// `Write` where the writer fails. A prefix of the texts is then written, and all are dropped.
     #[inline(always)]
-    pub(crate) fn write_long<W: Write>(&mut self, writer: &mut W) -> Result<(), ScriptFault>
+    pub fn write_long<W: Write>(&mut self, writer: &mut W) -> Result<(), ScriptFault>
         ensures ok { OnOk result (WritesFront
             self.old.bytes.items self.new.bytes.items (W.contents writer.old) (W.contents writer.new)) }
         ensures err { OnErr result

@@ -1,6 +1,7 @@
 -- What a run with held events has given at a position of its script, and where it fails.
 use Rattle.std.proofs.Common.{◌≡◌, ℕ, ◌+◌, true, List, [], ◌∷◌, ◌++◌, ◌∙◌, Option, Some, None, length, length-append, refl, sym, ap, subst, arith, eqb, Result, Ok, Err}
 use Rattle.std.specs.Prelude.{OnOk, OnErr, IfOk}
+use Rattle.std.specs.Io.KnownBytes.{Appends}
 use Rattle.std.proofs.lemmas.Bool.{eqb-true}
 use Rattle.std.proofs.lemmas.List.{append_assoc, append-nil}
 use Rattle.scrib_core.specs.declared.format.Format.{Format}
@@ -14,11 +15,13 @@ use Rattle.scrib_script_reader.proofs.PositionLemmas.{give_entries}
 use Rattle.scrib_script_reader.proofs.ScriptLemmas.{entries_none, more_entries, all_entries}
 use Rattle.scrib_hold_stage.specs.declared.stage.Counts.{Counts}
 use Rattle.scrib_script_io.specs.Writes.{AppendsPart}
+use Rattle.scrib_script_io.proofs.WriterLemmas.{appends_none, appends_more}
 use Rattle.scrib_cli.specs.declared.gathered.Gathered.{Gathered}
+use Rattle.scrib_cli.specs.Progress.{WritesFront}
 use Rattle.scrib_hold.specs.declared.held_monitor.HeldMonitor.{HeldMonitor}
 use Rattle.scrib_hold.specs.declared.held_run.HeldRun.{HeldRun}
 use Rattle.scrib_hold.specs.HeldScripts.{IsOutputOf, IsBeginningOf, IsHeldPart}
-use Rattle.scrib_hold.specs.Progress.{HasTaken, TakesEntry, FailsAtEntry, Ends, HeldEndFails, HasHeldProgressed, HeldRunAdvances, HeldPieceFails, GathersHeldFront, GatherFails, HeldEndSucceeds, EndIsCut, TakesLast, Writes, IsNewHeld}
+use Rattle.scrib_hold.specs.Progress.{HasTaken, TakesEntry, FailsAtEntry, Ends, HeldEndFails, HasHeldProgressed, HeldRunAdvances, HeldPieceFails, GathersHeldFront, GatherFails, HeldEndSucceeds, EndIsCut, TakesLast, Writes, WritesFirst, IsNewHeld}
 use Rattle.scrib_hold.proofs.MonitorLemmas.{begun, begun_more, begun_less, begun_whole}
 
 -- whatever follows, the script gives these entries first
@@ -187,65 +190,89 @@ fails_line old new script piece rest e takes failed = fails_entry old new script
 
 -- ---- a piece
 
--- A part of a piece was consumed, and the rest is left. All of its output is gathered.
-pub record ConsumedFront (old new : HeldRun) (piece rest : List ℕ) : Type 0 where
+-- A part of a piece was consumed, and the rest is left. Some of its output was written, and the rest is gathered.
+pub record ConsumedFront (old new : HeldRun) (piece rest : List ℕ) (was now : Option (List ℕ)) : Type 0 where
   pub done : List ℕ
   pub is : piece ≡ done ++ rest
-  pub went : HeldRunAdvances old new done new.monitor.gathered.bytes.items
+  pub out : List ℕ
+  pub went : HeldRunAdvances old new done (out ++ new.monitor.gathered.bytes.items)
+  pub wrote : Appends was now out
 
-pub consumed_none : (run : HeldRun) (g : Gathered) (piece : List ℕ) → g.bytes.items ≡ [] → ConsumedFront run (with_gathered run g) piece piece
-consumed_none run g piece none = record {
+pub consumed_none : (run : HeldRun) (g : Gathered) (piece : List ℕ) (w : Option (List ℕ)) → g.bytes.items ≡ [] → ConsumedFront run (with_gathered run g) piece piece w w
+consumed_none run g piece w none = record {
   done = [];
   is = refl;
+  out = [];
   went = record {
     goes = λ o bound m seen before c.
         let same : before ≡ before ++ g.bytes.items = sym (append-nil before) ∙ ap (λ (l : List ℕ). before ++ l) (sym none) in
         subst (λ (l : List ℕ). HasHeldProgressed o bound m (with_gathered run g) l (before ++ g.bytes.items)) (sym (append-nil seen))
         (subst (λ (l : List ℕ). HasHeldProgressed o bound m (with_gathered run g) seen l) same (progress_moved o bound m run g seen before c));
   };
+  wrote = appends_none w;
 }
 
 -- two outputs, one after the other
 both : (all a b before : List ℕ) → all ≡ a ++ b → (before ++ a) ++ b ≡ before ++ all
 both all a b before is = append_assoc before a b ∙ ap (λ (l : List ℕ). before ++ l) (sym is)
 
-pub consumed_more : (old mid new : HeldRun) (piece rest after : List ℕ) → ConsumedFront old mid piece rest → GathersHeldFront mid new rest after → ConsumedFront old new piece after
-consumed_more old mid new piece rest after k f = record {
-  done = k.done ++ f.front;
-  is = k.is ∙ ap (λ (u : List ℕ). k.done ++ u) f.is ∙ sym (append_assoc k.done f.front after);
-  went = record {
-    goes = λ o bound m seen before c.
-        let d = f.went.goes o bound m (seen ++ k.done) (before ++ mid.monitor.gathered.bytes.items) (k.went.goes o bound m seen before c) in
-        subst (λ (u : List ℕ). HasHeldProgressed o bound m new u (before ++ new.monitor.gathered.bytes.items)) (append_assoc seen k.done f.front)
-        (subst (λ (l : List ℕ). HasHeldProgressed o bound m new ((seen ++ k.done) ++ f.front) l) (both new.monitor.gathered.bytes.items mid.monitor.gathered.bytes.items f.out before f.grows) d);
-  };
-}
+-- what was written is in front of two gathered outputs
+both_behind : (out all a b : List ℕ) → all ≡ a ++ b → out ++ all ≡ (out ++ a) ++ b
+both_behind out all a b is = sym (both all a b out is)
+
+pub consumed_more : (old mid new : HeldRun) (piece rest after : List ℕ) (was now : Option (List ℕ)) → ConsumedFront old mid piece rest was now → GathersHeldFront mid new rest after → ConsumedFront old new piece after was now
+consumed_more old mid new piece rest after was now k f =
+    let all = k.out ++ new.monitor.gathered.bytes.items in
+    let first = k.out ++ mid.monitor.gathered.bytes.items in
+    let is : all ≡ first ++ f.out = both_behind k.out new.monitor.gathered.bytes.items mid.monitor.gathered.bytes.items f.out f.grows in
+    record {
+      done = k.done ++ f.front;
+      is = k.is ∙ ap (λ (u : List ℕ). k.done ++ u) f.is ∙ sym (append_assoc k.done f.front after);
+      out = k.out;
+      went = record {
+        goes = λ o bound m seen before c.
+            let d = f.went.goes o bound m (seen ++ k.done) (before ++ first) (k.went.goes o bound m seen before c) in
+            subst (λ (u : List ℕ). HasHeldProgressed o bound m new u (before ++ all)) (append_assoc seen k.done f.front)
+            (subst (λ (l : List ℕ). HasHeldProgressed o bound m new ((seen ++ k.done) ++ f.front) l) (both all first f.out before is) d);
+      };
+      wrote = k.wrote;
+    }
 
 no_items : (xs : List ℕ) → length xs ≡ 0 → xs ≡ []
 no_items [] e = refl
 no_items (x ∷ xs) e = absurd (omega (arith, e))
 
-pub consumed_all : (old new : HeldRun) (piece rest : List ℕ) → ConsumedFront old new piece rest → true ≡ eqb (length rest) 0 → HeldRunAdvances old new piece new.monitor.gathered.bytes.items
-consumed_all old new piece rest k e =
+pub consumed_all : (old new : HeldRun) (piece rest : List ℕ) (was now : Option (List ℕ)) → ConsumedFront old new piece rest was now → true ≡ eqb (length rest) 0
+    → WritesFirst (HeldRunAdvances old new piece) new.monitor.gathered.bytes.items was now
+consumed_all old new piece rest was now k e =
     let none = no_items rest (eqb-true (length rest) 0 (sym e)) in
     let all : piece ≡ k.done = k.is ∙ ap (λ (u : List ℕ). k.done ++ u) none ∙ append-nil k.done in
-    subst (λ (u : List ℕ). HeldRunAdvances old new u new.monitor.gathered.bytes.items) (sym all) k.went
+    (k.out, subst (λ (u : List ℕ). HeldRunAdvances old new u (k.out ++ new.monitor.gathered.bytes.items)) (sym all) k.went, k.wrote)
 
 -- a further line failed
-pub consumed_fails : (old mid new : HeldRun) (piece rest : List ℕ) → ConsumedFront old mid piece rest → GatherFails mid new rest → HeldPieceFails old piece new.monitor.gathered.bytes.items
-consumed_fails old mid new piece rest k f = record {
-  so = λ o bound m seen before c more.
-      let d = f.fails.so o bound m (seen ++ k.done) (before ++ mid.monitor.gathered.bytes.items) (k.went.goes o bound m seen before c) more in
-      subst (λ (u : List ℕ). IsHeldPart o bound u (before ++ new.monitor.gathered.bytes.items)) (ahead seen k.done rest more piece k.is)
-      (subst (λ (l : List ℕ). IsHeldPart o bound ((seen ++ k.done) ++ (rest ++ more)) l) (both new.monitor.gathered.bytes.items mid.monitor.gathered.bytes.items f.out before f.grows) d);
-}
+pub consumed_fails : (old mid new : HeldRun) (piece rest : List ℕ) (was now : Option (List ℕ)) → ConsumedFront old mid piece rest was now → GatherFails mid new rest
+    → WritesFirst (HeldPieceFails old piece) new.monitor.gathered.bytes.items was now
+consumed_fails old mid new piece rest was now k f =
+    let all = k.out ++ new.monitor.gathered.bytes.items in
+    let first = k.out ++ mid.monitor.gathered.bytes.items in
+    let is : all ≡ first ++ f.out = both_behind k.out new.monitor.gathered.bytes.items mid.monitor.gathered.bytes.items f.out f.grows in (
+      k.out,
+      record {
+        so = λ o bound m seen before c more.
+            let d = f.fails.so o bound m (seen ++ k.done) (before ++ first) (k.went.goes o bound m seen before c) more in
+            subst (λ (u : List ℕ). IsHeldPart o bound u (before ++ all)) (ahead seen k.done rest more piece k.is)
+            (subst (λ (l : List ℕ). IsHeldPart o bound ((seen ++ k.done) ++ (rest ++ more)) l) (both all first f.out before is) d);
+      },
+      k.wrote,
+    )
 
 -- it ends somewhere in the piece
-pub consumed_ends : (old new : HeldRun) (piece rest : List ℕ) → ConsumedFront old new piece rest → HeldPieceFails old piece new.monitor.gathered.bytes.items
-consumed_ends old new piece rest k = record {
+consumed_ends : (old new : HeldRun) (piece rest : List ℕ) (was now : Option (List ℕ)) → (k : ConsumedFront old new piece rest was now) → HeldPieceFails old piece (k.out ++ new.monitor.gathered.bytes.items)
+consumed_ends old new piece rest was now k = record {
   so = λ o bound m seen before c more.
-      subst (λ (u : List ℕ). IsHeldPart o bound u (before ++ new.monitor.gathered.bytes.items)) (ahead seen k.done rest more piece k.is)
-      (part_so_far o bound m new (seen ++ k.done) (before ++ new.monitor.gathered.bytes.items) (k.went.goes o bound m seen before c) (rest ++ more));
+      let all = k.out ++ new.monitor.gathered.bytes.items in
+      subst (λ (u : List ℕ). IsHeldPart o bound u (before ++ all)) (ahead seen k.done rest more piece k.is)
+      (part_so_far o bound m new (seen ++ k.done) (before ++ all) (k.went.goes o bound m seen before c) (rest ++ more));
 }
 
 -- a piece that was carried out is also a beginning
@@ -261,6 +288,33 @@ advances_moved old new g piece out went = record {
   goes = λ o bound m seen before c. progress_moved o bound m new g (seen ++ piece) (before ++ out) (went.goes o bound m seen before c);
 }
 
+-- a front of what is gathered was written
+pub consumed_written : (old new : HeldRun) (g : Gathered) (piece rest : List ℕ) (was now end : Option (List ℕ)) → ConsumedFront old new piece rest was now
+    → WritesFront new.monitor.gathered.bytes.items g.bytes.items now end → ConsumedFront old (with_gathered new g) piece rest was end
+consumed_written old new g piece rest was now end k f =
+    let out = k.out ++ f.0 in
+    let all = both_behind k.out new.monitor.gathered.bytes.items f.0 g.bytes.items f.1 in
+    record {
+      done = k.done;
+      is = k.is;
+      out = out;
+      went = advances_moved old new g k.done (out ++ g.bytes.items) (subst (λ (l : List ℕ). HeldRunAdvances old new k.done l) all k.went);
+      wrote = appends_more was now end k.out f.0 k.wrote f.2;
+    }
+
+-- what was written, and then all that is gathered
+pub all_written : (P : List ℕ → Type 0) (gathered : List ℕ) (was now end : Option (List ℕ)) → WritesFirst P gathered was now → Appends now end gathered → Writes P was end
+all_written P gathered was now end w more = (w.0 ++ gathered, w.1, appends_more was now end w.0 gathered w.2 more)
+
+-- what was written, and then a beginning of what is gathered
+part_behind : (out gathered : List ℕ) (was now end : Option (List ℕ)) → Appends was now out → AppendsPart now end gathered → AppendsPart was end (out ++ gathered)
+part_behind out gathered was now end wrote part = (
+  out ++ part.0,
+  part.1,
+  both_behind out gathered part.0 part.1 part.2,
+  appends_more was now end out part.0 wrote part.3,
+)
+
 -- a beginning of what is gathered was written
 pub piece_cut : (old : HeldRun) (piece whole : List ℕ) (was now : Option (List ℕ)) → HeldPieceFails old piece whole → AppendsPart was now whole → Writes (HeldPieceFails old piece) was now
 piece_cut old piece whole was now fails part = (
@@ -271,6 +325,15 @@ piece_cut old piece whole was now fails part = (
   },
   part.3,
 )
+
+-- it was not written whole, and is dropped
+pub consumed_cut : (old new : HeldRun) (piece rest left : List ℕ) (was now end : Option (List ℕ)) → ConsumedFront old new piece rest was now
+    → AppendsPart now end new.monitor.gathered.bytes.items → left ≡ [] → WritesFirst (HeldPieceFails old piece) left was end
+consumed_cut old new piece rest left was now end k part none =
+    let whole = k.out ++ new.monitor.gathered.bytes.items in
+    let cut = piece_cut old piece whole was end (consumed_ends old new piece rest was now k) (part_behind k.out new.monitor.gathered.bytes.items was now end k.wrote part) in
+    let same : cut.0 ≡ cut.0 ++ left = sym (append-nil cut.0) ∙ ap (λ (l : List ℕ). cut.0 ++ l) (sym none) in
+    (cut.0, subst (λ (l : List ℕ). HeldPieceFails old piece l) same cut.1, cut.2)
 
 pub end_cut : (old : HeldRun) (whole : List ℕ) (was now : Option (List ℕ)) → EndIsCut old whole → AppendsPart was now whole → Writes (EndIsCut old) was now
 end_cut old whole was now fails part = (
@@ -364,10 +427,12 @@ end_entry_fails old g monitor found e is empty gives failed = record {
 -- ---- for the proofs of functions
 
 -- a writer failed, however the piece was carried out
-pub taken_cut : {T E : Type 0} (r : Result T E) (old new : HeldRun) (piece whole : List ℕ) (was now : Option (List ℕ)) → OnOk r (HeldRunAdvances old new piece whole) → OnErr r (HeldPieceFails old piece whole)
-    → AppendsPart was now whole → Writes (HeldPieceFails old piece) was now
-taken_cut (Ok x) old new piece whole was now went failed part = piece_cut old piece whole was now (advances_fails old new piece whole went) part
-taken_cut (Err e) old new piece whole was now went failed part = piece_cut old piece whole was now failed part
+pub taken_cut : {T E : Type 0} (r : Result T E) (old new : HeldRun) (piece gathered : List ℕ) (was now end : Option (List ℕ)) → OnOk r (WritesFirst (HeldRunAdvances old new piece) gathered was now)
+    → OnErr r (WritesFirst (HeldPieceFails old piece) gathered was now) → AppendsPart now end gathered → Writes (HeldPieceFails old piece) was end
+taken_cut (Ok x) old new piece gathered was now end went failed part =
+    let whole = went.0 ++ gathered in
+    piece_cut old piece whole was end (advances_fails old new piece whole went.1) (part_behind went.0 gathered was now end went.2 part)
+taken_cut (Err e) old new piece gathered was now end went failed part = piece_cut old piece (failed.0 ++ gathered) was end failed.1 (part_behind failed.0 gathered was now end failed.2 part)
 
 whole_part : (old : HeldRun) (counts : Counts) (out : List ℕ) → HeldEndSucceeds old counts out → EndIsCut old out
 whole_part old counts out s = record {

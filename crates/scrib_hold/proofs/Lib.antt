@@ -1,5 +1,5 @@
 mod CarriedLemmas
-mod EntryLemmas
+pub mod EntryLemmas
 mod MonitorLemmas
 mod HeldRunLemmas
 mod InputLemmas

@@ -128,6 +128,10 @@ pub record EndIsCut (old : HeldRun) (out : List ℕ) : Type 0 where
 abbrev pub Writes : (List ℕ → Type 0) → Option (List ℕ) → Option (List ℕ) → Type 0
 Writes P was now = (out : List ℕ) × P out × Appends was now out
 
+-- some bytes were written, and the others of the output are gathered
+abbrev pub WritesFirst : (List ℕ → Type 0) → (gathered : List ℕ) → (was now : Option (List ℕ)) → Type 0
+WritesFirst P gathered was now = (out : List ℕ) × P (out ++ gathered) × Appends was now out
+
 -- a run before its first byte
 pub record IsNewHeld (o : Format) (bound : ℕ) (m : Limits) (run : HeldRun) : Type 0 where
   pub progress : HasHeldProgressed o bound m run [] []

@@ -21,7 +21,7 @@ impl HeldRun {
     ghost use Rattle.std.specs.Io.KnownBytes.{Appends};
     ghost use Rattle.scrib_script_io.specs.Faults.{of_output, of_script};
     ghost use Rattle.scrib_hold.specs.Progress.{IsNewHeld, HeldRunAdvances, HeldPieceFails, GathersHeldFront, GatherFails, Writes};
-    ghost use Rattle.scrib_hold.specs.Progress.{HeldEndSucceeds, EndIsCut, TakesLast};
+    ghost use Rattle.scrib_hold.specs.Progress.{WritesFirst, HeldEndSucceeds, EndIsCut, TakesLast};
 
     /// Returns a run before the first byte of its script, which may have these limits.
     pub fn new(alloc: Global, format: Format, bound: u64, limits: Limits) -> HeldRun
@@ -47,21 +47,24 @@ impl HeldRun {
             (W.contents writer.old) (W.contents writer.new)) }
         ensures fault { IfErr result (λ e. of_script e ≡ true) }
     {
-        let taken = self.gather_piece(piece);
+        let taken = self.gather_piece(writer, piece);
         self.monitor.gathered.write_all(writer)?;
         taken
     }
 
-    // Consumes the bytes, carries out what they let out, and gathers the replies.
-    fn gather_piece(&mut self, piece: &[u8]) -> Result<(), ScriptFault>
-        ensures ok { OnOk result (HeldRunAdvances self.old self.new piece.now self.new.monitor.gathered.bytes.items) }
-        ensures err { OnErr result (HeldPieceFails self.old piece.now self.new.monitor.gathered.bytes.items) }
+    // Consumes the bytes, carries out what they let out, and gathers the replies. Writes them when they are long.
+    fn gather_piece<W: Write>(&mut self, writer: &mut W, piece: &[u8]) -> Result<(), ScriptFault>
+        ensures ok { OnOk result (WritesFirst (λ out. HeldRunAdvances self.old self.new piece.now out)
+            self.new.monitor.gathered.bytes.items (W.contents writer.old) (W.contents writer.new)) }
+        ensures err { OnErr result (WritesFirst (λ out. HeldPieceFails self.old piece.now out)
+            self.new.monitor.gathered.bytes.items (W.contents writer.old) (W.contents writer.new)) }
         ensures fault { IfErr result (λ e. of_script e ≡ true) }
     {
         self.monitor.gathered.clear();
         let mut rest = piece;
         while !rest.is_empty() {
             rest = self.gather_next(rest)?;
+            self.monitor.gathered.write_long(writer)?;
         }
         Ok(())
     }

@@ -6,7 +6,6 @@ mod Walks
 mod Placements
 mod LineGivings
 mod Passings
-mod EntryLemmas
 mod StageLemmas
 mod RunLemmas
 mod InputLemmas

@@ -11,7 +11,7 @@ use Rattle.scrib_hold_stage.specs.Entries.{noted_in}
 use Rattle.scrib_hold_stage.specs.Stages as stages
 use Rattle.scrib_hold_stage.specs.Stages.{HasStaged, IsRead, IsFinished}
 use Rattle.scrib_hold.specs.HeldScripts.{Asked, event_in, staged, staged_from, item_of, passing, is_end_inside, ends_inside, end_item, LetsOut, nothing, one_more, AreHeldItems, AreLetOut}
-use Rattle.scrib_hold_lines.proofs.EntryLemmas.{staged_more, length_staged, inside_more, noted_more, law_of}
+use Rattle.scrib_hold.proofs.EntryLemmas.{staged_more, length_staged, inside_more, noted_more, law_of}
 use Rattle.scrib_hold_lines.specs.declared.staging.Passing.{Passing}
 use Rattle.scrib_hold_lines.specs.declared.held_lines.HeldLines.{HeldLines}
 use Rattle.scrib_hold_lines.specs.HeldLines.{SpellsButForNumbers, IsHeldScriptOf, IsBeginningOfScript}

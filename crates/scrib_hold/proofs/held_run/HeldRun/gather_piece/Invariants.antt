@@ -3,7 +3,7 @@ use Rattle.scrib_hold.proofs.HeldRunLemmas.{ConsumedFront}
 use Rattle.scrib_hold.proofs.held_run.HeldRun.gather_piece.Given as goal
 
 abbrev pub invariant-loop-rest : goal.invariant-loop-rest
-invariant-loop-rest l = ConsumedFront l.fn.self l.self l.piece l.rest
+invariant-loop-rest g l = ConsumedFront l.fn.self l.self l.piece l.rest (g.W.Write.contents l.fn.writer) (g.W.Write.contents l.writer)
 
 abbrev pub decreases-loop-rest : goal.decreases-loop-rest
-decreases-loop-rest l = length l.rest
+decreases-loop-rest g l = length l.rest
