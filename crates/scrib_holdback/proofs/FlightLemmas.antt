@@ -1,5 +1,5 @@
 -- How many messages were sent and received on each pair, after an event.
-use Rattle.std.proofs.Common.{◌≡◌, ◌↔◌, ◌&&◌, ◌||◌, Bool, true, false, cond, not, ltb, zero, suc, ℕ, ◌+◌, ◌<◌, List, [], ◌∷◌, ◌++◌, filter, length, length-append, get_or, set, slice_get, position, Option, Some, None, MatchOption, is_some, refl, sym, ap, ◌∙◌, subst, inl, inr, arith}
+use Rattle.std.proofs.Common.{◌≡◌, ◌↔◌, ◌&&◌, ◌||◌, Bool, true, false, cond, not, ltb, zero, suc, ℕ, ◌+◌, ◌<◌, List, [], ◌∷◌, ◌++◌, filter, length, length-append, get_or, set, slice_get, position, Option, Some, None, MatchOption, refl, sym, ap, ◌∙◌, subst, inl, inr, arith}
 use Rattle.std.specs.List.{list_any, position_or_len}
 use Rattle.std.specs.Str.{bytes_eq}
 use Rattle.std.proofs.lemmas.Bool.{true≢false, and_parts, and_from, false_from_ne_true, cases_Bool, cond-true, ltb-true, lt-ltb}
@@ -299,10 +299,6 @@ found_has p q fs i at =
     subst (λ z. list_any (is_between p q) z ≡ true) (sym k.whole)
     (any_right (is_between p q) k.earlier (k.x ∷ k.later) (ap (λ b. b || list_any (is_between p q) k.later) k.here))
 
-pub some_has : (p q : List ℕ) (fs : List Flight) (o : Option ℕ) → o ≡ position (is_between p q) fs → is_some o ≡ true → list_any (is_between p q) fs ≡ true
-some_has p q fs None e some = absurd (true≢false (sym some))
-some_has p q fs (Some i) e some = found_has p q fs i (sym e)
-
 -- the same for an event that is known to be a send, or a reception
 pub counts_by_send : (e : Event) (s t : List ℕ) (m : Message) (old new : List Flight) (f : Flight) → e ≡ Sent s t m → IsCountedAt s t old new f (f.sent + 1) f.received → CountsEvent e old new
 counts_by_send e s t m old new f is c = subst (λ z. CountsEvent z old new) (sym is) (counts_sent s t m old new f c)
@@ -348,11 +344,6 @@ found_by_send e s t m fs o is at = subst (λ z. IsFlightFound z fs o) (sym is) (
 
 pub found_by_reception : (e : Event) (s t : List ℕ) (m : Message) (fs : List Flight) (o : Option ℕ) → e ≡ Received s t m → o ≡ position (is_between s t) fs → IsFlightFound e fs o
 found_by_reception e s t m fs o is at = subst (λ z. IsFlightFound z fs o) (sym is) (found_reception s t m fs o at)
-
--- a search that found none
-pub none_found : (p q : List ℕ) (fs : List Flight) (o : Option ℕ) → o ≡ position (is_between p q) fs → is_some o ≡ false → position (is_between p q) fs ≡ None
-none_found p q fs None is none = sym is
-none_found p q fs (Some i) is none = absurd (true≢false none)
 
 -- the flight of a reception, and whether it is ready
 pub ready_is : (e : Event) (s t : List ℕ) (m : Message) (fs : List Flight) (i : ℕ) (f g : Flight) → e ≡ Received s t m → position (is_between s t) fs ≡ Some i → (ltb (get_or fs i f).received (get_or fs i g).sent ≡ true) ↔ IsReceivable fs e

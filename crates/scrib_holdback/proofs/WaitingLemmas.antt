@@ -1,5 +1,5 @@
 -- What waits, after an item is put in or taken out.
-use Rattle.std.proofs.Common.{◌≡◌, ◌⊎◌, inl, inr, ◌||◌, Bool, true, false, cond, zero, suc, ℕ, ◌+◌, ◌-◌, ◌<◌, ◌≤◌, List, [], ◌∷◌, ◌++◌, length, length-append, get_or, set, position, slice_get, Option, Some, None, MatchOption, IfNone, IfSome, OnErr, Result, Ok, Err, is_some, Bor, refl, sym, ap, ◌∙◌, subst, append-nil, arith}
+use Rattle.std.proofs.Common.{◌≡◌, ◌⊎◌, ◌↔◌, inl, inr, ◌||◌, not, Bool, true, false, cond, zero, suc, ℕ, ◌+◌, ◌-◌, ◌<◌, ◌≤◌, List, [], ◌∷◌, ◌++◌, length, length-append, get_or, set, position, slice_get, Option, Some, None, MatchOption, IfNone, IfSome, OnErr, Result, Ok, Err, is_some, Bor, refl, sym, ap, ◌∙◌, subst, append-nil, arith}
 use Rattle.std.specs.List.{AllByRecursion, list_any}
 use Rattle.std.specs.Option.{option_copied}
 use Rattle.std.specs.Str.{bytes_eq}
@@ -13,7 +13,7 @@ use Rattle.scrib_holdback.specs.Reorderings.{is_own}
 use Rattle.scrib_holdback.specs.Waiters.{Waiters}
 use Rattle.scrib_holdback.specs.Holdings.{IsOldestWaiting}
 use Rattle.scrib_holdback.specs.Releases.{own_items}
-use Rattle.scrib_holdback.specs.Lanes.{waiting_items, positions, lane_roles, positions_at, StartsFull, AreLaid, HasPositions, IsTrimmed, IsSlotSkipped, HasNone, IsFirstItem, TakesFirst}
+use Rattle.scrib_holdback.specs.Lanes.{waiting_items, positions, lane_roles, IsPlaceOfLane, positions_at, StartsFull, AreLaid, HasPositions, IsTrimmed, IsSlotSkipped, HasNone, IsFirstItem, TakesFirst}
 use Rattle.scrib_holdback.proofs.OwnEvents.{name_itself, same_name}
 use Rattle.scrib_holdback.proofs.Positions.{first_at, none_at, no_any, any_left, or_true, all_without, all_weaker, all_pushed}
 use Rattle.scrib_holdback.proofs.ReleaseLemmas.{own_items-append, own_item_yes}
@@ -28,7 +28,7 @@ got_lane : (earlier later : List Lane) (lane : Lane) → slice_get (lane_roles (
 got_lane [] later lane = refl
 got_lane (y ∷ earlier) later lane = got_lane earlier later lane
 
-pub lane_found : (lanes : List Lane) (r : List ℕ) (i : ℕ) → position (λ (lane : Lane). bytes_eq r lane.role) lanes ≡ Some i → slice_get (lane_roles lanes) i ≡ Some r
+lane_found : (lanes : List Lane) (r : List ℕ) (i : ℕ) → position (λ (lane : Lane). bytes_eq r lane.role) lanes ≡ Some i → slice_get (lane_roles lanes) i ≡ Some r
 lane_found lanes r i at =
     let k = first_at (λ (lane : Lane). bytes_eq r lane.role) lanes i at in
     let got : slice_get (lane_roles (k.earlier ++ k.x ∷ k.later)) i ≡ Some k.x.role = subst (λ n. slice_get (lane_roles (k.earlier ++ k.x ∷ k.later)) n ≡ Some k.x.role) k.place (got_lane k.earlier k.later k.x) in
@@ -38,9 +38,18 @@ any_role : (lanes : List Lane) (r : List ℕ) → has_role r (lane_roles lanes) 
 any_role [] r = refl
 any_role (lane ∷ lanes) r = ap (λ b. bytes_eq r lane.role || b) (any_role lanes r)
 
-pub lane_missing : (lanes : List Lane) (r : List ℕ) → position (λ (lane : Lane). bytes_eq r lane.role) lanes ≡ None → has_role r (lane_roles lanes) ≡ false
+lane_missing : (lanes : List Lane) (r : List ℕ) → position (λ (lane : Lane). bytes_eq r lane.role) lanes ≡ None → has_role r (lane_roles lanes) ≡ false
 lane_missing lanes r at =
     any_role lanes r ∙ no_any (λ (lane : Lane). bytes_eq r lane.role) lanes (none_at (λ (lane : Lane). bytes_eq r lane.role) lanes at)
+
+pub first_placed : (lanes : List Lane) (r : List ℕ) (o : Option ℕ) → o ≡ position (λ (lane : Lane). bytes_eq r lane.role) lanes → IsPlaceOfLane r lanes o
+first_placed lanes r None e = lane_missing lanes r (sym e)
+first_placed lanes r (Some i) e = lane_found lanes r i (sym e)
+
+pub lane_role : (lanes : List Lane) (i : ℕ) (lane : Lane) → slice_get lanes i ≡ Some lane → slice_get (lane_roles lanes) i ≡ Some lane.role
+lane_role [] i lane e = absurd (cc)
+lane_role (l ∷ lanes) zero lane e = (let same : l ≡ lane = cc in ap (λ (z : Lane). Some z.role) same)
+lane_role (l ∷ lanes) (suc i) lane e = lane_role lanes i lane e
 
 met_here : (r : List ℕ) (roles : List (List ℕ)) → has_role r (r ∷ roles) ≡ true
 met_here r roles = ap (λ b. b || has_role r roles) (name_itself r)
@@ -57,9 +66,9 @@ none_met event r roles (x ∷ items) met none =
     let other : is_own r (event x) ≡ false = false_from_ne_true (is_own r (event x)) (λ y. true≢false (sym met.0 ∙ ap (λ z. has_role z roles) (sym (same_name r (subject_of (event x)) y)) ∙ none)) in
     ap (λ b. cond b (x ∷ own_items event r items) (own_items event r items)) other ∙ none_met event r roles items met.1 none
 
-pub placed : {A : Type 0} (event : A → Event) (lanes : List Lane) (r : List ℕ) (items : List A) (o : Option ℕ) → AllByRecursion (λ x. has_role (subject_of (event x)) (lane_roles lanes) ≡ true) items → o ≡ position (λ (lane : Lane). bytes_eq r lane.role) lanes → MatchOption o (own_items event r items ≡ []) (λ place. slice_get (lane_roles lanes) place ≡ Some r)
-placed event lanes r items None met e = none_met event r (lane_roles lanes) items met (lane_missing lanes r (sym e))
-placed event lanes r items (Some i) met e = lane_found lanes r i (sym e)
+pub placed : {A : Type 0} (event : A → Event) (lanes : List Lane) (r : List ℕ) (items : List A) (o : Option ℕ) → AllByRecursion (λ x. has_role (subject_of (event x)) (lane_roles lanes) ≡ true) items → IsPlaceOfLane r lanes o → MatchOption o (own_items event r items ≡ []) (λ place. slice_get (lane_roles lanes) place ≡ Some r)
+placed event lanes r items None met found = none_met event r (lane_roles lanes) items met found
+placed event lanes r items (Some i) met found = found
 
 -- before the first item
 pub laid_nothing : {A : Type 0} (event : A → Event) (lanes : List Lane) (slots : List (Option A)) (pushed : ℕ) → lanes ≡ [] → slots ≡ [] → AreLaid event (lane_roles lanes) (positions_at lanes) slots pushed
@@ -353,3 +362,16 @@ none_left items (Some x) some = tt
 pub on_err : {T E : Type 0} (r : Result T E) (P : Type 0) → P → OnErr r P
 on_err (Ok x) P p = tt
 on_err (Err e) P p = p
+
+-- a lane without a first position is that of a role of which nothing waits
+pub none_first : {A : Type 0} (event : A → Event) (lanes : List Lane) (slots : List (Option A)) (pushed place : ℕ) (r : List ℕ) (o : Option ℕ) (none : Bool) → AreLaid event (lane_roles lanes) (positions_at lanes) slots pushed → slice_get (lane_roles lanes) place ≡ Some r → HasFirst (positions_at lanes place) o → is_some o ≡ not none → (none ≡ true) ↔ (own_items event r (waiting_items slots) ≡ [])
+none_first event lanes slots pushed place r None true l at f e = (λ y. lane_empty event lanes slots pushed place l f r at, λ y. refl)
+none_first event lanes slots pushed place r None false l at f e = absurd (true≢false (sym e))
+none_first event lanes slots pushed place r (Some p) true l at f e = absurd (true≢false e)
+none_first {A} event lanes slots pushed place r (Some p) false l at f e =
+    let k = first_item event lanes slots pushed place p f.0 l f.1 in
+    let both : ◌≡◌ {A = Option (List ℕ)} (Some r) (Some (subject_of (event k.x))) = sym at ∙ k.first.role in
+    let same : r ≡ subject_of (event k.x) = cc in (
+      λ y. absurd (true≢false (sym y)),
+      λ none. (let clash : ◌≡◌ {A = List A} [] (k.x ∷ k.first.others) = sym none ∙ ap (λ s. own_items event s (waiting_items slots)) same ∙ k.first.first in absurd (cc)),
+    )

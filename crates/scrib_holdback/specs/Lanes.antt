@@ -1,5 +1,5 @@
 -- How what waits is stored. Only contracts of private functions and views cite this file.
-use Rattle.std.specs.Prelude.{◌≡◌, ℕ, zero, suc, ◌+◌, ◌-◌, ◌≤◌, Bool, true, List, [], ◌∷◌, ◌++◌, map, length, slice_get, Option, Some, None, MatchOption, if◌then◌else◌}
+use Rattle.std.specs.Prelude.{◌≡◌, ℕ, zero, suc, ◌+◌, ◌-◌, ◌≤◌, Bool, true, false, List, [], ◌∷◌, ◌++◌, map, length, slice_get, Option, Some, None, MatchOption, if◌then◌else◌}
 use Rattle.std.specs.List.{AllByRecursion}
 use Rattle.scrib_types.specs.declared.event.Event.{Event}
 use Rattle.scrib_types.specs.Logs.{subject_of}
@@ -24,6 +24,11 @@ positions t n (Some x ∷ slots) = if t x then n ∷ positions t (n + 1) slots e
 -- the roles of the lanes
 abbrev pub lane_roles : List Lane → List (List ℕ)
 lane_roles lanes = map (λ lane. lane.role) lanes
+
+-- the place is that of a lane of the role, or there is none
+abbrev pub IsPlaceOfLane : List ℕ → List Lane → Option ℕ → Type 0
+IsPlaceOfLane r lanes None = has_role r (lane_roles lanes) ≡ false
+IsPlaceOfLane r lanes (Some place) = slice_get (lane_roles lanes) place ≡ Some r
 
 -- the positions in the lane at this place
 abbrev pub positions_at : List Lane → ℕ → List ℕ

@@ -43,7 +43,7 @@ pub(crate) fn is_ready(flights: &[Flight], hint: usize, event: &Event) -> bool
     }
 }
 
-/// Makes room for the counts of the event's pair. The hint is as in [`is_ready`].
+/// Makes room for the counts of the event's pair. Returns the index of its flight. The hint is as in [`is_ready`].
 ///
 /// # Errors
 /// `AllocError` where memory or a reference count refuses it. The counts stay.
@@ -51,7 +51,7 @@ pub(crate) fn reserve(
     flights: &mut Vec<Flight>,
     hint: usize,
     event: &Event,
-) -> Result<(), AllocError>
+) -> Result<usize, AllocError>
     requires { AreDistinctFlights flights.old.items }
     ensures same { SameCounts flights.old.items flights.new.items }
     ensures kept { KeepsFlights flights.old.items flights.new.items }
@@ -61,7 +61,7 @@ pub(crate) fn reserve(
         Event::Sent { from, to, .. } | Event::Received { from, to, .. } => {
             reserve_pair(flights, hint, from, to)
         }
-        Event::Join { .. } => Ok(()),
+        Event::Join { .. } => Ok(hint),
     }
 }
 
@@ -230,23 +230,23 @@ fn has_unreceived(flights: &[Flight], hint: usize, from: &Role, to: &Role) -> bo
     }
 }
 
-// Adds the pair where it is missing.
+// Adds the pair where it is missing. Returns the index of its flight.
 fn reserve_pair(
     flights: &mut Vec<Flight>,
     hint: usize,
     from: &Role,
     to: &Role,
-) -> Result<(), AllocError>
+) -> Result<usize, AllocError>
     requires { AreDistinctFlights flights.old.items }
     ensures same { SameCounts flights.old.items flights.new.items }
     ensures kept { KeepsFlights flights.old.items flights.new.items }
     ensures made { OnOk result (IsTrue (list_any (is_between from.now to.now) flights.new.items)) }
 {
-    if place_of(flights, hint, from, to).is_some() {
-        return Ok(());
+    if let Some(place) = place_of(flights, hint, from, to) {
+        return Ok(place);
     }
-    add_pair(flights, from, to)?;
-    Ok(())
+    let place = add_pair(flights, from, to)?;
+    Ok(place)
 }
 
 // Adds the pair, which is missing. Returns the index of its flight.

@@ -9,6 +9,7 @@ ghost use Rattle.scrib_holdback.specs.Reorderings.{IsReordering};
 
 use crate::arrival::Arrival;
 use crate::flights::{Flight, count, count_at, count_ready, is_ready, ready_flight, reserve};
+use crate::lane_hints::LaneHints;
 use crate::pair_hints::PairHints;
 use crate::waiting::Waiting;
 use scrib_types::event::Event;
@@ -29,8 +30,9 @@ use std::marker::Model;
 pub struct Holdback<A: Arrival> {
     waiting: Waiting<A>,
     flights: Vec<Flight>,
-    // Where the flights are. Correctness does not depend on it.
+    // Where the flights are, and the lanes of their roles. Correctness does not depend on them.
     hints: PairHints,
+    lane_hints: LaneHints,
 }
 
 impl<A: Arrival> Model for Holdback<A> {
@@ -56,6 +58,7 @@ impl<A: Arrival> Holdback<A> {
             waiting: Waiting::new(alloc),
             flights: Vec::new(alloc),
             hints: PairHints::new(),
+            lane_hints: LaneHints::new(),
         }
     }
 
@@ -160,10 +163,10 @@ impl<A: Arrival> Holdback<A> {
         ensures same { IsFalse result → self.new ≡ self.old }
     {
         let unshared = event.get();
-        if !self.is_apart(unshared) {
+        let hint = self.hints.hint(event);
+        if !self.is_apart(hint, unshared) {
             return false;
         }
-        let hint = self.hints.hint(event);
         let Some(place) = ready_flight(&self.flights, hint, unshared) else {
             return false;
         };
@@ -175,22 +178,26 @@ impl<A: Arrival> Holdback<A> {
         true
     }
 
-    // Whether nothing waits of the event's role, nor of the role that it is sent to.
+    // Whether nothing waits of the event's role, nor of the role that it is sent to. The flight may be any index. Where
+    // it is that of the event's pair, the roles are found at once. So it is in the functions below.
     #[inline(always)]
-    fn is_apart(&self, event: &Event) -> bool
+    fn is_apart(&self, flight: usize, event: &Event) -> bool
         ensures { IsTrue result → IsApart A.event event.now self.now }
     {
-        self.has_idle_receiver(event) && self.waiting.has_none(event.subject())
+        self.has_idle_receiver(flight, event)
+            && self
+                .waiting
+                .has_none(self.lane_hints.subject(flight, event), event.subject())
     }
 
     // Whether nothing waits of the role that the event is sent to. Only a send is sent.
     #[inline(always)]
-    fn has_idle_receiver(&self, event: &Event) -> bool
+    fn has_idle_receiver(&self, flight: usize, event: &Event) -> bool
         ensures { IsTrue result → (r : List ℕ) → is_send_to r event.now ≡ true
             → own_items A.event r self.now.waiting ≡ [] }
     {
         match event {
-            Event::Sent { to, .. } => self.waiting.has_none(to),
+            Event::Sent { to, .. } => self.waiting.has_none(self.lane_hints.receiver(flight), to),
             Event::Join { .. } | Event::Received { .. } => true,
         }
     }
@@ -200,14 +207,23 @@ impl<A: Arrival> Holdback<A> {
         ensures { MatchOption result (self.now.waiting ≡ []) (λ place. IsOldestOfRole A.event self.now place) }
     {
         let arrival = self.waiting.oldest()?;
-        self.waiting.place_of(arrival.event().get().subject())
+        let shared = arrival.event();
+        self.waiting
+            .place_of(self.subject_hint(shared), shared.get().subject())
+    }
+
+    // The index at which the lane of the event's role may be.
+    fn subject_hint(&self, event: &SharedEvent) -> usize {
+        self.lane_hints.subject(self.hints.hint(event), event.get())
     }
 
     // Whether an arrival with this event is released at once.
     fn is_next(&self, event: &SharedEvent) -> bool
         ensures { IsTrue result ↔ IsNextArrival A.event event.now self.now }
     {
-        self.waiting.has_none(event.get().subject()) && self.is_ready(event)
+        self.waiting
+            .has_none(self.subject_hint(event), event.get().subject())
+            && self.is_ready(event)
     }
 
     // Whether an arrival with this event may happen next.
@@ -225,8 +241,11 @@ impl<A: Arrival> Holdback<A> {
         let shared = arrival.event();
         let hint = self.hints.hint(shared);
         let event = shared.get();
-        reserve(&mut self.flights, hint, event)?;
-        let place = self.waiting.add_role(event.subject())?;
+        let pair = reserve(&mut self.flights, hint, event)?;
+        self.hints.renew(shared, hint, pair);
+        let lane = self.lane_hints.subject(pair, event);
+        let place = self.waiting.add_role(lane, event.subject())?;
+        self.lane_hints.keep(pair, event, place);
         self.waiting.push(place, arrival)?;
         Ok(())
     }
@@ -286,7 +305,9 @@ impl<A: Arrival> Holdback<A> {
             → OnlyReceivers A.event (drop (index + 1) released.new.items) self.new }
         ensures capacity { vec_capacity released.new ≡ vec_capacity released.old }
     {
-        if let Some(place) = self.receiver_of(released[index].event().get()) {
+        let shared = released[index].event();
+        let flight = self.hints.hint(shared);
+        if let Some(place) = self.receiver_of(flight, shared.get()) {
             self.drain(place, released);
         }
     }
@@ -322,12 +343,12 @@ impl<A: Arrival> Holdback<A> {
     }
 
     // The place of the role that a send is to. A role that has none has nothing that waits.
-    fn receiver_of(&self, event: &Event) -> Option<usize>
+    fn receiver_of(&self, flight: usize, event: &Event) -> Option<usize>
         ensures { MatchOption result ((r : List ℕ) → is_send_to r event.now ≡ true → HasDue A.event r self.now → ⊥)
             (λ place. (r : List ℕ) → is_send_to r event.now ≡ true → slice_get self.now.roles place ≡ Some r) }
     {
         match event {
-            Event::Sent { to, .. } => self.waiting.place_of(to),
+            Event::Sent { to, .. } => self.waiting.place_of(self.lane_hints.receiver(flight), to),
             Event::Join { .. } | Event::Received { .. } => None,
         }
     }

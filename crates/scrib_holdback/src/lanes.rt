@@ -1,8 +1,8 @@
 //! Where the arrivals of each role wait.
 
-ghost use Rattle.std.specs.Prelude.{◌≡◌, ◌<◌, ◌++◌, ◌∷◌, [], ℕ, List, IfNone, MatchOption, length, option_to_list, position, OnErr, OnOk};
+ghost use Rattle.std.specs.Prelude.{◌≡◌, ◌<◌, ◌++◌, ◌∷◌, [], ℕ, List, IfNone, IsTrue, MatchOption, Some, length, option_to_list, position, slice_get, OnErr, OnOk};
 ghost use Rattle.std.specs.Str.{bytes_eq};
-ghost use Rattle.scrib_holdback.specs.Lanes.{HasPositions, positions_at};
+ghost use Rattle.scrib_holdback.specs.Lanes.{HasPositions, IsPlaceOfLane, lane_roles, positions_at};
 
 use scrib_types::name::Role;
 use std::alloc::AllocError;
@@ -15,8 +15,31 @@ pub(crate) struct Lane {
     pub(crate) positions: VecDeque<usize>,
 }
 
-/// The place of the role's lane.
-pub(crate) fn lane_of(lanes: &[Lane], role: &Role) -> Option<usize>
+/// The place of the role's lane. The hint may be any index. The lane is looked for there first.
+#[inline(always)]
+pub(crate) fn find_lane(lanes: &[Lane], hint: usize, role: &Role) -> Option<usize>
+    ensures { IsPlaceOfLane role.now lanes.now result }
+{
+    if is_lane_of(lanes, hint, role) {
+        return Some(hint);
+    }
+    first_lane(lanes, role)
+}
+
+// Whether the lane at this index is the role's.
+#[inline(always)]
+fn is_lane_of(lanes: &[Lane], index: usize, role: &Role) -> bool
+    ensures { IsTrue result → slice_get (lane_roles lanes.now) index ≡ Some role.now }
+{
+    match lanes.get(index) {
+        Some(lane) => role.equal(&lane.role),
+        None => false,
+    }
+}
+
+// The place of the first lane of the role.
+#[inline(never)]
+fn first_lane(lanes: &[Lane], role: &Role) -> Option<usize>
     ensures { result ≡ position (λ lane. bytes_eq role.now lane.role) lanes.now }
 {
     lanes.iter().position(|lane| role.equal(&lane.role))

@@ -4,6 +4,7 @@
 pub mod arrival;
 mod flights;
 pub mod holdback;
+mod lane_hints;
 mod lanes;
 pub mod law;
 mod pair_hints;

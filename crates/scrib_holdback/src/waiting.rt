@@ -7,7 +7,7 @@ ghost use Rattle.scrib_holdback.specs.Lanes.{HasNone, IsFirstItem, IsSlotSkipped
 ghost use Rattle.scrib_holdback.specs.Releases.{own_items};
 
 use crate::arrival::Arrival;
-use crate::lanes::{Lane, first_position, lane_of, pop_position, push_position};
+use crate::lanes::{Lane, find_lane, first_position, pop_position, push_position};
 use scrib_types::name::Role;
 use std::alloc::{AllocError, Global};
 use std::collections::VecDeque;
@@ -64,24 +64,26 @@ impl<A: Arrival> Waiting<A> {
         self.slots.len()
     }
 
-    /// The place of the role. A role that has none has nothing that waits.
-    pub(crate) fn place_of(&self, role: &Role) -> Option<usize>
+    /// The place of the role. A role that has none has nothing that waits. The hint may be any index. It is where the
+    /// role is looked for first.
+    #[inline(always)]
+    pub(crate) fn place_of(&self, hint: usize, role: &Role) -> Option<usize>
         ensures { MatchOption result (own_items A.event role.now self.now.items ≡ [])
             (λ place. slice_get self.now.roles place ≡ Some role.now) }
     {
-        lane_of(&self.lanes, role)
+        find_lane(&self.lanes, hint, role)
     }
 
-    /// The place of the role, which is added where it is missing.
+    /// The place of the role, which is added where it is missing. The hint is as in [`Waiting::place_of`].
     ///
     /// # Errors
     /// `AllocError` where memory or a reference count refuses it. Nothing changes.
-    pub(crate) fn add_role(&mut self, role: &Role) -> Result<usize, AllocError>
+    pub(crate) fn add_role(&mut self, hint: usize, role: &Role) -> Result<usize, AllocError>
         ensures place { IfOk result (λ place. slice_get self.new.roles place ≡ Some role.now) }
         ensures items { self.new.items ≡ self.old.items }
         ensures pushed { self.new.pushed ≡ self.old.pushed }
     {
-        if let Some(place) = lane_of(&self.lanes, role) {
+        if let Some(place) = find_lane(&self.lanes, hint, role) {
             return Ok(place);
         }
         let positions = VecDeque::new(*self.lanes.allocator());
@@ -151,15 +153,15 @@ impl<A: Arrival> Waiting<A> {
         self.pushed += 1;
     }
 
-    /// Whether nothing of the role waits.
+    /// Whether nothing of the role waits. The hint is as in [`Waiting::place_of`].
     #[inline(always)]
-    pub(crate) fn has_none(&self, role: &Role) -> bool
+    pub(crate) fn has_none(&self, hint: usize, role: &Role) -> bool
         ensures { IsTrue result ↔ (own_items A.event role.now self.now.items ≡ []) }
     {
-        match self.place_of(role) {
-            Some(place) => self.first(place).is_none(),
-            None => true,
-        }
+        let Some(place) = self.place_of(hint, role) else {
+            return true;
+        };
+        first_position(&self.lanes, place).is_none()
     }
 
     /// The oldest arrival.

@@ -1,19 +1,16 @@
 use Rattle.std.proofs.Common.{◌∙◌, sym, ap, position}
 use Rattle.scrib_holdback.specs.Holdings.{is_between}
-use Rattle.scrib_holdback.proofs.FlightLemmas.{none_found, some_has, found_has}
+use Rattle.scrib_holdback.proofs.FlightLemmas.{found_has}
 use Rattle.scrib_holdback.proofs.flights.reserve_pair.Goals as goal
 
-pub returns-then-is_some-clause-made : goal.returns-then-is_some-clause-made
-returns-then-is_some-clause-made c =
-    some_has c.args.from.now c.args.to.now c.args.flights.now.items c.place_of.result
-    (c.place_of.ensures ∙ ap (position (is_between c.args.from.now c.args.to.now)) c.deref.ensures.value)
-    (sym c.is_some.ensures ∙ c.if-is_some.true)
+pub returns-in-Some-clause-made : goal.returns-in-Some-clause-made
+returns-in-Some-clause-made c =
+    found_has c.args.from.now c.args.to.now c.args.flights.now.items _
+    (ap (position (is_between c.args.from.now c.args.to.now)) (sym c.deref.ensures.value) ∙ sym c.place_of.ensures ∙ c.in-Some.is)
 
 pub add_pair-requires-clause-missing : goal.add_pair-requires-clause-missing
 add_pair-requires-clause-missing c =
-    none_found c.args.from.now c.args.to.now c.args.flights.now.items c.place_of.result
-    (c.place_of.ensures ∙ ap (position (is_between c.args.from.now c.args.to.now)) c.deref.ensures.value)
-    (sym c.is_some.ensures ∙ c.if-is_some.false)
+    ap (position (is_between c.args.from.now c.args.to.now)) (sym c.deref.ensures.value) ∙ sym c.place_of.ensures ∙ c.in_default.is
 
 pub returns-clause-made : goal.returns-clause-made
-returns-clause-made c = found_has c.args.from.now c.args.to.now c.add_pair.new.flights.items _ c.in_ok-add_pair.ensures.made
+returns-clause-made c = found_has c.args.from.now c.args.to.now c.add_pair.new.flights.items _ c.in_ok-place.ensures.made
