@@ -1,5 +1,5 @@
 -- Deadlines, and what waits.
-use Rattle.std.proofs.Common.{◌≡◌, ◌∙◌, ◌⊎◌, ◌&&◌, ℕ, ◌+◌, ◌<◌, ◌≤◌, Bool, true, false, List, [], ◌∷◌, ◌++◌, Option, nat_eq, eqb-true, eq-eqb, true≢false, length, get_or, drop, refl, sym, ap, subst, inl, inr, arith}
+use Rattle.std.proofs.Common.{◌≡◌, ◌∙◌, ◌⊎◌, ◌&&◌, ℕ, ◌+◌, ◌<◌, ◌≤◌, Bool, true, false, List, [], ◌∷◌, ◌++◌, Option, nat_eq, eqb-true, eq-eqb, true≢false, refl, sym, ap, subst, inl, inr, arith}
 use Rattle.std.specs.List.{AllByRecursion}
 use Rattle.std.proofs.lemmas.Bool.{cases_Bool, and_parts}
 use Rattle.scrib_hold_stage.specs.declared.noted.Noted.{Noted}
@@ -7,7 +7,7 @@ use Rattle.scrib_hold_stage.specs.declared.conversation.Conversation.{Conversati
 use Rattle.scrib_hold_stage.specs.declared.deadlines.Deadline.{Deadline}
 use Rattle.scrib_hold_stage.specs.Conversations.{waiting_at}
 use Rattle.scrib_hold_stage.specs.Changes.{Conversations, conversation_at, LeavesOthers}
-use Rattle.scrib_hold_stage.specs.Deadlines.{IsInOrder, due_time, how_many, is_at, is_deadline, AreListed, StartsAfter, StartsLate}
+use Rattle.scrib_hold_stage.specs.Deadlines.{IsInOrder, due_time, how_many, is_at, is_deadline, AreListed, StartsAfter}
 use Rattle.scrib_hold_stage.proofs.Lists.{all_append, all_weaker, many-append, many-here, many-past, order_push}
 
 -- what holds of the time of each deadline holds of each time that has one
@@ -145,19 +145,3 @@ listed_fewer {A} time later id old new ds l le others fewer = record {
       (λ n some. l.complete id n (omega (arith, fewer n)))
       (λ k differs n some. l.complete k n (subst (λ (o : Option (Conversation A)). 0 < how_many (is_at n) (waiting_at o)) (others k differs) some));
 }
-
--- ---- the first two deadlines
-
-pub first_is : (ds : List Deadline) (d : Deadline) → 0 < length ds → d ≡ get_or ds 0 d → ds ≡ d ∷ drop 1 ds
-first_is [] d some at = absurd (omega (arith, some))
-first_is (a ∷ ds) d some at = ap (λ z. z ∷ ds) (sym at)
-
-pub second_late : (time bound : ℕ) (ds : List Deadline) (d : Deadline) → d ≡ get_or ds 1 d → time < d.time + bound → StartsLate time bound (drop 1 ds)
-second_late time bound [] d at late = tt
-second_late time bound (a ∷ []) d at late = tt
-second_late time bound (a ∷ b ∷ ds) d at late = omega (arith, ap (λ (z : Deadline). z.time) at, late)
-
-pub none_second : (time bound : ℕ) (ds : List Deadline) → (1 < length ds → ⊥) → StartsLate time bound (drop 1 ds)
-none_second time bound [] few = tt
-none_second time bound (a ∷ []) few = tt
-none_second time bound (a ∷ b ∷ ds) few = absurd (few (omega arith))

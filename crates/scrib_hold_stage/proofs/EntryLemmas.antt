@@ -15,13 +15,6 @@ noted-append (Notes x ∷ es) e = ap (λ z. x ∷ z) (noted-append es e)
 noted-append (Opens id ∷ es) e = noted-append es e
 noted-append (Passes ∷ es) e = noted-append es e
 
--- there are no more events than entries
-pub noted_count : {A : Type 0} (es : List (Entry A)) → length (noted_in es) ≤ length es
-noted_count [] = omega arith
-noted_count (Notes x ∷ es) = omega (arith, noted_count es)
-noted_count (Opens id ∷ es) = omega (arith, noted_count es)
-noted_count (Passes ∷ es) = omega (arith, noted_count es)
-
 -- ---- openings
 
 some_none : {X : Type 0} (x : X) → ◌≡◌ {A = Option X} None (Some x) → ⊥

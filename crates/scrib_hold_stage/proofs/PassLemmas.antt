@@ -1,5 +1,5 @@
 -- Events that are released at once and alone, at entries at which nothing expires.
-use Rattle.std.proofs.Common.{◌≡◌, ◌∙◌, zero, suc, ℕ, ◌+◌, ◌-◌, ◌^◌, ◌<◌, ◌≤◌, min, ltb, true, List, [], ◌∷◌, ◌++◌, Some, length, slice_get, refl, sym, ap, subst, inl, inr, arith}
+use Rattle.std.proofs.Common.{◌≡◌, ◌∙◌, zero, suc, ℕ, ◌+◌, ◌-◌, ◌^◌, ◌<◌, ◌≤◌, ltb, true, List, [], ◌∷◌, ◌++◌, Some, length, slice_get, refl, sym, ap, subst, inl, inr, arith}
 use Rattle.std.specs.List.{AllByRecursion}
 use Rattle.std.specs.Map.{values_of}
 use Rattle.std.proofs.lemmas.Bool.{cases_Bool, ltb-true, ltb-false}
@@ -63,7 +63,7 @@ last_is [] x = refl
 last_is (y ∷ xs) x = last_is xs x
 
 pub passes_alone : {A : Type 0} (event : A → Event) (id : ℕ) (e : Event) (old new : StageState A) → old.time + 1 < 2 ^ 64 → PassesAloneOf event id e old.conversations new.conversations
-    → new.bound ≡ old.bound → new.time ≡ old.time + 1 → new.deadlines ≡ old.deadlines → new.events ≡ min (old.events + 1) (2 ^ 64 - 1) → new.expired ≡ old.expired
+    → new.bound ≡ old.bound → new.time ≡ old.time + 1 → new.deadlines ≡ old.deadlines → new.others ≡ old.others → new.expired ≡ old.expired
     → StartsLate (old.time + 1) old.bound old.deadlines → stages.PassesStageAlone event id e old new
 passes_alone {A} event id e old new small p b t d n g late = λ arrival is released.
     (let x : Noted A = record { conversation = id; time = old.time + 1; arrival = arrival } in
@@ -78,7 +78,7 @@ passes_alone {A} event id e old new small p b t d n g late = λ arrival is relea
 
 -- ---- a deadline passes whose event waits no more
 
-dropped : {A : Type 0} (event : A → Event) (old new : StageState A) (d : Deadline) → old.deadlines ≡ d ∷ new.deadlines → new.bound ≡ old.bound → new.time ≡ old.time → new.conversations ≡ old.conversations → new.events ≡ old.events → new.expired ≡ old.expired
+dropped : {A : Type 0} (event : A → Event) (old new : StageState A) (d : Deadline) → old.deadlines ≡ d ∷ new.deadlines → new.bound ≡ old.bound → new.time ≡ old.time → new.conversations ≡ old.conversations → new.others ≡ old.others → new.expired ≡ old.expired
     → IsNotOldest d.time (conversation_at old.conversations d.conversation) → (bound : ℕ) (entries : List (Entry A)) (earlier expired : List (Noted A)) → HasStaged event bound entries earlier expired old → HasStaged event bound entries earlier expired new
 dropped {A} event old new d was b t c e g other bound entries earlier expired a = record {
   kept = deadline_skipped event bound entries earlier expired old new a.kept d was b t e g other (λ k. ap (λ (z : Conversations A). conversation_at z k) c);
@@ -101,7 +101,7 @@ read_after event entry old mid new released now to r = record {
 
 pub passes_beside : {A : Type 0} (event : A → Event) (id : ℕ) (e : Event) (old new : StageState A) (d : Deadline) → old.deadlines ≡ d ∷ new.deadlines → IsNotOldest d.time (conversation_at old.conversations d.conversation)
     → old.time + 1 < 2 ^ 64 → PassesAloneOf event id e old.conversations new.conversations
-    → new.bound ≡ old.bound → new.time ≡ old.time + 1 → new.events ≡ min (old.events + 1) (2 ^ 64 - 1) → new.expired ≡ old.expired
+    → new.bound ≡ old.bound → new.time ≡ old.time + 1 → new.others ≡ old.others → new.expired ≡ old.expired
     → StartsLate (old.time + 1) old.bound new.deadlines → stages.PassesStageAlone event id e old new
 passes_beside {A} event id e old new d was other small p b t n g late = λ arrival is released.
     (let mid : StageState A = record old { deadlines = new.deadlines } in

@@ -22,7 +22,7 @@ HeldIn event bound entries released expired conversations id =
 
 -- ---- no entry was read
 
-pub kept_initially : {A : Type 0} (event : A → Event) (bound : ℕ) (s : StageState A) → s.bound ≡ bound → s.time ≡ 0 → s.conversations ≡ [] → s.deadlines ≡ [] → s.events ≡ 0 → s.expired ≡ 0 → HasStaged event bound [] [] [] s
+pub kept_initially : {A : Type 0} (event : A → Event) (bound : ℕ) (s : StageState A) → s.bound ≡ bound → s.time ≡ 0 → s.conversations ≡ [] → s.deadlines ≡ [] → s.others ≡ 0 → s.expired ≡ 0 → HasStaged event bound [] [] [] s
 kept_initially {A} event bound s b t c d e x =
     let none : (id : ℕ) → conversation_at s.conversations id ≡ None = λ id. ap (λ z. conversation_at z id) c in
     record {
@@ -37,7 +37,7 @@ kept_initially {A} event bound s b t c d e x =
           within = subst (AllByRecursion (λ (k : Deadline). k.time ≤ s.time)) (sym d) tt;
           complete = λ id n some. absurd (omega (arith, subst (λ (z : Option (Conversation A)). 0 < how_many (is_at n) (waiting_at z)) (none id) some));
         };
-        events = e;
+        events = (let none : length (noted_in {A = A} []) ≡ 0 = refl in omega (arith, none, e, t));
         expired_count = x;
         room = omega (arith, ap length d, t);
       };
@@ -87,7 +87,7 @@ module _ {A : Type 0} (event : A → Event) (bound : ℕ) (entries : List (Entry
       push_waiting event bound x.conversation x (noted_of x.conversation (noted_in entries)) (noted_of x.conversation earlier) (noted_of x.conversation expired) before now
       (conversation_at old.conversations x.conversation) (conversation_at new.conversations x.conversation) p.pushed (opening_of x.conversation entries) (a.kept.held x.conversation)
 
-  pub event_read : old.time + 1 < 2 ^ 64 → new.bound ≡ old.bound → new.time ≡ old.time + 1 → new.events ≡ old.events + 1 → new.expired ≡ old.expired → AreListed (old.time + 1) new.conversations new.deadlines → length new.deadlines ≤ length old.deadlines + 1
+  pub event_read : old.time + 1 < 2 ^ 64 → new.bound ≡ old.bound → new.time ≡ old.time + 1 → new.others ≡ old.others → new.expired ≡ old.expired → AreListed (old.time + 1) new.conversations new.deadlines → length new.deadlines ≤ length old.deadlines + 1
       → IsStageKept event bound (entries ++ Notes x ∷ []) (earlier ++ p.pushed.given) expired new
   event_read small b t e g l r = record {
     bounded = b ∙ a.kept.bounded;
@@ -96,7 +96,7 @@ module _ {A : Type 0} (event : A → Event) (bound : ℕ) (entries : List (Entry
     numbered = numbered_push 1 entries (Notes x) a.kept.numbered (omega (arith, at, a.kept.timed));
     held = by_id x.conversation (HeldIn event bound (entries ++ Notes x ∷ []) (earlier ++ p.pushed.given) expired new.conversations) held_here held_there;
     listed = subst (λ z. AreListed z new.conversations new.deadlines) (sym t) l;
-    events = omega (arith, e, a.kept.events, ap length (noted-append entries (Notes x)), length-append (noted_in entries) (x ∷ []));
+    events = omega (arith, e, t, a.kept.events, ap length (noted-append entries (Notes x)), length-append (noted_in entries) (x ∷ []));
     expired_count = g ∙ a.kept.expired_count;
     room = omega (arith, r, t, a.kept.room);
   }
@@ -147,7 +147,7 @@ module _ {A : Type 0} (event : A → Event) (bound : ℕ) (entries : List (Entry
       (opening_other 1 k entries (Opens i) (differ_back i k differs)) (same_events k) (others_added i k earlier p.opened.given differs opened_given_own) refl (p.others k differs)
       (a.kept.held k)
 
-  pub opening_read : old.time + 1 < 2 ^ 64 → new.bound ≡ old.bound → new.time ≡ old.time + 1 → new.events ≡ old.events → new.expired ≡ old.expired → new.deadlines ≡ old.deadlines
+  pub opening_read : old.time + 1 < 2 ^ 64 → new.bound ≡ old.bound → new.time ≡ old.time + 1 → new.others ≡ old.others + 1 → new.expired ≡ old.expired → new.deadlines ≡ old.deadlines
       → IsStageKept event bound (entries ++ Opens i ∷ []) (earlier ++ p.opened.given) expired new
   opening_read small b t e g d = record {
     bounded = b ∙ a.kept.bounded;
@@ -158,7 +158,7 @@ module _ {A : Type 0} (event : A → Event) (bound : ℕ) (entries : List (Entry
     listed = subst (λ z. AreListed new.time new.conversations z) (sym d)
         (listed_fewer old.time new.time i old.conversations new.conversations old.deadlines a.kept.listed (omega (arith, t)) p.others
         (λ n. omega (arith, open_waiting event bound i (noted_of i (noted_in entries)) (noted_of i earlier) (noted_of i expired) before now (conversation_at old.conversations i) (conversation_at new.conversations i) p.opened (opening_of i entries) (a.kept.held i) (is_at n))));
-    events = omega (arith, e, a.kept.events, ap length (noted-append entries (Opens i) ∙ append-nil (noted_in entries)));
+    events = omega (arith, e, t, a.kept.events, ap length (noted-append entries (Opens i) ∙ append-nil (noted_in entries)));
     expired_count = g ∙ a.kept.expired_count;
     room = omega (arith, ap length d, t, a.kept.room);
   }
@@ -166,7 +166,7 @@ module _ {A : Type 0} (event : A → Event) (bound : ℕ) (entries : List (Entry
 -- ---- another entry is read
 
 pub other_read : {A : Type 0} (event : A → Event) (bound : ℕ) (entries : List (Entry A)) (earlier expired : List (Noted A)) (old new : StageState A) → HasStaged event bound entries earlier expired old
-    → old.time + 1 < 2 ^ 64 → new.bound ≡ old.bound → new.time ≡ old.time + 1 → new.conversations ≡ old.conversations → new.events ≡ old.events → new.expired ≡ old.expired → new.deadlines ≡ old.deadlines
+    → old.time + 1 < 2 ^ 64 → new.bound ≡ old.bound → new.time ≡ old.time + 1 → new.conversations ≡ old.conversations → new.others ≡ old.others + 1 → new.expired ≡ old.expired → new.deadlines ≡ old.deadlines
     → IsStageKept event bound (entries ++ Passes ∷ []) earlier expired new
 other_read {A} event bound entries earlier expired old new a small b t c e g d =
     let same : noted_in (entries ++ Passes ∷ []) ≡ noted_in entries = noted-append entries Passes ∙ append-nil (noted_in entries) in
@@ -183,7 +183,7 @@ other_read {A} event bound entries earlier expired old new a small b t c e g d =
       listed = subst (λ z. AreListed new.time new.conversations z) (sym d)
           (listed_fewer old.time new.time 0 old.conversations new.conversations old.deadlines a.kept.listed (omega (arith, t)) other
           (λ n. omega (arith, ap (λ z. how_many (is_at n) (waiting_at (conversation_at z 0))) c)));
-      events = e ∙ a.kept.events ∙ ap length (sym same);
+      events = omega (arith, e, t, a.kept.events, ap length same);
       expired_count = g ∙ a.kept.expired_count;
       room = omega (arith, ap length d, t, a.kept.room);
     }
@@ -191,7 +191,7 @@ other_read {A} event bound entries earlier expired old new a small b t c e g d =
 -- ---- the first deadline passes
 
 module _ {A : Type 0} (event : A → Event) (bound : ℕ) (entries : List (Entry A)) (earlier expired : List (Noted A)) (old new : StageState A) (a : IsStageKept event bound entries earlier expired old) (d : Deadline)
-    (was : old.deadlines ≡ d ∷ new.deadlines) (b : new.bound ≡ old.bound) (t : new.time ≡ old.time) (e : new.events ≡ old.events) where
+    (was : old.deadlines ≡ d ∷ new.deadlines) (b : new.bound ≡ old.bound) (t : new.time ≡ old.time) (e : new.others ≡ old.others) where
   in_order : IsInOrder time_of (waiting_at (conversation_at old.conversations d.conversation))
   in_order =
       let i = d.conversation in
@@ -251,7 +251,7 @@ module _ {A : Type 0} (event : A → Event) (bound : ℕ) (entries : List (Entry
       numbered = a.numbered;
       held = by_id d.conversation (HeldIn event bound entries (earlier ++ p.expired.oldest ∷ p.expired.given) (expired ++ p.expired.oldest ∷ []) new.conversations) expired_here expired_there;
       listed = subst (λ z. AreListed z new.conversations new.deadlines) (sym t) (listed_rest old.time old.conversations new.conversations d new.deadlines listed_was p.others still_waits);
-      events = e ∙ a.events;
+      events = omega (arith, e, t, a.events);
       expired_count = omega (arith, g, a.expired_count, length-append expired (p.expired.oldest ∷ []));
       room = omega (arith, t, a.room, ap length was, length-append expired (p.expired.oldest ∷ []));
     }
@@ -282,7 +282,7 @@ module _ {A : Type 0} (event : A → Event) (bound : ℕ) (entries : List (Entry
         (listed_rest old.time old.conversations new.conversations d new.deadlines listed_was (λ k differs. same k)
         (λ n some. (let had : 0 < how_many (is_at n) (waiting_at (conversation_at old.conversations d.conversation)) = subst (λ (z : Option (Conversation A)). 0 < how_many (is_at n) (waiting_at z)) (same d.conversation) some in
         (had, later_waits other n had))));
-    events = e ∙ a.events;
+    events = omega (arith, e, t, a.events);
     expired_count = g ∙ a.expired_count;
     room = omega (arith, t, a.room, ap length was);
   }

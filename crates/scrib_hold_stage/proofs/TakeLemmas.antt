@@ -4,13 +4,13 @@ use Rattle.std.proofs.Math.Nat.{min-eq_left}
 use Rattle.scrib_types.specs.declared.event.Event.{Event}
 use Rattle.scrib_hold_stage.specs.declared.noted.Noted.{Noted}
 use Rattle.scrib_hold_stage.specs.declared.deadlines.Deadline.{Deadline}
+use Rattle.scrib_hold_stage.specs.declared.stage.HoldStage.{HoldStage}
 use Rattle.scrib_hold_stage.specs.Entries.{Entry, Opens, Passes, note}
 use Rattle.scrib_hold_stage.specs.Conversations.{IsNotOldest}
 use Rattle.scrib_hold_stage.specs.Changes.{conversation_at, IsPushedOf, IsOpenedOf, IsExpiredOf}
 use Rattle.scrib_hold_stage.specs.Deadlines.{AreListed}
 use Rattle.scrib_hold_stage.specs.Stages.{StageState, IsStageKept, HasStaged}
 use Rattle.scrib_hold_stage.specs.Steps.{IsEntryTaken, IsDeadlinePassed}
-use Rattle.scrib_hold_stage.proofs.EntryLemmas.{noted_count}
 use Rattle.scrib_hold_stage.proofs.HeldLemmas.{AreOwn}
 use Rattle.scrib_hold_stage.proofs.DeadlineLemmas.{listed_more, listed_same}
 use Rattle.scrib_hold_stage.proofs.StageLemmas.{event_waits, event_read, opening_read, other_read, expired_own, deadline_expired, deadline_skipped}
@@ -18,6 +18,13 @@ use Rattle.scrib_hold_stage.proofs.StageLemmas.{event_waits, event_read, opening
 -- a count that fits is counted up
 counted_up : (n m : ℕ) → m ≡ min (n + 1) (2 ^ 64 - 1) → n + 1 < 2 ^ 64 → m ≡ n + 1
 counted_up n m e small = e ∙ min-eq_left (omega arith)
+
+-- an entry that is no event is counted
+pub began_other : {A : Type 0} (old begun : HoldStage A) (n : ℕ) → begun ≡ record old { time = old.time + 1 } → n ≡ min (begun.others + 1) (2 ^ 64 - 1)
+    → record begun { others = n } ≡ record old { time = old.time + 1; others = min (old.others + 1) (2 ^ 64 - 1) }
+began_other {A} old begun n begins e =
+    ap (λ (s : HoldStage A). record s { others = n }) begins
+    ∙ ap (λ m. record old { time = old.time + 1; others = m }) (e ∙ ap (λ (s : HoldStage A). min (s.others + 1) (2 ^ 64 - 1)) begins)
 
 -- the first item behind others
 first_given : {X : Type 0} (released given : List X) (y : X) → slice_get (released ++ given) (length released) ≡ Some y → (rest : List X) × (given ≡ y ∷ rest)
@@ -29,7 +36,7 @@ first_given (r ∷ rs) given y e = first_given rs given y e
 
 module _ {A : Type 0} (event : A → Event) (id : ℕ) (arrival : A) (old begun new : StageState A) (released now : List (Noted A)) (begins : begun ≡ record old { time = old.time + 1 }) (small : old.time + 1 < 2 ^ 64)
     (pushed : IsPushedOf event (record { conversation = id; time = begun.time; arrival = arrival }) begun.conversations new.conversations released now)
-    (b : new.bound ≡ begun.bound) (t : new.time ≡ begun.time) (e : new.events ≡ min (begun.events + 1) (2 ^ 64 - 1)) (g : new.expired ≡ begun.expired) where
+    (b : new.bound ≡ begun.bound) (t : new.time ≡ begun.time) (e : new.others ≡ begun.others) (g : new.expired ≡ begun.expired) where
   abbrev item : Noted A
   item = record { conversation = id; time = old.time + 1; arrival = arrival }
 
@@ -39,8 +46,8 @@ module _ {A : Type 0} (event : A → Event) (id : ℕ) (arrival : A) (old begun 
   time_is : begun.time ≡ old.time + 1
   time_is = ap (λ (s : StageState A). s.time) begins
 
-  events_are : begun.events ≡ old.events
-  events_are = ap (λ (s : StageState A). s.events) begins
+  others_are : begun.others ≡ old.others
+  others_are = ap (λ (s : StageState A). s.others) begins
 
   by_listed : ((bound : ℕ) (entries : List (Entry A)) (earlier expired : List (Noted A)) → HasStaged event bound entries earlier expired old → AreListed (old.time + 1) new.conversations new.deadlines)
       → length new.deadlines ≤ length old.deadlines + 1 → IsEntryTaken event (note id (old.time + 1) arrival) old new released now
@@ -50,7 +57,7 @@ module _ {A : Type 0} (event : A → Event) (id : ℕ) (arrival : A) (old begun 
     after = λ bound entries earlier expired a.
         event_read event bound entries earlier expired released now item old new item_pushed a refl small
         (b ∙ ap (λ (s : StageState A). s.bound) begins) (t ∙ time_is)
-        (counted_up old.events new.events (e ∙ ap (λ n. min (n + 1) (2 ^ 64 - 1)) events_are) (omega (arith, small, a.kept.events, a.kept.timed, noted_count entries)))
+        (e ∙ others_are)
         (g ∙ ap (λ (s : StageState A). s.expired) begins) (l bound entries earlier expired a) r;
   }
 
@@ -80,8 +87,8 @@ module _ {A : Type 0} (event : A → Event) (id : ℕ) (arrival : A) (old begun 
 
 -- ---- an opening, and another entry
 
-pub taken_opening : {A : Type 0} (event : A → Event) (id : ℕ) (old begun new : StageState A) (released now : List (Noted A)) → begun ≡ record old { time = old.time + 1 } → old.time + 1 < 2 ^ 64
-    → IsOpenedOf event id begun.conversations new.conversations released now → new.bound ≡ begun.bound → new.time ≡ begun.time → new.events ≡ begun.events → new.expired ≡ begun.expired → new.deadlines ≡ begun.deadlines
+pub taken_opening : {A : Type 0} (event : A → Event) (id : ℕ) (old begun new : StageState A) (released now : List (Noted A)) → begun ≡ record old { time = old.time + 1; others = min (old.others + 1) (2 ^ 64 - 1) } → old.time + 1 < 2 ^ 64
+    → IsOpenedOf event id begun.conversations new.conversations released now → new.bound ≡ begun.bound → new.time ≡ begun.time → new.others ≡ begun.others → new.expired ≡ begun.expired → new.deadlines ≡ begun.deadlines
     → IsEntryTaken event (Opens id) old new released now
 taken_opening {A} event id old begun new released now begins small opened b t e g d =
     let p : IsOpenedOf event id old.conversations new.conversations released now = subst (λ (s : StageState A). IsOpenedOf event id s.conversations new.conversations released now) begins opened in
@@ -90,11 +97,12 @@ taken_opening {A} event id old begun new released now begins small opened b t e 
       appended = p.opened.appended;
       after = λ bound entries earlier expired a.
           opening_read event bound entries earlier expired released now id old new p a small
-          (b ∙ ap (λ (s : StageState A). s.bound) begins) (t ∙ ap (λ (s : StageState A). s.time) begins) (e ∙ ap (λ (s : StageState A). s.events) begins)
+          (b ∙ ap (λ (s : StageState A). s.bound) begins) (t ∙ ap (λ (s : StageState A). s.time) begins)
+          (counted_up old.others new.others (e ∙ ap (λ (s : StageState A). s.others) begins) (omega (arith, small, a.kept.events)))
           (g ∙ ap (λ (s : StageState A). s.expired) begins) (d ∙ ap (λ (s : StageState A). s.deadlines) begins);
     }
 
-pub taken_other : {A : Type 0} (event : A → Event) (old new : StageState A) (released : List (Noted A)) → new ≡ record old { time = old.time + 1 } → old.time + 1 < 2 ^ 64 → IsEntryTaken event Passes old new released released
+pub taken_other : {A : Type 0} (event : A → Event) (old new : StageState A) (released : List (Noted A)) → new ≡ record old { time = old.time + 1; others = min (old.others + 1) (2 ^ 64 - 1) } → old.time + 1 < 2 ^ 64 → IsEntryTaken event Passes old new released released
 taken_other {A} event old new released begins small = record {
   given = [];
   appended = sym (append-nil released);
@@ -102,7 +110,7 @@ taken_other {A} event old new released begins small = record {
       subst (λ z. IsStageKept event bound (entries ++ Passes ∷ []) z expired new) (sym (append-nil earlier))
       (other_read event bound entries earlier expired old new a small
       (ap (λ (s : StageState A). s.bound) begins) (ap (λ (s : StageState A). s.time) begins) (ap (λ (s : StageState A). s.conversations) begins)
-      (ap (λ (s : StageState A). s.events) begins) (ap (λ (s : StageState A). s.expired) begins) (ap (λ (s : StageState A). s.deadlines) begins));
+      (counted_up old.others new.others (ap (λ (s : StageState A). s.others) begins) (omega (arith, small, a.kept.events))) (ap (λ (s : StageState A). s.expired) begins) (ap (λ (s : StageState A). s.deadlines) begins));
 }
 
 -- ---- a deadline passes
@@ -111,7 +119,7 @@ taken_other {A} event old new released begins small = record {
 own_of : {A : Type 0} (id : ℕ) (x : Noted A) (xs : List (Noted A)) → AreOwn id (x ∷ xs) → AreOwn x.conversation xs
 own_of id x xs own = subst (λ n. AreOwn n xs) (eqb-true id x.conversation own.0) own.1
 
-module _ {A : Type 0} (event : A → Event) (due : ℕ) (old new : StageState A) (d : Deadline) (was : old.deadlines ≡ d ∷ new.deadlines) (le : d.time ≤ due) (b : new.bound ≡ old.bound) (t : new.time ≡ old.time) (e : new.events ≡ old.events) where
+module _ {A : Type 0} (event : A → Event) (due : ℕ) (old new : StageState A) (d : Deadline) (was : old.deadlines ≡ d ∷ new.deadlines) (le : d.time ≤ due) (b : new.bound ≡ old.bound) (t : new.time ≡ old.time) (e : new.others ≡ old.others) where
   pub one_expired : (released now : List (Noted A)) → IsExpiredOf event d.conversation d.time old.conversations new.conversations released now → new.expired ≡ min (old.expired + 1) (2 ^ 64 - 1) → IsDeadlinePassed event due old new released now
   one_expired released now p g = record {
     given = p.expired.oldest ∷ p.expired.given;

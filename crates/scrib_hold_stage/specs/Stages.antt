@@ -17,13 +17,13 @@ use Rattle.scrib_hold_stage.specs.Changes.{Conversations, conversation_at}
 use Rattle.scrib_hold_stage.specs.Deadlines.{AreListed}
 
 -- what contracts see of a stage: its bound, the number of entries that were read, the conversations that were met, the
--- deadlines of events that had to wait, how many events were taken, and how many of them expired
+-- deadlines of events that had to wait, how many of the entries were no events, and how many events expired
 pub record StageState (A : Type 0) : Type 0 where
   pub bound : ℕ
   pub time : ℕ
   pub conversations : Conversations A
   pub deadlines : List Deadline
-  pub events : ℕ
+  pub others : ℕ
   pub expired : ℕ
 
 -- this state
@@ -34,8 +34,8 @@ stage_state stage =
       time = stage.time;
       conversations = stage.conversations.entries;
       deadlines = stage.deadlines.items;
-      events = stage.counts.events;
-      expired = stage.counts.expired;
+      others = stage.others;
+      expired = stage.expired;
     }
 
 -- How a conversation is held. Before its opening nothing arrives. What expired before the opening doesn't arrive
@@ -69,7 +69,7 @@ pub record IsStageKept {A : Type 0} (event : A → Event) (bound : ℕ) (entries
   pub held : (id : ℕ) → IsHeld event bound (opening_of id entries) (noted_of id (noted_in entries))
       (noted_of id released) (noted_of id expired) (conversation_at s.conversations id)
   pub listed : AreListed s.time s.conversations s.deadlines
-  pub events : s.events ≡ length (noted_in entries)
+  pub events : length (noted_in entries) + s.others ≡ s.time
   pub expired_count : s.expired ≡ length expired
   pub room : length expired + length s.deadlines ≤ s.time
 

@@ -122,6 +122,7 @@ pub(crate) fn is_not_oldest<A: Arrival>(
 }
 
 // Returns the place of the conversation, which is added where it was not met.
+#[inline(always)]
 fn meet<A: Arrival>(
     conversations: &mut IndexMap<u32, Conversation<A>>,
     alloc: Global,
@@ -130,9 +131,23 @@ fn meet<A: Arrival>(
     ensures place { IfOk result (λ at. IsPlaceOf conversations.new.entries at id) }
     ensures met { OnOk result (IsMet A.event id conversations.old.entries conversations.new.entries) }
 {
-    if let Some(place) = place_of(conversations, id) {
-        return Ok(place);
+    match place_of(conversations, id) {
+        Some(place) => Ok(place),
+        None => add(conversations, alloc, id),
     }
+}
+
+// Adds the conversation, which was not met. Returns its place.
+#[inline(never)]
+fn add<A: Arrival>(
+    conversations: &mut IndexMap<u32, Conversation<A>>,
+    alloc: Global,
+    id: u32,
+) -> Result<usize, AllocError>
+    requires { conversation_at conversations.old.entries id ≡ None }
+    ensures place { IfOk result (λ at. IsPlaceOf conversations.new.entries at id) }
+    ensures met { OnOk result (IsMet A.event id conversations.old.entries conversations.new.entries) }
+{
     conversations.insert(id, Conversation::new(alloc))?;
     place_of(conversations, id).ok_or(AllocError)
 }
@@ -150,6 +165,15 @@ fn place_of<A: Arrival>(conversations: &IndexMap<u32, Conversation<A>>, id: u32)
     };
     match conversations.get_index(usual) {
         Some((key, _)) if *key == id => Some(usual),
-        _ => conversations.get_index_of(&id),
+        _ => search(conversations, id),
     }
+}
+
+// Looks the conversation up. It is a function of its own, so that it stays out of the code of most lines.
+#[inline(never)]
+fn search<A: Arrival>(conversations: &IndexMap<u32, Conversation<A>>, id: u32) -> Option<usize>
+    ensures found { IfSome result (λ at. IsPlaceOf conversations.now.entries at id) }
+    ensures absent { result ≡ None → conversation_at conversations.now.entries id ≡ None }
+{
+    conversations.get_index_of(&id)
 }

@@ -1,6 +1,6 @@
 //! The stage: the entries of a script go in one after another, and the events that are released come out.
 
-ghost use Rattle.std.specs.Prelude.{◌≡◌, ◌+◌, ◌^◌, ◌<◌, ℕ, List, [], IfOk, IsFalse, IsTrue, OnErr, OnOk, Some, length, slice_get};
+ghost use Rattle.std.specs.Prelude.{◌≡◌, ◌+◌, ◌-◌, ◌^◌, ◌<◌, ℕ, List, [], min, IfOk, IsFalse, IsTrue, OnErr, OnOk, Some, length, slice_get};
 ghost use Rattle.scrib_hold_stage.specs.Entries.{Entry, Opens, Passes, note, noted_in};
 ghost use Rattle.scrib_hold_stage.specs.Conversations.{IsAddedTo};
 ghost use Rattle.scrib_hold_stage.specs.Deadlines.{StartsAfter};
@@ -47,9 +47,14 @@ pub struct HoldStage<A: Arrival> {
     conversations: IndexMap<u32, Conversation<A>>,
     // Of the events that had to wait, in order. An event that was released since has its deadline until that passes.
     deadlines: VecDeque<Deadline>,
-    counts: Counts,
-    // How many events wait.
+    // How many of the entries were no events.
+    others: u64,
+    // Of the events, how many were not released at once, and how many expired.
+    waited: u64,
+    expired: u64,
+    // How many events wait, and how many did at most.
     waiting: u64,
+    at_once: u64,
 }
 
 impl<A: Arrival> HoldStage<A> {
@@ -63,13 +68,11 @@ impl<A: Arrival> HoldStage<A> {
             time: 0,
             conversations: IndexMap::new(alloc),
             deadlines: VecDeque::new(alloc),
-            counts: Counts {
-                events: 0,
-                waited: 0,
-                at_once: 0,
-                expired: 0,
-            },
+            others: 0,
+            waited: 0,
+            expired: 0,
             waiting: 0,
+            at_once: 0,
         }
     }
 
@@ -114,7 +117,6 @@ impl<A: Arrival> HoldStage<A> {
             return false;
         }
         self.time = time;
-        self.counts.events = self.counts.events.saturating_add(1);
         true
     }
 
@@ -137,7 +139,6 @@ impl<A: Arrival> HoldStage<A> {
         }
         let _passed = self.deadlines.pop_front();
         self.time = time;
-        self.counts.events = self.counts.events.saturating_add(1);
         true
     }
 
@@ -171,7 +172,7 @@ impl<A: Arrival> HoldStage<A> {
         ensures err { OnErr result (IsAddedTo released.old.items released.new.items) }
     {
         let start = released.len();
-        self.begin()?;
+        self.begin_other()?;
         self.ripen(released)?;
         self.tally(0, released.len().saturating_sub(start));
         Ok(())
@@ -192,7 +193,13 @@ impl<A: Arrival> HoldStage<A> {
             → (counts.events ≡ length (noted_in entries)) × (counts.expired ≡ length expired)) }
         ensures err { OnErr result (IsAddedTo released.old.items released.new.items) }
     {
-        let counts = self.counts;
+        let events = self.time.saturating_sub(self.others);
+        let counts = Counts {
+            events,
+            waited: self.waited,
+            at_once: self.at_once,
+            expired: self.expired,
+        };
         let end = self.time;
         self.expire(end, released)?;
         Ok(counts)
@@ -219,9 +226,8 @@ impl<A: Arrival> HoldStage<A> {
             arrival,
         };
         push_to(&mut self.conversations, self.alloc, noted, released)?;
-        self.counts.events = self.counts.events.saturating_add(1);
         if !is_at(released, start, time) {
-            self.counts.waited = self.counts.waited.saturating_add(1);
+            self.waited = self.waited.saturating_add(1);
             self.deadlines
                 .push_back_reserved(Deadline { time, conversation });
         }
@@ -238,7 +244,7 @@ impl<A: Arrival> HoldStage<A> {
             (stage_state self.old) (stage_state self.new) released.old.items released.new.items) }
         ensures err { OnErr result (IsAddedTo released.old.items released.new.items) }
     {
-        self.begin()?;
+        self.begin_other()?;
         open(&mut self.conversations, self.alloc, conversation, released)
     }
 
@@ -254,13 +260,24 @@ impl<A: Arrival> HoldStage<A> {
         Ok(())
     }
 
+    // Counts the entry, which is no event.
+    fn begin_other(&mut self) -> Result<(), AllocError>
+        ensures ok { OnOk result (self.new
+            ≡ record self.old { time = self.old.time + 1; others = min (self.old.others + 1) (2 ^ 64 - 1) }) }
+        ensures fits { OnOk result (self.old.time + 1 < 2 ^ 64) }
+    {
+        self.begin()?;
+        self.others = self.others.saturating_add(1);
+        Ok(())
+    }
+
     // Counts how many events wait now that so many were taken, and so many were released.
     fn tally(&mut self, taken: u64, given: usize)
         ensures { stage_state self.new ≡ stage_state self.old }
     {
         let waiting = self.waiting.saturating_add(taken);
         self.waiting = waiting.saturating_sub(given as u64);
-        self.counts.at_once = self.counts.at_once.max(self.waiting);
+        self.at_once = self.at_once.max(self.waiting);
     }
 
     // Releases the events that have waited for long enough.
@@ -312,7 +329,7 @@ impl<A: Arrival> HoldStage<A> {
             deadline.time,
             released,
         )? {
-            self.counts.expired = self.counts.expired.saturating_add(1);
+            self.expired = self.expired.saturating_add(1);
         }
         Ok(true)
     }

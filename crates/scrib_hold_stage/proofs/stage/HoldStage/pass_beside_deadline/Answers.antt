@@ -11,5 +11,5 @@ returns-clause-passed g c = λ yes.
     let late = subst (λ n. StartsLate n c.args.self.now.bound (drop 1 c.args.self.now.deadlines.items)) c.requires c.in-Some.ensures.late in
     passes_beside g.A.Arrival.event c.args.conversation c.args.event.now (stage_state c.args.self.now) _ c.in-Some.deadline.now
     (c.in-Some.ensures.first ∙ ap (λ z. c.in-Some.deadline.now ∷ z) (sym rest)) (c.if-not-is_not_oldest.ensures refl)
-    small (c.if-not-pass_to.ensures.passed refl) refl c.requires c.saturating_add-self.ensures refl
+    small (c.if-not-pass_to.ensures.passed refl) refl c.requires refl refl
     (subst (StartsLate (c.args.self.now.time + 1) c.args.self.now.bound) (sym rest) late))

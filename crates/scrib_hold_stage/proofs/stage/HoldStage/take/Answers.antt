@@ -9,7 +9,7 @@ returns-then-not-is_at-clause-ok g c =
     let d : Deadline = record { time = c.begin.new.self.time; conversation = c.args.conversation } in
     taken_waiting g.A.Arrival.event c.args.conversation c.args.arrival (stage_state c.args.self.now) (stage_state c.begin.new.self) _
     c.args.released.now.items c.push_to.new.released.items (ap stage_state c.in_ok-begin.ensures.ok) c.in_ok-begin.ensures.fits c.in_ok-push_to.ensures.ok
-    refl refl c.saturating_add-self.ensures refl d
+    refl refl refl refl d
     (c.push_back_reserved.ensures.items ∙ ap (λ z. z ++ d ∷ []) c.in_ok-reserve.ensures.items) refl refl
 
 pub returns-else-not-is_at-clause-ok : goal.returns-else-not-is_at-clause-ok
@@ -17,5 +17,5 @@ returns-else-not-is_at-clause-ok g c =
     let y = c.if-not-is_at.ensures refl in
     taken_at_once g.A.Arrival.event c.args.conversation c.args.arrival (stage_state c.args.self.now) (stage_state c.begin.new.self) _
     c.args.released.now.items c.push_to.new.released.items (ap stage_state c.in_ok-begin.ensures.ok) c.in_ok-begin.ensures.fits c.in_ok-push_to.ensures.ok
-    refl refl c.saturating_add-self.ensures refl c.in_ok-reserve.ensures.items
+    refl refl refl refl c.in_ok-reserve.ensures.items
     c.len-start.result y.0 (c.len-start.ensures ∙ c.args.released.now.ok.0) (ap (λ z. slice_get z c.len-start.result) (sym c.deref.ensures.value) ∙ y.1) y.2

@@ -10,4 +10,4 @@ returns-clause-passed g c = λ yes.
     let small : c.args.self.now.time + 1 < 2 ^ 64 = omega (arith, c.in-Some.ensures.0, c.in-Some.ensures.1) in
     let late = subst (λ n. StartsLate n c.args.self.now.bound c.args.self.now.deadlines.items) time (c.if-not-none_due.ensures refl) in
     passes_alone g.A.Arrival.event c.args.conversation c.args.event.now (stage_state c.args.self.now) _ small
-    (c.if-not-pass_to.ensures.passed refl) refl time refl c.saturating_add-self.ensures refl late)
+    (c.if-not-pass_to.ensures.passed refl) refl time refl refl refl late)
