@@ -3,7 +3,10 @@ pub mod RunLemmas
 pub mod GatherLemmas
 pub mod InputLemmas
 pub mod ItemLemmas
+pub mod SilentRunLemmas
 pub mod ExplanationLemmas
+pub mod CompleteLogLemmas
+pub mod NextLemmas
 pub mod KeptTexts
 pub mod CheckLemmas
 pub mod ProjectionLemmas

@@ -7,6 +7,7 @@ use Rattle.scrib_core.specs.declared.format.Format.{Format}
 use Rattle.scrib_core.specs.Answers.{State}
 use Rattle.scrib_cli.specs.Checks.{IsChecked, IsPartChecked}
 use Rattle.scrib_cli.specs.Explanations.{IsExplanation}
+use Rattle.scrib_cli.specs.NextLines.{IsNextOutput}
 use Rattle.scrib_cli.specs.Projections.{IsQueryOutput}
 use Rattle.scrib_script_io.specs.Writes.{AppendsPart}
 use Rattle.scrib_cli.specs.Scripts.{IsOutput}
@@ -98,6 +99,19 @@ IsScriptPartExplained id script was now =
     Appends was now []
     ⊎ IfSome script (λ input. (explained : Explained) × (output : List ℕ)
     × IsExplanation input id explained output × AppendsPart was now output)
+
+-- what each role of the conversation in this script, where it is known, may do next was written, or a refusal; the flag
+-- says whether the roles are listed
+abbrev pub IsScriptNext : (id : ℕ) → (script : Option (List ℕ)) → Bool → (was now : Option (List ℕ)) → Type 0
+IsScriptNext id script listed was now =
+    IfSome script (λ input. (output : List ℕ) × IsNextOutput input id listed output × Appends was now output)
+
+-- nothing or a prefix of that output was written
+abbrev pub IsScriptPartNext : (id : ℕ) → (script : Option (List ℕ)) → (was now : Option (List ℕ)) → Type 0
+IsScriptPartNext id script was now =
+    Appends was now []
+    ⊎ IfSome script (λ input. (listed : Bool) × (output : List ℕ)
+    × IsNextOutput input id listed output × AppendsPart was now output)
 
 -- the exit status of a command: 0 where it succeeded, 1 where it printed a refusal or failed
 abbrev pub status_of : Result Bool CommandFault → ℕ

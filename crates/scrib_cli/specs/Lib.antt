@@ -1,6 +1,7 @@
 pub mod Scripts
 pub mod Progress
 pub mod Explanations
+pub mod NextLines
 pub mod Checks
 pub mod Projections
 pub mod ProjectionSteps

@@ -4,6 +4,7 @@ pub mod check;
 pub mod explain;
 pub mod fault;
 pub mod folder;
+pub mod next;
 pub mod observed;
 pub mod opened;
 mod reading;

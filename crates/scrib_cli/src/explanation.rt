@@ -61,7 +61,7 @@ pub(crate) fn refusal(alloc: Global, word: &[u8]) -> Result<Vec<u8>, AllocError>
 }
 
 // The refusal line of a log whose first offence is at this place.
-fn not_permitted(alloc: Global, place: usize) -> Result<Vec<u8>, AllocError>
+pub(crate) fn not_permitted(alloc: Global, place: usize) -> Result<Vec<u8>, AllocError>
     ensures { IfOk result (λ text. text.items ≡ refusal_line (codes "NotPermitted " ++ decimal place)) }
 {
     let mut word = Vec::new(alloc);

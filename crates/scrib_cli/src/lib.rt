@@ -11,6 +11,8 @@ pub mod gathered;
 pub mod id;
 pub mod item_output;
 mod modules;
+mod next_lines;
+pub mod next_script;
 pub mod output_mode;
 pub mod printing;
 mod projection;

@@ -4,7 +4,7 @@ use Rattle.scrib_core.specs.Held.{state_of}
 use Rattle.scrib_script_reader.specs.declared.limits.Limits.{Limits}
 use Rattle.scrib_cli.specs.declared.output_mode.OutputMode.TheVariants.{Silent}
 use Rattle.scrib_cli.specs.Progress.{RunSucceeds}
-use Rattle.scrib_cli.proofs.ExplanationLemmas.{run_stopped, wrote_nothing}
+use Rattle.scrib_cli.proofs.SilentRunLemmas.{run_stopped, wrote_nothing}
 use Rattle.scrib_cli.proofs.explain_script.run_silently.Goals as goal
 
 pub returns-in_err-core-clause-err : goal.returns-in_err-core-clause-err
