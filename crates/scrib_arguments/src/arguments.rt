@@ -160,12 +160,28 @@ fn hold_command<'a>(alloc: Global) -> Result<Command<'a>, AllocError> {
         .arg(file_arg(alloc))
 }
 
-fn explain_command<'a>(alloc: Global) -> Result<Command<'a>, AllocError> {
-    Command::new(alloc, "explain")
-        .about("Runs a script in silence, and prints the messages in flight in a conversation")
-        .after_help(help::EXPLAIN)
+// A command on a conversation of a script.
+fn conversation_command<'a>(
+    alloc: Global,
+    name: &'a str,
+    about: &'a str,
+    after: &'a str,
+) -> Result<Command<'a>, AllocError> {
+    Command::new(alloc, name)
+        .about(about)
+        .after_help(after)
         .arg(value_arg(alloc, "ID", "The conversation's number in the script"))?
         .arg(file_arg(alloc))
+}
+
+fn explain_command<'a>(alloc: Global) -> Result<Command<'a>, AllocError> {
+    let about = "Runs a script in silence, and prints the messages in flight in a conversation";
+    conversation_command(alloc, "explain", about, help::EXPLAIN)
+}
+
+fn next_command<'a>(alloc: Global) -> Result<Command<'a>, AllocError> {
+    let about = "Runs a script in silence, and prints what each role of a conversation may do next";
+    conversation_command(alloc, "next", about, help::NEXT)
 }
 
 // Each argument is made where it is used: the time of a proof grows with the values that are alive at each `?`.
@@ -203,6 +219,7 @@ fn with_script_commands<'a>(alloc: Global, line: Command<'a>) -> Result<Command<
     let line = with_command(line, watch_command(alloc))?;
     let line = with_command(line, hold_command(alloc))?;
     let line = with_command(line, explain_command(alloc))?;
+    let line = with_command(line, next_command(alloc))?;
     with_command(line, run_command(alloc))
 }
 

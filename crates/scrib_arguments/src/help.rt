@@ -8,8 +8,8 @@ A FILE may be - for standard input.
 Exit status:
   0  the command did what it was to do; replies of watch and run that are
      refusals or offences count as done
-  1  check, project, machine or explain printed a refusal; a read or write
-     failed; memory ran out (a line on standard error names the cause)
+  1  check, project, machine, explain or next printed a refusal; a read or
+     write failed; memory ran out (a line on standard error names the cause)
   2  the command line was refused\n";
 
 // After the options of `check`.
@@ -119,6 +119,29 @@ Example:
 
 Exit status:
   0  the messages in flight were printed
+  1  a refusal was printed; a read or write failed; memory ran out
+  2  the command line was refused\n";
+
+// After the options of `next`.
+pub(crate) const NEXT: &str = "\
+Prints a line for each role, in the order in which the roles are declared:
+  A: may B!hello(), B!x()    A may send each of these to B
+  B: may A?ok()              B may receive this, the oldest that A sent to it
+  B: waits for A?ok(), A?quit()
+                             B needs one of these, and A has sent none
+  C: done                    C is at its end
+  D: may join                D has not joined
+  D: may join, done          D has not joined, and never acts
+Behind them comes a line `complete` where the conversation has ended: each
+role is done or never acts, and nothing is in flight.
+The lines of a script are those of `scribmon watch --help`.
+
+Example:
+  examples/put.sh examples/01_hello/hello.scr \\
+    examples/09_in_flight/in_flight.script | scribmon next 1
+
+Exit status:
+  0  the roles were printed
   1  a refusal was printed; a read or write failed; memory ran out
   2  the command line was refused\n";
 
