@@ -2,7 +2,7 @@
 
 use crate::held_scripts::hold;
 use crate::outcomes::{REFUSED_STATUS, flush_and_print_fault, print_fault, print_usage};
-use crate::subcommands::{explain_by_id, run_over_service, run_simple_command, run_watch};
+use crate::subcommands::{Report, report_by_id, run_over_service, run_simple_command, run_watch};
 use clap::ArgMatches;
 use scrib_arguments::arguments::command;
 use scrib_cli::commands::fault::CommandFault;
@@ -57,8 +57,9 @@ where
     I::Reader: Send,
 {
     match matches.subcommand() {
-        Some(("explain", matches)) => explain_by_id(system, streams, matches),
+        Some(("explain", matches)) => report_by_id(system, streams, Report::Flights, matches),
         Some(("hold", matches)) => hold(system, streams, matches),
+        Some(("next", matches)) => report_by_id(system, streams, Report::Next, matches),
         Some(("run", matches)) => run_over_service(system, streams, matches),
         Some(("watch", matches)) => run_watch(system, streams, matches),
         Some((name, matches)) => {

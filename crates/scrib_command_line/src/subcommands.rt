@@ -10,6 +10,7 @@ use scrib_cli::commands::check::check_files;
 use scrib_cli::commands::explain::explain;
 use scrib_cli::commands::fault::CommandFault;
 use scrib_cli::commands::folder::SystemFiles;
+use scrib_cli::commands::next::next;
 use scrib_cli::commands::role_query::query_files;
 use scrib_cli::commands::script_input::ScriptInput;
 use scrib_cli::commands::watch::watch;
@@ -76,10 +77,20 @@ pub(crate) fn run_watch<R: Files + AllocGlobal, I: Input, W: Write, E: Print + E
     flush_and_print_fault(streams, &watched)
 }
 
-// Runs `explain`, and returns the exit status.
-pub(crate) fn explain_by_id<R: Files + AllocGlobal, I: Input, W: Write, E: Print + Eprint>(
+// What a command reports of a conversation.
+#[derive(Clone, Copy)]
+pub(crate) enum Report {
+    // Its messages in flight.
+    Flights,
+    // What each of its roles may do next.
+    Next,
+}
+
+// Runs `explain` or `next`, and returns the exit status.
+pub(crate) fn report_by_id<R: Files + AllocGlobal, I: Input, W: Write, E: Print + Eprint>(
     system: &R,
     streams: &mut Streams<'_, I, W, E>,
+    report: Report,
     matches: &ArgMatches<'_>,
 ) -> u8 {
     let alloc = system.alloc();
@@ -96,8 +107,11 @@ pub(crate) fn explain_by_id<R: Files + AllocGlobal, I: Input, W: Write, E: Print
         path: matches.get_str("FILE"),
         reader: streams.input.reader(),
     };
-    let explained = explain(alloc, id, input, streams.output);
-    flush_and_print_fault(streams, &explained)
+    let reported = match report {
+        Report::Flights => explain(alloc, id, input, streams.output),
+        Report::Next => next(alloc, id, input, streams.output),
+    };
+    flush_and_print_fault(streams, &reported)
 }
 
 // Runs `run`, and returns the exit status.
