@@ -5,6 +5,7 @@ mod limits;
 
 use scrib_cli::check::{Core, check_module};
 use scrib_cli::explain_script::explain_script;
+use scrib_cli::next_script::next_script;
 use scrib_cli::run_script::{Format, ScriptFault, run_script};
 use std::alloc::Global;
 use std::io;
@@ -71,6 +72,8 @@ enum Command {
     Watch,
     // It is a script, of whose conversation 1 the messages in flight are told.
     Explain,
+    // It is a script, behind which each role of conversation 1 has a line.
+    Next,
     // It is a module.
     Check,
 }
@@ -94,6 +97,9 @@ fn obey<R: Read, W: Write>(
         Command::Watch => run_script(alloc, Format::Line, reader, writer)?,
         Command::Explain => {
             explain_script(alloc, reader, 1, writer)?;
+        }
+        Command::Next => {
+            next_script(alloc, reader, 1, writer)?;
         }
         Command::Check => {
             check_module(alloc, &mut Core::new(alloc), reader, writer)?;
@@ -158,13 +164,20 @@ const MODULE: &[u8] =
     b"module demo; global protocol Hello(role A, role B) { hello() from A to B; bye() from B to A; }";
 
 // Commands, the texts that they are given, and what they write where no call fails.
-const ROWS: [(Command, &[u8], &[u8]); 8] = [
+const ROWS: [(Command, &[u8], &[u8]); 11] = [
     (Command::Watch, DEMO, DEMO_OUTPUT),
     (Command::Watch, CALLED, CALLED_OUTPUT),
     (Command::Watch, CUT, CUT_OUTPUT),
     (Command::Explain, SENT, b"A B hello()\n"),
     (Command::Explain, DEMO, b""),
     (Command::Explain, CUT, b"refused NoConversation\n"),
+    (
+        Command::Next,
+        SENT,
+        b"A: waits for B?bye()\nB: may A?hello()\n",
+    ),
+    (Command::Next, DEMO, b"A: done\nB: done\ncomplete\n"),
+    (Command::Next, CUT, b"refused NoConversation\n"),
     (Command::Check, MODULE, b"put demo: +demo.Hello\n"),
     (Command::Check, b"module demo", b"refused EndOfText\n"),
 ];
