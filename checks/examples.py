@@ -76,6 +76,8 @@ NUMBERED = [
     ("12_skewed_clocks/held", "files watch --hold 1000", SKEWED),
     ("12_skewed_clocks/unheld", "watch", SKEWED),
     ("12_skewed_clocks/skewed", "files watch --hold 100", "cat 12_skewed_clocks/skewed.script"),
+    ("13_stuck/stuck", "files next 1", "./put.sh 02_two_buyer/two_buyer.scr 13_stuck/stuck.script"),
+    ("13_stuck/accepted", "files next 1", "./put.sh --reception 07_travel/travel.scr 13_stuck/accepted.script"),
 ]
 
 
