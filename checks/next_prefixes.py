@@ -477,7 +477,7 @@ def report(scripts, tally):
 def main():
     parser = argparse.ArgumentParser(description=__doc__, formatter_class=argparse.RawDescriptionHelpFormatter)
     parser.add_argument("--program", metavar="FILE", type=Path, default=PROGRAM, help="the built scribmon")
-    parser.add_argument("--longest", metavar="N", type=int, default=45, help="the most events of a log (default: 45)")
+    parser.add_argument("--longest", metavar="N", type=int, default=600, help="the most events of a log (default: 600)")
     options = parser.parse_args()
     if not options.program.is_file():
         parser.error("%s is not built: make build" % options.program)
