@@ -21,7 +21,7 @@ use Rattle.scrib_global.specs.declared.next.RoleNext.{RoleNext}
 use Rattle.scrib_global.specs.declared.next.RoleNext.TheVariants.{MayJoin, Done, May, WaitsFor}
 use Rattle.scrib_global.specs.declared.next.RoleStatus.{RoleStatus}
 use Rattle.scrib_global.specs.Simulation.{Leads}
-use Rattle.scrib_global.specs.Complete.{IsComplete}
+use Rattle.scrib_types.specs.Complete.{IsComplete}
 use Rattle.scrib_global.specs.Progress.{Completes}
 use Rattle.scrib_global.specs.NextEvents.{ComesNext, MayMake, IsWaiting, Describes, IsStatus, AreNext}
 use Rattle.scrib_global.proofs.Completion.{completes}

@@ -11,7 +11,7 @@ use Rattle.scrib_core.specs.Answers.{State, initial, Answers}
 use Rattle.scrib_global.specs.declared.next.RoleNext.{RoleNext}
 use Rattle.scrib_global.specs.declared.next.RoleNext.TheVariants.{MayJoin, Done, May, WaitsFor}
 use Rattle.scrib_global.specs.declared.next.RoleStatus.{RoleStatus}
-use Rattle.scrib_global.specs.Complete.{IsComplete}
+use Rattle.scrib_types.specs.Complete.{IsComplete}
 use Rattle.scrib_global.specs.NextEvents.{AreNext}
 use Rattle.scrib_cli.specs.declared.explanation.Explained.TheVariants.{Refused}
 use Rattle.scrib_cli.specs.Explanations.{Explanation}

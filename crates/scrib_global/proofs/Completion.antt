@@ -15,7 +15,7 @@ use Rattle.scrib_types.specs.Queues.{flights}
 use Rattle.scrib_global.specs.Transitions.{Transition}
 use Rattle.scrib_global.specs.Runs.{Run}
 use Rattle.scrib_global.specs.Simulation.{Leads}
-use Rattle.scrib_global.specs.Complete.{IsComplete}
+use Rattle.scrib_types.specs.Complete.{IsComplete}
 use Rattle.scrib_global.specs.Progress.{Completes}
 use Rattle.scrib_global.proofs.Locals.{does_one}
 use Rattle.scrib_global.proofs.TransitionLemmas.{subject}

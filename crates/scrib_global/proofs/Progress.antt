@@ -10,7 +10,7 @@ use Rattle.scrib_types.specs.Permitted.{IsPermitted}
 use Rattle.scrib_types.specs.Logs.{subject_of, actions, has_joined}
 use Rattle.scrib_types.specs.Queues.{flights}
 use Rattle.scrib_global.specs.Runs.{Run}
-use Rattle.scrib_global.specs.Complete.{IsComplete}
+use Rattle.scrib_types.specs.Complete.{IsComplete}
 use Rattle.scrib_global.specs.Progress.{Progresses}
 use Rattle.scrib_global.proofs.MovingStates.{Moves, ends_or_moves}
 use Rattle.scrib_global.proofs.ProtocolFacts.{Given, given}

@@ -10,7 +10,6 @@ pub mod Offences
 pub mod Named
 pub mod Sorted
 pub mod Explained
-pub mod Complete
 pub mod Progress
 pub mod Next
 pub mod NextEvents

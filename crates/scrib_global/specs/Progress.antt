@@ -11,7 +11,7 @@ use Rattle.scrib_types.specs.Permitted.{IsPermitted}
 use Rattle.scrib_types.specs.Logs.{is_action, actions, has_joined, AllJoined}
 use Rattle.scrib_types.specs.Queues.{received, flights, IsPrefix}
 use Rattle.scrib_global.specs.Runs.{Run}
-use Rattle.scrib_global.specs.Complete.{IsComplete}
+use Rattle.scrib_types.specs.Complete.{IsComplete}
 
 -- each role that is a sender or a receiver somewhere in the global type has joined
 abbrev pub HaveActorsJoined : Agreement → List Event → Type 0

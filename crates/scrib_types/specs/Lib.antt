@@ -21,5 +21,6 @@ pub mod Queues
 pub mod Traces
 pub mod Merges
 pub mod Permitted
+pub mod Complete
 pub mod Judgement
 pub mod Meaning
