@@ -1,7 +1,6 @@
 //! The text of `next`: a line for each role of a conversation, or a refusal.
 
 ghost use Rattle.std.specs.Prelude.{◌≡◌, ◌++◌, IfOk, IfErr, OnOk};
-ghost use Rattle.scrib_types.specs.Texts as texts;
 ghost use Rattle.scrib_core.specs.Held.{state_of};
 ghost use Rattle.scrib_cli.specs.NextLines as lines;
 ghost use Rattle.scrib_script_io.specs.declared.fault.ScriptFault.TheVariants as fault;
@@ -11,8 +10,8 @@ use scrib_core::monitor::Core;
 use scrib_global::fault::ExplainFault;
 use scrib_global::next::{RoleNext, RoleStatus, next_of_roles};
 use scrib_script_io::fault::ScriptFault;
-use scrib_types::event::Action;
-use scrib_types::text::{push_action, push_bytes};
+use scrib_types::allowed::push_allowed;
+use scrib_types::text::push_bytes;
 use std::alloc::{AllocError, Global};
 
 // Whether the roles of the conversation are listed, and the text.
@@ -80,36 +79,13 @@ fn push_next(out: &mut Vec<u8>, next: &RoleNext) -> Result<(), AllocError>
         RoleNext::Done => push_bytes(out, b"done"),
         RoleNext::May(actions) => {
             push_bytes(out, b"may ")?;
-            push_actions(out, actions.as_slice())
+            push_allowed(out, actions.as_slice())
         }
         RoleNext::WaitsFor(actions) => {
             push_bytes(out, b"waits for ")?;
-            push_actions(out, actions.as_slice())
+            push_allowed(out, actions.as_slice())
         }
     }
-}
-
-// Adds the actions as a verdict prints those that it allows.
-fn push_actions(out: &mut Vec<u8>, actions: &[Action]) -> Result<(), AllocError>
-    ensures { OnOk result (out.new.items ≡ out.old.items ++ texts.allowed_text actions.now) }
-{
-    match actions {
-        [] => push_bytes(out, b"none"),
-        [first, others @ ..] => {
-            push_action(out, first)?;
-            push_further_actions(out, others)
-        }
-    }
-}
-
-fn push_further_actions(out: &mut Vec<u8>, actions: &[Action]) -> Result<(), AllocError>
-    ensures { OnOk result (out.new.items ≡ out.old.items ++ texts.further_actions actions.now) }
-{
-    for action in actions {
-        push_bytes(out, b", ")?;
-        push_action(out, action)?;
-    }
-    Ok(())
 }
 
 // Adds the last line, which a complete log alone has.

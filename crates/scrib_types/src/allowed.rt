@@ -86,7 +86,11 @@ fn push_further_actions(out: &mut Vec<u8>, actions: &[Action]) -> Result<(), All
     Ok(())
 }
 
-fn push_allowed(out: &mut Vec<u8>, actions: &[Action]) -> Result<(), AllocError>
+/// Adds the actions with commas between them, or `none`, in ASCII bytes.
+///
+/// # Errors
+/// `AllocError` where memory is refused. A part may be added then.
+pub fn push_allowed(out: &mut Vec<u8>, actions: &[Action]) -> Result<(), AllocError>
     ensures { OnOk result (out.new.items ≡ out.old.items ++ texts.allowed_text actions.now) }
 {
     match actions {
