@@ -4,7 +4,7 @@ use Rattle.std.specs.List.{slice_get}
 use Rattle.std.proofs.lemmas.List.{length-map, map-append, map_more, take_all}
 use Rattle.scrib_tree.specs.declared.tree.ModuleTree.{ModuleTree}
 use Rattle.scrib_tree.specs.declared.tree.ProtocolDeclaration.{ProtocolDeclaration}
-use Rattle.scrib_static_checks.specs.ProtocolIndex.{protocol_slot, slot_for, IsFilled, IsIndexed}
+use Rattle.scrib_static_checks.specs.ProtocolIndex.{protocol_slot, slot_for, IsReached, IsFilled, IsIndexed}
 use Rattle.scrib_static_checks.specs.Names.{Declaration, protocol_names, declared_in, declarations}
 
 -- of two lists with the same image, elements at the same place have the same image
@@ -24,8 +24,7 @@ indexed_alike : (ds es : List Declaration) (size n : ℕ) (slots : List (Option 
 indexed_alike ds es size n slots alike f = record {
   long = f.long;
   within = f.within;
-  first = λ s k e j d p l same. let q = same_image (slot_for size) ds es alike j d p in f.first s k e j q.0 q.1 l (q.2 ∙ same);
-  taken = λ j d p l. let q = same_image (slot_for size) ds es alike j d p in let t = f.taken j q.0 q.1 l in (t.0, ap (slice_get slots) (sym q.2) ∙ t.1);
+  reached = λ j d p l. let q = same_image (slot_for size) ds es alike j d p in subst (λ z. IsReached slots size z j) q.2 (f.reached j q.0 q.1 l);
 }
 
 kept_alike : (ds es : List Declaration) (slots : List (Option ℕ)) (n : ℕ) → ((size : ℕ) → map (slot_for size) ds ≡ map (slot_for size) es) → IsIndexed ds slots n → IsIndexed es slots n

@@ -1,13 +1,13 @@
 -- An index finds the first declared protocol of a name.
-use Rattle.std.proofs.Common.{◌≡◌, ◌⊎◌, inl, inr, leb, ℕ, zero, suc, ◌+◌, ◌<◌, Bool, true, false, List, [], ◌∷◌, ◌++◌, length, get_or, set, replicate, Option, Some, None, refl, sym, ap, ◌∙◌, subst, ⊎_elim, arith}
+use Rattle.std.proofs.Common.{◌≡◌, ◌⊎◌, inl, inr, leb, ℕ, zero, suc, ◌+◌, ◌<◌, ◌≤◌, Bool, true, false, List, [], ◌∷◌, ◌++◌, length, get_or, set, replicate, Option, Some, None, is_some, refl, sym, ap, ◌∙◌, subst, ⊎_elim, arith}
 use Rattle.std.specs.List.{slice_get}
 use Rattle.std.specs.Str.{bytes_eq}
 use Rattle.std.proofs.lemmas.Bool.{and_parts, and_from, leb-true, leb-false}
 use Rattle.std.proofs.lemmas.List.{length-set, length-append, length-map}
-use Rattle.std.proofs.lemmas.Option.{slice_get_read}
+use Rattle.std.proofs.lemmas.Option.{slice_get_read, slice_get_within}
 use Rattle.std.proofs.lemmas.Slice.Eq.{bytes_eq-Decides}
 use Rattle.scrib_static_checks.specs.declared.declared.Declaration.{Declaration as CodeDeclaration}
-use Rattle.scrib_static_checks.specs.ProtocolIndex.{protocol_slot, slot_for, IsFirstOf, IsProtocolIndex, IsFilled, IsIndexed, IsSlotTaken}
+use Rattle.scrib_static_checks.specs.ProtocolIndex.{protocol_slot, slot_for, next_slot, probed, IsReached, IsProtocolIndex, IsFilled, IsIndexed, AreTaken, IsFirstFree, IsSlotTaken}
 use Rattle.scrib_tree.specs.declared.tree.ModuleTree.{ModuleTree}
 use Rattle.scrib_tree.specs.declared.tree.ProtocolDeclaration.{ProtocolDeclaration}
 use Rattle.scrib_static_checks.specs.Names.{Declaration, declared_in, dotted_eq, first_where, is_called}
@@ -28,23 +28,116 @@ first_there test (y ∷ xs) (suc k) x e t f =
     let not : test y ≡ false = f zero y refl (omega arith) in
     rw not (first_there test xs k x e t (λ j z g l. f (suc j) z g (omega (arith, l))))
 
+-- none passes a test
+none_there : {X : Type 0} (test : X → Bool) (xs : List X) → ((j : ℕ) (y : X) → slice_get xs j ≡ Some y → test y ≡ false) → first_where test xs ≡ None
+none_there test [] f = refl
+none_there test (y ∷ xs) f =
+    let not : test y ≡ false = f zero y refl in
+    rw not (none_there test xs (λ j z g. f (suc j) z g))
+
 -- a name leads to one slot
-named_slot : (size : ℕ) (c d : Declaration) (home : List (List ℕ)) (name : List ℕ) → c.home.name ≡ home → c.protocol.name ≡ name → is_called home name d ≡ true → slot_for size d ≡ slot_for size c
-named_slot size c d home name e f t =
+slot_called : (size : ℕ) (d : Declaration) (home : List (List ℕ)) (name : List ℕ) → is_called home name d ≡ true → slot_for size d ≡ protocol_slot size home name
+slot_called size d home name t =
     let parts = and_parts (bytes_eq name d.protocol.name) (dotted_eq home d.home.name) t in
-    let home_is : d.home.name ≡ c.home.name = sym ((dotted_eq-Decides home d.home.name).0 parts.1) ∙ sym e in
-    let name_is : d.protocol.name ≡ c.protocol.name = sym ((bytes_eq-Decides name d.protocol.name).0 parts.0) ∙ sym f in
+    let home_is : d.home.name ≡ home = sym ((dotted_eq-Decides home d.home.name).0 parts.1) in
+    let name_is : d.protocol.name ≡ name = sym ((bytes_eq-Decides name d.protocol.name).0 parts.0) in
     λ i. protocol_slot size (home_is i) (name_is i)
 
--- what is found through a slot is the first of its name
-pub found_by_slot : (ds : List Declaration) (size s k : ℕ) (home : List (List ℕ)) (name : List ℕ) → IsFirstOf ds size s k → (n : IsNamed ds k home name) → s ≡ slot_for size n.found → IsFound ds (is_called home name) k
-found_by_slot ds size s k home name first n at = record {
-  found = n.found;
-  there = n.there;
+-- one of the first n, or the next
+pub last_or_before : (j n : ℕ) → j < n + 1 → (j < n) ⊎ (j ≡ n)
+last_or_before j n l = case (leb n j) refl
+  where
+    case : (t : Bool) → leb n j ≡ t → (j < n) ⊎ (j ≡ n)
+    case true e = let low = leb-true n j e in inr (omega (arith, l, low))
+    case false e = inl (leb-false n j e)
+
+compared : (a b : ℕ) → (a < b) ⊎ ((a ≡ b) ⊎ (b < a))
+compared a b = case (leb b a) refl
+  where
+    case : (t : Bool) → leb b a ≡ t → (a < b) ⊎ ((a ≡ b) ⊎ (b < a))
+    case true e =
+        let low = leb-true b a e in
+        ⊎_elim (λ x. inr (inr x)) (λ x. inr (inl (sym x))) (last_or_before b a (omega (arith, low)))
+    case false e = inl (leb-false b a e)
+
+-- the search for a protocol
+
+-- the first n slots from this one on have protocols of other names
+abbrev pub ArePassed : List Declaration → List (Option ℕ) → (size slot : ℕ) → List (List ℕ) → List ℕ → (n : ℕ) → Type 0
+ArePassed ds slots size s home name n = (m : ℕ) → m < n → (k : ℕ) × (slice_get slots (probed size s m) ≡ Some (Some k)) × ((d : Declaration) → slice_get ds k ≡ Some d → is_called home name d ≡ false)
+
+-- a search reaches each protocol from its own slot
+abbrev pub AreReached : List Declaration → List (Option ℕ) → (size : ℕ) → Type 0
+AreReached ds slots size = (j : ℕ) (d : Declaration) → slice_get ds j ≡ Some d → IsReached slots size (slot_for size d) j
+
+pub probed_more : (size s n : ℕ) → probed size s (n + 1) ≡ next_slot size (probed size s n)
+probed_more size s n =
+    let e : n + 1 ≡ suc n = omega arith in
+    ap (probed size s) e
+
+pub passed_more : (ds : List Declaration) (slots : List (Option ℕ)) (size s : ℕ) (home : List (List ℕ)) (name : List ℕ) (n k : ℕ) → slice_get slots (probed size s n) ≡ Some (Some k) → ((d : Declaration) → slice_get ds k ≡ Some d → is_called home name d ≡ false)
+    → ArePassed ds slots size s home name n → ArePassed ds slots size s home name (n + 1)
+passed_more ds slots size s home name n k there other passed m l =
+    ⊎_elim (λ x. passed m x) (λ x. (k, subst (λ z. slice_get slots (probed size s z) ≡ Some (Some k)) (sym x) there, other)) (last_or_before m n l)
+
+pub taken_more : (slots : List (Option ℕ)) (size s n k : ℕ) → slice_get slots (probed size s n) ≡ Some (Some k) → AreTaken slots size s n → AreTaken slots size s (n + 1)
+taken_more slots size s n k there taken m l =
+    ⊎_elim (λ x. taken m x) (λ x. (k, subst (λ z. slice_get slots (probed size s z) ≡ Some (Some k)) (sym x) there)) (last_or_before m n l)
+
+-- the slot behind those has the protocol, or one at a smaller place
+not_passed : (ds : List Declaration) (slots : List (Option ℕ)) (size s : ℕ) (home : List (List ℕ)) (name : List ℕ) (n j : ℕ) (d : Declaration) (o : Option ℕ) → slice_get ds j ≡ Some d → is_called home name d ≡ true → IsReached slots size s j
+    → ArePassed ds slots size s home name n → slice_get slots (probed size s n) ≡ Some o → (i : ℕ) × (o ≡ Some i) × (i ≤ j)
+not_passed ds slots size s home name n j d o e t r passed there =
+    ⊎_elim (λ x. absurd (before x)) (λ x. ⊎_elim here later x) (compared r.steps n)
+  where
+    before : r.steps < n → ⊥
+    before x =
+        let p = passed r.steps x in
+        let same : j ≡ p.0 = cc (r.there, p.1) in
+        let other : is_called home name d ≡ false = p.2 d (subst (λ z. slice_get ds z ≡ Some d) same e) in
+        cc (other, t)
+
+    here : r.steps ≡ n → (i : ℕ) × (o ≡ Some i) × (i ≤ j)
+    here x =
+        let at : slice_get slots (probed size s n) ≡ Some (Some j) = subst (λ z. slice_get slots (probed size s z) ≡ Some (Some j)) x r.there in
+        let is : o ≡ Some j = cc (there, at) in
+        (j, is, omega arith)
+
+    later : n < r.steps → (i : ℕ) × (o ≡ Some i) × (i ≤ j)
+    later x =
+        let b = r.before n x in
+        let is : o ≡ Some b.0 = cc (there, b.1) in
+        (b.0, is, omega (arith, b.2))
+
+-- what is found is the first of its name
+pub found_by_probing : (ds : List Declaration) (slots : List (Option ℕ)) (size s : ℕ) (home : List (List ℕ)) (name : List ℕ) (n k : ℕ) → AreReached ds slots size → s ≡ protocol_slot size home name → ArePassed ds slots size s home name n
+    → slice_get slots (probed size s n) ≡ Some (Some k) → IsNamed ds k home name → IsFound ds (is_called home name) k
+found_by_probing ds slots size s home name n k reached at passed there f = record {
+  found = f.found;
+  there = f.there;
   first =
-      first_there (is_called home name) ds k n.found n.there (and_from (bytes_eq name n.found.protocol.name) (dotted_eq home n.found.home.name) ((bytes_eq-Decides name n.found.protocol.name).1 (sym n.name_is)) ((dotted_eq-Decides home n.found.home.name).1 (sym n.home_is)))
-      (λ j d e l. ⊎_elim (λ t. absurd (first j d e l (named_slot size n.found d home name n.home_is n.name_is t ∙ sym at))) (λ t. t) (true_or_false (is_called home name d)));
+      first_there (is_called home name) ds k f.found f.there (and_from (bytes_eq name f.found.protocol.name) (dotted_eq home f.found.home.name) ((bytes_eq-Decides name f.found.protocol.name).1 (sym f.name_is)) ((dotted_eq-Decides home f.found.home.name).1 (sym f.home_is)))
+      (λ j d e l. ⊎_elim (λ t. absurd (earlier j d e l t)) (λ t. t) (true_or_false (is_called home name d)));
 }
+  where
+    earlier : (j : ℕ) (d : Declaration) → slice_get ds j ≡ Some d → j < k → is_called home name d ≡ true → ⊥
+    earlier j d e l t =
+        let r = subst (λ z. IsReached slots size z j) (slot_called size d home name t ∙ sym at) (reached j d e) in
+        let q = not_passed ds slots size s home name n j d (Some k) e t r passed there in
+        let same : k ≡ q.0 = cc (q.1) in
+        omega (arith, l, same, q.2)
+
+-- a free slot ends the search
+pub absent_by_probing : (ds : List Declaration) (slots : List (Option ℕ)) (size s : ℕ) (home : List (List ℕ)) (name : List ℕ) (n : ℕ) → AreReached ds slots size → s ≡ protocol_slot size home name → ArePassed ds slots size s home name n
+    → slice_get slots (probed size s n) ≡ Some None → first_where (is_called home name) ds ≡ None
+absent_by_probing ds slots size s home name n reached at passed free =
+    none_there (is_called home name) ds (λ j d e. ⊎_elim (λ t. absurd (present j d e t)) (λ t. t) (true_or_false (is_called home name d)))
+  where
+    present : (j : ℕ) (d : Declaration) → slice_get ds j ≡ Some d → is_called home name d ≡ true → ⊥
+    present j d e t =
+        let r = subst (λ z. IsReached slots size z j) (slot_called size d home name t ∙ sym at) (reached j d e) in
+        let q = not_passed ds slots size s home name n j d None e t r passed free in
+        cc (q.1)
 
 -- slots that are filled for one protocol after the other
 
@@ -57,85 +150,71 @@ pub none_indexed : (ds : List Declaration) (size : ℕ) (slots : List (Option �
 none_indexed ds size slots long e = record {
   long = long;
   within = λ s k h. absurd (empty_slot size s k (subst (λ xs. slice_get xs s ≡ Some (Some k)) e h));
-  first = λ s k h. absurd (empty_slot size s k (subst (λ xs. slice_get xs s ≡ Some (Some k)) e h));
-  taken = λ j d h l. absurd (omega (arith, l));
+  reached = λ j d h l. absurd (omega (arith, l));
 }
-
-set_some : (xs : List (Option ℕ)) (i p x n : ℕ) → slice_get xs p ≡ Some (Some x) → (k : ℕ) × (slice_get (set xs i (Some n)) p ≡ Some (Some k))
-set_some [] i p x n e = absurd (cc e)
-set_some (y ∷ xs) zero zero x n e = (n, refl)
-set_some (y ∷ xs) zero (suc p) x n e = (x, e)
-set_some (y ∷ xs) (suc i) zero x n e = (x, e)
-set_some (y ∷ xs) (suc i) (suc p) x n e = set_some xs i p x n e
 
 set_here : (xs : List (Option ℕ)) (i n : ℕ) (o : Option ℕ) → slice_get xs i ≡ Some o → slice_get (set xs i (Some n)) i ≡ Some (Some n)
 set_here [] i n o e = absurd (cc e)
 set_here (y ∷ xs) zero n o e = refl
 set_here (y ∷ xs) (suc i) n o e = set_here xs i n o e
 
--- one of the first n, or the next
-pub last_or_before : (j n : ℕ) → j < n + 1 → (j < n) ⊎ (j ≡ n)
-last_or_before j n l = case (leb n j) refl
-  where
-    case : (t : Bool) → leb n j ≡ t → (j < n) ⊎ (j ≡ n)
-    case true e = let low = leb-true n j e in inr (omega (arith, l, low))
-    case false e = inl (leb-false n j e)
+-- a taken slot keeps its place when a free one is taken
+kept_slot : (xs : List (Option ℕ)) (i n p k : ℕ) → slice_get xs i ≡ Some None → slice_get xs p ≡ Some (Some k) → slice_get (set xs i (Some n)) p ≡ Some (Some k)
+kept_slot [] i n p k e h = absurd (cc h)
+kept_slot (y ∷ xs) zero n zero k e h = absurd (cc (e, h))
+kept_slot (y ∷ xs) zero n (suc p) k e h = h
+kept_slot (y ∷ xs) (suc i) n zero k e h = h
+kept_slot (y ∷ xs) (suc i) n (suc p) k e h = kept_slot xs i n p k e h
 
--- the slot was free
-one_indexed : (ds : List Declaration) (size n s : ℕ) (c : Declaration) (slots : List (Option ℕ)) → slice_get ds n ≡ Some c → s ≡ slot_for size c → slice_get slots s ≡ Some None → IsFilled ds size n slots → IsFilled ds size (n + 1) (set slots s (Some n))
-one_indexed ds size n s c slots here at free f = record {
-  long = length-set slots s (Some n) ∙ f.long;
-  within = λ p k h. ⊎_elim (λ x. let same : n ≡ k = cc (x.1) in omega (arith, same)) (λ x. omega (arith, f.within p k x.1)) (get_set slots s (Some n) p (Some k) h);
-  first = λ p k h. ⊎_elim (λ x. fresh p k x.0 (let same : n ≡ k = cc (x.1) in same)) (λ x. f.first p k x.1) (get_set slots s (Some n) p (Some k) h);
-  taken = λ j d e l. ⊎_elim (λ x. let t = f.taken j d e x in set_some slots s (slot_for size d) t.0 n t.1) (λ x. next j d e x) (last_or_before j n l);
+kept_reached : (slots : List (Option ℕ)) (size s k i n : ℕ) → slice_get slots i ≡ Some None → IsReached slots size s k → IsReached (set slots i (Some n)) size s k
+kept_reached slots size s k i n e r = record {
+  steps = r.steps;
+  there = kept_slot slots i n (probed size s r.steps) k e r.there;
+  before = λ m l. let b = r.before m l in (b.0, kept_slot slots i n (probed size s m) b.0 e b.1, b.2);
+}
+
+-- one more protocol, in the first free slot
+one_indexed : (ds : List Declaration) (size n free : ℕ) (c : Declaration) (slots : List (Option ℕ)) → slice_get ds n ≡ Some c → IsFirstFree slots size (slot_for size c) free → IsFilled ds size n slots → IsFilled ds size (n + 1) (set slots free (Some n))
+one_indexed ds size n free c slots here f g = record {
+  long = length-set slots free (Some n) ∙ g.long;
+  within = λ p k h. ⊎_elim (λ x. let same : n ≡ k = cc (x.1) in omega (arith, same)) (λ x. omega (arith, g.within p k x.1)) (get_set slots free (Some n) p (Some k) h);
+  reached = λ j d e l. ⊎_elim (λ x. kept_reached slots size (slot_for size d) j free n f.empty (g.reached j d e x)) (λ x. next j d e x) (last_or_before j n l);
 }
   where
-    fresh : (p k : ℕ) → p ≡ s → n ≡ k → IsFirstOf ds size p k
-    fresh p k e g j d h l same =
-        let t = f.taken j d h (omega (arith, l, g)) in
-        let taken : slice_get slots s ≡ Some (Some t.0) = ap (slice_get slots) (sym (same ∙ e)) ∙ t.1 in
-        absurd (cc (free, taken))
+    itself : IsReached (set slots free (Some n)) size (slot_for size c) n
+    itself = record {
+      steps = f.steps;
+      there = subst (λ z. slice_get (set slots free (Some n)) z ≡ Some (Some n)) f.at (set_here slots free n None f.empty);
+      before = λ m l. let t = f.before m l in (t.0, kept_slot slots free n (probed size (slot_for size c) m) t.0 f.empty t.1, g.within (probed size (slot_for size c) m) t.0 t.1);
+    }
 
-    next : (j : ℕ) (d : Declaration) → slice_get ds j ≡ Some d → j ≡ n → (k : ℕ) × (slice_get (set slots s (Some n)) (slot_for size d) ≡ Some (Some k))
+    next : (j : ℕ) (d : Declaration) → slice_get ds j ≡ Some d → j ≡ n → IsReached (set slots free (Some n)) size (slot_for size d) j
     next j d e x =
         let both : slice_get ds n ≡ Some d = ap (slice_get ds) (sym x) ∙ e in
         let same : c ≡ d = cc (here, both) in
-        (n, ap (slice_get (set slots s (Some n))) (sym (at ∙ ap (slot_for size) same)) ∙ set_here slots s n None free)
+        subst (λ z. IsReached (set slots free (Some n)) size (slot_for size d) z) (sym x) (subst (λ z. IsReached (set slots free (Some n)) size (slot_for size z) n) same itself)
 
--- it was taken
-kept_indexed : (ds : List Declaration) (size n s k : ℕ) (c : Declaration) (slots : List (Option ℕ)) → slice_get ds n ≡ Some c → s ≡ slot_for size c → slice_get slots s ≡ Some (Some k) → IsFilled ds size n slots → IsFilled ds size (n + 1) slots
-kept_indexed ds size n s k c slots here at there f = record {
-  long = f.long;
-  within = λ p k h. omega (arith, f.within p k h);
-  first = f.first;
-  taken = λ j d e l. ⊎_elim (λ x. f.taken j d e x) (λ x. next j d e x) (last_or_before j n l);
-}
-  where
-    next : (j : ℕ) (d : Declaration) → slice_get ds j ≡ Some d → j ≡ n → (x : ℕ) × (slice_get slots (slot_for size d) ≡ Some (Some x))
-    next j d e x =
-        let both : slice_get ds n ≡ Some d = ap (slice_get ds) (sym x) ∙ e in
-        let same : c ≡ d = cc (here, both) in
-        (k, ap (slice_get slots) (sym (at ∙ ap (slot_for size) same)) ∙ there)
+has_one : (xs : List (Option ℕ)) (i : ℕ) (o : Option ℕ) → slice_get xs i ≡ Some o → 0 < length xs
+has_one [] i o h = absurd (cc h)
+has_one (x ∷ xs) i o h = omega arith
 
--- one more protocol, whether its slot was free or taken
-pub next_indexed : (ds : List Declaration) (size n : ℕ) (c : Declaration) (slots new : List (Option ℕ)) → slice_get ds n ≡ Some c → IsSlotTaken slots n (slot_for (length slots) c) new → IsFilled ds size n slots → IsFilled ds size (n + 1) new
-next_indexed ds size n c slots new here t f =
-    let at = ap (λ z. slot_for z c) f.long in
-    let s = slot_for (length slots) c in
-    ⊎_elim (λ x. subst (IsFilled ds size (n + 1)) (sym x.1) (one_indexed ds size n s c slots here at x.0 f))
-    (λ x. subst (IsFilled ds size (n + 1)) (sym x.2) (kept_indexed ds size n s x.0 c slots here at x.1 f)) t
+-- where slots are left, there were slots
+pub some_left : (slots new : List (Option ℕ)) (n s : ℕ) → IsSlotTaken slots n s new → 0 < length new → 0 < length slots
+some_left slots new n s t l = ⊎_elim (λ x. has_one slots x.0 None (x.1).empty) (λ x. absurd (omega (arith, l, ap length x))) t
+
+-- one more protocol, if slots are left
+pub next_indexed : (ds : List Declaration) (size n : ℕ) (c : Declaration) (slots new : List (Option ℕ)) → slice_get ds n ≡ Some c → IsSlotTaken slots n (slot_for (length slots) c) new → (0 < length slots → IsFilled ds size n slots) → 0 < length new → IsFilled ds size (n + 1) new
+next_indexed ds size n c slots new here t f l =
+    let g = f (some_left slots new n (slot_for (length slots) c) t l) in
+    ⊎_elim (λ x. subst (IsFilled ds size (n + 1)) (sym x.2) (one_indexed ds size n x.0 c slots here (subst (λ z. IsFirstFree slots z (slot_for z c) x.0) g.long x.1) g))
+    (λ x. absurd (omega (arith, l, ap length x))) t
 
 -- all protocols are in the index
-pub all_indexed : (ds : List Declaration) (size : ℕ) (n : ℕ) (slots : List (Option ℕ)) → IsFilled ds size n slots → IsProtocolIndex ds slots
-all_indexed ds size n slots f s k h = subst (λ z. IsFirstOf ds z s k) (sym f.long) (f.first s k h)
-
--- without slots it contains nothing
 pub indexed_all : (ds : List Declaration) (slots : List (Option ℕ)) (n : ℕ) → IsIndexed ds slots n → IsProtocolIndex ds slots
-indexed_all ds slots n h s k e = all_indexed ds (length slots) (length ds) slots (h (has_one slots s (Some k) e)).0 s k e
-  where
-    has_one : (xs : List (Option ℕ)) (i : ℕ) (o : Option ℕ) → slice_get xs i ≡ Some o → 0 < length xs
-    has_one [] i o h = absurd (cc h)
-    has_one (x ∷ xs) i o h = omega arith
+indexed_all ds slots n h l k d e =
+    let q = h l in
+    let f = q.0 in
+    f.reached k d e (slice_get_within ds k d e)
 
 pub none_kept : (ds : List Declaration) (slots : List (Option ℕ)) (n : ℕ) → slots ≡ [] → IsIndexed ds slots n
 none_kept ds slots n e l = absurd (omega (arith, l, ap length e))
@@ -143,8 +222,14 @@ none_kept ds slots n e l = absurd (omega (arith, l, ap length e))
 pub read_at : {X : Type 0} (xs : List X) (i : ℕ) (x : X) → i < length xs → x ≡ get_or xs i x → slice_get xs i ≡ Some x
 read_at xs i x l e = slice_get_read xs (length xs) i x refl l e
 
-pub next_declared : (ds : List CodeDeclaration) (size n : ℕ) (c : CodeDeclaration) (slots new : List (Option ℕ)) → n < length ds → c ≡ get_or ds n c → IsSlotTaken slots n (slot_for (length slots) (declaration_of c)) new → IsFilled (shown ds) size n slots → IsFilled (shown ds) size (n + 1) new
-next_declared ds size n c slots new l e t f = next_indexed (shown ds) size n (declaration_of c) slots new (there_shown ds n c (read_at ds n c l e)) t f
+pub next_declared : (ds : List CodeDeclaration) (size n : ℕ) (c : CodeDeclaration) (slots new : List (Option ℕ)) → n < length ds → c ≡ get_or ds n c → IsSlotTaken slots n (slot_for (length slots) (declaration_of c)) new → (0 < length slots → IsFilled (shown ds) size n slots)
+    → 0 < length new → IsFilled (shown ds) size (n + 1) new
+next_declared ds size n c slots new l e t f more = next_indexed (shown ds) size n (declaration_of c) slots new (there_shown ds n c (read_at ds n c l e)) t f more
+
+-- a slot that is not empty
+pub some_of : (o : Option ℕ) → is_some o ≡ true → (k : ℕ) × (o ≡ Some k)
+some_of None e = absurd (cc e)
+some_of (Some k) e = (k, refl)
 
 -- the protocols of one more module
 
@@ -165,8 +250,7 @@ pub indexed_before : (ds es : List Declaration) (size : ℕ) (slots : List (Opti
 indexed_before ds es size slots f = record {
   long = f.long;
   within = λ s k h. omega (arith, f.within s k h);
-  first = λ s k h j d e l. f.first s k h j d (get_before ds es j d (omega (arith, l, f.within s k h)) e) l;
-  taken = λ j d e l. let low : j < length ds = omega (arith, l) in f.taken j d (get_before ds es j d low e) low;
+  reached = λ j d e l. let low : j < length ds = omega (arith, l) in f.reached j d (get_before ds es j d low e) low;
 }
 
 declared_at : (home : ModuleTree) (ps : List ProtocolDeclaration) (i : ℕ) (p : ProtocolDeclaration) → slice_get ps i ≡ Some p → slice_get (declared_in home ps) i ≡ Some (record { home = home; protocol = p })
@@ -177,14 +261,14 @@ declared_at home (q ∷ ps) zero p e =
 declared_at home (q ∷ ps) (suc i) p e = declared_at home ps i p e
 
 pub next_added : (ds : List Declaration) (home : ModuleTree) (size i place : ℕ) (p : ProtocolDeclaration) (slots new : List (Option ℕ)) → i < length home.protocols → p ≡ get_or home.protocols i p → place ≡ length ds + i → IsSlotTaken slots place (protocol_slot (length slots) home.name p.name) new
-    → IsFilled (ds ++ declared_in home home.protocols) size (length ds + i) slots → IsFilled (ds ++ declared_in home home.protocols) size (length ds + (i + 1)) new
-next_added ds home size i place p slots new l e at t f =
+    → (0 < length slots → IsFilled (ds ++ declared_in home home.protocols) size (length ds + i) slots) → 0 < length new → IsFilled (ds ++ declared_in home home.protocols) size (length ds + (i + 1)) new
+next_added ds home size i place p slots new l e at t f left =
     let es = declared_in home home.protocols in
     let d : Declaration = record { home = home; protocol = p } in
     let here = get_after ds es i d (declared_at home home.protocols i p (read_at home.protocols i p l e)) in
     let taken = subst (λ z. IsSlotTaken slots z (slot_for (length slots) d) new) at t in
     let more : length ds + i + 1 ≡ length ds + (i + 1) = omega arith in
-    subst (λ z. IsFilled (ds ++ es) size z new) more (next_indexed (ds ++ es) size (length ds + i) d slots new here taken f)
+    subst (λ z. IsFilled (ds ++ es) size z new) more (next_indexed (ds ++ es) size (length ds + i) d slots new here taken f left)
 
 pub added_count : (ds : List Declaration) (home : ModuleTree) → length (ds ++ declared_in home home.protocols) ≡ length ds + length home.protocols
 added_count ds home = length-append ds (declared_in home home.protocols) ∙ ap (λ n. length ds + n) (length-map home.protocols (λ p. record { home = home; protocol = p }))

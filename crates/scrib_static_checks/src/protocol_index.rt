@@ -6,12 +6,12 @@ ghost use Rattle.scrib_static_checks.specs.ProtocolIndex as spec;
 use scrib_types::hashing::{hash_bytes, hash_names, slot_of};
 use scrib_types::name::{Dotted, Name};
 
-/// A hash table from the names of protocols to their indices among the declared ones. A slot contains the first
-/// declared protocol that hashes to it. Where two protocols share a slot, a look-up searches the whole table. The table
-/// has no slots, or it contains `indexed` protocols.
+/// A hash table from the names of protocols to their indices among the declared ones, with linear probing (Knuth, The
+/// Art of Computer Programming 3, section 6.4). A protocol is in the first slot that was free, from the slot of its hash
+/// on. The table has no slots, or it contains `indexed` protocols.
 #[derive(Drop)]
 pub struct ProtocolIndex {
-    pub slots: Vec<Option<usize>>,
+    pub slots: Vec<Option<u32>>,
     pub indexed: usize,
 }
 
@@ -23,4 +23,13 @@ pub fn protocol_slot(size: usize, home: &Dotted, name: &Name) -> usize
 {
     let hash = hash_names(hash_bytes(0, name.as_bytes()), home.as_slice());
     slot_of(hash, size)
+}
+
+/// Returns the slot after this one, out of `size`. The first one comes after the last.
+pub fn next_slot(size: usize, slot: usize) -> usize
+    requires { slot < size }
+    ensures slot { result ≡ spec.next_slot size slot }
+    ensures within { result < size }
+{
+    if slot + 1 < size { slot + 1 } else { 0 }
 }

@@ -4,8 +4,8 @@ use Rattle.scrib_static_checks.proofs.NameLemmas.{dotted_eq-Decides}
 use Rattle.scrib_static_checks.proofs.TableLemmas.{lent_at, there_shown}
 use Rattle.scrib_static_checks.proofs.index_entries.is_named.Goals as goal
 
-pub returns-then-equal : goal.returns-then-equal
-returns-then-equal c = λ t.
+pub returns-then-equal-clause-named : goal.returns-then-equal-clause-named
+returns-then-equal-clause-named c = λ t.
     let one = c.in-Some.one.now in
     record {
       found = declaration_of one;
