@@ -13,7 +13,7 @@ ghost use Rattle.scrib_elaborate.specs.Typing.{IsTable, IsTabled, origin_sites};
 ghost use Rattle.scrib_static_checks.specs.Walking.{IsAbsentFault, IsCounted};
 
 use crate::elaborated::{ChoiceSite, Elaborated};
-use crate::memo::{empty_memo, memoize, memoized_type, remove_walk};
+use crate::memo::{Memo, empty_memo, memoize, memoized_type, remove_walk};
 use crate::tasks::ElaborationContext;
 use scrib_static_checks::checking::{State, SymbolTable};
 use scrib_static_checks::declared::{Declaration, all_declared};
@@ -67,7 +67,7 @@ pub struct Elaborator<'a> {
 #[derive(Drop)]
 struct Results<'a> {
     states: Vec<State>,
-    memo: Vec<Option<BuiltType<'a>>>,
+    memo: Memo<'a>,
 }
 
 impl<'a> Model for Elaborator<'a> {

@@ -14,17 +14,22 @@ use crate::typing::{type_alone, type_of_root};
 use scrib_static_checks::checking::{State, SymbolTable};
 use scrib_type_builder::build_error::{BuildError, Refused};
 use scrib_type_builder::built_type::BuiltType;
+use scrib_types::containers::Boxed;
 use std::alloc::{AllocError, Global};
 
 // The largest number of nodes of a type that is kept. A larger one is built where it is needed, so that the types of
 // protocols that call one another do not fill the memory.
 const MAX_MEMOIZED: usize = 4_096;
 
+/// For each declared protocol its type in isolation, once it is built. The types are in boxes: the list has a place for
+/// each protocol of the library, and only a few of them are built.
+pub type Memo<'a> = Vec<Option<Boxed<BuiltType<'a>>>>;
+
 /// Returns a memo for `count` protocols, without a type.
 ///
 /// # Errors
 /// `AllocError` where memory was refused.
-pub fn empty_memo<'a>(alloc: Global, count: usize) -> Result<Vec<Option<BuiltType<'a>>>, AllocError>
+pub fn empty_memo<'a>(alloc: Global, count: usize) -> Result<Memo<'a>, AllocError>
     ensures { IfOk result (λ memo. IsEmptyMemo memo.items) }
 {
     let mut memo = Vec::with_capacity(alloc, count)?;
@@ -44,7 +49,7 @@ pub fn memoize<'a>(
     table: &SymbolTable<'a, '_>,
     states: &[State],
     places: &[usize],
-    memo: &mut Vec<Option<BuiltType<'a>>>,
+    memo: &mut Memo<'a>,
 ) -> Result<(), Refused>
     requires { IsTabled table.now.modules.now table.now.declared.now table.now.protocol_index.now.slots.items states.now
         memo.old.items }
@@ -66,9 +71,9 @@ fn alone<'a>(
     alloc: Global,
     table: &SymbolTable<'a, '_>,
     states: &[State],
-    memo: &[Option<BuiltType<'a>>],
+    memo: &[Option<Boxed<BuiltType<'a>>>],
     place: usize,
-) -> Result<Option<BuiltType<'a>>, Refused>
+) -> Result<Option<Boxed<BuiltType<'a>>>, Refused>
     requires { IsTabled table.now.modules.now table.now.declared.now table.now.protocol_index.now.slots.items states.now
         memo.now }
     ensures { IfOk result
@@ -97,14 +102,34 @@ fn alone<'a>(
         memo,
         root: *root,
     };
-    type_alone(&context)
+    let typed = type_alone(&context)?;
+    let boxed = in_box(alloc, typed)?;
+    Ok(boxed)
+}
+
+// Returns the type in a box, if there is one. Errors: `AllocError` where memory was refused.
+fn in_box<'a>(
+    alloc: Global,
+    typed: Option<BuiltType<'a>>,
+) -> Result<Option<Boxed<BuiltType<'a>>>, AllocError>
+    ensures { IfOk result (λ boxed. boxed ≡ typed.entry) }
+{
+    match typed {
+        Some(typed) => Ok(Some(Boxed::new(alloc, typed)?)),
+        None => Ok(None),
+    }
 }
 
 /// Removes the walk over the requested protocol, at index `place` and with `nodes` nodes. It does so if its type is
 /// small enough and not in the memo. A protocol that calls it then walks it again, and its type is added to the memo.
 /// If no other protocol calls it, no second type is built. This only saves time: a type that is not in the memo is
 /// built for each protocol that reaches it.
-pub fn remove_walk(states: &mut Vec<State>, memo: &[Option<BuiltType>], place: usize, nodes: usize)
+pub fn remove_walk(
+    states: &mut Vec<State>,
+    memo: &[Option<Boxed<BuiltType>>],
+    place: usize,
+    nodes: usize,
+)
     ensures { (modules : List ParsedTree) → (ds : List PureDeclaration) → IsIdle modules ds states.old.items
         → IsIdle modules ds states.new.items }
 {
@@ -131,7 +156,7 @@ pub fn memoized_type<'a>(
     ensures fault { IfErr result (TypingFails context.now.modules.now (declaration_of context.now.root)) }
 {
     if let Some(Some(typed)) = context.memo.get(place) {
-        let typed = typed.copy(context.alloc)?;
+        let typed = typed.get().copy(context.alloc)?;
         return Ok(typed);
     }
     type_of_root(context)

@@ -7,6 +7,7 @@ use scrib_static_checks::effect::CallEffect;
 use scrib_static_checks::protocol_index::ProtocolIndex;
 use scrib_tree::tree::{Block, ModuleTree, Statement};
 use scrib_type_builder::built_type::BuiltType;
+use scrib_types::containers::Boxed;
 use scrib_types::name::{Dotted, Name, Role};
 use scrib_types::shared_message::SharedMessage;
 use scrib_types::spot::Spot;
@@ -21,7 +22,7 @@ pub struct ElaborationContext<'a, 'k> {
     pub declared: &'k [Declaration<'a>],
     pub protocol_index: &'k ProtocolIndex,
     pub states: &'k [State],
-    pub memo: &'k [Option<BuiltType<'a>>],
+    pub memo: &'k [Option<Boxed<BuiltType<'a>>>],
     pub root: Declaration<'a>,
 }
 

@@ -151,7 +151,8 @@ fn memoized_alone<'a, 'k>(
     ensures ends { IfSome result (λ _. global_of follows.now ≡ GlobalEnd) }
 {
     if let GlobalType::End = follows {
-        return context.memo.get(place)?.as_ref();
+        let alone = context.memo.get(place)?.as_ref()?;
+        return Some(alone.get());
     }
     None
 }

@@ -1,5 +1,4 @@
 use Rattle.std.proofs.Common.{Some, ap, ◌∙◌}
-use Rattle.std.proofs.lemmas.Result.{IfOk-weaker}
 use Rattle.scrib_static_checks.proofs.TableLemmas.{lent_at}
 use Rattle.scrib_elaborate.proofs.MemoLemmas.{kept_there, alone_there, some_alone}
 use Rattle.scrib_elaborate.proofs.memo.alone.Goals as goal
@@ -21,4 +20,4 @@ returns c =
     let m = c.in-Some-Walked in
     let root = lent_at ds c.args.place c.in-Some.root.now c.in-Some.ensures.lookup.0 c.in-Some.ensures.lookup.1 in
     let walked = lent_at states c.args.place m.field-0.now m.ensures.lookup.0 m.ensures.lookup.1 ∙ ap Some m.field-0-is in
-    IfOk-weaker c.type_alone.result _ _ (λ o. some_alone ms ds c.args.place c.in-Some.root.now o (λ made. alone_there ms ds states c.args.place c.in-Some.root.now m.summary made c.requires.idle.kept root walked)) c.type_alone.ensures
+    rw c.in_ok-boxed.ensures (some_alone ms ds c.args.place c.in-Some.root.now c.in_ok-typed.typed (λ made. alone_there ms ds states c.args.place c.in-Some.root.now m.summary made c.requires.idle.kept root walked) c.in_ok-typed.ensures)
