@@ -1,7 +1,8 @@
 -- The modules that reach the edited one by imports, found one after another.
-use Rattle.std.proofs.Common.{◌≡◌, ℕ, zero, suc, ◌+◌, ◌-◌, ◌<◌, ◌≤◌, List, [], ◌∷◌, ◌++◌, length, get_or, take, drop, ◌⊎◌, inl, inr, refl, sym, ap, ◌∙◌, subst, arith}
+use Rattle.std.proofs.Common.{◌≡◌, ℕ, zero, suc, ◌+◌, ◌-◌, ◌<◌, ◌≤◌, List, [], ◌∷◌, ◌++◌, length, get_or, take, drop, ◌⊎◌, inl, inr, Option, Some, None, refl, sym, ap, ◌∙◌, subst, arith}
 use Rattle.std.specs.Borrow.{Bor}
 use Rattle.std.specs.List.{Contains, remove}
+use Rattle.std.specs.Option.{MatchOption}
 use Rattle.std.proofs.Math.ListN.{length-append}
 use Rattle.std.proofs.lemmas.List.{take_more, take_all, take-append-le, take-append-drop, length-drop, map-append, length-map, get_or-map}
 use Rattle.std.proofs.lemmas.List.Elements.{Contains-push, Contains-push_cases, Contains-append_left, Contains-append_cases}
@@ -138,3 +139,24 @@ none_taken ws ns at le h m p s = h m p (let Q : List (Bor (List (List ℕ))) →
 
 pub within_more : {X : Type 0} (xs : List X) (x : X) (at : ℕ) → at ≤ length xs → at ≤ length (xs ++ x ∷ [])
 within_more xs x at le = omega (arith, le, length-append xs (x ∷ []))
+
+-- none of the modules imports one of the names
+abbrev NoImporter : List (List (List ℕ)) → List FilteredModule → Type 0
+NoImporter names ws = (m : ModuleTree) → Contains (waiting_trees ws) m → ImportsSome names m → ⊥
+
+none_of_both : (names : List (List (List ℕ))) (ws : List FilteredModule) (k : ℕ) → NoImporter names (take k ws) → NoImporter names (drop k ws) → NoImporter names ws
+none_of_both names ws k front behind m p s =
+    let both : waiting_trees ws ≡ waiting_trees (take k ws) ++ waiting_trees (drop k ws) =
+    ap waiting_trees (sym (take-append-drop k ws)) ∙ map-append (λ (x : FilteredModule). x.tree.now) (take k ws) (drop k ws) in
+    let P : List ModuleTree → Type 0 = λ l. Contains l m in
+    elim (Contains-append_cases (waiting_trees (take k ws)) (waiting_trees (drop k ws)) m (subst P both p)) [ inl q ↦ front m q s | inr q ↦ behind m q s ]
+
+-- a search of the first k modules, after one of the others in vain, is one of all
+pub searched_both : (names : List (List (List ℕ))) (ws : List FilteredModule) (k : ℕ) (found : Option ℕ) → NoImporter names (take (length ws - k) (drop k ws)) → MatchOption found (NoImporter names (take k ws)) (λ at. at < length (take k ws)) → MatchOption found (NoImporter names ws) (λ at. at < length ws)
+searched_both names ws k None behind front =
+    let short : length (drop k ws) ≤ length ws - k = omega (arith, length-drop k ws) in
+    none_of_both names ws k front (subst (NoImporter names) (take_all (length ws - k) (drop k ws) short) behind)
+searched_both names ws k (Some at) behind front =
+    let long = ap length (take-append-drop k ws) in
+    let parts = length-append (take k ws) (drop k ws) in
+    omega (arith, front, long, parts)

@@ -3,6 +3,7 @@
 ghost use Rattle.std.specs.Prelude.{◌≡◌, ◌<◌, length, MatchOption, IfOk, IsTrue, Contains, ◌↔◌};
 ghost use Rattle.scrib_tree.specs.declared.tree.ModuleTree as parsed;
 ghost use Rattle.scrib_library.specs.Summaries.{summaries_of};
+ghost use Rattle.scrib_library.specs.NameFilter.{IsFilterOfNames};
 ghost use Rattle.scrib_library.specs.Affected.{names_now, waiting_trees, ImportsSome, AreAffected};
 
 use crate::name_filter::{FilteredModule, filter_of_names, may_overlap};
@@ -29,13 +30,15 @@ pub fn affected<'a>(
     let mut names = Vec::new(alloc);
     names.push(edited)?;
     // The names from `at` on are compared, all at once, with the imports of the waiting modules. The loop ends once no
-    // waiting module imports one of them.
+    // waiting module imports one of them. Each search begins where the last importer was, and so most of them end soon.
     let mut at = 0;
+    let mut first = 0;
     while at < names.len() {
-        match place_of_importer(&waiting, &names[at..]) {
+        match place_of_importer(&waiting, first, &names[at..]) {
             Some(place) => {
                 let importer = waiting.remove(place);
                 names.push(&importer.tree.name)?;
+                first = place;
             }
             None => at = names.len(),
         }
@@ -60,15 +63,29 @@ fn filtered<'a>(
     Ok(all)
 }
 
-// Returns the index of the first module that imports one of these names. The filters avoid most comparisons. Not
-// inlined: this loop, the hottest of an edit, then keeps its few values in registers.
-#[inline(never)]
-fn place_of_importer(waiting: &[FilteredModule], names: &[&Dotted]) -> Option<usize>
+// Returns the index of a module that imports one of these names. Those from `first` on are searched before the others.
+fn place_of_importer(waiting: &[FilteredModule], first: usize, names: &[&Dotted]) -> Option<usize>
     ensures { MatchOption result
         ((m : parsed.ModuleTree) → Contains (waiting_trees waiting.now) m → ImportsSome (names_now names.now) m → ⊥)
         (λ at. at < length waiting.now) }
 {
     let name_filter = filter_of_names(names);
+    let middle = first.min(waiting.len());
+    if let Some(at) = first_importer(&waiting[middle..], name_filter, names) {
+        return Some(middle + at);
+    }
+    first_importer(&waiting[..middle], name_filter, names)
+}
+
+// Returns the index of the first module that imports one of these names, which have this filter. The filters avoid most
+// comparisons. Not inlined: this loop, the hottest of an edit, then keeps its few values in registers.
+#[inline(never)]
+fn first_importer(waiting: &[FilteredModule], name_filter: u64, names: &[&Dotted]) -> Option<usize>
+    requires { IsFilterOfNames (names_now names.now) name_filter }
+    ensures { MatchOption result
+        ((m : parsed.ModuleTree) → Contains (waiting_trees waiting.now) m → ImportsSome (names_now names.now) m → ⊥)
+        (λ at. at < length waiting.now) }
+{
     for (at, one) in waiting.iter().enumerate() {
         if may_overlap(one.name_filter, name_filter) && imports_some(one.tree, names) {
             return Some(at);

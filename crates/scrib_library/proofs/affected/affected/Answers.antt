@@ -11,8 +11,8 @@ loop-at-init c =
     let items = rw c.new-names.ensures.items at c.in_ok-push.ensures.items in
     (sorted_first c.args.modules.now c.args.edited.now (waiting_trees c.in_ok-waiting.waiting.items) (names_now c.push.new.self.items) (ap names_now items) (λ m p. let P : List ModuleTree → Type 0 = λ l. Contains l m in inl (subst P (sym c.in_ok-waiting.ensures) p)), λ m p s. Contains-nil s.by.module s.named, omega arith)
 
-pub loop-at-preserved-in-Continue-branch-3 : goal.loop-at-preserved-in-Continue-branch-3
-loop-at-preserved-in-Continue-branch-3 c =
+pub loop-at-preserved-in-Some : goal.loop-at-preserved-in-Some
+loop-at-preserved-in-Some c =
     let lt = rw c.deref.ensures.value at c.in-Some.ensures in
     let le = c.loop-at.invariant.2 in
     rw (c.remove-importer.ensures.items, c.in_ok-push-in-Some.ensures.items) (
