@@ -19,8 +19,9 @@ use Rattle.scrib_static_checks.specs.Names.{Declaration, dotted_eq, has_name, fi
 use Rattle.scrib_static_checks.specs.Statements.{KeepsRules, protocol_keeps, BlockKeeps, end_keeps, then_keeps, StatementKeeps, sends_keeps, chooses_keeps, repeats_keeps, continues_keeps, calls_keeps, BlocksKeep, none_keeps, or_keeps}
 use Rattle.scrib_static_checks.specs.Elaboration.{Frames, NoFrame, Under, Types, ends, closes, sends, chooses, repeats, passes, continues, calls, JoinsTo, joins_none, joins, Elaborates}
 use Rattle.scrib_static_checks.proofs.NameLemmas.{dotted_eq-Decides, found_nowhere}
-use Rattle.scrib_library.specs.Calls.{EachCall, EachCallAt, EachCallOf}
-use Rattle.scrib_library.proofs.Lists.{Contains-head, Contains-tail}
+use Rattle.scrib_library.specs.Affected.{ImportsSome}
+use Rattle.scrib_library.specs.Calls.{EachCall, EachCallAt, EachCallOf, IsOther}
+use Rattle.scrib_library.proofs.Lists.{Contains-head, Contains-head_at, Contains-tail}
 use Rattle.scrib_library.proofs.Places.{first-there}
 
 -- ---- calls in statements, one after another
@@ -171,6 +172,14 @@ is_import (i ∷ is) n k e =
 pub looked_cases : (m : ModuleTree) (front n : List (List ℕ)) → looked_in m front ≡ Some n → (m.name ≡ n) ⊎ ((i : Import) × Contains m.imports i × (i.module ≡ n))
 looked_cases m [] n e = inl cc
 looked_cases m (a ∷ ns) n e = inr (is_import m.imports (a ∷ ns) n e)
+
+-- so no call refers to a module that is neither its own nor imported
+pub other_module : (m : ModuleTree) (home : List (List ℕ)) → (home ≡ m.name → ⊥) → (ImportsSome (home ∷ []) m → ⊥) → (name : List ℕ) (path : List (List ℕ)) → IsOther m home name path
+other_module m home own imported name path = λ l e.
+    elim (looked_cases m (all_but_last path) home l) [
+      | inl q ↦ own (sym q)
+      | inr i ↦ imported (record { by = i.0; imports = i.1; named = Contains-head_at home [] i.0.module (sym i.2) })
+    ]
 
 -- a protocol that is found is declared under its names
 pub found_declared : (ms : List ModuleTree) (home : List (List ℕ)) (name : List ℕ) (d : Declaration) → find_protocol ms home name ≡ Some d → Contains (declarations ms) d × (home ≡ d.home.name) × (name ≡ d.protocol.name)

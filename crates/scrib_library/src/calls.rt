@@ -1,12 +1,22 @@
 //! Which protocols the statements of another call.
 
-ghost use Rattle.std.specs.Prelude.{◌≡◌, false};
+ghost use Rattle.std.specs.Prelude.{◌≡◌, ℕ, List, false};
 ghost use Rattle.scrib_static_checks.specs.SourceView.{body_of, blocks_of, statement_of};
 ghost use Rattle.scrib_library.specs.Calls.{EachCall, EachCallAt, EachCallOf, IsOther};
 
+use crate::affected::imports_some;
+use crate::names::same;
 use scrib_static_checks::declared::looked_in;
 use scrib_tree::tree::{Block, ModuleTree, Statement};
 use scrib_types::name::{Dotted, Name};
+
+/// Whether calls in the module `at` can be of protocols of the module `home`: it is this module, or imports it. Most
+/// modules cannot call a protocol, so the walk over their statements is spared.
+pub fn may_call(at: &ModuleTree, home: &Dotted) -> bool
+    ensures { result ≡ false → (name : List ℕ) (path : List (List ℕ)) → IsOther at.now home.now name path }
+{
+    same(home, &at.name) || imports_some(at, &[home])
+}
 
 /// Whether some call in these statements of the module `at` calls the protocol `name` of the module `home`.
 #[cycle(calls)]

@@ -1,10 +1,10 @@
 //! The protocols that an edit of a module can change: its own, and those that reach one of these by calls.
 
-ghost use Rattle.std.specs.Prelude.{◌≡◌, ◌<◌, ◌⊎◌, [], length, IfOk, MatchOption, Contains};
+ghost use Rattle.std.specs.Prelude.{◌≡◌, ◌<◌, ◌⊎◌, [], false, length, IfOk, MatchOption, Contains};
 ghost use Rattle.scrib_library.specs.declared.declared.Entry as listed;
 ghost use Rattle.scrib_library.specs.Calls.{DoesNotCall, IsWorklist, AreGathered, AreReaching};
 
-use crate::calls::calls_in;
+use crate::calls::{calls_in, may_call};
 use crate::declared::{Entry, place_of};
 use scrib_types::name::Dotted;
 use std::alloc::{AllocError, Global};
@@ -71,12 +71,20 @@ fn place_of_caller(waiting: &[Entry], called: &Entry) -> Option<usize>
         (λ at. at < length waiting.now) }
 {
     for (at, entry) in waiting.iter().enumerate() {
-        let body = entry.protocol.body.as_slice();
-        if calls_in(entry.home, body, &called.home.name, &called.protocol.name) {
+        if is_caller(entry, called) {
             return Some(at);
         }
     }
     None
+}
+
+// Whether the first entry's protocol calls the second's.
+fn is_caller(entry: &Entry, called: &Entry) -> bool
+    ensures { result ≡ false → DoesNotCall entry.now called.now }
+{
+    let home = &called.home.name;
+    let body = entry.protocol.body.as_slice();
+    may_call(entry.home, home) && calls_in(entry.home, body, home, &called.protocol.name)
 }
 
 // Sorts the entries by name and keeps one of each name. Errors: `AllocError` if memory was refused.
