@@ -1,10 +1,14 @@
 -- Look-ups and changes of queues, for the view that contracts see.
-use Rattle.std.proofs.Common.{◌≡◌, ℕ, ◌⊎◌, inl, inr, Bool, true, false, IsTrue, List, [], ◌∷◌, ◌++◌, length, set, get_or, zip, position, Some, None, Option, Result, Ok, Err, is_ok, OnOk, OnErr, if◌then◌else◌, rules, refl, sym, ap, ◌∙◌, arith}
-use Rattle.std.proofs.lemmas.Bool.{cases_eq}
+use Rattle.std.proofs.Common.{◌≡◌, ◌↔◌, ◌==◌, ◌<◌, ◌+◌, ℕ, ◌⊎◌, inl, inr, Bool, true, false, IsTrue, List, [], ◌∷◌, ◌++◌, length, set, get_or, slice_get, zip, position, Some, None, Option, Result, Ok, Err, is_ok, OnOk, OnErr, if◌then◌else◌, rules, refl, sym, ap, subst, ◌∙◌, arith}
+use Rattle.std.proofs.lemmas.Bool.{cases_eq, true≢false}
+use Rattle.std.proofs.lemmas.Bool.Decides.{Decides-eqb}
 use Rattle.std.proofs.lemmas.Grind.{common_steps}
+use Rattle.std.proofs.lemmas.List.{get_or_default}
+use Rattle.std.proofs.lemmas.List.Quantifiers.{position-Some}
+use Rattle.std.proofs.lemmas.Option.{get_or_from_slice_get, same_Some, slice_get-get_or}
 use Rattle.scrib_queues.specs.declared.queues.Pair.{Pair}
 use Rattle.scrib_queues.specs.Channels.{Channel, Channels, SameElsewhere, SameQueues, KeepsRoom, AllEmpty, is_pair, queue_of, has_room}
-use Rattle.scrib_queues.specs.Layout.{fresh, items_of}
+use Rattle.scrib_queues.specs.Layout.{IsWaitingAt, fresh, items_of}
 use Rattle.scrib_queues.proofs.Lookups.{is_first, is_past, missing, found, changed_here, changed_elsewhere, added_here, added_elsewhere, same_items}
 
 is_own : (p q : ℕ) → is_pair p q record { from = p; to = q } ≡ true
@@ -147,3 +151,90 @@ module _ {T : Type 0} where
   -- nothing is taken out of a queue in which none waits
   pub none_taken : (m : T) (ms : List T) → ms ≡ [] → (rest : List T) → ms ≡ m ∷ rest → ⊥
   none_taken m ms e rest f = (cc)
+
+-- the pair's positions
+pair_is : (p q : ℕ) (k : Pair) → is_pair p q k ≡ true → (k.from ≡ p) × (k.to ≡ q)
+pair_is p q k e = (grind (arith, common_steps), grind (arith, common_steps))
+
+module _ {T : Type 0} where
+  -- a queue without an item
+  pub none_here : (ks : List Pair) (ls : List (Channel T)) (i : ℕ) (l : Channel T) → i < length ls → l ≡ get_or ls i l → l.items ≡ [] → IsWaitingAt ks ls i → ⊥
+  none_here ks ls i l below at none h =
+      let same : h.queue ≡ l = same_Some h.queue l (sym h.here ∙ slice_get-get_or ls i l below ∙ ap Some (sym at)) in
+      h.some (ap (λ (c : Channel T). c.items) same ∙ none)
+
+  -- a queue whose pair is found elsewhere
+  pub found_elsewhere : (ks : List Pair) (ls : List (Channel T)) (i : ℕ) (k : Pair) (o : Option ℕ) → slice_get ks i ≡ Some k → o ≡ position (is_pair k.from k.to) ks → (o ≡ Some i → ⊥) → IsWaitingAt ks ls i → ⊥
+  found_elsewhere ks ls i k o named search never h =
+      let same : h.pair ≡ k = same_Some h.pair k (sym h.named ∙ named) in
+      never (search ∙ subst (λ (x : Pair). position (is_pair x.from x.to) ks ≡ Some i) same h.first)
+
+  -- the first queue of its pair, with an item
+  pub waits_here : (ks : List Pair) (ls : List (Channel T)) (i : ℕ) (k : Pair) (l : Channel T) (o : Option ℕ) (n : ℕ) → i < length ls → slice_get ks i ≡ Some k → l ≡ get_or ls i l → (l.items ≡ [] → ⊥) → o ≡ position (is_pair k.from k.to) ks → o ≡ Some n → IsTrue (n == i) ↔ IsWaitingAt ks ls i
+  waits_here ks ls i k l o n below named at some search found = (
+    λ t. record {
+      pair = k;
+      queue = l;
+      named = named;
+      first = sym search ∙ found ∙ ap (λ (j : ℕ). Some j) ((Decides-eqb n i).0 t);
+      here = slice_get-get_or ls i l below ∙ ap Some (sym at);
+      some = some;
+    },
+    λ h. elim (cases_eq n i) [
+      | inl e ↦ (Decides-eqb n i).1 e
+      | inr differ ↦ absurd (found_elsewhere ks ls i k o named search (λ is. differ (same_Some n i (sym found ∙ is))) h)
+    ],
+  )
+
+  -- one queue more in which no item waits
+  pub none_more : (ks : List Pair) (ls : List (Channel T)) (i : ℕ) (b : Bool) → b ≡ false → IsTrue b ↔ IsWaitingAt ks ls i → ((k : ℕ) → k < i → IsWaitingAt ks ls k → ⊥) → (k : ℕ) → k < i + 1 → IsWaitingAt ks ls k → ⊥
+  none_more ks ls i b e is before k below h = elim (cases_eq k i) [
+    | inl same ↦ true≢false (sym (is.1 (subst (IsWaitingAt ks ls) same h)) ∙ e)
+    | inr differ ↦ before k (omega (arith, below, differ)) h
+  ]
+
+  -- no item waits
+  pub none_waits_at_all : (n : ℕ) (ks : List Pair) (ls : List (Channel T)) → length ks ≡ length ls → ((i : ℕ) → IsWaitingAt ks ls i → ⊥) → AllEmpty (seen n ks ls)
+  none_waits_at_all n ks ls long none p q = by (position (is_pair p q) ks) refl
+    where
+      nowhere : Pair
+      nowhere = record { from = 0; to = 0 }
+
+      nothing : Channel T
+      nothing = fresh
+
+      at : (i : ℕ) → position (is_pair p q) ks ≡ Some i → (xs : List T) → (get_or ls i nothing).items ≡ xs → queue_of (seen n ks ls) p q ≡ (get_or ls i nothing).items → queue_of (seen n ks ls) p q ≡ []
+      at i e [] empty is = is ∙ empty
+      at i e (x ∷ xs) items is =
+          let found = position-Some (is_pair p q) ks i nowhere e in
+          let k = get_or ks i nowhere in
+          let ends = pair_is p q k found.1 in
+          absurd (none i (record {
+            pair = k;
+            queue = get_or ls i nothing;
+            named = slice_get-get_or ks i nowhere found.0;
+            first = (λ j. position (is_pair (ends.0 j) (ends.1 j)) ks) ∙ e;
+            here = slice_get-get_or ls i nothing (omega (arith, found.0, long));
+            some = λ empty. let bad : x ∷ xs ≡ [] = sym items ∙ empty in cc;
+          }))
+
+      by : (o : Option ℕ) → position (is_pair p q) ks ≡ o → queue_of (seen n ks ls) p q ≡ []
+      by None e = none_waits n p q ks ls e
+      by (Some i) e =
+          let found = position-Some (is_pair p q) ks i nowhere e in
+          let l = get_or ls i nothing in
+          let below : i < length ls = omega (arith, found.0, long) in
+          at i e l.items refl (items_at n p q ks ls i l e long (get_or_default ls i nothing l below))
+
+  -- an item waits
+  pub some_waits : (n : ℕ) (ks : List Pair) (ls : List (Channel T)) (i : ℕ) → length ks ≡ length ls → IsWaitingAt ks ls i → AllEmpty (seen n ks ls) → ⊥
+  some_waits n ks ls i long h empty =
+      let at : h.queue ≡ get_or ls i h.queue = sym (get_or_from_slice_get ls i h.queue h.queue h.here) in
+      h.some (sym (items_at n h.pair.from h.pair.to ks ls i h.queue h.first long at) ∙ empty h.pair.from h.pair.to)
+
+  -- so the test is that of the view
+  pub empty_test : (n : ℕ) (ks : List Pair) (ls : List (Channel T)) (b : Bool) → length ks ≡ length ls → (IsTrue b ↔ ((i : ℕ) → IsWaitingAt ks ls i → ⊥)) → IsTrue b ↔ AllEmpty (seen n ks ls)
+  empty_test n ks ls b long is = (
+    λ t. none_waits_at_all n ks ls long (is.0 t),
+    λ empty. is.1 (λ i h. some_waits n ks ls i long h empty),
+  )

@@ -1,8 +1,8 @@
 //! The queues of all ordered pairs of roles.
 
-ghost use Rattle.std.specs.Prelude.{◌≡◌, ◌<◌, [], ◌∷◌, ◌++◌, false, IsTrue, IfOk, OnOk, OnErr, OnSome, MatchOption, drop, if◌then◌else◌, is_ok, length, position};
+ghost use Rattle.std.specs.Prelude.{◌≡◌, ◌↔◌, ◌<◌, ℕ, [], ◌∷◌, ◌++◌, false, IsTrue, IfOk, OnOk, OnErr, OnSome, MatchOption, drop, if◌then◌else◌, is_ok, length, position};
 ghost use Rattle.scrib_queues.specs.Channels.{AllEmpty, IsTaken, KeepsRoom, SameElsewhere, SameQueues, has_room, is_pair, queue_of};
-ghost use Rattle.scrib_queues.specs.Layout.{items_of, pair_of};
+ghost use Rattle.scrib_queues.specs.Layout.{IsWaitingAt, items_of, pair_of};
 
 use crate::queue::Queue;
 use crate::queued::Queued;
@@ -116,6 +116,13 @@ impl<T: Drop> Queues<T> {
         queue.front()
     }
 
+    /// Returns whether no item waits between any two roles. It takes time by the number of pairs that were used.
+    pub fn are_empty(&self) -> bool
+        ensures { IsTrue result ↔ AllEmpty self.now }
+    {
+        none_waits(&self.pairs, &self.queues)
+    }
+
     /// Takes the oldest item from `p` to `q` out and leaves its room, or returns `None` where none waits.
     pub fn pop(&mut self, p: usize, q: usize) -> Option<T>
         requires sender { p < self.old.roles }
@@ -226,6 +233,36 @@ fn add_queue<T: Drop>(
     queues.push(queue)?;
     pairs.push(pair)?;
     Ok(())
+}
+
+// Returns whether no item waits in any of the queues.
+fn none_waits<T: Drop>(pairs: &[Pair], queues: &[Queue<T>]) -> bool
+    requires { length pairs.now ≡ length queues.now }
+    ensures { IsTrue result ↔ ((place : ℕ) → IsWaitingAt pairs.now queues.now place → ⊥) }
+{
+    for place in 0..pairs.len() {
+        if waits(pairs, queues, place) {
+            return false;
+        }
+    }
+    true
+}
+
+// Returns whether an item waits in the queue at this place. The queue of a pair is the first one that has the pair.
+fn waits<T: Drop>(pairs: &[Pair], queues: &[Queue<T>], place: usize) -> bool
+    requires pair { place < length pairs.now }
+    requires queue { place < length queues.now }
+    ensures { IsTrue result ↔ IsWaitingAt pairs.now queues.now place }
+{
+    let queue = &queues[place];
+    if queue.front().is_none() {
+        return false;
+    }
+    let pair = pairs[place];
+    match place_of(pairs, usize::from(pair.from), usize::from(pair.to)) {
+        Some(first) => first == place,
+        None => false,
+    }
 }
 
 // The pair of these positions. A position above 65,535 doesn't fit.
