@@ -66,7 +66,7 @@ kept_again log old new v k f held free h j r p st =
     kept_further log old new v k held free h j p (omega (arith, j, r, k.behind)) (omega (arith, all)) (omega (arith, j, r, k.hint)) here
 
 -- a refusal is final
-refusal_final : (v : Version) (log : List Event) (e : Event) (w : Verdict) (c : Configuration) (judged events : ℕ) → Keeps (Some v) (log ++ e ∷ []) w c → (MayFollow (meaning_of v) log e → ⊥) → is_final w judged events ≡ true
+pub refusal_final : (v : Version) (log : List Event) (e : Event) (w : Verdict) (c : Configuration) (judged events : ℕ) → Keeps (Some v) (log ++ e ∷ []) w c → (MayFollow (meaning_of v) log e → ⊥) → is_final w judged events ≡ true
 refusal_final v log e Permitted c judged events k never = absurd (never (may_follow (meaning_of v) log e (throughout_all (meaning_of v) (log ++ e ∷ []) k.1)))
 refusal_final v log e (Offence place role allowed) c judged events k never = refl
 refusal_final v log e Withdrawn c judged events k never = absurd k

@@ -7,11 +7,13 @@ pub mod PermittedLogLemmas
 pub mod StartLemmas
 pub mod ConfigurationLemmas
 pub mod Partners
+pub mod CompleteLogLemmas
 pub mod AdvanceLemmas
 pub mod NextActions
 pub mod Stamps
 pub mod VerdictLemmas
 pub mod JudgingLemmas
+pub mod WholeVerdictLemmas
 pub mod ResultLemmas
 pub mod FlatFormLemmas
 pub mod ByteLemmas

@@ -1,5 +1,6 @@
 -- The roles that local types name: those of a protocol's projections are its own.
-use Rattle.std.proofs.Common.{◌≡◌, ◌&&◌, ◌==◌, true, not, ℕ, ◌+◌, List, [], ◌∷◌, ◌++◌, sym, subst, if◌then◌else◌, inl, inr}
+use Rattle.std.proofs.Common.{◌≡◌, ◌&&◌, ◌==◌, true, not, ℕ, ◌+◌, List, [], ◌∷◌, ◌++◌, Some, sym, subst, if◌then◌else◌, inl, inr}
+use Rattle.std.specs.List.{AllByRecursion}
 use Rattle.std.specs.Str.{bytes_eq}
 use Rattle.std.proofs.lemmas.Bool.{and_parts, cases_Bool}
 use Rattle.scrib_types.specs.declared.message.Message.{Message}
@@ -8,6 +9,7 @@ use Rattle.scrib_types.specs.declared.event.Action.TheVariants.{Join, Sends, Rec
 use Rattle.scrib_types.specs.declared.event.Event.{Event}
 use Rattle.scrib_types.specs.Agreement.{Agreement}
 use Rattle.scrib_types.specs.Logs.{own_actions}
+use Rattle.scrib_types.specs.Projection.{projection, widest}
 use Rattle.scrib_types.specs.Traces.{substitute, substitute_all, Offers, LocalTransition, sends, receives, unfolds, IsTrace}
 use Rattle.scrib_types.specs.Merges.{Merges, merges_same, merges_receptions, kept_all}
 use Rattle.scrib_types.specs.Trees.{GlobalTree, GlobalBranches, Branch, Comm, LocalTree, LocalEnd, LocalVar, LocalRec, Send, Recv, LocalBranches, NoChoice, Choice}
@@ -109,3 +111,11 @@ among_last rs (b ∷ w) l a t j = among_last rs w t.0 a t.2 (among_does rs t.1 j
 pub acts_among : (a : Agreement) (log : List Event) (r : List ℕ) (act : Action) → well_formed a.roles a.global ≡ true → MayAct a log r act → IsAmong a.roles act
 acts_among a log r act f h =
     among_last a.roles (own_actions r log) h.local act h.trace (among a.roles r (projects_of r a.global h.local h.projected) f)
+
+among_all : (rs : List (List ℕ)) (w : List Action) (l : LocalTree) → IsTrace l w → Among rs l → AllByRecursion (IsAmong rs) w
+among_all rs [] l t j = tt
+among_all rs (b ∷ w) l t j = let d = among_does rs t.1 j in (d.0, among_all rs w t.0 t.2 d.1)
+
+-- so are all that it made
+pub own_among : (a : Agreement) (log : List Event) (r : List ℕ) (l : LocalTree) → well_formed a.roles a.global ≡ true → projection widest r a.global ≡ Some l → IsTrace l (own_actions r log) → AllByRecursion (IsAmong a.roles) (own_actions r log)
+own_among a log r l f projected t = among_all a.roles (own_actions r log) l t (among a.roles r (projects_of r a.global l projected) f)

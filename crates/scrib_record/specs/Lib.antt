@@ -1,4 +1,5 @@
 pub mod Comparisons
+pub mod CompleteRecords
 pub mod Configurations
 pub mod Exchanges
 pub mod Flat

@@ -1,9 +1,12 @@
 //! The configuration that a conversation's log leads to.
 
-ghost use Rattle.std.specs.Prelude.{◌≡◌, [], IfOk, OnOk, OnErr};
+ghost use Rattle.std.specs.Prelude.{◌≡◌, ◌↔◌, [], List, true, IfOk, IsTrue, OnOk, OnErr};
 ghost use Rattle.scrib_types.specs.declared.event.Event.{Event};
 ghost use Rattle.scrib_types.specs.declared.event.Event.TheVariants.{Join, Sent, Received};
 ghost use Rattle.scrib_types.specs.Permitted.{IsPermitted};
+ghost use Rattle.scrib_types.specs.WellFormed.{has_role, is_protocol};
+ghost use Rattle.scrib_types.specs.Complete.{HasEnded, IsComplete};
+ghost use Rattle.scrib_record.specs.CompleteRecords.{HaveEnded};
 ghost use Rattle.scrib_record.specs.Configurations as conf;
 ghost use Rattle.scrib_record.specs.Versions.{meaning_of};
 
@@ -77,6 +80,50 @@ impl Configuration {
             Event::Sent { .. } => self.send(version, event),
             Event::Received { .. } => Ok(self.receive(version, event)),
         }
+    }
+
+    /// Returns whether the permitted log that leads here is complete: each role is at its end, and no message is in
+    /// flight. It allocates nothing.
+    pub fn is_complete(&self, version: &Version) -> bool
+        requires { conf.IsReached (meaning_of version.now) version.now.machines self.now }
+        ensures { (log : List Event) → conf.LeadsTo (meaning_of version.now) version.now.machines log self.now
+            → IsPermitted (meaning_of version.now) log → IsTrue result ↔ IsComplete (meaning_of version.now) log }
+    {
+        if !self.have_ended(version) {
+            return false;
+        }
+        self.queues.are_empty()
+    }
+
+    // Returns whether each role is at its end.
+    fn have_ended(&self, version: &Version) -> bool
+        requires { conf.IsReached (meaning_of version.now) version.now.machines self.now }
+        ensures ended { (log : List Event) → conf.LeadsTo (meaning_of version.now) version.now.machines log self.now
+            → IsTrue result ↔ HaveEnded (meaning_of version.now) log }
+        ensures valid { IsTrue (is_protocol (meaning_of version.now).roles (meaning_of version.now).global) }
+    {
+        let roles = version.protocol().roles();
+        for role in roles {
+            if !self.has_ended(version, role) {
+                return false;
+            }
+        }
+        true
+    }
+
+    // Returns whether the machine of the declared role is in a state without edges.
+    fn has_ended(&self, version: &Version, role: &Role) -> bool
+        requires { conf.IsReached (meaning_of version.now) version.now.machines self.now }
+        ensures { (log : List Event) → conf.LeadsTo (meaning_of version.now) version.now.machines log self.now
+            → has_role role.now (meaning_of version.now).roles ≡ true
+            → IsTrue result ↔ HasEnded (meaning_of version.now) log role.now }
+    {
+        let Some(at) = version.place_of(role) else {
+            return true;
+        };
+        let role_state = &self.role_states[at];
+        let edges = version.machines()[at].edges(role_state.state);
+        edges.is_empty()
     }
 
     fn join(&mut self, version: &Version, role: &Role) -> bool

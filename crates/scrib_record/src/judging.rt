@@ -1,11 +1,12 @@
 //! The judgement of a log under a version, event by event.
 
-ghost use Rattle.std.specs.Prelude.{◌≡◌, ◌+◌, ◌<◌, ◌≤◌, ◌∷◌, ◌++◌, ◌≢◌, ◌&&◌, not, true, List, Some, None, IfOk, OnErr, OnOk, if◌then◌else◌, length};
+ghost use Rattle.std.specs.Prelude.{◌≡◌, ◌+◌, ◌<◌, ◌≤◌, ◌∷◌, ◌++◌, ◌≢◌, ◌&&◌, ◌↔◌, not, true, List, Some, None, IfOk, IsTrue, OnErr, OnOk, if◌then◌else◌, length};
 ghost use Rattle.std.specs.Option.{option_copied};
 ghost use Rattle.scrib_types.specs.declared.event.Event.{Event};
 ghost use Rattle.scrib_types.specs.declared.event.Told.TheVariants.{Stale, Judged};
 ghost use Rattle.scrib_types.specs.declared.event.Verdict.TheVariants.{Permitted};
 ghost use Rattle.scrib_record.specs.Comparisons.{ServesFor};
+ghost use Rattle.scrib_record.specs.CompleteRecords.{IsCompleteWith};
 ghost use Rattle.scrib_record.specs.Configurations as conf;
 ghost use Rattle.scrib_record.specs.declared.record.TheConstants.{MAX_EVENTS};
 ghost use Rattle.scrib_record.specs.Judgings as kept;
@@ -116,6 +117,23 @@ impl Judging {
         }
         let verdict = copy_verdict(&self.verdict)?;
         Ok(Told::Judged(verdict))
+    }
+
+    /// Returns whether all of the log is judged and permitted, and the log is complete. It allocates nothing.
+    pub fn is_complete(&self, log: &[SharedEvent]) -> bool
+        requires { kept.IsKept log.now self.now }
+        ensures { IsTrue result ↔ IsCompleteWith self.now.held log.now self.now.verdict self.now.judged }
+    {
+        let Some(version) = &self.held else {
+            return false;
+        };
+        if self.judged != log.len() {
+            return false;
+        }
+        match &self.verdict {
+            Verdict::Permitted => self.configuration.is_complete(version),
+            _ => false,
+        }
     }
 
     /// Judges the next event, where all of the log is judged. The cost does not depend on the log's length.
@@ -254,8 +272,8 @@ fn is_final(verdict: &Verdict, judged: usize, events: usize) -> bool
     }
 }
 
-// Performs the events in order, up to the first that may not follow. Returns how many it performed, and why it ended.
-fn perform(
+/// Performs the events in order, up to the first that may not follow. Returns how many it performed, and why it ended.
+pub fn perform(
     configuration: &mut Configuration,
     version: &Version,
     events: &[SharedEvent],
@@ -273,8 +291,11 @@ fn perform(
     (events.len(), Halt::AtEnd)
 }
 
-// Returns the verdict at this place of a log that leads to the configuration, where the event may not follow.
-fn offence(
+/// Returns the verdict at this place of a log that leads to the configuration, where the event may not follow.
+///
+/// # Errors
+/// `AllocError` where memory was refused.
+pub fn offence(
     configuration: &Configuration,
     version: &Version,
     place: usize,

@@ -1,8 +1,9 @@
 //! Records of conversations.
 
-ghost use Rattle.std.specs.Prelude.{◌≡◌, ◌<◌, IfOk, IfErr, OnErr, OnOk, length};
+ghost use Rattle.std.specs.Prelude.{◌≡◌, ◌↔◌, ◌<◌, IfOk, IfErr, IsTrue, OnErr, OnOk, length};
 ghost use Rattle.std.specs.Option.{option_copied, option_map};
 ghost use Rattle.scrib_record.specs.Comparisons.{ServesFor};
+ghost use Rattle.scrib_record.specs.CompleteRecords.{IsCompleteRecord, IsWholeVerdict};
 ghost use Rattle.scrib_record.specs.Stale.{Recorded, IsLawful};
 ghost use Rattle.scrib_record.specs.Turns.{new_record};
 ghost use Rattle.scrib_record.specs.Versions.{number_of};
@@ -10,10 +11,13 @@ ghost use Rattle.scrib_record.specs.Told.{IsReportedAnswer, IsNoted, IsTurned, N
 
 use crate::answer::Answer;
 use crate::comparison::Comparison;
+use crate::copies::copy_verdict;
 use crate::fault::NoteFault;
+use crate::judge_whole::judge_whole;
 use crate::judging::Judging;
 use crate::numbering::Numbering;
 use crate::version::Version;
+use crate::whole_verdict::WholeVerdict;
 use scrib_types::event::{Told, Verdict};
 use scrib_types::name::Dotted;
 use scrib_types::shared_event::SharedEvent;
@@ -210,5 +214,44 @@ impl Record {
             },
             Verdict::Withdrawn => Answer::Withdrawn,
         }
+    }
+
+    /// Returns whether the record holds a version, its verdict on the whole log is `Permitted`, and the log is complete
+    /// under that version: no role has a further action, and no message is in flight. It allocates nothing.
+    pub fn is_complete(&self) -> bool
+        ensures { IsTrue result ↔ IsCompleteRecord self.now }
+    {
+        self.judging.is_complete(&self.log)
+    }
+
+    /// Returns the verdict on the whole log, and whether the log is complete. `present` is the present version of the
+    /// record's protocol, if there is one. A stale record is judged for this from event 1, and stays as it is. `known`
+    /// may be any numbering: that of another record, which is used if it is of the present version.
+    ///
+    /// # Errors
+    /// `AllocError` where memory was refused.
+    pub fn judge_whole(
+        &self,
+        present: Option<&Version>,
+        comparison: Comparison,
+        known: Option<Numbering>,
+    ) -> Result<WholeVerdict, AllocError>
+        requires { ServesFor comparison (option_copied present) self.now.held }
+        ensures { IfOk result (IsWholeVerdict (option_copied present.entry) self.now.log) }
+    {
+        if !self.judging.is_stale(present, comparison, self.log.len()) {
+            let verdict = copy_verdict(&self.judging.verdict)?;
+            let complete = self.judging.is_complete(&self.log);
+            return Ok(WholeVerdict { verdict, complete });
+        }
+        let Some(version) = present else {
+            return Ok(WholeVerdict {
+                verdict: Verdict::Withdrawn,
+                complete: false,
+            });
+        };
+        let alloc = *self.log.allocator();
+        let numbering = Numbering::of(alloc, version, known)?;
+        judge_whole(alloc, numbering, &self.log)
     }
 }
