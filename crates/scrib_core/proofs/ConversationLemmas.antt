@@ -1,38 +1,46 @@
 -- From the effects on records to the replies of steps.
-use Rattle.std.proofs.Common.{◌≡◌, inl, ℕ, ◌<◌, ◌≤◌, Bool, true, false, cond, List, [], ◌∷◌, ◌++◌, map, length, Option, Some, None, option_map, nat_eq, refl, sym, ap, subst, ◌∙◌}
+use Rattle.std.proofs.Common.{◌≡◌, ◌↔◌, inl, ℕ, ◌<◌, ◌≤◌, Bool, true, false, cond, IsTrue, List, [], ◌∷◌, ◌++◌, map, length, Option, Some, None, option_map, nat_eq, refl, sym, ap, subst, ◌∙◌}
 use Rattle.std.specs.Prelude.{IsSome, Result, Ok, Err, IfOk, IfErr, OnOk, OnErr}
 use Rattle.std.specs.Map.{set_value}
 use Rattle.std.specs.Cmp.{nat_eq_equiv}
 use Rattle.std.proofs.lemmas.Bool.{true≢false}
 use Rattle.std.proofs.lemmas.Bool.Decides.{Decides-eqb}
 use Rattle.std.proofs.lemmas.List.{length-map, map-append}
+use Rattle.std.proofs.lemmas.List.Sorted.{IsPermutation-map}
 use Rattle.std.proofs.lemmas.Map.{lookup-set_value}
 use Rattle.std.proofs.lemmas.Map.Made.{lookup-map_values}
 use Rattle.std.proofs.lemmas.Map.Steps.{set_value_same}
 use Rattle.scrib_types.specs.declared.event.Event.{Event}
 use Rattle.scrib_types.specs.declared.event.Told.{Told}
 use Rattle.scrib_types.specs.declared.event.Told.TheVariants as tell
+use Rattle.scrib_types.specs.declared.event.Verdict.{Verdict}
+use Rattle.scrib_types.specs.declared.event.Verdict.TheVariants.{Permitted, Offence, Withdrawn}
+use Rattle.scrib_types.specs.Agreement.{Agreement}
 use Rattle.scrib_record.specs.declared.version.Version.{Version}
+use Rattle.scrib_types.specs.Complete.{IsComplete}
+use Rattle.scrib_record.specs.CompleteRecords.{IsCompleteUnder}
 use Rattle.scrib_record.specs.Stale.{Recorded, IsLawful}
 use Rattle.scrib_record.specs.Told as record_verdict
 use Rattle.scrib_record.specs.Turns.{new_record, new_fresh}
 use Rattle.scrib_record.specs.Versions.{meaning_of, number_of, AreOfOneStamp}
 use Rattle.scrib_library.specs.Holdings.{Holdings, HasNumber, AreNumbered}
-use Rattle.scrib_library.specs.Modules.{Means, MeansOnce}
+use Rattle.scrib_library.specs.Modules.{Means, IsMeaning, MeansOnce}
+use Rattle.scrib_tree.specs.declared.tree.ModuleTree.{ModuleTree}
 use Rattle.scrib_core.specs.declared.conversation_steps.Noted.{Noted}
 use Rattle.scrib_core.specs.declared.conversation_steps.Judged.{Judged}
+use Rattle.scrib_core.specs.declared.conversation_steps.Closed.{Closed}
 use Rattle.scrib_core.specs.declared.step.Step.{Step}
-use Rattle.scrib_core.specs.declared.step.Step.TheVariants.{Open, Note, Turn, Ask}
+use Rattle.scrib_core.specs.declared.step.Step.TheVariants.{Open, Note, Turn, Ask, Close}
 use Rattle.scrib_core.specs.declared.reply.Refusal.{Refusal}
 use Rattle.scrib_core.specs.declared.reply.Refusal.TheVariants as refusal
 use Rattle.scrib_core.specs.declared.reply.Reply.{Reply}
 use Rattle.scrib_core.specs.declared.reply.Reply.TheVariants as reply
-use Rattle.scrib_core.specs.World.{Conversation, conversation, noted, opened, Follows, Refuses}
+use Rattle.scrib_core.specs.World.{Conversation, conversation, noted, opened, IsTakenOut, Follows, Refuses}
 use Rattle.scrib_core.specs.Marks.{Mark, Fresh, IsStale, IsLeft, UpdatesMarks}
-use Rattle.scrib_core.specs.Answers.{IsReportedIn, IsAnswered, IsDue}
+use Rattle.scrib_core.specs.Answers.{IsReportedIn, IsConcluded, IsAnswered, IsDue}
 use Rattle.scrib_core.specs.Held.{Records, Held, LeavesRefused, record_at, conversation_of, world_of, mark_of, mark_at, marks_of, state, IsKnown, AreKnown}
-use Rattle.scrib_core.specs.ConversationSteps.{IsPresent, IsOpened, OpenFails, IsNotedAt, NoteFails, IsTurnedAt, IsAskedAt, VerdictFails}
-use Rattle.scrib_core.specs.ReplyValues.{open_reply_of, note_reply_of, verdict_reply_of}
+use Rattle.scrib_core.specs.ConversationSteps.{IsPresent, IsOpened, OpenFails, IsNotedAt, NoteFails, IsTurnedAt, IsAskedAt, VerdictFails, IsClosedAt, CloseFails}
+use Rattle.scrib_core.specs.ReplyValues.{open_reply_of, note_reply_of, verdict_reply_of, close_reply_of}
 use Rattle.scrib_core.proofs.MarkLemmas.{fresh_mark, stale_mark, note_mark, turn_mark}
 
 same_some : {X : Type 0} (x y : X) → Some x ≡ Some y → x ≡ y
@@ -170,6 +178,65 @@ module _ (h : Holdings) (old : Records) (id : ℕ) (r s : Recorded) (there : rec
       by i false d c q =
           let other : id ≡ i → ⊥ = λ same. true≢false (sym ((Decides-eqb id i).1 same) ∙ d) in
           subst (λ (m : Mark). IsLeft step i (length c.log) (marks_of h old i) m) (ap (mark_at h) (sym (at_other i other))) (others i (length c.log) (marks_of h old i) other)
+
+-- the case where one record is taken out
+module _ (h : Holdings) (old : Records) (id : ℕ) (r : Recorded) (new : Records) (t : IsTakenOut id old r new) where
+  taken_seen : IsTakenOut id (world_of h old).conversations (conversation_of r) (world_of h new).conversations
+  taken_seen = record {
+    there = seen h old id (Some r) t.there;
+    rest = IsPermutation-map (λ (e : ℕ × Recorded). (e.0, conversation_of e.1)) old ((id, r) ∷ new) t.rest;
+    gone = seen h new id None t.gone;
+    others = λ i n. seen h new i (record_at new i) refl ∙ ap (λ (o : Option Recorded). option_map conversation_of o) (t.others i n) ∙ sym (seen h old i (record_at old i) refl);
+  }
+
+  -- no record is added
+  none_after : (i : ℕ) → record_at old i ≡ None → record_at new i ≡ None
+  none_after i e = by (nat_eq i id) refl
+    where
+      by : (b : Bool) → nat_eq i id ≡ b → record_at new i ≡ None
+      by true d = ap (record_at new) ((Decides-eqb i id).0 d) ∙ t.gone
+      by false d = t.others i (λ same. true≢false (sym ((Decides-eqb i id).1 same) ∙ d)) ∙ e
+
+  some_after : (i : ℕ) (q : Recorded) → record_at new i ≡ Some q → record_at old i ≡ Some q
+  some_after i q e = by (nat_eq i id) refl
+    where
+      by : (b : Bool) → nat_eq i id ≡ b → record_at old i ≡ Some q
+      by true d = let none : None ≡ Some q = sym t.gone ∙ ap (record_at new) (sym ((Decides-eqb i id).0 d)) ∙ e in absurd (none_some q none)
+      by false d = sym (t.others i (λ same. true≢false (sym ((Decides-eqb i id).1 same) ∙ d))) ∙ e
+
+  taken_known : AreKnown h old → AreKnown h new
+  taken_known known i q e = known i q (some_after i q e)
+
+  taken_remarks : UpdatesMarks (world_of h old) (marks_of h old) (Close id) (world_of h new) (marks_of h new)
+  taken_remarks = record {
+    unopened = λ i e. ap (mark_at h) (none_after i (none_seen h old i e));
+    opened = λ i c e. inl (
+      λ same. ap (mark_at h) (ap (record_at new) (sym same) ∙ t.gone),
+      λ apart. ap (mark_at h) (t.others i (λ same. apart (sym same))),
+    );
+  }
+
+-- whether a log is complete, in terms of its protocol's present meaning
+module _ (modules : List ModuleTree) (once : MeansOnce modules) (c : Conversation) where
+  abbrev CompleteNow : Verdict → Type 0
+  CompleteNow v = (v ≡ Permitted) × ((a : Agreement) × Means modules c.name a × IsComplete a c.log)
+
+  complete_now : (o : Option Agreement) → IsMeaning modules c.name o → (v : Verdict) → IsCompleteUnder o c.log v → CompleteNow v
+  complete_now None m Permitted x = absurd x
+  complete_now None m (Offence place role allowed) x = absurd x
+  complete_now None m Withdrawn x = absurd x
+  complete_now (Some a) m Permitted x = (refl, (a, m, x))
+  complete_now (Some a) m (Offence place role allowed) x = absurd x
+  complete_now (Some a) m Withdrawn x = absurd x
+
+  complete_then : (o : Option Agreement) → IsMeaning modules c.name o → (v : Verdict) → CompleteNow v → IsCompleteUnder o c.log v
+  complete_then None m v x = absurd (m x.1.0 x.1.1)
+  complete_then (Some b) m v x =
+      let same : x.1.0 ≡ b = once c.name x.1.0 b x.1.1 m in
+      subst (λ (w : Verdict). IsCompleteUnder (Some b) c.log w) (sym x.0) (subst (λ (a : Agreement). IsComplete a c.log) same x.1.2)
+
+  complete_means : (o : Option Agreement) → IsMeaning modules c.name o → (v : Verdict) (b : Bool) → IsTrue b ↔ IsCompleteUnder o c.log v → IsTrue b ↔ CompleteNow v
+  complete_means o m v b is = (λ t. complete_now o m v (is.0 t), λ x. is.1 (complete_then o m v x))
 
 -- the steps that leave each mark, and a turn of another conversation
 left_by_note : (id : ℕ) (e : Event) (i events : ℕ) (m : Mark) → IsLeft (Note id e) i events m m
@@ -309,6 +376,43 @@ module _ (h : Holdings) (old : Records) (numbered : AreNumbered h) (once : Means
         → Makes h old (Turn id) (verdict_reply_of id r) h new
     turn_answered (Ok j) made fails same = turn_made j.name j.events j.told made
     turn_answered (Err f) made fails same = turn_refused f fails same
+
+  module _ (id : ℕ) (new : Records) where
+    close_refused : (f : Refusal) → CloseFails old id f → new ≡ old → Makes h old (Close id) (reply.Refused f) h new
+    close_refused refusal.AlreadyOpen x same = absurd x
+    close_refused refusal.UnknownProtocol x same = absurd x
+    close_refused refusal.TooManyConversations x same = absurd x
+    close_refused refusal.NoConversation x same = refused (Close id) refusal.NoConversation new (seen h old id None x) tt same
+    close_refused (refusal.Edit f) x same = absurd x
+    close_refused refusal.LogFull x same = absurd x
+    close_refused refusal.OutOfMemory x same = refused (Close id) refusal.OutOfMemory new tt (some_seen h old id x) same
+
+    concluded : (d : Closed) → IsClosedAt h old id d new → IsConcluded (world_of h old) id d.name d.events d.verdict d.complete
+    concluded d x =
+        let o = option_map meaning_of x.present in record {
+          of = conversation_of x.before;
+          there = seen h old id (Some x.before) x.taken.there;
+          name_is = x.name_is;
+          events_are = x.events_are;
+          fresh = (o, x.is_present.meaning, x.whole.judges);
+          complete_is = complete_means h.modules once (conversation_of x.before) o x.is_present.meaning d.verdict d.complete x.whole.complete;
+        }
+
+    close_made : (d : Closed) → IsClosedAt h old id d new → Makes h old (Close id) (reply.Closed id d.name d.events d.verdict d.complete) h new
+    close_made d x = record {
+      answered = record {
+        follows = ((conversation_of x.before, taken_seen h old id x.before new x.taken), refl, refl, refl);
+        replies = (refl, concluded d x);
+        remarks = taken_remarks h old id x.before new x.taken;
+      };
+      due = tt;
+      left = tt;
+      known = taken_known h old id x.before new x.taken known;
+    }
+
+    pub close_answered : (r : Result Closed Refusal) → IfOk r (λ d. IsClosedAt h old id d new) → IfErr r (CloseFails old id) → OnErr r (new ≡ old) → Makes h old (Close id) (close_reply_of id r) h new
+    close_answered (Ok d) made fails same = close_made d made
+    close_answered (Err f) made fails same = close_refused f fails same
 
   module _ (id : ℕ) where
     ask_refused : (f : Refusal) → VerdictFails old id f → Makes h old (Ask id) (reply.Refused f) h old

@@ -1,13 +1,18 @@
--- The record at an index in the order of opening: its id finds it, and a write at the index is one under the id.
-use Rattle.std.proofs.Common.{◌≡◌, ◌<◌, ◌∙◌, ℕ, zero, suc, Bool, true, false, [], ◌∷◌, Option, Some, None, length, slice_get, get_or, position, nat_eq, IfSome, refl, sym, ap, eqb-true, eq-eqb, true≢false, arith}
-use Rattle.std.specs.List.{IsDistinct}
+-- The record at an index: its id finds it, and a write at the index is one under the id. The record that is taken out.
+use Rattle.std.proofs.Common.{◌≡◌, ◌≢◌, ◌<◌, ◌+◌, ◌-◌, ◌∙◌, ℕ, zero, suc, Bool, true, false, not, cond, [], ◌∷◌, Option, Some, None, IsPermutation, length, set, slice_get, take, get_or, position, nat_eq, IfSome, refl, sym, ap, subst, eqb-true, eq-eqb, true≢false, arith}
+use Rattle.std.specs.List.{IsDistinct, position_or_len, swap_remove}
 use Rattle.std.specs.Map.{keys_of, set_value}
+use Rattle.std.specs.Option.{option_map_or}
 use Rattle.std.specs.Cmp.{nat_eq_equiv}
 use Rattle.std.proofs.lemmas.Option.{slice_get_within, get_or_from_slice_get, same_Some}
+use Rattle.std.proofs.lemmas.Bool.{lt-ltb}
+use Rattle.std.proofs.lemmas.List.{get_or_default}
+use Rattle.std.proofs.lemmas.List.Sorted.{IsPermutation-swap_remove}
 use Rattle.std.proofs.lemmas.Map.Entries.{lookup_from_place}
 use Rattle.std.proofs.lemmas.Map.Keys.{apart_from_distinct}
-use Rattle.indexmap.specs.IndexMap.{set_value_at}
+use Rattle.indexmap.specs.IndexMap.{set_value_at, swap_remove_entry}
 use Rattle.scrib_record.specs.Stale.{Recorded}
+use Rattle.scrib_core.specs.World.{IsTakenOut}
 use Rattle.scrib_core.specs.Held.{Records, record_at, IsRecordAt}
 use Rattle.scrib_core.proofs.Indexes.{key_at, found_at}
 
@@ -60,3 +65,65 @@ pub within_records : (rs : Records) (at id : ℕ) → IsRecordAt rs at id → at
 within_records rs at id is_there =
     let held : ℕ × Recorded = (id, is_there.0) in
     slice_get_within rs at held is_there.1
+
+-- ---- the record that is taken out
+
+-- the first index of the key of a record
+abbrev first_index : Records → ℕ → ℕ
+first_index rs id = position_or_len (nat_eq id) (keys_of rs)
+
+first_within : (rs : Records) (id : ℕ) (r : Recorded) → record_at rs id ≡ Some r → first_index rs id < length (keys_of rs)
+first_within [] id r e = cc
+first_within (d ∷ rs) id r e = by (nat_eq id d.0) e (first_within rs id r)
+  where
+    by : (b : Bool) → cond b (Some d.1) (record_at rs id) ≡ Some r → (record_at rs id ≡ Some r → first_index rs id < length (keys_of rs)) → cond (not b) (1 + first_index rs id) 0 < suc (length (keys_of rs))
+    by true e rest = omega arith
+    by false e rest = let below = rest e in omega (arith, below)
+
+first_found : (rs : Records) (id : ℕ) (r : Recorded) → record_at rs id ≡ Some r → slice_get rs (first_index rs id) ≡ Some (id, r)
+first_found [] id r e = cc
+first_found (d ∷ rs) id r e = by (nat_eq id d.0) refl e (first_found rs id r)
+  where
+    by : (b : Bool) → nat_eq id d.0 ≡ b → cond b (Some d.1) (record_at rs id) ≡ Some r → (record_at rs id ≡ Some r → slice_get rs (first_index rs id) ≡ Some (id, r)) → slice_get (d ∷ rs) (cond (not b) (1 + first_index rs id) 0) ≡ Some (id, r)
+    by true t e rest =
+        let key : d.0 ≡ id = sym (eqb-true id d.0 t) in
+        let value : d.1 ≡ r = same_Some d.1 r e in
+        λ j. Some (key j, value j)
+    by false t e rest =
+        let next : 1 + first_index rs id ≡ suc (first_index rs id) = omega arith in
+        ap (slice_get (d ∷ rs)) next ∙ rest e
+
+-- the default of a removal is not read
+any_default : (rs : Records) (i : ℕ) (d e : ℕ × Recorded) → 0 < length rs → swap_remove rs i d ≡ swap_remove rs i e
+any_default rs i d e some = ap (λ (x : ℕ × Recorded). take (length rs - 1) (set rs i x)) (get_or_default rs (length rs - 1) d e (omega (arith, some)))
+
+taken_by : (rs : Records) (id : ℕ) (r : Recorded) → record_at rs id ≡ Some r → IsPermutation rs ((id, r) ∷ swap_remove_entry (nat_eq id) rs)
+taken_by [] id r e = cc
+taken_by (d ∷ ds) id r e = subst (λ (x : Records). IsPermutation (d ∷ ds) ((id, r) ∷ x)) (sym removed) moved
+  where
+    within : first_index (d ∷ ds) id < length (d ∷ ds)
+    within = slice_get_within (d ∷ ds) (first_index (d ∷ ds) id) (id, r) (first_found (d ∷ ds) id r e)
+
+    there : (id, r) ≡ get_or (d ∷ ds) (first_index (d ∷ ds) id) (id, r)
+    there = sym (get_or_from_slice_get (d ∷ ds) (first_index (d ∷ ds) id) (id, r) (id, r) (first_found (d ∷ ds) id r e))
+
+    place : position (nat_eq id) (keys_of (d ∷ ds)) ≡ Some (first_index (d ∷ ds) id)
+    place = ap (λ (b : Bool). cond b (Some (first_index (d ∷ ds) id)) None) (lt-ltb (first_index (d ∷ ds) id) (length (keys_of (d ∷ ds))) (first_within (d ∷ ds) id r e))
+
+    removed : swap_remove_entry (nat_eq id) (d ∷ ds) ≡ swap_remove (d ∷ ds) (first_index (d ∷ ds) id) (id, r)
+    removed = ap (λ (o : Option ℕ). option_map_or (λ k. swap_remove (d ∷ ds) k d) o (d ∷ ds)) place ∙ any_default (d ∷ ds) (first_index (d ∷ ds) id) d (id, r) (omega arith)
+
+    moved : IsPermutation (d ∷ ds) ((id, r) ∷ swap_remove (d ∷ ds) (first_index (d ∷ ds) id) (id, r))
+    moved = IsPermutation-swap_remove (d ∷ ds) (first_index (d ∷ ds) id) (id, r) within there
+
+pub taken_out : (old new : Records) (id : ℕ) (r : Recorded) → record_at old id ≡ Some r → new ≡ swap_remove_entry (nat_eq id) old → record_at new id ≡ None → ((i : ℕ) → nat_eq id i ≡ false → record_at new i ≡ record_at old i) → IsTakenOut id old r new
+taken_out old new id r there is gone others = record {
+  there = there;
+  rest = subst (λ (x : Records). IsPermutation old ((id, r) ∷ x)) (sym is) (taken_by old id r there);
+  gone = gone;
+  others = λ i differ. others i (by i differ (nat_eq id i) refl);
+}
+  where
+    by : (i : ℕ) → i ≢ id → (b : Bool) → nat_eq id i ≡ b → nat_eq id i ≡ false
+    by i differ true e = absurd (differ (sym (eqb-true id i e)))
+    by i differ false e = e

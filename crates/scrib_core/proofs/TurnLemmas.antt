@@ -4,7 +4,7 @@ use Rattle.std.proofs.Common.{sym, ◌∙◌, subst, arith, inl, inr}
 use Rattle.std.proofs.lemmas.Bool.{true≢false}
 use Rattle.std.proofs.lemmas.Bool.Decides.{Decides-eqb, eqb_tells}
 use Rattle.scrib_core.specs.declared.step.Step.{Step}
-use Rattle.scrib_core.specs.declared.step.Step.TheVariants.{Put, Withdraw, Open, Note, Turn, Ask}
+use Rattle.scrib_core.specs.declared.step.Step.TheVariants.{Put, Withdraw, Open, Note, Turn, Ask, Close}
 use Rattle.scrib_core.specs.declared.step.Step.TheVariants as step
 use Rattle.scrib_core.specs.Marks.{Mark, Fresh, Stale, IsMarkTurned, IsLeft}
 use Rattle.scrib_core.specs.Answers.{State}
@@ -44,9 +44,16 @@ module _ (id events : ℕ) where
   counts_left (Note i x) n old new e c = counts_same n old new e c
   counts_left (Turn i) n old new e c = counts_turn_of i n old new (i == id) refl e c
   counts_left (Ask i) n old new e c = counts_same n old new e c
+  counts_left (Close i) n old new l c = elim (eqb_tells i id) [
+    | inl same ↦ subst (Counts (n + 0)) (sym (l.0 same.1)) tt
+    | inr other ↦ counts_same n old new (l.1 other.1) c
+  ]
 
   fresh_turn : (i : ℕ) (new : Mark) → IsLeft (Turn i) id events Fresh new → new ≡ Fresh
   fresh_turn i new l = elim (eqb_tells i id) [ inl same ↦ l.0 same.1 | inr other ↦ l.1 other.1 ]
+
+  fresh_close : (i : ℕ) (new : Mark) → IsLeft (Close i) id events Fresh new → new ≡ Fresh
+  fresh_close i new l = elim (eqb_tells i id) [ inl same ↦ l.0 same.1 | inr other ↦ l.1 other.1 ]
 
   fresh_left : (step : Step) (new : Mark) → IsLeft step id events Fresh new → new ≡ Fresh
   fresh_left (Put text) new e = e
@@ -56,6 +63,7 @@ module _ (id events : ℕ) where
   fresh_left (Note i x) new e = e
   fresh_left (Turn i) new l = fresh_turn i new l
   fresh_left (Ask i) new e = e
+  fresh_left (Close i) new l = fresh_close i new l
 
   -- after a turn the mark is stale only if the log has more events than the turns cover
   last_turn : (n : ℕ) (old new : Mark) → IsMarkTurned events old new → Counts n old → events ≤ 256 * (n + 1) → new ≡ Fresh

@@ -1,17 +1,19 @@
 -- The replies to a list of steps (this project's own).
-use Rattle.std.specs.Prelude.{◌≡◌, ℕ, List, [], ◌∷◌, length, Option, Some}
+use Rattle.std.specs.Prelude.{◌≡◌, ◌↔◌, ℕ, Bool, IsTrue, List, [], ◌∷◌, length, Option, Some}
 use Rattle.scrib_types.specs.declared.profile.Profile.{Profile}
 use Rattle.scrib_types.specs.declared.profile.Profile.TheVariants.{Plain}
 use Rattle.scrib_types.specs.declared.event.Told.{Told}
 use Rattle.scrib_types.specs.declared.event.Verdict.{Verdict}
 use Rattle.scrib_types.specs.declared.event.Told.TheVariants as tell
+use Rattle.scrib_types.specs.declared.event.Verdict.TheVariants.{Permitted}
 use Rattle.scrib_types.specs.Agreement.{Agreement}
 use Rattle.scrib_types.specs.Judgement.{Judges}
 use Rattle.scrib_tree.specs.declared.tree.ModuleTree.{ModuleTree}
-use Rattle.scrib_library.specs.Modules.{IsMeaning}
+use Rattle.scrib_types.specs.Complete.{IsComplete}
+use Rattle.scrib_library.specs.Modules.{Means, IsMeaning}
 use Rattle.scrib_library.specs.Edits.{Reads, IsChanges}
 use Rattle.scrib_core.specs.declared.step.Step.{Step}
-use Rattle.scrib_core.specs.declared.step.Step.TheVariants.{Put, Withdraw, Open, Note, Turn, Ask}
+use Rattle.scrib_core.specs.declared.step.Step.TheVariants.{Put, Withdraw, Open, Note, Turn, Ask, Close}
 use Rattle.scrib_core.specs.declared.step.Step.TheVariants as step
 use Rattle.scrib_core.specs.declared.reply.Edit.TheVariants as edit
 use Rattle.scrib_core.specs.declared.reply.Refusal.TheVariants.{OutOfMemory}
@@ -51,6 +53,18 @@ pub record IsJudged (s : State) (id : ℕ) (name : List (List ℕ)) (events : �
   pub events_are : events ≡ length of.log
   pub reported : IsReportedIn s id answer
 
+-- The verdict on a conversation that is closed, with its name and the number of its events. The verdict is fresh.
+-- `complete` is true exactly where it is `Permitted` and the log is complete under the protocol's present meaning.
+pub record IsConcluded (w : World) (id : ℕ) (name : List (List ℕ)) (events : ℕ) (verdict : Verdict)
+    (complete : Bool) : Type 0 where
+  pub of : Conversation
+  pub there : conversation w id ≡ Some of
+  pub name_is : name ≡ of.name
+  pub events_are : events ≡ length of.log
+  pub fresh : IsFresh w.modules of verdict
+  pub complete_is : IsTrue complete
+      ↔ ((verdict ≡ Permitted) × ((a : Agreement) × Means w.modules of.name a × IsComplete a of.log))
+
 -- the reply to an accepted step, in terms of the world before it and the state after it
 abbrev pub Replies : World → Step → Reply → State → Type 0
 Replies w (Put text) (reply.Edited e changes) s =
@@ -65,6 +79,8 @@ Replies w (Note id e) (reply.Noted i place answer) s =
     × IsReportedIn s id answer
 Replies w (Turn id) (reply.Judged i name events answer) s = (i ≡ id) × IsJudged s id name events answer
 Replies w (Ask id) (reply.Judged i name events answer) s = (i ≡ id) × IsJudged s id name events answer
+Replies w (Close id) (reply.Closed i name events verdict complete) s =
+    (i ≡ id) × IsConcluded w id name events verdict complete
 Replies w _ _ s = ⊥
 
 -- the step is accepted, and this is its reply

@@ -1,5 +1,5 @@
--- The effect of open, note, turn and ask on the records beside a library (this project's own). Each changes at most the
--- record of its id.
+-- The effect of open, note, turn, ask and close on the records beside a library (this project's own). Each changes at
+-- most the record of its id, and a close may change the order of the others.
 use Rattle.std.specs.Prelude.{◌≡◌, ℕ, ◌<◌, ◌≤◌, List, [], ◌∷◌, ◌++◌, length, Option, Some, None, nat_eq, IsSome}
 use Rattle.std.specs.Map.{set_value}
 use Rattle.std.specs.Option.{option_map}
@@ -9,14 +9,17 @@ use Rattle.scrib_types.specs.Agreement.{Agreement}
 use Rattle.scrib_record.specs.declared.comparison.Comparison.{Comparison}
 use Rattle.scrib_record.specs.declared.comparison.Comparison.TheVariants.{Whole, Numbers}
 use Rattle.scrib_record.specs.declared.version.Version.{Version}
+use Rattle.scrib_record.specs.CompleteRecords.{IsWholeVerdict}
 use Rattle.scrib_record.specs.Stale.{Recorded, IsLawful}
 use Rattle.scrib_record.specs.Told.{IsNoted, IsTurned, IsReported}
 use Rattle.scrib_record.specs.Turns.{new_record}
 use Rattle.scrib_record.specs.Versions.{meaning_of, number_of, HaveSameStamp}
 use Rattle.scrib_library.specs.Holdings.{Holdings, IsNumber}
 use Rattle.scrib_library.specs.Modules.{Means, IsMeaning, MeansOnce}
+use Rattle.scrib_core.specs.declared.conversation_steps.Closed.{Closed}
 use Rattle.scrib_core.specs.declared.reply.Refusal.{Refusal}
 use Rattle.scrib_core.specs.declared.reply.Refusal.TheVariants.{AlreadyOpen, UnknownProtocol, TooManyConversations, NoConversation, LogFull, OutOfMemory}
+use Rattle.scrib_core.specs.World.{IsTakenOut}
 use Rattle.scrib_core.specs.Held.{Records, record_at, IsKnown, AreKnown}
 use Rattle.scrib_record.specs.declared.record.TheConstants.{MAX_EVENTS}
 
@@ -112,3 +115,19 @@ abbrev pub VerdictFails : Records → ℕ → Refusal → Type 0
 VerdictFails rs id NoConversation = record_at rs id ≡ None
 VerdictFails rs id OutOfMemory = IsSome (record_at rs id)
 VerdictFails rs id _ = ⊥
+
+-- the record of the id is taken out, and the verdict is that on its whole log
+pub record IsClosedAt (h : Holdings) (old : Records) (id : ℕ) (closed : Closed) (new : Records) : Type 0 where
+  pub before : Recorded
+  pub present : Option Version
+  pub is_present : IsPresent h before.name present
+  pub whole : IsWholeVerdict present before.log (record { verdict = closed.verdict; complete = closed.complete })
+  pub name_is : closed.name ≡ before.name
+  pub events_are : closed.events ≡ length before.log
+  pub taken : IsTakenOut id old before new
+
+-- a close is refused: the record is missing, or memory was refused
+abbrev pub CloseFails : Records → ℕ → Refusal → Type 0
+CloseFails old id NoConversation = record_at old id ≡ None
+CloseFails old id OutOfMemory = IsSome (record_at old id)
+CloseFails old id _ = ⊥

@@ -20,7 +20,7 @@ use Rattle.scrib_core.specs.World.{World, Conversation, conversation}
 use Rattle.scrib_core.specs.Marks.{Mark, Marks, Fresh, Stale}
 use Rattle.scrib_core.specs.Answers.{State, IsAnswered, IsDue}
 
--- the records of the conversations by id, in the order of opening
+-- the records of the conversations by id, in the order of opening until one is closed
 abbrev pub Records : Type 0
 Records = List (ℕ × Recorded)
 
@@ -38,7 +38,7 @@ LeavesRefused _ old new = Unit {0}
 abbrev pub record_at : Records → ℕ → Option Recorded
 record_at rs id = lookup (nat_eq id) rs
 
--- the record at the index, from 0 in the order of opening, has the id
+-- the record at the index, from 0, has the id
 abbrev pub IsRecordAt : Records → (at id : ℕ) → Type 0
 IsRecordAt rs at id = (r : Recorded) × (slice_get rs at ≡ Some (id, r))
 

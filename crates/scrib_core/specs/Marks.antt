@@ -3,7 +3,7 @@ use Rattle.std.specs.Prelude.{◌≡◌, ◌≢◌, ◌⊎◌, ℕ, ◌+◌, ◌
 use Rattle.scrib_library.specs.declared.changes.ChangeKind.{ChangeKind}
 use Rattle.scrib_library.specs.Edits.{Changes}
 use Rattle.scrib_core.specs.declared.step.Step.{Step}
-use Rattle.scrib_core.specs.declared.step.Step.TheVariants.{Turn}
+use Rattle.scrib_core.specs.declared.step.Step.TheVariants.{Turn, Close}
 use Rattle.scrib_core.specs.World.{World, Conversation, conversation}
 
 -- fresh, or stale with the number of accepted turns since the meaning of the name last changed
@@ -31,10 +31,11 @@ IsMarkTurned events Fresh new = new ≡ Fresh
 IsMarkTurned events (Stale t) Fresh = Unit {0}
 IsMarkTurned events (Stale t) (Stale u) = (u ≡ t + 1) × (256 * u < events)
 
--- the mark after an accepted step that leaves the meaning of the name: a turn of this id counts, any other step leaves
--- it
+-- the mark after an accepted step that leaves the meaning of the name: a turn of this id counts, a close of it leaves
+-- none, and any other step leaves the mark
 abbrev pub IsLeft : Step → (id events : ℕ) → (old new : Mark) → Type 0
 IsLeft (Turn i) id events old new = (i ≡ id → IsMarkTurned events old new) × (i ≢ id → new ≡ old)
+IsLeft (Close i) id events old new = (i ≡ id → new ≡ Fresh) × (i ≢ id → new ≡ old)
 IsLeft _ id events old new = new ≡ old
 
 -- the mark after a step that changed the meaning of the name: stale with no turns yet, or fresh

@@ -13,6 +13,7 @@ use Rattle.scrib_library.specs.declared.fault.EditFault.{EditFault}
 use Rattle.scrib_library.specs.declared.fault.EditFault.TheVariants as fault
 use Rattle.scrib_core.specs.declared.conversation_steps.Noted.{Noted}
 use Rattle.scrib_core.specs.declared.conversation_steps.Judged.{Judged}
+use Rattle.scrib_core.specs.declared.conversation_steps.Closed.{Closed}
 use Rattle.scrib_core.specs.declared.reply.Edit.{Edit}
 use Rattle.scrib_core.specs.declared.reply.Refusal.{Refusal}
 use Rattle.scrib_core.specs.declared.reply.Refusal.TheVariants as refusal
@@ -74,3 +75,8 @@ note_reply_of id (Err f) = reply.Refused f
 abbrev pub verdict_reply_of : ℕ → Result Judged Refusal → Reply
 verdict_reply_of id (Ok j) = reply.Judged id j.name j.events j.told
 verdict_reply_of id (Err f) = reply.Refused f
+
+-- the reply to a close
+abbrev pub close_reply_of : ℕ → Result Closed Refusal → Reply
+close_reply_of id (Ok c) = reply.Closed id c.name c.events c.verdict c.complete
+close_reply_of id (Err f) = reply.Refused f

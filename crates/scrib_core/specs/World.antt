@@ -1,6 +1,6 @@
 -- The plain world (this project's own). It has the profile, the accepted modules, the number of versions that the
 -- accepted edits used, and the conversations. It has no verdict, mark, version or state.
-use Rattle.std.specs.Prelude.{◌≡◌, ℕ, true, ◌+◌, ◌<◌, ◌≤◌, List, [], ◌∷◌, ◌++◌, length, Option, Some, None, nat_eq, IsSome}
+use Rattle.std.specs.Prelude.{◌≡◌, ◌≢◌, ℕ, true, ◌+◌, ◌<◌, ◌≤◌, List, [], ◌∷◌, ◌++◌, length, Option, Some, None, nat_eq, IsPermutation, IsSome}
 use Rattle.std.specs.Map.{lookup, set_value}
 use Rattle.scrib_types.specs.declared.event.Event.{Event}
 use Rattle.scrib_types.specs.Agreement.{Agreement}
@@ -15,7 +15,7 @@ use Rattle.scrib_library.specs.declared.changes.Change.{Change}
 use Rattle.scrib_library.specs.Edits.{IsPut, IsChanges, new_versions, PutFails, IsWithdrawal, WithdrawFails}
 use Rattle.scrib_library.specs.Profiles.{ProfileFails}
 use Rattle.scrib_core.specs.declared.step.Step.{Step}
-use Rattle.scrib_core.specs.declared.step.Step.TheVariants.{Put, Withdraw, Open, Note, Turn, Ask}
+use Rattle.scrib_core.specs.declared.step.Step.TheVariants.{Put, Withdraw, Open, Note, Turn, Ask, Close}
 use Rattle.scrib_core.specs.declared.step.Step.TheVariants as step
 use Rattle.scrib_core.specs.declared.reply.Refusal.{Refusal}
 use Rattle.scrib_core.specs.declared.reply.Refusal.TheVariants.{AlreadyOpen, UnknownProtocol, TooManyConversations, NoConversation, Edit, LogFull, OutOfMemory}
@@ -51,6 +51,13 @@ opened name = record { name = name; log = [] }
 abbrev pub noted : Conversation → Event → Conversation
 noted c e = record { name = c.name; log = c.log ++ e ∷ [] }
 
+-- The entry of the id is taken out, and no other has the id. The others stay, in any order, and each id keeps its own.
+pub record IsTakenOut {X : Type 0} (id : ℕ) (old : List (ℕ × X)) (taken : X) (new : List (ℕ × X)) : Type 0 where
+  pub there : lookup (nat_eq id) old ≡ Some taken
+  pub rest : IsPermutation old ((id, taken) ∷ new)
+  pub gone : lookup (nat_eq id) new ≡ None
+  pub others : (i : ℕ) → i ≢ id → lookup (nat_eq i) new ≡ lookup (nat_eq i) old
+
 -- each added or replaced name used a version, and at most 65,536 are used
 pub record UsesVersions (w v : World) : Type 0 where
   pub list : List Change
@@ -60,7 +67,8 @@ pub record UsesVersions (w v : World) : Type 0 where
 
 -- The world after an accepted step. A put places the module of its text, and a withdrawal removes a module. A change of
 -- the profile requires that each name's meaning projects under the new one. An open adds an empty log, and a note
--- appends its event. A turn and an ask change nothing.
+-- appends its event. A turn and an ask change nothing. A close takes the conversation out, and the others may change
+-- their order.
 abbrev pub Follows : World → Step → World → Type 0
 Follows w (Put text) v =
     ((m : ModuleTree) × IsPut w.profile w.modules text m v.modules) × UsesVersions w v × (v.profile ≡ w.profile)
@@ -90,6 +98,9 @@ Follows w (Note id e) v =
     })
 Follows w (Turn id) v = IsSome (conversation w id) × (v ≡ w)
 Follows w (Ask id) v = IsSome (conversation w id) × (v ≡ w)
+Follows w (Close id) v =
+    ((c : Conversation) × IsTakenOut id w.conversations c v.conversations) × (v.modules ≡ w.modules)
+    × (v.used ≡ w.used) × (v.profile ≡ w.profile)
 
 -- No other refusal applies, so that the step needs memory. A put needs it to find any refusal except that its text is
 -- too long. A withdrawal needs it to name the importing module. A change to the plain profile from the reception
@@ -104,6 +115,7 @@ NeedsMemory w (Open id name) =
 NeedsMemory w (Note id e) = (c : Conversation) × (conversation w id ≡ Some c) × (length c.log < MAX_EVENTS)
 NeedsMemory w (Turn id) = IsSome (conversation w id)
 NeedsMemory w (Ask id) = IsSome (conversation w id)
+NeedsMemory w (Close id) = IsSome (conversation w id)
 
 -- The step is refused for this, and for nothing before it in this list. Any step may be refused memory.
 abbrev pub Refuses : World → Step → Refusal → Type 0
@@ -136,4 +148,6 @@ Refuses w (Turn id) NoConversation = conversation w id ≡ None
 Refuses w (Turn id) OutOfMemory = Unit {0}
 Refuses w (Ask id) NoConversation = conversation w id ≡ None
 Refuses w (Ask id) OutOfMemory = Unit {0}
+Refuses w (Close id) NoConversation = conversation w id ≡ None
+Refuses w (Close id) OutOfMemory = Unit {0}
 Refuses w _ _ = ⊥

@@ -1,8 +1,8 @@
-//! The steps of one conversation over a library: open, note, turn and ask.
+//! The steps of one conversation over a library: open, note, turn, ask and close.
 
 ghost use Rattle.std.specs.Prelude.{◌≡◌, IfOk, IfErr, OnOk, OnErr};
 ghost use Rattle.std.specs.Option.{option_copied};
-ghost use Rattle.scrib_core.specs.ConversationSteps.{IsOpened, OpenFails, IsNotedAt, NoteFails, IsTurnedAt, IsAskedAt, VerdictFails, IsBegun, IsPresent, IsSoundComparison, IsSoundForRecord};
+ghost use Rattle.scrib_core.specs.ConversationSteps.{IsOpened, OpenFails, IsNotedAt, NoteFails, IsTurnedAt, IsAskedAt, VerdictFails, IsClosedAt, CloseFails, IsBegun, IsPresent, IsSoundComparison, IsSoundForRecord};
 ghost use Rattle.scrib_core.specs.Permitted.{IsOutcomeTest};
 
 use crate::places::{place_of, record_of};
@@ -14,7 +14,8 @@ use scrib_record::comparison::Comparison;
 use scrib_record::numbering::Numbering;
 use scrib_record::record::Record;
 use scrib_record::version::Version;
-use scrib_types::event::Told;
+use scrib_record::whole_verdict::WholeVerdict;
+use scrib_types::event::{Told, Verdict};
 use scrib_types::name::Dotted;
 use scrib_types::shared_event::SharedEvent;
 use std::alloc::{AllocError, Global};
@@ -32,6 +33,16 @@ pub struct Judged {
     pub name: Dotted,
     pub events: usize,
     pub told: Told,
+}
+
+/// A closed conversation: the protocol's name, the number of events in the log, and the verdict on all of them.
+/// `complete` is whether it is `Permitted`, no role has a further action, and no message is in flight.
+#[derive(Drop)]
+pub struct Closed {
+    pub name: Dotted,
+    pub events: usize,
+    pub verdict: Verdict,
+    pub complete: bool,
 }
 
 /// What is opened: a conversation of this id, under the protocol of this name, if fewer than `limit` are open.
@@ -231,6 +242,44 @@ pub fn is_permitted(
     let _log = record.log();
     let (_, present) = present_of(library, record, comparison);
     is_permitted_answer(record.ask(present, comparison))
+}
+
+/// Closes a conversation: takes its record out, and returns the verdict on its whole log under the library. What is not
+/// judged yet is judged for this. The last record takes the place of the closed one.
+///
+/// # Errors
+/// `NoConversation` or `OutOfMemory`. Nothing changes then.
+pub fn close(
+    library: &Library,
+    records: &mut IndexMap<u32, Record>,
+    comparison: Comparison,
+    id: u32,
+) -> Result<Closed, Refusal>
+    requires { IsSoundComparison comparison library.now records.old.entries }
+    ensures ok { IfOk result (λ closed. IsClosedAt library.now records.old.entries id closed records.new.entries) }
+    ensures fault { IfErr result (CloseFails records.old.entries id) }
+    ensures err { OnErr result (records.new.entries ≡ records.old.entries) }
+{
+    let Some(record) = record_of(records, id) else {
+        return Err(Refusal::NoConversation);
+    };
+    let known = numbering_for_turn(library, record);
+    let Ok(name) = record.name().copy() else {
+        return Err(Refusal::OutOfMemory);
+    };
+    let (_, present) = present_of(library, record, comparison);
+    let Ok(whole) = record.judge_whole(present, comparison, known) else {
+        return Err(Refusal::OutOfMemory);
+    };
+    let WholeVerdict { verdict, complete } = whole;
+    let events = record.log().len();
+    let _record = records.swap_remove(&id);
+    Ok(Closed {
+        name,
+        events,
+        verdict,
+        complete,
+    })
 }
 
 // Returns the record of an empty log under the version. `known` is its numbering, or another one, or none.

@@ -4,17 +4,20 @@ ghost use Rattle.std.specs.Prelude.{◌≡◌, IfOk, OnErr};
 ghost use Rattle.std.specs.Option.{option_map};
 ghost use Rattle.scrib_types.specs.Meaning.{agreement_of};
 ghost use Rattle.scrib_library.specs.Modules.{IsMeaning};
-ghost use Rattle.scrib_core.specs.declared.step.Step.TheVariants.{Put, Withdraw, Open, Note, Turn, Ask};
+ghost use Rattle.scrib_core.specs.declared.step.Step.TheVariants.{Put, Withdraw, Open, Note, Turn, Ask, Close};
 ghost use Rattle.scrib_core.specs.declared.step.Step.TheVariants as steps;
 ghost use Rattle.scrib_core.specs.Answers.{initial, initial_under, IsAnswered, IsDue, AnswersAsDue};
 ghost use Rattle.scrib_core.specs.Held.{state_of, LeavesRefused, AnswersHeld, IsViewed};
 ghost use Rattle.scrib_core.specs.Permitted.{IsReplyTest};
-ghost use Rattle.scrib_core.specs.ReplyValues.{note_reply_of, open_reply_of, verdict_reply_of};
+ghost use Rattle.scrib_core.specs.ReplyValues.{close_reply_of, note_reply_of, open_reply_of, verdict_reply_of};
 ghost use Rattle.scrib_core.specs.Runs.{PermitsRuns};
 
-use crate::conversation_steps::{Judged, Noted, Opening, ask, is_permitted, note, open, turn};
+use crate::conversation_steps::{
+    Closed, Judged, Noted, Opening, ask, close, is_permitted, note, open, turn,
+};
 use crate::reply::{
-    Edit, Refusal, Reply, edit_reply, note_reply, open_reply, profile_reply, verdict_reply,
+    Edit, Refusal, Reply, close_reply, edit_reply, note_reply, open_reply, profile_reply,
+    verdict_reply,
 };
 use crate::step::Step;
 use indexmap::IndexMap;
@@ -31,8 +34,9 @@ use std::marker::Model;
 /// The maximal number of open conversations.
 pub const MAX_CONVERSATIONS: usize = 65_536;
 
-/// The library and the records of the open conversations, in the order of opening. Contracts see the library's holdings
-/// and the records, which determine a world and its marks.
+/// The library and the records of the open conversations. They are in the order of opening, except that the last one
+/// takes the place of each that is closed. Contracts see the library's holdings and the records, which determine a world
+/// and its marks.
 #[derive(Drop)]
 pub struct Core {
     alloc: Global,
@@ -93,6 +97,7 @@ impl Core {
             Step::Note { id, event } => self.note(id, event),
             Step::Turn { id } => self.turn(id),
             Step::Ask { id } => self.ask(id),
+            Step::Close { id } => self.close(id),
         };
         self.library.means_protocols();
         reply
@@ -192,6 +197,21 @@ impl Core {
         open(&self.library, &mut self.records, opening)
     }
 
+    /// Makes the step `Close` with this id. Returns the protocol's name, the number of events in the log, the verdict on
+    /// all of them, and whether the log is complete. The verdict is never stale. What `apply` ensures of a reply holds for
+    /// the reply that `close_reply` makes of the result.
+    ///
+    /// # Errors
+    /// `NoConversation` or `OutOfMemory`. Nothing changes then.
+    pub fn close_conversation(&mut self, id: u32) -> Result<Closed, Refusal>
+        ensures answered { IsAnswered (state_of self.old) (Close id) (close_reply_of id result) (state_of self.new) }
+        ensures memory { IsDue (state_of self.old).world (Close id) (close_reply_of id result) }
+        ensures refused { LeavesRefused (close_reply_of id result) self.old self.new }
+    {
+        self.library.are_numbered();
+        close(&self.library, &mut self.records, Comparison::Numbers, id)
+    }
+
     /// Returns the protocol of a conversation, if the library has it, and the log.
     pub fn view(&self, id: u32) -> Option<(Option<&Protocol>, &[SharedEvent])>
         ensures { IsViewed (state_of self.now).world id result }
@@ -215,6 +235,7 @@ impl Core {
             Step::Note { id, event } => self.note_ref(*id, event),
             Step::Turn { id } => self.turn(*id),
             Step::Ask { id } => self.ask(*id),
+            Step::Close { id } => self.close(*id),
         }
     }
 
@@ -303,6 +324,15 @@ impl Core {
     {
         let asked = self.verdict_on(id);
         verdict_reply(id, asked)
+    }
+
+    fn close(&mut self, id: u32) -> Reply
+        ensures answered { IsAnswered (state_of self.old) (Close id) result (state_of self.new) }
+        ensures memory { IsDue (state_of self.old).world (Close id) result }
+        ensures refused { LeavesRefused result self.old self.new }
+    {
+        let closed = self.close_conversation(id);
+        close_reply(id, closed)
     }
 }
 

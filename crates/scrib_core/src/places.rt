@@ -1,4 +1,4 @@
-//! The places of records: they are in the order of opening.
+//! The places of records: they are in the order of opening, until one is closed.
 
 ghost use Rattle.std.specs.Prelude.{◌≡◌, None, IfSome};
 ghost use Rattle.std.specs.Option.{option_copied};
@@ -7,8 +7,8 @@ ghost use Rattle.scrib_core.specs.Held.{IsRecordAt, record_at};
 use indexmap::IndexMap;
 use scrib_record::record::Record;
 
-/// Returns the index of the conversation's record in the order of opening, from 0. Ids are mostly given one after another
-/// in that order, so the index that such an id has is tried first.
+/// Returns the index of the conversation's record, from 0. Ids are mostly given one after another in the order of
+/// opening, so the index that such an id has is tried first.
 #[inline(always)]
 pub fn place_of(records: &IndexMap<u32, Record>, id: u32) -> Option<usize>
     ensures found { IfSome result (λ at. IsRecordAt records.now.entries at id) }
@@ -37,8 +37,8 @@ fn usual_place(records: &IndexMap<u32, Record>, id: u32) -> usize {
     }
 }
 
-/// Returns the index of the conversation's record in the order of opening, from 0. `hint` may be any index and is tried
-/// first: a caller that often asks for one conversation passes the index that it got last.
+/// Returns the index of the conversation's record, from 0. `hint` may be any index and is tried first: a caller that often
+/// asks for one conversation passes the index that it got last.
 #[inline(always)]
 pub fn place_at_hint(records: &IndexMap<u32, Record>, hint: usize, id: u32) -> Option<usize>
     ensures found { IfSome result (λ at. IsRecordAt records.now.entries at id) }

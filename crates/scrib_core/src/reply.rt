@@ -1,13 +1,13 @@
 //! The replies to steps, and the reply to a step of this outcome.
 
 ghost use Rattle.std.specs.Prelude.{◌≡◌};
-ghost use Rattle.scrib_core.specs.ReplyValues.{edit_reply_of, profile_reply_of, open_reply_of, note_reply_of, verdict_reply_of};
+ghost use Rattle.scrib_core.specs.ReplyValues.{edit_reply_of, profile_reply_of, open_reply_of, note_reply_of, verdict_reply_of, close_reply_of};
 
-use crate::conversation_steps::{Judged, Noted};
+use crate::conversation_steps::{Closed, Judged, Noted};
 use scrib_library::changes::Changes;
 use scrib_library::fault::EditFault;
 use scrib_record::fault::NoteFault;
-use scrib_types::event::Told;
+use scrib_types::event::{Told, Verdict};
 use scrib_types::name::Dotted;
 use scrib_types::profile::Profile;
 
@@ -81,6 +81,15 @@ pub enum Reply {
         events: usize,
         told: Told,
     },
+    /// The conversation was closed: the protocol's name, the number of events in the log, and the verdict on all of
+    /// them. `complete` is whether the log is permitted and complete.
+    Closed {
+        id: u32,
+        name: Dotted,
+        events: usize,
+        verdict: Verdict,
+        complete: bool,
+    },
     /// The step was refused and nothing changed.
     Refused(Refusal),
 }
@@ -138,6 +147,29 @@ pub fn verdict_reply(id: u32, outcome: Result<Judged, Refusal>) -> Reply
             name,
             events,
             told,
+        },
+        Err(refusal) => Reply::Refused(refusal),
+    }
+}
+
+/// Returns the reply to a close of the conversation `id` with this outcome.
+pub fn close_reply(id: u32, outcome: Result<Closed, Refusal>) -> Reply
+    ensures { result ≡ close_reply_of id outcome }
+{
+    match outcome {
+        Ok(
+            Closed {
+                name,
+                events,
+                verdict,
+                complete,
+            },
+        ) => Reply::Closed {
+            id,
+            name,
+            events,
+            verdict,
+            complete,
         },
         Err(refusal) => Reply::Refused(refusal),
     }

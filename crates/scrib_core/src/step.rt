@@ -22,4 +22,6 @@ pub enum Step {
     Turn { id: u32 },
     /// Ask for the verdict on a conversation.
     Ask { id: u32 },
+    /// Close a conversation: judge what is left of its log, and take it out.
+    Close { id: u32 },
 }
