@@ -1,8 +1,9 @@
 -- The members of replies: each key is put in its place in the order of bytes, and no value is a float.
-use Rattle.std.proofs.Common.{◌≡◌, ℕ, List, [], ◌∷◌, false, codes, map, refl}
-use Rattle.serde_json.specs.Data.{string, Members, member, put}
+use Rattle.std.proofs.Common.{◌≡◌, ℕ, Bool, List, [], ◌∷◌, false, codes, map, refl}
+use Rattle.serde_json.specs.Data.{boolean, string, Members, member, put}
 use Rattle.serde_json.specs.View.{items_of}
 use Rattle.serde_json.specs.Written.{has_float, items_have_float, members_have_float}
+use Rattle.scrib_types.specs.declared.event.Verdict.{Verdict}
 use Rattle.scrib_types.specs.declared.event.Verdict.TheVariants.{Permitted, Offence, Withdrawn}
 use Rattle.scrib_types.specs.declared.event.Told.{Told}
 use Rattle.scrib_types.specs.declared.event.Told.TheVariants.{Stale, Judged}
@@ -37,6 +38,13 @@ judged_in_order id name events (Judged Permitted) = refl
 judged_in_order id name events (Judged (Offence at by allowed)) = refl
 judged_in_order id name events (Judged Withdrawn) = refl
 
+pub closed_in_order : (id : ℕ) (name : List ℕ) (events : ℕ) (verdict : Verdict) (complete : Bool)
+    → put (codes "events") (natural events) (put (codes "conversation") (natural id) (put (codes "complete") (boolean complete) (put (codes "closed") (string name) (offence_then (Judged verdict) (verdict_member (Judged verdict))))))
+    ≡ offence_then (Judged verdict) (member (codes "closed") (string name) (member (codes "complete") (boolean complete) (member (codes "conversation") (natural id) (member (codes "events") (natural events) (verdict_member (Judged verdict))))))
+closed_in_order id name events Permitted complete = refl
+closed_in_order id name events (Offence at by allowed) complete = refl
+closed_in_order id name events Withdrawn complete = refl
+
 texts_have_no_float : {A : Type 0} (text : A → List ℕ) (as_ : List A) → items_have_float (items_of (map (λ a. string (text a)) as_)) ≡ false
 texts_have_no_float text [] = refl
 texts_have_no_float text (a ∷ as_) = texts_have_no_float text as_
@@ -54,6 +62,7 @@ json_has_no_float (reply.Profiled p) = refl
 json_has_no_float (reply.Opened id name) = refl
 json_has_no_float (reply.Noted id place verdict) = offence_then_has_no_float verdict _ refl
 json_has_no_float (reply.Judged id name events verdict) = offence_then_has_no_float verdict _ refl
+json_has_no_float (reply.Closed id name events verdict complete) = offence_then_has_no_float (Judged verdict) _ refl
 json_has_no_float (reply.Refused f) = refl
 
 pub verdict_object_has_no_float : (id : ℕ) (verdict : Told) → has_float (verdict_object id verdict) ≡ false

@@ -1,11 +1,12 @@
 -- The JSON of replies (this project's own). JSON values are the `Data` of `serde_json`, and their text is its
 -- `compact_text`, which writes members in the given order. So each object below lists its keys in the order of bytes.
-use Rattle.std.specs.Prelude.{ℕ, List, [], ◌∷◌, ◌++◌, codes, length, map}
+use Rattle.std.specs.Prelude.{ℕ, Bool, List, [], ◌∷◌, ◌++◌, codes, length, map}
 use Rattle.std.specs.Fmt.{decimal}
-use Rattle.serde_json.specs.Data.{Data, number, unsigned, string, array, object, Members, no_members, member}
+use Rattle.serde_json.specs.Data.{Data, boolean, number, unsigned, string, array, object, Members, no_members, member}
 use Rattle.serde_json.specs.View.{items_of}
 use Rattle.serde_json.specs.Written.{compact_text}
 use Rattle.scrib_types.specs.declared.event.Action.{Action}
+use Rattle.scrib_types.specs.declared.event.Verdict.{Verdict}
 use Rattle.scrib_types.specs.declared.event.Verdict.TheVariants.{Permitted, Offence, Withdrawn}
 use Rattle.scrib_types.specs.declared.event.Told.{Told}
 use Rattle.scrib_types.specs.declared.event.Told.TheVariants.{Stale, Judged}
@@ -65,7 +66,17 @@ judged_object id name events verdict =
     (member (codes "events") (natural events)
     (member (codes "protocol") (string (dotted_text name)) (verdict_member verdict)))))
 
--- the JSON of a reply; besides the two above `{"changes":["+demo.Hello"],"edit":"put","module":"demo"}`,
+-- the reply to a close, as
+-- `{"closed":"demo.Hello","complete":true,"conversation":1,"events":6,"verdict":"permitted"}`
+abbrev pub closed_object : ℕ → List (List ℕ) → ℕ → Verdict → (complete : Bool) → Data
+closed_object id name events verdict complete =
+    object (offence_then (Judged verdict)
+    (member (codes "closed") (string (dotted_text name))
+    (member (codes "complete") (boolean complete)
+    (member (codes "conversation") (natural id)
+    (member (codes "events") (natural events) (verdict_member (Judged verdict)))))))
+
+-- the JSON of a reply; besides the three above `{"changes":["+demo.Hello"],"edit":"put","module":"demo"}`,
 -- `{"profile":"plain"}`, `{"conversation":1,"opened":"demo.Hello"}` and `{"refused":"LogFull"}`
 unfoldable pub json_of : Reply → Data
 json_of (reply.Edited e changes) =
@@ -77,6 +88,7 @@ json_of (reply.Opened id name) =
     object (member (codes "conversation") (natural id) (member (codes "opened") (string (dotted_text name)) no_members))
 json_of (reply.Noted id place verdict) = noted_object id place verdict
 json_of (reply.Judged id name events verdict) = judged_object id name events verdict
+json_of (reply.Closed id name events verdict complete) = closed_object id name events verdict complete
 json_of (reply.Refused f) = object (member (codes "refused") (string (refusal_text f)) no_members)
 
 -- the text of a reply's JSON, with no blank between its parts

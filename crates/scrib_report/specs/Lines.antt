@@ -1,6 +1,6 @@
 -- The printed text of replies, without a line's end: verdicts, changes and refusals. Also that of a message in flight
 -- (this project's own).
-use Rattle.std.specs.Prelude.{ℕ, List, [], ◌∷◌, ◌++◌, codes}
+use Rattle.std.specs.Prelude.{ℕ, Bool, true, false, List, [], ◌∷◌, ◌++◌, codes}
 use Rattle.std.specs.Fmt.{decimal}
 use Rattle.scrib_types.specs.declared.event.Verdict.{Verdict}
 use Rattle.scrib_types.specs.declared.event.Verdict.TheVariants.{Permitted, Offence, Withdrawn}
@@ -153,8 +153,13 @@ abbrev pub edit_word : Edit → List ℕ
 edit_word which.Put = codes "put"
 edit_word which.Withdraw = codes "withdraw"
 
--- the line of a reply: `put demo: +demo.Hello`, `profile plain`, `open 1: demo.Hello`, `1.3 permitted`, `1 permitted`
--- or `refused NoConversation`
+-- the end of the line of a close: `complete`, or the verdict
+abbrev pub closed_text : Verdict → (complete : Bool) → List ℕ
+closed_text verdict true = codes "complete"
+closed_text verdict false = verdict_text verdict
+
+-- the line of a reply: `put demo: +demo.Hello`, `profile plain`, `open 1: demo.Hello`, `1.3 permitted`, `1 permitted`,
+-- `close 1: complete` or `refused NoConversation`
 unfoldable pub line_of : Reply → List ℕ
 line_of (reply.Edited e changes) =
     edit_word e ++ codes " " ++ dotted_text changes.module ++ codes ":" ++ changes_text changes.list
@@ -162,6 +167,8 @@ line_of (reply.Profiled p) = codes "profile " ++ profile_word p
 line_of (reply.Opened id name) = codes "open " ++ decimal id ++ codes ": " ++ dotted_text name
 line_of (reply.Noted id place verdict) = decimal id ++ codes "." ++ decimal place ++ codes " " ++ told_text verdict
 line_of (reply.Judged id name events verdict) = decimal id ++ codes " " ++ told_text verdict
+line_of (reply.Closed id name events verdict complete) =
+    codes "close " ++ decimal id ++ codes ": " ++ closed_text verdict complete
 line_of (reply.Refused f) = codes "refused " ++ refusal_text f
 
 -- a message in flight, as `A B hello()`: the sender, the receiver and the message

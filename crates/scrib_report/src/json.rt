@@ -3,6 +3,7 @@
 ghost use Rattle.std.specs.Prelude.{◌≡◌, IfOk};
 ghost use Rattle.serde_json.specs.Data.{string};
 ghost use Rattle.serde_json.specs.View.{view, members_view};
+ghost use Rattle.scrib_types.specs.declared.event.Told.TheVariants.{Stale, Judged};
 ghost use Rattle.scrib_types.specs.Texts.{dotted_text};
 ghost use Rattle.scrib_core.specs.declared.reply.Reply.TheVariants as replies;
 ghost use Rattle.scrib_report.specs.Lines.{refusal_text};
@@ -10,7 +11,7 @@ ghost use Rattle.scrib_report.specs.Json as objects;
 
 use crate::edit::{edit_word, push_change};
 use crate::fault::push_refusal;
-use crate::verdict::verdict_word;
+use crate::verdict::judged_word;
 use scrib_core::ended::Ended;
 use scrib_core::reply::{Edit, Refusal, Reply};
 use scrib_library::changes::{Change, Changes};
@@ -90,27 +91,46 @@ fn actions_value(alloc: Global, actions: &[Action]) -> Result<Value, AllocError>
 }
 
 // The members of a verdict, and of an offence its place, its role and the allowed actions.
-fn verdict_members(alloc: Global, verdict: &Told) -> Result<Map<String, Value>, AllocError>
+fn judged_members(alloc: Global, verdict: &Verdict) -> Result<Map<String, Value>, AllocError>
     ensures { IfOk result (λ members. members_view members.entries
-        ≡ objects.offence_then verdict.now (objects.verdict_member verdict.now)) }
+        ≡ objects.offence_then (Judged verdict.now) (objects.verdict_member (Judged verdict.now))) }
 {
     let mut members = Map::new(alloc);
-    if let Told::Judged(
-        Verdict::Offence {
-            place,
-            role,
-            allowed,
-        },
-    ) = verdict
+    if let Verdict::Offence {
+        place,
+        role,
+        allowed,
+    } = verdict
     {
         let allowed = actions_value(alloc, allowed.as_slice())?;
         put(&mut members, alloc, "allowed", allowed)?;
         put(&mut members, alloc, "at", Value::from(*place))?;
         put(&mut members, alloc, "by", role_value(alloc, role)?)?;
     }
-    let word = Value::try_from_str(alloc, verdict_word(verdict))?;
+    let word = Value::try_from_str(alloc, judged_word(verdict))?;
     put(&mut members, alloc, "verdict", word)?;
     Ok(members)
+}
+
+// The members of a verdict that is not up to date: one word.
+fn stale_members(alloc: Global) -> Result<Map<String, Value>, AllocError>
+    ensures { IfOk result (λ members. members_view members.entries ≡ objects.verdict_member Stale) }
+{
+    let mut members = Map::new(alloc);
+    let word = Value::try_from_str(alloc, "stale")?;
+    put(&mut members, alloc, "verdict", word)?;
+    Ok(members)
+}
+
+// The members of what is reported: of a verdict, or one word.
+fn verdict_members(alloc: Global, told: &Told) -> Result<Map<String, Value>, AllocError>
+    ensures { IfOk result (λ members. members_view members.entries
+        ≡ objects.offence_then told.now (objects.verdict_member told.now)) }
+{
+    match told {
+        Told::Stale => stale_members(alloc),
+        Told::Judged(verdict) => judged_members(alloc, verdict),
+    }
 }
 
 #[tactic(auto, using(crate::proofs::Members::noted_in_order))]
@@ -137,6 +157,26 @@ fn judged_value(
     put(&mut members, alloc, "conversation", Value::from(id))?;
     put(&mut members, alloc, "events", Value::from(events))?;
     put(&mut members, alloc, "protocol", dotted_value(alloc, name)?)?;
+    Ok(Value::Object(members))
+}
+
+#[tactic(auto, using(crate::proofs::Members::closed_in_order))]
+fn closed_value(
+    alloc: Global,
+    id: u32,
+    name: &Dotted,
+    events: usize,
+    concluded: (&Verdict, bool),
+) -> Result<Value, AllocError>
+    ensures { IfOk result (λ value. view value
+        ≡ objects.closed_object id name.now events concluded.entry.0.now concluded.entry.1) }
+{
+    let (verdict, complete) = concluded;
+    let mut members = judged_members(alloc, verdict)?;
+    put(&mut members, alloc, "closed", dotted_value(alloc, name)?)?;
+    put(&mut members, alloc, "complete", Value::from(complete))?;
+    put(&mut members, alloc, "conversation", Value::from(id))?;
+    put(&mut members, alloc, "events", Value::from(events))?;
     Ok(Value::Object(members))
 }
 
@@ -196,6 +236,13 @@ fn reply_value(alloc: Global, reply: &Reply) -> Result<Value, AllocError>
             events,
             told,
         } => judged_value(alloc, *id, name, *events, told),
+        Reply::Closed {
+            id,
+            name,
+            events,
+            verdict,
+            complete,
+        } => closed_value(alloc, *id, name, *events, (verdict, *complete)),
         Reply::Refused(refusal) => refused_value(alloc, refusal),
     }
 }

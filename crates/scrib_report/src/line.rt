@@ -1,14 +1,15 @@
 //! The line of a reply.
 
-ghost use Rattle.std.specs.Prelude.{◌≡◌, ◌++◌, ◌∷◌, [], IfOk, OnOk};
+ghost use Rattle.std.specs.Prelude.{◌≡◌, ◌++◌, ◌∷◌, [], IfOk, OnOk, codes};
+ghost use Rattle.std.specs.Fmt.{decimal};
 ghost use Rattle.scrib_report.specs.Lines as lines;
 
 use crate::edit::{edit_word, push_change};
 use crate::event_line::{push_judged_event, push_permitted_verdict};
 use crate::fault::push_refusal;
-use crate::numbered::push_opened_id;
+use crate::numbered::{push_numbered, push_opened_id};
 use crate::opened_line::push_opened_line;
-use crate::verdict::push_told;
+use crate::verdict::{push_told, push_verdict};
 use scrib_core::reply::Reply;
 use scrib_library::changes::Change;
 use scrib_types::event::{Told, Verdict};
@@ -35,6 +36,24 @@ fn push_changes(out: &mut Vec<u8>, changes: &[Change]) -> Result<(), AllocError>
         return push_bytes(out, b" no change");
     }
     push_each_change(out, changes)
+}
+
+// Appends the line of the reply to a close: `complete` behind the id, or the verdict.
+fn push_closed(
+    out: &mut Vec<u8>,
+    id: u32,
+    verdict: &Verdict,
+    complete: bool,
+) -> Result<(), AllocError>
+    ensures { OnOk result (out.new.items ≡ out.old.items
+        ++ (codes "close " ++ decimal id ++ codes ": " ++ lines.closed_text verdict.now complete)) }
+{
+    push_numbered(out, b"close ", u64::from(id), b": ")?;
+    if complete {
+        push_bytes(out, b"complete")
+    } else {
+        push_verdict(out, verdict)
+    }
 }
 
 /// Appends the line of the reply, in ASCII bytes, without a line feed.
@@ -73,6 +92,12 @@ pub fn push_line(out: &mut Vec<u8>, reply: &Reply) -> Result<(), AllocError>
             push_bytes(out, b" ")?;
             push_told(out, told)
         }
+        Reply::Closed {
+            id,
+            verdict,
+            complete,
+            ..
+        } => push_closed(out, *id, verdict, *complete),
         Reply::Refused(refusal) => {
             push_bytes(out, b"refused ")?;
             push_refusal(out, refusal)

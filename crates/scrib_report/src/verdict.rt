@@ -1,6 +1,7 @@
 //! The text of verdicts.
 
 ghost use Rattle.std.specs.Prelude.{◌≡◌, ◌++◌, IfOk, OnOk};
+ghost use Rattle.scrib_types.specs.declared.event.Told.TheVariants.{Judged};
 ghost use Rattle.scrib_report.specs.Lines as lines;
 
 use scrib_types::event::{Told, Verdict};
@@ -18,8 +19,9 @@ fn push_offence(out: &mut Vec<u8>, place: usize, role: &Role) -> Result<(), Allo
     push_bytes(out, role.as_bytes())
 }
 
+// Appends the verdict: `permitted`, `withdrawn`, or the offence with the allowed actions.
 #[tactic(auto, unfolding(crate::specs::Lines::verdict_text))]
-fn push_verdict(out: &mut Vec<u8>, verdict: &Verdict) -> Result<(), AllocError>
+pub(crate) fn push_verdict(out: &mut Vec<u8>, verdict: &Verdict) -> Result<(), AllocError>
     ensures { OnOk result (out.new.items ≡ out.old.items ++ lines.verdict_text verdict.now) }
 {
     match verdict {
@@ -54,9 +56,18 @@ pub(crate) fn verdict_word(verdict: &Told) -> &'static str
 {
     match verdict {
         Told::Stale => "stale",
-        Told::Judged(Verdict::Permitted) => "permitted",
-        Told::Judged(Verdict::Offence { .. }) => "offence",
-        Told::Judged(Verdict::Withdrawn) => "withdrawn",
+        Told::Judged(verdict) => judged_word(verdict),
+    }
+}
+
+// The verdict in one word: `permitted`, `offence` or `withdrawn`.
+pub(crate) fn judged_word(verdict: &Verdict) -> &'static str
+    ensures { result.now ≡ lines.verdict_word (Judged verdict.now) }
+{
+    match verdict {
+        Verdict::Permitted => "permitted",
+        Verdict::Offence { .. } => "offence",
+        Verdict::Withdrawn => "withdrawn",
     }
 }
 
