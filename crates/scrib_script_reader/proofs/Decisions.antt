@@ -27,7 +27,7 @@ use Rattle.scrib_script_reader.specs.Says.{Says, IsSkipped, IsPutLine, Asks}
 use Rattle.scrib_script_reader.proofs.Pieces.{pieces, dotted-pieces, dotted-read, payload-pieces, payload-read}
 use Rattle.scrib_script_reader.proofs.Formats.{no_put, no_step}
 use Rattle.scrib_script_reader.proofs.MessageTexts.{message-cut, cut-message, cut-once}
-use Rattle.scrib_script_reader.proofs.Steps.{no-open, no-join, no-send, no-recv, no-turn, no-ask, no-word, no-short, no-withdraw, no-profile, no-number, found-edit, found-step}
+use Rattle.scrib_script_reader.proofs.Steps.{no-open, no-join, no-send, no-recv, no-turn, no-ask, no-close, no-word, no-short, no-withdraw, no-profile, no-number, found-edit, found-step}
 
 -- a property holds or does not hold
 abbrev pub Decided : Type 0 → Type 0
@@ -316,6 +316,10 @@ ask_step : (id : ℕ) (fs : List (List ℕ)) → Found (MakesWithId (codes "ask"
 ask_step id [] = (Some (step.Ask id), (refl, refl, refl))
 ask_step id (f ∷ fs) = (None, no-ask id (f ∷ fs) (λ e. cc))
 
+close_step : (id : ℕ) (fs : List (List ℕ)) → Found (MakesWithId (codes "close") id fs)
+close_step id [] = (Some (step.Close id), (refl, refl, refl))
+close_step id (f ∷ fs) = (None, no-close id (f ∷ fs) (λ e. cc))
+
 -- the step of a word that equals the known one
 worded : (word known : List ℕ) (id : ℕ) (fs : List (List ℕ)) → word ≡ known → Found (MakesWithId known id fs) → Found (MakesWithId word id fs)
 worded word known id fs e found = (found.0, subst (λ (w : List ℕ). Finds (MakesWithId w id fs) found.0) (sym e) found.1)
@@ -334,7 +338,10 @@ word_step word id fs = elim (same_bytes word (codes "open")) [
           | inl e ↦ worded word (codes "turn") id fs e (turn_step id fs)
           | inr turn_no ↦ elim (same_bytes word (codes "ask")) [
             | inl e ↦ worded word (codes "ask") id fs e (ask_step id fs)
-            | inr ask_no ↦ (None, no-word word id fs open_no join_no send_no recv_no turn_no ask_no)
+            | inr ask_no ↦ elim (same_bytes word (codes "close")) [
+              | inl e ↦ worded word (codes "close") id fs e (close_step id fs)
+              | inr close_no ↦ (None, no-word word id fs open_no join_no send_no recv_no turn_no ask_no close_no)
+            ]
           ]
         ]
       ]
@@ -356,6 +363,7 @@ no_withdrawal text fs none (step.Open i name) h = h
 no_withdrawal text fs none (step.Note i e) h = h
 no_withdrawal text fs none (step.Turn i) h = h
 no_withdrawal text fs none (step.Ask i) h = h
+no_withdrawal text fs none (step.Close i) h = h
 
 withdrawal_from : (text : List ℕ) (o : Option (List (List ℕ))) → Finds (IsDottedText text) o → Found (Edits (codes "withdraw") text [])
 withdrawal_from text None none = (None, no_withdrawal text [] (λ name h. none name h.1))
@@ -374,6 +382,7 @@ no_change text fs none (step.Open i name) h = h
 no_change text fs none (step.Note i e) h = h
 no_change text fs none (step.Turn i) h = h
 no_change text fs none (step.Ask i) h = h
+no_change text fs none (step.Close i) h = h
 
 -- the profile of a word
 profile_found : (text : List ℕ) → Found (λ (p : Profile). text ≡ profile_word p)

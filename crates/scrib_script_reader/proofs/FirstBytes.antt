@@ -85,7 +85,7 @@ module _ (x y : ℕ) (never : may_begin x y ≡ false) (field : List ℕ) (begin
   no-step-made [] s h = no-short (field ∷ []) (omega arith) s h
   no-step-made (first ∷ fs) s h = elim h [
     | inl w ↦ no-edit field first fs (other-word x y 119 105 (codes "thdraw") field never refl begins) (other-word x y 112 114 (codes "ofile") field never refl begins) s w
-    | inr k ↦ no-word field k.0 fs (other-word x y 111 112 (codes "en") field never refl begins) (other-word x y 106 111 (codes "in") field never refl begins) (other-word x y 115 101 (codes "nd") field never refl begins) (other-word x y 114 101 (codes "cv") field never refl begins) (other-word x y 116 117 (codes "rn") field never refl begins) (other-word x y 97 115 (codes "k") field never refl begins) s k.2
+    | inr k ↦ no-word field k.0 fs (other-word x y 111 112 (codes "en") field never refl begins) (other-word x y 106 111 (codes "in") field never refl begins) (other-word x y 115 101 (codes "nd") field never refl begins) (other-word x y 114 101 (codes "cv") field never refl begins) (other-word x y 116 117 (codes "rn") field never refl begins) (other-word x y 97 115 (codes "k") field never refl begins) (other-word x y 99 108 (codes "ose") field never refl begins) s k.2
   ]
 
   -- the fields ask for no other format

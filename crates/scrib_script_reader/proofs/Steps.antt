@@ -27,6 +27,7 @@ no-send id fs none (step.Note i (event.Sent from to m)) h = none from to m h.2
 no-send id fs none (step.Note i (event.Received from to m)) h = apart (codes "send") (codes "recv") refl h.0
 no-send id fs none (step.Turn i) h = apart (codes "send") (codes "turn") refl h.0
 no-send id fs none (step.Ask i) h = apart (codes "send") (codes "ask") refl h.0
+no-send id fs none (step.Close i) h = apart (codes "send") (codes "close") refl h.0
 
 pub no-recv : (id : ℕ) (fs : List (List ℕ)) → ((from to : List ℕ) (m : Message) → IsExchange fs from to m → ⊥) → (s : Step) → MakesWithId (codes "recv") id fs s → ⊥
 no-recv id fs none (step.Put text) h = h
@@ -38,6 +39,7 @@ no-recv id fs none (step.Note i (event.Sent from to m)) h = apart (codes "recv")
 no-recv id fs none (step.Note i (event.Received from to m)) h = none from to m h.2
 no-recv id fs none (step.Turn i) h = apart (codes "recv") (codes "turn") refl h.0
 no-recv id fs none (step.Ask i) h = apart (codes "recv") (codes "ask") refl h.0
+no-recv id fs none (step.Close i) h = apart (codes "recv") (codes "close") refl h.0
 
 -- a field that is no dotted text makes no opening
 pub no-open : (id : ℕ) (fs : List (List ℕ)) → ((name : List (List ℕ)) → (text : List ℕ) × (fs ≡ text ∷ []) × IsDottedText text name → ⊥) → (s : Step) → MakesWithId (codes "open") id fs s → ⊥
@@ -50,6 +52,7 @@ no-open id fs none (step.Note i (event.Sent from to m)) h = apart (codes "open")
 no-open id fs none (step.Note i (event.Received from to m)) h = apart (codes "open") (codes "recv") refl h.0
 no-open id fs none (step.Turn i) h = apart (codes "open") (codes "turn") refl h.0
 no-open id fs none (step.Ask i) h = apart (codes "open") (codes "ask") refl h.0
+no-open id fs none (step.Close i) h = apart (codes "open") (codes "close") refl h.0
 
 pub no-join : (id : ℕ) (fs : List (List ℕ)) → ((role : List ℕ) → (fs ≡ role ∷ []) × (is_name role ≡ true) → ⊥) → (s : Step) → MakesWithId (codes "join") id fs s → ⊥
 no-join id fs none (step.Put text) h = h
@@ -61,6 +64,7 @@ no-join id fs none (step.Note i (event.Sent from to m)) h = apart (codes "join")
 no-join id fs none (step.Note i (event.Received from to m)) h = apart (codes "join") (codes "recv") refl h.0
 no-join id fs none (step.Turn i) h = apart (codes "join") (codes "turn") refl h.0
 no-join id fs none (step.Ask i) h = apart (codes "join") (codes "ask") refl h.0
+no-join id fs none (step.Close i) h = apart (codes "join") (codes "close") refl h.0
 
 pub no-ask : (id : ℕ) (fs : List (List ℕ)) → (fs ≡ [] → ⊥) → (s : Step) → MakesWithId (codes "ask") id fs s → ⊥
 no-ask id fs none (step.Put text) h = h
@@ -72,6 +76,7 @@ no-ask id fs none (step.Note i (event.Sent from to m)) h = apart (codes "ask") (
 no-ask id fs none (step.Note i (event.Received from to m)) h = apart (codes "ask") (codes "recv") refl h.0
 no-ask id fs none (step.Turn i) h = apart (codes "ask") (codes "turn") refl h.0
 no-ask id fs none (step.Ask i) h = none h.2
+no-ask id fs none (step.Close i) h = apart (codes "ask") (codes "close") refl h.0
 
 pub no-turn : (id : ℕ) (fs : List (List ℕ)) → (fs ≡ [] → ⊥) → (s : Step) → MakesWithId (codes "turn") id fs s → ⊥
 no-turn id fs none (step.Put text) h = h
@@ -83,19 +88,33 @@ no-turn id fs none (step.Note i (event.Sent from to m)) h = apart (codes "turn")
 no-turn id fs none (step.Note i (event.Received from to m)) h = apart (codes "turn") (codes "recv") refl h.0
 no-turn id fs none (step.Turn i) h = none h.2
 no-turn id fs none (step.Ask i) h = apart (codes "turn") (codes "ask") refl h.0
+no-turn id fs none (step.Close i) h = apart (codes "turn") (codes "close") refl h.0
+
+pub no-close : (id : ℕ) (fs : List (List ℕ)) → (fs ≡ [] → ⊥) → (s : Step) → MakesWithId (codes "close") id fs s → ⊥
+no-close id fs none (step.Put text) h = h
+no-close id fs none (step.Withdraw name) h = h
+no-close id fs none (step.Profile p) h = h
+no-close id fs none (step.Open i name) h = apart (codes "close") (codes "open") refl h.0
+no-close id fs none (step.Note i (event.Join role)) h = apart (codes "close") (codes "join") refl h.0
+no-close id fs none (step.Note i (event.Sent from to m)) h = apart (codes "close") (codes "send") refl h.0
+no-close id fs none (step.Note i (event.Received from to m)) h = apart (codes "close") (codes "recv") refl h.0
+no-close id fs none (step.Turn i) h = apart (codes "close") (codes "turn") refl h.0
+no-close id fs none (step.Ask i) h = apart (codes "close") (codes "ask") refl h.0
+no-close id fs none (step.Close i) h = none h.2
 
 -- another word makes no step
-pub no-word : (word : List ℕ) (id : ℕ) (fs : List (List ℕ)) → (word ≡ codes "open" → ⊥) → (word ≡ codes "join" → ⊥) → (word ≡ codes "send" → ⊥) → (word ≡ codes "recv" → ⊥) → (word ≡ codes "turn" → ⊥) → (word ≡ codes "ask" → ⊥)
+pub no-word : (word : List ℕ) (id : ℕ) (fs : List (List ℕ)) → (word ≡ codes "open" → ⊥) → (word ≡ codes "join" → ⊥) → (word ≡ codes "send" → ⊥) → (word ≡ codes "recv" → ⊥) → (word ≡ codes "turn" → ⊥) → (word ≡ codes "ask" → ⊥) → (word ≡ codes "close" → ⊥)
     → (s : Step) → MakesWithId word id fs s → ⊥
-no-word word id fs opens joins sends receives turns asks (step.Put text) h = h
-no-word word id fs opens joins sends receives turns asks (step.Withdraw name) h = h
-no-word word id fs opens joins sends receives turns asks (step.Profile p) h = h
-no-word word id fs opens joins sends receives turns asks (step.Open i name) h = opens h.0
-no-word word id fs opens joins sends receives turns asks (step.Note i (event.Join role)) h = joins h.0
-no-word word id fs opens joins sends receives turns asks (step.Note i (event.Sent from to m)) h = sends h.0
-no-word word id fs opens joins sends receives turns asks (step.Note i (event.Received from to m)) h = receives h.0
-no-word word id fs opens joins sends receives turns asks (step.Turn i) h = turns h.0
-no-word word id fs opens joins sends receives turns asks (step.Ask i) h = asks h.0
+no-word word id fs opens joins sends receives turns asks closes (step.Put text) h = h
+no-word word id fs opens joins sends receives turns asks closes (step.Withdraw name) h = h
+no-word word id fs opens joins sends receives turns asks closes (step.Profile p) h = h
+no-word word id fs opens joins sends receives turns asks closes (step.Open i name) h = opens h.0
+no-word word id fs opens joins sends receives turns asks closes (step.Note i (event.Join role)) h = joins h.0
+no-word word id fs opens joins sends receives turns asks closes (step.Note i (event.Sent from to m)) h = sends h.0
+no-word word id fs opens joins sends receives turns asks closes (step.Note i (event.Received from to m)) h = receives h.0
+no-word word id fs opens joins sends receives turns asks closes (step.Turn i) h = turns h.0
+no-word word id fs opens joins sends receives turns asks closes (step.Ask i) h = asks h.0
+no-word word id fs opens joins sends receives turns asks closes (step.Close i) h = closes h.0
 
 -- a step has two fields
 pub no-short : (fs : List (List ℕ)) → length fs < 2 → (s : Step) → MakesStep fs s → ⊥
@@ -125,10 +144,10 @@ two-fields f xs d l = front f xs d l ∙ ap (λ ys. f (get_or xs 0 d) ∷ f (get
 
 -- `withdraw` and `profile` make no step with a number
 pub no-withdraw : (id : ℕ) (fs : List (List ℕ)) (s : Step) → MakesWithId (codes "withdraw") id fs s → ⊥
-no-withdraw id fs = no-word (codes "withdraw") id fs (apart (codes "withdraw") (codes "open") refl) (apart (codes "withdraw") (codes "join") refl) (apart (codes "withdraw") (codes "send") refl) (apart (codes "withdraw") (codes "recv") refl) (apart (codes "withdraw") (codes "turn") refl) (apart (codes "withdraw") (codes "ask") refl)
+no-withdraw id fs = no-word (codes "withdraw") id fs (apart (codes "withdraw") (codes "open") refl) (apart (codes "withdraw") (codes "join") refl) (apart (codes "withdraw") (codes "send") refl) (apart (codes "withdraw") (codes "recv") refl) (apart (codes "withdraw") (codes "turn") refl) (apart (codes "withdraw") (codes "ask") refl) (apart (codes "withdraw") (codes "close") refl)
 
 pub no-profile : (id : ℕ) (fs : List (List ℕ)) (s : Step) → MakesWithId (codes "profile") id fs s → ⊥
-no-profile id fs = no-word (codes "profile") id fs (apart (codes "profile") (codes "open") refl) (apart (codes "profile") (codes "join") refl) (apart (codes "profile") (codes "send") refl) (apart (codes "profile") (codes "recv") refl) (apart (codes "profile") (codes "turn") refl) (apart (codes "profile") (codes "ask") refl)
+no-profile id fs = no-word (codes "profile") id fs (apart (codes "profile") (codes "open") refl) (apart (codes "profile") (codes "join") refl) (apart (codes "profile") (codes "send") refl) (apart (codes "profile") (codes "recv") refl) (apart (codes "profile") (codes "turn") refl) (apart (codes "profile") (codes "ask") refl) (apart (codes "profile") (codes "close") refl)
 
 -- the step of `withdraw` or `profile`
 pub found-edit : (known word first : List ℕ) (fs : List (List ℕ)) → ((id : ℕ) (gs : List (List ℕ)) (s : Step) → MakesWithId known id gs s → ⊥) → word ≡ known → (o : Option Step) → Finds (Edits known first fs) o → Finds (MakesStep (word ∷ first ∷ fs)) o
@@ -147,6 +166,7 @@ no-edit word first fs withdraws profiles (step.Open i name) h = h
 no-edit word first fs withdraws profiles (step.Note i e) h = h
 no-edit word first fs withdraws profiles (step.Turn i) h = h
 no-edit word first fs withdraws profiles (step.Ask i) h = h
+no-edit word first fs withdraws profiles (step.Close i) h = h
 
 -- another word and no number make no step
 pub no-number : (word first : List ℕ) (fs : List (List ℕ)) → (word ≡ codes "withdraw" → ⊥) → (word ≡ codes "profile" → ⊥) → ((id : ℕ) → IsNumberText first id → ⊥) → (s : Step) → MakesStep (word ∷ first ∷ fs) s → ⊥

@@ -7,6 +7,7 @@ abbrev pub may_begin : (first second : ℕ) → Bool
 may_begin first second =
     (first == 32) || (first == 9) || (first == 35)
     || (first == 97 && second == 115)
+    || (first == 99 && second == 108)
     || (first == 106 && (second == 115 || second == 111))
     || (first == 112 && (second == 117 || second == 114))
     || ((first == 115 || first == 114) && second == 101)

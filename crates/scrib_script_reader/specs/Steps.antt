@@ -24,6 +24,7 @@ MakesWithId word id fs (step.Note i (event.Received from to m)) =
     (word ≡ codes "recv") × (i ≡ id) × IsExchange fs from to m
 MakesWithId word id fs (step.Turn i) = (word ≡ codes "turn") × (i ≡ id) × (fs ≡ [])
 MakesWithId word id fs (step.Ask i) = (word ≡ codes "ask") × (i ≡ id) × (fs ≡ [])
+MakesWithId word id fs (step.Close i) = (word ≡ codes "close") × (i ≡ id) × (fs ≡ [])
 MakesWithId word id fs _ = ⊥
 
 -- the word and the last field, after which no field comes, make the step: `withdraw` and a module's name, or

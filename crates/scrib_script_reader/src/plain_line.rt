@@ -130,6 +130,7 @@ fn may_begin(first: u8, second: u8) -> bool
     match first {
         b' ' | b'\t' | b'#' => true,
         b'a' => second == b's',
+        b'c' => second == b'l',
         b'j' => second == b's' || second == b'o',
         b'p' => second == b'u' || second == b'r',
         b's' | b'r' => second == b'e',

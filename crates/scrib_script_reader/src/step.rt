@@ -60,6 +60,9 @@ fn step_with(
     if word == b"ask".as_slice() && fields.is_empty() {
         return Ok(Some(Step::Ask { id }));
     }
+    if word == b"close".as_slice() && fields.is_empty() {
+        return Ok(Some(Step::Close { id }));
+    }
     Ok(None)
 }
 

@@ -15,3 +15,9 @@ returns-then-is_empty-2 c =
     let empty : length c.args.fields.now ≡ 0 = grind (arith, nat_tests, c.is_empty-then-eq-6.ensures, c.if-is_empty-2.true) in
     let same = slice_eq-Decides Decides-eqb _ _ _ c.eq-6.ensures in
     (same.0 c.if-eq-6.true ∙ c.as_slice-6.ensures, refl, ap (map (λ field. field.now)) (nil_from_length c.args.fields.now empty))
+
+pub returns-then-is_empty-3 : goal.returns-then-is_empty-3
+returns-then-is_empty-3 c =
+    let empty : length c.args.fields.now ≡ 0 = grind (arith, nat_tests, c.is_empty-then-eq-7.ensures, c.if-is_empty-3.true) in
+    let same = slice_eq-Decides Decides-eqb _ _ _ c.eq-7.ensures in
+    (same.0 c.if-eq-7.true ∙ c.as_slice-7.ensures, refl, ap (map (λ field. field.now)) (nil_from_length c.args.fields.now empty))
