@@ -6,7 +6,7 @@ use Rattle.std.proofs.lemmas.Bool.{eqb-true}
 use Rattle.std.proofs.lemmas.List.{append_assoc, append-nil}
 use Rattle.std.proofs.lemmas.List.Elements.{All-nil, All-cons, All-append}
 use Rattle.scrib_core.specs.declared.step.Step.{Step}
-use Rattle.scrib_core.specs.declared.step.Step.TheVariants.{Put, Withdraw, Open, Note, Turn, Ask}
+use Rattle.scrib_core.specs.declared.step.Step.TheVariants.{Put, Withdraw, Open, Note, Turn, Ask, Close}
 use Rattle.scrib_core.specs.declared.step.Step.TheVariants as step
 use Rattle.scrib_core.specs.declared.reply.Reply.{Reply}
 use Rattle.scrib_core.specs.declared.reply.Reply.TheVariants.{Refused}
@@ -42,6 +42,7 @@ refuses_memory w (Open id name) = tt
 refuses_memory w (Note id e) = tt
 refuses_memory w (Turn id) = tt
 refuses_memory w (Ask id) = tt
+refuses_memory w (Close id) = tt
 
 -- any steps have replies, by which each is refused memory
 abbrev refused : List Step → List Reply

@@ -3,7 +3,7 @@ use Rattle.std.specs.Prelude.{◌≡◌, ◌⊎◌, ℕ, Bool, true, false, List
 use Rattle.std.specs.Io.KnownBytes.{Appends}
 use Rattle.scrib_core.specs.declared.step.Step.TheVariants.{Put}
 use Rattle.scrib_core.specs.declared.reply.Reply.{Reply}
-use Rattle.scrib_core.specs.declared.reply.Reply.TheVariants.{Edited, Profiled, Opened, Noted, Judged, Refused}
+use Rattle.scrib_core.specs.declared.reply.Reply.TheVariants.{Edited, Profiled, Opened, Noted, Judged, Closed, Refused}
 use Rattle.scrib_core.specs.Answers.{State, IsAnswered}
 use Rattle.scrib_report.specs.LineOutput.{reply_line}
 use Rattle.scrib_script_io.specs.Writes.{AppendsPart}
@@ -15,6 +15,7 @@ is_accepted (Profiled profile) = false
 is_accepted (Opened id name) = false
 is_accepted (Noted id place verdict) = false
 is_accepted (Judged id name events verdict) = false
+is_accepted (Closed id name events verdict complete) = false
 is_accepted (Refused refusal) = false
 
 -- the put of the text's first 1,048,577 bytes has this reply, and leads to this state
