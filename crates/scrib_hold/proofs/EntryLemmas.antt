@@ -5,7 +5,7 @@ use Rattle.std.proofs.lemmas.List.{append-nil, map-append}
 use Rattle.std.proofs.lemmas.List.Elements.{filter-append}
 use Rattle.scrib_types.specs.declared.event.Event.{Event}
 use Rattle.scrib_types.specs.Permitted.{IsPermitted}
-use Rattle.scrib_core.specs.declared.step.Step.TheVariants.{Put, Withdraw, Open, Note, Turn, Ask}
+use Rattle.scrib_core.specs.declared.step.Step.TheVariants.{Put, Withdraw, Open, Note, Turn, Ask, Close}
 use Rattle.scrib_core.specs.declared.step.Step.TheVariants as step
 use Rattle.scrib_script_reader.specs.declared.item.Item.{Item}
 use Rattle.scrib_script_reader.specs.declared.item.Item.TheVariants as item
@@ -61,6 +61,7 @@ events_more id (item.Step f (step.Profile p) ∷ xs) ys = events_more id xs ys
 events_more id (item.Step f (Open k name) ∷ xs) ys = events_more id xs ys
 events_more id (item.Step f (Turn k) ∷ xs) ys = events_more id xs ys
 events_more id (item.Step f (Ask k) ∷ xs) ys = events_more id xs ys
+events_more id (item.Step f (Close k) ∷ xs) ys = events_more id xs ys
 events_more id (item.BadLine n ∷ xs) ys = events_more id xs ys
 events_more id (item.EndOfText ∷ xs) ys = events_more id xs ys
 
@@ -72,6 +73,7 @@ events_passing id (entry.Item (item.Step f (step.Profile p))) = refl
 events_passing id (entry.Item (item.Step f (Open k name))) = refl
 events_passing id (entry.Item (item.Step f (Turn k))) = refl
 events_passing id (entry.Item (item.Step f (Ask k))) = refl
+events_passing id (entry.Item (item.Step f (Close k))) = refl
 events_passing id (entry.Item (item.BadLine n)) = refl
 events_passing id (entry.Item item.EndOfText) = refl
 events_passing id entry.Skipped = refl
@@ -100,6 +102,7 @@ events_noted id n (entry.Item (item.Step f (step.Profile p)) ∷ entries) = even
 events_noted id n (entry.Item (item.Step f (Open k name)) ∷ entries) = events_noted id (n + 1) entries
 events_noted id n (entry.Item (item.Step f (Turn k)) ∷ entries) = events_noted id (n + 1) entries
 events_noted id n (entry.Item (item.Step f (Ask k)) ∷ entries) = events_noted id (n + 1) entries
+events_noted id n (entry.Item (item.Step f (Close k)) ∷ entries) = events_noted id (n + 1) entries
 events_noted id n (entry.Item (item.BadLine k) ∷ entries) = events_noted id (n + 1) entries
 events_noted id n (entry.Item item.EndOfText ∷ entries) = events_noted id (n + 1) entries
 events_noted id n (entry.Skipped ∷ entries) = events_noted id (n + 1) entries

@@ -51,6 +51,7 @@ fn staged_step(format: Format, step: Step) -> Staged
         },
         Step::Ask { id } => Staged::Other(Some(Item::Step(format, Step::Ask { id }))),
         Step::Turn { id } => Staged::Other(Some(Item::Step(format, Step::Turn { id }))),
+        Step::Close { id } => Staged::Other(Some(Item::Step(format, Step::Close { id }))),
         Step::Put { text } => Staged::Other(Some(Item::Step(format, Step::Put { text }))),
         Step::Withdraw { name } => {
             Staged::Other(Some(Item::Step(format, Step::Withdraw { name })))
