@@ -57,6 +57,7 @@ fn staged_step(format: Format, step: Step) -> Staged
         Step::Open { id, name: _name } => Staged::Opening { id },
         Step::Ask { id: _id } => Staged::Other(Passing::Line),
         Step::Turn { id: _id } => Staged::Other(Passing::Line),
+        Step::Close { id: _id } => Staged::Other(Passing::Line),
         Step::Put { text } => Staged::Other(Passing::Put(format, text)),
         Step::Withdraw { name: _name } => Staged::Other(Passing::Line),
         Step::Profile { profile: _profile } => Staged::Other(Passing::Line),
