@@ -27,6 +27,7 @@ const NAMES: &[&str] = &[
     "called-protocol",
     "changed-back",
     "withdrawn",
+    "closed",
     "unmergeable",
     "turns",
     "json",
@@ -56,6 +57,7 @@ const ROWS: &[(&str, &[Call], &[Way])] = &[
     ("called-protocol", rows::CALLED_PROTOCOL, EACH_WAY),
     ("changed-back", rows::CHANGED_BACK, EACH_WAY),
     ("withdrawn", rows::WITHDRAWN, EACH_WAY),
+    ("closed", rows::CLOSED, EACH_WAY),
     ("unmergeable", rows::UNMERGEABLE, EACH_WAY),
     (
         "json",

@@ -97,6 +97,33 @@ pub(crate) const WITHDRAWN: &[Call] = &[
     ("turn 1", "1 permitted"),
 ];
 
+/// Conversations that are closed: a complete one, one whose protocol changed, and one whose protocol was withdrawn.
+pub(crate) const CLOSED: &[Call] = &[
+    (PUT_DEMO, "put demo: +demo.Hello"),
+    ("open 1 demo.Hello", "open 1: demo.Hello"),
+    ("open 2 demo.Hello", "open 2: demo.Hello"),
+    ("join 1 A", "1.1 permitted"),
+    ("join 1 B", "1.2 permitted"),
+    ("send 1 A B hello()", "1.3 permitted"),
+    ("recv 1 A B hello()", "1.4 permitted"),
+    ("send 1 B A bye()", "1.5 permitted"),
+    ("recv 1 B A bye()", "1.6 permitted"),
+    ("join 2 A", "2.1 permitted"),
+    ("send 2 A B hello()", "2.2 permitted"),
+    ("close 1", "close 1: complete"),
+    ("ask 1", "refused NoConversation"),
+    ("close 1", "refused NoConversation"),
+    ("open 1 demo.Hello", "open 1: demo.Hello"),
+    ("ask 2", "2 permitted"),
+    (PUT_DEMO_INT, "put demo: ~demo.Hello"),
+    (
+        "close 2",
+        "close 2: offence at 2 by A, allowed: B!hello(Int)",
+    ),
+    ("withdraw demo", "withdraw demo: -demo.Hello"),
+    ("close 1", "close 1: withdrawn"),
+];
+
 /// A choice that its third role doesn't project.
 pub(crate) const UNMERGEABLE: &[Call] = &[(
     "put module m; global protocol P(role A, role B, role C) {\nchoice at A { ok() from A to B; ok() from A to C; } or { quit() from A to B; quit() from A to C; } }",
@@ -139,6 +166,10 @@ pub(crate) const OFFENCE_IN_JSON: &[Call] = &[
     (
         "json ask 1",
         "{\"allowed\":[\"B!hello()\"],\"at\":3,\"by\":\"A\",\"conversation\":1,\"events\":3,\"protocol\":\"demo.Hello\",\"verdict\":\"offence\"}",
+    ),
+    (
+        "json close 1",
+        "{\"allowed\":[\"B!hello()\"],\"at\":3,\"by\":\"A\",\"closed\":\"demo.Hello\",\"complete\":false,\"conversation\":1,\"events\":3,\"verdict\":\"offence\"}",
     ),
 ];
 
