@@ -1,5 +1,5 @@
 -- The reply of a service to a step of a connection (this project's own).
-use Rattle.std.specs.Prelude.{◌≡◌, ℕ, List, Result, IfOk, IfErr, OnOk}
+use Rattle.std.specs.Prelude.{◌≡◌, ℕ, Bool, true, false, List, Result, IfOk, IfErr, OnOk}
 use Rattle.scrib_types.specs.declared.event.Told.{Told}
 use Rattle.scrib_library.specs.declared.changes.Changes.{Changes}
 use Rattle.scrib_library.specs.declared.fault.EditFault.{EditFault}
@@ -15,8 +15,19 @@ use Rattle.scrib_client.specs.declared.service_reply.ServiceReply.{ServiceReply}
 use Rattle.scrib_client.specs.ServiceReplies.{edit_reply, profile_reply, open_reply, noted_reply, turn_reply, ask_reply}
 use Rattle.scrib_client.specs.ConnectionPasses.{pass_of, IsNoteRefused, IsAskRefused}
 
+-- whether the step closes a conversation
+abbrev pub is_close : Step → Bool
+is_close (step.Put text) = false
+is_close (step.Withdraw name) = false
+is_close (step.Profile p) = false
+is_close (step.Open id name) = false
+is_close (step.Note id e) = false
+is_close (step.Turn id) = false
+is_close (step.Ask id) = false
+is_close (step.Close id) = true
+
 -- The reply is that of the service to the step, over some library and shard. A note and a question are made by the pass
--- of their conversation.
+-- of their conversation. A connection makes no close.
 abbrev pub IsMadeSome : List (ℕ × PassHeld) → Step → ServiceReply → Type 0
 IsMadeSome kept (step.Put text) a =
     (r : Result Changes EditFault) × (a ≡ edit_reply edit.Put r)
@@ -39,3 +50,4 @@ IsMadeSome kept (step.Turn id) a =
 IsMadeSome kept (step.Ask id) a =
     (r : Result Told PassRefusal) × (a ≡ ask_reply id r)
     × IfOk r (IsAskedSome (pass_of kept id)) × IfErr r (IsAskRefused id (pass_of kept id))
+IsMadeSome kept (step.Close id) a = ⊥

@@ -1,6 +1,7 @@
 //! Makes the steps of a connection.
 
-ghost use Rattle.scrib_client.specs.Steps.{IsMadeSome};
+ghost use Rattle.std.specs.Prelude.{◌≡◌, false};
+ghost use Rattle.scrib_client.specs.Steps.{IsMadeSome, is_close};
 
 use crate::passes::Passes;
 use crate::service_reply::{ServiceReply, asked, edited, judged, noted, profiled, refused};
@@ -12,8 +13,10 @@ use std::sync::Wait;
 
 /// Makes the step over the service, and returns its reply.
 ///
-/// A note and a question are made by the pass of their conversation. Connects first where there is no pass.
+/// A note and a question are made by the pass of their conversation. Connects first where there is no pass. The step
+/// closes no conversation: a close needs the passes of all connections to the conversation.
 pub fn make_step(rt: &impl Wait, service: &Service, passes: &mut Passes, step: Step) -> ServiceReply
+    requires { is_close step ≡ false }
     ensures { IsMadeSome passes.old.by_id.entries step result }
 {
     match step {
@@ -27,5 +30,6 @@ pub fn make_step(rt: &impl Wait, service: &Service, passes: &mut Passes, step: S
         Step::Note { id, event } => noted(id, passes.note(rt, service, id, event)),
         Step::Turn { id } => judged(id, service.turn(rt, id, &OpenGate)),
         Step::Ask { id } => asked(id, passes.ask(rt, service, id)),
+        Step::Close { .. } => unreachable!(),
     }
 }

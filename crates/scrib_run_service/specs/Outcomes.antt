@@ -51,16 +51,21 @@ count_one n x = if is_note x then min (n + 1) (2 ^ 64 - 1) else n
 abbrev pub count_all : ℕ → List Outcome → ℕ
 count_all n outcomes = fold count_one n outcomes
 
--- whether the step is not made, but reported as a bad line: a turn or a question whose line asks for JSON
+-- whether a line asks for JSON
+abbrev pub is_json : Format → Bool
+is_json format.Line = false
+is_json format.Json = true
+
+-- whether the step is not made, but reported as a bad line: a close, and a turn or a question whose line asks for JSON
 abbrev pub is_bad_step : Format → Step → Bool
-is_bad_step format.Line s = false
-is_bad_step format.Json (step.Put text) = false
-is_bad_step format.Json (step.Withdraw name) = false
-is_bad_step format.Json (step.Profile p) = false
-is_bad_step format.Json (step.Open id name) = false
-is_bad_step format.Json (step.Note id e) = false
-is_bad_step format.Json (step.Turn id) = true
-is_bad_step format.Json (step.Ask id) = true
+is_bad_step f (step.Put text) = false
+is_bad_step f (step.Withdraw name) = false
+is_bad_step f (step.Profile p) = false
+is_bad_step f (step.Open id name) = false
+is_bad_step f (step.Note id e) = false
+is_bad_step f (step.Turn id) = is_json f
+is_bad_step f (step.Ask id) = is_json f
+is_bad_step f (step.Close id) = true
 
 -- the reply to a note of the event by some pass, over some library and records
 abbrev pub IsReplySome : Event → Result Noted PassRefusal → Type 0

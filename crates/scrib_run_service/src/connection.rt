@@ -118,10 +118,10 @@ impl<'a> Connection<'a> {
 
     /// Makes the step of an item, which is at this line of the script, and appends the line of its reply.
     ///
-    /// For a bad line, and for an end inside a module text, it appends the line that reports this. A turn or a question
-    /// whose line asks for JSON is a bad line. Events of one conversation that follow one another are noted together,
-    /// so that the service's locks are taken once for many: all but the first are buffered. `flush` notes those that are
-    /// left.
+    /// For a bad line, and for an end inside a module text, it appends the line that reports this. A close is a bad
+    /// line, and so is a turn or a question whose line asks for JSON. Events of one conversation that follow one another
+    /// are noted together, so that the service's locks are taken once for many: all but the first are buffered. `flush`
+    /// notes those that are left.
     ///
     /// # Errors
     /// `OutOfMemory` where memory is refused.
@@ -316,7 +316,8 @@ impl<'a> Connection<'a> {
         ensures fault { IfErr result (λ e. e ≡ fault.OutOfMemory) }
     {
         match item {
-            Item::Step(Format::Json, Step::Turn { .. } | Step::Ask { .. }) => self.append_bad_line(
+            Item::Step(_, Step::Close { .. })
+            | Item::Step(Format::Json, Step::Turn { .. } | Step::Ask { .. }) => self.append_bad_line(
                 number,
             ),
             Item::Step(asked, step) => self.make(rt, asked, step),
