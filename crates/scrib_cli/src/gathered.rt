@@ -26,7 +26,7 @@ use std::alloc::{AllocError, Global};
 use std::io::Write;
 
 // The number of gathered bytes past which they are written.
-const FULL_BYTES: usize = 65_536;
+const FULL_BYTES: usize = 32_768;
 
 /// Texts that are to be written, in their order.
 #[derive(Drop)]
@@ -169,7 +169,7 @@ impl Gathered {
         written
     }
 
-    /// Writes all texts and drops them, where they have more than 65,536 bytes.
+    /// Writes all texts and drops them, where they have more than 32,768 bytes.
     ///
     /// # Errors
     /// `Write` where the writer fails. A prefix of the texts is then written, and all are dropped.

@@ -6,8 +6,10 @@ use crate::text_hash::text_hash;
 use scrib_types::bytes::same_bytes;
 use std::alloc::{AllocError, Global};
 
-// The number of slots. The hash of a text selects its slot by ten bits.
-const SLOTS: usize = 1024;
+// The slots that a cache begins with, and the most that it has. Both are powers of two.
+const FIRST_SLOTS: usize = 16;
+
+const MAX_SLOTS: usize = 1024;
 
 // The most bytes of a text that is cached.
 const MAX_KEPT_BYTES: usize = 256;
@@ -28,7 +30,8 @@ struct Entry<T: Spelled> {
 }
 
 // A cache of values by their texts. The lines of a script repeat few texts, so most values are found here and shared.
-// A new value replaces the one in its slot.
+// A new value replaces the one in its slot. The slots are doubled first while another text is there. What then lies in a
+// slot that isn't its own is not found any more.
 #[derive(Drop)]
 pub(crate) struct TextCache<T: Spelled> {
     alloc: Global,
@@ -53,7 +56,7 @@ impl<T: Spelled> TextCache<T> {
     pub fn find(&self, text: &[u8]) -> Option<&T>
         ensures { IfSome result (λ value. T.spells text.now value.now) }
     {
-        let Some(Some(entry)) = self.slots.get(slot_of(text)) else {
+        let Some(Some(entry)) = self.slots.get(self.slot_of(text)) else {
             return None;
         };
         if !same_bytes(entry.text.as_slice(), text) {
@@ -69,21 +72,33 @@ impl<T: Spelled> TextCache<T> {
         if text.len() > MAX_KEPT_BYTES {
             return Ok(());
         }
-        if self.slots.is_empty() {
-            self.slots.resize_with(SLOTS, || None)?;
-        }
+        self.make_room(text)?;
         let entry = Entry {
             text: text.to_vec(self.alloc)?,
             value,
         };
-        if let Some(slot) = self.slots.get_mut(slot_of(text)) {
+        let at = self.slot_of(text);
+        if let Some(slot) = self.slots.get_mut(at) {
             *slot = Some(entry);
         }
         Ok(())
     }
-}
 
-// The slot of a text: the upper ten bits of its hash.
-fn slot_of(text: &[u8]) -> usize {
-    (text_hash(text) >> 54) as usize
+    // Makes the first slots, or twice as many where a value is in the slot of this text.
+    fn make_room(&mut self, text: &[u8]) -> Result<(), AllocError> {
+        let count = self.slots.len();
+        if count == 0 {
+            return self.slots.resize_with(FIRST_SLOTS, || None);
+        }
+        if count < MAX_SLOTS && matches!(self.slots.get(self.slot_of(text)), Some(Some(_))) {
+            return self.slots.resize_with(2 * count, || None);
+        }
+        Ok(())
+    }
+
+    // The slot of a text among as many as there are: some of the upper ten bits of its hash.
+    #[inline(always)]
+    fn slot_of(&self, text: &[u8]) -> usize {
+        (text_hash(text) >> 54) as usize & self.slots.len().saturating_sub(1)
+    }
 }
