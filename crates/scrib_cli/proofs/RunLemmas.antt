@@ -34,7 +34,7 @@ use Rattle.scrib_script_io.specs.Writes.{AppendsPart}
 use Rattle.scrib_script_io.proofs.WriterLemmas.{appends_none, appends_more}
 
 -- any step may be refused memory
-refuses_memory : (w : World) (s : Step) → Refuses w s OutOfMemory
+pub refuses_memory : (w : World) (s : Step) → Refuses w s OutOfMemory
 refuses_memory w (Put text) = tt
 refuses_memory w (Withdraw name) = tt
 refuses_memory w (step.Profile p) = tt
@@ -45,7 +45,7 @@ refuses_memory w (Ask id) = tt
 refuses_memory w (Close id) = tt
 
 -- any steps have replies, by which each is refused memory
-abbrev refused : List Step → List Reply
+abbrev pub refused : List Step → List Reply
 refused [] = []
 refused (s ∷ ss) = Refused OutOfMemory ∷ refused ss
 

@@ -67,10 +67,12 @@ impl Gathered {
         self.bytes.extend_from_slice(self.buffer.as_slice())
     }
 
-    // Adds the reply to a note in the conversation `id` with this outcome, in this format. Where memory is refused, the
-    // texts stay as they were.
+    /// Adds the reply to a note in the conversation `id` with this outcome, in this format.
+    ///
+    /// # Errors
+    /// `AllocError` where memory is refused. The texts stay as they were.
     #[inline(always)]
-    pub(crate) fn add_noted(
+    pub fn add_noted(
         &mut self,
         id: u32,
         noted: Result<Noted, Refusal>,
@@ -144,9 +146,12 @@ impl Gathered {
         }
     }
 
-    // Adds the reply in this format. Where memory is refused, the texts stay as they were.
+    /// Adds the reply in this format.
+    ///
+    /// # Errors
+    /// `AllocError` where memory is refused. The texts stay as they were.
     #[inline(never)]
-    pub(crate) fn add_reply(&mut self, reply: &Reply, format: Format) -> Result<(), AllocError>
+    pub fn add_reply(&mut self, reply: &Reply, format: Format) -> Result<(), AllocError>
         ensures ok { OnOk result (self.new.bytes.items ≡ self.old.bytes.items ++ reply_text format reply.now) }
         ensures err { OnErr result (self.new.bytes.items ≡ self.old.bytes.items) }
     {
