@@ -388,3 +388,9 @@ counted_after e old mid new same counted = record {
 
 pub kept_after : (old mid new : List Flight) → KeepsFlights old mid → KeepsFlights mid new → KeepsFlights old new
 kept_after old mid new k l = record { has = λ e h. l.has e (k.has e h); distinct = λ d. l.distinct (k.distinct d) }
+
+-- an event that has its flight at a place has one
+pub has_at : (e : Event) (fs : List Flight) (i : ℕ) → IsFlightOf e fs i → HasFlight fs e
+has_at (Join r) fs i at = tt
+has_at (Sent p q m) fs i at = found_has p q fs i at
+has_at (Received p q m) fs i at = found_has p q fs i at

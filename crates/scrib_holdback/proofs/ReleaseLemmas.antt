@@ -1,5 +1,5 @@
 -- Releases one by one are releases by the rule.
-use Rattle.std.proofs.Common.{◌≡◌, ◌⊎◌, inl, inr, Bool, true, false, cond, ℕ, ◌+◌, ◌<◌, List, [], ◌∷◌, ◌++◌, map, length, length-append, All, get_or, drop, slice_get, Some, refl, sym, ap, ◌∙◌, subst, append_assoc, append-nil, arith}
+use Rattle.std.proofs.Common.{◌≡◌, ◌⊎◌, inl, inr, Bool, true, false, cond, ℕ, ◌+◌, ◌<◌, List, [], ◌∷◌, ◌++◌, map, length, length-append, All, get_or, drop, slice_get, Some, Result, Ok, Err, OnErr, OnOk, refl, sym, ap, ◌∙◌, subst, append_assoc, append-nil, arith}
 use Rattle.std.specs.Str.{bytes_eq}
 use Rattle.std.proofs.lemmas.Bool.{true≢false, cases_Bool, and_right, or_cases}
 use Rattle.std.proofs.lemmas.List.{map-append, drop_more, drop-append-le, drop_at}
@@ -10,9 +10,9 @@ use Rattle.scrib_types.specs.Logs.{subject_of}
 use Rattle.scrib_types.specs.Queues.{sent}
 use Rattle.scrib_holdback.specs.declared.flights.Flight.{Flight}
 use Rattle.scrib_holdback.specs.Reorderings.{is_own, own_events}
-use Rattle.scrib_holdback.specs.HoldBack.{MayHappen, IsReleasable, IsQuiescent, HoldsWithExpiries, begins, arrives, releases}
-use Rattle.scrib_holdback.specs.Holdings.{Holding, sent_on, received_on, AreCounts, IsAfter, IsPushed}
-use Rattle.scrib_holdback.specs.Releases.{IsReceivable, CountsEvent, SameCounts, own_items, HasDue, IsNextArrival, IsQuiet, IsQuietAt, IsAppended, PassesAtOnce, IsTakenOut, IsReleasedFirst, IsTakenOnto, IsDrained, Releases, nothing, one_more, is_send_to, sends_to, OnlyReceivers}
+use Rattle.scrib_holdback.specs.HoldBack.{MayHappen, IsReleasable, IsQuiescent, HoldsWithExpiries, IsHeldWithExpiries, begins, arrives, releases}
+use Rattle.scrib_holdback.specs.Holdings.{Holding, sent_on, received_on, AreCounts, IsAfter, IsPushed, IsSameAfterAny}
+use Rattle.scrib_holdback.specs.Releases.{IsReceivable, CountsEvent, SameCounts, own_items, HasDue, IsNextArrival, IsQuiet, IsQuietAt, IsAppended, IsSameHolding, PassesAtOnce, IsTakenOut, IsReleasedFirst, IsTakenOnto, IsDrained, Releases, nothing, one_more, is_send_to, sends_to, OnlyReceivers}
 use Rattle.scrib_holdback.proofs.OwnEvents.{kept_after, name_itself, same_name}
 use Rattle.scrib_holdback.proofs.CausalOrders.{sent_more, received_more}
 use Rattle.scrib_holdback.proofs.Outcomes.{no_item}
@@ -393,3 +393,30 @@ only_after_drain event items now n place x e old new within at is d role quiet =
 pub only_after_none : {A : Type 0} (event : A → Event) (items : List A) (n : ℕ) (x : A) (e : Event) (h : Holding A) → n < length items → x ≡ get_or items n x → e ≡ event x → ((r : List ℕ) → is_send_to r e ≡ true → HasDue event r h → ⊥) → OnlyReceivers event (drop n items) h → OnlyReceivers event (drop (n + 1) items) h
 only_after_none event items n x e h within at is done =
     only_next event items items [] n x h h within at (sym (append-nil items)) nothing (λ r to. done r (ap (is_send_to r) is ∙ to))
+
+-- pairs and roles that were added change nothing
+pub same_after : {A : Type 0} (event : A → Event) (old new : Holding A) → IsSameHolding old new → IsSameAfterAny event old new
+same_after event old new same arrivals released expired h = record {
+  held = subst (λ z. IsHeldWithExpiries event arrivals released expired z) (sym same.waiting) h.held;
+  counts = record {
+    sends = λ p q. same.counts.sends p q ∙ h.counts.sends p q;
+    receptions = λ p q. same.counts.receptions p q ∙ h.counts.receptions p q;
+  };
+}
+
+-- a push after pairs and roles were added
+pushes_met : {A : Type 0} (event : A → Event) (x : A) (old mid new : Holding A) (released now : List A) → IsSameHolding old mid → IsPushed event x mid new released now → IsPushed event x old new released now
+pushes_met event x old mid new released now same k = record {
+  given = k.given;
+  appended = k.appended;
+  after = λ arrivals earlier expired h. k.after arrivals earlier expired (same_after event old mid same arrivals earlier expired h);
+}
+
+-- the same where the push succeeds, and where it fails
+pub pushes_if_ok : {A T E : Type 0} (event : A → Event) (x : A) (old mid new : Holding A) (released now : List A) (r : Result T E) → IsSameHolding old mid → OnOk r (IsPushed event x mid new released now) → OnOk r (IsPushed event x old new released now)
+pushes_if_ok event x old mid new released now (Ok y) same k = pushes_met event x old mid new released now same k
+pushes_if_ok event x old mid new released now (Err e) same k = tt
+
+pub same_if_err : {A T E : Type 0} (event : A → Event) (old mid new : Holding A) (r : Result T E) → IsSameHolding old mid → OnErr r (IsSameAfterAny event mid new) → OnErr r (IsSameAfterAny event old new)
+same_if_err event old mid new (Ok y) same k = tt
+same_if_err event old mid new (Err e) same k = λ arrivals released expired h. k arrivals released expired (same_after event old mid same arrivals released expired h)

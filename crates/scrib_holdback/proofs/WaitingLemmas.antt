@@ -375,3 +375,14 @@ none_first {A} event lanes slots pushed place r (Some p) false l at f e =
       λ y. absurd (true≢false (sym y)),
       λ none. (let clash : ◌≡◌ {A = List A} [] (k.x ∷ k.first.others) = sym none ∙ ap (λ s. own_items event s (waiting_items slots)) same ∙ k.first.first in absurd (cc)),
     )
+
+-- the same for the role at the lane's place, if there is a lane
+pub empty_at : {A : Type 0} (event : A → Event) (lanes : List Lane) (slots : List (Option A)) (pushed place : ℕ) (o : Option ℕ) (none : Bool) → AreLaid event (lane_roles lanes) (positions_at lanes) slots pushed → HasFirst (positions_at lanes place) o → is_some o ≡ not none → (none ≡ true) ↔ HasNone event place record { roles = lane_roles lanes; items = waiting_items slots; pushed = pushed }
+empty_at event lanes slots pushed place None true l f e = (λ y r at. lane_empty event lanes slots pushed place l f r at, λ y. refl)
+empty_at event lanes slots pushed place None false l f e = absurd (true≢false (sym e))
+empty_at event lanes slots pushed place (Some p) true l f e = absurd (true≢false e)
+empty_at {A} event lanes slots pushed place (Some p) false l f e =
+    let k = first_item event lanes slots pushed place p f.0 l f.1 in (
+      λ y. absurd (true≢false (sym y)),
+      λ none. (let clash : ◌≡◌ {A = List A} [] (k.x ∷ k.first.others) = sym (none (subject_of (event k.x)) k.first.role) ∙ k.first.first in absurd (cc)),
+    )

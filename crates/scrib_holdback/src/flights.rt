@@ -1,7 +1,6 @@
 //! How many messages were sent and received on each pair of roles.
 
-ghost use Rattle.std.specs.Prelude.{◌≡◌, ◌<◌, ◌+◌, ◌^◌, ◌↔◌, ℕ, List, IsTrue, IsSome, IsNone, IfOk, IfSome, MatchOption, OnErr, OnOk, None, Some, position};
-ghost use Rattle.std.specs.List.{list_any};
+ghost use Rattle.std.specs.Prelude.{◌≡◌, ◌<◌, ◌+◌, ◌^◌, ◌↔◌, ℕ, List, IsTrue, IsSome, IsNone, IfOk, IfSome, MatchOption, OnErr, None, Some, position};
 ghost use Rattle.scrib_holdback.specs.Holdings.{is_between, received_on, sent_on};
 ghost use Rattle.scrib_holdback.specs.Releases.{AreDistinctFlights, CountsEvent, HasFlight, IsFlightOf, IsPairAt, IsReceivable, KeepsFlights, SameCounts};
 
@@ -55,7 +54,7 @@ pub(crate) fn reserve(
     requires { AreDistinctFlights flights.old.items }
     ensures same { SameCounts flights.old.items flights.new.items }
     ensures kept { KeepsFlights flights.old.items flights.new.items }
-    ensures made { OnOk result (HasFlight flights.new.items event.now) }
+    ensures made { IfOk result (IsFlightOf event.now flights.new.items) }
 {
     match event {
         Event::Sent { from, to, .. } | Event::Received { from, to, .. } => {
@@ -158,9 +157,9 @@ fn flight_of(flights: &[Flight], hint: usize, event: &Event) -> Option<usize>
     }
 }
 
-// Whether the event, whose flight is at this index, may happen next.
+/// Whether the event, whose flight is at this index, may happen next.
 #[inline(always)]
-fn is_ready_at(flights: &[Flight], place: usize, event: &Event) -> bool
+pub(crate) fn is_ready_at(flights: &[Flight], place: usize, event: &Event) -> bool
     requires { IsFlightOf event.now flights.now place }
     ensures { IsTrue result ↔ IsReceivable flights.now event.now }
 {
@@ -240,7 +239,7 @@ fn reserve_pair(
     requires { AreDistinctFlights flights.old.items }
     ensures same { SameCounts flights.old.items flights.new.items }
     ensures kept { KeepsFlights flights.old.items flights.new.items }
-    ensures made { OnOk result (IsTrue (list_any (is_between from.now to.now) flights.new.items)) }
+    ensures made { IfOk result (λ place. position (is_between from.now to.now) flights.new.items ≡ Some place) }
 {
     if let Some(place) = place_of(flights, hint, from, to) {
         return Ok(place);

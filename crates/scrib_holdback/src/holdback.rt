@@ -1,14 +1,17 @@
 //! A holdback: what arrives waits until it may have happened.
 
 ghost use Rattle.std.specs.Prelude.{◌≡◌, ◌+◌, ◌<◌, ◌≤◌, ◌++◌, ◌∷◌, ◌↔◌, ℕ, true, List, [], IfOk, IsFalse, IsTrue, OnOk, OnErr, MatchOption, Some, drop, length, map, slice_get, vec_capacity, vec_len};
+ghost use Rattle.scrib_types.specs.Logs.{subject_of};
 ghost use Rattle.scrib_holdback.specs.FalseAlarms.{RaisesNoFalseAlarm};
 ghost use Rattle.scrib_holdback.specs.HoldBack.{IsHeldBack};
 ghost use Rattle.scrib_holdback.specs.Holdings.{IsAfter, IsExpired, IsOldestWaiting, IsPushed, IsSameAfterAny, PassesAlone};
-ghost use Rattle.scrib_holdback.specs.Releases.{HasDue, IsAppended, IsApart, IsDrained, IsDueAt, IsNextArrival, IsOldestOfRole, PassesAtOnce, IsQuiet, IsQuietAt, IsReceivable, IsSameHolding, IsTakenOnto, OnlyReceivers, WaitsAt, is_send_to, own_items};
+ghost use Rattle.scrib_holdback.specs.Releases.{HasDue, IsAppended, IsApart, IsDrained, IsDueAt, IsFlightOf, IsNextArrival, IsOldestOfRole, PassesAtOnce, IsQuiet, IsQuietAt, IsReceivable, IsSameHolding, IsTakenOnto, OnlyReceivers, WaitsAt, is_send_to, own_items};
 ghost use Rattle.scrib_holdback.specs.Reorderings.{IsReordering};
 
 use crate::arrival::Arrival;
-use crate::flights::{Flight, count, count_at, count_ready, is_ready, ready_flight, reserve};
+use crate::flights::{
+    Flight, count, count_at, count_ready, is_ready, is_ready_at, ready_flight, reserve,
+};
 use crate::lane_hints::LaneHints;
 use crate::pair_hints::PairHints;
 use crate::waiting::Waiting;
@@ -16,6 +19,13 @@ use scrib_types::event::Event;
 use scrib_types::shared_event::SharedEvent;
 use std::alloc::{AllocError, Global};
 use std::marker::Model;
+
+// Where the pair of an event is among the flights, and its role among the lanes. Any index is that of a join's pair.
+#[derive(Clone, Copy)]
+struct Places {
+    pair: usize,
+    lane: usize,
+}
 
 /// Holds arrivals of one conversation back. An arrival is released once it is the first of its role that waits, and
 /// is a join, a send, or the reception of a message that a released send sent. What was released, and then what still
@@ -25,7 +35,7 @@ use std::marker::Model;
 /// Who can't wait for ever releases the oldest arrival as it is, though it may not have happened yet: it expires. What
 /// is said of false alarms then holds no more. But of each role the arrivals are still in their order.
 ///
-/// Contracts see the roles that had to wait, what waits, and how many messages were sent and received on each pair.
+/// Contracts see the roles that were met, what waits, and how many messages were sent and received on each pair.
 #[derive(Drop)]
 pub struct Holdback<A: Arrival> {
     waiting: Waiting<A>,
@@ -64,8 +74,8 @@ impl<A: Arrival> Holdback<A> {
 
     /// Takes the next arrival by its event alone, if it is released at once and nothing waits of its role, nor of the role
     /// that it is sent to. The arrival isn't moved. Returns whether it is so. If not, nothing changes, and
-    /// [`Holdback::push`] has to take the arrival. It returns `false` also where memory is refused, and where the arrival
-    /// is the first message on its pair while something waits.
+    /// [`Holdback::push`] has to take the arrival. It returns `false` also where memory is refused. So it does while
+    /// something waits, where the arrival is the first on its pair, or no hint leads to the lane of a role of the pair.
     #[inline(always)]
     pub fn try_pass(&mut self, event: &SharedEvent) -> bool
         ensures passed { IsTrue result → PassesAlone A.event event.now self.old self.new }
@@ -92,14 +102,10 @@ impl<A: Arrival> Holdback<A> {
         ensures err { OnErr result (IsSameAfterAny A.event self.old self.new) }
         ensures err_released { OnErr result (released.new.items ≡ released.old.items) }
     {
-        if !self.is_next(arrival.event()) {
-            self.hold(arrival)?;
-            return Ok(());
+        if self.waiting.is_idle() {
+            return self.push_idle(arrival, released);
         }
-        let start = released.len();
-        self.pass(arrival, released)?;
-        self.drain_receivers(start, released);
-        Ok(())
+        self.push_among(arrival, released)
     }
 
     /// The arrival that has waited longest.
@@ -179,15 +185,13 @@ impl<A: Arrival> Holdback<A> {
     }
 
     // Whether nothing waits of the event's role, nor of the role that it is sent to. The flight may be any index. Where
-    // it is that of the event's pair, the roles are found at once. So it is in the functions below.
+    // it is that of the event's pair, the roles are found at once. So it is in the functions below. They look no further,
+    // since an arrival that is pushed renews the hints.
     #[inline(always)]
     fn is_apart(&self, flight: usize, event: &Event) -> bool
         ensures { IsTrue result → IsApart A.event event.now self.now }
     {
-        self.has_idle_receiver(flight, event)
-            && self
-                .waiting
-                .has_none(self.lane_hints.subject(flight, event), event.subject())
+        self.has_idle_receiver(flight, event) && self.has_idle_subject(flight, event)
     }
 
     // Whether nothing waits of the role that the event is sent to. Only a send is sent.
@@ -197,8 +201,24 @@ impl<A: Arrival> Holdback<A> {
             → own_items A.event r self.now.waiting ≡ [] }
     {
         match event {
-            Event::Sent { to, .. } => self.waiting.has_none(self.lane_hints.receiver(flight), to),
+            Event::Sent { to, .. } => self
+                .waiting
+                .has_none_at(self.lane_hints.receiver(flight), to),
             Event::Join { .. } | Event::Received { .. } => true,
+        }
+    }
+
+    // Whether nothing waits of the event's role. There is no hint for a join.
+    #[inline(always)]
+    fn has_idle_subject(&self, flight: usize, event: &Event) -> bool
+        ensures { IsTrue result → own_items A.event (subject_of event.now) self.now.waiting ≡ [] }
+    {
+        let hint = self.lane_hints.subject(flight, event);
+        match event {
+            Event::Join { .. } => self.waiting.has_none(hint, event.subject()),
+            Event::Sent { .. } | Event::Received { .. } => {
+                self.waiting.has_none_at(hint, event.subject())
+            }
         }
     }
 
@@ -217,15 +237,6 @@ impl<A: Arrival> Holdback<A> {
         self.lane_hints.subject(self.hints.hint(event), event.get())
     }
 
-    // Whether an arrival with this event is released at once.
-    fn is_next(&self, event: &SharedEvent) -> bool
-        ensures { IsTrue result ↔ IsNextArrival A.event event.now self.now }
-    {
-        self.waiting
-            .has_none(self.subject_hint(event), event.get().subject())
-            && self.is_ready(event)
-    }
-
     // Whether an arrival with this event may happen next.
     fn is_ready(&self, event: &SharedEvent) -> bool
         ensures { IsTrue result ↔ IsReceivable self.now.flights event.now }
@@ -233,26 +244,94 @@ impl<A: Arrival> Holdback<A> {
         is_ready(&self.flights, self.hints.hint(event), event.get())
     }
 
-    // Puts the arrival behind what waits.
-    fn hold(&mut self, arrival: A) -> Result<(), AllocError>
-        ensures ok { OnOk result (IsAppended A.event arrival self.old self.new) }
-        ensures err { OnErr result (IsSameHolding self.old self.new) }
+    // Takes the next arrival, where nothing waits. No lane is added for one that is released at once.
+    fn push_idle(&mut self, arrival: A, released: &mut Vec<A>) -> Result<(), AllocError>
+        ensures ok { OnOk result (IsPushed A.event arrival self.old self.new released.old.items released.new.items) }
+        ensures err { OnErr result (IsSameAfterAny A.event self.old self.new) }
+        ensures err_released { OnErr result (released.new.items ≡ released.old.items) }
     {
-        let shared = arrival.event();
+        released.reserve(1)?;
+        if self.try_pass(arrival.event()) {
+            released.push_reserved(arrival);
+            return Ok(());
+        }
+        self.push_among(arrival, released)
+    }
+
+    // Takes the next arrival, whether something waits or not. Its role gets a lane.
+    fn push_among(&mut self, arrival: A, released: &mut Vec<A>) -> Result<(), AllocError>
+        ensures ok { OnOk result (IsPushed A.event arrival self.old self.new released.old.items released.new.items) }
+        ensures err { OnErr result (IsSameAfterAny A.event self.old self.new) }
+        ensures err_released { OnErr result (released.new.items ≡ released.old.items) }
+    {
+        let places = self.meet(arrival.event())?;
+        self.push_at(places, arrival, released)
+    }
+
+    // Makes room for the counts of the event's pair, and for a lane of its role. Returns where both are.
+    fn meet(&mut self, shared: &SharedEvent) -> Result<Places, AllocError>
+        ensures same { IsSameHolding self.old self.new }
+        ensures pair { IfOk result (λ places. IsFlightOf shared.now self.new.flights places.pair) }
+        ensures lane { IfOk result (λ places. slice_get self.new.roles places.lane ≡ Some (subject_of shared.now)) }
+    {
         let hint = self.hints.hint(shared);
         let event = shared.get();
         let pair = reserve(&mut self.flights, hint, event)?;
         self.hints.renew(shared, hint, pair);
-        let lane = self.lane_hints.subject(pair, event);
-        let place = self.waiting.add_role(lane, event.subject())?;
-        self.lane_hints.keep(pair, event, place);
-        self.waiting.push(place, arrival)?;
+        let hint = self.lane_hints.subject(pair, event);
+        let lane = self.waiting.add_role(hint, event.subject())?;
+        self.lane_hints.renew(pair, event, hint, lane);
+        Ok(Places { pair, lane })
+    }
+
+    // Takes the next arrival, whose pair and role are at these places.
+    fn push_at(
+        &mut self,
+        places: Places,
+        arrival: A,
+        released: &mut Vec<A>,
+    ) -> Result<(), AllocError>
+        requires pair { IsFlightOf (A.event arrival) self.old.flights places.pair }
+        requires lane { slice_get self.old.roles places.lane ≡ Some (subject_of (A.event arrival)) }
+        ensures ok { OnOk result (IsPushed A.event arrival self.old self.new released.old.items released.new.items) }
+        ensures err { OnErr result (IsSameAfterAny A.event self.old self.new) }
+        ensures err_released { OnErr result (released.new.items ≡ released.old.items) }
+    {
+        if !self.is_next(places, arrival.event()) {
+            self.hold(places, arrival)?;
+            return Ok(());
+        }
+        let start = released.len();
+        self.pass(places.pair, arrival, released)?;
+        self.drain_receivers(start, released);
         Ok(())
     }
 
-    // Releases the arrival at once. It makes room for all that may be released then.
-    fn pass(&mut self, arrival: A, released: &mut Vec<A>) -> Result<(), AllocError>
-        requires { IsNextArrival A.event (A.event arrival) self.old }
+    // Whether an arrival with this event is released at once.
+    fn is_next(&self, places: Places, shared: &SharedEvent) -> bool
+        requires pair { IsFlightOf shared.now self.now.flights places.pair }
+        requires lane { slice_get self.now.roles places.lane ≡ Some (subject_of shared.now) }
+        ensures { IsTrue result ↔ IsNextArrival A.event shared.now self.now }
+    {
+        self.waiting.is_empty_at(places.lane)
+            && is_ready_at(&self.flights, places.pair, shared.get())
+    }
+
+    // Puts the arrival behind what waits.
+    fn hold(&mut self, places: Places, arrival: A) -> Result<(), AllocError>
+        requires pair { IsFlightOf (A.event arrival) self.old.flights places.pair }
+        requires lane { slice_get self.old.roles places.lane ≡ Some (subject_of (A.event arrival)) }
+        ensures ok { OnOk result (IsAppended A.event arrival self.old self.new) }
+        ensures err { OnErr result (IsSameHolding self.old self.new) }
+    {
+        self.waiting.push(places.lane, arrival)?;
+        Ok(())
+    }
+
+    // Releases the arrival, whose pair is at this place, at once. It makes room for all that may be released then.
+    fn pass(&mut self, pair: usize, arrival: A, released: &mut Vec<A>) -> Result<(), AllocError>
+        requires next { IsNextArrival A.event (A.event arrival) self.old }
+        requires pair { IsFlightOf (A.event arrival) self.old.flights pair }
         ensures ok { OnOk result (PassesAtOnce A.event arrival self.old self.new) }
         ensures appended { OnOk result (released.new.items ≡ released.old.items ++ arrival ∷ []) }
         ensures room { OnOk result (vec_len released.new + length self.new.waiting ≤ vec_capacity released.new) }
@@ -261,12 +340,7 @@ impl<A: Arrival> Holdback<A> {
     {
         released.reserve(self.waiting.bound() + 1)?;
         self.waiting.skip()?;
-        let shared = arrival.event();
-        let hint = self.hints.hint(shared);
-        let Some(pair) = count_ready(&mut self.flights, hint, shared.get()) else {
-            return Err(AllocError);
-        };
-        self.hints.renew(shared, hint, pair);
+        count_at(&mut self.flights, pair, arrival.event().get());
         released.push_reserved(arrival);
         Ok(())
     }

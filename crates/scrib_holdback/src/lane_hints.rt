@@ -39,8 +39,17 @@ impl LaneHints {
         place_in(&self.receivers, flight)
     }
 
-    /// Keeps the index of the lane of the event's subject. An index past 255 is not kept, and none of a join.
-    pub(crate) fn keep(&mut self, flight: usize, event: &Event, lane: usize) {
+    /// Keeps the index of the lane of the event's subject, where the hint was another. An index past 255 is not kept,
+    /// and none of a join.
+    #[inline(always)]
+    pub(crate) fn renew(&mut self, flight: usize, event: &Event, hint: usize, lane: usize) {
+        if lane != hint {
+            self.keep(flight, event, lane);
+        }
+    }
+
+    // Keeps the index of the lane of the event's subject.
+    fn keep(&mut self, flight: usize, event: &Event, lane: usize) {
         match event {
             Event::Sent { .. } => keep_place(&mut self.senders, flight, lane),
             Event::Received { .. } => keep_place(&mut self.receivers, flight, lane),

@@ -26,9 +26,9 @@ pub(crate) fn find_lane(lanes: &[Lane], hint: usize, role: &Role) -> Option<usiz
     first_lane(lanes, role)
 }
 
-// Whether the lane at this index is the role's.
+/// Whether the lane at this index is the role's.
 #[inline(always)]
-fn is_lane_of(lanes: &[Lane], index: usize, role: &Role) -> bool
+pub(crate) fn is_lane_of(lanes: &[Lane], index: usize, role: &Role) -> bool
     ensures { IsTrue result → slice_get (lane_roles lanes.now) index ≡ Some role.now }
 {
     match lanes.get(index) {

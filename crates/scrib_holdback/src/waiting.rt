@@ -7,7 +7,7 @@ ghost use Rattle.scrib_holdback.specs.Lanes.{HasNone, IsFirstItem, IsSlotSkipped
 ghost use Rattle.scrib_holdback.specs.Releases.{own_items};
 
 use crate::arrival::Arrival;
-use crate::lanes::{Lane, find_lane, first_position, pop_position, push_position};
+use crate::lanes::{Lane, find_lane, first_position, is_lane_of, pop_position, push_position};
 use scrib_types::name::Role;
 use std::alloc::{AllocError, Global};
 use std::collections::VecDeque;
@@ -161,6 +161,22 @@ impl<A: Arrival> Waiting<A> {
         let Some(place) = self.place_of(hint, role) else {
             return true;
         };
+        first_position(&self.lanes, place).is_none()
+    }
+
+    /// Whether the place is the role's, and nothing of it waits.
+    #[inline(always)]
+    pub(crate) fn has_none_at(&self, place: usize, role: &Role) -> bool
+        ensures { IsTrue result → own_items A.event role.now self.now.items ≡ [] }
+    {
+        is_lane_of(&self.lanes, place, role) && self.is_empty_at(place)
+    }
+
+    /// Whether nothing of the role at this place waits.
+    #[inline(always)]
+    pub(crate) fn is_empty_at(&self, place: usize) -> bool
+        ensures { IsTrue result ↔ HasNone A.event place self.now }
+    {
         first_position(&self.lanes, place).is_none()
     }
 

@@ -2,7 +2,7 @@ use Rattle.std.proofs.Common.{◌≡◌, ◌∙◌, false, sym, subst}
 use Rattle.std.proofs.lemmas.Bool.{true≢false}
 use Rattle.scrib_holdback.specs.Releases.{IsNextArrival}
 use Rattle.scrib_holdback.proofs.ReleaseLemmas.{pushes_held, pushes_passed}
-use Rattle.scrib_holdback.proofs.holdback.Holdback.push.Goals as goal
+use Rattle.scrib_holdback.proofs.holdback.Holdback.push_at.Goals as goal
 
 pub returns-then-not-is_next-clause-ok : goal.returns-then-not-is_next-clause-ok
 returns-then-not-is_next-clause-ok g c =
