@@ -78,6 +78,7 @@ NUMBERED = [
     ("12_skewed_clocks/skewed", "files watch --hold 100", "cat 12_skewed_clocks/skewed.script"),
     ("13_stuck/stuck", "files next 1", "./put.sh 02_two_buyer/two_buyer.scr 13_stuck/stuck.script"),
     ("13_stuck/accepted", "files next 1", "./put.sh --reception 07_travel/travel.scr 13_stuck/accepted.script"),
+    ("14_closed/closed", "watch", "./put.sh 01_hello/hello.scr 14_closed/closed.script"),
 ]
 
 
