@@ -23,18 +23,19 @@ PROGRAM = os.path.join(CRATES, "scribmon", "out", "scribmon")
 ROWS = os.path.join(CRATES, "scrib_examples", "out", "scrib_examples")
 NAME = rb"[A-Za-z_][A-Za-z0-9_]*"
 DOTTED = NAME + rb"(\." + NAME + rb")*"
-VERDICT = rb"(stale|permitted|withdrawn|offence at \d+ by " + NAME + rb", allowed: .+)"
+JUDGED_AS = rb"(permitted|withdrawn|offence at \d+ by " + NAME + rb", allowed: .+)"
 LINES = re.compile(
     rb"((put|withdraw) " + DOTTED + rb":( no change|( [-+~]" + DOTTED + rb")+)"
     + rb"|profile (plain|reception)|open \d+: " + DOTTED
-    + rb"|\d+(\.\d+)? " + VERDICT + rb"|refused [A-Za-z]+( " + DOTTED + rb")*( \d+(:\d+)?)?|\{.*\})\Z"
+    + rb"|\d+(\.\d+)? (stale|" + JUDGED_AS + rb")|close \d+: (complete|" + JUDGED_AS + rb")"
+    + rb"|refused [A-Za-z]+( " + DOTTED + rb")*( \d+(:\d+)?)?|\{.*\})\Z"
 )
 JUDGED = re.compile(rb"(\d+) of (\d+) verdicts are those on the whole logs")
 PIECES = [
-    b"{", b"}", b"(", b")", b";", b",", b"or", b"choice at A", b"rec X", b"continue X;", b"A", b"B", b"a() from A to B;",
-    b'"x"', b"//", b"/*", b"*/", b"\r", b"\n", b"%%\n", b"put\n", b"json ", b"withdraw ", b"turn 1\n", b"ask 1\n",
-    b"profile plain\n", b"profile reception\n", b"\xff", b"\x00", b"import ", b"module ", b".", b"99999999999", b" ",
-    b"\t", b"#",
+    b"{", b"}", b"(", b")", b";", b",", b"or", b"choice at A", b"rec X", b"continue X;", b"A", b"B",
+    b"a() from A to B;", b'"x"', b"//", b"/*", b"*/", b"\r", b"\n", b"%%\n", b"put\n", b"json ", b"withdraw ",
+    b"turn 1\n", b"ask 1\n", b"close 1\n", b"profile plain\n", b"profile reception\n", b"\xff", b"\x00", b"import ",
+    b"module ", b".", b"99999999999", b" ", b"\t", b"#",
 ]
 
 

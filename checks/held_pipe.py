@@ -27,7 +27,8 @@ WATCHED = [
     (b"send 1 A B hello()\n", b"1.3 permitted\n"),
     (b"json ask 1\n", b'{"conversation":1,"events":3,"protocol":"demo.Hello","verdict":"permitted"}\n'),
     (b"recv 1 B A bye()\n", b"1.4 offence at 4 by A, allowed: none\n"),
-    (b"nothing\n", b"refused BadLine 10\n"),
+    (b"close 1\n", b"close 1: offence at 4 by A, allowed: none\n"),
+    (b"nothing\n", b"refused BadLine 11\n"),
 ]
 # With `watch --hold`: a reception waits for its send, and the reply to it comes with that of the send.
 HELD = [
@@ -36,7 +37,8 @@ HELD = [
     (b"join 1 B\n", b"1.1 permitted\n"),
     (b"recv 1 A B hello()\njoin 1 A\n", b"1.2 permitted\n"),
     (b"send 1 A B hello()\n", b"1.3 permitted\n1.4 permitted\n"),
-    (b"nothing\n", b"refused BadLine 9\n"),
+    (b"close 1\n", b"close 1: permitted\n"),
+    (b"nothing\n", b"refused BadLine 10\n"),
 ]
 # With `hold`: the same lines, and what is printed of them.
 PRINTED = [
@@ -45,6 +47,7 @@ PRINTED = [
     (b"join 1 B\n", b"join 1 B\n"),
     (b"recv 1 A B hello()\njoin 1 A\n", b"join 1 A\n"),
     (b"send 1 A B hello()\n", b"send 1 A B hello()\nrecv 1 A B hello()\n"),
+    (b"close 1\n", b"close 1\n"),
     (b"nothing\n", b"nothing\n"),
 ]
 RUNS = [(["watch"], WATCHED), (["watch", "--hold", "100"], HELD), (["hold"], PRINTED)]

@@ -139,6 +139,8 @@ def prefixes_of(items, replies):
         elif "opened" in reply:
             conversations[reply["conversation"]] = (reply["opened"], [])
             touched = [reply["conversation"]]
+        elif "closed" in reply:
+            del conversations[reply["conversation"]]
         elif "place" in reply:
             conversations[reply["conversation"]][1].append(event_line(item.fields))
             touched = [reply["conversation"]]
