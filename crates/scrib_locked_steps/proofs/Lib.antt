@@ -9,3 +9,4 @@ pub mod MismatchLemmas
 pub mod SweepLemmas
 pub mod StaleListLemmas
 pub mod StepReplies
+pub mod ClosingLemmas

@@ -1,9 +1,10 @@
 -- The steps preserve the invariants of a shard: its book, and that its records are lawful and within its limits.
-use Rattle.std.proofs.Common.{◌≡◌, ℕ, ◌+◌, ◌<◌, ◌≤◌, List, [], ◌∷◌, ◌++◌, length, Option, Some, None, Result, Ok, Err, IfOk, OnErr, IfSome, All, nat_eq, refl, sym, ap, subst, ◌∙◌, arith, length-append, true≢false, IsSome, option_to_list}
+use Rattle.std.proofs.Common.{◌≡◌, ℕ, ◌+◌, ◌-◌, ◌<◌, ◌≤◌, List, [], ◌∷◌, ◌++◌, length, Option, Some, None, Result, Ok, Err, IfOk, OnErr, IfSome, All, nat_eq, refl, sym, ap, subst, ◌∙◌, arith, length-append, true≢false, IsSome, IsPermutation, option_to_list}
 use Rattle.std.specs.Map.{set_value, values_of}
 use Rattle.std.specs.List.{sum_by}
 use Rattle.std.proofs.lemmas.List.{map-append, same_from_push}
-use Rattle.std.proofs.lemmas.List.Elements.{All-push, All-nil}
+use Rattle.std.proofs.lemmas.List.Elements.{All-push, All-nil, All-tail}
+use Rattle.std.proofs.lemmas.List.Sorted.{All-permutation, IsPermutation-map, length_permutation, sum_by_popped}
 use Rattle.std.proofs.lemmas.List.Sums.{sum_by_push, sum_by-le}
 use Rattle.std.proofs.lemmas.Map.{length-set_value}
 use Rattle.std.proofs.lemmas.Map.Entries.{sum_by-set_value, length-values_of}
@@ -19,17 +20,19 @@ use Rattle.scrib_record.specs.Versions.{meaning_of}
 use Rattle.scrib_library.specs.Holdings.{Holdings}
 use Rattle.scrib_library.specs.Modules.{MeansProtocols}
 use Rattle.scrib_core.specs.declared.conversation_steps.Judged.{Judged}
+use Rattle.scrib_core.specs.declared.conversation_steps.Closed.{Closed}
 use Rattle.scrib_core.specs.declared.reply.Refusal.{Refusal}
 use Rattle.scrib_core.specs.declared.reply.Refusal.TheVariants.{OutOfMemory}
+use Rattle.scrib_core.specs.World.{IsTakenOut}
 use Rattle.scrib_core.specs.Held.{Records, record_at}
-use Rattle.scrib_core.specs.ConversationSteps.{IsOpened, OpenFails, IsNotedAt, IsTurnedAt}
+use Rattle.scrib_core.specs.ConversationSteps.{IsOpened, OpenFails, IsNotedAt, IsTurnedAt, IsClosedAt}
 use Rattle.scrib_locked_steps.specs.declared.pass_calls.PassRefusal.{PassRefusal}
 use Rattle.scrib_core.specs.declared.conversation_steps.Noted.{Noted}
-use Rattle.scrib_locked_steps.specs.Indexing.{Listing, listed_ids, only_under}
-use Rattle.scrib_locked_steps.specs.Shards.{IsRecordWithin, AreWithin, IsShardStored}
+use Rattle.scrib_locked_steps.specs.Indexing.{Listing, IsUnlisted, listed_ids, only_under}
+use Rattle.scrib_locked_steps.specs.Shards.{IsRecordWithin, AreWithin, IsShardStored, book_of}
 use Rattle.scrib_locked_steps.specs.Passing.{added_notes}
 use Rattle.scrib_locked_steps.specs.Sweeping.{IsTurnedUnder}
-use Rattle.scrib_locked_steps.proofs.NameIndexLemmas.{index_none, index_push, index_set, index_kept}
+use Rattle.scrib_locked_steps.proofs.NameIndexLemmas.{index_none, index_push, index_set, index_kept, index_taken}
 
 abbrev events_in : Recorded → ℕ
 events_in r = length r.log
@@ -58,13 +61,13 @@ stored_set capacity old es book more id r s there within longer named stored = r
 }
 
 -- one empty record is added and listed_ids
-stored_push : (capacity : ℕ) (old : Records) (es fs : Listing) (book id : ℕ) (s : Recorded) → IsRecordWithin s → length s.log ≡ 0 → length old < capacity
+stored_push : (capacity : ℕ) (old : Records) (es fs : Listing) (book id : ℕ) (s : Recorded) → record_at old id ≡ None → IsRecordWithin s → length s.log ≡ 0 → length old < capacity
     → ((n : List (List ℕ)) → listed_ids n fs ≡ listed_ids n es ++ only_under s.name n id)
     → IsShardStored capacity old es book → IsShardStored capacity (old ++ (id, s) ∷ []) fs book
-stored_push capacity old es fs book id s within empty room more stored =
+stored_push capacity old es fs book id s absent within empty room more stored =
     let pushed : values_of (old ++ (id, s) ∷ []) ≡ values_of old ++ s ∷ [] = map-append (λ (e : ℕ × Recorded). e.1) old ((id, s) ∷ []) in
     record {
-      indexed = index_push es fs old id s more stored.indexed;
+      indexed = index_push es fs old id s absent more stored.indexed;
       counted = stored.counted ∙ sym (ap (sum_by events_in) pushed ∙ sum_by_push events_in (values_of old) s ∙ omega (arith, empty));
       lawful = subst (All IsRecordWithin) (sym pushed) (All-push IsRecordWithin (values_of old) s stored.lawful within);
       limited = omega (arith, length-append old ((id, s) ∷ []), room);
@@ -81,7 +84,7 @@ pub open_keeps : (capacity : ℕ) (h : Holdings) (old : Records) (id : ℕ) (nam
     → IsShardStored capacity old es book → IsShardStored capacity new fs book
 open_keeps capacity h old id name new es fs book protocols o more s =
     stored_same capacity (old ++ (id, new_record name o.version) ∷ []) new fs book o.added
-    (stored_push capacity old es fs book id (new_record name o.version) (new_within h name o.version old new id capacity protocols o) refl o.room more s)
+    (stored_push capacity old es fs book id (new_record name o.version) o.absent (new_within h name o.version old new id capacity protocols o) refl o.room more s)
 
 pub listed_same : (capacity : ℕ) (rs : Records) (es fs : Listing) (book : ℕ) → ((m : List (List ℕ)) → listed_ids m fs ≡ listed_ids m es) → IsShardStored capacity rs es book → IsShardStored capacity rs fs book
 listed_same capacity rs es fs book same s =
@@ -149,3 +152,36 @@ pub turn_under_keeps : {E : Type 0} (capacity : ℕ) (present : Option Version) 
     → IfOk r (λ told. IsTurnedUnder present old id told new) → OnErr r (new ≡ old) → IsShardStored capacity old es book → IsShardStored capacity new es book
 turn_under_keeps capacity present old id (Ok told) new es book t same s = turned_keeps capacity present old id t.before t.after told new es book t.there t.turned t.lawful t.put s
 turn_under_keeps capacity present old id (Err f) new es book t same s = stored_same capacity old new es book same s
+
+-- ---- a record is taken out
+
+module _ (old new : Records) (id : ℕ) (r : Recorded) (t : IsTakenOut id old r new) where
+  values_left : IsPermutation (values_of old) (r ∷ values_of new)
+  values_left = IsPermutation-map (λ (e : ℕ × Recorded). e.1) old ((id, r) ∷ new) t.rest
+
+  -- the book without its entries
+  pub book_left : book_of new + length r.log ≡ book_of old
+  book_left = sum_by_popped events_in r (values_of old) (values_of new) values_left
+
+  shorter : length old ≡ length new + 1
+  shorter = sym (length_permutation old ((id, r) ∷ new) t.rest) ∙ omega arith
+
+  pub taken_keeps : (capacity : ℕ) (es fs : Listing) (book left : ℕ) → IsUnlisted r.name id es fs → left + length r.log ≡ book → IsShardStored capacity old es book → IsShardStored capacity new fs left
+  taken_keeps capacity es fs book left u less s = record {
+    counted = omega (arith, book_left, s.counted, less);
+    indexed = index_taken es fs old new id r t u s.indexed;
+    lawful = All-tail IsRecordWithin r (values_of new) (All-permutation IsRecordWithin (values_of old) (r ∷ values_of new) values_left s.lawful);
+    limited = omega (arith, shorter, s.limited);
+    few = s.few;
+  }
+
+-- a conversation was closed
+module _ (h : Holdings) (old new : Records) (id : ℕ) (closed : Closed) (x : IsClosedAt h old id closed new) (capacity : ℕ) (es : Listing) (book : ℕ) (s : IsShardStored capacity old es book) where
+  -- its events are in the book
+  pub closed_within : closed.events ≤ book
+  closed_within = omega (arith, book_left old new id x.before x.taken, s.counted, x.events_are)
+
+  pub close_keeps : (fs : Listing) (left : ℕ) → IsUnlisted closed.name id es fs → left ≡ book - closed.events → IsShardStored capacity new fs left
+  close_keeps fs left unlisted less =
+      let rest : left + length x.before.log ≡ book = omega (arith, closed_within, x.events_are, less) in
+      taken_keeps old new id x.before x.taken capacity es fs book left (subst (λ (n : List (List ℕ)). IsUnlisted n id es fs) x.name_is unlisted) rest s

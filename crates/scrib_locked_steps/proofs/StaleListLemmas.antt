@@ -14,7 +14,7 @@ use Rattle.std.proofs.lemmas.List.Sorted.{All-permutation, Contains-permutation}
 use Rattle.std.proofs.lemmas.Map.Entries.{place_from_lookup, lookup_from_place}
 use Rattle.std.proofs.lemmas.Map.Keys.{IsDistinct-push, apart_from_distinct, IsDistinct-IsPermutation, IsStrictlyIncreasing-from_distinct}
 use Rattle.std.proofs.lemmas.Map.Views.{Contains-from_any, list_any-from_Contains, any-filter_same}
-use Rattle.std.proofs.lemmas.Map.Made.{IsDistinct-keys_filter, IsDistinct-from_AllPairs, AllPairs-from_IsDistinct}
+use Rattle.std.proofs.lemmas.Map.Made.{IsDistinct-from_AllPairs, AllPairs-from_IsDistinct}
 use Rattle.std.proofs.lemmas.List.Kept.{AllPairs-filter}
 use Rattle.std.proofs.lemmas.List.{append-nil, append_assoc}
 use Rattle.std.proofs.lemmas.Option.{slice_get_within, slice_get-map, get_or_from_slice_get}
@@ -26,9 +26,9 @@ use Rattle.scrib_library.specs.Holdings.{Holdings}
 use Rattle.scrib_core.specs.Held.{Records, record_at}
 use Rattle.scrib_core.specs.ConversationSteps.{IsPresent}
 use Rattle.scrib_locked_steps.specs.declared.index.ProtocolName.{ProtocolName}
-use Rattle.scrib_locked_steps.specs.Indexing.{Listing, IsIndex, listed_ids, ids_in, ids_of, key_name}
+use Rattle.scrib_locked_steps.specs.Indexing.{Listing, IsIndex, AreIdsOf, listed_ids, ids_in, key_name}
 use Rattle.scrib_locked_steps.specs.Sweeping.{IsStaleNow, IsFreshNow, IsStaleAt, AreStaleIds, is_stale_of, stale_ids_of}
-use Rattle.scrib_locked_steps.proofs.NameIndexLemmas.{id_there, there_id}
+use Rattle.scrib_locked_steps.proofs.NameIndexLemmas.{tail_distinct}
 
 same_some : {X : Type 0} (x y : X) → Some x ≡ Some y → x ≡ y
 same_some x y e = cc
@@ -97,10 +97,6 @@ distinct_filter : (test : ℕ → Bool) (xs : List ℕ) → IsDistinct nat_eq xs
 distinct_filter test xs d =
     IsDistinct-from_AllPairs Decides-eqb (filter test xs) (AllPairs-filter (λ (x y : ℕ). x ≢ y) test xs (AllPairs-from_IsDistinct Decides-eqb xs d))
 
-tail_distinct : (x : ℕ) (xs : List ℕ) → IsDistinct nat_eq (x ∷ xs) → IsDistinct nat_eq xs
-unfolding IsDistinct
-tail_distinct x xs d = d.1
-
 distinct_append : (xs ys : List ℕ) → IsDistinct nat_eq xs → IsDistinct nat_eq ys → ((x : ℕ) → Contains xs x → Contains ys x → ⊥) → IsDistinct nat_eq (xs ++ ys)
 distinct_append xs [] d e apart = subst (IsDistinct nat_eq) (sym (append-nil xs)) d
 distinct_append xs (y ∷ ys) d e apart =
@@ -123,10 +119,10 @@ distinct_append xs (y ∷ ys) d e apart =
 -- ---- the records of one more name
 
 module _ (h : Holdings) (rs : Records) (es : Listing) (n : ℕ) (key : ProtocolName) (v : Vec ℕ Global) (present : Option Version) (ids : List ℕ)
-    (distinct : IsDistinct nat_eq (keys_of rs)) (names : IsDistinct names_equal (keys_of es)) (index : IsIndex es rs) (at : slice_get es n ≡ Some (key, v))
+    (names : IsDistinct names_equal (keys_of es)) (index : IsIndex es rs) (at : slice_get es n ≡ Some (key, v))
     (here : IsPresent h key.name present) (so_far : AreTouchedUnder h rs es n ids) where
-  own : v.items ≡ ids_of key.name rs
-  own = sym (listed_at es n key v names at) ∙ index key.name
+  own : AreIdsOf key.name rs v.items
+  own = subst (AreIdsOf key.name rs) (listed_at es n key v names at) (index key.name)
 
   abbrev test : ℕ → Bool
   test id = is_stale_of present (record_at rs id)
@@ -135,7 +131,7 @@ module _ (h : Holdings) (rs : Records) (es : Listing) (n : ℕ) (key : ProtocolN
   found : (id : ℕ) → Contains (filter test v.items) id → (r : Recorded) × (record_at rs id ≡ Some r) × (key.name ≡ r.name) × (is_stale present r ≡ true)
   found id has =
       let parts = in_filter test v.items id has in
-      let there = there_id key.name rs id distinct (subst (λ (xs : List ℕ). Contains xs id) own parts.1) in
+      let there = own.only id parts.1 in
       (there.0, there.1, there.2, sym (ap (is_stale_of present) there.1) ∙ parts.0)
 
   stale_longer : (id : ℕ) → IsStaleUnder h rs es n id → IsStaleUnder h rs es (n + 1) id
@@ -156,7 +152,7 @@ module _ (h : Holdings) (rs : Records) (es : Listing) (n : ℕ) (key : ProtocolN
   pub touched_more : AreTouchedUnder h rs es (n + 1) (ids ++ stale_ids_of present rs v.items)
   touched_more = record {
     distinct = distinct_append ids (filter test v.items) so_far.distinct
-        (distinct_filter test v.items (subst (IsDistinct nat_eq) (sym own) (IsDistinct-keys_filter nat_eq (λ (e : ℕ × Recorded). dotted_eq key.name e.1.name) rs distinct))) apart;
+        (distinct_filter test v.items own.once) apart;
     stale = All-append (IsStaleUnder h rs es (n + 1)) ids (filter test v.items)
         (λ k d below. stale_longer (get_or ids k d) (so_far.stale k d below))
         (λ k d below. stale_here (get_or (filter test v.items) k d) (Contains-get_or (filter test v.items) k d below));
@@ -175,18 +171,18 @@ module _ (h : Holdings) (rs : Records) (es : Listing) (n : ℕ) (key : ProtocolN
       judged : (id : ℕ) (r : Recorded) → record_at rs id ≡ Some r → key.name ≡ r.name → (b : Bool) → is_stale present r ≡ b → Contains (ids ++ filter test v.items) id ⊎ IsFreshNow h r
       judged id r f named true s =
           inl (Contains-append_right ids (filter test v.items) id
-          (to_filter test v.items id (ap (is_stale_of present) f ∙ s) (subst (λ (xs : List ℕ). Contains xs id) (sym own) (id_there key.name rs id r distinct f named))))
+          (to_filter test v.items id (ap (is_stale_of present) f ∙ s) (own.all id r f named)))
       judged id r f named false s = inr (present, subst (λ (m : List (List ℕ)). IsPresent h m present) named here, s)
 
 -- ---- the whole list
 
-pub touched_all : (h : Holdings) (rs : Records) (es : Listing) (n : ℕ) (ids sorted : List ℕ) → IsDistinct nat_eq (keys_of rs) → IsIndex es rs → length es ≤ n → AreTouchedUnder h rs es n ids
+pub touched_all : (h : Holdings) (rs : Records) (es : Listing) (n : ℕ) (ids sorted : List ℕ) → IsIndex es rs → length es ≤ n → AreTouchedUnder h rs es n ids
     → IsPermutation ids sorted → IsNonDecreasing sorted → AreStaleIds h rs sorted
-touched_all h rs es n ids sorted distinct index end touched moved order = record {
+touched_all h rs es n ids sorted index end touched moved order = record {
   rise = IsStrictlyIncreasing-from_distinct sorted order (IsDistinct-IsPermutation nat_eq nat_eq_equiv.symm ids sorted moved touched.distinct);
   stale = All-permutation (IsStaleAt h rs) ids sorted moved (λ k d below. found (get_or ids k d) (touched.stale k d below));
   others = λ id r e.
-      let has : Contains (listed_ids r.name es) id = subst (λ (xs : List ℕ). Contains xs id) (sym (index r.name)) (id_there r.name rs id r distinct e refl) in
+      let has : Contains (listed_ids r.name es) id = (index r.name).all id r e refl in
       let at = place id r (lookup (λ k. dotted_eq r.name k.name) es) refl has in
       elim (touched.others at.0 at.1 at.2 id r (let within = slice_get_within es at.0 (at.1, at.2) at.3 in omega (arith, within, end)) at.3 e at.4) [
         | inl has ↦ inl (Contains-permutation ids sorted id moved has)

@@ -1,12 +1,13 @@
 -- The index of a shard, from protocol names to conversations (this project's own).
-use Rattle.std.specs.Prelude.{◌≡◌, ℕ, true, List, [], ◌∷◌, cond, Option, Some, None, Vec}
+use Rattle.std.specs.Prelude.{◌≡◌, ℕ, true, false, nat_eq, List, [], ◌∷◌, ◌++◌, cond, Option, Some, None, Contains, IsPermutation, Vec}
 use Rattle.std.specs.declared.alloc.Global.{Global}
-use Rattle.std.specs.List.{filter, flat_map}
-use Rattle.std.specs.Map.{keys_of, lookup}
+use Rattle.std.specs.List.{IsDistinct, flat_map}
+use Rattle.std.specs.Map.{lookup}
 use Rattle.std.specs.Hash as fed
 use Rattle.scrib_static_checks.specs.Names.{dotted_eq}
 use Rattle.scrib_static_checks.proofs.NameLemmas.{dotted_eq-Decides}
-use Rattle.scrib_core.specs.Held.{Records}
+use Rattle.scrib_record.specs.Stale.{Recorded}
+use Rattle.scrib_core.specs.Held.{Records, record_at}
 use Rattle.scrib_locked_steps.specs.declared.index.ProtocolName.{ProtocolName}
 
 -- the name of a key
@@ -30,13 +31,24 @@ listed_ids name es = ids_in (lookup (λ k. dotted_eq name k.name) es)
 abbrev pub only_under : List (List ℕ) → List (List ℕ) → ℕ → List ℕ
 only_under name n id = cond (dotted_eq n name) (id ∷ []) []
 
--- the ids of the protocol's conversations, in the order of opening
-abbrev pub ids_of : List (List ℕ) → Records → List ℕ
-ids_of name rs = keys_of (filter (λ e. dotted_eq name e.1.name) rs)
+-- the id is added to the list of the name, last
+abbrev pub IsListed : List (List ℕ) → ℕ → (old new : Listing) → Type 0
+IsListed name id old new = (n : List (List ℕ)) → listed_ids n new ≡ listed_ids n old ++ only_under name n id
+
+-- the ids are those of the protocol's conversations, each once, in any order
+pub record AreIdsOf (name : List (List ℕ)) (rs : Records) (ids : List ℕ) : Type 0 where
+  pub once : IsDistinct nat_eq ids
+  pub only : (id : ℕ) → Contains ids id → (r : Recorded) × (record_at rs id ≡ Some r) × (name ≡ r.name)
+  pub all : (id : ℕ) (r : Recorded) → record_at rs id ≡ Some r → name ≡ r.name → Contains ids id
 
 -- the index lists exactly the records by name
 abbrev pub IsIndex : Listing → Records → Type 0
-IsIndex es rs = (name : List (List ℕ)) → listed_ids name es ≡ ids_of name rs
+IsIndex es rs = (name : List (List ℕ)) → AreIdsOf name rs (listed_ids name es)
+
+-- the id is taken out of the list of the name, if it is there, and the other lists stay
+pub record IsUnlisted (name : List (List ℕ)) (id : ℕ) (old new : Listing) : Type 0 where
+  pub taken : Contains (listed_ids name old) id → IsPermutation (listed_ids name old) (id ∷ listed_ids name new)
+  pub others : (n : List (List ℕ)) → dotted_eq name n ≡ false → listed_ids n new ≡ listed_ids n old
 
 -- equal names have equal hashes
 pub same_named : (a b : ProtocolName) → dotted_eq a.name b.name ≡ true

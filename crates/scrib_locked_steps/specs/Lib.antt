@@ -7,3 +7,4 @@ pub mod Locked
 pub mod Passing
 pub mod Noting
 pub mod Sweeping
+pub mod Closing

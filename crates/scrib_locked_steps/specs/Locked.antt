@@ -8,7 +8,7 @@ use Rattle.scrib_core.specs.declared.reply.Refusal.TheVariants.{NoConversation}
 use Rattle.scrib_core.specs.declared.reply.Reply.{Reply}
 use Rattle.scrib_core.specs.declared.reply.Reply.TheVariants as reply
 use Rattle.scrib_core.specs.Held.{Records, record_at}
-use Rattle.scrib_core.specs.ConversationSteps.{IsOpened, OpenFails, IsNotedAt, NoteFails, IsTurnedAt, IsAskedAt, VerdictFails}
+use Rattle.scrib_core.specs.ConversationSteps.{IsOpened, OpenFails, IsNotedAt, NoteFails, IsTurnedAt, IsAskedAt, VerdictFails, IsClosedAt, CloseFails}
 use Rattle.scrib_locked_steps.specs.Passes.{PassHeld}
 
 -- the conversation is open, and its pass has no receipt
@@ -51,3 +51,11 @@ abbrev pub AnswersAsk : Holdings → Records → ℕ → Reply → Type 0
 AnswersAsk h rs id (reply.Judged i name events answer) = (i ≡ id) × IsAskedAt h rs id name events answer
 AnswersAsk h rs id (reply.Refused f) = VerdictFails rs id f
 AnswersAsk h rs id _ = ⊥
+
+-- the reply to a close, and the records after it
+abbrev pub AnswersClose : Holdings → Records → ℕ → Reply → Records → Type 0
+AnswersClose h old id (reply.Closed i name events verdict complete) new =
+    (i ≡ id)
+    × IsClosedAt h old id (record { name = name; events = events; verdict = verdict; complete = complete }) new
+AnswersClose h old id (reply.Refused f) new = CloseFails old id f × (new ≡ old)
+AnswersClose h old id _ new = ⊥

@@ -1,12 +1,11 @@
 -- Notes in a record that is found by its index (this project's own).
 -- Only contracts of private functions cite this file.
-use Rattle.std.specs.Prelude.{◌≡◌, ℕ, ◌<◌, length, Option, Some, slice_get, Result, Ok, Err, All}
+use Rattle.std.specs.Prelude.{◌≡◌, ◌<◌, length, Option, Some, Result, Ok, Err, All}
 use Rattle.scrib_types.specs.declared.event.Event.{Event}
 use Rattle.scrib_record.specs.declared.fault.NoteFault.{NoteFault}
 use Rattle.scrib_record.specs.declared.version.Version.{Version}
 use Rattle.scrib_record.specs.Stale.{Recorded, IsLawful}
 use Rattle.scrib_record.specs.Told.{IsNoted, NoteFails}
-use Rattle.scrib_core.specs.Held.{Records}
 use Rattle.scrib_core.specs.ReplyValues.{note_refusal}
 use Rattle.scrib_core.specs.declared.conversation_steps.Noted.{Noted}
 use Rattle.scrib_locked_steps.specs.declared.pass_calls.PassRefusal.{PassRefusal}

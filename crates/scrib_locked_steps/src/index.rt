@@ -1,7 +1,7 @@
 //! The index of a shard: the ids of its conversations, by the full name of their protocol.
 
-ghost use Rattle.std.specs.Prelude.{◌≡◌, ◌++◌, ℕ, List, OnOk, OnErr};
-ghost use Rattle.scrib_locked_steps.specs.Indexing.{listed_ids, only_under};
+ghost use Rattle.std.specs.Prelude.{◌≡◌, ◌∷◌, ℕ, List, OnOk, OnErr, IfSome, None, Some, Contains, IsPermutation, slice_get};
+ghost use Rattle.scrib_locked_steps.specs.Indexing.{listed_ids, IsListed, IsUnlisted};
 
 use indexmap::IndexMap;
 use scrib_types::name::Dotted;
@@ -53,7 +53,7 @@ impl Hash for ProtocolName {
     }
 }
 
-/// Adds the id to the list of the name, last.
+/// Adds the id to the list of the name, last. Returns its place there, from 0.
 ///
 /// # Errors
 /// `AllocError` if memory was refused. The lists are unchanged then.
@@ -62,18 +62,67 @@ pub(crate) fn list(
     alloc: Global,
     name: &Dotted,
     id: u32,
-) -> Result<(), AllocError>
-    ensures ok { OnOk result ((n : List (List ℕ))
-        → listed_ids n index.new.entries ≡ listed_ids n index.old.entries ++ only_under name.now n id) }
+) -> Result<usize, AllocError>
+    ensures ok { OnOk result (IsListed name.now id index.old.entries index.new.entries) }
     ensures err { OnErr result ((n : List (List ℕ)) → listed_ids n index.new.entries ≡ listed_ids n index.old.entries) }
 {
     let key = ProtocolName { name: name.copy()? };
     match index.get_mut(&key) {
-        Some(ids) => ids.push(id)?,
+        Some(ids) => {
+            let place = ids.len();
+            ids.push(id)?;
+            Ok(place)
+        }
         None => {
             let ids = vec![in alloc; id]?;
             index.insert(key, ids)?;
+            Ok(0)
         }
     }
-    Ok(())
+}
+
+/// Takes the id out of the list of the name, and drops a name without ids. `hint` is where the id is looked up first.
+/// The last id of the list takes the place; returns it, and the place, unless the id was the last itself.
+pub(crate) fn unlist(
+    index: &mut IndexMap<ProtocolName, Vec<u32>>,
+    key: &ProtocolName,
+    id: u32,
+    hint: usize,
+) -> Option<(u32, usize)>
+    ensures { IsUnlisted key.now.name id index.old.entries index.new.entries }
+{
+    let Some(ids) = index.get_mut(key) else {
+        return None;
+    };
+    let moved = take_id(ids, id, hint);
+    if ids.is_empty() {
+        index.swap_remove(key);
+    }
+    moved
+}
+
+// Takes the id out of the list, whose last id takes the place. Returns that id, and the place, unless the id was the
+// last itself or isn't in the list.
+fn take_id(ids: &mut Vec<u32>, id: u32, hint: usize) -> Option<(u32, usize)>
+    ensures { Contains ids.old.items id → IsPermutation ids.old.items (id ∷ ids.new.items) }
+{
+    let Some(place) = place_in(ids, id, hint) else {
+        return None;
+    };
+    ids.swap_remove(place);
+    match ids.get(place) {
+        Some(moved) => Some((*moved, place)),
+        None => None,
+    }
+}
+
+// Returns the place of the id in the list. `hint` may be any place and is tried first.
+fn place_in(ids: &[u32], id: u32, hint: usize) -> Option<usize>
+    ensures found { IfSome result (λ place. slice_get ids.now place ≡ Some id) }
+    ensures absent { result ≡ None → Contains ids.now id → ⊥ }
+{
+    match ids.get(hint) {
+        Some(found) if *found == id => Some(hint),
+        _ => ids.iter().position(|other| *other == id),
+    }
 }

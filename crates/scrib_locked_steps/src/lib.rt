@@ -2,6 +2,8 @@
 #![tactic(auto)]
 
 pub mod batch_notes;
+pub mod close_calls;
+pub mod directory;
 pub mod index;
 pub mod locked_calls;
 pub mod pass;

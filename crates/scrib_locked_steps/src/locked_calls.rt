@@ -3,15 +3,15 @@
 //! `note_by_pass` and `note_all_by_pass`, which compare a receipt first.
 
 ghost use Rattle.std.specs.Prelude.{◌≡◌, [], ℕ, IfOk, IfErr};
-ghost use Rattle.scrib_locked_steps.specs.Locked.{AnswersOpen, AnswersNote, AnswersTurn, AnswersAsk, ConnectFails, IsConnected};
+ghost use Rattle.scrib_locked_steps.specs.Locked.{AnswersOpen, AnswersNote, AnswersTurn, AnswersAsk, AnswersClose, ConnectFails, IsConnected};
 ghost use Rattle.scrib_locked_steps.specs.Receipts.{IsFirstMismatch};
 ghost use Rattle.scrib_locked_steps.specs.Shards.{log_at};
 
 use crate::pass::{Pass, Receipt};
 use crate::receipt_check::first_mismatch;
 use crate::shard::Shard;
-use crate::step_results::{ask_step, note_step, open_step, turn_step};
-use scrib_core::reply::{Refusal, Reply, note_reply, open_reply, verdict_reply};
+use crate::step_results::{ask_step, close_step, note_step, open_step, turn_step};
+use scrib_core::reply::{Refusal, Reply, close_reply, note_reply, open_reply, verdict_reply};
 use scrib_library::library::Library;
 use scrib_types::name::Dotted;
 use scrib_types::shared_event::SharedEvent;
@@ -51,6 +51,16 @@ pub fn ask_locked(library: &Library, shard: &Shard, id: u32) -> Reply
     ensures { AnswersAsk library.now shard.now.records id result }
 {
     verdict_reply(id, ask_step(library, shard, id))
+}
+
+/// Takes the conversation out of the shard, and returns `Closed` with the verdict on its whole log. Otherwise it returns
+/// `NoConversation` or `OutOfMemory` and changes nothing. A service closes by `close_by_passes`, which compares the
+/// receipts of the passes first.
+pub fn close_locked(library: &Library, shard: &mut Shard, id: u32) -> Reply
+    ensures answered { AnswersClose library.now shard.old.records id result shard.new.records }
+    ensures limit { shard.new.capacity ≡ shard.old.capacity }
+{
+    close_reply(id, close_step(library, shard, id))
 }
 
 /// Returns a pass to a conversation, without receipts.

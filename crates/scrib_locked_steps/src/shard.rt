@@ -6,20 +6,21 @@ ghost use Rattle.scrib_record.specs.Stale.{Recorded};
 ghost use Rattle.scrib_core.specs.Held.{record_at};
 ghost use Rattle.scrib_locked_steps.specs.Shards.{IsLawfulShard, book_of};
 
-use crate::index::ProtocolName;
+use crate::directory::Directory;
 use indexmap::IndexMap;
 use scrib_record::record::Record;
 use std::alloc::Global;
 use std::marker::Model;
 
-/// The records of some conversations, in the order of opening, up to a limit of the shard's own. An index lists their
-/// ids by protocol, and a book counts the events of all logs. Contracts see the limit and the records.
+/// The records of some conversations, up to a limit of the shard's own. They are in the order of opening, until one is
+/// closed. A directory lists their ids by protocol, and a book counts the events of all logs. Contracts see the limit
+/// and the records.
 #[derive(Drop)]
 pub struct Shard {
     pub(crate) alloc: Global,
     pub(crate) capacity: usize,
     pub(crate) records: IndexMap<u32, Record>,
-    pub(crate) index: IndexMap<ProtocolName, Vec<u32>>,
+    pub(crate) directory: Directory,
     pub(crate) book: u64,
 }
 
@@ -34,7 +35,7 @@ impl Model for Shard {
 
     ghost view = { λ s. record { capacity = s.capacity; records = s.records.entries } };
 
-    ghost invariant = { λ s. IsShardStored s.capacity s.records.entries s.index.entries s.book };
+    ghost invariant = { λ s. IsShardStored s.capacity s.records.entries s.directory.index.entries s.book };
 }
 
 impl Shard {
@@ -47,7 +48,7 @@ impl Shard {
             alloc,
             capacity,
             records: IndexMap::new(alloc),
-            index: IndexMap::new(alloc),
+            directory: Directory::new(alloc),
             book: 0,
         }
     }
@@ -68,7 +69,7 @@ impl Shard {
         self.records.len()
     }
 
-    /// Returns the id and the record of a conversation, by its index in the order of opening, from 0.
+    /// Returns the id and the record of a conversation, by its index, from 0.
     pub fn at(&self, index: usize) -> (u32, &Record)
         requires { index < length self.now.records }
         ensures { slice_get self.now.records index ≡ Some (result.0, result.1.now) }
@@ -76,7 +77,7 @@ impl Shard {
         (self.records.keys()[index], &self.records[index])
     }
 
-    /// Returns the index of a conversation in the order of opening, from 0.
+    /// Returns the index of a conversation, from 0.
     pub fn index_of(&self, id: u32) -> Option<usize>
         ensures within { IfSome result (λ i. i < length self.now.records) }
         ensures found { IfSome result (λ i. (r : Recorded) × (slice_get self.now.records i ≡ Some (id, r))) }

@@ -2,12 +2,11 @@
 //! other conversation unchanged.
 
 ghost use Rattle.std.specs.Prelude.{◌≡◌, IfOk, IfErr, OnOk, OnErr};
-ghost use Rattle.scrib_core.specs.ConversationSteps.{IsOpened, OpenFails, IsNotedAt, NoteFails, IsTurnedAt, IsAskedAt, VerdictFails};
+ghost use Rattle.scrib_core.specs.ConversationSteps.{IsOpened, OpenFails, IsNotedAt, NoteFails, IsTurnedAt, IsAskedAt, VerdictFails, IsClosedAt, CloseFails};
 
-use crate::index::list;
 use crate::shard::Shard;
-pub use scrib_core::conversation_steps::{Judged, Noted};
-use scrib_core::conversation_steps::{Opening, ask, note, open, turn};
+pub use scrib_core::conversation_steps::{Closed, Judged, Noted};
+use scrib_core::conversation_steps::{Opening, ask, close, note, open, turn};
 use scrib_core::reply::Refusal;
 use scrib_library::library::Library;
 use scrib_record::comparison::Comparison;
@@ -38,8 +37,8 @@ pub fn open_step(
         name,
     };
     let opened = open(library, &mut shard.records, opening)?;
-    if list(&mut shard.index, shard.alloc, name, id).is_err() {
-        // A conversation that the index does not list is not opened.
+    if shard.directory.list(shard.alloc, name, id).is_err() {
+        // A conversation that the directory does not list is not opened.
         shard.records.pop();
         return Err(Refusal::OutOfMemory);
     }
@@ -89,4 +88,31 @@ pub fn ask_step(library: &Library, shard: &Shard, id: u32) -> Result<Judged, Ref
     ensures fault { IfErr result (VerdictFails shard.now.records id) }
 {
     ask(library, &shard.records, Comparison::Whole, id)
+}
+
+/// Takes the conversation out of the shard. Returns the protocol's name, the number of events in the log, the verdict
+/// on all of them, and whether the log is complete. The others stay, in any order.
+///
+/// # Errors
+/// `NoConversation` or `OutOfMemory`. Nothing changes then.
+pub fn close_step(library: &Library, shard: &mut Shard, id: u32) -> Result<Closed, Refusal>
+    ensures ok { IfOk result (λ c. IsClosedAt library.now shard.old.records id c shard.new.records) }
+    ensures fault { IfErr result (CloseFails shard.old.records id) }
+    ensures err { OnErr result (shard.new ≡ shard.old) }
+    ensures limit { shard.new.capacity ≡ shard.old.capacity }
+{
+    let Closed {
+        name,
+        events,
+        verdict,
+        complete,
+    } = close(library, &mut shard.records, Comparison::Whole, id)?;
+    shard.book -= events as u64;
+    let name = shard.directory.unlist(name, id);
+    Ok(Closed {
+        name,
+        events,
+        verdict,
+        complete,
+    })
 }

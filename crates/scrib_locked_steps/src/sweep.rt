@@ -35,8 +35,8 @@ pub fn touched_locked(library: &Library, shard: &Shard) -> Result<Vec<u32>, Allo
 {
     let _conversations = shard.len();
     let mut ids = Vec::new(shard.alloc);
-    for place in 0..shard.index.len() {
-        if let Some((key, listed)) = shard.index.get_index(place) {
+    for place in 0..shard.directory.index.len() {
+        if let Some((key, listed)) = shard.directory.index.get_index(place) {
             push_stale(library.present(&key.name), shard, listed, &mut ids)?;
         }
     }

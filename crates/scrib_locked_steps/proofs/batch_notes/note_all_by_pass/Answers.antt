@@ -11,24 +11,24 @@ pub notes_in-requires : goal.notes_in-requires
 notes_in-requires c =
     let s = c.shard.inside in
     let noted = c.note_all_in_records-answers in
-    let kept = all_keep s.capacity c.args.library.now (s.records.entries, c.args.pass.now) (noted.new.records.entries, noted.new.pass) c.args.batch.events.items noted.result.items s.index.entries s.book noted.ensures c.shard.invariant in
-    let small = book_small s.capacity noted.new.records.entries s.index.entries (s.book + sum_by added_notes noted.result.items) kept in
+    let kept = all_keep s.capacity c.args.library.now (s.records.entries, c.args.pass.now) (noted.new.records.entries, noted.new.pass) c.args.batch.events.items noted.result.items s.directory.index.entries s.book noted.ensures c.shard.invariant in
+    let small = book_small s.capacity noted.new.records.entries s.directory.index.entries (s.book + sum_by added_notes noted.result.items) kept in
     omega (arith, small, ap (sum_by added_notes) c.deref.ensures.value)
 
 pub overflow_add-shard : goal.overflow_add-shard
 overflow_add-shard c =
     let s = c.shard.inside in
     let noted = c.note_all_in_records-answers in
-    let kept = all_keep s.capacity c.args.library.now (s.records.entries, c.args.pass.now) (noted.new.records.entries, noted.new.pass) c.args.batch.events.items noted.result.items s.index.entries s.book noted.ensures c.shard.invariant in
-    let small = book_small s.capacity noted.new.records.entries s.index.entries (s.book + sum_by added_notes noted.result.items) kept in
+    let kept = all_keep s.capacity c.args.library.now (s.records.entries, c.args.pass.now) (noted.new.records.entries, noted.new.pass) c.args.batch.events.items noted.result.items s.directory.index.entries s.book noted.ensures c.shard.invariant in
+    let small = book_small s.capacity noted.new.records.entries s.directory.index.entries (s.book + sum_by added_notes noted.result.items) kept in
     omega (arith, small, c.notes_in.ensures, ap (sum_by added_notes) c.deref.ensures.value)
 
 pub invariant_of-shard : goal.invariant_of-shard
 invariant_of-shard c =
     let s = c.shard.inside in
     let noted = c.note_all_in_records-answers in
-    subst (λ (n : ℕ). IsShardStored s.capacity noted.new.records.entries s.index.entries (s.book + n)) (sym (c.notes_in.ensures ∙ ap (sum_by added_notes) c.deref.ensures.value))
-    (all_keep s.capacity c.args.library.now (s.records.entries, c.args.pass.now) (noted.new.records.entries, noted.new.pass) c.args.batch.events.items noted.result.items s.index.entries s.book noted.ensures c.shard.invariant)
+    subst (λ (n : ℕ). IsShardStored s.capacity noted.new.records.entries s.directory.index.entries (s.book + n)) (sym (c.notes_in.ensures ∙ ap (sum_by added_notes) c.deref.ensures.value))
+    (all_keep s.capacity c.args.library.now (s.records.entries, c.args.pass.now) (noted.new.records.entries, noted.new.pass) c.args.batch.events.items noted.result.items s.directory.index.entries s.book noted.ensures c.shard.invariant)
 
 pub returns-clause-answered : goal.returns-clause-answered
 returns-clause-answered c =

@@ -8,13 +8,13 @@ use Rattle.scrib_locked_steps.proofs.Notes.{noted_by, receipted_by, fails_by, sh
 use Rattle.scrib_locked_steps.proofs.pass_calls.note_by_pass.Goals as goal
 
 pub overflow_add-shard : goal.overflow_add-shard
-overflow_add-shard c = omega (arith, book_small c.shard.inside.capacity c.shard.inside.records.entries c.shard.inside.index.entries c.shard.inside.book c.shard.invariant, notes_few c.note_in_records-noted.result, c.notes_of.ensures)
+overflow_add-shard c = omega (arith, book_small c.shard.inside.capacity c.shard.inside.records.entries c.shard.inside.directory.index.entries c.shard.inside.book c.shard.invariant, notes_few c.note_in_records-noted.result, c.notes_of.ensures)
 
 pub invariant_of-shard : goal.invariant_of-shard
 invariant_of-shard c =
     let noted = c.note_in_records-noted in
     rw c.notes_of.ensures (one_keeps c.shard.inside.capacity c.args.library.now (c.shard.inside.records.entries, c.args.pass.now) (noted.new.records.entries, noted.new.pass) c.args.event noted.result
-    c.shard.inside.index.entries c.shard.inside.book noted.ensures c.shard.invariant)
+    c.shard.inside.directory.index.entries c.shard.inside.book noted.ensures c.shard.invariant)
 
 pub returns-clause-noted : goal.returns-clause-noted
 returns-clause-noted c =

@@ -12,12 +12,12 @@ when_err (Ok x) p e = absurd (true≢false (sym e))
 when_err (Err x) p e = p
 
 pub invariant_of-shard : goal.invariant_of-shard
-invariant_of-shard c = stored_same c.shard.inside.capacity c.shard.inside.records.entries c.open.new.records.entries c.shard.inside.index.entries c.shard.inside.book c.in_err-opened.ensures.err c.shard.invariant
+invariant_of-shard c = stored_same c.shard.inside.capacity c.shard.inside.records.entries c.open.new.records.entries c.shard.inside.directory.index.entries c.shard.inside.book c.in_err-opened.ensures.err c.shard.invariant
 
 pub invariant_of-shard-else-is_err : goal.invariant_of-shard-else-is_err
 invariant_of-shard-else-is_err c =
     open_keeps c.shard.inside.capacity c.args.library.now c.shard.inside.records.entries c.args.id c.args.name.now c.open.new.records.entries
-    c.shard.inside.index.entries c.list.new.index.entries c.shard.inside.book c.means_protocols.ensures c.in_ok-opened.ensures.ok
+    c.shard.inside.directory.index.entries c.list.new.self.index.entries c.shard.inside.book c.means_protocols.ensures c.in_ok-opened.ensures.ok
     (when_ok c.list.result c.list.ensures.ok (sym c.is_err.ensures.value ∙ c.if-is_err.false)) c.shard.invariant
 
 pub invariant_of-shard-then-is_err : goal.invariant_of-shard-then-is_err
@@ -27,6 +27,6 @@ invariant_of-shard-then-is_err c =
     let left = c.pop.new.self.entries in
     let back : left ≡ old = taken_back c.shard.inside.capacity c.args.library.now old c.args.id c.args.name.now opened left c.pop.result c.in_ok-opened.ensures.ok c.pop.ensures.entries
     (c.pop.ensures.found.1 (opened_some c.shard.inside.capacity c.args.library.now old c.args.id c.args.name.now opened c.in_ok-opened.ensures.ok)) in
-    listed_same c.shard.inside.capacity left c.shard.inside.index.entries c.list.new.index.entries c.shard.inside.book
+    listed_same c.shard.inside.capacity left c.shard.inside.directory.index.entries c.list.new.self.index.entries c.shard.inside.book
     (when_err c.list.result c.list.ensures.err (sym c.is_err.ensures.value ∙ c.if-is_err.true))
-    (stored_same c.shard.inside.capacity old left c.shard.inside.index.entries c.shard.inside.book back c.shard.invariant)
+    (stored_same c.shard.inside.capacity old left c.shard.inside.directory.index.entries c.shard.inside.book back c.shard.invariant)
