@@ -16,11 +16,14 @@ use Rattle.scrib_core.specs.Held.{Records}
 use Rattle.scrib_core.specs.ConversationSteps.{IsOpened, OpenFails, VerdictFails}
 use Rattle.scrib_locked_steps.specs.declared.pass_calls.PassRefusal.{PassRefusal}
 use Rattle.scrib_core.specs.declared.conversation_steps.Noted.{Noted}
+use Rattle.scrib_core.specs.declared.conversation_steps.Closed.{Closed}
+use Rattle.scrib_locked_steps.specs.declared.close_calls.CloseRefusal.{CloseRefusal}
 use Rattle.scrib_locked_steps.specs.Shards.{ShardHeld, IsLawfulShard}
 use Rattle.scrib_locked_steps.specs.Locked.{IsConnected, ConnectFails, IsTurnedFor}
 use Rattle.scrib_locked_steps.specs.Passes.{PassHeld}
 use Rattle.scrib_locked_steps.specs.OneByOne.{OneByOne}
 use Rattle.scrib_locked_steps.specs.Passing.{AnswersBy, IsNotedBy, PassNoteFails, IsAskedBy, PassAskFails}
+use Rattle.scrib_locked_steps.specs.Closing.{IsClosedBy, CloseByFails}
 use Rattle.scrib_locked_steps.specs.Sweeping.{AreStaleIds}
 
 -- a put of the text into some library made these changes
@@ -118,6 +121,16 @@ IsAskedSome p answer = (h : Holdings) × (rs : Records) × IsAccepting h × IsAs
 -- the question by the pass is refused for this in some records
 abbrev pub AskFailsSome : PassHeld → PassRefusal → Type 0
 AskFailsSome p f = (rs : Records) × PassAskFails rs p f
+
+-- the conversation was closed by the passes in some shard under some library
+abbrev pub IsClosedSome : ℕ → List PassHeld → Closed → Type 0
+IsClosedSome id passes closed =
+    (h : Holdings) × (old : ShardHeld) × (new : ShardHeld) × IsAccepting h × IsLawfulShard old
+    × IsClosedBy h old id passes closed new
+
+-- the close by the passes is refused for this in some records
+abbrev pub CloseFailsSome : ℕ → List PassHeld → CloseRefusal → Type 0
+CloseFailsSome id passes f = (rs : Records) × CloseByFails rs id passes f
 
 -- the ids of the stale conversations of some records under some library
 abbrev pub AreStaleSome : List ℕ → Type 0

@@ -1,6 +1,6 @@
 //! Gates: with them a test observes a call while it holds its locks.
 
-/// A hook that each call of `note`, `note_all` and `turn` runs once, while it holds its locks and just before it
+/// A hook that each call of `note`, `note_all`, `turn` and `close` runs once, while it holds its locks and just before it
 /// returns. No contract states this.
 pub trait Gate {
     /// The call holds the lock of the shard of this number, from 0.

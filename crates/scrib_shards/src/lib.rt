@@ -9,6 +9,6 @@ pub mod sweeping;
 mod unlocked;
 
 pub use scrib_locked_steps::{
-    batch_notes, locked_calls, pass, pass_calls, shard, step_results, sweep,
+    batch_notes, close_calls, locked_calls, pass, pass_calls, shard, step_results, sweep,
 };
 pub use scrib_settlement::{ended, fault, settle};

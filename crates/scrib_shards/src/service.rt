@@ -1,8 +1,8 @@
 //! The service.
 
-ghost use Rattle.std.specs.Prelude.{◌≡◌, ◌⊎◌, ◌↔◌, ◌<◌, ◌≤◌, [], IfOk, IfErr, OnOk, OnErr, IsErrOf, vec_len, vec_capacity};
+ghost use Rattle.std.specs.Prelude.{◌≡◌, ◌⊎◌, ◌↔◌, ◌<◌, ◌≤◌, [], IfOk, IfErr, OnOk, OnErr, IsErrOf, All, vec_len, vec_capacity};
 ghost use Rattle.scrib_locked_steps.specs.Passes.{IsReceipted, IsAnsweredOn};
-ghost use Rattle.scrib_shards.specs.Called.{IsPutSome, PutFailsSome, IsWithdrawnSome, WithdrawFailsSome, IsProfiledSome, ProfileFailsSome, IsOpenedSome, OpenFailsSome, IsConnectedSome, ConnectFailsSome, IsNotedSome, NoteFailsSome, AreAnsweredSome, IsTurnedSome, TurnFailsSome, IsAskedSome, AskFailsSome};
+ghost use Rattle.scrib_shards.specs.Called.{IsPutSome, PutFailsSome, IsWithdrawnSome, WithdrawFailsSome, IsProfiledSome, ProfileFailsSome, IsOpenedSome, OpenFailsSome, IsConnectedSome, ConnectFailsSome, IsNotedSome, NoteFailsSome, AreAnsweredSome, IsTurnedSome, TurnFailsSome, IsAskedSome, AskFailsSome, IsClosedSome, CloseFailsSome};
 
 use crate::gate::Gate;
 use crossbeam_utils::CachePadded;
@@ -13,11 +13,12 @@ use scrib_library::changes::Changes;
 use scrib_library::fault::EditFault;
 use scrib_library::library::Library;
 use scrib_locked_steps::batch_notes::{Batch, note_all_by_pass};
+use scrib_locked_steps::close_calls::{CloseRefusal, close_by_passes};
 use scrib_locked_steps::locked_calls::connect_locked;
 use scrib_locked_steps::pass::Pass;
 use scrib_locked_steps::pass_calls::{PassRefusal, PassReply, ask_by_pass, note_by_pass};
 use scrib_locked_steps::shard::Shard;
-use scrib_locked_steps::step_results::{Noted, open_step, turn_step};
+use scrib_locked_steps::step_results::{Closed, Noted, open_step, turn_step};
 use scrib_settlement::shares::MAX_SHARDS;
 use scrib_types::event::Told;
 use scrib_types::name::Dotted;
@@ -272,6 +273,40 @@ impl Service {
         let shard = self.shards[at].lock(rt);
         library.is_accepting();
         ask_by_pass(library, &shard, pass)
+    }
+
+    /// Closes the conversation, and takes in its passes. They must be all that have receipts: together they have as many
+    /// as the log has events, and each agrees with the log. Returns the protocol's name, the number of events, the
+    /// verdict on all of them, and whether the log is complete. The verdict is never stale: the locks are held until
+    /// all events are judged. The id may be opened again, as a new conversation with an empty log.
+    ///
+    /// # Errors
+    /// `NoConversation`, `PassesMissing`, `Mismatch` with the least place where a receipt differs from the log, or
+    /// `OutOfMemory`, whichever applies first in this order. Nothing changes then, and the passes are returned.
+    pub fn close<G: Gate>(
+        &self,
+        rt: &impl Wait,
+        id: u32,
+        passes: Vec<Pass>,
+        gate: &G,
+    ) -> Result<Closed, (CloseRefusal, Vec<Pass>)>
+        requires { All (λ p. p.conversation ≡ id) passes.items }
+        ensures ok { IfOk result (IsClosedSome id passes.items) }
+        ensures fault { IfErr result (λ e. CloseFailsSome id passes.items e.0) }
+        ensures passes { IfErr result (λ e. e.1 ≡ passes) }
+    {
+        let at = self.shard_of(id);
+        let guard = self.library.read(rt, at);
+        let library = &*guard;
+        let mut shard = self.shards[at].lock(rt);
+        library.is_accepting();
+        let _conversations = shard.len();
+        let closed = close_by_passes(library, &mut shard, id, &passes);
+        gate.hold(at);
+        match closed {
+            Ok(closed) => Ok(closed),
+            Err(refusal) => Err((refusal, passes)),
+        }
     }
 }
 
