@@ -3,6 +3,7 @@
 ghost use Rattle.std.specs.Prelude.{◌≡◌, ◌<◌, ◌+◌, ◌-◌, ◌^◌, min, IfOk, vec_len};
 ghost use Rattle.scrib_rejudge.specs.Sweeps.{IsConversationSwept, IsShardSwept};
 
+use scrib_core::reply::Refusal;
 use scrib_locked_steps::sweep::{MAX_TURNS, Swept};
 use scrib_shards::gate::Gate;
 use scrib_shards::service::Service;
@@ -27,8 +28,8 @@ pub(crate) fn sum_swept(one: Swept, other: Swept) -> Swept
     }
 }
 
-// Gives the conversation turns, at most 4,096, until its verdict is fresh. An open conversation stays open, so only
-// memory can be refused.
+// Gives the conversation turns, at most 4,096, until its verdict is fresh. A conversation that was closed meanwhile
+// counts as renewed, if it had turns before.
 fn sweep_conversation<G: Gate>(
     rt: &impl Wait,
     service: &Service,
@@ -44,6 +45,12 @@ fn sweep_conversation<G: Gate>(
                 return Ok(Swept {
                     turns: before + 1,
                     judged: 1,
+                });
+            }
+            Err(Refusal::NoConversation) => {
+                return Ok(Swept {
+                    turns: before,
+                    judged: before.min(1),
                 });
             }
             Err(_) => return Err(AllocError),

@@ -3,7 +3,7 @@ use Rattle.scrib_rejudge.proofs.turns.sweep_shard.Given as goal
 
 abbrev pub invariant-loop-id : goal.invariant-loop-id
 invariant-loop-id g l = record {
-  each : l.id-index ≤ l.swept.turns;
+  turned : l.swept.judged ≤ l.swept.turns;
   few : l.swept.turns ≤ 4096 * l.id-index;
   judged : l.swept.judged ≤ l.id-index;
 }
