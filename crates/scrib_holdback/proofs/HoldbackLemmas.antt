@@ -1,5 +1,5 @@
 -- What a holdback keeps.
-use Rattle.std.proofs.Common.{◌≡◌, ◌&&◌, ◌||◌, Bool, true, false, ℕ, ◌+◌, ◌≤◌, List, [], ◌∷◌, ◌++◌, drop, length, length-append, slice_get, Option, Some, None, MatchOption, refl, sym, ap, ◌∙◌, subst, arith}
+use Rattle.std.proofs.Common.{◌≡◌, ◌&&◌, ◌||◌, Bool, true, false, ℕ, ◌+◌, ◌≤◌, List, [], ◌∷◌, ◌++◌, drop, length, length-append, slice_get, cond, Option, Some, None, MatchOption, IfSome, is_some, refl, sym, ap, ◌∙◌, subst, arith}
 use Rattle.std.specs.List.{AllByRecursion}
 use Rattle.std.specs.Str.{bytes_eq}
 use Rattle.std.proofs.lemmas.Bool.{true≢false}
@@ -12,7 +12,8 @@ use Rattle.scrib_holdback.specs.declared.flights.Flight.{Flight}
 use Rattle.scrib_holdback.specs.Holdings.{Holding, PassesAlone}
 use Rattle.scrib_holdback.specs.Waiters.{Waiters}
 use Rattle.scrib_holdback.specs.Lanes.{HasNone, IsFirstItem, TakesFirst}
-use Rattle.scrib_holdback.specs.Releases.{IsReceivable, HasFlight, KeepsFlights, CountsEvent, SameCounts, own_items, HasDue, WaitsAt, IsDueAt, IsNextArrival, IsApart, PassesAtOnce, IsQuietAt, is_send_to, sends_to, IsTakenOut, IsTakenOnto, IsDrained, IsSound}
+use Rattle.scrib_holdback.specs.Releases.{IsReceivable, HasFlight, KeepsFlights, CountsEvent, SameCounts, own_items, HasDue, WaitsAt, IsDueAt, IsDueOn, IsFlightOf, IsNextArrival, IsApart, PassesAtOnce, IsQuietAt, is_send_to, sends_to, IsTakenOut, IsTakenOnto, IsDrained, IsSound}
+use Rattle.scrib_holdback.specs.Reorderings.{is_own}
 use Rattle.scrib_holdback.proofs.OwnEvents.{name_itself, same_name}
 use Rattle.scrib_holdback.proofs.Positions.{all_here, all_without, all_weaker, all_pushed}
 use Rattle.scrib_holdback.proofs.ReleaseLemmas.{own_items-append, own_item_yes, drained_one, drained_none, drop_behind, pushes_passed}
@@ -159,13 +160,6 @@ none_for_receiver event items e p q m is none r to =
 pub apart_read : {A : Type 0} (event : A → Event) (e f : Event) (old read : Holding A) → f ≡ e → read ≡ old → IsApart event f old → IsApart event e read
 apart_read event e f old read is same h = subst (λ z. IsApart event z read) is (subst (λ z. IsApart event f z) (sym same) h)
 
--- what is due at a place, by the first item of its role
-pub due_at : {A : Type 0} (event : A → Event) (place : ℕ) (w : Waiters A) (flights : List Flight) (x : A) → IsFirstItem event place w x → IsReceivable flights (event x) → IsDueAt event record { roles = w.roles; waiting = w.items; flights = flights } place
-due_at event place w flights x k ready = record {
-  waits = record { x = x; role = k.role; others = k.others; first = k.first };
-  ready = ready;
-}
-
 pub role_at : (roles : List (List ℕ)) (i : ℕ) (r s : List ℕ) → slice_get roles i ≡ Some r → slice_get roles i ≡ Some s → r ≡ s
 role_at roles i r s a b = let e : Some r ≡ Some s = sym a ∙ b in cc
 
@@ -209,16 +203,36 @@ taken_at event place w left old new x k counted = record {
   counts = counted;
 }
 
+-- the first item of the role at a place is the one that waits there
+first_is : {A : Type 0} (event : A → Event) (place : ℕ) (h : Holding A) (earlier later : List A) (x : A) (at : WaitsAt event h place) → slice_get h.roles place ≡ Some (subject_of (event x)) → h.waiting ≡ earlier ++ x ∷ later → own_items event (subject_of (event x)) earlier ≡ [] → x ≡ at.x
+first_is event place h earlier later x at role was first =
+    let r = subject_of (event x) in
+    let mine : subject_of (event at.x) ≡ r = role_at h.roles place (subject_of (event at.x)) r at.role role in
+    let own : own_items event r h.waiting ≡ x ∷ own_items event r later =
+    ap (own_items event r) was ∙ own_items-append event r earlier (x ∷ later) ∙ ap (λ z. z ++ own_items event r (x ∷ later)) first ∙ own_item_yes event r x later (name_itself r) in
+    let both : x ∷ own_items event r later ≡ at.x ∷ at.others = sym own ∙ ap (λ z. own_items event z h.waiting) (sym mine) ∙ at.first in
+    cc
+
 -- what was taken out of a place where an item is due is that item
 taken_is_due : {A : Type 0} (event : A → Event) (place : ℕ) (old new : Holding A) (released now : List A) (at : WaitsAt event old place) (k : IsTakenOnto event place old new released now) → k.x ≡ at.x
 taken_is_due event place old new released now at k =
-    let t = k.taken in
-    let r = subject_of (event k.x) in
-    let mine : subject_of (event at.x) ≡ r = role_at old.roles place (subject_of (event at.x)) r at.role k.role in
-    let own : own_items event r old.waiting ≡ k.x ∷ own_items event r t.later =
-    ap (own_items event r) t.was ∙ own_items-append event r t.earlier (k.x ∷ t.later) ∙ ap (λ z. z ++ own_items event r (k.x ∷ t.later)) t.first ∙ own_item_yes event r k.x t.later (name_itself r) in
-    let both : k.x ∷ own_items event r t.later ≡ at.x ∷ at.others = sym own ∙ ap (λ z. own_items event z old.waiting) (sym mine) ∙ at.first in
-    cc
+    first_is event place old k.taken.earlier k.taken.later k.x at k.role k.taken.was k.taken.first
+
+-- what was taken out has the flight of what was due
+pub flight_taken : {A : Type 0} (event : A → Event) (place pair : ℕ) (w left : Waiters A) (flights : List Flight) (x : A) → IsDueOn event record { roles = w.roles; waiting = w.items; flights = flights } place pair → TakesFirst event place w left x → IsFlightOf (event x) flights pair
+flight_taken event place pair w left flights x due k =
+    subst (λ z. IsFlightOf (event z) flights pair)
+    (sym (first_is event place record { roles = w.roles; waiting = w.items; flights = flights } k.earlier k.later x due.due.waits k.role k.was k.first))
+    due.flight
+
+-- what is said of all that waits is said of the first item of a role
+own_all : {A : Type 0} (P : A → Type 0) (event : A → Event) (r : List ℕ) (items : List A) (x : A) (others : List A) → AllByRecursion P items → own_items event r items ≡ x ∷ others → P x
+own_all {A} P event r [] x others h e = let empty : ◌≡◌ {A = List A} [] (x ∷ others) = e in absurd (cc)
+own_all {A} P event r (y ∷ items) x others h e = by (is_own r (event y)) (own_all P event r items x others h.1) e
+  where
+    by : (b : Bool) → (own_items event r items ≡ x ∷ others → P x) → cond b (y ∷ own_items event r items) (own_items event r items) ≡ x ∷ others → P x
+    by true later same = let one : y ≡ x = cc in subst P one h.0
+    by false later same = later same
 
 pub drained_due : {A : Type 0} (event : A → Event) (place : ℕ) (old new : Holding A) (released now : List A) → IsDueAt event old place → IsTakenOnto event place old new released now → new.roles ≡ old.roles → IsDrained event old new released now
 drained_due event place old new released now due k same =
@@ -242,3 +256,15 @@ unready_read flights read e f b same is h no_ ready = true≢false (sym (h (read
 
 pub has_read : (flights read : List Flight) (e f : Event) → read ≡ flights → f ≡ e → HasFlight read f → HasFlight flights e
 has_read flights read e f same is h = subst (λ z. HasFlight flights z) is (subst (λ z. HasFlight z f) same h)
+
+-- the flight of what is due at a place, where it was found by flights and an event that were read
+pub due_on : {A : Type 0} (event : A → Event) (place : ℕ) (w : Waiters A) (flights read : List Flight) (pushed : ℕ) (x : A) (f : Event) (o : Option ℕ) → read ≡ flights → f ≡ event x → IsSound event w.items flights pushed → IsFirstItem event place w x → IfSome o (IsFlightOf f read) → (is_some o ≡ true → IsReceivable read f) → (is_some o ≡ false → HasFlight read f → IsReceivable read f → ⊥) → MatchOption o (IsQuietAt event place record { roles = w.roles; waiting = w.items; flights = flights }) (IsDueOn event record { roles = w.roles; waiting = w.items; flights = flights } place)
+due_on {A} event place w flights read pushed x f None same is s k at ready unready =
+    let R : A → Type 0 = λ y. HasFlight flights (event y) in
+    let has : HasFlight flights (event x) = own_all R event (subject_of (event x)) w.items x k.others s.paired k.first in
+    quiet_at_unready event place w flights x k
+    (λ due. unready refl (has_read read flights f (event x) (sym same) (sym is) has) (ready_read read flights f (event x) (sym same) (sym is) due))
+due_on event place w flights read pushed x f (Some i) same is s k at ready unready = record {
+  due = record { waits = record { x = x; role = k.role; others = k.others; first = k.first }; ready = ready_read flights read (event x) f same is (ready refl) };
+  flight = subst (λ z. IsFlightOf z flights i) is (subst (λ z. IsFlightOf f z i) same at);
+}

@@ -81,6 +81,11 @@ pub record IsDueAt {A : Type 0} (event : A → Event) (h : Holding A) (place : �
   pub waits : WaitsAt event h place
   pub ready : IsReceivable h.flights (event waits.x)
 
+-- the first waiting item of the role at this place is ready, and the flight at this index is that of its pair
+pub record IsDueOn {A : Type 0} (event : A → Event) (h : Holding A) (place pair : ℕ) : Type 0 where
+  pub due : IsDueAt event h place
+  pub flight : IsFlightOf (event due.waits.x) h.flights pair
+
 -- the oldest item that waits is of the role at this place
 pub record IsOldestOfRole {A : Type 0} (event : A → Event) (h : Holding A) (place : ℕ) : Type 0 where
   pub x : A

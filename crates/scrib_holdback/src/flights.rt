@@ -28,21 +28,10 @@ impl Flight {
     }
 }
 
-/// Whether the event may happen next: a reception, where more was sent on its pair than was received.
+/// Makes room for the counts of the event's pair. Returns the index of its flight.
 ///
 /// Of any pair there is one flight at most. The hint may be any index. It is where the flight of the pair is looked for
 /// first.
-pub(crate) fn is_ready(flights: &[Flight], hint: usize, event: &Event) -> bool
-    requires { AreDistinctFlights flights.now }
-    ensures { IsTrue result ↔ IsReceivable flights.now event.now }
-{
-    match event {
-        Event::Received { from, to, .. } => has_unreceived(flights, hint, from, to),
-        Event::Join { .. } | Event::Sent { .. } => true,
-    }
-}
-
-/// Makes room for the counts of the event's pair. Returns the index of its flight. The hint is as in [`is_ready`].
 ///
 /// # Errors
 /// `AllocError` where memory or a reference count refuses it. The counts stay.
@@ -65,7 +54,7 @@ pub(crate) fn reserve(
 }
 
 /// Counts the event, whether it may happen next or not. Returns the index of its flight. The hint is as in
-/// [`is_ready`].
+/// [`reserve`].
 pub(crate) fn count(flights: &mut [Flight], hint: usize, event: &Event) -> usize
     requires distinct { AreDistinctFlights flights.old }
     requires paired { HasFlight flights.old event.now }
@@ -82,7 +71,7 @@ pub(crate) fn count(flights: &mut [Flight], hint: usize, event: &Event) -> usize
 }
 
 /// Counts the event, if it may happen next. Returns the index of its flight then. Returns `None` also where the event
-/// is the first send on its pair, and there is no memory for a flight. The hint is as in [`is_ready`].
+/// is the first send on its pair, and there is no memory for a flight. The hint is as in [`reserve`].
 #[inline(always)]
 pub(crate) fn count_ready(flights: &mut Vec<Flight>, hint: usize, event: &Event) -> Option<usize>
     requires distinct { AreDistinctFlights flights.old.items }
@@ -104,12 +93,13 @@ pub(crate) fn count_ready(flights: &mut Vec<Flight>, hint: usize, event: &Event)
 }
 
 /// The index of the event's flight, if the event may happen next. Returns `None` also where the flight is missing. The
-/// hint is as in [`is_ready`].
+/// hint is as in [`reserve`].
 #[inline(always)]
 pub(crate) fn ready_flight(flights: &[Flight], hint: usize, event: &Event) -> Option<usize>
     requires { AreDistinctFlights flights.now }
     ensures at { IfSome result (IsFlightOf event.now flights.now) }
     ensures ready { IsSome result → IsReceivable flights.now event.now }
+    ensures unready { IsNone result → HasFlight flights.now event.now → IsReceivable flights.now event.now → ⊥ }
 {
     let Some(place) = flight_of(flights, hint, event) else {
         return None;
@@ -216,17 +206,6 @@ fn search(flights: &[Flight], from: &Role, to: &Role) -> Option<usize>
     flights
         .iter()
         .position(|flight| flight.is_between(from, to))
-}
-
-// Whether more was sent on the pair than was received.
-fn has_unreceived(flights: &[Flight], hint: usize, from: &Role, to: &Role) -> bool
-    requires { AreDistinctFlights flights.now }
-    ensures { IsTrue result ↔ (received_on from.now to.now flights.now < sent_on from.now to.now flights.now) }
-{
-    match place_of(flights, hint, from, to) {
-        Some(place) => flights[place].received < flights[place].sent,
-        None => false,
-    }
 }
 
 // Adds the pair where it is missing. Returns the index of its flight.

@@ -5,13 +5,11 @@ ghost use Rattle.scrib_types.specs.Logs.{subject_of};
 ghost use Rattle.scrib_holdback.specs.FalseAlarms.{RaisesNoFalseAlarm};
 ghost use Rattle.scrib_holdback.specs.HoldBack.{IsHeldBack};
 ghost use Rattle.scrib_holdback.specs.Holdings.{IsAfter, IsExpired, IsOldestWaiting, IsPushed, IsSameAfterAny, PassesAlone};
-ghost use Rattle.scrib_holdback.specs.Releases.{HasDue, IsAppended, IsApart, IsDrained, IsDueAt, IsFlightOf, IsNextArrival, IsOldestOfRole, PassesAtOnce, IsQuiet, IsQuietAt, IsReceivable, IsSameHolding, IsTakenOnto, OnlyReceivers, WaitsAt, is_send_to, own_items};
+ghost use Rattle.scrib_holdback.specs.Releases.{HasDue, IsAppended, IsApart, IsDrained, IsDueOn, IsFlightOf, IsNextArrival, IsOldestOfRole, PassesAtOnce, IsQuiet, IsQuietAt, IsSameHolding, IsTakenOnto, OnlyReceivers, WaitsAt, is_send_to, own_items};
 ghost use Rattle.scrib_holdback.specs.Reorderings.{IsReordering};
 
 use crate::arrival::Arrival;
-use crate::flights::{
-    Flight, count, count_at, count_ready, is_ready, is_ready_at, ready_flight, reserve,
-};
+use crate::flights::{Flight, count, count_at, count_ready, is_ready_at, ready_flight, reserve};
 use crate::lane_hints::LaneHints;
 use crate::pair_hints::PairHints;
 use crate::waiting::Waiting;
@@ -134,7 +132,7 @@ impl<A: Arrival> Holdback<A> {
         };
         released.reserve(self.waiting.bound())?;
         let start = released.len();
-        self.take(place, released);
+        self.take_oldest(place, released);
         self.drain(place, released);
         self.drain_receivers(start, released);
         Ok(true)
@@ -185,8 +183,8 @@ impl<A: Arrival> Holdback<A> {
     }
 
     // Whether nothing waits of the event's role, nor of the role that it is sent to. The flight may be any index. Where
-    // it is that of the event's pair, the roles are found at once. So it is in the functions below. They look no further,
-    // since an arrival that is pushed renews the hints.
+    // it is that of the event's pair, the roles are found at once. So it is in the functions below. They look no
+    // further, since an arrival that is pushed renews the hints.
     #[inline(always)]
     fn is_apart(&self, flight: usize, event: &Event) -> bool
         ensures { IsTrue result → IsApart A.event event.now self.now }
@@ -237,14 +235,9 @@ impl<A: Arrival> Holdback<A> {
         self.lane_hints.subject(self.hints.hint(event), event.get())
     }
 
-    // Whether an arrival with this event may happen next.
-    fn is_ready(&self, event: &SharedEvent) -> bool
-        ensures { IsTrue result ↔ IsReceivable self.now.flights event.now }
-    {
-        is_ready(&self.flights, self.hints.hint(event), event.get())
-    }
-
-    // Takes the next arrival, where nothing waits. No lane is added for one that is released at once.
+    // Takes the next arrival, where nothing waits. No lane is added for one that is released at once. It is a function
+    // of its own, so that it stays out of the code of the other pushes.
+    #[inline(never)]
     fn push_idle(&mut self, arrival: A, released: &mut Vec<A>) -> Result<(), AllocError>
         ensures ok { OnOk result (IsPushed A.event arrival self.old self.new released.old.items released.new.items) }
         ensures err { OnErr result (IsSameAfterAny A.event self.old self.new) }
@@ -352,8 +345,8 @@ impl<A: Arrival> Holdback<A> {
         ensures quiet { IsQuietAt A.event place self.new }
         ensures capacity { vec_capacity released.new ≡ vec_capacity released.old }
     {
-        while self.is_due(place) {
-            self.take(place, released);
+        while let Some(pair) = self.due_pair(place) {
+            self.take_due(place, pair, released);
         }
     }
 
@@ -386,19 +379,32 @@ impl<A: Arrival> Holdback<A> {
         }
     }
 
-    // Whether the first waiting arrival of the role at this place may be released.
-    fn is_due(&self, place: usize) -> bool
-        ensures yes { IsTrue result → IsDueAt A.event self.now place }
-        ensures no { IsFalse result → IsQuietAt A.event place self.now }
+    // The index of the flight of the first waiting arrival of the role at this place, if that may be released.
+    fn due_pair(&self, place: usize) -> Option<usize>
+        ensures { MatchOption result (IsQuietAt A.event place self.now) (IsDueOn A.event self.now place) }
     {
-        match self.waiting.first(place) {
-            Some(arrival) => self.is_ready(arrival.event()),
-            None => false,
-        }
+        let arrival = self.waiting.first(place)?;
+        let shared = arrival.event();
+        ready_flight(&self.flights, self.hints.hint(shared), shared.get())
     }
 
-    // Takes the first waiting arrival of the role at this place out, counts it, and puts it behind the others.
-    fn take(&mut self, place: usize, released: &mut Vec<A>)
+    // Takes the first waiting arrival of the role at this place out, whose flight is at this index. It counts it, and
+    // puts it behind the others.
+    fn take_due(&mut self, place: usize, pair: usize, released: &mut Vec<A>)
+        requires due { IsDueOn A.event self.old place pair }
+        requires room { vec_len released.old < vec_capacity released.old }
+        ensures taken { IsTakenOnto A.event place self.old self.new released.old.items released.new.items }
+        ensures roles { self.new.roles ≡ self.old.roles }
+        ensures len { vec_len released.new ≡ vec_len released.old + 1 }
+        ensures capacity { vec_capacity released.new ≡ vec_capacity released.old }
+    {
+        let arrival = self.waiting.take_first(place);
+        count_at(&mut self.flights, pair, arrival.event().get());
+        released.push_reserved(arrival);
+    }
+
+    // The same for the first arrival of the role at this place, which may not have happened yet.
+    fn take_oldest(&mut self, place: usize, released: &mut Vec<A>)
         requires waits { WaitsAt A.event self.old place }
         requires room { vec_len released.old < vec_capacity released.old }
         ensures taken { IsTakenOnto A.event place self.old self.new released.old.items released.new.items }
@@ -406,9 +412,7 @@ impl<A: Arrival> Holdback<A> {
         ensures len { vec_len released.new ≡ vec_len released.old + 1 }
         ensures capacity { vec_capacity released.new ≡ vec_capacity released.old }
     {
-        let Some(arrival) = self.waiting.pop(place) else {
-            unreachable!()
-        };
+        let arrival = self.waiting.take_first(place);
         let shared = arrival.event();
         let hint = self.hints.hint(shared);
         let pair = count(&mut self.flights, hint, shared.get());

@@ -198,8 +198,8 @@ impl<A: Arrival> Waiting<A> {
         self.slots[index].as_ref()
     }
 
-    /// Takes the first arrival of the role at this place out.
-    pub(crate) fn pop(&mut self, place: usize) -> Option<A>
+    // Takes the first arrival of the role at this place out.
+    fn pop(&mut self, place: usize) -> Option<A>
         ensures roles { self.new.roles ≡ self.old.roles }
         ensures pushed { self.new.pushed ≡ self.old.pushed }
         ensures fits { self.new.pushed < 2 ^ 64 }
@@ -211,6 +211,20 @@ impl<A: Arrival> Waiting<A> {
         let arrival = self.slots[index].take();
         trim(&mut self.slots);
         arrival
+    }
+
+    /// Takes the first arrival of the role at this place out, where there is one.
+    pub(crate) fn take_first(&mut self, place: usize) -> A
+        requires { HasNone A.event place self.old → ⊥ }
+        ensures roles { self.new.roles ≡ self.old.roles }
+        ensures pushed { self.new.pushed ≡ self.old.pushed }
+        ensures fits { self.new.pushed < 2 ^ 64 }
+        ensures taken { TakesFirst A.event place self.old self.new result }
+    {
+        match self.pop(place) {
+            Some(arrival) => arrival,
+            None => unreachable!(),
+        }
     }
 
     /// What waits, in order of arrival.
