@@ -150,7 +150,8 @@ Exit status:
 // After the options of `run`.
 pub(crate) const RUN: &str = "\
 SETUP puts the modules and opens the conversations; the CONNECTION scripts then
-report their events. The lines of a script are those of `scribmon watch --help`.
+report their events. The lines of a script are those of `scribmon watch --help`,
+but for `close`.
 Prints the replies of SETUP, those of each connection behind a line with its
 number, and a table: id, events, verdict, protocol.
 
