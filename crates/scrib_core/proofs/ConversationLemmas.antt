@@ -221,7 +221,7 @@ module _ (modules : List ModuleTree) (once : MeansOnce modules) (c : Conversatio
   abbrev CompleteNow : Verdict → Type 0
   CompleteNow v = (v ≡ Permitted) × ((a : Agreement) × Means modules c.name a × IsComplete a c.log)
 
-  complete_now : (o : Option Agreement) → IsMeaning modules c.name o → (v : Verdict) → IsCompleteUnder o c.log v → CompleteNow v
+  pub complete_now : (o : Option Agreement) → IsMeaning modules c.name o → (v : Verdict) → IsCompleteUnder o c.log v → CompleteNow v
   complete_now None m Permitted x = absurd x
   complete_now None m (Offence place role allowed) x = absurd x
   complete_now None m Withdrawn x = absurd x

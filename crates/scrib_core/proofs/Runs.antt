@@ -17,7 +17,7 @@ use Rattle.scrib_core.specs.World.{World, Conversation}
 use Rattle.scrib_core.specs.Runs.{IsPermittedRun, PermitsRuns}
 
 -- a log with an offence is not permitted
-not_offending : (a : Agreement) (log : List Event) (place : ℕ) (role : List ℕ) (allowed : List Action) → IsOffence a log place role allowed → IsPermitted a log → ⊥
+pub not_offending : (a : Agreement) (log : List Event) (place : ℕ) (role : List ℕ) (allowed : List Action) → IsOffence a log place role allowed → IsPermitted a log → ⊥
 not_offending a log place role allowed h p =
     let front = h.before ++ h.event ∷ [] in
     let whole : log ≡ front ++ h.after = h.here ∙ sym (append_assoc h.before (h.event ∷ []) h.after) in

@@ -65,6 +65,13 @@ pub record IsConcluded (w : World) (id : ℕ) (name : List (List ℕ)) (events :
   pub complete_is : IsTrue complete
       ↔ ((verdict ≡ Permitted) × ((a : Agreement) × Means w.modules of.name a × IsComplete a of.log))
 
+-- the conversation is open, its verdict is not stale, and its log is complete under the protocol's present meaning
+abbrev pub IsCompleteIn : State → ℕ → Type 0
+IsCompleteIn s id =
+    (s.marks id ≡ Fresh)
+    × ((c : Conversation) × (conversation s.world id ≡ Some c)
+    × ((a : Agreement) × Means s.world.modules c.name a × IsComplete a c.log))
+
 -- the reply to an accepted step, in terms of the world before it and the state after it
 abbrev pub Replies : World → Step → Reply → State → Type 0
 Replies w (Put text) (reply.Edited e changes) s =

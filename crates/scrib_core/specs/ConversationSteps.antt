@@ -1,6 +1,6 @@
 -- The effect of open, note, turn, ask and close on the records beside a library (this project's own). Each changes at
 -- most the record of its id, and a close may change the order of the others.
-use Rattle.std.specs.Prelude.{◌≡◌, ℕ, ◌<◌, ◌≤◌, List, [], ◌∷◌, ◌++◌, length, Option, Some, None, nat_eq, IsSome}
+use Rattle.std.specs.Prelude.{◌≡◌, ◌⊎◌, ℕ, Bool, true, false, ◌<◌, ◌≤◌, List, [], ◌∷◌, ◌++◌, length, Option, Some, None, nat_eq, IsSome}
 use Rattle.std.specs.Map.{set_value}
 use Rattle.std.specs.Option.{option_map}
 use Rattle.scrib_types.specs.declared.event.Event.{Event}
@@ -9,8 +9,8 @@ use Rattle.scrib_types.specs.Agreement.{Agreement}
 use Rattle.scrib_record.specs.declared.comparison.Comparison.{Comparison}
 use Rattle.scrib_record.specs.declared.comparison.Comparison.TheVariants.{Whole, Numbers}
 use Rattle.scrib_record.specs.declared.version.Version.{Version}
-use Rattle.scrib_record.specs.CompleteRecords.{IsWholeVerdict}
-use Rattle.scrib_record.specs.Stale.{Recorded, IsLawful}
+use Rattle.scrib_record.specs.CompleteRecords.{IsCompleteRecord, IsWholeVerdict}
+use Rattle.scrib_record.specs.Stale.{Recorded, IsLawful, is_stale}
 use Rattle.scrib_record.specs.Told.{IsNoted, IsTurned, IsReported}
 use Rattle.scrib_record.specs.Turns.{new_record}
 use Rattle.scrib_record.specs.Versions.{meaning_of, number_of, HaveSameStamp}
@@ -131,3 +131,13 @@ abbrev pub CloseFails : Records → ℕ → Refusal → Type 0
 CloseFails old id NoConversation = record_at old id ≡ None
 CloseFails old id OutOfMemory = IsSome (record_at old id)
 CloseFails old id _ = ⊥
+
+-- The test holds exactly where the record of the id is complete under the version that it holds, and is not stale.
+abbrev pub IsCompleteTest : Holdings → Records → ℕ → Bool → Type 0
+IsCompleteTest h rs id true =
+    (r : Recorded) × (record_at rs id ≡ Some r) × IsCompleteRecord r
+    × ((present : Option Version) × IsPresent h r.name present × (is_stale present r ≡ false))
+IsCompleteTest h rs id false =
+    (r : Recorded) → record_at rs id ≡ Some r
+    → IsLawful r × ((IsCompleteRecord r → ⊥)
+    ⊎ ((present : Option Version) × IsPresent h r.name present × (is_stale present r ≡ true)))

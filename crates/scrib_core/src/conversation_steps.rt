@@ -2,7 +2,7 @@
 
 ghost use Rattle.std.specs.Prelude.{◌≡◌, IfOk, IfErr, OnOk, OnErr};
 ghost use Rattle.std.specs.Option.{option_copied};
-ghost use Rattle.scrib_core.specs.ConversationSteps.{IsOpened, OpenFails, IsNotedAt, NoteFails, IsTurnedAt, IsAskedAt, VerdictFails, IsClosedAt, CloseFails, IsBegun, IsPresent, IsSoundComparison, IsSoundForRecord};
+ghost use Rattle.scrib_core.specs.ConversationSteps.{IsOpened, OpenFails, IsNotedAt, NoteFails, IsTurnedAt, IsAskedAt, VerdictFails, IsClosedAt, CloseFails, IsCompleteTest, IsBegun, IsPresent, IsSoundComparison, IsSoundForRecord};
 ghost use Rattle.scrib_core.specs.Permitted.{IsOutcomeTest};
 
 use crate::places::{place_of, record_of};
@@ -10,6 +10,7 @@ use crate::reply::Refusal;
 use crate::verdicts::{is_permitted_answer, verdict_of};
 use indexmap::IndexMap;
 use scrib_library::library::Library;
+use scrib_record::answer::Answer;
 use scrib_record::comparison::Comparison;
 use scrib_record::numbering::Numbering;
 use scrib_record::record::Record;
@@ -242,6 +243,34 @@ pub fn is_permitted(
     let _log = record.log();
     let (_, present) = present_of(library, record, comparison);
     is_permitted_answer(record.ask(present, comparison))
+}
+
+/// Returns whether the conversation is open, its verdict is not stale, and its log is complete: permitted, no role has a
+/// further action, and no message is in flight. It allocates nothing.
+#[inline(always)]
+pub fn is_complete(
+    library: &Library,
+    records: &IndexMap<u32, Record>,
+    comparison: Comparison,
+    id: u32,
+) -> bool
+    requires { IsSoundComparison comparison library.now records.now.entries }
+    ensures { IsCompleteTest library.now records.now.entries id result }
+{
+    let Some(record) = record_of(records, id) else {
+        return false;
+    };
+    // Its clause says that the record is lawful.
+    let _log = record.log();
+    // Tested first: most logs are not complete, and the protocol need not be looked up then.
+    if !record.is_complete() {
+        return false;
+    }
+    let (_, present) = present_of(library, record, comparison);
+    match record.ask(present, comparison) {
+        Answer::Stale => false,
+        _ => true,
+    }
 }
 
 /// Closes a conversation: takes its record out, and returns the verdict on its whole log under the library. What is not

@@ -1,19 +1,19 @@
 //! The core: the monitor on one thread.
 
-ghost use Rattle.std.specs.Prelude.{◌≡◌, IfOk, OnErr};
+ghost use Rattle.std.specs.Prelude.{◌≡◌, ◌↔◌, IfOk, IsTrue, OnErr};
 ghost use Rattle.std.specs.Option.{option_map};
 ghost use Rattle.scrib_types.specs.Meaning.{agreement_of};
 ghost use Rattle.scrib_library.specs.Modules.{IsMeaning};
 ghost use Rattle.scrib_core.specs.declared.step.Step.TheVariants.{Put, Withdraw, Open, Note, Turn, Ask, Close};
 ghost use Rattle.scrib_core.specs.declared.step.Step.TheVariants as steps;
-ghost use Rattle.scrib_core.specs.Answers.{initial, initial_under, IsAnswered, IsDue, AnswersAsDue};
+ghost use Rattle.scrib_core.specs.Answers.{initial, initial_under, IsCompleteIn, IsAnswered, IsDue, AnswersAsDue};
 ghost use Rattle.scrib_core.specs.Held.{state_of, LeavesRefused, AnswersHeld, IsViewed};
 ghost use Rattle.scrib_core.specs.Permitted.{IsReplyTest};
 ghost use Rattle.scrib_core.specs.ReplyValues.{close_reply_of, note_reply_of, open_reply_of, verdict_reply_of};
 ghost use Rattle.scrib_core.specs.Runs.{PermitsRuns};
 
 use crate::conversation_steps::{
-    Closed, Judged, Noted, Opening, ask, close, is_permitted, note, open, turn,
+    Closed, Judged, Noted, Opening, ask, close, is_complete, is_permitted, note, open, turn,
 };
 use crate::reply::{
     Edit, Refusal, Reply, close_reply, edit_reply, note_reply, open_reply, profile_reply,
@@ -174,6 +174,16 @@ impl Core {
     {
         self.library.are_numbered();
         is_permitted(&self.library, &self.records, Comparison::Numbers, id)
+    }
+
+    /// Returns whether the conversation is open, its verdict is not stale, and its log is complete: permitted, no role
+    /// has a further action, and no message is in flight. It allocates nothing.
+    #[inline(always)]
+    pub fn is_complete(&self, id: u32) -> bool
+        ensures { IsTrue result ↔ IsCompleteIn (state_of self.now) id }
+    {
+        self.library.are_numbered();
+        is_complete(&self.library, &self.records, Comparison::Numbers, id)
     }
 
     /// Makes the step `Open` with this id and name. Returns the protocol's name. What `apply` ensures of a reply holds
