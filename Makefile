@@ -25,7 +25,7 @@ try: run ## the same as run
 # their own, until the last run waits for what is still being proved.
 CHAIN = scrib_elaborate scrib_shards scrib_run_service
 BESIDE = scrib_parser scrib_record scrib_global scrib_hold_stage scrib_arguments
-LAST = scrib_cli scrib_hold_lines
+LAST = scrib_cli scrib_closing scrib_hold_lines
 
 build: ## proves and builds crates/scribmon/out/scribmon: 40 minutes on four processors
 	@work=$$(mktemp -d) && trap 'rm -rf "$$work"' EXIT && \

@@ -1,0 +1,426 @@
+-- What a run that closes complete conversations has given at a position of its script, and where it fails.
+use Rattle.std.proofs.Common.{◌≡◌, ℕ, ◌+◌, true, List, [], ◌∷◌, ◌++◌, ◌∙◌, Option, Some, None, length, length-append, refl, sym, ap, subst, arith, eqb, Result, Ok, Err}
+use Rattle.std.specs.Prelude.{OnOk, OnErr, IfOk}
+use Rattle.std.specs.Io.KnownBytes.{Appends}
+use Rattle.std.proofs.lemmas.Bool.{eqb-true}
+use Rattle.std.proofs.lemmas.List.{append_assoc, append-nil}
+use Rattle.scrib_core.specs.Answers.{initial}
+use Rattle.scrib_core.specs.Held.{state_of}
+use Rattle.scrib_core.specs.declared.format.Format.{Format}
+use Rattle.scrib_script_reader.specs.declared.entry.Entry.{Entry}
+use Rattle.scrib_script_reader.specs.declared.item.Item.{Item}
+use Rattle.scrib_script_reader.specs.declared.script.Script.{Script}
+use Rattle.scrib_script_reader.specs.Scripts.{Spells, lines}
+use Rattle.scrib_script_reader.specs.Entries.{SpellsEntries, entry_items, entry_list}
+use Rattle.scrib_script_reader.specs.declared.limits.Limits.{Limits}
+use Rattle.scrib_script_reader.specs.Positions.{Holds, HasRead, TakesEntries, TakesFrontEntries, EndGives}
+use Rattle.scrib_script_reader.proofs.PositionLemmas.{give_entries, items_more, spells_items}
+use Rattle.scrib_script_reader.proofs.ScriptLemmas.{entries_none, more_entries, all_entries}
+use Rattle.scrib_script_io.specs.Writes.{AppendsPart}
+use Rattle.scrib_script_io.proofs.WriterLemmas.{appends_none, appends_more}
+use Rattle.scrib_cli.specs.declared.gathered.Gathered.{Gathered}
+use Rattle.scrib_cli.specs.Progress.{WritesFront}
+use Rattle.scrib_cli.specs.Scripts.{written}
+use Rattle.scrib_closing.specs.declared.closing_monitor.ClosingMonitor.{ClosingMonitor}
+use Rattle.scrib_closing.specs.declared.closing_run.ClosingRun.{ClosingRun}
+use Rattle.scrib_closing.specs.ClosingScripts.{IsClosingOutput, IsClosingPart}
+use Rattle.scrib_closing.specs.Progress.{AreCarriedOut, IsBeginningOf, HasTaken, TakesEntry, FailsAtEntry, HasClosingProgressed, ClosingRunAdvances, ClosingPieceFails, GathersClosingFront, GatherFails, ClosingEndSucceeds, EndIsCut, Writes, WritesFirst, IsNewClosing}
+use Rattle.scrib_closing.proofs.ClosingLemmas.{begun_more, begun_none}
+use Rattle.scrib_closing.proofs.MonitorLemmas.{begun}
+
+-- whatever follows, the script gives these entries first
+pub first_entries : (m : Limits) (s : Script) (seen : List ℕ) (entries : List Entry) → HasRead m s seen entries → (more : List ℕ) → (rest : List Entry) × SpellsEntries 1 None (lines (seen ++ more)) (entries ++ rest)
+first_entries m s seen entries r more = let p = give_entries (lines (r.line ++ more)) (s.lines + 1) r.text in (p.0, r.leads more p.0 p.1)
+
+-- a run before its first byte
+pub is_new : (o : Format) (m : Limits) (run : ClosingRun) → Holds run.script None [] → run.script.lines ≡ 0 → run.script.bytes ≡ 0 → run.script.limits ≡ m → HasTaken o run.monitor [] [] → IsNewClosing o m run
+is_new o m run holds no_lines no_bytes limits taken = record {
+  progress = record { entries = []; read = entries_none m run.script holds no_lines no_bytes limits; taken = taken };
+}
+
+-- a prefix of what may be written for the items of a script
+part_of : (o : Format) (input : List ℕ) (items : List Item) (part : List ℕ) → Spells 1 None (lines input) items → IsBeginningOf o items initial part → IsClosingPart o input part
+part_of o input items part spelled b = (written o b.0 b.1, b.3, (items, b.0, b.1, b.2, spelled, b.4, refl), b.5)
+
+-- a prefix of what may be written for some entries, and others that follow in the script
+closing_part : (o : Format) (m : Limits) (s : Script) (seen : List ℕ) (entries : List Entry) (part : List ℕ) → HasRead m s seen entries → IsBeginningOf o (entry_items entries) initial part → (more : List ℕ) → IsClosingPart o (seen ++ more) part
+closing_part o m s seen entries part r b more =
+    let p = first_entries m s seen entries r more in
+    let items = entry_items (entries ++ p.0) in
+    let k = subst (λ (l : List Item). IsBeginningOf o l initial part) (sym (items_more entries p.0)) (begun_more o (entry_items entries) (entry_items p.0) initial part b) in
+    part_of o (seen ++ more) items part (spells_items p.1) k
+
+-- the output of a run so far is a prefix of one of the script
+pub part_so_far : (o : Format) (m : Limits) (run : ClosingRun) (seen out : List ℕ) → HasClosingProgressed o m run seen out → (more : List ℕ) → IsClosingPart o (seen ++ more) out
+part_so_far o m run seen out c more = closing_part o m run.script seen c.entries out c.read (begun o run.monitor c.entries out c.taken) more
+
+pub part_less : (o : Format) (input whole part rest : List ℕ) → whole ≡ part ++ rest → IsClosingPart o input whole → IsClosingPart o input part
+part_less o input whole part rest is p = (p.0, rest ++ p.1, p.2, p.3 ∙ ap (λ (l : List ℕ). l ++ p.1) is ∙ append_assoc part rest p.1)
+
+-- all of an output is a prefix of it
+pub part_whole : (o : Format) (input output : List ℕ) → IsClosingOutput o input output → IsClosingPart o input output
+part_whole o input output h = (output, [], h, sym (append-nil output))
+
+-- nothing is a prefix of each output
+pub part_nothing : (o : Format) (input : List ℕ) → IsClosingPart o input []
+part_nothing o input = let p = give_entries (lines input) 1 None in part_of o input (entry_items p.0) [] (spells_items p.1) (begun_none o (entry_items p.0) initial)
+
+-- ---- what is gathered does not matter for what was taken
+
+pub taken_moved : (o : Format) (m : ClosingMonitor) (g : Gathered) (entries : List Entry) (out : List ℕ) → HasTaken o m entries out → HasTaken o (record m { gathered = g }) entries out
+taken_moved o m g entries out c = record {
+  format = c.format;
+  carried = c.carried;
+}
+
+abbrev pub with_gathered : ClosingRun → Gathered → ClosingRun
+with_gathered run g = record run { monitor = record run.monitor { gathered = g } }
+
+pub progress_moved : (o : Format) (m : Limits) (run : ClosingRun) (g : Gathered) (seen out : List ℕ) → HasClosingProgressed o m run seen out → HasClosingProgressed o m (with_gathered run g) seen out
+progress_moved o m run g seen out c = record { entries = c.entries; read = c.read; taken = taken_moved o run.monitor g c.entries out c.taken }
+
+-- ---- a line
+
+-- a line without an entry
+pub gathers_none : (old : ClosingRun) (script : Script) (piece rest : List ℕ) (found : Option Entry) → found ≡ None → TakesFrontEntries old.script script piece rest (entry_list found)
+    → GathersClosingFront old (record old { script = script }) piece rest
+gathers_none old script piece rest found none takes =
+    let here : TakesEntries old.script script takes.0 [] = subst (λ (f : Option Entry). TakesEntries old.script script takes.0 (entry_list f)) none takes.2 in
+    record {
+      front = takes.0;
+      out = [];
+      is = takes.1;
+      grows = sym (append-nil old.monitor.gathered.bytes.items);
+      went = record {
+        goes = λ o m seen before c. record {
+          entries = c.entries;
+          read =
+              subst (λ (l : List Entry). HasRead m script (seen ++ takes.0) l) (append-nil c.entries)
+              (more_entries m old.script script seen takes.0 c.entries [] c.read here);
+          taken = subst (λ (l : List ℕ). HasTaken o old.monitor c.entries l) (sym (append-nil before)) c.taken;
+        };
+      };
+    }
+
+-- a line with one
+pub gathers_entry : (old : ClosingRun) (script : Script) (monitor : ClosingMonitor) (piece rest : List ℕ) (found : Option Entry) (e : Entry) → found ≡ Some e → TakesFrontEntries old.script script piece rest (entry_list found)
+    → TakesEntry old.monitor monitor e → GathersClosingFront old (record old { script = script; monitor = monitor }) piece rest
+gathers_entry old script monitor piece rest found e is takes took =
+    let here : TakesEntries old.script script takes.0 (e ∷ []) = subst (λ (f : Option Entry). TakesEntries old.script script takes.0 (entry_list f)) is takes.2 in
+    record {
+      front = takes.0;
+      out = took.out;
+      is = takes.1;
+      grows = took.grows;
+      went = record {
+        goes = λ o m seen before c. record {
+          entries = c.entries ++ e ∷ [];
+          read = more_entries m old.script script seen takes.0 c.entries (e ∷ []) c.read here;
+          taken = took.after o c.entries before c.taken;
+        };
+      };
+    }
+
+-- ---- a line that is read without an entry
+
+-- nothing was consumed by a first attempt at the line
+no_front : (front piece : List ℕ) → piece ≡ front ++ piece → front ≡ []
+no_front [] piece is = refl
+no_front (x ∷ front) piece is = absurd (omega (arith, ap length is, length-append front piece))
+
+pub progress_unread : (o : Format) (m : Limits) (run : ClosingRun) (script : Script) (piece seen out : List ℕ) → TakesFrontEntries run.script script piece piece [] → HasClosingProgressed o m run seen out
+    → HasClosingProgressed o m (record run { script = script }) seen out
+progress_unread o m run script piece seen out takes c =
+    let none : takes.0 ≡ [] = no_front takes.0 piece takes.1 in
+    let here : TakesEntries run.script script [] [] = subst (λ (u : List ℕ). TakesEntries run.script script u []) none takes.2 in
+    record {
+      entries = c.entries;
+      read =
+          subst (λ (u : List ℕ). HasRead m script u c.entries) (append-nil seen)
+          (subst (λ (l : List Entry). HasRead m script (seen ++ []) l) (append-nil c.entries) (more_entries m run.script script seen [] c.entries [] c.read here));
+      taken = c.taken;
+    }
+
+pub gathers_later : (old new : ClosingRun) (script : Script) (piece rest : List ℕ) → TakesFrontEntries old.script script piece piece [] → GathersClosingFront (record old { script = script }) new piece rest → GathersClosingFront old new piece rest
+gathers_later old new script piece rest takes f = record {
+  front = f.front;
+  out = f.out;
+  is = f.is;
+  grows = f.grows;
+  went = record {
+    goes = λ o m seen before c. f.went.goes o m seen before (progress_unread o m old script piece seen before takes c);
+  };
+}
+
+pub fails_later : (old new : ClosingRun) (script : Script) (piece : List ℕ) → TakesFrontEntries old.script script piece piece [] → GatherFails (record old { script = script }) new piece → GatherFails old new piece
+fails_later old new script piece takes f = record {
+  out = f.out;
+  grows = f.grows;
+  fails = record {
+    so = λ o m seen before c more. f.fails.so o m seen before (progress_unread o m old script piece seen before takes c) more;
+  };
+}
+
+-- the entry of a line that was read at the first attempt
+pub gathers_line : (old : ClosingRun) (script : Script) (monitor : ClosingMonitor) (piece rest : List ℕ) (e : Entry) → TakesFrontEntries old.script script piece rest (e ∷ [])
+    → TakesEntry old.monitor monitor e → GathersClosingFront old (record old { script = script; monitor = monitor }) piece rest
+gathers_line old script monitor piece rest e takes took = gathers_entry old script monitor piece rest (Some e) e refl takes took
+
+-- nothing was consumed
+pub fails_unread : (old new : ClosingRun) (piece : List ℕ) → new.monitor.gathered.bytes.items ≡ old.monitor.gathered.bytes.items → GatherFails old new piece
+fails_unread old new piece same = record {
+  out = [];
+  grows = same ∙ sym (append-nil old.monitor.gathered.bytes.items);
+  fails = record {
+    so = λ o m seen before c more. subst (λ (l : List ℕ). IsClosingPart o (seen ++ (piece ++ more)) l) (sym (append-nil before)) (part_so_far o m old seen before c (piece ++ more));
+  };
+}
+
+-- the consumed bytes and those that follow
+ahead : (seen done rest more piece : List ℕ) → piece ≡ done ++ rest → (seen ++ done) ++ (rest ++ more) ≡ seen ++ (piece ++ more)
+ahead seen done rest more piece e =
+    append_assoc seen done (rest ++ more) ∙ ap (λ (u : List ℕ). seen ++ u) (sym (append_assoc done rest more) ∙ ap (λ (u : List ℕ). u ++ more) (sym e))
+
+-- the entry of a line failed
+pub fails_entry : (old new : ClosingRun) (script : Script) (piece rest : List ℕ) (found : Option Entry) (e : Entry) → found ≡ Some e → TakesFrontEntries old.script script piece rest (entry_list found)
+    → FailsAtEntry old.monitor new.monitor e → GatherFails old new piece
+fails_entry old new script piece rest found e is takes failed =
+    let here : TakesEntries old.script script takes.0 (e ∷ []) = subst (λ (f : Option Entry). TakesEntries old.script script takes.0 (entry_list f)) is takes.2 in
+    record {
+      out = failed.out;
+      grows = failed.grows;
+      fails = record {
+        so = λ o m seen before c more.
+            let read = more_entries m old.script script seen takes.0 c.entries (e ∷ []) c.read here in
+            subst (λ (u : List ℕ). IsClosingPart o u (before ++ failed.out)) (ahead seen takes.0 rest more piece takes.1)
+            (closing_part o m script (seen ++ takes.0) (c.entries ++ e ∷ []) (before ++ failed.out) read (failed.after o c.entries before c.taken) (rest ++ more));
+      };
+    }
+
+pub fails_line : (old new : ClosingRun) (script : Script) (piece rest : List ℕ) (e : Entry) → TakesFrontEntries old.script script piece rest (e ∷ []) → FailsAtEntry old.monitor new.monitor e → GatherFails old new piece
+fails_line old new script piece rest e takes failed = fails_entry old new script piece rest (Some e) e refl takes failed
+
+-- ---- a piece
+
+-- A part of a piece was consumed, and the rest is left. Some of its output was written, and the rest is gathered.
+pub record ConsumedFront (old new : ClosingRun) (piece rest : List ℕ) (was now : Option (List ℕ)) : Type 0 where
+  pub done : List ℕ
+  pub is : piece ≡ done ++ rest
+  pub out : List ℕ
+  pub went : ClosingRunAdvances old new done (out ++ new.monitor.gathered.bytes.items)
+  pub wrote : Appends was now out
+
+pub consumed_none : (run : ClosingRun) (g : Gathered) (piece : List ℕ) (w : Option (List ℕ)) → g.bytes.items ≡ [] → ConsumedFront run (with_gathered run g) piece piece w w
+consumed_none run g piece w none = record {
+  done = [];
+  is = refl;
+  out = [];
+  went = record {
+    goes = λ o m seen before c.
+        let same : before ≡ before ++ g.bytes.items = sym (append-nil before) ∙ ap (λ (l : List ℕ). before ++ l) (sym none) in
+        subst (λ (l : List ℕ). HasClosingProgressed o m (with_gathered run g) l (before ++ g.bytes.items)) (sym (append-nil seen))
+        (subst (λ (l : List ℕ). HasClosingProgressed o m (with_gathered run g) seen l) same (progress_moved o m run g seen before c));
+  };
+  wrote = appends_none w;
+}
+
+-- two outputs, one after the other
+both : (all a b before : List ℕ) → all ≡ a ++ b → (before ++ a) ++ b ≡ before ++ all
+both all a b before is = append_assoc before a b ∙ ap (λ (l : List ℕ). before ++ l) (sym is)
+
+-- what was written is in front of two gathered outputs
+both_behind : (out all a b : List ℕ) → all ≡ a ++ b → out ++ all ≡ (out ++ a) ++ b
+both_behind out all a b is = sym (both all a b out is)
+
+pub consumed_more : (old mid new : ClosingRun) (piece rest after : List ℕ) (was now : Option (List ℕ)) → ConsumedFront old mid piece rest was now → GathersClosingFront mid new rest after → ConsumedFront old new piece after was now
+consumed_more old mid new piece rest after was now k f =
+    let all = k.out ++ new.monitor.gathered.bytes.items in
+    let first = k.out ++ mid.monitor.gathered.bytes.items in
+    let is : all ≡ first ++ f.out = both_behind k.out new.monitor.gathered.bytes.items mid.monitor.gathered.bytes.items f.out f.grows in
+    record {
+      done = k.done ++ f.front;
+      is = k.is ∙ ap (λ (u : List ℕ). k.done ++ u) f.is ∙ sym (append_assoc k.done f.front after);
+      out = k.out;
+      went = record {
+        goes = λ o m seen before c.
+            let d = f.went.goes o m (seen ++ k.done) (before ++ first) (k.went.goes o m seen before c) in
+            subst (λ (u : List ℕ). HasClosingProgressed o m new u (before ++ all)) (append_assoc seen k.done f.front)
+            (subst (λ (l : List ℕ). HasClosingProgressed o m new ((seen ++ k.done) ++ f.front) l) (both all first f.out before is) d);
+      };
+      wrote = k.wrote;
+    }
+
+no_items : (xs : List ℕ) → length xs ≡ 0 → xs ≡ []
+no_items [] e = refl
+no_items (x ∷ xs) e = absurd (omega (arith, e))
+
+pub consumed_all : (old new : ClosingRun) (piece rest : List ℕ) (was now : Option (List ℕ)) → ConsumedFront old new piece rest was now → true ≡ eqb (length rest) 0
+    → WritesFirst (ClosingRunAdvances old new piece) new.monitor.gathered.bytes.items was now
+consumed_all old new piece rest was now k e =
+    let none = no_items rest (eqb-true (length rest) 0 (sym e)) in
+    let all : piece ≡ k.done = k.is ∙ ap (λ (u : List ℕ). k.done ++ u) none ∙ append-nil k.done in
+    (k.out, subst (λ (u : List ℕ). ClosingRunAdvances old new u (k.out ++ new.monitor.gathered.bytes.items)) (sym all) k.went, k.wrote)
+
+-- a further line failed
+pub consumed_fails : (old mid new : ClosingRun) (piece rest : List ℕ) (was now : Option (List ℕ)) → ConsumedFront old mid piece rest was now → GatherFails mid new rest
+    → WritesFirst (ClosingPieceFails old piece) new.monitor.gathered.bytes.items was now
+consumed_fails old mid new piece rest was now k f =
+    let all = k.out ++ new.monitor.gathered.bytes.items in
+    let first = k.out ++ mid.monitor.gathered.bytes.items in
+    let is : all ≡ first ++ f.out = both_behind k.out new.monitor.gathered.bytes.items mid.monitor.gathered.bytes.items f.out f.grows in (
+      k.out,
+      record {
+        so = λ o m seen before c more.
+            let d = f.fails.so o m (seen ++ k.done) (before ++ first) (k.went.goes o m seen before c) more in
+            subst (λ (u : List ℕ). IsClosingPart o u (before ++ all)) (ahead seen k.done rest more piece k.is)
+            (subst (λ (l : List ℕ). IsClosingPart o ((seen ++ k.done) ++ (rest ++ more)) l) (both all first f.out before is) d);
+      },
+      k.wrote,
+    )
+
+-- it ends somewhere in the piece
+consumed_ends : (old new : ClosingRun) (piece rest : List ℕ) (was now : Option (List ℕ)) → (k : ConsumedFront old new piece rest was now) → ClosingPieceFails old piece (k.out ++ new.monitor.gathered.bytes.items)
+consumed_ends old new piece rest was now k = record {
+  so = λ o m seen before c more.
+      let all = k.out ++ new.monitor.gathered.bytes.items in
+      subst (λ (u : List ℕ). IsClosingPart o u (before ++ all)) (ahead seen k.done rest more piece k.is)
+      (part_so_far o m new (seen ++ k.done) (before ++ all) (k.went.goes o m seen before c) (rest ++ more));
+}
+
+-- a piece that was carried out is also a beginning
+pub advances_fails : (old new : ClosingRun) (piece out : List ℕ) → ClosingRunAdvances old new piece out → ClosingPieceFails old piece out
+advances_fails old new piece out went = record {
+  so = λ o m seen before c more.
+      subst (λ (u : List ℕ). IsClosingPart o u (before ++ out)) (append_assoc seen piece more)
+      (part_so_far o m new (seen ++ piece) (before ++ out) (went.goes o m seen before c) more);
+}
+
+pub advances_moved : (old new : ClosingRun) (g : Gathered) (piece out : List ℕ) → ClosingRunAdvances old new piece out → ClosingRunAdvances old (with_gathered new g) piece out
+advances_moved old new g piece out went = record {
+  goes = λ o m seen before c. progress_moved o m new g (seen ++ piece) (before ++ out) (went.goes o m seen before c);
+}
+
+-- a front of what is gathered was written
+pub consumed_written : (old new : ClosingRun) (g : Gathered) (piece rest : List ℕ) (was now end : Option (List ℕ)) → ConsumedFront old new piece rest was now
+    → WritesFront new.monitor.gathered.bytes.items g.bytes.items now end → ConsumedFront old (with_gathered new g) piece rest was end
+consumed_written old new g piece rest was now end k f =
+    let out = k.out ++ f.0 in
+    let all = both_behind k.out new.monitor.gathered.bytes.items f.0 g.bytes.items f.1 in
+    record {
+      done = k.done;
+      is = k.is;
+      out = out;
+      went = advances_moved old new g k.done (out ++ g.bytes.items) (subst (λ (l : List ℕ). ClosingRunAdvances old new k.done l) all k.went);
+      wrote = appends_more was now end k.out f.0 k.wrote f.2;
+    }
+
+-- what was written, and then all that is gathered
+pub all_written : (P : List ℕ → Type 0) (gathered : List ℕ) (was now end : Option (List ℕ)) → WritesFirst P gathered was now → Appends now end gathered → Writes P was end
+all_written P gathered was now end w more = (w.0 ++ gathered, w.1, appends_more was now end w.0 gathered w.2 more)
+
+-- what was written, and then a beginning of what is gathered
+part_behind : (out gathered : List ℕ) (was now end : Option (List ℕ)) → Appends was now out → AppendsPart now end gathered → AppendsPart was end (out ++ gathered)
+part_behind out gathered was now end wrote part = (
+  out ++ part.0,
+  part.1,
+  both_behind out gathered part.0 part.1 part.2,
+  appends_more was now end out part.0 wrote part.3,
+)
+
+-- a beginning of what is gathered was written
+pub piece_cut : (old : ClosingRun) (piece whole : List ℕ) (was now : Option (List ℕ)) → ClosingPieceFails old piece whole → AppendsPart was now whole → Writes (ClosingPieceFails old piece) was now
+piece_cut old piece whole was now fails part = (
+  part.0,
+  record {
+    so = λ o m seen before c more.
+        part_less o (seen ++ (piece ++ more)) (before ++ whole) (before ++ part.0) part.1 (ap (λ (l : List ℕ). before ++ l) part.2 ∙ sym (append_assoc before part.0 part.1)) (fails.so o m seen before c more);
+  },
+  part.3,
+)
+
+-- it was not written whole, and is dropped
+pub consumed_cut : (old new : ClosingRun) (piece rest left : List ℕ) (was now end : Option (List ℕ)) → ConsumedFront old new piece rest was now
+    → AppendsPart now end new.monitor.gathered.bytes.items → left ≡ [] → WritesFirst (ClosingPieceFails old piece) left was end
+consumed_cut old new piece rest left was now end k part none =
+    let whole = k.out ++ new.monitor.gathered.bytes.items in
+    let cut = piece_cut old piece whole was end (consumed_ends old new piece rest was now k) (part_behind k.out new.monitor.gathered.bytes.items was now end k.wrote part) in
+    let same : cut.0 ≡ cut.0 ++ left = sym (append-nil cut.0) ∙ ap (λ (l : List ℕ). cut.0 ++ l) (sym none) in
+    (cut.0, subst (λ (l : List ℕ). ClosingPieceFails old piece l) same cut.1, cut.2)
+
+pub end_cut : (old : ClosingRun) (whole : List ℕ) (was now : Option (List ℕ)) → EndIsCut old whole → AppendsPart was now whole → Writes (EndIsCut old) was now
+end_cut old whole was now fails part = (
+  part.0,
+  record {
+    so = λ o m seen before c.
+        part_less o seen (before ++ whole) (before ++ part.0) part.1 (ap (λ (l : List ℕ). before ++ l) part.2 ∙ sym (append_assoc before part.0 part.1)) (fails.so o m seen before c);
+  },
+  part.3,
+)
+
+-- ---- the end of the script
+
+-- the whole script is spelled by its entries, and was carried out
+ended : (o : Format) (seen out : List ℕ) (monitor : ClosingMonitor) (entries : List Entry) → SpellsEntries 1 None (lines seen) entries → HasTaken o monitor entries out → IsClosingOutput o seen out
+ended o seen out monitor entries spelled c = (entry_items entries, c.carried.0, c.carried.1, state_of monitor.core, spells_items spelled, c.carried.2, c.carried.3)
+
+pub took_no_end : (old : ClosingRun) (g : Gathered) (found : Option Entry) → found ≡ None → g.bytes.items ≡ [] → EndGives old.script (entry_list found) → ClosingEndSucceeds old g.bytes.items
+took_no_end old g found none empty gives = record {
+  so = λ o m seen before c.
+      let here = subst (λ (f : Option Entry). EndGives old.script (entry_list f)) none gives in
+      let spelled = subst (λ (l : List Entry). SpellsEntries 1 None (lines seen) l) (append-nil c.entries) (all_entries m old.script seen c.entries [] c.read here) in
+      let same : before ≡ before ++ g.bytes.items = sym (append-nil before) ∙ ap (λ (l : List ℕ). before ++ l) (sym empty) in
+      (subst (λ (l : List ℕ). IsClosingOutput o seen l) same (ended o seen before old.monitor c.entries spelled c.taken), c.read.within);
+}
+
+pub took_end : (old : ClosingRun) (g : Gathered) (monitor : ClosingMonitor) (found : Option Entry) (e : Entry) → found ≡ Some e → g.bytes.items ≡ [] → EndGives old.script (entry_list found)
+    → TakesEntry (record old.monitor { gathered = g }) monitor e → ClosingEndSucceeds old monitor.gathered.bytes.items
+took_end old g monitor found e is empty gives took = record {
+  so = λ o m seen before c.
+      let here = subst (λ (f : Option Entry). EndGives old.script (entry_list f)) is gives in
+      let taken = taken_moved o old.monitor g c.entries before c.taken in
+      let all : monitor.gathered.bytes.items ≡ took.out = took.grows ∙ ap (λ (l : List ℕ). l ++ took.out) empty in
+      let spelled = all_entries m old.script seen c.entries (e ∷ []) c.read here in
+      let out = ended o seen (before ++ took.out) monitor (c.entries ++ e ∷ []) spelled (took.after o c.entries before taken) in
+      (subst (λ (l : List ℕ). IsClosingOutput o seen (before ++ l)) (sym all) out, c.read.within);
+}
+
+-- the last entry was not read
+pub end_unread : (old : ClosingRun) (gathered : List ℕ) → gathered ≡ [] → EndIsCut old gathered
+end_unread old gathered none = record {
+  so = λ o m seen before c.
+      let same : before ≡ before ++ gathered = sym (append-nil before) ∙ ap (λ (l : List ℕ). before ++ l) (sym none) in
+      subst (λ (l : List ℕ). IsClosingPart o l (before ++ gathered)) (append-nil seen)
+      (subst (λ (l : List ℕ). IsClosingPart o (seen ++ []) l) same (part_so_far o m old seen before c []));
+}
+
+-- the last entry failed
+pub end_entry_fails : (old : ClosingRun) (g : Gathered) (monitor : ClosingMonitor) (found : Option Entry) (e : Entry) → found ≡ Some e → g.bytes.items ≡ [] → EndGives old.script (entry_list found)
+    → FailsAtEntry (record old.monitor { gathered = g }) monitor e → EndIsCut old monitor.gathered.bytes.items
+end_entry_fails old g monitor found e is empty gives failed = record {
+  so = λ o m seen before c.
+      let here = subst (λ (f : Option Entry). EndGives old.script (entry_list f)) is gives in
+      let all : monitor.gathered.bytes.items ≡ failed.out = failed.grows ∙ ap (λ (l : List ℕ). l ++ failed.out) empty in
+      let taken = taken_moved o old.monitor g c.entries before c.taken in
+      let entries = c.entries ++ e ∷ [] in
+      let spelled = spells_items (all_entries m old.script seen c.entries (e ∷ []) c.read here) in
+      subst (λ (l : List ℕ). IsClosingPart o seen (before ++ l)) (sym all) (part_of o seen (entry_items (c.entries ++ e ∷ [])) (before ++ failed.out) spelled (failed.after o c.entries before taken));
+}
+
+-- ---- for the proofs of functions
+
+-- a writer failed, however the piece was carried out
+pub taken_cut : {T E : Type 0} (r : Result T E) (old new : ClosingRun) (piece gathered : List ℕ) (was now end : Option (List ℕ)) → OnOk r (WritesFirst (ClosingRunAdvances old new piece) gathered was now)
+    → OnErr r (WritesFirst (ClosingPieceFails old piece) gathered was now) → AppendsPart now end gathered → Writes (ClosingPieceFails old piece) was end
+taken_cut (Ok x) old new piece gathered was now end went failed part =
+    let whole = went.0 ++ gathered in
+    piece_cut old piece whole was end (advances_fails old new piece whole went.1) (part_behind went.0 gathered was now end went.2 part)
+taken_cut (Err e) old new piece gathered was now end went failed part = piece_cut old piece (failed.0 ++ gathered) was end failed.1 (part_behind failed.0 gathered was now end failed.2 part)
+
+whole_part : (old : ClosingRun) (out : List ℕ) → ClosingEndSucceeds old out → EndIsCut old out
+whole_part old out s = record { so = λ o m seen before c. part_whole o seen (before ++ out) (s.so o m seen before c).0 }
+
+-- a writer failed, however the end was carried out
+pub ended_cut : {T E : Type 0} (r : Result T E) (old : ClosingRun) (whole : List ℕ) (was now : Option (List ℕ)) → OnOk r (ClosingEndSucceeds old whole) → OnErr r (EndIsCut old whole)
+    → AppendsPart was now whole → Writes (EndIsCut old) was now
+ended_cut (Ok x) old whole was now ended failed part = end_cut old whole was now (whole_part old whole ended) part
+ended_cut (Err e) old whole was now ended failed part = end_cut old whole was now failed part

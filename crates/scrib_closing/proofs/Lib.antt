@@ -1,0 +1,5 @@
+mod ClosingLemmas
+mod SendLemmas
+mod MonitorLemmas
+mod ClosingRunLemmas
+mod InputLemmas

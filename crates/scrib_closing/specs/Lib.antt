@@ -1,0 +1,2 @@
+pub mod ClosingScripts
+pub mod Progress

@@ -1,0 +1,143 @@
+//! Makes steps, and closes the conversations that they complete.
+
+ghost use Rattle.std.specs.Prelude.{◌≡◌, ◌++◌, ◌∷◌, [], ℕ, Some, true, IfErr, IsTrue, MatchOption, OnOk, OnErr};
+ghost use Rattle.scrib_core.specs.Answers.{IsAnswered, IsCompleteIn};
+ghost use Rattle.scrib_core.specs.Held.{state_of};
+ghost use Rattle.scrib_core.specs.declared.format.Format.TheVariants as formats;
+ghost use Rattle.scrib_core.specs.declared.reply.Reply.{Reply};
+ghost use Rattle.scrib_core.specs.declared.step.Step.TheVariants.{Close, Note};
+ghost use Rattle.scrib_report.specs.ReplyTexts.{reply_text};
+ghost use Rattle.scrib_script_io.specs.Faults.{of_output};
+ghost use Rattle.scrib_script_reader.specs.declared.item.Item.TheVariants as item;
+ghost use Rattle.scrib_closing.specs.ClosingScripts.{is_accepted, judged_by};
+ghost use Rattle.scrib_closing.specs.Progress.{AreCarriedInPart, AreCarriedOut, is_send};
+
+use scrib_cli::gathered::Gathered;
+use scrib_core::format::Format;
+use scrib_core::monitor::Core;
+use scrib_core::reply::{Reply, close_reply};
+use scrib_core::step::Step;
+use scrib_report::printing::reply_format;
+use scrib_script_io::fault::ScriptFault;
+use scrib_types::event::Event;
+use scrib_types::shared_event::SharedEvent;
+
+// Closes the conversation, and gathers the reply in this format. After an error the gathered texts are unchanged.
+#[inline(never)]
+fn gather_close(
+    gathered: &mut Gathered,
+    core: &mut Core,
+    id: u32,
+    format: Format,
+) -> Result<(), ScriptFault>
+    ensures ok { OnOk result ((r : Reply) × IsAnswered (state_of core.old) (Close id) r (state_of core.new)
+        × (gathered.new.bytes.items ≡ gathered.old.bytes.items ++ reply_text format r)) }
+    ensures made { (r : Reply) × IsAnswered (state_of core.old) (Close id) r (state_of core.new) }
+    ensures err { OnErr result (gathered.new.bytes.items ≡ gathered.old.bytes.items) }
+    ensures fault { IfErr result (λ e. of_output e ≡ true) }
+{
+    let closed = core.close_conversation(id);
+    let reply = close_reply(id, closed);
+    gathered.add_reply(&reply, format)?;
+    Ok(())
+}
+
+// Returns whether the event is a send.
+#[inline(always)]
+fn is_send(event: &SharedEvent) -> bool
+    ensures { result ≡ is_send event.now }
+{
+    matches!(event.get(), Event::Sent { .. })
+}
+
+/// Notes the event, whose line asks for no format, and gathers the reply. Where it completes the conversation, closes that
+/// and gathers this reply too.
+///
+/// # Errors
+/// `OutOfMemory` where there is no memory for a text. The first reply may be gathered then.
+#[inline(always)]
+pub(crate) fn gather_note(
+    gathered: &mut Gathered,
+    core: &mut Core,
+    id: u32,
+    event: SharedEvent,
+    format: Format,
+) -> Result<(), ScriptFault>
+    ensures ok { OnOk result (AreCarriedOut format (item.Step formats.Line (Note id event) ∷ [])
+        (state_of core.old) (state_of core.new) gathered.old.bytes.items gathered.new.bytes.items) }
+    ensures err { OnErr result (AreCarriedInPart format (item.Step formats.Line (Note id event) ∷ [])
+        (state_of core.old) gathered.old.bytes.items gathered.new.bytes.items) }
+    ensures fault { IfErr result (λ e. of_output e ≡ true) }
+{
+    let sends = is_send(&event);
+    let noted = core.note_event(id, event);
+    let accepted = noted.is_ok();
+    gathered.add_noted(id, noted, format)?;
+    // The message of a send is in flight then.
+    if sends {
+        return Ok(());
+    }
+    match completed(core, Some(id), accepted) {
+        Some(id) => gather_close(gathered, core, id, format),
+        None => Ok(()),
+    }
+}
+
+// Returns the conversation in which the step notes an event, or makes a turn.
+fn judged_by(step: &Step) -> Option<u32>
+    ensures { result ≡ judged_by step.now }
+{
+    match step {
+        Step::Note { id, .. } | Step::Turn { id } => Some(*id),
+        _ => None,
+    }
+}
+
+// Returns whether the reply accepts its step.
+fn is_accepted(reply: &Reply) -> bool
+    ensures { result ≡ is_accepted reply.now }
+{
+    !matches!(reply, Reply::Refused(_))
+}
+
+// Returns the conversation in which an accepted step noted an event or made a turn, if it is complete.
+#[inline(always)]
+fn completed(core: &Core, judged: Option<u32>, accepted: bool) -> Option<u32>
+    ensures { MatchOption result
+        ((id : ℕ) → judged ≡ Some id → accepted ≡ true → IsCompleteIn (state_of core.now) id → ⊥)
+        (λ id. (judged ≡ Some id) × (accepted ≡ true) × IsCompleteIn (state_of core.now) id) }
+{
+    let id = judged?;
+    if !accepted {
+        return None;
+    }
+    if core.is_complete(id) { Some(id) } else { None }
+}
+
+/// Makes the step, whose line asks for the format `asked`, and gathers the reply. Where it completes its conversation,
+/// closes that and gathers this reply too.
+///
+/// # Errors
+/// `OutOfMemory` where there is no memory for a text. The first reply may be gathered then.
+pub(crate) fn gather_step(
+    gathered: &mut Gathered,
+    core: &mut Core,
+    asked: Format,
+    step: Step,
+    output: Format,
+) -> Result<(), ScriptFault>
+    ensures ok { OnOk result (AreCarriedOut output (item.Step asked step ∷ [])
+        (state_of core.old) (state_of core.new) gathered.old.bytes.items gathered.new.bytes.items) }
+    ensures err { OnErr result (AreCarriedInPart output (item.Step asked step ∷ [])
+        (state_of core.old) gathered.old.bytes.items gathered.new.bytes.items) }
+    ensures fault { IfErr result (λ e. of_output e ≡ true) }
+{
+    let format = reply_format(output, asked);
+    let judged = judged_by(&step);
+    let reply = core.apply(step);
+    gathered.add_reply(&reply, format)?;
+    match completed(core, judged, is_accepted(&reply)) {
+        Some(id) => gather_close(gathered, core, id, format),
+        None => Ok(()),
+    }
+}

@@ -1,0 +1,7 @@
+//! Runs a script over one monitor, and closes each conversation once it is complete.
+#![tactic(auto)]
+
+mod closing;
+mod closing_monitor;
+mod closing_run;
+pub mod run_closing_script;

@@ -1,0 +1,89 @@
+//! Runs a whole script from a reader, and closes the conversations that are complete.
+
+ghost use Rattle.std.specs.Prelude.{◌≡◌, ◌<◌, ◌+◌, ◌^◌, ℕ, List, true, IfOk, IfErr, OnOk, OnErr, IfSome, length};
+ghost use Rattle.std.specs.Io.KnownBytes.{Appends};
+ghost use Rattle.scrib_script_io.specs.Faults.{of_script};
+ghost use Rattle.scrib_script_reader.specs.Limits.{IsWithinLimits};
+ghost use Rattle.scrib_closing.specs.ClosingScripts.{IsClosingOutput, IsClosingPart};
+ghost use Rattle.scrib_closing.specs.Progress.{IsNewClosing, ClosingRunSucceeds, ClosingRunFails};
+
+use crate::closing_run::ClosingRun;
+pub use scrib_core::format::Format;
+pub use scrib_script_io::fault::ScriptFault;
+use scrib_script_io::reading::read_piece;
+use scrib_script_io::writing::flush_out;
+pub use scrib_script_reader::limits::Limits;
+use std::alloc::Global;
+use std::io::{Read, Write};
+use std::mem::forget;
+
+// The number of bytes that one read asks for.
+const SCRIPT_PIECE_BYTES: usize = 65_536;
+
+/// Reads a script, makes its steps over a new monitor, and writes each reply in this format. Closes each conversation
+/// once it is complete.
+///
+/// After an event or a turn by which a conversation is complete, its `close` is made, and the reply is written directly
+/// behind that of the step. It has the format that the line of the step asks for. So later lines about the conversation
+/// are refused `NoConversation`, and its id may be opened again. Stale, withdrawn and offending conversations stay open
+/// until a line closes them.
+///
+/// Replies, bad lines, flushes and memory are as in `run_script`.
+///
+/// # Errors
+/// After an error, a prefix of the script's output is written.
+/// - `Read` where the reader fails, and in the line of the first byte past the script's limits.
+/// - `Write` where the writer fails.
+/// - `OutOfMemory` where there is no memory for a line or a reply's text. A step that lacks memory is refused in its
+///   reply, and the script continues.
+pub fn run_closing_script<R: Read, W: Write>(
+    alloc: Global,
+    format: Format,
+    limits: Limits,
+    reader: &mut R,
+    writer: &mut W,
+) -> Result<(), ScriptFault>
+    requires { limits.lines + 1 < 2 ^ 64 }
+    ensures ok { OnOk result (IfSome (R.remaining reader.old) (λ input. (output : List ℕ)
+        × IsClosingOutput format input output
+        × Appends (W.contents writer.old) (W.contents writer.new) output)) }
+    ensures err { OnErr result (IfSome (R.remaining reader.old) (λ input. (part : List ℕ)
+        × IsClosingPart format input part
+        × Appends (W.contents writer.old) (W.contents writer.new) part)) }
+    ensures fault { IfErr result (λ e. of_script e ≡ true) }
+    ensures within { OnOk result (IfSome (R.remaining reader.old) (λ input. IsWithinLimits limits input)) }
+{
+    let mut piece = vec![in alloc; 0u8; SCRIPT_PIECE_BYTES]?;
+    let mut run = ClosingRun::new(alloc, format, limits);
+    run_by_pieces(&mut run, reader, writer, piece.as_mut_slice())?;
+    // Freeing long logs takes up to a tenth of a run, and the process ends here.
+    forget(run);
+    flush_out(writer)
+}
+
+// Reads a whole script into a run that has read nothing yet, with `piece` as the buffer of the reads. The replies of a
+// piece are flushed before the next is read.
+fn run_by_pieces<R: Read, W: Write>(
+    run: &mut ClosingRun,
+    reader: &mut R,
+    writer: &mut W,
+    piece: &mut [u8],
+) -> Result<(), ScriptFault>
+    requires new { IsNewClosing run.old.monitor.format run.old.script.limits run.old }
+    requires some { 0 < length piece.old }
+    ensures ok { OnOk result (ClosingRunSucceeds run.old.monitor.format run.old.script.limits
+        (R.remaining reader.old) (W.contents writer.old) (W.contents writer.new)) }
+    ensures err { OnErr result (ClosingRunFails run.old.monitor.format
+        (R.remaining reader.old) (W.contents writer.old) (W.contents writer.new)) }
+    ensures fault { IfErr result (λ e. of_script e ≡ true) }
+{
+    for _ in 0..u64::MAX {
+        let n = read_piece(reader, piece)?;
+        if n == 0 {
+            return run.finish(writer);
+        }
+        run.take_piece(writer, &piece[..n])?;
+        flush_out(writer)?;
+    }
+    Err(ScriptFault::Read)
+}
