@@ -73,6 +73,11 @@ fn endless_arg<'a>(alloc: Global) -> Arg<'a> {
     )
 }
 
+fn close_complete_arg<'a>(alloc: Global) -> Result<Arg<'a>, AllocError> {
+    let help = "Close each conversation behind the line by which it is complete; not with --hold";
+    flag_arg(alloc, "close-complete", help).conflicts_with("hold")
+}
+
 fn hold_arg<'a>(alloc: Global) -> Arg<'a> {
     Arg::new(alloc, "hold").long("hold").value_name("N").help(
         "Hold each event back until it may have happened, for at most N lines, 1 to 16777216",
@@ -147,6 +152,7 @@ fn watch_command<'a>(alloc: Global) -> Result<Command<'a>, AllocError> {
         .after_help(help::WATCH)
         .arg(json_arg(alloc))?
         .arg(hold_arg(alloc))?
+        .arg(close_complete_arg(alloc)?)?
         .arg(endless_arg(alloc))?
         .arg(file_arg(alloc))
 }

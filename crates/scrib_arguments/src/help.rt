@@ -80,6 +80,8 @@ Lines of a script:
 Each line is answered before the next one is read. With --hold an event is
 answered once it is released, and standard error has the counts at the end:
   scribmon: 5400 events, 812 waited, at most 31 at once, 0 released by the limit
+With --close-complete the reply to an event or a turn by which a conversation
+is complete is followed by that to a close of it.
 
 Example:
   scribmon watch examples/01_hello/receive_before_send.script

@@ -77,7 +77,10 @@ fn run_held<R: Files + AllocGlobal, I: Input, W: Write, E: Print + Eprint>(
 }
 
 // The script of this path, opened.
-fn open<'a, F: Folder>(folder: &F, path: &'a str) -> Result<Opened<'a, F::File>, CommandFault<'a>> {
+pub(crate) fn open<'a, F: Folder>(
+    folder: &F,
+    path: &'a str,
+) -> Result<Opened<'a, F::File>, CommandFault<'a>> {
     let file = folder.open(path)?;
     Ok(Opened::new(Source::named(path), file))
 }

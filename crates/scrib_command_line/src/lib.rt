@@ -1,6 +1,7 @@
 //! Runs the commands of the command line.
 #![tactic(auto)]
 
+mod closing_scripts;
 mod held_scripts;
 mod outcomes;
 mod request;

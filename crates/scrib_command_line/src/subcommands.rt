@@ -1,5 +1,6 @@
 //! Runs the commands of the program.
 
+use crate::closing_scripts::watch_closing;
 use crate::held_scripts::watch_held;
 use crate::outcomes::{flush_and_print_fault, refuse_value};
 use crate::request::{format_of, limits_of, profile_of, query_of, shape_of};
@@ -72,6 +73,9 @@ pub(crate) fn run_watch<R: Files + AllocGlobal, I: Input, W: Write, E: Print + E
 ) -> u8 {
     if let Some(bound) = matches.get_str("hold") {
         return watch_held(system, streams, matches, bound);
+    }
+    if matches.get_flag("close-complete") {
+        return watch_closing(system, streams, matches);
     }
     let watched = run_simple_command(system, streams, "watch", matches);
     flush_and_print_fault(streams, &watched)
