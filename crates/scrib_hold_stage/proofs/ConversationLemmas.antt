@@ -1,11 +1,11 @@
 -- What calls do to one conversation.
-use Rattle.std.proofs.Common.{◌≡◌, ◌∙◌, ℕ, true, false, List, [], ◌∷◌, ◌++◌, Option, None, Some, refl, sym, ap, subst, append_assoc, append-nil}
+use Rattle.std.proofs.Common.{◌≡◌, ◌∙◌, ℕ, true, false, List, [], ◌∷◌, ◌++◌, Option, None, Some, MatchOption, is_some, refl, sym, ap, subst, append_assoc, append-nil}
 use Rattle.std.proofs.lemmas.Bool.{true≢false}
 use Rattle.scrib_types.specs.declared.event.Event.{Event}
 use Rattle.scrib_holdback.specs.Holdings.{IsAfter, IsOldestWaiting, IsPushed, IsExpired}
 use Rattle.scrib_hold_stage.specs.declared.noted.Noted.{Noted}
 use Rattle.scrib_hold_stage.specs.declared.conversation.Conversation.{Conversation}
-use Rattle.scrib_hold_stage.specs.Conversations.{noted_event, waiting_in, waiting_at, IsOpen, IsClosedAt, IsPushedTo, IsOpenedIn, IsExpiredIn, IsOldestOfTime}
+use Rattle.scrib_hold_stage.specs.Conversations.{noted_event, waiting_in, waiting_at, IsOpen, IsUnopenedAt, IsPushedTo, IsOpenedIn, IsExpiredIn, IsOldestOfTime}
 
 -- an open conversation's event arrives
 pub pushed_open : {A : Type 0} (event : A → Event) (x : Noted A) (old new : Conversation A) (released now : List (Noted A))
@@ -14,7 +14,7 @@ pub pushed_open : {A : Type 0} (event : A → Event) (x : Noted A) (old new : Co
 pushed_open event x old new released now is_open same early p = record {
   given = p.given;
   appended = p.appended;
-  closed = λ waiting k. absurd (true≢false (sym is_open ∙ k.closed));
+  unopened = λ waiting k. absurd (true≢false (sym is_open ∙ k.unopened));
   opened = λ arrivals earlier expired k. record {
     opened = same ∙ k.opened;
     none_early = early ∙ k.none_early;
@@ -29,9 +29,9 @@ pub pushed_early : {A : Type 0} (event : A → Event) (x : Noted A) (old new : C
 pushed_early event x old new released not_open same kept early = record {
   given = [];
   appended = sym (append-nil released);
-  closed = λ waiting k. (
+  unopened = λ waiting k. (
     record {
-      closed = same ∙ k.closed;
+      unopened = same ∙ k.unopened;
       wait = early ∙ ap (λ z. z ++ x ∷ []) k.wait;
       fresh = subst (IsAfter (noted_event event) [] [] []) (sym kept) k.fresh;
     },
@@ -80,7 +80,7 @@ pub opening_done : {A : Type 0} (event : A → Event) (old started new : Convers
 opening_done event old started new released now early kept o none = record {
   given = o.given;
   appended = o.appended;
-  closed = λ waiting k. (let m = o.part waiting [] [] ([], sym (early ∙ k.wait), subst (IsAfter (noted_event event) [] [] []) (sym kept) k.fresh) in
+  unopened = λ waiting k. (let m = o.part waiting [] [] ([], sym (early ∙ k.wait), subst (IsAfter (noted_event event) [] [] []) (sym kept) k.fresh) in
       record {
         opened = o.opened;
         none_early = none;
@@ -99,7 +99,7 @@ pub opening_end : {A : Type 0} (event : A → Event) (old : Option (Conversation
 opening_end event old mid last released now same kept none p = record {
   given = p.given;
   appended = p.appended;
-  closed = λ waiting k. (let q = p.closed waiting k in record { opened = same ∙ q.opened; none_early = none; after = subst (IsAfter (noted_event event) waiting p.given []) (sym kept) q.after });
+  unopened = λ waiting k. (let q = p.unopened waiting k in record { opened = same ∙ q.opened; none_early = none; after = subst (IsAfter (noted_event event) waiting p.given []) (sym kept) q.after });
   opened = λ arrivals earlier expired k. (let q = p.opened arrivals earlier expired k in record { opened = same ∙ q.opened; none_early = none; after = subst (IsAfter (noted_event event) arrivals (earlier ++ p.given) expired) (sym kept) q.after });
 }
 
@@ -111,17 +111,17 @@ same_oldest items x y p q = let both : x ∷ p.0 ≡ y ∷ q.0 = sym p.1 ∙ q.1
 open_waiting : {A : Type 0} (c : Conversation A) → c.opened ≡ true → waiting_in c ≡ c.holdback.waiting
 open_waiting c yes_ = rw yes_ refl
 
-closed_waiting : {A : Type 0} (c : Conversation A) → c.opened ≡ false → waiting_in c ≡ c.early.items
-closed_waiting c no_ = rw no_ refl
+unopened_waiting : {A : Type 0} (c : Conversation A) → c.opened ≡ false → waiting_in c ≡ c.early.items
+unopened_waiting c no_ = rw no_ refl
 
 -- what waits in an open conversation
 pub waiting_open : {A : Type 0} (event : A → Event) (arrivals released expired : List (Noted A)) (c : Conversation A) → IsOpen event arrivals released expired c → waiting_in c ≡ c.holdback.waiting
 waiting_open event arrivals released expired c k = open_waiting c k.opened
 
 -- what waits in a conversation before its opening
-pub waiting_closed : {A : Type 0} (event : A → Event) (arrivals : List (Noted A)) (now : Option (Conversation A)) → IsClosedAt event arrivals now → waiting_at now ≡ arrivals
-waiting_closed event arrivals None k = sym k
-waiting_closed event arrivals (Some c) k = closed_waiting c k.closed ∙ k.wait
+pub waiting_unopened : {A : Type 0} (event : A → Event) (arrivals : List (Noted A)) (now : Option (Conversation A)) → IsUnopenedAt event arrivals now → waiting_at now ≡ arrivals
+waiting_unopened event arrivals None k = sym k
+waiting_unopened event arrivals (Some c) k = unopened_waiting c k.unopened ∙ k.wait
 
 pub expired_open : {A : Type 0} (event : A → Event) (time : ℕ) (old new : Conversation A) (released now : List (Noted A))
     → old.opened ≡ true → new.opened ≡ old.opened → new.early.items ≡ old.early.items → IsOldestOfTime time (Some old)
@@ -134,7 +134,7 @@ expired_open {A} event time old new released now is_open same early at p =
       waited = waited;
       given = p.given;
       appended = p.appended;
-      closed = λ waiting k. absurd (true≢false (sym is_open ∙ k.closed));
+      unopened = λ waiting k. absurd (true≢false (sym is_open ∙ k.unopened));
       opened = λ arrivals earlier expired k. record {
         opened = same ∙ k.opened;
         none_early = early ∙ k.none_early;
@@ -146,16 +146,16 @@ pub expired_early : {A : Type 0} (event : A → Event) (time : ℕ) (old new : C
     → old.opened ≡ false → new.opened ≡ old.opened → new.holdback ≡ old.holdback → IsOldestOfTime time (Some old)
     → old.early.items ≡ x ∷ new.early.items → now ≡ released ++ x ∷ [] → IsExpiredIn event time (Some old) (Some new) released now
 expired_early {A} event time old new released now x not_open same kept at was appended =
-    let waited : IsOldestWaiting (waiting_in old) x = (new.early.items, closed_waiting old not_open ∙ was) in
+    let waited : IsOldestWaiting (waiting_in old) x = (new.early.items, unopened_waiting old not_open ∙ was) in
     record {
       oldest = x;
       timed = ap (λ (z : Noted A). z.time) (same_oldest (waiting_in old) x at.0 waited at.1) ∙ at.2;
       waited = waited;
       given = [];
       appended = appended;
-      closed = λ waiting k. (
+      unopened = λ waiting k. (
         record {
-          closed = same ∙ k.closed;
+          unopened = same ∙ k.unopened;
           wait = (let both : x ∷ new.early.items ≡ x ∷ waiting = sym was ∙ k.wait in cc);
           fresh = subst (IsAfter (noted_event event) [] [] []) (sym kept) k.fresh;
         },
@@ -163,3 +163,8 @@ expired_early {A} event time old new released now x not_open same kept at was ap
       );
       opened = λ arrivals earlier expired k. absurd (true≢false (sym k.opened ∙ not_open));
     }
+
+-- an item that is there
+pub some_item : {X : Type 0} (o : Option X) (P : Type 0) (Q : X → Type 0) → MatchOption o P Q → is_some o ≡ true → (x : X) × Q x
+some_item None P Q m some = absurd (true≢false (sym some))
+some_item (Some x) P Q m some = (x, m)

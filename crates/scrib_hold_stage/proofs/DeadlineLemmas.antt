@@ -1,14 +1,15 @@
 -- Deadlines, and what waits.
-use Rattle.std.proofs.Common.{◌≡◌, ◌∙◌, ◌⊎◌, ◌&&◌, ℕ, ◌+◌, ◌<◌, ◌≤◌, Bool, true, false, List, [], ◌∷◌, ◌++◌, Option, nat_eq, eqb-true, eq-eqb, true≢false, refl, sym, ap, subst, inl, inr, arith}
-use Rattle.std.specs.List.{AllByRecursion}
-use Rattle.std.proofs.lemmas.Bool.{cases_Bool, and_parts}
+use Rattle.std.proofs.Common.{◌≡◌, ◌∙◌, ◌⊎◌, ◌&&◌, ℕ, ◌+◌, ◌<◌, ◌≤◌, zero, suc, Bool, true, false, List, [], ◌∷◌, ◌++◌, Option, None, Some, IfSome, OnSome, take, drop, slice_get, slice_index_or, nat_eq, eqb-true, eq-eqb, true≢false, refl, sym, ap, subst, inl, inr, arith}
+use Rattle.std.specs.List.{AllByRecursion, remove}
+use Rattle.std.proofs.lemmas.Option.{get_or_from_slice_get, none-some, same_Some}
+use Rattle.std.proofs.lemmas.Bool.{cases_Bool, and_parts, and_right}
 use Rattle.scrib_hold_stage.specs.declared.noted.Noted.{Noted}
 use Rattle.scrib_hold_stage.specs.declared.conversation.Conversation.{Conversation}
 use Rattle.scrib_hold_stage.specs.declared.deadlines.Deadline.{Deadline}
 use Rattle.scrib_hold_stage.specs.Conversations.{waiting_at}
 use Rattle.scrib_hold_stage.specs.Changes.{Conversations, conversation_at, LeavesOthers}
-use Rattle.scrib_hold_stage.specs.Deadlines.{IsInOrder, due_time, how_many, is_at, is_deadline, AreListed, StartsAfter}
-use Rattle.scrib_hold_stage.proofs.Lists.{all_append, all_weaker, many-append, many-here, many-past, order_push}
+use Rattle.scrib_hold_stage.specs.Deadlines.{IsInOrder, due_time, how_many, is_at, is_deadline, AreListed, AreOfOthers, IsFirstOf, IsIndexOf, StartsAfter}
+use Rattle.scrib_hold_stage.proofs.Lists.{all_append, all_weaker, all_without, none_pass, many-append, many-here, many-past, order_push, order_without}
 
 -- what holds of the time of each deadline holds of each time that has one
 pub of_deadline : (P : ℕ → Type 0) (id n : ℕ) (ds : List Deadline) → AllByRecursion (λ d. P d.time) ds → 0 < how_many (is_deadline id n) ds → P n
@@ -17,6 +18,16 @@ of_deadline P id n (d ∷ ds) a some = elim (cases_Bool (is_deadline id n d)) [
   | inl y ↦ subst P (sym (eqb-true n d.time (and_parts (nat_eq n d.time) (nat_eq id d.conversation) y).0)) a.0
   | inr k ↦ of_deadline P id n ds a.1 (omega (arith, many-past (is_deadline id n) d ds k))
 ]
+
+-- the conversation has no deadline among those of others
+pub no_deadline_of : (id n : ℕ) (ds : List Deadline) → AreOfOthers id ds → how_many (is_deadline id n) ds ≡ 0
+no_deadline_of id n ds a =
+    none_pass (is_deadline id n) ds (all_weaker (λ (d : Deadline). nat_eq id d.conversation ≡ false) (λ (d : Deadline). is_deadline id n d ≡ false) (λ d h. and_right (nat_eq n d.time) (nat_eq id d.conversation) h) ds a)
+
+-- a deadline of the conversation is behind those of others
+pub past_others : (id n : ℕ) (front back : List Deadline) → AreOfOthers id front → 0 < how_many (is_deadline id n) (front ++ back) → 0 < how_many (is_deadline id n) back
+past_others id n front back a some =
+    omega (arith, some, many-append (is_deadline id n) front back, no_deadline_of id n front a)
 
 -- where the first is later than this, all are
 pub all_later : (due : ℕ) (ds : List Deadline) → IsInOrder due_time ds → StartsAfter due ds → AllByRecursion (λ d. due < d.time) ds
@@ -50,14 +61,14 @@ differ_back i k differs = elim (cases_Bool (nat_eq k i)) [
 
 -- ---- a deadline passes
 
--- the deadlines but for the first
-pub listed_rest : {A : Type 0} (time : ℕ) (old new : Conversations A) (d : Deadline) (ds : List Deadline) → AreListed time old (d ∷ ds) → LeavesOthers d.conversation old new
+-- the deadlines but for the first of a conversation
+pub listed_rest : {A : Type 0} (time : ℕ) (old new : Conversations A) (d : Deadline) (front back : List Deadline) → AreListed time old (front ++ d ∷ back) → LeavesOthers d.conversation old new
     → ((n : ℕ) → 0 < how_many (is_at n) (waiting_at (conversation_at new d.conversation)) → (0 < how_many (is_at n) (waiting_at (conversation_at old d.conversation))) × (n ≡ d.time → ⊥))
-    → AreListed time new ds
-listed_rest {A} time old new d ds l others here = record {
-  ordered = l.ordered.1;
-  within = l.within.1;
-  complete = by_id d.conversation (λ k. (n : ℕ) → 0 < how_many (is_at n) (waiting_at (conversation_at new k)) → 0 < how_many (is_deadline k n) ds)
+    → AreListed time new (front ++ back)
+listed_rest {A} time old new d front back l others here = record {
+  ordered = order_without due_time front d back l.ordered;
+  within = all_without (λ (e : Deadline). e.time ≤ time) front d back l.within;
+  complete = by_id d.conversation (λ k. (n : ℕ) → 0 < how_many (is_at n) (waiting_at (conversation_at new k)) → 0 < how_many (is_deadline k n) (front ++ back))
       (λ n some. (let h = here n some in
       past d.conversation n (λ y. h.1 (eqb-true n d.time (and_parts (nat_eq n d.time) (nat_eq d.conversation d.conversation) y).0)) (l.complete d.conversation n h.0)))
       (λ k differs n some. past k n
@@ -65,10 +76,10 @@ listed_rest {A} time old new d ds l others here = record {
       (l.complete k n (subst (λ (o : Option (Conversation A)). 0 < how_many (is_at n) (waiting_at o)) (others k differs) some)));
 }
   where
-    past : (k n : ℕ) → (is_deadline k n d ≡ true → ⊥) → 0 < how_many (is_deadline k n) (d ∷ ds) → 0 < how_many (is_deadline k n) ds
+    past : (k n : ℕ) → (is_deadline k n d ≡ true → ⊥) → 0 < how_many (is_deadline k n) (front ++ d ∷ back) → 0 < how_many (is_deadline k n) (front ++ back)
     past k n other some = elim (cases_Bool (is_deadline k n d)) [
       | inl y ↦ absurd (other y)
-      | inr z ↦ omega (arith, many-past (is_deadline k n) d ds z)
+      | inr z ↦ omega (arith, some, many-append (is_deadline k n) front (d ∷ back), many-append (is_deadline k n) front back, many-past (is_deadline k n) d back z)
     ]
 
 -- ---- another event
@@ -145,3 +156,27 @@ listed_fewer {A} time later id old new ds l le others fewer = record {
       (λ n some. l.complete id n (omega (arith, fewer n)))
       (λ k differs n some. l.complete k n (subst (λ (o : Option (Conversation A)). 0 < how_many (is_at n) (waiting_at o)) (others k differs) some));
 }
+
+-- ---- the first deadline of a conversation
+
+split_at : {X : Type 0} (xs : List X) (i : ℕ) (x : X) → slice_get xs i ≡ Some x → xs ≡ take i xs ++ x ∷ drop (suc i) xs
+split_at [] i x e = absurd (none-some x e)
+split_at (y ∷ ys) zero x e = ap (λ z. z ∷ ys) (same_Some y x e)
+split_at (y ∷ ys) (suc i) x e = ap (λ z. y ∷ z) (split_at ys i x e)
+
+pub first_of : (id index : ℕ) (old new : List Deadline) (o : Option Deadline) → IsIndexOf id index old → IfSome o (λ y. y ≡ slice_index_or old index y) → OnSome o (new ≡ remove old index)
+    → IfSome o (λ d. IsFirstOf id d old new)
+first_of id index old new None i value items = tt
+first_of id index old new (Some y) i value items =
+    let same : y ≡ i.d = value ∙ get_or_from_slice_get old index i.d y i.at in
+    record {
+      front = take index old;
+      back = drop (suc index) old;
+      of = ap due_of same ∙ i.of;
+      was = split_at old index y (i.at ∙ ap Some (sym same));
+      is = items;
+      apart = i.apart;
+    }
+  where
+    due_of : Deadline → ℕ
+    due_of d = d.conversation

@@ -14,14 +14,14 @@ use Rattle.scrib_holdback.proofs.FalseAlarmLemmas.{no_false_alarm}
 use Rattle.scrib_hold_stage.specs.declared.noted.Noted.{Noted}
 use Rattle.scrib_hold_stage.specs.declared.conversation.Conversation.{Conversation}
 use Rattle.scrib_hold_stage.specs.declared.deadlines.Deadline.{Deadline}
-use Rattle.scrib_hold_stage.specs.Entries.{Entry, is_of, noted_of, noted_in, opening_of}
+use Rattle.scrib_hold_stage.specs.Entries.{Entry, Closings, is_since, noted_in, noted_since, opening_since}
 use Rattle.scrib_hold_stage.specs.Conversations.{noted_event, waiting_at, IsOpenAt}
 use Rattle.scrib_hold_stage.specs.Changes.{conversation_at}
 use Rattle.scrib_hold_stage.specs.Deadlines.{how_many, is_at, is_deadline, StartsAfter}
-use Rattle.scrib_hold_stage.specs.Stages.{StageState, AreHeld, IsHeld, IsStageKept, IsFinished}
+use Rattle.scrib_hold_stage.specs.Stages.{StageState, AreHeld, IsHeld, IsStageKept, HasStaged, IsReleasedInAll, IsFinished}
 use Rattle.scrib_hold_stage.specs.Steps.{IsExpiring}
 use Rattle.scrib_hold_stage.proofs.Lists.{many_all, many-here}
-use Rattle.scrib_hold_stage.proofs.ConversationLemmas.{waiting_open, waiting_closed}
+use Rattle.scrib_hold_stage.proofs.ConversationLemmas.{waiting_open, waiting_unopened}
 use Rattle.scrib_hold_stage.proofs.HeldLemmas.{open_parts}
 
 -- ---- nothing waits any more
@@ -30,15 +30,16 @@ no_deadline : (time : ℕ) (ds : List Deadline) → StartsAfter time ds → AllB
 no_deadline time [] s w = refl
 no_deadline time (d ∷ ds) s w = absurd (omega (arith, s, w.0))
 
-no_waiting : {A : Type 0} (xs : List (Noted A)) (ds : List Deadline) (id : ℕ) → ds ≡ [] → ((n : ℕ) → 0 < how_many (is_at n) xs → 0 < how_many (is_deadline id n) ds) → xs ≡ []
-no_waiting [] ds id none complete = refl
-no_waiting (x ∷ xs) ds id none complete =
-    absurd (omega (arith, complete x.time (omega (arith, many-here (is_at x.time) x xs (eq-eqb x.time x.time refl))), ap (how_many (is_deadline id x.time)) none))
+-- where nothing of any time waits, nothing does
+pub no_waiting : {A : Type 0} (xs : List (Noted A)) → ((n : ℕ) → 0 < how_many (is_at n) xs → ⊥) → xs ≡ []
+no_waiting [] none = refl
+no_waiting (x ∷ xs) none = absurd (none x.time (omega (arith, many-here (is_at x.time) x xs (eq-eqb x.time x.time refl))))
 
-pub none_waits : {A : Type 0} (event : A → Event) (bound : ℕ) (entries : List (Entry A)) (released expired : List (Noted A)) (s : StageState A) → IsStageKept event bound entries released expired s → StartsAfter s.time s.deadlines
+pub none_waits : {A : Type 0} (event : A → Event) (bound : ℕ) (entries : List (Entry A)) (closed : Closings) (released expired : List (Noted A)) (s : StageState A) → IsStageKept event bound entries closed released expired s → StartsAfter s.time s.deadlines
     → (id : ℕ) → waiting_at (conversation_at s.conversations id) ≡ []
-none_waits event bound entries released expired s a later id =
-    no_waiting (waiting_at (conversation_at s.conversations id)) s.deadlines id (no_deadline s.time s.deadlines later a.listed.within) (a.listed.complete id)
+none_waits event bound entries closed released expired s a later id =
+    no_waiting (waiting_at (conversation_at s.conversations id))
+    (λ n some. omega (arith, a.listed.complete id n some, ap (how_many (is_deadline id n)) (no_deadline s.time s.deadlines later a.listed.within)))
 
 -- ---- what was released of a conversation in all
 
@@ -67,7 +68,7 @@ module _ {A : Type 0} (event : A → Event) where
       where
         by : (o : Option ℕ) → AreHeld event bound o h.early h.arrivals h.given h.late now → IsReordering (map (noted_event event) events) (map (noted_event event) all)
         by None k =
-            let nothing : h.arrivals ≡ [] = sym (waiting_closed event h.arrivals now k.2) ∙ none in
+            let nothing : h.arrivals ≡ [] = sym (waiting_unopened event h.arrivals now k.2) ∙ none in
             let same : all ≡ events = h.out ∙ ap (λ z. h.early ++ z) (k.0 ∙ sym nothing) ∙ sym h.all in
             λ r. ap (λ z. own_events r (map (noted_event event) z)) same
         by (Some n) k =
@@ -80,7 +81,7 @@ module _ {A : Type 0} (event : A → Event) where
       where
         by : (o : Option ℕ) → AreHeld event bound o h.early h.arrivals h.given h.late now → length all ≡ length events
         by None k =
-            let nothing : h.arrivals ≡ [] = sym (waiting_closed event h.arrivals now k.2) ∙ none in
+            let nothing : h.arrivals ≡ [] = sym (waiting_unopened event h.arrivals now k.2) ∙ none in
             ap length (h.out ∙ ap (λ z. h.early ++ z) (k.0 ∙ sym nothing) ∙ sym h.all)
         by (Some n) k =
             omega (
@@ -155,29 +156,39 @@ no_alarm_yet {A} event bound n opening events released expired now h o none = by
         subst (λ (z : List (Noted A)). RaisesNoFalseAlarm (noted_event event) events released z) (sym (waiting_open event events released [] c j))
         (no_false_alarm (noted_event event) events released c.holdback.waiting j.after.held)
 
+-- the law, of a conversation of which all was released
+pub released_in_all : {A : Type 0} (event : A → Event) (bound id : ℕ) (entries : List (Entry A)) (closed : Closings) (earlier expired given gone : List (Noted A)) (old new : StageState A)
+    → HasStaged event bound entries closed earlier expired old → IsStageKept event bound entries closed (earlier ++ given) (expired ++ gone) new → waiting_at (conversation_at new.conversations id) ≡ []
+    → IsReleasedInAll event (opening_since (closed id) id entries) (noted_since (closed id) id (noted_in entries)) (noted_since (closed id) id expired) (noted_since (closed id) id (earlier ++ given))
+released_in_all {A} event bound id entries closed earlier expired given gone old new a k none =
+    let mine = is_since (closed id) id in
+    let opening = opening_since (closed id) id entries in
+    let events = noted_since (closed id) id (noted_in entries) in
+    let before = noted_since (closed id) id earlier in
+    let unreleased = noted_since (closed id) id given in
+    let all = noted_since (closed id) id (earlier ++ given) in
+    let last = conversation_at new.conversations id in
+    let re = all_reordered event bound opening events all (noted_since (closed id) id (expired ++ gone)) last (k.held id) none in
+    let parts : all ≡ before ++ unreleased = filter-append mine earlier given in
+    record {
+      reordering = re;
+      exact = λ n o unexpired agreement.
+          subst (λ (z : List (Noted A)). IsPermitted agreement (map (noted_event event) z) ↔ IsPermittedInSomeOrder agreement (map (noted_event event) events)) (sym parts)
+          (exact_then event events before unreleased (conversation_at old.conversations id)
+          (open_unexpired event bound n opening events before (noted_since (closed id) id expired) (conversation_at old.conversations id) (a.kept.held id) o unexpired)
+          (subst (λ (z : List (Noted A)). IsReordering (map (noted_event event) events) (map (noted_event event) z)) parts re)
+          (ap length (sym parts) ∙ all_count event bound opening events all (noted_since (closed id) id (expired ++ gone)) last (k.held id) none)
+          agreement);
+    }
+
 pub finished : {A : Type 0} (event : A → Event) (old new : StageState A) (released now : List (Noted A)) → IsExpiring event old.time old new released now → StartsAfter old.time new.deadlines → IsFinished event old released now
 finished {A} event old new released now p later = record {
   given = p.given;
   gone = p.gone;
   appended = p.appended;
-  in_turn = λ bound entries earlier expired a. (p.in_turn bound entries earlier expired a.kept).0;
-  law = λ bound entries earlier expired a id. (let k = p.after bound entries earlier expired a.kept in
+  in_turn = λ bound entries closed earlier expired a. (p.in_turn bound entries closed earlier expired a.kept).0;
+  law = λ bound entries closed earlier expired a id. (let k = p.after bound entries closed earlier expired a.kept in
       let same : old.time ≡ new.time = a.kept.timed ∙ sym k.timed in
-      let none = none_waits event bound entries (earlier ++ p.given) (expired ++ p.gone) new k (subst (λ z. StartsAfter z new.deadlines) same later) id in
-      let opening = opening_of id entries in
-      let events = noted_of id (noted_in entries) in
-      let all = noted_of id (earlier ++ p.given) in
-      let last = conversation_at new.conversations id in
-      let re = all_reordered event bound opening events all (noted_of id (expired ++ p.gone)) last (k.held id) none in
-      let parts : all ≡ noted_of id earlier ++ noted_of id p.given = filter-append (is_of id) earlier p.given in
-      record {
-        reordering = re;
-        exact = λ n o unexpired agreement.
-            subst (λ (z : List (Noted A)). IsPermitted agreement (map (noted_event event) z) ↔ IsPermittedInSomeOrder agreement (map (noted_event event) events)) (sym parts)
-            (exact_then event events (noted_of id earlier) (noted_of id p.given) (conversation_at old.conversations id)
-            (open_unexpired event bound n opening events (noted_of id earlier) (noted_of id expired) (conversation_at old.conversations id) (a.kept.held id) o unexpired)
-            (subst (λ (z : List (Noted A)). IsReordering (map (noted_event event) events) (map (noted_event event) z)) parts re)
-            (ap length (sym parts) ∙ all_count event bound opening events all (noted_of id (expired ++ p.gone)) last (k.held id) none)
-            agreement);
-      });
+      released_in_all event bound id entries closed earlier expired p.given p.gone old new a k
+      (none_waits event bound entries closed (earlier ++ p.given) (expired ++ p.gone) new k (subst (λ z. StartsAfter z new.deadlines) same later) id));
 }

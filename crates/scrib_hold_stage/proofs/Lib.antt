@@ -10,3 +10,4 @@ mod StepLemmas
 mod TakeLemmas
 mod FinishLemmas
 mod PassLemmas
+mod ClosingLemmas

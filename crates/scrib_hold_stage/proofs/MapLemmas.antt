@@ -12,7 +12,7 @@ use Rattle.indexmap.proofs.CallerLemmas.{updates-with_value_at}
 use Rattle.scrib_types.specs.declared.event.Event.{Event}
 use Rattle.scrib_hold_stage.specs.declared.noted.Noted.{Noted}
 use Rattle.scrib_hold_stage.specs.declared.conversation.Conversation.{Conversation}
-use Rattle.scrib_hold_stage.specs.Conversations.{IsUnopened, IsClosedAt, IsOpenAt, IsPushedTo, IsOpenedIn, IsExpiredIn}
+use Rattle.scrib_hold_stage.specs.Conversations.{IsUnopened, IsUnopenedAt, IsOpenAt, IsPushedTo, IsOpenedIn, IsExpiredIn}
 use Rattle.scrib_hold_stage.specs.Changes.{Conversations, conversation_at, IsPlaceOf, LeavesOthers, IsMet, IsPushedOf, IsOpenedOf, IsExpiredOf}
 
 -- the given place, if the id is there
@@ -49,14 +49,14 @@ value_at {A} cs at id c p distinct read =
 -- ---- a conversation that is met
 
 pub met_before : {A : Type 0} (event : A → Event) (id : ℕ) (cs : Conversations A) → IsMet event id cs cs
-met_before event id cs = record { others = λ k differs. refl; closed = λ waiting k. k; opened = λ arrivals released expired k. k }
+met_before event id cs = record { others = λ k differs. refl; unopened = λ waiting k. k; opened = λ arrivals released expired k. k }
 
 pub met_now : {A : Type 0} (event : A → Event) (id : ℕ) (old new : Conversations A) (c : Conversation A) → conversation_at old id ≡ None → conversation_at new id ≡ Some c
     → LeavesOthers id old new → IsUnopened event [] c → IsMet event id old new
 met_now event id old new c none there others k = record {
   others = others;
-  closed = λ waiting w. (let empty : waiting ≡ [] = subst (IsClosedAt event waiting) none w in
-      subst (IsClosedAt event waiting) (sym there) (subst (λ z. IsUnopened event z c) (sym empty) k));
+  unopened = λ waiting w. (let empty : waiting ≡ [] = subst (IsUnopenedAt event waiting) none w in
+      subst (IsUnopenedAt event waiting) (sym there) (subst (λ z. IsUnopened event z c) (sym empty) k));
   opened = λ arrivals released expired w. absurd (subst (IsOpenAt event arrivals released expired) none w);
 }
 
@@ -70,8 +70,8 @@ pushed_of event x old mid new released now c d m was is others p = record {
   pushed = record {
     given = p.given;
     appended = p.appended;
-    closed = λ waiting w. (let q = p.closed waiting (subst (IsClosedAt event waiting) was (m.closed waiting w)) in
-        (subst (IsClosedAt event (waiting ++ x ∷ [])) (sym is) q.0, q.1));
+    unopened = λ waiting w. (let q = p.unopened waiting (subst (IsUnopenedAt event waiting) was (m.unopened waiting w)) in
+        (subst (IsUnopenedAt event (waiting ++ x ∷ [])) (sym is) q.0, q.1));
     opened = λ arrivals earlier expired w.
         subst (IsOpenAt event (arrivals ++ x ∷ []) (earlier ++ p.given) expired) (sym is)
         (p.opened arrivals earlier expired (subst (IsOpenAt event arrivals earlier expired) was (m.opened arrivals earlier expired w)));
@@ -86,7 +86,7 @@ opened_of event id old mid new released now c d m was is others p = record {
   opened = record {
     given = p.given;
     appended = p.appended;
-    closed = λ waiting w. subst (IsOpenAt event waiting p.given []) (sym is) (p.closed waiting (subst (IsClosedAt event waiting) was (m.closed waiting w)));
+    unopened = λ waiting w. subst (IsOpenAt event waiting p.given []) (sym is) (p.unopened waiting (subst (IsUnopenedAt event waiting) was (m.unopened waiting w)));
     opened = λ arrivals earlier expired w.
         subst (IsOpenAt event arrivals (earlier ++ p.given) expired) (sym is)
         (p.opened arrivals earlier expired (subst (IsOpenAt event arrivals earlier expired) was (m.opened arrivals earlier expired w)));

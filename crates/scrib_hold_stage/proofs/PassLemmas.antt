@@ -9,7 +9,7 @@ use Rattle.scrib_holdback.specs.Holdings.{PassesAlone}
 use Rattle.scrib_hold_stage.specs.declared.noted.Noted.{Noted}
 use Rattle.scrib_hold_stage.specs.declared.conversation.Conversation.{Conversation}
 use Rattle.scrib_hold_stage.specs.declared.deadlines.Deadline.{Deadline}
-use Rattle.scrib_hold_stage.specs.Entries.{Entry, note}
+use Rattle.scrib_hold_stage.specs.Entries.{Entry, Closings, note}
 use Rattle.scrib_hold_stage.specs.Conversations.{noted_event, waiting_at, IsNotOldest, PassesAloneIn}
 use Rattle.scrib_hold_stage.specs.Changes.{Conversations, conversation_at, LeavesOthers, IsPushedOf, PassesAloneOf}
 use Rattle.scrib_hold_stage.specs.Deadlines.{StartsAfter, StartsLate}
@@ -79,24 +79,24 @@ passes_alone {A} event id e old new small p b t d n g late = λ arrival is relea
 -- ---- a deadline passes whose event waits no more
 
 dropped : {A : Type 0} (event : A → Event) (old new : StageState A) (d : Deadline) → old.deadlines ≡ d ∷ new.deadlines → new.bound ≡ old.bound → new.time ≡ old.time → new.conversations ≡ old.conversations → new.others ≡ old.others → new.expired ≡ old.expired
-    → IsNotOldest d.time (conversation_at old.conversations d.conversation) → (bound : ℕ) (entries : List (Entry A)) (earlier expired : List (Noted A)) → HasStaged event bound entries earlier expired old → HasStaged event bound entries earlier expired new
-dropped {A} event old new d was b t c e g other bound entries earlier expired a = record {
-  kept = deadline_skipped event bound entries earlier expired old new a.kept d was b t e g other (λ k. ap (λ (z : Conversations A). conversation_at z k) c);
+    → IsNotOldest d.time (conversation_at old.conversations d.conversation) → (bound : ℕ) (entries : List (Entry A)) (closed : Closings) (earlier expired : List (Noted A)) → HasStaged event bound entries closed earlier expired old → HasStaged event bound entries closed earlier expired new
+dropped {A} event old new d was b t c e g other bound entries closed earlier expired a = record {
+  kept = deadline_skipped event bound entries closed earlier expired old new a.kept d [] new.deadlines was refl tt b t e g other (λ k. ap (λ (z : Conversations A). conversation_at z k) c);
   aged = a.aged;
   fresh = λ id. subst (λ (z : Conversations A). AllByRecursion (λ (x : Noted A). length entries < x.time + bound) (waiting_at (conversation_at z id))) (sym c) (a.fresh id);
 }
 
 -- an entry is read after that
 read_after : {A : Type 0} (event : A → Event) (entry : Entry A) (old mid new : StageState A) (released now : List (Noted A))
-    → ((bound : ℕ) (entries : List (Entry A)) (earlier expired : List (Noted A)) → HasStaged event bound entries earlier expired old → HasStaged event bound entries earlier expired mid)
+    → ((bound : ℕ) (entries : List (Entry A)) (closed : Closings) (earlier expired : List (Noted A)) → HasStaged event bound entries closed earlier expired old → HasStaged event bound entries closed earlier expired mid)
     → IsRead event entry mid new released now → IsRead event entry old new released now
 read_after event entry old mid new released now to r = record {
   given = r.given;
   late = r.late;
   gone = r.gone;
   appended = r.appended;
-  in_turn = λ bound entries earlier expired a. r.in_turn bound entries earlier expired (to bound entries earlier expired a);
-  after = λ bound entries earlier expired a. r.after bound entries earlier expired (to bound entries earlier expired a);
+  in_turn = λ bound entries closed earlier expired a. r.in_turn bound entries closed earlier expired (to bound entries closed earlier expired a);
+  after = λ bound entries closed earlier expired a. r.after bound entries closed earlier expired (to bound entries closed earlier expired a);
 }
 
 pub passes_beside : {A : Type 0} (event : A → Event) (id : ℕ) (e : Event) (old new : StageState A) (d : Deadline) → old.deadlines ≡ d ∷ new.deadlines → IsNotOldest d.time (conversation_at old.conversations d.conversation)

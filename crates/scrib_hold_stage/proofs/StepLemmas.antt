@@ -2,16 +2,17 @@
 use Rattle.std.proofs.Common.{◌≡◌, ◌∙◌, ℕ, ◌+◌, ◌<◌, ◌≤◌, ◌⊎◌, List, [], ◌∷◌, ◌++◌, length, Result, Ok, Err, inl, inr, sym, ap, subst, length-append, append-nil, append_assoc, arith}
 use Rattle.std.specs.List.{AllByRecursion}
 use Rattle.std.specs.Result.{OnOk}
+use Rattle.std.proofs.lemmas.List.Elements.{filter-append}
 use Rattle.scrib_types.specs.declared.event.Event.{Event}
 use Rattle.scrib_hold_stage.specs.declared.noted.Noted.{Noted}
 use Rattle.scrib_hold_stage.specs.declared.deadlines.Deadline.{Deadline}
-use Rattle.scrib_hold_stage.specs.Entries.{Entry}
+use Rattle.scrib_hold_stage.specs.Entries.{Entry, is_since, noted_since}
 use Rattle.scrib_hold_stage.specs.Conversations.{waiting_at}
 use Rattle.scrib_hold_stage.specs.Changes.{conversation_at}
 use Rattle.scrib_hold_stage.specs.Deadlines.{IsInOrder, due_time, StartsAfter}
 use Rattle.scrib_hold_stage.specs.Stages.{StageState, IsStageKept, HasStaged, Expires, nothing, one_more, IsRead}
 use Rattle.scrib_hold_stage.specs.Steps.{IsEntryTaken, IsExpiring, IsGone, IsDeadlinePassed, IsRipened}
-use Rattle.scrib_hold_stage.proofs.Lists.{all_append, all_weaker}
+use Rattle.scrib_hold_stage.proofs.Lists.{all_append, all_weaker, all_kept}
 use Rattle.scrib_hold_stage.proofs.DeadlineLemmas.{rest_later, rest_after}
 use Rattle.scrib_hold_stage.proofs.StageLemmas.{all_fresh}
 
@@ -27,10 +28,10 @@ expiring_none event due old new released same = record {
   gone = [];
   appended = sym (append-nil released);
   passed = tt;
-  in_turn = λ bound entries earlier expired a. (nothing, tt);
-  after = λ bound entries earlier expired a.
-      subst (λ z. IsStageKept event bound entries z (expired ++ []) new) (sym (append-nil earlier))
-      (subst (λ z. IsStageKept event bound entries earlier z new) (sym (append-nil expired)) (subst (IsStageKept event bound entries earlier expired) (sym same) a));
+  in_turn = λ bound entries closed earlier expired a. (nothing, tt);
+  after = λ bound entries closed earlier expired a.
+      subst (λ z. IsStageKept event bound entries closed z (expired ++ []) new) (sym (append-nil earlier))
+      (subst (λ z. IsStageKept event bound entries closed earlier z new) (sym (append-nil expired)) (subst (IsStageKept event bound entries closed earlier expired) (sym same) a));
 }
 
 -- what expired before was earlier than the deadlines that are left
@@ -61,14 +62,14 @@ expiring_join {A} event due old mid new released between now p q = record {
   gone = p.gone ++ q.gone;
   appended = q.appended ∙ ap (λ z. z ++ q.given) p.appended ∙ append_assoc released p.given q.given;
   passed = all_append (λ x. x.time ≤ due) p.gone q.gone p.passed q.passed;
-  in_turn = λ bound entries earlier expired a. (let k = p.after bound entries earlier expired a in
+  in_turn = λ bound entries closed earlier expired a. (let k = p.after bound entries closed earlier expired a in
       turn_more q.first new.deadlines p.given p.gone q.given q.gone (subst (IsInOrder due_time) q.was k.listed.ordered)
-      (subst (λ z. Expires p.given p.gone × AllByRecursion (λ (x : Noted A). StartsAfter x.time z) p.gone) q.was (p.in_turn bound entries earlier expired a))
-      (q.one bound entries (earlier ++ p.given) (expired ++ p.gone) k));
-  after = λ bound entries earlier expired a.
-      subst (λ z. IsStageKept event bound entries z (expired ++ (p.gone ++ q.gone)) new) (append_assoc earlier p.given q.given)
-      (subst (λ z. IsStageKept event bound entries ((earlier ++ p.given) ++ q.given) z new) (append_assoc expired p.gone q.gone)
-      (q.after bound entries (earlier ++ p.given) (expired ++ p.gone) (p.after bound entries earlier expired a)));
+      (subst (λ z. Expires p.given p.gone × AllByRecursion (λ (x : Noted A). StartsAfter x.time z) p.gone) q.was (p.in_turn bound entries closed earlier expired a))
+      (q.one bound entries closed (earlier ++ p.given) (expired ++ p.gone) k));
+  after = λ bound entries closed earlier expired a.
+      subst (λ z. IsStageKept event bound entries closed z (expired ++ (p.gone ++ q.gone)) new) (append_assoc earlier p.given q.given)
+      (subst (λ z. IsStageKept event bound entries closed ((earlier ++ p.given) ++ q.given) z new) (append_assoc expired p.gone q.gone)
+      (q.after bound entries closed (earlier ++ p.given) (expired ++ p.gone) (p.after bound entries closed earlier expired a)));
 }
 
 -- what expired had waited for long enough, and what waits hasn't
@@ -77,16 +78,18 @@ ripened {A} event due old new released now p later now_is = record {
   given = p.given;
   gone = p.gone;
   appended = p.appended;
-  in_turn = λ bound entries earlier expired a. (p.in_turn bound entries earlier expired a).0;
-  after = λ bound entries earlier expired a aged. (let k = p.after bound entries earlier expired a in
+  in_turn = λ bound entries closed earlier expired a. (p.in_turn bound entries closed earlier expired a).0;
+  after = λ bound entries closed earlier expired a aged. (let k = p.after bound entries closed earlier expired a in
       let sum : due + bound ≡ length entries = ap (λ z. due + z) (sym a.bounded) ∙ now_is ∙ a.timed in
       record {
         kept = k;
-        aged = all_append (λ (x : Noted A). x.time + bound ≤ length entries) expired p.gone
-            (subst (λ z. AllByRecursion (λ (x : Noted A). x.time + bound ≤ z) expired) a.timed aged)
-            (all_weaker (λ (x : Noted A). x.time ≤ due) (λ (x : Noted A). x.time + bound ≤ length entries) (λ x h. omega arith) p.gone p.passed);
+        aged = λ id. subst (AllByRecursion (λ (x : Noted A). x.time + bound ≤ length entries)) (sym (filter-append (is_since (closed id) id) expired p.gone))
+            (all_append (λ (x : Noted A). x.time + bound ≤ length entries) (noted_since (closed id) id expired) (noted_since (closed id) id p.gone)
+            (subst (λ z. AllByRecursion (λ (x : Noted A). x.time + bound ≤ z) (noted_since (closed id) id expired)) a.timed (aged id))
+            (all_kept (λ (x : Noted A). x.time + bound ≤ length entries) (is_since (closed id) id) p.gone
+            (all_weaker (λ (x : Noted A). x.time ≤ due) (λ (x : Noted A). x.time + bound ≤ length entries) (λ x h. omega arith) p.gone p.passed)));
         fresh = λ id. all_weaker (λ (x : Noted A). due < x.time) (λ (x : Noted A). length entries < x.time + bound) (λ x h. omega arith)
-            (waiting_at (conversation_at new.conversations id)) (all_fresh event bound due entries (earlier ++ p.given) (expired ++ p.gone) new k later id);
+            (waiting_at (conversation_at new.conversations id)) (all_fresh event bound due entries closed (earlier ++ p.given) (expired ++ p.gone) new k later id);
       });
 }
 
@@ -96,15 +99,15 @@ none_ripe {A} event old new released same empty = record {
   given = [];
   gone = [];
   appended = sym (append-nil released);
-  in_turn = λ bound entries earlier expired a. nothing;
-  after = λ bound entries earlier expired a aged. (let k : IsStageKept event bound entries earlier expired new = subst (IsStageKept event bound entries earlier expired) (sym same) a in
+  in_turn = λ bound entries closed earlier expired a. nothing;
+  after = λ bound entries closed earlier expired a aged. (let k : IsStageKept event bound entries closed earlier expired new = subst (IsStageKept event bound entries closed earlier expired) (sym same) a in
       let later : StartsAfter (length entries) new.deadlines = subst (StartsAfter (length entries)) (sym (ap (λ (s : StageState A). s.deadlines) same ∙ empty)) tt in
-      subst (λ z. HasStaged event bound entries z (expired ++ []) new) (sym (append-nil earlier))
-      (subst (λ z. HasStaged event bound entries earlier z new) (sym (append-nil expired)) (record {
+      subst (λ z. HasStaged event bound entries closed z (expired ++ []) new) (sym (append-nil earlier))
+      (subst (λ z. HasStaged event bound entries closed earlier z new) (sym (append-nil expired)) (record {
         kept = k;
-        aged = subst (λ z. AllByRecursion (λ (x : Noted A). x.time + bound ≤ z) expired) a.timed aged;
+        aged = λ id. subst (λ z. AllByRecursion (λ (x : Noted A). x.time + bound ≤ z) (noted_since (closed id) id expired)) a.timed (aged id);
         fresh = λ id. all_weaker (λ (x : Noted A). length entries < x.time) (λ (x : Noted A). length entries < x.time + bound) (λ x h. omega arith)
-            (waiting_at (conversation_at new.conversations id)) (all_fresh event bound (length entries) entries earlier expired new k later id);
+            (waiting_at (conversation_at new.conversations id)) (all_fresh event bound (length entries) entries closed earlier expired new k later id);
       })));
 }
 
@@ -114,13 +117,13 @@ unripe {A} event old new released same few = record {
   given = [];
   gone = [];
   appended = sym (append-nil released);
-  in_turn = λ bound entries earlier expired a. nothing;
-  after = λ bound entries earlier expired a aged. (let small : length entries < bound = omega (arith, few, a.timed, a.bounded) in
-      let k : IsStageKept event bound entries earlier expired new = subst (IsStageKept event bound entries earlier expired) (sym same) a in
-      subst (λ z. HasStaged event bound entries z (expired ++ []) new) (sym (append-nil earlier))
-      (subst (λ z. HasStaged event bound entries earlier z new) (sym (append-nil expired)) (record {
+  in_turn = λ bound entries closed earlier expired a. nothing;
+  after = λ bound entries closed earlier expired a aged. (let small : length entries < bound = omega (arith, few, a.timed, a.bounded) in
+      let k : IsStageKept event bound entries closed earlier expired new = subst (IsStageKept event bound entries closed earlier expired) (sym same) a in
+      subst (λ z. HasStaged event bound entries closed z (expired ++ []) new) (sym (append-nil earlier))
+      (subst (λ z. HasStaged event bound entries closed earlier z new) (sym (append-nil expired)) (record {
         kept = k;
-        aged = subst (λ z. AllByRecursion (λ (x : Noted A). x.time + bound ≤ z) expired) a.timed aged;
+        aged = λ id. subst (λ z. AllByRecursion (λ (x : Noted A). x.time + bound ≤ z) (noted_since (closed id) id expired)) a.timed (aged id);
         fresh = λ id. every (λ (x : Noted A). length entries < x.time + bound) (λ x. omega arith) (waiting_at (conversation_at new.conversations id));
       })));
 }
@@ -136,12 +139,12 @@ read_of {A} event entry old mid next new released between now p q same = record 
   late = q.given;
   gone = q.gone;
   appended = q.appended ∙ ap (λ z. z ++ q.given) p.appended ∙ append_assoc released p.given q.given;
-  in_turn = λ bound entries earlier expired a.
-      q.in_turn bound (entries ++ entry ∷ []) (earlier ++ p.given) expired (p.after bound entries earlier expired a);
-  after = λ bound entries earlier expired a. (let k = p.after bound entries earlier expired a in
+  in_turn = λ bound entries closed earlier expired a.
+      q.in_turn bound (entries ++ entry ∷ []) closed (earlier ++ p.given) expired (p.after bound entries closed earlier expired a);
+  after = λ bound entries closed earlier expired a. (let k = p.after bound entries closed earlier expired a in
       let longer : length entries ≤ mid.time = omega (arith, k.timed, length-append entries (entry ∷ [])) in
-      let r = q.after bound (entries ++ entry ∷ []) (earlier ++ p.given) expired k
-      (all_weaker (λ (x : Noted A). x.time + bound ≤ length entries) (λ (x : Noted A). x.time + bound ≤ mid.time) (λ x h. omega arith) expired a.aged) in
-      subst (λ z. HasStaged event bound (entries ++ entry ∷ []) z (expired ++ q.gone) new) (append_assoc earlier p.given q.given)
-      (subst (HasStaged event bound (entries ++ entry ∷ []) ((earlier ++ p.given) ++ q.given) (expired ++ q.gone)) (sym same) r));
+      let r = q.after bound (entries ++ entry ∷ []) closed (earlier ++ p.given) expired k
+      (λ id. all_weaker (λ (x : Noted A). x.time + bound ≤ length entries) (λ (x : Noted A). x.time + bound ≤ mid.time) (λ x h. omega arith) (noted_since (closed id) id expired) (a.aged id)) in
+      subst (λ z. HasStaged event bound (entries ++ entry ∷ []) closed z (expired ++ q.gone) new) (append_assoc earlier p.given q.given)
+      (subst (HasStaged event bound (entries ++ entry ∷ []) closed ((earlier ++ p.given) ++ q.given) (expired ++ q.gone)) (sym same) r));
 }

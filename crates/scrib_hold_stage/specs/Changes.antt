@@ -5,7 +5,7 @@ use Rattle.std.specs.Map.{lookup}
 use Rattle.scrib_types.specs.declared.event.Event.{Event}
 use Rattle.scrib_hold_stage.specs.declared.noted.Noted.{Noted}
 use Rattle.scrib_hold_stage.specs.declared.conversation.Conversation.{Conversation}
-use Rattle.scrib_hold_stage.specs.Conversations.{noted_event, IsClosedAt, IsOpenAt, IsExpiredIn, IsOpenedIn, IsPushedTo}
+use Rattle.scrib_hold_stage.specs.Conversations.{noted_event, IsUnopenedAt, IsOpenAt, IsExpiredIn, IsOpenedIn, IsPushedTo}
 
 -- the conversations that were met, each with its id
 abbrev pub Conversations : Type 0 → Type 0
@@ -26,8 +26,8 @@ LeavesOthers id old new = (k : ℕ) → nat_eq id k ≡ false → conversation_a
 -- the conversation is met, if it was not, and is held as before
 pub record IsMet {A : Type 0} (event : A → Event) (id : ℕ) (old new : Conversations A) : Type 0 where
   pub others : LeavesOthers id old new
-  pub closed : (waiting : List (Noted A)) → IsClosedAt event waiting (conversation_at old id)
-      → IsClosedAt event waiting (conversation_at new id)
+  pub unopened : (waiting : List (Noted A)) → IsUnopenedAt event waiting (conversation_at old id)
+      → IsUnopenedAt event waiting (conversation_at new id)
   pub opened : (arrivals released expired : List (Noted A))
       → IsOpenAt event arrivals released expired (conversation_at old id)
       → IsOpenAt event arrivals released expired (conversation_at new id)

@@ -20,7 +20,7 @@ waiting_at (Some c) = waiting_in c
 
 -- the conversation is not open yet, and these events wait for its opening
 pub record IsUnopened {A : Type 0} (event : A → Event) (arrivals : List (Noted A)) (c : Conversation A) : Type 0 where
-  pub closed : c.opened ≡ false
+  pub unopened : c.opened ≡ false
   pub wait : c.early.items ≡ arrivals
   pub fresh : IsAfter (noted_event event) [] [] [] c.holdback
 
@@ -32,9 +32,9 @@ pub record IsOpen {A : Type 0} (event : A → Event) (arrivals released expired 
   pub after : IsAfter (noted_event event) arrivals released expired c.holdback
 
 -- the same, where the conversation may not have been met
-abbrev pub IsClosedAt : {A : Type 0} → (A → Event) → List (Noted A) → Option (Conversation A) → Type 0
-IsClosedAt event arrivals None = arrivals ≡ []
-IsClosedAt event arrivals (Some c) = IsUnopened event arrivals c
+abbrev pub IsUnopenedAt : {A : Type 0} → (A → Event) → List (Noted A) → Option (Conversation A) → Type 0
+IsUnopenedAt event arrivals None = arrivals ≡ []
+IsUnopenedAt event arrivals (Some c) = IsUnopened event arrivals c
 
 -- the same
 abbrev pub IsOpenAt : {A : Type 0} → (A → Event) → (arrivals released expired : List (Noted A))
@@ -50,8 +50,8 @@ pub record IsPushedTo {A : Type 0} (event : A → Event) (x : Noted A) (old new 
     (released now : List (Noted A)) : Type 0 where
   pub given : List (Noted A)
   pub appended : now ≡ released ++ given
-  pub closed : (waiting : List (Noted A)) → IsClosedAt event waiting old
-      → IsClosedAt event (waiting ++ x ∷ []) new × (given ≡ [])
+  pub unopened : (waiting : List (Noted A)) → IsUnopenedAt event waiting old
+      → IsUnopenedAt event (waiting ++ x ∷ []) new × (given ≡ [])
   pub opened : (arrivals earlier expired : List (Noted A)) → IsOpenAt event arrivals earlier expired old
       → IsOpenAt event (arrivals ++ x ∷ []) (earlier ++ given) expired new
 
@@ -66,7 +66,7 @@ pub record IsOpenedIn {A : Type 0} (event : A → Event) (old new : Option (Conv
     (released now : List (Noted A)) : Type 0 where
   pub given : List (Noted A)
   pub appended : now ≡ released ++ given
-  pub closed : (waiting : List (Noted A)) → IsClosedAt event waiting old → IsOpenAt event waiting given [] new
+  pub unopened : (waiting : List (Noted A)) → IsUnopenedAt event waiting old → IsOpenAt event waiting given [] new
   pub opened : (arrivals earlier expired : List (Noted A)) → IsOpenAt event arrivals earlier expired old
       → IsOpenAt event arrivals (earlier ++ given) expired new
 
@@ -78,8 +78,8 @@ pub record IsExpiredIn {A : Type 0} (event : A → Event) (time : ℕ) (old new 
   pub waited : IsOldestWaiting (waiting_at old) oldest
   pub given : List (Noted A)
   pub appended : now ≡ released ++ oldest ∷ given
-  pub closed : (waiting : List (Noted A)) → IsClosedAt event (oldest ∷ waiting) old
-      → IsClosedAt event waiting new × (given ≡ [])
+  pub unopened : (waiting : List (Noted A)) → IsUnopenedAt event (oldest ∷ waiting) old
+      → IsUnopenedAt event waiting new × (given ≡ [])
   pub opened : (arrivals earlier expired : List (Noted A)) → IsOpenAt event arrivals earlier expired old
       → IsOpenAt event arrivals (earlier ++ oldest ∷ given) (expired ++ oldest ∷ []) new
 

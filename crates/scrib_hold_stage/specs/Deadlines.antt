@@ -1,6 +1,6 @@
 -- When the events that wait expire (this project's own). Only contracts of private functions and `IsKept` cite this
 -- file.
-use Rattle.std.specs.Prelude.{ℕ, ◌+◌, ◌<◌, ◌≤◌, ◌&&◌, Bool, List, [], ◌∷◌, length, filter, nat_eq}
+use Rattle.std.specs.Prelude.{ℕ, ◌+◌, ◌<◌, ◌≤◌, ◌≡◌, ◌&&◌, Bool, true, false, List, [], ◌∷◌, ◌++◌, Some, length, filter, take, slice_get, nat_eq}
 use Rattle.std.specs.List.{AllByRecursion}
 use Rattle.scrib_hold_stage.specs.declared.noted.Noted.{Noted}
 use Rattle.scrib_hold_stage.specs.declared.deadlines.Deadline.{Deadline}
@@ -45,3 +45,27 @@ StartsAfter due (d ∷ deadlines) = due < d.time
 abbrev pub StartsLate : (time bound : ℕ) → List Deadline → Type 0
 StartsLate time bound [] = Unit {0}
 StartsLate time bound (d ∷ deadlines) = time < d.time + bound
+
+-- each deadline is of another conversation
+abbrev pub AreOfOthers : (id : ℕ) → List Deadline → Type 0
+AreOfOthers id deadlines = AllByRecursion (λ d. nat_eq id d.conversation ≡ false) deadlines
+
+-- this deadline, the first of the conversation, is taken out
+pub record IsFirstOf (id : ℕ) (d : Deadline) (old new : List Deadline) : Type 0 where
+  pub front : List Deadline
+  pub back : List Deadline
+  pub of : d.conversation ≡ id
+  pub was : old ≡ front ++ d ∷ back
+  pub is : new ≡ front ++ back
+  pub apart : AreOfOthers id front
+
+-- the first deadline of the conversation has this index
+pub record IsIndexOf (id index : ℕ) (deadlines : List Deadline) : Type 0 where
+  pub d : Deadline
+  pub of : d.conversation ≡ id
+  pub at : slice_get deadlines index ≡ Some d
+  pub apart : AreOfOthers id (take index deadlines)
+
+-- the deadlines of the conversation are later than this
+abbrev pub AreLaterOf : (id n : ℕ) → List Deadline → Type 0
+AreLaterOf id n deadlines = AllByRecursion (λ d. nat_eq id d.conversation ≡ true → n < d.time) deadlines

@@ -1,5 +1,5 @@
 -- Scripts, as a stage reads them (this project's own).
-use Rattle.std.specs.Prelude.{◌≡◌, ℕ, ◌+◌, Bool, false, List, [], ◌∷◌, Option, None, Some, filter, nat_eq, if◌then◌else◌}
+use Rattle.std.specs.Prelude.{◌≡◌, ℕ, ◌+◌, Bool, false, ◌&&◌, List, [], ◌∷◌, Option, None, Some, filter, nat_eq, ltb, if◌then◌else◌}
 use Rattle.scrib_hold_stage.specs.declared.noted.Noted.{Noted}
 
 -- An entry of a script notes an event, opens a conversation, or is another one.
@@ -33,14 +33,35 @@ opens id (Notes x) = false
 opens id (Opens k) = nat_eq id k
 opens id Passes = false
 
--- the number of the first entry that opens the conversation, where n is that of the first entry
-abbrev pub opening_from : {A : Type 0} → ℕ → ℕ → List (Entry A) → Option ℕ
-opening_from n id [] = None
-opening_from n id (entry ∷ entries) = if opens id entry then Some n else opening_from (n + 1) id entries
+-- Of each conversation, how many entries had been read when it was last closed, or 0. Its present life began then.
+abbrev pub Closings : Type 0
+Closings = ℕ → ℕ
+
+-- no conversation was closed
+abbrev pub none_closed : Closings
+none_closed id = 0
+
+-- the conversation is closed when n entries have been read
+abbrev pub closed_at : (id n : ℕ) → Closings → Closings
+closed_at id n closed k = if nat_eq id k then n else closed k
+
+-- the item is of the conversation, and later than this time
+abbrev pub is_since : {A : Type 0} → (time id : ℕ) → Noted A → Bool
+is_since time id x = nat_eq id x.conversation && ltb time x.time
+
+-- the items of the conversation that are later than this time, in order
+abbrev pub noted_since : {A : Type 0} → (time id : ℕ) → List (Noted A) → List (Noted A)
+noted_since time id items = filter (is_since time id) items
+
+-- the number of the first entry later than this time that opens the conversation, where n is that of the first entry
+abbrev pub opening_from : {A : Type 0} → (n time id : ℕ) → List (Entry A) → Option ℕ
+opening_from n time id [] = None
+opening_from n time id (entry ∷ entries) =
+    if opens id entry && ltb time n then Some n else opening_from (n + 1) time id entries
 
 -- the same, where entries are numbered from 1
-abbrev pub opening_of : {A : Type 0} → ℕ → List (Entry A) → Option ℕ
-opening_of id entries = opening_from 1 id entries
+abbrev pub opening_since : {A : Type 0} → (time id : ℕ) → List (Entry A) → Option ℕ
+opening_since time id entries = opening_from 1 time id entries
 
 -- an event has this time
 abbrev pub HasTime : {A : Type 0} → ℕ → Entry A → Type 0

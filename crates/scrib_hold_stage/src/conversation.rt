@@ -123,6 +123,14 @@ impl<A: Arrival> Conversation<A> {
         }
     }
 
+    /// Whether an event waits.
+    pub(crate) fn is_waiting(&self) -> bool
+        ensures yes { IsTrue result → (x : Noted A) × IsOldestWaiting (waiting_in self.now) x }
+        ensures no { IsFalse result → waiting_in self.now ≡ [] }
+    {
+        self.oldest().is_some()
+    }
+
     // The oldest event that waits.
     fn oldest(&self) -> Option<&Noted<A>>
         ensures { MatchOption result (waiting_in self.now ≡ []) (λ x. IsOldestWaiting (waiting_in self.now) x.now) }

@@ -1,7 +1,8 @@
 //! The conversations of a script, by id.
 
-ghost use Rattle.std.specs.Prelude.{◌≡◌, ℕ, None, OnErr, OnOk, IfOk, IfSome, IsFalse, IsTrue};
-ghost use Rattle.scrib_hold_stage.specs.Conversations.{IsAddedTo, IsNotOldest};
+ghost use Rattle.std.specs.Prelude.{◌≡◌, ℕ, [], None, OnErr, OnOk, IfOk, IfSome, IsFalse, IsTrue};
+ghost use Rattle.scrib_holdback.specs.Holdings.{IsOldestWaiting};
+ghost use Rattle.scrib_hold_stage.specs.Conversations.{IsAddedTo, IsNotOldest, waiting_at};
 ghost use Rattle.scrib_hold_stage.specs.Changes.{IsMet, IsPlaceOf, IsExpiredOf, IsOpenedOf, IsPushedOf, PassesAloneOf, conversation_at};
 
 use crate::conversation::Conversation;
@@ -118,6 +119,21 @@ pub(crate) fn is_not_oldest<A: Arrival>(
     match conversations.get_index(place) {
         Some((key, conversation)) if *key == id => !conversation.is_oldest(time),
         _ => false,
+    }
+}
+
+/// Whether an event of the conversation waits.
+pub(crate) fn is_waiting<A: Arrival>(
+    conversations: &IndexMap<u32, Conversation<A>>,
+    id: u32,
+) -> bool
+    ensures yes { IsTrue result
+        → (x : Noted A) × IsOldestWaiting (waiting_at (conversation_at conversations.now.entries id)) x }
+    ensures no { IsFalse result → waiting_at (conversation_at conversations.now.entries id) ≡ [] }
+{
+    match conversations.get(&id) {
+        Some(conversation) => conversation.is_waiting(),
+        None => false,
     }
 }
 

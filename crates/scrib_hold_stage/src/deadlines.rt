@@ -1,7 +1,7 @@
 //! When events that wait expire.
 
 ghost use Rattle.std.specs.Prelude.{◌≡◌, ◌≤◌, ◌∷◌, IfSome, IsTrue, None, drop};
-ghost use Rattle.scrib_hold_stage.specs.Deadlines.{StartsAfter, StartsLate};
+ghost use Rattle.scrib_hold_stage.specs.Deadlines.{AreOfOthers, IsFirstOf, IsIndexOf, StartsAfter, StartsLate};
 
 use std::collections::VecDeque;
 
@@ -57,4 +57,34 @@ fn is_second_late(deadlines: &VecDeque<Deadline>, time: u64, bound: u64) -> bool
         Some(second) => time.saturating_sub(bound) < second.time,
         None => true,
     }
+}
+
+/// Takes the first deadline of the conversation out, if there is one.
+pub(crate) fn take_first_of(
+    deadlines: &mut VecDeque<Deadline>,
+    conversation: u32,
+) -> Option<Deadline>
+    ensures none { result ≡ None → AreOfOthers conversation deadlines.old.items }
+    ensures same { result ≡ None → deadlines.new.items ≡ deadlines.old.items }
+    ensures some { IfSome result (λ d. IsFirstOf conversation d deadlines.old.items deadlines.new.items) }
+{
+    match index_of(deadlines, conversation) {
+        Some(index) => deadlines.remove(index),
+        None => None,
+    }
+}
+
+// Returns the index of the first deadline of the conversation, if there is one.
+fn index_of(deadlines: &VecDeque<Deadline>, conversation: u32) -> Option<usize>
+    ensures none { result ≡ None → AreOfOthers conversation deadlines.now.items }
+    ensures some { IfSome result (λ i. IsIndexOf conversation i deadlines.now.items) }
+{
+    let mut index = 0;
+    while let Some(deadline) = deadlines.get(index) {
+        if deadline.conversation == conversation {
+            return Some(index);
+        }
+        index += 1;
+    }
+    None
 }

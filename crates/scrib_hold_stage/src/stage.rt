@@ -1,15 +1,16 @@
 //! The stage: the entries of a script go in one after another, and the events that are released come out.
 
 ghost use Rattle.std.specs.Prelude.{◌≡◌, ◌+◌, ◌-◌, ◌^◌, ◌<◌, ℕ, List, [], min, IfOk, IsFalse, IsTrue, OnErr, OnOk, Some, length, slice_get};
-ghost use Rattle.scrib_hold_stage.specs.Entries.{Entry, Opens, Passes, note, noted_in};
-ghost use Rattle.scrib_hold_stage.specs.Conversations.{IsAddedTo};
-ghost use Rattle.scrib_hold_stage.specs.Deadlines.{StartsAfter};
-ghost use Rattle.scrib_hold_stage.specs.Stages.{HasStaged, IsFinished, IsRead, PassesStageAlone, stage_state};
-ghost use Rattle.scrib_hold_stage.specs.Steps.{IsExpiring, IsDeadlinePassed, IsRipened, IsEntryTaken};
+ghost use Rattle.scrib_hold_stage.specs.Entries.{Entry, Closings, Opens, Passes, none_closed, note, noted_in};
+ghost use Rattle.scrib_hold_stage.specs.Conversations.{IsAddedTo, waiting_at};
+ghost use Rattle.scrib_hold_stage.specs.Changes.{conversation_at};
+ghost use Rattle.scrib_hold_stage.specs.Deadlines.{AreOfOthers, StartsAfter};
+ghost use Rattle.scrib_hold_stage.specs.Stages.{HasStaged, IsClosed, IsFinished, IsRead, PassesStageAlone, Waits, stage_state};
+ghost use Rattle.scrib_hold_stage.specs.Steps.{AreAllExpired, IsExpiring, IsDeadlinePassed, IsDeadlineTaken, IsRipened, IsEntryTaken};
 
 use crate::conversation::Conversation;
-use crate::conversations::{is_not_oldest, open, pass_to, push_to, release_at};
-use crate::deadlines::{Deadline, none_due, only_due, pop_due};
+use crate::conversations::{is_not_oldest, is_waiting, open, pass_to, push_to, release_at};
+use crate::deadlines::{Deadline, none_due, only_due, pop_due, take_first_of};
 use crate::noted::Noted;
 use indexmap::IndexMap;
 use scrib_holdback::arrival::Arrival;
@@ -60,7 +61,7 @@ pub struct HoldStage<A: Arrival> {
 impl<A: Arrival> HoldStage<A> {
     /// Returns a stage before the first entry. An event waits while at most this many further entries are read.
     pub fn new(alloc: Global, bound: u64) -> HoldStage<A>
-        ensures { HasStaged A.event bound [] [] [] (stage_state result) }
+        ensures { HasStaged A.event bound [] none_closed [] [] (stage_state result) }
     {
         HoldStage {
             alloc,
@@ -178,6 +179,39 @@ impl<A: Arrival> HoldStage<A> {
         Ok(())
     }
 
+    /// Whether an event of the conversation waits.
+    pub fn waits(&self, conversation: u32) -> bool
+        ensures yes { IsTrue result → Waits conversation (stage_state self.now) }
+        ensures no { IsFalse result → waiting_at (conversation_at (stage_state self.now).conversations conversation) ≡ [] }
+    {
+        is_waiting(&self.conversations, conversation)
+    }
+
+    /// Closes the conversation between two entries. Releases all that waits of it, the oldest first, and what the rule
+    /// then releases. Then forgets it: its id may be opened again, as that of a new conversation.
+    ///
+    /// A law, where the conversation was opened since it was last closed, and none of its events since then expired
+    /// before. What was released of these is permitted exactly where some reordering of them is. It is a reordering
+    /// whatever expired.
+    ///
+    /// # Errors
+    /// `AllocError` where memory is refused. Some of what should be released is.
+    pub fn close(
+        &mut self,
+        conversation: u32,
+        released: &mut Vec<Noted<A>>,
+    ) -> Result<(), AllocError>
+        ensures ok { OnOk result (IsClosed A.event conversation
+            (stage_state self.old) (stage_state self.new) released.old.items released.new.items) }
+        ensures err { OnErr result (IsAddedTo released.old.items released.new.items) }
+    {
+        let start = released.len();
+        self.expire_all(conversation, released)?;
+        let _forgotten = self.conversations.swap_remove(&conversation);
+        self.tally(0, released.len().saturating_sub(start));
+        Ok(())
+    }
+
     /// Releases all that waits at the end of the script, the oldest first, and what the rule then releases. Returns
     /// the counts as they were before.
     ///
@@ -188,8 +222,8 @@ impl<A: Arrival> HoldStage<A> {
     /// `AllocError` where memory is refused. Some of what should be released is.
     pub fn finish(mut self, released: &mut Vec<Noted<A>>) -> Result<Counts, AllocError>
         ensures law { OnOk result (IsFinished A.event (stage_state self) released.old.items released.new.items) }
-        ensures counts { IfOk result (λ counts. (bound : ℕ) (entries : List (Entry A))
-            (earlier expired : List (Noted A)) → HasStaged A.event bound entries earlier expired (stage_state self)
+        ensures counts { IfOk result (λ counts. (bound : ℕ) (entries : List (Entry A)) (closed : Closings)
+            (earlier expired : List (Noted A)) → HasStaged A.event bound entries closed earlier expired (stage_state self)
             → (counts.events ≡ length (noted_in entries)) × (counts.expired ≡ length expired)) }
         ensures err { OnErr result (IsAddedTo released.old.items released.new.items) }
     {
@@ -305,6 +339,54 @@ impl<A: Arrival> HoldStage<A> {
     {
         while self.pass_deadline(due, released)? {}
         Ok(())
+    }
+
+    // Releases all that waits of the conversation, the oldest first.
+    fn expire_all(
+        &mut self,
+        conversation: u32,
+        released: &mut Vec<Noted<A>>,
+    ) -> Result<(), AllocError>
+        ensures ok { OnOk result (AreAllExpired A.event conversation
+            (stage_state self.old) (stage_state self.new) released.old.items released.new.items) }
+        ensures err { OnErr result (IsAddedTo released.old.items released.new.items) }
+    {
+        if !self.waits(conversation) {
+            return Ok(());
+        }
+        while self.take_deadline(conversation, released)? {}
+        Ok(())
+    }
+
+    // Takes the first deadline of the conversation out, and releases its event as it is, if that is the oldest that
+    // waits. Returns whether there was a deadline.
+    fn take_deadline(
+        &mut self,
+        conversation: u32,
+        released: &mut Vec<Noted<A>>,
+    ) -> Result<bool, AllocError>
+        ensures taken { IfOk result (λ some. IsTrue some
+            → IsDeadlineTaken A.event conversation (stage_state self.old) (stage_state self.new)
+            released.old.items released.new.items) }
+        ensures fewer { IfOk result (λ some. IsTrue some
+            → length self.new.deadlines.items < length self.old.deadlines.items) }
+        ensures none { IfOk result (λ some. IsFalse some → AreOfOthers conversation self.old.deadlines.items) }
+        ensures same { IfOk result (λ some. IsFalse some → stage_state self.new ≡ stage_state self.old) }
+        ensures unreleased { IfOk result (λ some. IsFalse some → released.new.items ≡ released.old.items) }
+        ensures err { OnErr result (released.new.items ≡ released.old.items) }
+    {
+        let Some(deadline) = take_first_of(&mut self.deadlines, conversation) else {
+            return Ok(false);
+        };
+        if release_at(
+            &mut self.conversations,
+            conversation,
+            deadline.time,
+            released,
+        )? {
+            self.expired = self.expired.saturating_add(1);
+        }
+        Ok(true)
     }
 
     // Lets the first deadline pass, if it is not later than this. Returns whether there was one.

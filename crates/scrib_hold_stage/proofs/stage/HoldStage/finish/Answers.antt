@@ -9,7 +9,7 @@ returns-clause-law g c =
     c.in_ok-expire.ensures.ok c.in_ok-expire.ensures.done
 
 pub returns-clause-counts : goal.returns-clause-counts
-returns-clause-counts g c = λ bound entries earlier expired h. (
+returns-clause-counts g c = λ bound entries closed earlier expired h. (
   omega (arith, c.saturating_sub-events.ensures, h.kept.events),
   h.kept.expired_count,
 )
