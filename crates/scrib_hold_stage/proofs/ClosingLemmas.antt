@@ -83,8 +83,8 @@ expiring_of_more {A} event id old mid new released between now p q = record {
   appended = q.appended ∙ ap (λ z. z ++ q.given) p.appended ∙ append_assoc released p.given q.given;
   others = λ k differs. q.others k differs ∙ p.others k differs;
   expired = λ bound entries closed earlier expired a. (let k = p.after bound entries closed earlier expired a in
-      subst (AreExpiredOf id (p.given ++ q.given) (p.gone ++ q.gone)) (sym q.was.is)
-      (expired_more id p.given p.gone q.given q.gone q.first q.was.front q.was.back q.was.of (subst (IsInOrder due_time) q.was.was k.listed.ordered) q.was.apart
+      subst (AreExpiredOf id (p.given ++ q.given) (p.gone ++ q.gone)) (sym q.was.left)
+      (expired_more id p.given p.gone q.given q.gone q.first q.was.front q.was.back q.was.is (subst (IsInOrder due_time) q.was.was k.listed.ordered) q.was.before
       (subst (AreExpiredOf id p.given p.gone) q.was.was (p.expired bound entries closed earlier expired a))
       (q.one bound entries closed (earlier ++ p.given) (expired ++ p.gone) k)));
   after = λ bound entries closed earlier expired a.

@@ -1,14 +1,13 @@
 -- Deadlines, and what waits.
 use Rattle.std.proofs.Common.{◌≡◌, ◌∙◌, ◌⊎◌, ◌&&◌, ℕ, ◌+◌, ◌<◌, ◌≤◌, zero, suc, Bool, true, false, List, [], ◌∷◌, ◌++◌, Option, None, Some, IfSome, OnSome, take, drop, slice_get, slice_index_or, nat_eq, eqb-true, eq-eqb, true≢false, refl, sym, ap, subst, inl, inr, arith}
-use Rattle.std.specs.List.{AllByRecursion, remove}
-use Rattle.std.proofs.lemmas.Option.{get_or_from_slice_get, none-some, same_Some}
+use Rattle.std.specs.List.{AllByRecursion}
 use Rattle.std.proofs.lemmas.Bool.{cases_Bool, and_parts, and_right}
 use Rattle.scrib_hold_stage.specs.declared.noted.Noted.{Noted}
 use Rattle.scrib_hold_stage.specs.declared.conversation.Conversation.{Conversation}
 use Rattle.scrib_hold_stage.specs.declared.deadlines.Deadline.{Deadline}
 use Rattle.scrib_hold_stage.specs.Conversations.{waiting_at}
 use Rattle.scrib_hold_stage.specs.Changes.{Conversations, conversation_at, LeavesOthers}
-use Rattle.scrib_hold_stage.specs.Deadlines.{IsInOrder, due_time, how_many, is_at, is_deadline, AreListed, AreOfOthers, IsFirstOf, IsIndexOf, StartsAfter}
+use Rattle.scrib_hold_stage.specs.Deadlines.{IsInOrder, due_time, how_many, is_at, is_deadline, AreListed, AreOfOthers, StartsAfter}
 use Rattle.scrib_hold_stage.proofs.Lists.{all_append, all_weaker, all_without, none_pass, many-append, many-here, many-past, order_push, order_without}
 
 -- what holds of the time of each deadline holds of each time that has one
@@ -156,27 +155,3 @@ listed_fewer {A} time later id old new ds l le others fewer = record {
       (λ n some. l.complete id n (omega (arith, fewer n)))
       (λ k differs n some. l.complete k n (subst (λ (o : Option (Conversation A)). 0 < how_many (is_at n) (waiting_at o)) (others k differs) some));
 }
-
--- ---- the first deadline of a conversation
-
-split_at : {X : Type 0} (xs : List X) (i : ℕ) (x : X) → slice_get xs i ≡ Some x → xs ≡ take i xs ++ x ∷ drop (suc i) xs
-split_at [] i x e = absurd (none-some x e)
-split_at (y ∷ ys) zero x e = ap (λ z. z ∷ ys) (same_Some y x e)
-split_at (y ∷ ys) (suc i) x e = ap (λ z. y ∷ z) (split_at ys i x e)
-
-pub first_of : (id index : ℕ) (old new : List Deadline) (o : Option Deadline) → IsIndexOf id index old → IfSome o (λ y. y ≡ slice_index_or old index y) → OnSome o (new ≡ remove old index)
-    → IfSome o (λ d. IsFirstOf id d old new)
-first_of id index old new None i value items = tt
-first_of id index old new (Some y) i value items =
-    let same : y ≡ i.d = value ∙ get_or_from_slice_get old index i.d y i.at in
-    record {
-      front = take index old;
-      back = drop (suc index) old;
-      of = ap due_of same ∙ i.of;
-      was = split_at old index y (i.at ∙ ap Some (sym same));
-      is = items;
-      apart = i.apart;
-    }
-  where
-    due_of : Deadline → ℕ
-    due_of d = d.conversation

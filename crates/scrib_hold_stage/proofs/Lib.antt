@@ -4,6 +4,7 @@ mod HoldLemmas
 mod ConversationLemmas
 mod MapLemmas
 mod HeldLemmas
+mod FirstLemmas
 mod DeadlineLemmas
 mod StageLemmas
 mod StepLemmas
@@ -11,3 +12,4 @@ mod TakeLemmas
 mod FinishLemmas
 mod PassLemmas
 mod ClosingLemmas
+pub mod HistoryLemmas

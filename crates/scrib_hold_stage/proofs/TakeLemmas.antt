@@ -179,11 +179,11 @@ module _ {A : Type 0} (event : A → Event) (due : ℕ) (old new : StageState A)
 -- the first of a conversation
 module _ {A : Type 0} (event : A → Event) (id : ℕ) (old new : StageState A) (d : Deadline) (f : IsFirstOf id d old.deadlines new.deadlines) (b : new.bound ≡ old.bound) (t : new.time ≡ old.time) (e : new.others ≡ old.others) where
   apart_of : AreOfOthers d.conversation f.front
-  apart_of = subst (λ n. AreOfOthers n f.front) (sym f.of) f.apart
+  apart_of = subst (λ n. AreOfOthers n f.front) (sym f.is) f.before
 
   pub one_taken : (released now : List (Noted A)) → IsExpiredOf event id d.time old.conversations new.conversations released now → new.expired ≡ min (old.expired + 1) (2 ^ 64 - 1) → IsDeadlineTaken event id old new released now
   one_taken released now q g =
-      let p : IsExpiredOf event d.conversation d.time old.conversations new.conversations released now = subst (λ n. IsExpiredOf event n d.time old.conversations new.conversations released now) (sym f.of) q in
+      let p : IsExpiredOf event d.conversation d.time old.conversations new.conversations released now = subst (λ n. IsExpiredOf event n d.time old.conversations new.conversations released now) (sym f.is) q in
       record {
         given = p.expired.oldest ∷ p.expired.given;
         gone = p.expired.oldest ∷ [];
@@ -191,8 +191,8 @@ module _ {A : Type 0} (event : A → Event) (id : ℕ) (old new : StageState A) 
         first = d;
         was = f;
         others = q.others;
-        one = λ bound entries closed earlier expired a. inr (gone_of event old new d f.front f.back f.was f.is apart_of b t e released now p bound entries closed earlier expired a);
-        after = after_gone event old new d f.front f.back f.was f.is apart_of b t e released now p g;
+        one = λ bound entries closed earlier expired a. inr (gone_of event old new d f.front f.back f.was f.left apart_of b t e released now p bound entries closed earlier expired a);
+        after = after_gone event old new d f.front f.back f.was f.left apart_of b t e released now p g;
       }
 
   pub none_taken : (released now : List (Noted A)) → now ≡ released → new.expired ≡ old.expired → IsNotOldest d.time (conversation_at old.conversations id) → ((k : ℕ) → conversation_at new.conversations k ≡ conversation_at old.conversations k) → IsDeadlineTaken event id old new released now
@@ -204,5 +204,5 @@ module _ {A : Type 0} (event : A → Event) (id : ℕ) (old new : StageState A) 
     was = f;
     others = λ k differs. same k;
     one = λ bound entries closed earlier expired a. inl (refl, refl);
-    after = after_none event old new d f.front f.back f.was f.is apart_of b t e g (subst (λ n. IsNotOldest d.time (conversation_at old.conversations n)) (sym f.of) other) same;
+    after = after_none event old new d f.front f.back f.was f.left apart_of b t e g (subst (λ n. IsNotOldest d.time (conversation_at old.conversations n)) (sym f.is) other) same;
   }

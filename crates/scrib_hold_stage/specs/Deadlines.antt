@@ -1,9 +1,10 @@
 -- When the events that wait expire (this project's own). Only contracts of private functions and `IsKept` cite this
 -- file.
-use Rattle.std.specs.Prelude.{ℕ, ◌+◌, ◌<◌, ◌≤◌, ◌≡◌, ◌&&◌, Bool, true, false, List, [], ◌∷◌, ◌++◌, Some, length, filter, take, slice_get, nat_eq}
+use Rattle.std.specs.Prelude.{ℕ, ◌+◌, ◌<◌, ◌≤◌, ◌≡◌, ◌&&◌, Bool, true, false, List, [], ◌∷◌, length, filter, nat_eq}
 use Rattle.std.specs.List.{AllByRecursion}
 use Rattle.scrib_hold_stage.specs.declared.noted.Noted.{Noted}
 use Rattle.scrib_hold_stage.specs.declared.deadlines.Deadline.{Deadline}
+use Rattle.scrib_hold_stage.specs.Firsts.{IsFirstTaken}
 use Rattle.scrib_hold_stage.specs.Conversations.{waiting_at}
 use Rattle.scrib_hold_stage.specs.Changes.{Conversations, conversation_at}
 
@@ -50,21 +51,17 @@ StartsLate time bound (d ∷ deadlines) = time < d.time + bound
 abbrev pub AreOfOthers : (id : ℕ) → List Deadline → Type 0
 AreOfOthers id deadlines = AllByRecursion (λ d. nat_eq id d.conversation ≡ false) deadlines
 
--- this deadline, the first of the conversation, is taken out
-pub record IsFirstOf (id : ℕ) (d : Deadline) (old new : List Deadline) : Type 0 where
-  pub front : List Deadline
-  pub back : List Deadline
-  pub of : d.conversation ≡ id
-  pub was : old ≡ front ++ d ∷ back
-  pub is : new ≡ front ++ back
-  pub apart : AreOfOthers id front
+-- the deadline is of the conversation
+abbrev pub IsOfConversation : (id : ℕ) → Deadline → Type 0
+IsOfConversation id d = d.conversation ≡ id
 
--- the first deadline of the conversation has this index
-pub record IsIndexOf (id index : ℕ) (deadlines : List Deadline) : Type 0 where
-  pub d : Deadline
-  pub of : d.conversation ≡ id
-  pub at : slice_get deadlines index ≡ Some d
-  pub apart : AreOfOthers id (take index deadlines)
+-- it is of another
+abbrev pub IsOfOther : (id : ℕ) → Deadline → Type 0
+IsOfOther id d = nat_eq id d.conversation ≡ false
+
+-- this deadline, the first of the conversation, is taken out
+abbrev pub IsFirstOf : (id : ℕ) → Deadline → (old new : List Deadline) → Type 0
+IsFirstOf id d old new = IsFirstTaken (IsOfConversation id) (IsOfOther id) d old new
 
 -- the deadlines of the conversation are later than this
 abbrev pub AreLaterOf : (id n : ℕ) → List Deadline → Type 0

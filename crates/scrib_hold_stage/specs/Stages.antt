@@ -126,6 +126,16 @@ pub record IsReleasedInAll {A : Type 0} (event : A → Event) (opening : Option 
   pub exact : (n : ℕ) → opening ≡ Some n → expired ≡ [] → (a : Agreement)
       → IsPermitted a (map (noted_event event) all) ↔ IsPermittedInSomeOrder a (map (noted_event event) events)
 
+-- some event of the conversation's present life was not released yet
+abbrev pub IsUnreleased : {A : Type 0} → (id : ℕ) → List (Entry A) → Closings → (released : List (Noted A)) → Type 0
+IsUnreleased id entries closed released =
+    length (noted_since (closed id) id released) < length (noted_since (closed id) id (noted_in entries))
+
+-- each was
+abbrev pub AreAllReleased : {A : Type 0} → (id : ℕ) → List (Entry A) → Closings → (released : List (Noted A)) → Type 0
+AreAllReleased id entries closed released =
+    length (noted_since (closed id) id released) ≡ length (noted_since (closed id) id (noted_in entries))
+
 -- an event of the conversation waits
 abbrev pub Waits : {A : Type 0} → (id : ℕ) → StageState A → Type 0
 Waits {A} id s = (x : Noted A) × IsOldestWaiting (waiting_at (conversation_at s.conversations id)) x

@@ -1,7 +1,8 @@
 //! When events that wait expire.
 
 ghost use Rattle.std.specs.Prelude.{◌≡◌, ◌≤◌, ◌∷◌, IfSome, IsTrue, None, drop};
-ghost use Rattle.scrib_hold_stage.specs.Deadlines.{AreOfOthers, IsFirstOf, IsIndexOf, StartsAfter, StartsLate};
+ghost use Rattle.scrib_hold_stage.specs.Firsts.{IsFirstAt};
+ghost use Rattle.scrib_hold_stage.specs.Deadlines.{AreOfOthers, IsFirstOf, IsOfConversation, IsOfOther, StartsAfter, StartsLate};
 
 use std::collections::VecDeque;
 
@@ -77,7 +78,8 @@ pub(crate) fn take_first_of(
 // Returns the index of the first deadline of the conversation, if there is one.
 fn index_of(deadlines: &VecDeque<Deadline>, conversation: u32) -> Option<usize>
     ensures none { result ≡ None → AreOfOthers conversation deadlines.now.items }
-    ensures some { IfSome result (λ i. IsIndexOf conversation i deadlines.now.items) }
+    ensures some { IfSome result (λ i. IsFirstAt (IsOfConversation conversation) (IsOfOther conversation) i
+        deadlines.now.items) }
 {
     let mut index = 0;
     while let Some(deadline) = deadlines.get(index) {

@@ -1,6 +1,6 @@
 //! The stage: the entries of a script go in one after another, and the events that are released come out.
 
-ghost use Rattle.std.specs.Prelude.{◌≡◌, ◌+◌, ◌-◌, ◌^◌, ◌<◌, ℕ, List, [], min, IfOk, IsFalse, IsTrue, OnErr, OnOk, Some, length, slice_get};
+ghost use Rattle.std.specs.Prelude.{◌≡◌, ◌+◌, ◌-◌, ◌^◌, ◌<◌, ◌≤◌, ℕ, List, [], min, IfOk, IsFalse, IsTrue, OnErr, OnOk, Some, length, slice_get};
 ghost use Rattle.scrib_hold_stage.specs.Entries.{Entry, Closings, Opens, Passes, none_closed, note, noted_in};
 ghost use Rattle.scrib_hold_stage.specs.Conversations.{IsAddedTo, waiting_at};
 ghost use Rattle.scrib_hold_stage.specs.Changes.{conversation_at};
@@ -177,6 +177,17 @@ impl<A: Arrival> HoldStage<A> {
         self.ripen(released)?;
         self.tally(0, released.len().saturating_sub(start));
         Ok(())
+    }
+
+    /// Whether as many entries were read since the entry of this number as the bound says.
+    pub fn is_due(&self, time: u64) -> bool
+        ensures yes { IsTrue result → time + (stage_state self.now).bound ≤ (stage_state self.now).time }
+        ensures no { IsFalse result → (stage_state self.now).time < time + (stage_state self.now).bound }
+    {
+        let Some(due) = self.time.checked_sub(self.bound) else {
+            return false;
+        };
+        time <= due
     }
 
     /// Whether an event of the conversation waits.
