@@ -15,7 +15,7 @@ use Rattle.scrib_cli.specs.declared.output_mode.OutputMode.TheVariants.{Printed}
 use Rattle.scrib_cli.specs.Scripts.{written}
 use Rattle.scrib_cli.specs.Progress.{IsCarriedOut, IsShortCarriedOut, WasCarriedOut}
 use Rattle.scrib_cli.proofs.RunLemmas.{answers_more, steps_more, written_more, does_shown, does_answers}
-use Rattle.scrib_hold.specs.HeldScripts.{Asked, item_of}
+use Rattle.scrib_hold.specs.HeldScripts.{Asked, Pending, item_of, closing_item}
 use Rattle.scrib_hold.specs.Progress.{AreCarriedOut, AreCarriedInPart}
 
 pub carried_none : (o : Format) (w : State) (a : List ℕ) → AreCarriedOut o [] w w a a
@@ -121,3 +121,33 @@ released_all o all left w v a b s none =
 pub none_left : (items : List (Noted Asked)) (n : ℕ) → n ≡ length items → n ≡ 0 → items ≡ []
 none_left [] n is none = refl
 none_left (x ∷ items) n is none = absurd (omega (arith, is, none))
+
+-- ---- closings, one after another
+
+-- the first closings were carried out, and these are left
+pub record ClosedSoFar (o : Format) (all left : List Pending) (w v : State) (a b : List ℕ) : Type 0 where
+  pub done : List Pending
+  pub all_are : all ≡ done ++ left
+  pub carried : AreCarriedOut o (map closing_item done) w v a b
+
+pub closed_none : (o : Format) (all : List Pending) (w : State) (a : List ℕ) → ClosedSoFar o all all w w a a
+closed_none o all w a = record { done = []; all_are = refl; carried = carried_none o w a }
+
+pub closed_one : (o : Format) (all left now : List Pending) (c : Pending) (w v u : State) (a b d : List ℕ) → ClosedSoFar o all left w v a b → left ≡ c ∷ now → AreCarriedOut o (closing_item c ∷ []) v u b d → ClosedSoFar o all now w u a d
+closed_one o all left now c w v u a b d s is k = record {
+  done = s.done ++ c ∷ [];
+  all_are = s.all_are ∙ ap (λ (l : List Pending). s.done ++ l) is ∙ sym (append_assoc s.done (c ∷ []) now);
+  carried =
+      subst (λ (items : List Item). AreCarriedOut o items w u a d) (sym (map-append closing_item s.done (c ∷ [])))
+      (carried_more o (map closing_item s.done) (closing_item c ∷ []) w v u a b d s.carried k);
+}
+
+pub closed_part : (o : Format) (all left : List Pending) (w v : State) (a b d : List ℕ) → ClosedSoFar o all left w v a b → d ≡ b → AreCarriedInPart o (map closing_item all) w a d
+closed_part o all left w v a b d s same =
+    subst (λ (t : List ℕ). AreCarriedInPart o (map closing_item all) w a t) (sym same)
+    (map closing_item s.done, map closing_item left, v, ap (map closing_item) s.all_are ∙ map-append closing_item s.done left, s.carried)
+
+pub closed_all : (o : Format) (all left : List Pending) (w v : State) (a b : List ℕ) → ClosedSoFar o all left w v a b → left ≡ [] → AreCarriedOut o (map closing_item all) w v a b
+closed_all o all left w v a b s none =
+    let is : all ≡ s.done = s.all_are ∙ ap (λ (l : List Pending). s.done ++ l) none ∙ append-nil s.done in
+    subst (λ (l : List Pending). AreCarriedOut o (map closing_item l) w v a b) (sym is) s.carried

@@ -1,10 +1,8 @@
 -- The entries of a script as a stage reads them, and the events of a conversation.
-use Rattle.std.proofs.Common.{◌≡◌, ℕ, ◌+◌, Bool, true, false, cond, List, [], ◌∷◌, ◌++◌, ◌∙◌, map, length, nat_eq, refl, sym, ap, subst, arith, add-zero}
-use Rattle.std.specs.Prelude.{◌↔◌}
+use Rattle.std.proofs.Common.{◌≡◌, ℕ, ◌+◌, Bool, true, false, cond, List, [], ◌∷◌, ◌++◌, ◌∙◌, map, length, nat_eq, refl, sym, ap, arith, add-zero}
 use Rattle.std.proofs.lemmas.List.{append-nil, map-append}
 use Rattle.std.proofs.lemmas.List.Elements.{filter-append}
 use Rattle.scrib_types.specs.declared.event.Event.{Event}
-use Rattle.scrib_types.specs.Permitted.{IsPermitted}
 use Rattle.scrib_core.specs.declared.step.Step.TheVariants.{Put, Withdraw, Open, Note, Turn, Ask, Close}
 use Rattle.scrib_core.specs.declared.step.Step.TheVariants as step
 use Rattle.scrib_script_reader.specs.declared.item.Item.{Item}
@@ -12,14 +10,11 @@ use Rattle.scrib_script_reader.specs.declared.item.Item.TheVariants as item
 use Rattle.scrib_script_reader.specs.declared.entry.Entry.{Entry}
 use Rattle.scrib_script_reader.specs.declared.entry.Entry.TheVariants as entry
 use Rattle.scrib_script_reader.specs.Entries.{entry_items}
-use Rattle.scrib_holdback.specs.Reorderings.{IsReordering}
-use Rattle.scrib_holdback.specs.FalseAlarms.{IsPermittedInSomeOrder}
 use Rattle.scrib_hold_stage.specs.declared.noted.Noted.{Noted}
 use Rattle.scrib_hold_stage.specs.Entries as stage
-use Rattle.scrib_hold_stage.specs.Entries.{is_of, noted_of, noted_in, opening_of}
+use Rattle.scrib_hold_stage.specs.Entries.{is_of, noted_of, noted_in}
 use Rattle.scrib_hold_stage.specs.Conversations.{noted_event}
-use Rattle.scrib_hold_stage.specs.Stages.{IsReleasedInAll}
-use Rattle.scrib_hold.specs.HeldScripts.{Asked, event_in, staged, staged_from, item_of, passing, is_end_inside, ends_inside, end_item, noted_events_of, RaisesNoFalseAlarmOf}
+use Rattle.scrib_hold.specs.HeldScripts.{Asked, Pending, event_in, staged, staged_from, item_of, closing_item, passing, is_end_inside, ends_inside, end_item, noted_events_of}
 
 -- one entry more, which has the number behind those of the others
 pub staged_more : (n : ℕ) (entries : List Entry) (e : Entry) → staged_from n (entries ++ e ∷ []) ≡ staged_from n entries ++ staged (n + length entries) e ∷ []
@@ -115,26 +110,25 @@ noted_more id items released given e so_far =
     ∙ ap (λ (l : List Event). given_to id released ++ l) (events_more id (passing e) (map item_of given) ∙ ap (λ (l : List Event). l ++ noted_events_of id (map item_of given)) (events_passing id e) ∙ events_released id given)
     ∙ sym (given_more id released given)
 
--- all items of a script
-all_noted : (id : ℕ) (items : List Item) (released waited : List (Noted Asked)) (b : Bool) → noted_events_of id items ≡ given_to id released
-    → noted_events_of id (items ++ (map item_of waited ++ end_item b)) ≡ given_to id (released ++ waited)
-all_noted id items released waited b so_far =
-    events_more id items (map item_of waited ++ end_item b) ∙ ap (λ (l : List Event). l ++ noted_events_of id (map item_of waited ++ end_item b)) so_far
-    ∙ ap (λ (l : List Event). given_to id released ++ l) (events_more id (map item_of waited) (end_item b) ∙ ap (λ (l : List Event). noted_events_of id (map item_of waited) ++ l) (events_end id b) ∙ append-nil (noted_events_of id (map item_of waited)) ∙ events_released id waited)
-    ∙ sym (given_more id released waited)
+-- the items of closings
+events_closings : (id : ℕ) (pending : List Pending) → noted_events_of id (map closing_item pending) ≡ []
+events_closings id [] = refl
+events_closings id (c ∷ pending) = events_closings id pending
 
--- the law of a stage is the law of the items
-pub law_of : (id : ℕ) (entries : List Entry) (items : List Item) (released waited expired : List (Noted Asked)) (b : Bool) → noted_events_of id items ≡ given_to id released
-    → IsReleasedInAll event_in (opening_of id (staged_from 1 entries)) (noted_of id (noted_in (staged_from 1 entries))) (noted_of id expired) (noted_of id (released ++ waited))
-    → RaisesNoFalseAlarmOf id entries expired (items ++ (map item_of waited ++ end_item b))
-law_of id entries items released waited expired b so_far law =
-    let out = all_noted id items released waited b so_far in
-    let script = events_noted id 1 entries in
-    record {
-      reordering =
-          subst (λ (l : List Event). IsReordering (noted_events_of id (entry_items entries)) l) (sym out)
-          (subst (λ (l : List Event). IsReordering l (given_to id (released ++ waited))) (sym script) law.reordering);
-      exact = λ n opened none a.
-          subst (λ (l : List Event). IsPermitted a l ↔ IsPermittedInSomeOrder a (noted_events_of id (entry_items entries))) (sym out)
-          (subst (λ (l : List Event). IsPermitted a (given_to id (released ++ waited)) ↔ IsPermittedInSomeOrder a l) (sym script) (law.exact n opened none a));
-    }
+-- one closing more, and the events that are released for it
+pub noted_closing : (id : ℕ) (items : List Item) (released given : List (Noted Asked)) (c : Pending) → noted_events_of id items ≡ given_to id released
+    → noted_events_of id (items ++ (map item_of given ++ closing_item c ∷ [])) ≡ given_to id (released ++ given)
+noted_closing id items released given c so_far =
+    events_more id items (map item_of given ++ closing_item c ∷ []) ∙ ap (λ (l : List Event). l ++ noted_events_of id (map item_of given ++ closing_item c ∷ [])) so_far
+    ∙ ap (λ (l : List Event). given_to id released ++ l) (events_more id (map item_of given) (closing_item c ∷ []) ∙ append-nil (noted_events_of id (map item_of given)) ∙ events_released id given)
+    ∙ sym (given_more id released given)
+
+-- all items of a script
+pub all_noted : (id : ℕ) (items : List Item) (released waited : List (Noted Asked)) (pending : List Pending) (b : Bool) → noted_events_of id items ≡ given_to id released
+    → noted_events_of id (items ++ (map item_of waited ++ (map closing_item pending ++ end_item b))) ≡ given_to id (released ++ waited)
+all_noted id items released waited pending b so_far =
+    let last = map closing_item pending ++ end_item b in
+    let none : noted_events_of id last ≡ [] = events_more id (map closing_item pending) (end_item b) ∙ ap (λ (l : List Event). l ++ noted_events_of id (end_item b)) (events_closings id pending) ∙ events_end id b in
+    events_more id items (map item_of waited ++ last) ∙ ap (λ (l : List Event). l ++ noted_events_of id (map item_of waited ++ last)) so_far
+    ∙ ap (λ (l : List Event). given_to id released ++ l) (events_more id (map item_of waited) last ∙ ap (λ (l : List Event). noted_events_of id (map item_of waited) ++ l) none ∙ append-nil (noted_events_of id (map item_of waited)) ∙ events_released id waited)
+    ∙ sym (given_more id released waited)

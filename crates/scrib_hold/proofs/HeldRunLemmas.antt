@@ -50,15 +50,19 @@ part_less o bound input whole part rest is p = (p.0, p.1, begun_less o bound p.0
 
 pub taken_moved : (o : Format) (bound : ℕ) (m : HeldMonitor) (g : Gathered) (entries : List Entry) (out : List ℕ) → HasTaken o bound m entries out → HasTaken o bound (record m { gathered = g }) entries out
 taken_moved o bound m g entries out c = record {
-  format = c.format;
-  released = c.released;
-  expired = c.expired;
-  items = c.items;
-  staged = c.staged;
-  lets = c.lets;
-  noted = c.noted;
-  inside = c.inside;
-  carried = c.carried;
+  at = record {
+    format = c.at.format;
+    closed = c.at.closed;
+    released = c.at.released;
+    expired = c.at.expired;
+    items = c.at.items;
+    staged = c.at.staged;
+    lets = c.at.lets;
+    noted = c.at.noted;
+    inside = c.at.inside;
+    carried = c.at.carried;
+  };
+  wait = c.wait;
 }
 
 abbrev pub with_gathered : HeldRun → Gathered → HeldRun

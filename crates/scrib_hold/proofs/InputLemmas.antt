@@ -18,10 +18,10 @@ use Rattle.scrib_hold.proofs.HeldRunLemmas.{part_so_far}
 
 -- a new run has the given format, bound and limits
 pub format_kept : (o : Format) (bound : ℕ) (m : Limits) (run : HeldRun) → IsNewHeld o bound m run → run.monitor.format ≡ o
-format_kept o bound m run new = new.progress.taken.format
+format_kept o bound m run new = new.progress.taken.at.format
 
 pub bound_kept : (o : Format) (bound : ℕ) (m : Limits) (run : HeldRun) → IsNewHeld o bound m run → run.monitor.stage.bound ≡ bound
-bound_kept o bound m run new = new.progress.taken.staged.kept.bounded
+bound_kept o bound m run new = new.progress.taken.at.staged.kept.bounded
 
 pub limits_kept : (o : Format) (bound : ℕ) (m : Limits) (run : HeldRun) → IsNewHeld o bound m run → run.script.limits ≡ m
 limits_kept o bound m run new = new.progress.read.limits

@@ -1,5 +1,7 @@
 -- Lines that the stage lets out at once.
 use Rattle.std.proofs.Common.{◌≡◌, ◌+◌, ℕ, Bool, List, [], ◌∷◌, ◌++◌, ◌∙◌, Option, Some, None, true, false, cond, map, refl, sym, ap, subst}
+use Rattle.std.specs.List.{AllByRecursion}
+use Rattle.std.proofs.lemmas.List.{append-nil}
 use Rattle.std.proofs.lemmas.Option.{same_Some}
 use Rattle.scrib_types.specs.declared.event.Event.{Event}
 use Rattle.scrib_core.specs.Answers.{State}
@@ -14,16 +16,18 @@ use Rattle.scrib_script_reader.specs.Scripts.{item_list}
 use Rattle.scrib_script_reader.specs.ShortLines.{short_entry, short_items}
 use Rattle.scrib_hold_stage.specs.declared.noted.Noted.{Noted}
 use Rattle.scrib_hold_stage.specs.declared.stage.HoldStage.{HoldStage}
+use Rattle.scrib_hold_stage.specs.PendingClosings.{IsNotReady, closings_in}
 use Rattle.scrib_hold_stage.specs.Stages as stages
 use Rattle.scrib_hold_stage.specs.Stages.{HasStaged}
 use Rattle.scrib_cli.specs.declared.output_mode.OutputMode.TheVariants.{Printed}
 use Rattle.scrib_cli.specs.Progress.{IsShortCarriedOut, WasCarriedOut}
 use Rattle.scrib_hold.specs.declared.held_monitor.HeldMonitor.{HeldMonitor}
-use Rattle.scrib_hold.specs.HeldScripts.{Asked, event_in, staged_from, is_end_inside, item_of, passing}
+use Rattle.scrib_hold.specs.HeldScripts.{Asked, Pending, event_in, staged_from, is_end_inside, item_of, closing_at, passing}
 use Rattle.scrib_hold.specs.StagedEntries.{PassesLine}
 use Rattle.scrib_hold.specs.Progress.{AreCarriedOut, HasTaken, TakesEntry, FailsAtEntry}
 use Rattle.scrib_hold.proofs.CarriedLemmas.{carried_none, carried_item, part_none}
-use Rattle.scrib_hold.proofs.MonitorLemmas.{took_items, failed_items}
+use Rattle.scrib_hold.proofs.MonitorLemmas.{read_items, failed_items}
+use Rattle.scrib_hold.proofs.ClosingLemmas.{before_none, ready_none, took, took_not}
 
 -- an event that passes alone
 pub passes_event : (id : ℕ) (e : Event) (old new : HoldStage Asked) → stages.PassesStageAlone event_in id e (stages.stage_state old) (stages.stage_state new) → PassesLine (short.Note id e) old new
@@ -31,6 +35,7 @@ passes_event id e old new p = record {
   released = record { conversation = id; time = old.time + 1; arrival = (e, format.Line) } ∷ [];
   read = p (e, format.Line) refl [];
   all = refl;
+  none = refl;
 }
 
 -- no line is an end inside a module text
@@ -52,37 +57,48 @@ carried_found o None w v a b d =
     subst (λ (u : State). AreCarriedOut o [] w u a b) (sym d.0) (subst (λ (t : List ℕ). AreCarriedOut o [] w w a t) (sym same) (carried_none o w a))
 carried_found o (Some i) w v a b d = carried_item o i w v a b d
 
-pub took_line : (old new : HeldMonitor) (line : ShortLine) → PassesLine line old.stage new.stage → new.format ≡ old.format → new.ended_inside ≡ old.ended_inside
+-- the line is no closing
+none_more : (old new : HoldStage Asked) (line : ShortLine) (pending : List Pending) → PassesLine line old new → pending ≡ pending ++ closing_at (old.time + 1) (short_entry line)
+none_more old new line pending p = sym (append-nil pending) ∙ ap (λ (l : List Pending). pending ++ l) (sym p.none)
+
+pub took_line : (old new : HeldMonitor) (line : ShortLine) → PassesLine line old.stage new.stage → closings_in old.pending ≡ [] → closings_in new.pending ≡ closings_in old.pending → new.format ≡ old.format → new.ended_inside ≡ old.ended_inside
     → IsShortCarriedOut (Printed old.format) line (state_of old.core) (state_of new.core) (Some old.gathered.bytes.items) (Some new.gathered.bytes.items) → TakesEntry old new (short_entry line)
-took_line old new line p format inside d =
+took_line old new line p none same format inside d =
     let carried : AreCarriedOut old.format (short_items line) (state_of old.core) (state_of new.core) old.gathered.bytes.items new.gathered.bytes.items =
     subst (λ (l : List Item). AreCarriedOut old.format l (state_of old.core) (state_of new.core) old.gathered.bytes.items new.gathered.bytes.items) d.1
     (carried_found old.format d.0 (state_of old.core) (state_of new.core) old.gathered.bytes.items new.gathered.bytes.items d.2) in
-    took_items old (short_entry line) (stages.stage_state new.stage) p.released p.read new (short_items line)
+    took old old new new (short_entry line) (before_none old (short_entry line) none)
+    (read_items old (short_entry line) (stages.stage_state new.stage) p.released (closings_in old.pending) p.read (none_more old.stage new.stage line (closings_in old.pending) p) new (short_items line)
     (p.all ∙ ap (λ (l : List (Noted Asked)). passing (short_entry line) ++ map item_of l) p.read.appended)
-    refl format (inside ∙ same_end old.ended_inside (is_end_inside (short_entry line)) (line_ends line)) carried
+    refl same format (inside ∙ same_end old.ended_inside (is_end_inside (short_entry line)) (line_ends line)) carried)
+    (ready_none new (same ∙ none))
 
 -- the reply had no memory
-pub failed_line : (old new : HeldMonitor) (line : ShortLine) → PassesLine line old.stage new.stage → new.gathered.bytes.items ≡ old.gathered.bytes.items → FailsAtEntry old new (short_entry line)
-failed_line old new line p same =
-    failed_items old new (short_entry line) (stages.stage_state new.stage) p.released (short_items line) p.read
+pub failed_line : (old new : HeldMonitor) (line : ShortLine) → PassesLine line old.stage new.stage → closings_in old.pending ≡ [] → new.gathered.bytes.items ≡ old.gathered.bytes.items → FailsAtEntry old new (short_entry line)
+failed_line old new line p none same =
+    took_not old old new (short_entry line) (before_none old (short_entry line) none)
+    (failed_items old new (short_entry line) (stages.stage_state new.stage) p.released (closings_in old.pending) (short_items line) p.read (none_more old.stage new.stage line (closings_in old.pending) p)
     (p.all ∙ ap (λ (l : List (Noted Asked)). passing (short_entry line) ++ map item_of l) p.read.appended)
-    (part_none old.format (short_items line) (state_of old.core) old.gathered.bytes.items new.gathered.bytes.items same)
+    (part_none old.format (short_items line) (state_of old.core) old.gathered.bytes.items new.gathered.bytes.items same))
 
 -- ---- a line that does not pass at the first attempt
 
 stage_moved : (o : Format) (bound : ℕ) (m : HeldMonitor) (s : HoldStage Asked) (entries : List Entry) (out : List ℕ) → stages.stage_state s ≡ stages.stage_state m.stage → HasTaken o bound m entries out
     → HasTaken o bound (record m { stage = s }) entries out
 stage_moved o bound m s entries out same c = record {
-  format = c.format;
-  released = c.released;
-  expired = c.expired;
-  items = c.items;
-  staged = subst (λ (z : stages.StageState Asked). HasStaged event_in bound (staged_from 1 entries) c.released c.expired z) (sym same) c.staged;
-  lets = c.lets;
-  noted = c.noted;
-  inside = c.inside;
-  carried = c.carried;
+  at = record {
+    format = c.at.format;
+    closed = c.at.closed;
+    released = c.at.released;
+    expired = c.at.expired;
+    items = c.at.items;
+    staged = subst (λ (z : stages.StageState Asked). HasStaged event_in bound (staged_from 1 entries) c.at.closed c.at.released c.at.expired z) (sym same) c.at.staged;
+    lets = c.at.lets;
+    noted = c.at.noted;
+    inside = c.at.inside;
+    carried = c.at.carried;
+  };
+  wait = subst (λ (z : stages.StageState Asked). AllByRecursion (λ (d : Pending). IsNotReady d z) (closings_in m.pending)) (sym same) c.wait;
 }
 
 pub took_later : (old new : HeldMonitor) (s : HoldStage Asked) (e : Entry) → stages.stage_state s ≡ stages.stage_state old.stage → TakesEntry (record old { stage = s }) new e → TakesEntry old new e

@@ -1,6 +1,7 @@
 -- The progress of a run with held events: what its functions promise one another (this project's own). Only contracts
 -- of private functions cite this file.
-use Rattle.std.specs.Prelude.{◌≡◌, ℕ, List, [], ◌∷◌, ◌++◌, map, Option, None, IfSome}
+use Rattle.std.specs.Prelude.{◌≡◌, ◌⊎◌, ℕ, false, List, [], ◌∷◌, ◌++◌, map, Option, None, IfSome}
+use Rattle.std.specs.List.{AllByRecursion}
 use Rattle.std.specs.Io.KnownBytes.{Appends}
 use Rattle.scrib_core.specs.declared.format.Format.{Format}
 use Rattle.scrib_core.specs.declared.reply.Reply.{Reply}
@@ -15,14 +16,15 @@ use Rattle.scrib_script_reader.specs.Limits.{IsWithinLimits}
 use Rattle.scrib_script_reader.specs.Positions.{HasRead}
 use Rattle.scrib_hold_stage.specs.declared.noted.Noted.{Noted}
 use Rattle.scrib_hold_stage.specs.declared.stage.Counts.{Counts}
-use Rattle.scrib_hold_stage.specs.Entries.{noted_of}
+use Rattle.scrib_hold_stage.specs.Entries.{Closings, noted_of}
+use Rattle.scrib_hold_stage.specs.PendingClosings.{IsMade, IsNotReady, closings_in}
 use Rattle.scrib_hold_stage.specs.Conversations.{noted_event}
 use Rattle.scrib_hold_stage.specs.Stages as stages
 use Rattle.scrib_hold_stage.specs.Stages.{HasStaged}
 use Rattle.scrib_cli.specs.Scripts.{written}
 use Rattle.scrib_hold.specs.declared.held_monitor.HeldMonitor.{HeldMonitor}
 use Rattle.scrib_hold.specs.declared.held_run.HeldRun.{HeldRun}
-use Rattle.scrib_hold.specs.HeldScripts.{Asked, event_in, staged_from, ends_inside, noted_events_of, LetsOut}
+use Rattle.scrib_hold.specs.HeldScripts.{Asked, Pending, event_in, staged_from, item_of, closing_item, opens_conversation, ends_inside, noted_events_of, LetsOut}
 use Rattle.scrib_hold.specs.HeldScripts.{IsOutputOf, IsBeginningOf, IsHeldOutput, IsHeldPart}
 
 -- the items were carried out, from one state of a monitor to another, and the replies were put behind what was there
@@ -36,17 +38,105 @@ AreCarriedInPart o items w was now =
     (first : List Item) × (undone : List Item) × (v : State) × (items ≡ first ++ undone)
     × AreCarriedOut o first w v was now
 
--- a monitor with this format and bound took these entries, and gave this output
-pub record HasTaken (o : Format) (bound : ℕ) (m : HeldMonitor) (entries : List Entry) (out : List ℕ) : Type 0 where
+-- A monitor with this format and bound took these entries, and gave this output. These follow next, if they are known.
+pub record IsAt (o : Format) (bound : ℕ) (m : HeldMonitor) (entries next : List Entry) (out : List ℕ) : Type 0 where
   pub format : m.format ≡ o
+  pub closed : Closings
   pub released : List (Noted Asked)
   pub expired : List (Noted Asked)
   pub items : List Item
-  pub staged : HasStaged event_in bound (staged_from 1 entries) released expired (stages.stage_state m.stage)
-  pub lets : LetsOut bound entries released expired items
+  pub staged : HasStaged event_in bound (staged_from 1 entries) closed released expired (stages.stage_state m.stage)
+  pub lets : (later : List Entry) → LetsOut bound entries (next ++ later) closed (closings_in m.pending) released expired
+      items
   pub noted : (id : ℕ) → noted_events_of id items ≡ map (noted_event event_in) (noted_of id released)
   pub inside : m.ended_inside ≡ ends_inside entries
   pub carried : AreCarriedOut o items initial (state_of m.core) [] out
+
+-- the same, where each closing waits further
+pub record HasTaken (o : Format) (bound : ℕ) (m : HeldMonitor) (entries : List Entry) (out : List ℕ) : Type 0 where
+  pub at : IsAt o bound m entries [] out
+  pub wait : AllByRecursion (λ c. IsNotReady c (stages.stage_state m.stage)) (closings_in m.pending)
+
+-- the same, where this entry follows next, and no closing is of a conversation that it opens
+pub record IsBefore (o : Format) (bound : ℕ) (m : HeldMonitor) (entries : List Entry) (e : Entry) (out : List ℕ)
+    : Type 0 where
+  pub at : IsAt o bound m entries (e ∷ []) out
+  pub wait : AllByRecursion (λ c. IsNotReady c (stages.stage_state m.stage)) (closings_in m.pending)
+  pub apart : AllByRecursion (λ c. opens_conversation c.conversation e ≡ false) (closings_in m.pending)
+
+-- the monitor carried out the closings of the conversation that the entry opens
+pub record ClosesBefore (old new : HeldMonitor) (e : Entry) : Type 0 where
+  pub out : List ℕ
+  pub grows : new.gathered.bytes.items ≡ old.gathered.bytes.items ++ out
+  pub after : (o : Format) (bound : ℕ) (entries : List Entry) (before : List ℕ)
+      → HasTaken o bound old entries before → IsBefore o bound new entries e (before ++ out)
+
+-- the monitor read the entry, and gathered what this lets out
+pub record ReadsEntry (old new : HeldMonitor) (e : Entry) : Type 0 where
+  pub out : List ℕ
+  pub grows : new.gathered.bytes.items ≡ old.gathered.bytes.items ++ out
+  pub after : (o : Format) (bound : ℕ) (entries : List Entry) (before : List ℕ)
+      → IsBefore o bound old entries e before → IsAt o bound new (entries ++ e ∷ []) [] (before ++ out)
+
+-- the monitor failed to read the entry, and gathered a beginning
+pub record ReadFails (old new : HeldMonitor) (e : Entry) : Type 0 where
+  pub out : List ℕ
+  pub grows : new.gathered.bytes.items ≡ old.gathered.bytes.items ++ out
+  pub after : (o : Format) (bound : ℕ) (entries : List Entry) (before : List ℕ)
+      → IsBefore o bound old entries e before → IsBeginningOf o bound (entries ++ e ∷ []) (before ++ out)
+
+-- the monitor carried out the closings that wait no further
+pub record ClosesReady (old new : HeldMonitor) : Type 0 where
+  pub out : List ℕ
+  pub grows : new.gathered.bytes.items ≡ old.gathered.bytes.items ++ out
+  pub after : (o : Format) (bound : ℕ) (entries : List Entry) (before : List ℕ)
+      → IsAt o bound old entries [] before → HasTaken o bound new entries (before ++ out)
+
+-- the monitor failed at one of them, and gathered a beginning
+pub record CloseReadyFails (old new : HeldMonitor) : Type 0 where
+  pub out : List ℕ
+  pub grows : new.gathered.bytes.items ≡ old.gathered.bytes.items ++ out
+  pub after : (o : Format) (bound : ℕ) (entries : List Entry) (before : List ℕ)
+      → IsAt o bound old entries [] before → IsBeginningOf o bound entries (before ++ out)
+
+-- what was let out for a closing that was made
+abbrev pub closing_items : Pending → List (Noted Asked) → List Item
+closing_items c released = map item_of released ++ closing_item c ∷ []
+
+-- the first closing that has the one property was made, and was carried out behind what was released then
+pub record ClosesOne (Is IsNot : Pending → Type 0) (old new : HeldMonitor) : Type 0 where
+  pub c : Pending
+  pub released : List (Noted Asked)
+  pub made : IsMade event_in Is IsNot c (closings_in old.pending) (closings_in new.pending)
+      (stages.stage_state old.stage) (stages.stage_state new.stage) [] released
+  pub format : new.format ≡ old.format
+  pub inside : new.ended_inside ≡ old.ended_inside
+  pub carried : AreCarriedOut old.format (closing_items c released) (state_of old.core) (state_of new.core)
+      old.gathered.bytes.items new.gathered.bytes.items
+
+-- it was made, but carried out in part
+pub record ClosesInPart (Is IsNot : Pending → Type 0) (old new : HeldMonitor) : Type 0 where
+  pub c : Pending
+  pub left : List Pending
+  pub after : stages.StageState Asked
+  pub released : List (Noted Asked)
+  pub made : IsMade event_in Is IsNot c (closings_in old.pending) left (stages.stage_state old.stage) after [] released
+  pub carried : AreCarriedInPart old.format (closing_items c released) (state_of old.core)
+      old.gathered.bytes.items new.gathered.bytes.items
+
+-- it was made in part, and nothing was carried out, or it was carried out in part
+abbrev pub CloseFails : (Is IsNot : Pending → Type 0) → (old new : HeldMonitor) → Type 0
+CloseFails Is IsNot old new =
+    (new.gathered.bytes.items ≡ old.gathered.bytes.items) ⊎ ClosesInPart Is IsNot old new
+
+-- the monitor is as it was, but for what the stage released last
+pub record IsSameButReleased (old new : HeldMonitor) : Type 0 where
+  pub stage : stages.stage_state new.stage ≡ stages.stage_state old.stage
+  pub pending : closings_in new.pending ≡ closings_in old.pending
+  pub core : new.core ≡ old.core
+  pub format : new.format ≡ old.format
+  pub inside : new.ended_inside ≡ old.ended_inside
+  pub gathered : new.gathered ≡ old.gathered
 
 -- the monitor took the entry, and gathered what this lets out
 pub record TakesEntry (old new : HeldMonitor) (e : Entry) : Type 0 where

@@ -1,5 +1,5 @@
 -- What a stage does with an entry (this project's own). Only contracts of private functions cite this file.
-use Rattle.std.specs.Prelude.{◌≡◌, ℕ, ◌+◌, List, [], ◌++◌, map, Some}
+use Rattle.std.specs.Prelude.{◌≡◌, ℕ, ◌+◌, List, [], ◌∷◌, ◌++◌, map, Some}
 use Rattle.scrib_script_reader.specs.declared.item.Item.{Item}
 use Rattle.scrib_script_reader.specs.declared.short_line.ShortLine.{ShortLine}
 use Rattle.scrib_script_reader.specs.Scripts.{item_list}
@@ -12,19 +12,26 @@ use Rattle.scrib_hold_stage.specs.Stages as stages
 use Rattle.scrib_hold_stage.specs.Stages.{IsRead}
 use Rattle.scrib_hold.specs.declared.staged.Staged.{Staged}
 use Rattle.scrib_hold.specs.declared.staged.Staged.TheVariants as kind
-use Rattle.scrib_hold.specs.HeldScripts.{Asked, event_in, item_of, passing, staged}
+use Rattle.scrib_hold.specs.HeldScripts.{Asked, Pending, event_in, item_of, passing, closing_at, staged}
 
 -- as entry n of a stage
 abbrev pub as_entry : ℕ → Staged → stage.Entry Asked
 as_entry n (kind.Event id e f) = note id n (e, f)
 as_entry n (kind.Opening id i) = Opens id
+as_entry n (kind.Closing id f) = Passes
 as_entry n (kind.Other found) = Passes
 
 -- what passes at once
 abbrev pub passing_of : Staged → List Item
 passing_of (kind.Event id e f) = []
 passing_of (kind.Opening id i) = item_list (Some i)
+passing_of (kind.Closing id f) = []
 passing_of (kind.Other found) = item_list found
+
+-- the closing of entry n, if there is one
+abbrev pub closing_of : ℕ → Staged → List Pending
+closing_of n (kind.Closing id f) = record { conversation = id; time = n; line = f } ∷ []
+closing_of n _ = []
 
 -- the stage read the entry of the line, and lets out what the line spells
 pub record PassesLine (line : ShortLine) (old new : HoldStage Asked) : Type 0 where
@@ -32,3 +39,4 @@ pub record PassesLine (line : ShortLine) (old new : HoldStage Asked) : Type 0 wh
   pub read : IsRead event_in (staged (old.time + 1) (short_entry line))
       (stages.stage_state old) (stages.stage_state new) [] released
   pub all : short_items line ≡ passing (short_entry line) ++ map item_of released
+  pub none : closing_at (old.time + 1) (short_entry line) ≡ []

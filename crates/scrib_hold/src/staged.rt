@@ -1,16 +1,18 @@
 //! What a stage does with an entry of a script.
 
-ghost use Rattle.std.specs.Prelude.{◌≡◌, ℕ, ◌+◌, IfOk, IsFalse, IsTrue, OnOk};
+ghost use Rattle.std.specs.Prelude.{◌≡◌, ℕ, ◌+◌, ◌++◌, [], true, false, None, IfOk, IfSome, IsFalse, IsTrue, OnOk};
 ghost use Rattle.scrib_script_reader.specs.declared.entry.Entry.TheVariants as entry;
 ghost use Rattle.scrib_script_reader.specs.declared.item.Item.TheVariants as item;
 ghost use Rattle.scrib_script_reader.specs.Scripts.{item_list};
+ghost use Rattle.scrib_hold_stage.specs.PendingClosings.{closings_in};
 ghost use Rattle.scrib_hold_stage.specs.Stages.{IsRead, stage_state};
-ghost use Rattle.scrib_hold.specs.HeldScripts.{event_in, passing, staged};
+ghost use Rattle.scrib_hold.specs.HeldScripts.{closing_at, event_in, opens_conversation, passing, staged};
 ghost use Rattle.scrib_script_reader.specs.ShortLines.{short_entry};
-ghost use Rattle.scrib_hold.specs.StagedEntries.{as_entry, passing_of, PassesLine};
+ghost use Rattle.scrib_hold.specs.StagedEntries.{as_entry, closing_of, passing_of, PassesLine};
 
 use scrib_core::format::Format;
 use scrib_core::step::Step;
+use scrib_hold_stage::closings::{Closing, PendingClosings};
 use scrib_hold_stage::noted::Noted;
 use scrib_hold_stage::stage::HoldStage;
 use scrib_script_reader::entry::Entry;
@@ -33,6 +35,12 @@ pub enum Staged {
         id: u32,
         item: Item,
     },
+    /// It counts the entry. The conversation is closed once its events are released. The reply to this is asked for in
+    /// this format.
+    Closing {
+        id: u32,
+        format: Format,
+    },
     /// It counts the entry. The item, if there is one, passes at once.
     Other(Option<Item>),
 }
@@ -42,6 +50,7 @@ pub enum Staged {
 fn staged_step(format: Format, step: Step) -> Staged
     ensures entry { (n : ℕ) → staged n (entry.Item (item.Step format step)) ≡ as_entry n result }
     ensures passing { passing (entry.Item (item.Step format step)) ≡ passing_of result }
+    ensures closing { (n : ℕ) → closing_at n (entry.Item (item.Step format step)) ≡ closing_of n result }
 {
     match step {
         Step::Note { id, event } => Staged::Event { id, event, format },
@@ -51,7 +60,7 @@ fn staged_step(format: Format, step: Step) -> Staged
         },
         Step::Ask { id } => Staged::Other(Some(Item::Step(format, Step::Ask { id }))),
         Step::Turn { id } => Staged::Other(Some(Item::Step(format, Step::Turn { id }))),
-        Step::Close { id } => Staged::Other(Some(Item::Step(format, Step::Close { id }))),
+        Step::Close { id } => Staged::Closing { id, format },
         Step::Put { text } => Staged::Other(Some(Item::Step(format, Step::Put { text }))),
         Step::Withdraw { name } => {
             Staged::Other(Some(Item::Step(format, Step::Withdraw { name })))
@@ -67,6 +76,7 @@ fn staged_step(format: Format, step: Step) -> Staged
 fn staged_of(entry: Entry) -> Staged
     ensures entry { (n : ℕ) → staged n entry ≡ as_entry n result }
     ensures passing { passing entry ≡ passing_of result }
+    ensures closing { (n : ℕ) → closing_at n entry ≡ closing_of n result }
 {
     match entry {
         Entry::Item(Item::Step(format, step)) => staged_step(format, step),
@@ -76,19 +86,22 @@ fn staged_of(entry: Entry) -> Staged
     }
 }
 
-/// Puts the entry into the stage. Returns the item that passes at once, if there is one.
+/// Puts the entry into the stage. Returns the item that passes at once, if there is one. A closing waits from then on.
 ///
 /// # Errors
 /// `AllocError` where memory is refused. The stage is then of no more use.
 #[inline(always)]
 pub(crate) fn read_entry(
     stage: &mut HoldStage<(SharedEvent, Format)>,
+    pending: &mut PendingClosings<Format>,
     entry: Entry,
     released: &mut Vec<Noted<(SharedEvent, Format)>>,
 ) -> Result<Option<Item>, AllocError>
     ensures read { OnOk result (IsRead event_in (staged (stage.old.time + 1) entry)
         (stage_state stage.old) (stage_state stage.new) released.old.items released.new.items) }
     ensures passed { IfOk result (λ passed. item_list passed ≡ passing entry) }
+    ensures closing { OnOk result (closings_in pending.new
+        ≡ closings_in pending.old ++ closing_at (stage.old.time + 1) entry) }
 {
     match staged_of(entry) {
         Staged::Event { id, event, format } => {
@@ -99,6 +112,18 @@ pub(crate) fn read_entry(
             stage.open(id, released)?;
             Ok(Some(item))
         }
+        Staged::Closing { id, format } => {
+            let Some(time) = stage.next_time() else {
+                return Err(AllocError);
+            };
+            stage.skip(released)?;
+            pending.push(Closing {
+                conversation: id,
+                time,
+                line: format,
+            })?;
+            Ok(None)
+        }
         Staged::Other(found) => {
             stage.skip(released)?;
             Ok(found)
@@ -106,17 +131,38 @@ pub(crate) fn read_entry(
     }
 }
 
-/// Puts the entry of the line into the stage, if it is an event that the stage releases at once, and nothing else then.
-/// Returns whether it is so. If not, the stage has read nothing.
+/// Puts the entry of the line into the stage, if it is an event that the stage releases at once, and nothing else then,
+/// and no closing waits. Returns whether it is so. If not, the stage has read nothing.
 #[inline(always)]
-pub(crate) fn passes_line(stage: &mut HoldStage<(SharedEvent, Format)>, line: &ShortLine) -> bool
+pub(crate) fn passes_line(
+    pending: &PendingClosings<Format>,
+    stage: &mut HoldStage<(SharedEvent, Format)>,
+    line: &ShortLine,
+) -> bool
     ensures passed { IsTrue result → PassesLine line.now stage.old stage.new }
+    ensures none_wait { IsTrue result → closings_in pending.now ≡ [] }
     ensures same { IsFalse result → stage_state stage.new ≡ stage_state stage.old }
 {
+    if !pending.is_empty() {
+        return false;
+    }
     match line {
         ShortLine::Note { id, event } => stage.try_pass(*id, event),
         ShortLine::Ask { .. } | ShortLine::Open { .. } | ShortLine::Bad(..) | ShortLine::Skipped =>
             false,
+    }
+}
+
+/// Returns the conversation that the entry opens, if it opens one.
+#[inline(always)]
+pub(crate) fn opened_by(entry: &Entry) -> Option<u32>
+    ensures opens { IfSome result (λ id. opens_conversation id entry.now ≡ true) }
+    ensures only { IfSome result (λ id. (k : ℕ) → opens_conversation k entry.now ≡ true → k ≡ id) }
+    ensures none { result ≡ None → (k : ℕ) → opens_conversation k entry.now ≡ false }
+{
+    match entry {
+        Entry::Item(Item::Step(_, Step::Open { id, .. })) => Some(*id),
+        _ => None,
     }
 }
 

@@ -1,6 +1,6 @@
 //! The stage: the entries of a script go in one after another, and the events that are released come out.
 
-ghost use Rattle.std.specs.Prelude.{◌≡◌, ◌+◌, ◌-◌, ◌^◌, ◌<◌, ◌≤◌, ℕ, List, [], min, IfOk, IsFalse, IsTrue, OnErr, OnOk, Some, length, slice_get};
+ghost use Rattle.std.specs.Prelude.{◌≡◌, ◌+◌, ◌-◌, ◌^◌, ◌<◌, ◌≤◌, ℕ, List, [], min, IfOk, IfSome, IsFalse, IsTrue, OnErr, OnOk, Some, length, slice_get};
 ghost use Rattle.scrib_hold_stage.specs.Entries.{Entry, Closings, Opens, Passes, none_closed, note, noted_in};
 ghost use Rattle.scrib_hold_stage.specs.Conversations.{IsAddedTo, waiting_at};
 ghost use Rattle.scrib_hold_stage.specs.Changes.{conversation_at};
@@ -177,6 +177,13 @@ impl<A: Arrival> HoldStage<A> {
         self.ripen(released)?;
         self.tally(0, released.len().saturating_sub(start));
         Ok(())
+    }
+
+    /// Returns the number of the next entry, or `None` after 2^64 - 1 entries.
+    pub fn next_time(&self) -> Option<u64>
+        ensures { IfSome result (λ time. time ≡ (stage_state self.now).time + 1) }
+    {
+        self.time.checked_add(1)
     }
 
     /// Whether as many entries were read since the entry of this number as the bound says.

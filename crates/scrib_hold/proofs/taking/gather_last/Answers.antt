@@ -9,20 +9,20 @@ use Rattle.scrib_hold.proofs.taking.gather_last.Goals as goal
 pub returns-in_err-gather_released-clause-err : goal.returns-in_err-gather_released-clause-err
 returns-in_err-gather_released-clause-err c =
     let p = err_from_is_err_and c.from_residual.result c.from_residual.ensures.1 in
-    rw p.1 (part_extended c.args.format (map item_of c.args.released.now.items) (item_list c.args.end) (state_of c.args.core.now) c.args.gathered.now.bytes.items c.gather_released.new.gathered.bytes.items
+    rw p.1 (part_extended c.args.format (map item_of c.args.released.now.items) (item_list c.args.last) (state_of c.args.core.now) c.args.gathered.now.bytes.items c.gather_released.new.gathered.bytes.items
     c.in_err-gather_released.ensures.err)
 
 pub returns-clause-ok : goal.returns-clause-ok
 returns-clause-ok c =
     on_ok_weaker c.gather_passing.result
-    (λ carried. carried_more c.args.format (map item_of c.args.released.now.items) (item_list c.args.end) (state_of c.args.core.now) (state_of c.gather_released.new.core) (state_of c.gather_passing.new.core)
+    (λ carried. carried_more c.args.format (map item_of c.args.released.now.items) (item_list c.args.last) (state_of c.args.core.now) (state_of c.gather_released.new.core) (state_of c.gather_passing.new.core)
     c.args.gathered.now.bytes.items c.gather_released.new.gathered.bytes.items c.gather_passing.new.gathered.bytes.items c.in_ok-gather_released.ensures.ok carried)
     c.gather_passing.ensures.ok
 
 pub returns-clause-err : goal.returns-clause-err
 returns-clause-err c =
     on_err_weaker c.gather_passing.result
-    (λ same. part_after c.args.format (map item_of c.args.released.now.items) (item_list c.args.end) (state_of c.args.core.now) (state_of c.gather_released.new.core)
+    (λ same. part_after c.args.format (map item_of c.args.released.now.items) (item_list c.args.last) (state_of c.args.core.now) (state_of c.gather_released.new.core)
     c.args.gathered.now.bytes.items c.gather_released.new.gathered.bytes.items c.gather_passing.new.gathered.bytes.items c.in_ok-gather_released.ensures.ok
-    (part_none c.args.format (item_list c.args.end) (state_of c.gather_released.new.core) c.gather_released.new.gathered.bytes.items c.gather_passing.new.gathered.bytes.items same))
+    (part_none c.args.format (item_list c.args.last) (state_of c.gather_released.new.core) c.gather_released.new.gathered.bytes.items c.gather_passing.new.gathered.bytes.items same))
     c.gather_passing.ensures.err

@@ -9,14 +9,14 @@ pub returns-then-passes_line-clause-ok : goal.returns-then-passes_line-clause-ok
 returns-then-passes_line-clause-ok c =
     let new : HeldMonitor = record c.args.self.now { stage = c.passes_line.new.stage; core = c.gather_short.new.core; gathered = c.gather_short.new.gathered } in
     on_ok_weaker c.gather_short.result
-    (λ done. took_line c.args.self.now new c.args.line (c.if-passes_line.ensures.passed refl) refl refl done)
+    (λ done. took_line c.args.self.now new c.args.line (c.if-passes_line.ensures.passed refl) (c.if-passes_line.ensures.none_wait refl) refl refl refl done)
     c.gather_short.ensures.ok
 
 pub returns-then-passes_line-clause-err : goal.returns-then-passes_line-clause-err
 returns-then-passes_line-clause-err c =
     let new : HeldMonitor = record c.args.self.now { stage = c.passes_line.new.stage; core = c.gather_short.new.core; gathered = c.gather_short.new.gathered } in
     on_err_weaker c.gather_short.result
-    (λ same. failed_line c.args.self.now new c.args.line (c.if-passes_line.ensures.passed refl) same)
+    (λ same. failed_line c.args.self.now new c.args.line (c.if-passes_line.ensures.passed refl) (c.if-passes_line.ensures.none_wait refl) same)
     c.gather_short.ensures.err
 
 pub returns-clause-ok : goal.returns-clause-ok
