@@ -25,85 +25,40 @@ use Rattle.scrib_cli.specs.declared.gathered.Gathered.{Gathered}
 use Rattle.scrib_cli.specs.Scripts.{written}
 use Rattle.scrib_hold.specs.declared.held_monitor.HeldMonitor.{HeldMonitor}
 use Rattle.scrib_hold.specs.HeldScripts.{Asked, Pending, event_in, staged_from, opens_conversation, IsDue, IsNext, LetsOut, closes, IsBeginningOf}
-use Rattle.scrib_hold.specs.Progress.{AreCarriedOut, AreCarriedInPart, IsAt, HasTaken, ClosesBefore, ReadsEntry, ReadFails, ClosesReady, CloseReadyFails, TakesEntry, FailsAtEntry, closing_items, ClosesOne, CloseFails, IsSameButReleased}
+use Rattle.scrib_hold.specs.LetOutSoFar.{LetsOutSoFar, closing_items}
+use Rattle.scrib_hold.specs.Progress.{AreCarriedOut, AreCarriedInPart, IsAt, HasTaken, ClosesBefore, ReadsEntry, ReadFails, ClosesReady, CloseReadyFails, TakesEntry, FailsAtEntry, ClosesOne, CloseFails, IsSameButReleased}
 use Rattle.scrib_hold.proofs.CarriedLemmas.{carried_more}
-use Rattle.scrib_hold.proofs.EntryLemmas.{length_staged, noted_closing}
-use Rattle.scrib_hold.proofs.MonitorLemmas.{carried_behind, waiting_further, at_next, begins_with, begun_at}
-
-all_left : {X : Type 0} (P : X → Type 0) (xs : List X) (y : X) (ys : List X) → AllByRecursion P (xs ++ y ∷ ys) → AllByRecursion P (xs ++ ys)
-all_left P [] y ys a = a.1
-all_left P (x ∷ xs) y ys a = (a.0, all_left P xs y ys a.1)
-
-all_weaker : {X : Type 0} (P Q : X → Type 0) → ((x : X) → P x → Q x) → (xs : List X) → AllByRecursion P xs → AllByRecursion Q xs
-all_weaker P Q w [] a = tt
-all_weaker P Q w (x ∷ xs) a = (w x a.0, all_weaker P Q w xs a.1)
-
-both : {X : Type 0} (P Q : X → Type 0) (xs : List X) → AllByRecursion P xs → AllByRecursion (λ x. P x → Q x) xs → AllByRecursion Q xs
-both P Q [] a b = tt
-both P Q (x ∷ xs) a b = (b.0 a.0, both P Q xs a.1 b.1)
+use Rattle.scrib_hold.proofs.LetOutLemmas.{all_weaker, all_applied, so_far_same, so_far_let_out, closed_further, ready_next, forced_next, others_wait, none_opened}
+use Rattle.scrib_hold.proofs.MonitorLemmas.{carried_behind, at_next, begins_with, begun_at}
 
 -- ---- one closing
 
 module _ (Is IsNot : Pending → Type 0) (old : HeldMonitor) (c : Pending) (left : List Pending) (after : stages.StageState Asked) (released : List (Noted Asked))
     (made : IsMade event_in Is IsNot c (closings_in old.pending) left (stages.stage_state old.stage) after [] released) where
   module _ (o : Format) (bound : ℕ) (entries next : List Entry) (before : List ℕ) (a : IsAt o bound old entries next before)
-      (n : (later : List Entry) → IsNext bound entries (next ++ later) a.closed a.released made.taken.front c) where
-    abbrev closed_now : Closings
-    closed_now = closed_at c.conversation (length entries) a.closed
-
-    staged_after : HasStaged event_in bound (staged_from 1 entries) closed_now (a.released ++ made.closed.given) (a.expired ++ made.closed.gone) after
-    staged_after =
-        subst (λ (k : ℕ). HasStaged event_in bound (staged_from 1 entries) (closed_at c.conversation k a.closed) (a.released ++ made.closed.given) (a.expired ++ made.closed.gone) after) (length_staged 1 entries)
-        (made.closed.after bound (staged_from 1 entries) a.closed a.released a.expired a.staged)
-
-    -- what is let out for it
-    all_is : closing_items c made.closed.given ≡ closing_items c released
-    all_is = ap (closing_items c) (sym made.closed.appended)
-
-    lets_after : (later : List Entry) → LetsOut bound entries (next ++ later) closed_now left (a.released ++ made.closed.given) (a.expired ++ made.closed.gone) (a.items ++ closing_items c made.closed.given)
-    lets_after later =
-        subst (λ (l : List Pending). LetsOut bound entries (next ++ later) closed_now l (a.released ++ made.closed.given) (a.expired ++ made.closed.gone) (a.items ++ closing_items c made.closed.given)) (sym made.taken.left)
-        (closes entries (next ++ later) a.closed made.taken.front made.taken.back c a.released a.expired a.items made.closed.given made.closed.gone
-        (subst (λ (l : List Pending). LetsOut bound entries (next ++ later) a.closed l a.released a.expired a.items) made.taken.was (a.lets later)) (n later) (after, staged_after)
-        (made.closed.in_turn bound (staged_from 1 entries) a.closed a.released a.expired a.staged)
-        (made.closed.law bound (staged_from 1 entries) a.closed a.released a.expired a.staged))
+      (n : (later : List Entry) → IsNext bound entries (next ++ later) a.so_far.closed a.so_far.released made.taken.front c) where
+    so_far_after : LetsOutSoFar bound after left entries next (a.items ++ closing_items c released)
+    so_far_after = closed_further Is IsNot bound (stages.stage_state old.stage) after (closings_in old.pending) left entries next a.items c released made a.so_far n
 
     pub at_after : (new : HeldMonitor) → stages.stage_state new.stage ≡ after → closings_in new.pending ≡ left → new.format ≡ old.format → new.ended_inside ≡ old.ended_inside
-        → (d : AreCarriedOut old.format (closing_items c made.closed.given) (state_of old.core) (state_of new.core) old.gathered.bytes.items new.gathered.bytes.items)
-        → IsAt o bound new entries next (before ++ written old.format (closing_items c made.closed.given) d.0)
+        → (d : AreCarriedOut old.format (closing_items c released) (state_of old.core) (state_of new.core) old.gathered.bytes.items new.gathered.bytes.items)
+        → IsAt o bound new entries next (before ++ written old.format (closing_items c released) d.0)
     at_after new stage_is pending_is format inside d = record {
       format = format ∙ a.format;
-      closed = closed_now;
-      released = a.released ++ made.closed.given;
-      expired = a.expired ++ made.closed.gone;
-      items = a.items ++ closing_items c made.closed.given;
-      staged = subst (λ (s : stages.StageState Asked). HasStaged event_in bound (staged_from 1 entries) closed_now (a.released ++ made.closed.given) (a.expired ++ made.closed.gone) s) (sym stage_is) staged_after;
-      lets = λ later. subst (λ (l : List Pending). LetsOut bound entries (next ++ later) closed_now l (a.released ++ made.closed.given) (a.expired ++ made.closed.gone) (a.items ++ closing_items c made.closed.given)) (sym pending_is) (lets_after later);
-      noted = λ id. noted_closing id a.items a.released made.closed.given c (a.noted id);
+      items = a.items ++ closing_items c released;
+      so_far = so_far_same bound after (stages.stage_state new.stage) left (closings_in new.pending) entries next (a.items ++ closing_items c released) stage_is pending_is so_far_after;
       inside = inside ∙ a.inside;
       carried =
-          carried_more o a.items (closing_items c made.closed.given) initial (state_of old.core) (state_of new.core) [] before (before ++ written old.format (closing_items c made.closed.given) d.0) a.carried
-          (carried_behind o old.format (closing_items c made.closed.given) (state_of old.core) (state_of new.core) old.gathered.bytes.items new.gathered.bytes.items before a.format d);
+          carried_more o a.items (closing_items c released) initial (state_of old.core) (state_of new.core) [] before (before ++ written old.format (closing_items c released) d.0) a.carried
+          (carried_behind o old.format (closing_items c released) (state_of old.core) (state_of new.core) old.gathered.bytes.items new.gathered.bytes.items before a.format d);
     }
 
     -- it was carried out in part
     pub part_after : (new : HeldMonitor) (part : AreCarriedInPart old.format (closing_items c released) (state_of old.core) old.gathered.bytes.items new.gathered.bytes.items)
         → IsBeginningOf o bound (entries ++ (next ++ [])) (before ++ written old.format part.0 part.4.0)
     part_after new part =
-        begins_with o old.format bound entries (next ++ []) a.items part.0 part.1 (a.items ++ closing_items c made.closed.given) (state_of old.core) part.2 before old.gathered.bytes.items new.gathered.bytes.items
-        a.format a.carried (ap (λ (l : List Item). a.items ++ l) (all_is ∙ part.3))
-        (inl (closed_now, left, a.released ++ made.closed.given, a.expired ++ made.closed.gone, lets_after [])) part.4
-
--- where it is carried out, the items are those of what was released
-carried_given : (Is IsNot : Pending → Type 0) (old new : HeldMonitor) (q : ClosesOne Is IsNot old new)
-    → AreCarriedOut old.format (closing_items q.c q.made.closed.given) (state_of old.core) (state_of new.core) old.gathered.bytes.items new.gathered.bytes.items
-carried_given Is IsNot old new q =
-    subst (λ (l : List (Noted Asked)). AreCarriedOut old.format (closing_items q.c l) (state_of old.core) (state_of new.core) old.gathered.bytes.items new.gathered.bytes.items) q.made.closed.appended q.carried
-
--- why it is made
-due_now : (o : Format) (bound : ℕ) (m : HeldMonitor) (entries next : List Entry) (out : List ℕ) (a : IsAt o bound m entries next out) (c : Pending) → IsReady c (stages.stage_state m.stage) → IsDue bound entries a.closed a.released c
-due_now o bound m entries next out a c (inl le) = inl (omega (arith, le, a.staged.kept.timed, a.staged.kept.bounded, length_staged 1 entries))
-due_now o bound m entries next out a c (inr none) = inr (all_released event_in bound c.conversation (staged_from 1 entries) a.closed a.released a.expired (stages.stage_state m.stage) a.staged none)
+        begins_with o old.format bound entries (next ++ []) a.items part.0 part.1 (a.items ++ closing_items c released) (state_of old.core) part.2 before old.gathered.bytes.items new.gathered.bytes.items
+        a.format a.carried (ap (λ (l : List Item). a.items ++ l) part.3) (so_far_let_out bound after left entries next [] (a.items ++ closing_items c released) so_far_after) part.4
 
 -- ---- one closing that is carried out, or not
 
@@ -180,34 +135,29 @@ ReadyIn m c = IsReady c (stages.stage_state m.stage)
 abbrev NotReadyIn : HeldMonitor → Pending → Type 0
 NotReadyIn m c = IsNotReady c (stages.stage_state m.stage)
 
-ready_next : (o : Format) (bound : ℕ) (m : HeldMonitor) (entries : List Entry) (out : List ℕ) (a : IsAt o bound m entries [] out) (front : List Pending) (c : Pending) → AllByRecursion (NotReadyIn m) front → ReadyIn m c
-    → (later : List Entry) → IsNext bound entries ([] ++ later) a.closed a.released front c
-ready_next o bound m entries out a front c before ready later = inl (waiting_further o bound m entries [] out a front before, due_now o bound m entries [] out a c ready)
+next_ready : (o : Format) (bound : ℕ) (m : HeldMonitor) (entries : List Entry) (out : List ℕ) (a : IsAt o bound m entries [] out) (front : List Pending) (c : Pending) → AllByRecursion (NotReadyIn m) front → ReadyIn m c
+    → (later : List Entry) → IsNext bound entries ([] ++ later) a.so_far.closed a.so_far.released front c
+next_ready o bound m entries out a front c = ready_next bound (stages.stage_state m.stage) (closings_in m.pending) entries a.items a.so_far front c
 
 pub closing_more : (old mid new : HeldMonitor) → IsClosing old mid → ClosesOne (ReadyIn mid) (NotReadyIn mid) mid new → IsClosing old new
 closing_more old mid new p q =
-    let d = carried_given (ReadyIn mid) (NotReadyIn mid) mid new q in
-    let more = written mid.format (closing_items q.c q.made.closed.given) d.0 in
+    let d = q.carried in
+    let more = written mid.format (closing_items q.c q.released) d.0 in
     record {
       out = p.out ++ more;
       grows = d.2 ∙ ap (λ (l : List ℕ). l ++ more) p.grows ∙ append_assoc old.gathered.bytes.items p.out more;
       after = λ o bound entries before a. (let k = p.after o bound entries before a in
           subst (IsAt o bound new entries []) (append_assoc before p.out more)
           (at_after (ReadyIn mid) (NotReadyIn mid) mid q.c (closings_in new.pending) (stages.stage_state new.stage) q.released q.made o bound entries [] (before ++ p.out) k
-          (ready_next o bound mid entries (before ++ p.out) k q.made.taken.front q.c q.made.taken.before q.made.taken.is) new refl refl q.format q.inside d));
+          (next_ready o bound mid entries (before ++ p.out) k q.made.taken.front q.c q.made.taken.before q.made.taken.is) new refl refl q.format q.inside d));
     }
 
 -- the monitor is the same
 at_same : (o : Format) (bound : ℕ) (old new : HeldMonitor) (entries next : List Entry) (out : List ℕ) → IsSameButReleased old new → IsAt o bound old entries next out → IsAt o bound new entries next out
 at_same o bound old new entries next out s a = record {
   format = s.format ∙ a.format;
-  closed = a.closed;
-  released = a.released;
-  expired = a.expired;
   items = a.items;
-  staged = subst (HasStaged event_in bound (staged_from 1 entries) a.closed a.released a.expired) (sym s.stage) a.staged;
-  lets = λ later. subst (λ (l : List Pending). LetsOut bound entries (next ++ later) a.closed l a.released a.expired a.items) (sym s.pending) (a.lets later);
-  noted = a.noted;
+  so_far = so_far_same bound (stages.stage_state old.stage) (stages.stage_state new.stage) (closings_in old.pending) (closings_in new.pending) entries next a.items s.stage s.pending a.so_far;
   inside = s.inside ∙ a.inside;
   carried = subst (λ (w : State). AreCarriedOut o a.items initial w [] out) (ap state_of (sym s.core)) a.carried;
 }
@@ -258,7 +208,7 @@ closing_failed old mid new p (inr q) =
           subst (λ (l : List ℕ). IsBeginningOf o bound entries l) (append_assoc before p.out more)
           (subst (λ (l : List Entry). IsBeginningOf o bound l ((before ++ p.out) ++ more)) (append-nil entries)
           (part_after (ReadyIn mid) (NotReadyIn mid) mid q.c q.left q.after q.released q.made o bound entries [] (before ++ p.out) k
-          (ready_next o bound mid entries (before ++ p.out) k q.made.taken.front q.c q.made.taken.before q.made.taken.is) new q.carried)));
+          (next_ready o bound mid entries (before ++ p.out) k q.made.taken.front q.c q.made.taken.before q.made.taken.is) new q.carried)));
     }
 
 -- ---- closings of a conversation that the next entry opens
@@ -284,47 +234,22 @@ forcing_none id m = record {
   };
 }
 
-forced_next : (id bound : ℕ) (entries : List Entry) (closed : Closings) (released : List (Noted Asked)) (e : Entry) (front : List Pending) (c : Pending) → opens_conversation id e ≡ true → AllByRecursion (IsApart id) front → IsOf id c
-    → (later : List Entry) → IsNext bound entries ((e ∷ []) ++ later) closed released front c
-forced_next id bound entries closed released e front c opens apart of later = inr (
-  subst (λ (k : ℕ). AllByRecursion (λ (d : Pending). nat_eq k d.conversation ≡ false) front) (sym of) apart,
-  ap (λ (k : ℕ). opens_conversation k e) of ∙ opens,
-)
-
--- another conversation's closing waits as before
-still_waits : (id : ℕ) (s t : stages.StageState Asked) → t.time ≡ s.time → t.bound ≡ s.bound → LeavesOthers id s.conversations t.conversations → (d : Pending) → (IsApart id d → IsNotReady d s) → IsApart id d → IsNotReady d t
-still_waits id s t time bound others d w apart = (
-  omega (arith, time, bound, (w apart).0),
-  subst (λ (o : Option (Conversation Asked)). (x : Noted Asked) × IsOldestWaiting (waiting_at o) x) (sym (others d.conversation apart)) (w apart).1,
-)
-
 pub forcing_more : (id : ℕ) (old mid new : HeldMonitor) → IsForcing id old mid → ClosesOne (IsOf id) (IsApart id) mid new → IsForcing id old new
 forcing_more id old mid new p q =
-    let d = carried_given (IsOf id) (IsApart id) mid new q in
-    let more = written mid.format (closing_items q.c q.made.closed.given) d.0 in
+    let d = q.carried in
+    let more = written mid.format (closing_items q.c q.released) d.0 in
     record {
       out = p.out ++ more;
       grows = d.2 ∙ ap (λ (l : List ℕ). l ++ more) p.grows ∙ append_assoc old.gathered.bytes.items p.out more;
       after = λ o bound entries before h e opens. (let k = p.after o bound entries before h e opens in
           let t = at_after (IsOf id) (IsApart id) mid q.c (closings_in new.pending) (stages.stage_state new.stage) q.released q.made o bound entries (e ∷ []) (before ++ p.out) k.at
-          (forced_next id bound entries k.at.closed k.at.released e q.made.taken.front q.c opens q.made.taken.before q.made.taken.is) new refl refl q.format q.inside d in
+          (forced_next id bound entries k.at.so_far.closed k.at.so_far.released e q.made.taken.front q.c opens q.made.taken.before q.made.taken.is) new refl refl q.format q.inside d in
           record {
             at = subst (IsAt o bound new entries (e ∷ [])) (append_assoc before p.out more) t;
-            wait =
-                all_weaker (λ (c : Pending). IsApart id c → NotReadyIn mid c) (λ (c : Pending). IsApart id c → NotReadyIn new c)
-                (λ c w. still_waits id (stages.stage_state mid.stage) (stages.stage_state new.stage) (t.staged.kept.timed ∙ sym k.at.staged.kept.timed) (t.staged.kept.bounded ∙ sym k.at.staged.kept.bounded)
-                (subst (λ (i : ℕ). LeavesOthers i (stages.stage_state mid.stage).conversations (stages.stage_state new.stage).conversations) q.made.taken.is q.made.closed.others) c w)
-                (closings_in new.pending)
-                (subst (AllByRecursion (λ (c : Pending). IsApart id c → NotReadyIn mid c)) (sym q.made.taken.left)
-                (all_left (λ (c : Pending). IsApart id c → NotReadyIn mid c) q.made.taken.front q.c q.made.taken.back
-                (subst (AllByRecursion (λ (c : Pending). IsApart id c → NotReadyIn mid c)) q.made.taken.was k.wait)));
+            wait = others_wait bound id (stages.stage_state mid.stage) (stages.stage_state new.stage) (closings_in mid.pending) (closings_in new.pending) entries (e ∷ []) k.at.items t.items q.c q.released
+                k.at.so_far t.so_far q.made k.wait;
           });
     }
-
--- a closing of another conversation is not of the one that the entry opens
-not_opened : (id k : ℕ) (b : Bool) → (b ≡ true → k ≡ id) → nat_eq id k ≡ false → b ≡ false
-not_opened id k true only apart = absurd (true≢false (sym (eq-eqb id k (sym (only refl))) ∙ apart))
-not_opened id k false only apart = refl
 
 pub forcing_done : (id : ℕ) (old mid new : HeldMonitor) (e : Entry) → opens_conversation id e ≡ true → ((k : ℕ) → opens_conversation k e ≡ true → k ≡ id) → IsForcing id old mid → IsSameButReleased mid new → AllByRecursion (IsApart id) (closings_in mid.pending)
     → ClosesBefore old new e
@@ -334,10 +259,10 @@ forcing_done id old mid new e opens only p s none = record {
   after = λ o bound entries before h. (let k = p.after o bound entries before h e opens in
       record {
         at = at_same o bound mid new entries (e ∷ []) (before ++ p.out) s k.at;
-        wait = all_same (λ c z. IsNotReady c z) mid new s (both (IsApart id) (NotReadyIn mid) (closings_in mid.pending) none k.wait);
+        wait = all_same (λ c z. IsNotReady c z) mid new s (all_applied (IsApart id) (NotReadyIn mid) (closings_in mid.pending) none k.wait);
         apart =
             subst (AllByRecursion (λ (c : Pending). opens_conversation c.conversation e ≡ false)) (sym s.pending)
-            (all_weaker (IsApart id) (λ (c : Pending). opens_conversation c.conversation e ≡ false) (λ c a. not_opened id c.conversation (opens_conversation c.conversation e) (only c.conversation) a) (closings_in mid.pending) none);
+            (none_opened id e (closings_in mid.pending) only none);
       });
 }
   where
@@ -382,7 +307,7 @@ forcing_failed id old mid new e opens p (inr q) =
       after = λ o bound entries before h. (let k = p.after o bound entries before h e opens in
           subst (λ (l : List ℕ). IsBeginningOf o bound (entries ++ e ∷ []) l) (append_assoc before p.out more)
           (part_after (IsOf id) (IsApart id) mid q.c q.left q.after q.released q.made o bound entries (e ∷ []) (before ++ p.out) k.at
-          (forced_next id bound entries k.at.closed k.at.released e q.made.taken.front q.c opens q.made.taken.before q.made.taken.is) new q.carried));
+          (forced_next id bound entries k.at.so_far.closed k.at.so_far.released e q.made.taken.front q.c opens q.made.taken.before q.made.taken.is) new q.carried));
     }
 
 -- ---- an entry, with what is closed before and behind it

@@ -52,13 +52,8 @@ pub taken_moved : (o : Format) (bound : ℕ) (m : HeldMonitor) (g : Gathered) (e
 taken_moved o bound m g entries out c = record {
   at = record {
     format = c.at.format;
-    closed = c.at.closed;
-    released = c.at.released;
-    expired = c.at.expired;
     items = c.at.items;
-    staged = c.at.staged;
-    lets = c.at.lets;
-    noted = c.at.noted;
+    so_far = c.at.so_far;
     inside = c.at.inside;
     carried = c.at.carried;
   };

@@ -21,7 +21,7 @@ pub format_kept : (o : Format) (bound : ℕ) (m : Limits) (run : HeldRun) → Is
 format_kept o bound m run new = new.progress.taken.at.format
 
 pub bound_kept : (o : Format) (bound : ℕ) (m : Limits) (run : HeldRun) → IsNewHeld o bound m run → run.monitor.stage.bound ≡ bound
-bound_kept o bound m run new = new.progress.taken.at.staged.kept.bounded
+bound_kept o bound m run new = new.progress.taken.at.so_far.staged.kept.bounded
 
 pub limits_kept : (o : Format) (bound : ℕ) (m : Limits) (run : HeldRun) → IsNewHeld o bound m run → run.script.limits ≡ m
 limits_kept o bound m run new = new.progress.read.limits

@@ -1,6 +1,6 @@
 mod CarriedLemmas
 pub mod EntryLemmas
-mod LetOutLemmas
+pub mod LetOutLemmas
 mod MonitorLemmas
 mod ClosingLemmas
 mod HeldRunLemmas

@@ -26,6 +26,7 @@ use Rattle.scrib_hold.specs.HeldScripts.{Asked, Pending, event_in, staged_from, 
 use Rattle.scrib_hold.specs.StagedEntries.{PassesLine}
 use Rattle.scrib_hold.specs.Progress.{AreCarriedOut, HasTaken, TakesEntry, FailsAtEntry}
 use Rattle.scrib_hold.proofs.CarriedLemmas.{carried_none, carried_item, part_none}
+use Rattle.scrib_hold.proofs.LetOutLemmas.{so_far_same}
 use Rattle.scrib_hold.proofs.MonitorLemmas.{read_items, failed_items}
 use Rattle.scrib_hold.proofs.ClosingLemmas.{before_none, ready_none, took, took_not}
 
@@ -69,7 +70,7 @@ took_line old new line p none same format inside d =
     (carried_found old.format d.0 (state_of old.core) (state_of new.core) old.gathered.bytes.items new.gathered.bytes.items d.2) in
     took old old new new (short_entry line) (before_none old (short_entry line) none)
     (read_items old (short_entry line) (stages.stage_state new.stage) p.released (closings_in old.pending) p.read (none_more old.stage new.stage line (closings_in old.pending) p) new (short_items line)
-    (p.all ∙ ap (λ (l : List (Noted Asked)). passing (short_entry line) ++ map item_of l) p.read.appended)
+    p.all
     refl same format (inside ∙ same_end old.ended_inside (is_end_inside (short_entry line)) (line_ends line)) carried)
     (ready_none new (same ∙ none))
 
@@ -78,7 +79,7 @@ pub failed_line : (old new : HeldMonitor) (line : ShortLine) → PassesLine line
 failed_line old new line p none same =
     took_not old old new (short_entry line) (before_none old (short_entry line) none)
     (failed_items old new (short_entry line) (stages.stage_state new.stage) p.released (closings_in old.pending) (short_items line) p.read (none_more old.stage new.stage line (closings_in old.pending) p)
-    (p.all ∙ ap (λ (l : List (Noted Asked)). passing (short_entry line) ++ map item_of l) p.read.appended)
+    p.all
     (part_none old.format (short_items line) (state_of old.core) old.gathered.bytes.items new.gathered.bytes.items same))
 
 -- ---- a line that does not pass at the first attempt
@@ -88,13 +89,8 @@ stage_moved : (o : Format) (bound : ℕ) (m : HeldMonitor) (s : HoldStage Asked)
 stage_moved o bound m s entries out same c = record {
   at = record {
     format = c.at.format;
-    closed = c.at.closed;
-    released = c.at.released;
-    expired = c.at.expired;
     items = c.at.items;
-    staged = subst (λ (z : stages.StageState Asked). HasStaged event_in bound (staged_from 1 entries) c.at.closed c.at.released c.at.expired z) (sym same) c.at.staged;
-    lets = c.at.lets;
-    noted = c.at.noted;
+    so_far = so_far_same bound (stages.stage_state m.stage) (stages.stage_state s) (closings_in m.pending) (closings_in m.pending) entries [] c.at.items same refl c.at.so_far;
     inside = c.at.inside;
     carried = c.at.carried;
   };

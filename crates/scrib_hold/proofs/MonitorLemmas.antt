@@ -15,14 +15,14 @@ use Rattle.scrib_hold_stage.specs.Entries.{Closings, none_closed, noted_in}
 use Rattle.scrib_hold_stage.specs.PendingClosings.{IsNotReady, closings_in}
 use Rattle.scrib_hold_stage.specs.Stages as stages
 use Rattle.scrib_hold_stage.specs.Stages.{HasStaged, IsRead, IsFinished}
-use Rattle.scrib_hold_stage.proofs.HistoryLemmas.{unreleased}
 use Rattle.scrib_cli.specs.Scripts.{written}
 use Rattle.scrib_hold.specs.declared.held_monitor.HeldMonitor.{HeldMonitor}
 use Rattle.scrib_hold.specs.HeldScripts.{Asked, Pending, event_in, staged, staged_from, item_of, closing_item, closing_at, passing, is_end_inside, ends_inside, end_item, WaitsFurther, LetsOut, nothing, reads, AreHeldItems, IsOutputOf, AreLetOut, IsBeginningOf}
+use Rattle.scrib_hold.specs.LetOutSoFar.{LetsOutSoFar}
 use Rattle.scrib_hold.specs.Progress.{AreCarriedOut, AreCarriedInPart, IsAt, HasTaken, IsBefore, ReadsEntry, ReadFails, Ends, HeldEndFails}
 use Rattle.scrib_hold.proofs.CarriedLemmas.{carried_none, carried_more}
 use Rattle.scrib_hold.proofs.EntryLemmas.{staged_more, length_staged, inside_more, noted_more, all_noted}
-use Rattle.scrib_hold.proofs.LetOutLemmas.{let_out_further}
+use Rattle.scrib_hold.proofs.LetOutLemmas.{let_out_further, so_far_none, so_far_next, so_far_same, so_far_let_out, read_further, held_at_end}
 
 -- a new monitor
 pub taken_none : (o : Format) (bound : ℕ) (m : HeldMonitor) → m.format ≡ o → HasStaged event_in bound [] none_closed [] [] (stages.stage_state m.stage) → closings_in m.pending ≡ [] → state_of m.core ≡ initial
@@ -30,13 +30,8 @@ pub taken_none : (o : Format) (bound : ℕ) (m : HeldMonitor) → m.format ≡ o
 taken_none o bound m format after none core inside = record {
   at = record {
     format = format;
-    closed = none_closed;
-    released = [];
-    expired = [];
     items = [];
-    staged = after;
-    lets = λ later. subst (λ (l : List Pending). LetsOut bound [] later none_closed l [] [] []) (sym none) (nothing later);
-    noted = λ id. refl;
+    so_far = so_far_none bound (stages.stage_state m.stage) (closings_in m.pending) after none;
     inside = inside;
     carried = subst (λ (w : State). AreCarriedOut o [] initial w [] []) (sym core) (carried_none o initial []);
   };
@@ -49,34 +44,12 @@ carried_behind o p items w v a b before same c = (c.0, c.1, ap (λ (f : Format).
 
 -- ---- one entry more
 
--- a closing waits further
-all_wait : (bound : ℕ) (entries : List Entry) (closed : Closings) (released expired : List (Noted Asked)) (s : stages.StageState Asked) → HasStaged event_in bound (staged_from 1 entries) closed released expired s
-    → (pending : List Pending) → AllByRecursion (λ c. IsNotReady c s) pending → AllByRecursion (WaitsFurther bound entries closed released) pending
-all_wait bound entries closed released expired s a [] w = tt
-all_wait bound entries closed released expired s a (c ∷ pending) w = (
-  (
-    omega (arith, w.0.0, a.kept.timed, a.kept.bounded, length_staged 1 entries),
-    unreleased event_in bound c.conversation (staged_from 1 entries) closed released expired s a w.0.1,
-  ),
-  all_wait bound entries closed released expired s a pending w.1,
-)
-
--- the same in a monitor
-pub waiting_further : (o : Format) (bound : ℕ) (m : HeldMonitor) (entries next : List Entry) (out : List ℕ) (c : IsAt o bound m entries next out) (pending : List Pending)
-    → AllByRecursion (λ d. IsNotReady d (stages.stage_state m.stage)) pending → AllByRecursion (WaitsFurther bound entries c.closed c.released) pending
-waiting_further o bound m entries next out c pending w = all_wait bound entries c.closed c.released c.expired (stages.stage_state m.stage) c.staged pending w
-
 -- where the next entry is known
 pub at_next : (o : Format) (bound : ℕ) (m : HeldMonitor) (entries next : List Entry) (out : List ℕ) → IsAt o bound m entries [] out → IsAt o bound m entries next out
 at_next o bound m entries next out c = record {
   format = c.format;
-  closed = c.closed;
-  released = c.released;
-  expired = c.expired;
   items = c.items;
-  staged = c.staged;
-  lets = λ later. c.lets (next ++ later);
-  noted = c.noted;
+  so_far = so_far_next bound (stages.stage_state m.stage) (closings_in m.pending) entries next c.items c.so_far;
   inside = c.inside;
   carried = c.carried;
 }
@@ -85,55 +58,31 @@ at_next o bound m entries next out c = record {
 module _ (old : HeldMonitor) (e : Entry) (after : stages.StageState Asked) (released : List (Noted Asked)) (pending : List Pending)
     (read : IsRead event_in (staged (old.stage.time + 1) e) (stages.stage_state old.stage) after [] released)
     (more_pending : pending ≡ closings_in old.pending ++ closing_at (old.stage.time + 1) e) where
-  module _ (o : Format) (bound : ℕ) (entries : List Entry) (before : List ℕ) (b : IsBefore o bound old entries e before) where
-    numbered : 1 + length entries ≡ old.stage.time + 1
-    numbered = let timed : old.stage.time ≡ length (staged_from 1 entries) = b.at.staged.kept.timed in omega (arith, timed, length_staged 1 entries)
+  -- what the entry lets out
+  abbrev entry_items : List Item
+  entry_items = passing e ++ map item_of released
 
-    entries_after : HasStaged event_in bound (staged_from 1 (entries ++ e ∷ [])) b.at.closed (b.at.released ++ (read.given ++ read.late)) (b.at.expired ++ read.gone) after
-    entries_after =
-        let same : staged_from 1 (entries ++ e ∷ []) ≡ staged_from 1 entries ++ staged (old.stage.time + 1) e ∷ [] =
-        staged_more 1 entries e ∙ ap (λ (k : ℕ). staged_from 1 entries ++ staged k e ∷ []) numbered in
-        subst (λ (l : List (stage.Entry Asked)). HasStaged event_in bound l b.at.closed (b.at.released ++ (read.given ++ read.late)) (b.at.expired ++ read.gone) after) (sym same)
-        (read.after bound (staged_from 1 entries) b.at.closed b.at.released b.at.expired b.at.staged)
+  so_far_read : (o : Format) (bound : ℕ) (entries : List Entry) (before : List ℕ) → (b : IsBefore o bound old entries e before) → LetsOutSoFar bound after pending (entries ++ e ∷ []) [] (b.at.items ++ entry_items)
+  so_far_read o bound entries before b = read_further bound (stages.stage_state old.stage) after (closings_in old.pending) pending entries b.at.items e released b.at.so_far b.wait b.apart read more_pending
 
-    lets_more : (later : List Entry) → LetsOut bound (entries ++ e ∷ []) later b.at.closed pending (b.at.released ++ (read.given ++ read.late)) (b.at.expired ++ read.gone)
-        (b.at.items ++ (passing e ++ map item_of (read.given ++ read.late)))
-    lets_more later =
-        let number : length entries + 1 ≡ old.stage.time + 1 = omega (arith, numbered) in
-        subst (λ (l : List Pending). LetsOut bound (entries ++ e ∷ []) later b.at.closed l (b.at.released ++ (read.given ++ read.late)) (b.at.expired ++ read.gone) (b.at.items ++ (passing e ++ map item_of (read.given ++ read.late))))
-        (ap (λ (k : ℕ). closings_in old.pending ++ closing_at k e) number ∙ sym more_pending)
-        (reads entries later b.at.closed (closings_in old.pending) b.at.released b.at.expired b.at.items e read.given read.late read.gone (b.at.lets later)
-        (waiting_further o bound old entries (e ∷ []) before b.at (closings_in old.pending) b.wait) b.apart (after, entries_after)
-        (read.in_turn bound (staged_from 1 entries) b.at.closed b.at.released b.at.expired b.at.staged))
-
-  -- what is let out, where this passes at once
-  let_out_is : (found : Option Item) → item_list found ≡ passing e → item_list found ++ map item_of released ≡ passing e ++ map item_of (read.given ++ read.late)
-  let_out_is found same = ap (λ (l : List Item). l ++ map item_of released) same ∙ ap (λ (l : List (Noted Asked)). passing e ++ map item_of l) read.appended
-
-  pub read_items : (new : HeldMonitor) (more : List Item) → more ≡ passing e ++ map item_of (read.given ++ read.late) → stages.stage_state new.stage ≡ after → closings_in new.pending ≡ pending → new.format ≡ old.format
+  pub read_items : (new : HeldMonitor) (more : List Item) → more ≡ entry_items → stages.stage_state new.stage ≡ after → closings_in new.pending ≡ pending → new.format ≡ old.format
       → new.ended_inside ≡ cond old.ended_inside true (is_end_inside e)
       → AreCarriedOut old.format more (state_of old.core) (state_of new.core) old.gathered.bytes.items new.gathered.bytes.items
       → ReadsEntry old new e
   read_items new more all stage_is pending_is format inside carried =
-      let here : AreCarriedOut old.format (passing e ++ map item_of (read.given ++ read.late)) (state_of old.core) (state_of new.core) old.gathered.bytes.items new.gathered.bytes.items =
+      let here : AreCarriedOut old.format entry_items (state_of old.core) (state_of new.core) old.gathered.bytes.items new.gathered.bytes.items =
       subst (λ (l : List Item). AreCarriedOut old.format l (state_of old.core) (state_of new.core) old.gathered.bytes.items new.gathered.bytes.items) all carried in
       record {
-        out = written old.format (passing e ++ map item_of (read.given ++ read.late)) here.0;
+        out = written old.format entry_items here.0;
         grows = here.2;
         after = λ o bound entries before b. record {
           format = format ∙ b.at.format;
-          closed = b.at.closed;
-          released = b.at.released ++ (read.given ++ read.late);
-          expired = b.at.expired ++ read.gone;
-          items = b.at.items ++ (passing e ++ map item_of (read.given ++ read.late));
-          staged = subst (λ (s : stages.StageState Asked). HasStaged event_in bound (staged_from 1 (entries ++ e ∷ [])) b.at.closed (b.at.released ++ (read.given ++ read.late)) (b.at.expired ++ read.gone) s) (sym stage_is) (entries_after o bound entries before b);
-          lets = λ later. subst (λ (l : List Pending). LetsOut bound (entries ++ e ∷ []) later b.at.closed l (b.at.released ++ (read.given ++ read.late)) (b.at.expired ++ read.gone) (b.at.items ++ (passing e ++ map item_of (read.given ++ read.late)))) (sym pending_is)
-              (lets_more o bound entries before b later);
-          noted = λ id. noted_more id b.at.items b.at.released (read.given ++ read.late) e (b.at.noted id);
+          items = b.at.items ++ entry_items;
+          so_far = so_far_same bound after (stages.stage_state new.stage) pending (closings_in new.pending) (entries ++ e ∷ []) [] (b.at.items ++ entry_items) stage_is pending_is (so_far_read o bound entries before b);
           inside = inside ∙ ap (λ (x : Bool). cond x true (is_end_inside e)) b.at.inside ∙ sym (inside_more entries e);
           carried =
-              carried_more o b.at.items (passing e ++ map item_of (read.given ++ read.late)) initial (state_of old.core) (state_of new.core) [] before (before ++ written old.format (passing e ++ map item_of (read.given ++ read.late)) here.0) b.at.carried
-              (carried_behind o old.format (passing e ++ map item_of (read.given ++ read.late)) (state_of old.core) (state_of new.core) old.gathered.bytes.items new.gathered.bytes.items before b.at.format here);
+              carried_more o b.at.items entry_items initial (state_of old.core) (state_of new.core) [] before (before ++ written old.format entry_items here.0) b.at.carried
+              (carried_behind o old.format entry_items (state_of old.core) (state_of new.core) old.gathered.bytes.items new.gathered.bytes.items before b.at.format here);
         };
       }
 
@@ -141,7 +90,7 @@ module _ (old : HeldMonitor) (e : Entry) (after : stages.StageState Asked) (rele
       → new.ended_inside ≡ cond old.ended_inside true (is_end_inside e)
       → AreCarriedOut old.format (item_list found ++ map item_of released) (state_of old.core) (state_of new.core) old.gathered.bytes.items new.gathered.bytes.items
       → ReadsEntry old new e
-  read_entry new found same stage_is pending_is format inside carried = read_items new (item_list found ++ map item_of released) (let_out_is found same) stage_is pending_is format inside carried
+  read_entry new found same = read_items new (item_list found ++ map item_of released) (ap (λ (l : List Item). l ++ map item_of released) same)
 
 -- what was carried out of what is let out is a beginning of the output
 pub begins_with : (o p : Format) (bound : ℕ) (first later : List Entry) (items done undone all : List Item) (w v : State) (before a b : List ℕ) → p ≡ o
@@ -174,7 +123,9 @@ begun_at o bound m entries next later out c = record {
   after = state_of m.core;
   unwritten = [];
   entries_are = refl;
-  let_out = subst (λ (l : List Item). AreLetOut bound entries (next ++ later) l) (sym (append-nil c.items)) (inl (c.closed, closings_in m.pending, c.released, c.expired, c.lets later));
+  let_out =
+      subst (λ (l : List Item). AreLetOut bound entries (next ++ later) l) (sym (append-nil c.items))
+      (so_far_let_out bound (stages.stage_state m.stage) (closings_in m.pending) entries next later c.items c.so_far);
   answered = c.carried.1;
   is = sym c.carried.2 ∙ sym (append-nil out);
 }
@@ -224,31 +175,27 @@ unread old new e same = record {
 
 -- an item failed
 pub failed_items : (old new : HeldMonitor) (e : Entry) (after : stages.StageState Asked) (released : List (Noted Asked)) (pending : List Pending) (more : List Item)
-    → (read : IsRead event_in (staged (old.stage.time + 1) e) (stages.stage_state old.stage) after [] released) → pending ≡ closings_in old.pending ++ closing_at (old.stage.time + 1) e
-    → more ≡ passing e ++ map item_of (read.given ++ read.late)
+    → IsRead event_in (staged (old.stage.time + 1) e) (stages.stage_state old.stage) after [] released → pending ≡ closings_in old.pending ++ closing_at (old.stage.time + 1) e
+    → more ≡ passing e ++ map item_of released
     → AreCarriedInPart old.format more (state_of old.core) old.gathered.bytes.items new.gathered.bytes.items
     → ReadFails old new e
-failed_items old new e after released pending more read more_pending all part =
-    let done = part.0 in
-    record {
-      out = written old.format done part.4.0;
-      grows = part.4.2;
-      after = λ o bound entries before b.
-          let c = b.at in
-          let lets = lets_more old e after released pending read more_pending o bound entries before b [] in
-          let is : c.items ++ (passing e ++ map item_of (read.given ++ read.late)) ≡ c.items ++ (part.0 ++ part.1) =
-          ap (λ (l : List Item). c.items ++ l) (sym all ∙ part.3) in
-          subst (λ (l : List Entry). IsBeginningOf o bound l (before ++ written old.format part.0 part.4.0)) (append-nil (entries ++ e ∷ []))
-          (begins_with o old.format bound (entries ++ e ∷ []) [] c.items part.0 part.1 (c.items ++ (passing e ++ map item_of (read.given ++ read.late))) (state_of old.core) part.2 before old.gathered.bytes.items new.gathered.bytes.items
-          c.format c.carried is (inl (c.closed, pending, c.released ++ (read.given ++ read.late), c.expired ++ read.gone, lets)) part.4);
-    }
+failed_items old new e after released pending more read more_pending all part = record {
+  out = written old.format part.0 part.4.0;
+  grows = part.4.2;
+  after = λ o bound entries before b.
+      let c = b.at in
+      let so_far = so_far_read old e after released pending read more_pending o bound entries before b in
+      subst (λ (l : List Entry). IsBeginningOf o bound l (before ++ written old.format part.0 part.4.0)) (append-nil (entries ++ e ∷ []))
+      (begins_with o old.format bound (entries ++ e ∷ []) [] c.items part.0 part.1 (c.items ++ (passing e ++ map item_of released)) (state_of old.core) part.2 before old.gathered.bytes.items new.gathered.bytes.items
+      c.format c.carried (ap (λ (l : List Item). c.items ++ l) (sym all ∙ part.3)) (so_far_let_out bound after pending (entries ++ e ∷ []) [] [] (c.items ++ (passing e ++ map item_of released)) so_far) part.4);
+}
 
 pub failed_entry : (old new : HeldMonitor) (e : Entry) (after : stages.StageState Asked) (released : List (Noted Asked)) (pending : List Pending) (found : Option Item)
-    → (read : IsRead event_in (staged (old.stage.time + 1) e) (stages.stage_state old.stage) after [] released) → pending ≡ closings_in old.pending ++ closing_at (old.stage.time + 1) e → item_list found ≡ passing e
+    → IsRead event_in (staged (old.stage.time + 1) e) (stages.stage_state old.stage) after [] released → pending ≡ closings_in old.pending ++ closing_at (old.stage.time + 1) e → item_list found ≡ passing e
     → AreCarriedInPart old.format (item_list found ++ map item_of released) (state_of old.core) old.gathered.bytes.items new.gathered.bytes.items
     → ReadFails old new e
 failed_entry old new e after released pending found read more_pending same part =
-    failed_items old new e after released pending (item_list found ++ map item_of released) read more_pending (let_out_is old e after released pending read more_pending found same) part
+    failed_items old new e after released pending (item_list found ++ map item_of released) read more_pending (ap (λ (l : List Item). l ++ map item_of released) same) part
 
 -- ---- the end of the script
 
@@ -261,26 +208,9 @@ module _ (old : HeldMonitor) (released : List (Noted Asked)) (finished : IsFinis
   pub last_is : (found : Option Item) → item_list found ≡ end_item old.ended_inside → map item_of released ++ (map closing_item (closings_in old.pending) ++ item_list found) ≡ last_items
   last_is found same = ap (λ (l : List Item). map item_of released ++ (map closing_item (closings_in old.pending) ++ l)) same
 
-  items_at_end : (o : Format) (bound : ℕ) (entries : List Entry) (before : List ℕ) → (h : HasTaken o bound old entries before) → AreHeldItems bound entries h.at.expired (h.at.items ++ last_items)
+  items_at_end : (o : Format) (bound : ℕ) (entries : List Entry) (before : List ℕ) → (h : HasTaken o bound old entries before) → AreHeldItems bound entries h.at.so_far.expired (h.at.items ++ last_items)
   items_at_end o bound entries before h =
-      let c = h.at in
-      let end = map closing_item (closings_in old.pending) ++ end_item (ends_inside entries) in
-      let is : c.items ++ (map item_of finished.given ++ end) ≡ c.items ++ last_items =
-      ap (λ (l : List (Noted Asked)). c.items ++ (map item_of l ++ end)) (sym finished.appended) ∙ ap (λ (x : Bool). c.items ++ (map item_of released ++ (map closing_item (closings_in old.pending) ++ end_item x))) (sym c.inside) in
-      subst (AreHeldItems bound entries c.expired) is (record {
-        closed = c.closed;
-        pending = closings_in old.pending;
-        released = c.released;
-        waited = finished.given;
-        gone = finished.gone;
-        let_out = c.items;
-        lets = c.lets [];
-        wait = waiting_further o bound old entries [] before c (closings_in old.pending) h.wait;
-        in_turn = finished.in_turn bound (staged_from 1 entries) c.closed c.released c.expired c.staged;
-        law = finished.law bound (staged_from 1 entries) c.closed c.released c.expired c.staged;
-        noted = λ id. all_noted id c.items c.released finished.given (closings_in old.pending) (ends_inside entries) (c.noted id);
-        is = refl;
-      })
+      held_at_end bound (stages.stage_state old.stage) (closings_in old.pending) entries h.at.items released old.ended_inside h.at.so_far h.wait finished h.at.inside
 
   pub ended : (new : HeldMonitor) (counts : Counts)
       → ((bound : ℕ) (entries : List (stage.Entry Asked)) (closed : Closings) (earlier expired : List (Noted Asked)) → HasStaged event_in bound entries closed earlier expired (stages.stage_state old.stage)
@@ -294,9 +224,9 @@ module _ (old : HeldMonitor) (released : List (Noted Asked)) (finished : IsFinis
         let c = h.at in
         let whole = carried_more o c.items last_items initial (state_of old.core) (state_of new.core) [] before (before ++ written old.format last_items carried.0) c.carried
         (carried_behind o old.format last_items (state_of old.core) (state_of new.core) old.gathered.bytes.items new.gathered.bytes.items before c.format carried) in
-        let count = counted bound (staged_from 1 entries) c.closed c.released c.expired c.staged in
+        let count = counted bound (staged_from 1 entries) c.so_far.closed c.so_far.released c.so_far.expired c.so_far.staged in
         record {
-          expired = c.expired;
+          expired = c.so_far.expired;
           items = c.items ++ last_items;
           replies = whole.0;
           after = state_of new.core;
@@ -316,7 +246,7 @@ module _ (old : HeldMonitor) (released : List (Noted Asked)) (finished : IsFinis
         let c = h.at in
         subst (λ (l : List Entry). IsBeginningOf o bound l (before ++ written old.format part.0 part.4.0)) (append-nil entries)
         (begins_with o old.format bound entries [] c.items part.0 part.1 (c.items ++ last_items) (state_of old.core) part.2 before old.gathered.bytes.items new.gathered.bytes.items
-        c.format c.carried (ap (λ (l : List Item). c.items ++ l) part.3) (inr (c.expired, items_at_end o bound entries before h)) part.4);
+        c.format c.carried (ap (λ (l : List Item). c.items ++ l) part.3) (inr (c.so_far.expired, items_at_end o bound entries before h)) part.4);
   }
 
 -- the stage failed at the end

@@ -1,3 +1,4 @@
 pub mod HeldScripts
+pub mod LetOutSoFar
 pub mod StagedEntries
 pub mod Progress

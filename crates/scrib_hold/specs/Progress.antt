@@ -16,15 +16,13 @@ use Rattle.scrib_script_reader.specs.Limits.{IsWithinLimits}
 use Rattle.scrib_script_reader.specs.Positions.{HasRead}
 use Rattle.scrib_hold_stage.specs.declared.noted.Noted.{Noted}
 use Rattle.scrib_hold_stage.specs.declared.stage.Counts.{Counts}
-use Rattle.scrib_hold_stage.specs.Entries.{Closings, noted_of}
 use Rattle.scrib_hold_stage.specs.PendingClosings.{IsMade, IsNotReady, closings_in}
-use Rattle.scrib_hold_stage.specs.Conversations.{noted_event}
 use Rattle.scrib_hold_stage.specs.Stages as stages
-use Rattle.scrib_hold_stage.specs.Stages.{HasStaged}
 use Rattle.scrib_cli.specs.Scripts.{written}
 use Rattle.scrib_hold.specs.declared.held_monitor.HeldMonitor.{HeldMonitor}
 use Rattle.scrib_hold.specs.declared.held_run.HeldRun.{HeldRun}
-use Rattle.scrib_hold.specs.HeldScripts.{Asked, Pending, event_in, staged_from, item_of, closing_item, opens_conversation, ends_inside, noted_events_of, LetsOut}
+use Rattle.scrib_hold.specs.HeldScripts.{Asked, Pending, event_in, opens_conversation, ends_inside}
+use Rattle.scrib_hold.specs.LetOutSoFar.{LetsOutSoFar, closing_items}
 use Rattle.scrib_hold.specs.HeldScripts.{IsOutputOf, IsBeginningOf, IsHeldOutput, IsHeldPart}
 
 -- the items were carried out, from one state of a monitor to another, and the replies were put behind what was there
@@ -41,14 +39,8 @@ AreCarriedInPart o items w was now =
 -- A monitor with this format and bound took these entries, and gave this output. These follow next, if they are known.
 pub record IsAt (o : Format) (bound : ℕ) (m : HeldMonitor) (entries next : List Entry) (out : List ℕ) : Type 0 where
   pub format : m.format ≡ o
-  pub closed : Closings
-  pub released : List (Noted Asked)
-  pub expired : List (Noted Asked)
   pub items : List Item
-  pub staged : HasStaged event_in bound (staged_from 1 entries) closed released expired (stages.stage_state m.stage)
-  pub lets : (later : List Entry) → LetsOut bound entries (next ++ later) closed (closings_in m.pending) released expired
-      items
-  pub noted : (id : ℕ) → noted_events_of id items ≡ map (noted_event event_in) (noted_of id released)
+  pub so_far : LetsOutSoFar bound (stages.stage_state m.stage) (closings_in m.pending) entries next items
   pub inside : m.ended_inside ≡ ends_inside entries
   pub carried : AreCarriedOut o items initial (state_of m.core) [] out
 
@@ -98,10 +90,6 @@ pub record CloseReadyFails (old new : HeldMonitor) : Type 0 where
   pub grows : new.gathered.bytes.items ≡ old.gathered.bytes.items ++ out
   pub after : (o : Format) (bound : ℕ) (entries : List Entry) (before : List ℕ)
       → IsAt o bound old entries [] before → IsBeginningOf o bound entries (before ++ out)
-
--- what was let out for a closing that was made
-abbrev pub closing_items : Pending → List (Noted Asked) → List Item
-closing_items c released = map item_of released ++ closing_item c ∷ []
 
 -- the first closing that has the one property was made, and was carried out behind what was released then
 pub record ClosesOne (Is IsNot : Pending → Type 0) (old new : HeldMonitor) : Type 0 where

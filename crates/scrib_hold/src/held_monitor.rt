@@ -4,7 +4,8 @@ ghost use Rattle.std.specs.Prelude.{◌≡◌, true, if◌then◌else◌};
 ghost use Rattle.scrib_script_reader.specs.Scripts.{item_list};
 ghost use Rattle.scrib_hold.specs.HeldScripts.{end_item, is_end_inside};
 
-use crate::staged::{entry_of, opened_by, passes_line, read_entry};
+use crate::opening::opened_by;
+use crate::staged::{entry_of, passes_line, read_entry};
 use crate::taking::{gather_end, gather_last, gather_let_out, gather_released, item_of_closing};
 use scrib_cli::gathered::Gathered;
 use scrib_cli::item_output::gather_short;

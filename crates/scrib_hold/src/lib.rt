@@ -4,6 +4,7 @@
 mod held_monitor;
 mod held_run;
 pub mod hold_limits;
+pub mod opening;
 pub mod run_held_script;
 mod staged;
 mod taking;

@@ -1,12 +1,12 @@
 //! What a stage does with an entry of a script.
 
-ghost use Rattle.std.specs.Prelude.{◌≡◌, ℕ, ◌+◌, ◌++◌, [], true, false, None, IfOk, IfSome, IsFalse, IsTrue, OnOk};
+ghost use Rattle.std.specs.Prelude.{◌≡◌, ℕ, ◌+◌, ◌++◌, [], IfOk, IsFalse, IsTrue, OnOk};
 ghost use Rattle.scrib_script_reader.specs.declared.entry.Entry.TheVariants as entry;
 ghost use Rattle.scrib_script_reader.specs.declared.item.Item.TheVariants as item;
 ghost use Rattle.scrib_script_reader.specs.Scripts.{item_list};
 ghost use Rattle.scrib_hold_stage.specs.PendingClosings.{closings_in};
 ghost use Rattle.scrib_hold_stage.specs.Stages.{IsRead, stage_state};
-ghost use Rattle.scrib_hold.specs.HeldScripts.{closing_at, event_in, opens_conversation, passing, staged};
+ghost use Rattle.scrib_hold.specs.HeldScripts.{closing_at, event_in, passing, staged};
 ghost use Rattle.scrib_script_reader.specs.ShortLines.{short_entry};
 ghost use Rattle.scrib_hold.specs.StagedEntries.{as_entry, closing_of, passing_of, PassesLine};
 
@@ -150,19 +150,6 @@ pub(crate) fn passes_line(
         ShortLine::Note { id, event } => stage.try_pass(*id, event),
         ShortLine::Ask { .. } | ShortLine::Open { .. } | ShortLine::Bad(..) | ShortLine::Skipped =>
             false,
-    }
-}
-
-/// Returns the conversation that the entry opens, if it opens one.
-#[inline(always)]
-pub(crate) fn opened_by(entry: &Entry) -> Option<u32>
-    ensures opens { IfSome result (λ id. opens_conversation id entry.now ≡ true) }
-    ensures only { IfSome result (λ id. (k : ℕ) → opens_conversation k entry.now ≡ true → k ≡ id) }
-    ensures none { result ≡ None → (k : ℕ) → opens_conversation k entry.now ≡ false }
-{
-    match entry {
-        Entry::Item(Item::Step(_, Step::Open { id, .. })) => Some(*id),
-        _ => None,
     }
 }
 
