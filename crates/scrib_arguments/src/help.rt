@@ -97,7 +97,8 @@ Prints the script that `scribmon watch --hold N` carries out, for any program
 that reads scripts. Events wait for the opening of their conversation, and a
 reception waits until its message was sent. Each role's events stay in their
 order. An event that has waited while N lines were read is printed as it is.
-All other lines are printed at once, but for comments, which are left out.
+All other lines are printed at once, but for comments, which are left out, and
+for a close, which waits while an event of its conversation waits.
 Standard error has the counts at the end:
   scribmon: 5400 events, 812 waited, at most 31 at once, 0 released by the limit
 The lines of a script are those of `scribmon watch --help`.
