@@ -21,7 +21,7 @@ limits_kept : (m : Limits) (bound : ℕ) (run : LineRun) → IsNewLineRun m boun
 limits_kept m bound run new = new.progress.read.limits
 
 bound_kept : (m : Limits) (bound : ℕ) (run : LineRun) → IsNewLineRun m bound run → run.lines.stage.bound ≡ bound
-bound_kept m bound run new = new.progress.taken.staged.kept.bounded
+bound_kept m bound run new = new.progress.taken.at.so_far.staged.kept.bounded
 
 pub new_itself : (m : Limits) (bound : ℕ) (run : LineRun) → IsNewLineRun m bound run → IsNewLineRun run.reader.script.limits run.lines.stage.bound run
 new_itself m bound run new =

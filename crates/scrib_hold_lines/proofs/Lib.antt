@@ -7,5 +7,6 @@ mod Placements
 mod LineGivings
 mod Passings
 mod StageLemmas
+mod ClosingLemmas
 mod RunLemmas
 mod InputLemmas

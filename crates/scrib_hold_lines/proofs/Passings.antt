@@ -3,17 +3,18 @@ use Rattle.std.proofs.Common.{◌≡◌, ◌∙◌, ℕ, List, [], ◌∷◌, �
 use Rattle.std.specs.Prelude.{OnOk, OnErr, is_ok, if◌then◌else◌}
 use Rattle.std.proofs.lemmas.List.{append_assoc, append-nil, map-append, reverse-append, reverse-reverse}
 use Rattle.scrib_core.specs.declared.format.Format.{Format}
-use Rattle.scrib_core.specs.declared.step.Step.TheVariants.{Note}
+use Rattle.scrib_core.specs.declared.step.Step.TheVariants.{Note, Close}
 use Rattle.scrib_script_reader.specs.declared.line.Line.TheVariants as line
 use Rattle.scrib_script_reader.specs.declared.item.Item.{Item}
 use Rattle.scrib_script_reader.specs.declared.entry.Entry.{Entry}
 use Rattle.scrib_hold_stage.specs.declared.noted.Noted.{Noted}
-use Rattle.scrib_hold.specs.HeldScripts.{Asked, item_of, passing}
+use Rattle.scrib_hold.specs.HeldScripts.{Asked, Pending, item_of, closing_item, passing}
+use Rattle.scrib_hold.specs.LetOutSoFar.{closing_items}
 use Rattle.scrib_hold_lines.specs.declared.staging.Passing.{Passing}
 use Rattle.scrib_hold_lines.specs.declared.staging.Passing.TheVariants as passed
 use Rattle.scrib_hold_lines.specs.Lines.{WritesItems, WritesItemsPart, IsLineOf, IsTail, put_line, GivesLine, AddsBytes}
 use Rattle.scrib_hold_lines.specs.Progress.{IsPassing, IsTextOfEvent, IsPartOf, AreWritten, AreWrittenInPart}
-use Rattle.scrib_hold_lines.proofs.SpelledLines.{writes_none, writes_more, writes_step, part_whole, part_cut}
+use Rattle.scrib_hold_lines.proofs.SpelledLines.{writes_none, writes_more, writes_step, part_whole, part_more, part_cut}
 use Rattle.scrib_hold_lines.proofs.PutTexts.{writes_put}
 
 -- ---- bytes that are added, or not
@@ -110,3 +111,56 @@ pub released_all : (all left : List (Noted Asked)) (was now : List ℕ) → Rele
 released_all all left was now s none =
     let is : all ≡ s.done = s.all_are ∙ ap (λ (t : List (Noted Asked)). s.done ++ reverse t) none ∙ append-nil s.done in
     subst (λ (t : List (Noted Asked)). AreWritten (map item_of t) was now) (sym is) s.written
+
+-- ---- closings, one after another
+
+pub written_closing : (c : Pending) (text was now : List ℕ) → IsLineOf text (line.Step c.line (Close c.conversation)) → now ≡ was ++ text → AreWritten (closing_item c ∷ []) was now
+written_closing c text was now h is = (text, is, writes_step text c.line (Close c.conversation) h)
+
+-- what was released, and then the closing
+pub written_closed : (c : Pending) (released : List (Noted Asked)) (was mid now : List ℕ) → AreWritten (map item_of released) was mid → AreWritten (closing_item c ∷ []) mid now → AreWritten (closing_items c released) was now
+written_closed c released was mid now v w = (
+  v.0 ++ w.0,
+  w.1 ∙ ap (λ (t : List ℕ). t ++ w.0) v.1 ∙ append_assoc was v.0 w.0,
+  writes_more v.0 w.0 (map item_of released) (closing_item c ∷ []) v.2 w.2,
+)
+
+pub closed_unreleased : (c : Pending) (released : List (Noted Asked)) (was now : List ℕ) → AreWrittenInPart (map item_of released) was now → AreWrittenInPart (closing_items c released) was now
+closed_unreleased c released was now p = (p.0, p.1, part_more p.0 (map item_of released) (closing_item c ∷ []) p.2)
+
+pub closed_unwritten : (c : Pending) (released : List (Noted Asked)) (was mid now : List ℕ) → AreWritten (map item_of released) was mid → now ≡ mid → AreWrittenInPart (closing_items c released) was now
+closed_unwritten c released was mid now v same = (v.0, same ∙ v.1, part_whole v.0 (map item_of released) (closing_item c ∷ []) v.2)
+
+-- the first closings were written, and these are left
+pub record ClosedSoFar (all left : List Pending) (was now : List ℕ) : Type 0 where
+  pub done : List Pending
+  pub all_are : all ≡ done ++ left
+  pub written : AreWritten (map closing_item done) was now
+
+pub closed_none : (all : List Pending) (was : List ℕ) → ClosedSoFar all all was was
+closed_none all was = record { done = []; all_are = refl; written = ([], sym (append-nil was), writes_none) }
+
+pub closed_one : (all left after : List Pending) (c : Pending) (was mid now : List ℕ) → ClosedSoFar all left was mid → left ≡ c ∷ after → AreWritten (closing_item c ∷ []) mid now → ClosedSoFar all after was now
+closed_one all left after c was mid now s is w = record {
+  done = s.done ++ c ∷ [];
+  all_are = s.all_are ∙ ap (λ (l : List Pending). s.done ++ l) is ∙ sym (append_assoc s.done (c ∷ []) after);
+  written = (
+    s.written.0 ++ w.0,
+    w.1 ∙ ap (λ (t : List ℕ). t ++ w.0) s.written.1 ∙ append_assoc was s.written.0 w.0,
+    subst (λ (items : List Item). WritesItems (s.written.0 ++ w.0) items) (sym (map-append closing_item s.done (c ∷ [])))
+        (writes_more s.written.0 w.0 (map closing_item s.done) (closing_item c ∷ []) s.written.2 w.2),
+  );
+}
+
+pub closed_part : (all left : List Pending) (was mid now : List ℕ) → ClosedSoFar all left was mid → now ≡ mid → AreWrittenInPart (map closing_item all) was now
+closed_part all left was mid now s same = (
+  s.written.0,
+  same ∙ s.written.1,
+  subst (λ (items : List Item). WritesItemsPart s.written.0 items) (sym (ap (map closing_item) s.all_are ∙ map-append closing_item s.done left))
+      (part_whole s.written.0 (map closing_item s.done) (map closing_item left) s.written.2),
+)
+
+pub closed_all : (all left : List Pending) (was now : List ℕ) → ClosedSoFar all left was now → left ≡ [] → AreWritten (map closing_item all) was now
+closed_all all left was now s none =
+    let is : all ≡ s.done = s.all_are ∙ ap (λ (l : List Pending). s.done ++ l) none ∙ append-nil s.done in
+    subst (λ (l : List Pending). AreWritten (map closing_item l) was now) (sym is) s.written

@@ -43,7 +43,7 @@ pub record IsBeginningOfScript (bound : ℕ) (entries : List Entry) (part : List
   pub undone : List Item
   pub unwritten : List ℕ
   pub entries_are : entries ≡ first ++ later
-  pub let_out : AreLetOut bound first (items ++ undone)
+  pub let_out : AreLetOut bound first later (items ++ undone)
   pub spells : SpellsButForNumbers (part ++ unwritten) items
 
 -- a script of the items that a script lets out with its events held back, and the counts of its events

@@ -1,8 +1,9 @@
 -- The progress of a run that writes lines: what its functions promise one another (this project's own). Only contracts
 -- of private functions cite this file.
-use Rattle.std.specs.Prelude.{◌≡◌, ℕ, List, [], ◌∷◌, ◌++◌, map, Option, None, IfSome}
+use Rattle.std.specs.Prelude.{◌≡◌, ◌⊎◌, ℕ, false, List, [], ◌∷◌, ◌++◌, Option, None, IfSome}
+use Rattle.std.specs.List.{AllByRecursion}
 use Rattle.std.specs.Io.KnownBytes.{Appends}
-use Rattle.scrib_core.specs.declared.step.Step.TheVariants.{Note}
+use Rattle.scrib_core.specs.declared.step.Step.TheVariants.{Note, Close}
 use Rattle.scrib_core.specs.declared.step.Step.TheVariants as step
 use Rattle.scrib_script_reader.specs.declared.line.Line.TheVariants as line
 use Rattle.scrib_script_reader.specs.declared.item.Item.{Item}
@@ -16,11 +17,11 @@ use Rattle.scrib_script_reader.specs.Positions.{HasRead}
 use Rattle.scrib_hold_stage.specs.declared.noted.Noted.{Noted}
 use Rattle.scrib_hold_stage.specs.declared.stage.Counts.{Counts}
 use Rattle.scrib_hold_stage.specs.Entries as stage
-use Rattle.scrib_hold_stage.specs.Entries.{noted_of, note, Opens, Passes}
-use Rattle.scrib_hold_stage.specs.Conversations.{noted_event}
+use Rattle.scrib_hold_stage.specs.Entries.{note, Opens, Passes}
+use Rattle.scrib_hold_stage.specs.PendingClosings.{IsMade, IsNotReady, closings_in}
 use Rattle.scrib_hold_stage.specs.Stages as stages
-use Rattle.scrib_hold_stage.specs.Stages.{HasStaged}
-use Rattle.scrib_hold.specs.HeldScripts.{Asked, event_in, staged_from, passing, ends_inside, noted_events_of, LetsOut}
+use Rattle.scrib_hold.specs.HeldScripts.{Asked, Pending, event_in, opens_conversation, passing, ends_inside}
+use Rattle.scrib_hold.specs.LetOutSoFar.{LetsOutSoFar, closing_items}
 use Rattle.scrib_hold_lines.specs.declared.staging.Passing.{Passing}
 use Rattle.scrib_hold_lines.specs.declared.staging.Passing.TheVariants as passed
 use Rattle.scrib_hold_lines.specs.declared.staging.Staged.{Staged}
@@ -43,13 +44,21 @@ abbrev pub IsStagedAs : Entry → Staged → Type 0
 IsStagedAs e (kind.Event id event f) =
     (passing e ≡ []) × ((text : List ℕ) → GivesLine text e → IsLineOf text (line.Step f (Note id event)))
 IsStagedAs e (kind.Opening id) = IsPassing e passed.Line
+IsStagedAs e (kind.Closing id f) =
+    (passing e ≡ []) × ((text : List ℕ) → GivesLine text e → IsLineOf text (line.Step f (Close id)))
 IsStagedAs e (kind.Other found) = IsPassing e found
 
 -- as entry n of a stage
 abbrev pub as_line_entry : ℕ → Staged → stage.Entry Asked
 as_line_entry n (kind.Event id e f) = note id n (e, f)
 as_line_entry n (kind.Opening id) = Opens id
+as_line_entry n (kind.Closing id f) = Passes
 as_line_entry n (kind.Other found) = Passes
+
+-- the closing of entry n, if there is one
+abbrev pub closing_of : ℕ → Staged → List Pending
+closing_of n (kind.Closing id f) = record { conversation = id; time = n; line = f } ∷ []
+closing_of n _ = []
 
 -- the text that is written for what passes at once, where this is the line of its entry
 abbrev pub IsTextOfEvent : Passing → (line text : List ℕ) → Type 0
@@ -69,16 +78,87 @@ AreWritten items was now = AddsBytes (λ out. WritesItems out items) was now
 abbrev pub AreWrittenInPart : List Item → (was now : List ℕ) → Type 0
 AreWrittenInPart items was now = AddsBytes (λ out. WritesItemsPart out items) was now
 
--- a stage with this bound took these entries, and gave this output
-pub record HasTakenLines (bound : ℕ) (m : HeldLines) (entries : List Entry) (out : List ℕ) : Type 0 where
-  pub released : List (Noted Asked)
-  pub expired : List (Noted Asked)
+-- A stage with this bound took these entries, and gave this output. These follow next, if they are known.
+pub record AreLinesAt (bound : ℕ) (m : HeldLines) (entries next : List Entry) (out : List ℕ) : Type 0 where
   pub items : List Item
-  pub staged : HasStaged event_in bound (staged_from 1 entries) released expired (stages.stage_state m.stage)
-  pub lets : LetsOut bound entries released expired items
-  pub noted : (id : ℕ) → noted_events_of id items ≡ map (noted_event event_in) (noted_of id released)
+  pub so_far : LetsOutSoFar bound (stages.stage_state m.stage) (closings_in m.pending) entries next items
   pub inside : m.ended_inside ≡ ends_inside entries
   pub written : WritesItems out items
+
+-- the same, where each closing waits further
+pub record HasTakenLines (bound : ℕ) (m : HeldLines) (entries : List Entry) (out : List ℕ) : Type 0 where
+  pub at : AreLinesAt bound m entries [] out
+  pub wait : AllByRecursion (λ c. IsNotReady c (stages.stage_state m.stage)) (closings_in m.pending)
+
+-- the same, where this entry follows next, and no closing is of a conversation that it opens
+pub record AreLinesBefore (bound : ℕ) (m : HeldLines) (entries : List Entry) (e : Entry) (out : List ℕ) : Type 0 where
+  pub at : AreLinesAt bound m entries (e ∷ []) out
+  pub wait : AllByRecursion (λ c. IsNotReady c (stages.stage_state m.stage)) (closings_in m.pending)
+  pub apart : AllByRecursion (λ c. opens_conversation c.conversation e ≡ false) (closings_in m.pending)
+
+-- the closings of the conversation that the entry opens were gathered
+pub record LinesCloseBefore (old new : HeldLines) (e : Entry) : Type 0 where
+  pub out : List ℕ
+  pub grows : new.output.items ≡ old.output.items ++ out
+  pub after : (bound : ℕ) (entries : List Entry) (before : List ℕ) → HasTakenLines bound old entries before
+      → AreLinesBefore bound new entries e (before ++ out)
+
+-- the entry was read, and what this lets out was gathered
+pub record ReadsLineEntry (old new : HeldLines) (e : Entry) : Type 0 where
+  pub out : List ℕ
+  pub grows : new.output.items ≡ old.output.items ++ out
+  pub after : (bound : ℕ) (entries : List Entry) (before : List ℕ) → AreLinesBefore bound old entries e before
+      → AreLinesAt bound new (entries ++ e ∷ []) [] (before ++ out)
+
+-- the entry failed, and a beginning was gathered
+pub record LineReadFails (old new : HeldLines) (e : Entry) : Type 0 where
+  pub out : List ℕ
+  pub grows : new.output.items ≡ old.output.items ++ out
+  pub after : (bound : ℕ) (entries : List Entry) (before : List ℕ) → AreLinesBefore bound old entries e before
+      → IsBeginningOfScript bound (entries ++ e ∷ []) (before ++ out)
+
+-- the closings that wait no further were gathered
+pub record LinesCloseReady (old new : HeldLines) : Type 0 where
+  pub out : List ℕ
+  pub grows : new.output.items ≡ old.output.items ++ out
+  pub after : (bound : ℕ) (entries : List Entry) (before : List ℕ) → AreLinesAt bound old entries [] before
+      → HasTakenLines bound new entries (before ++ out)
+
+-- one of them failed, and a beginning was gathered
+pub record LinesReadyFail (old new : HeldLines) : Type 0 where
+  pub out : List ℕ
+  pub grows : new.output.items ≡ old.output.items ++ out
+  pub after : (bound : ℕ) (entries : List Entry) (before : List ℕ) → AreLinesAt bound old entries [] before
+      → IsBeginningOfScript bound entries (before ++ out)
+
+-- the first closing that has the one property was made, and was gathered behind what was released then
+pub record LinesCloseOne (Is IsNot : Pending → Type 0) (old new : HeldLines) : Type 0 where
+  pub c : Pending
+  pub released : List (Noted Asked)
+  pub made : IsMade event_in Is IsNot c (closings_in old.pending) (closings_in new.pending)
+      (stages.stage_state old.stage) (stages.stage_state new.stage) [] released
+  pub inside : new.ended_inside ≡ old.ended_inside
+  pub written : AreWritten (closing_items c released) old.output.items new.output.items
+
+-- it was made, but gathered in part
+pub record LinesCloseInPart (Is IsNot : Pending → Type 0) (old new : HeldLines) : Type 0 where
+  pub c : Pending
+  pub left : List Pending
+  pub after : stages.StageState Asked
+  pub released : List (Noted Asked)
+  pub made : IsMade event_in Is IsNot c (closings_in old.pending) left (stages.stage_state old.stage) after [] released
+  pub written : AreWrittenInPart (closing_items c released) old.output.items new.output.items
+
+-- it was made in part, and nothing was gathered, or it was gathered in part
+abbrev pub LinesCloseFails : (Is IsNot : Pending → Type 0) → (old new : HeldLines) → Type 0
+LinesCloseFails Is IsNot old new = (new.output.items ≡ old.output.items) ⊎ LinesCloseInPart Is IsNot old new
+
+-- the lines are as they were, but for what the stage released last
+pub record AreSameLines (old new : HeldLines) : Type 0 where
+  pub stage : stages.stage_state new.stage ≡ stages.stage_state old.stage
+  pub pending : closings_in new.pending ≡ closings_in old.pending
+  pub inside : new.ended_inside ≡ old.ended_inside
+  pub output : new.output ≡ old.output
 
 -- the entry was taken, and what it lets out was gathered
 pub record TakesLineEntry (old new : HeldLines) (e : Entry) : Type 0 where

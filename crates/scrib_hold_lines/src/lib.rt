@@ -1,6 +1,7 @@
 //! Writes the script of what a script lets out with its events held back.
 #![tactic(auto)]
 
+mod close_line;
 mod event_line;
 mod held_lines;
 pub mod hold_script;

@@ -1,14 +1,18 @@
 //! Adds lines to an output, in order.
 
 ghost use Rattle.std.specs.Prelude.{◌≡◌, ◌++◌, ◌∷◌, [], OnOk, OnErr, codes, map};
-ghost use Rattle.scrib_hold.specs.HeldScripts.{item_of};
+ghost use Rattle.scrib_hold_stage.specs.PendingClosings.{closings_in};
+ghost use Rattle.scrib_hold.specs.HeldScripts.{closing_item, item_of};
+ghost use Rattle.scrib_hold.specs.LetOutSoFar.{closing_items};
 ghost use Rattle.scrib_hold_lines.specs.Lines.{WritesItems, IsTail, put_line, AddsBytes};
 ghost use Rattle.scrib_hold_lines.specs.Progress.{IsTextOfEvent, IsPartOf, AreWritten, AreWrittenInPart};
 ghost use Rattle.scrib_hold_lines.specs.declared.staging.Passing.TheVariants as passed;
 
+use crate::close_line::CloseLine;
 use crate::event_line::EventLine;
 use crate::staging::Passing;
 use scrib_core::format::Format;
+use scrib_hold_stage::closings::{Closing, PendingClosings};
 use scrib_hold_stage::noted::Noted;
 use std::alloc::AllocError;
 
@@ -96,6 +100,56 @@ pub(crate) fn append_released(
     released.reverse();
     while let Some(noted) = released.pop() {
         append_event(output, &noted)?;
+    }
+    Ok(())
+}
+
+// Adds the line of a closing. After an error the output is unchanged.
+fn append_closing(output: &mut Vec<u8>, closing: &Closing<CloseLine>) -> Result<(), AllocError>
+    ensures ok { OnOk result (AreWritten (closing_item closing.now ∷ []) output.old.items output.new.items) }
+    ensures err { OnErr result (output.new.items ≡ output.old.items) }
+{
+    let Some(text) = closing.line.text_in(closing.conversation) else {
+        // A list of closings keeps the conversation of each.
+        return Err(AllocError);
+    };
+    output.extend_from_slice(text)
+}
+
+/// Adds the lines of the events that were released, in order, and then that of a closing. After an error those of some
+/// first ones are added.
+///
+/// # Errors
+/// `AllocError` where memory is refused.
+pub(crate) fn append_closed(
+    output: &mut Vec<u8>,
+    released: &mut Vec<Noted<EventLine>>,
+    closing: &Closing<CloseLine>,
+) -> Result<(), AllocError>
+    ensures ok { OnOk result (AreWritten (closing_items closing.now released.old.items)
+        output.old.items output.new.items) }
+    ensures err { OnErr result (AreWrittenInPart (closing_items closing.now released.old.items)
+        output.old.items output.new.items) }
+{
+    append_released(output, released)?;
+    append_closing(output, closing)
+}
+
+/// Adds the lines of the closings that wait, in order. After an error those of some first ones are added.
+///
+/// # Errors
+/// `AllocError` where memory is refused.
+pub(crate) fn append_closings(
+    output: &mut Vec<u8>,
+    pending: &mut PendingClosings<CloseLine>,
+) -> Result<(), AllocError>
+    ensures ok { OnOk result (AreWritten (map closing_item (closings_in pending.old))
+        output.old.items output.new.items) }
+    ensures err { OnErr result (AreWrittenInPart (map closing_item (closings_in pending.old))
+        output.old.items output.new.items) }
+{
+    while let Some(closing) = pending.pop() {
+        append_closing(output, &closing)?;
     }
     Ok(())
 }

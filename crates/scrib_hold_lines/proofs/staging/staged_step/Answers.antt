@@ -11,9 +11,6 @@ returns-in-Ask-clause-passing c = rw c.in-Ask.is (λ text h. writes_step text c.
 pub returns-in-Turn-clause-passing : goal.returns-in-Turn-clause-passing
 returns-in-Turn-clause-passing c = rw c.in-Turn.is (λ text h. writes_step text c.args.format (step.Turn c.in-Turn._id) h)
 
-pub returns-in-Close-clause-passing : goal.returns-in-Close-clause-passing
-returns-in-Close-clause-passing c = rw c.in-Close.is (λ text h. writes_step text c.args.format (step.Close c.in-Close._id) h)
-
 pub returns-in-Withdraw-clause-passing : goal.returns-in-Withdraw-clause-passing
 returns-in-Withdraw-clause-passing c = rw c.in-Withdraw.is (λ text h. writes_step text c.args.format (step.Withdraw c.in-Withdraw._name) h)
 

@@ -1,35 +1,20 @@
-use Rattle.std.proofs.Common.{◌+◌, List, refl, subst}
-use Rattle.std.proofs.lemmas.Result.{err_from_is_err_and}
-use Rattle.scrib_hold_stage.specs.declared.noted.Noted.{Noted}
-use Rattle.scrib_hold_stage.specs.Stages as stages
-use Rattle.scrib_hold_stage.specs.Stages.{IsRead}
-use Rattle.scrib_hold.specs.HeldScripts.{Asked, event_in, staged}
-use Rattle.scrib_hold_lines.proofs.StageLemmas.{took_entry, failed_unread, failed_passing, failed_released}
+use Rattle.std.proofs.lemmas.Result.{err_from_is_err_and, on_ok_weaker, on_err_weaker}
+use Rattle.scrib_hold_lines.proofs.ClosingLemmas.{took, took_not, took_in_part}
 use Rattle.scrib_hold_lines.proofs.held_lines.HeldLines.take.Goals as goal
 
-pub returns-in_err-passing-clause-err : goal.returns-in_err-passing-clause-err
-returns-in_err-passing-clause-err c =
-    let p = err_from_is_err_and c.from_residual.result c.from_residual.ensures.1 in
-    rw p.1 (failed_unread c.args.self.now _ c.args.entry refl)
-
-pub returns-in_err-append_passing-clause-err : goal.returns-in_err-append_passing-clause-err
-returns-in_err-append_passing-clause-err c =
-    let p = err_from_is_err_and c.from_residual-in_err-append_passing.result c.from_residual-in_err-append_passing.ensures.1 in
-    let read = subst (λ (l : List (Noted Asked)). IsRead event_in (staged (c.args.self.now.stage.time + 1) c.args.entry) (stages.stage_state c.args.self.now.stage) (stages.stage_state c.read_entry.new.stage) l c.read_entry.new.released.items)
-    c.clear.ensures.items c.in_ok-passing.ensures.read in
-    rw p.1 (failed_passing c.args.self.now _ c.args.entry (stages.stage_state c.read_entry.new.stage) c.read_entry.new.released.items c.in_ok-passing.passing c.args.line.now read c.in_ok-passing.ensures.passed c.requires c.in_err-append_passing.ensures.err)
-
-pub returns-in_err-append_released-clause-err : goal.returns-in_err-append_released-clause-err
-returns-in_err-append_released-clause-err c =
-    let p = err_from_is_err_and c.from_residual-in_err-append_released.result c.from_residual-in_err-append_released.ensures.1 in
-    let read = subst (λ (l : List (Noted Asked)). IsRead event_in (staged (c.args.self.now.stage.time + 1) c.args.entry) (stages.stage_state c.args.self.now.stage) (stages.stage_state c.read_entry.new.stage) l c.read_entry.new.released.items)
-    c.clear.ensures.items c.in_ok-passing.ensures.read in
-    rw p.1 (failed_released c.args.self.now _ c.args.entry (stages.stage_state c.read_entry.new.stage) c.read_entry.new.released.items c.in_ok-passing.passing c.args.line.now c.append_passing.new.output.items read c.in_ok-passing.ensures.passed c.requires
-    c.in_ok-append_passing.ensures.ok c.in_err-append_released.ensures.err)
+pub returns-in_err-read-clause-err : goal.returns-in_err-read-clause-err
+returns-in_err-read-clause-err c =
+    let p = err_from_is_err_and c.from_residual-in_err-read.result c.from_residual-in_err-read.ensures.1 in
+    rw p.1 (took_not c.args.self.now c.close_before.new.self c.read.new.self c.args.entry c.in_ok-close_before.ensures.ok c.in_err-read.ensures.err)
 
 pub returns-clause-ok : goal.returns-clause-ok
 returns-clause-ok c =
-    let read = subst (λ (l : List (Noted Asked)). IsRead event_in (staged (c.args.self.now.stage.time + 1) c.args.entry) (stages.stage_state c.args.self.now.stage) (stages.stage_state c.read_entry.new.stage) l c.read_entry.new.released.items)
-    c.clear.ensures.items c.in_ok-passing.ensures.read in
-    took_entry c.args.self.now c.args.entry (stages.stage_state c.read_entry.new.stage) c.read_entry.new.released.items read _ c.in_ok-passing.passing c.args.line.now c.append_passing.new.output.items c.in_ok-passing.ensures.passed c.requires refl
-    c.stays_inside-inside.ensures c.in_ok-append_passing.ensures.ok c.in_ok-append_released.ensures.ok
+    on_ok_weaker c.close_ready.result
+    (λ q. took c.args.self.now c.close_before.new.self c.read.new.self c.close_ready.new.self c.args.entry c.in_ok-close_before.ensures.ok c.in_ok-read.ensures.ok q)
+    c.close_ready.ensures.ok
+
+pub returns-clause-err : goal.returns-clause-err
+returns-clause-err c =
+    on_err_weaker c.close_ready.result
+    (λ q. took_in_part c.args.self.now c.close_before.new.self c.read.new.self c.close_ready.new.self c.args.entry c.in_ok-close_before.ensures.ok c.in_ok-read.ensures.ok q)
+    c.close_ready.ensures.err
