@@ -1,5 +1,8 @@
 //! What examples are made of.
 
+ghost use Rattle.std.specs.Prelude.{◌≡◌};
+ghost use Rattle.scrib_client.specs.Steps.{is_close};
+
 use crate::fault::RowsFault;
 use scrib_cli::run_script::run_script;
 use scrib_core::format::Format;
@@ -79,6 +82,13 @@ pub(crate) fn steps_of(alloc: Global, script: &str) -> Result<Vec<Step>, RowsFau
         Err(_) => return Err(RowsFault::Wrong),
     }
     Ok(steps)
+}
+
+/// Whether the step closes a conversation, which no connection does.
+pub(crate) fn is_close(step: &Step) -> bool
+    ensures { result ≡ is_close step.now }
+{
+    matches!(step, Step::Close { .. })
 }
 
 /// What one monitor prints for the script, in this format.

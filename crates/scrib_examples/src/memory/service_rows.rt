@@ -1,7 +1,7 @@
 //! Rows of calls of a service.
 
 use crate::fault::{RowsFault, check};
-use crate::making::{event_of, step_of};
+use crate::making::{event_of, is_close, step_of};
 use crate::memory::rows::{PUT_CHOICE, PUT_LOOP};
 use crate::memory::script_rows::PAGE_BYTES;
 use crate::service::push_settling_twice;
@@ -36,6 +36,9 @@ const SETTLED: &str =
 fn make(rt: &impl Wait, alloc: Global, service: &Service, text: &str) -> Result<(), RowsFault> {
     for _ in 0..2 {
         let (_, step) = step_of(alloc, text)?;
+        if is_close(&step) {
+            return Err(RowsFault::BadRow);
+        }
         match make_step(rt, service, &mut Passes::new(alloc), step) {
             ServiceReply::Reply(
                 Reply::Refused(Refusal::OutOfMemory | Refusal::Edit(EditFault::OutOfMemory)),

@@ -1,7 +1,7 @@
 //! Examples of a service, as lists of acts.
 
 use crate::fault::RowsFault;
-use crate::making::{event_of, name_of, steps_of};
+use crate::making::{event_of, is_close, name_of, steps_of};
 use crate::service::crew::{Plan, Record, run_crew};
 use crate::service::settling::{push_settling, push_settling_twice};
 use crate::service::sweeping::{NOTHING_SWEPT, Sweep, push_touched, sweep_by};
@@ -102,6 +102,9 @@ fn push_replies(
 ) -> Result<(), RowsFault> {
     let mut by_core = by_core.into_iter();
     for step in steps {
+        if is_close(&step) {
+            return Err(RowsFault::BadRow);
+        }
         let reply = make_step(rt, &stage.service, &mut stage.passes, step);
         push_reply(stage.alloc, &reply, by_core.next(), &mut stage.record.out)?;
     }
