@@ -1,5 +1,5 @@
 -- Closings that a monitor behind a stage carries out.
-use Rattle.std.proofs.Common.{◌≡◌, ℕ, Bool, true, false, List, [], ◌∷◌, ◌++◌, ◌∙◌, Option, Some, None, IfSome, is_some, IsTrue, Result, Ok, Err, length, nat_eq, eq-eqb, inl, inr, refl, sym, ap, subst, arith}
+use Rattle.std.proofs.Common.{◌≡◌, ℕ, Bool, true, false, List, [], ◌∷◌, ◌++◌, ◌∙◌, Option, Some, None, IfSome, is_some, IsTrue, Result, Ok, Err, inl, inr, refl, sym, ap, subst}
 use Rattle.std.specs.Prelude.{IfOk, OnOk, OnErr}
 use Rattle.std.specs.List.{AllByRecursion}
 use Rattle.std.proofs.lemmas.Bool.{true≢false}
@@ -10,21 +10,15 @@ use Rattle.scrib_core.specs.Held.{state_of}
 use Rattle.scrib_core.specs.declared.format.Format.{Format}
 use Rattle.scrib_script_reader.specs.declared.item.Item.{Item}
 use Rattle.scrib_script_reader.specs.declared.entry.Entry.{Entry}
-use Rattle.scrib_holdback.specs.Holdings.{IsOldestWaiting}
 use Rattle.scrib_hold_stage.specs.declared.noted.Noted.{Noted}
-use Rattle.scrib_hold_stage.specs.declared.conversation.Conversation.{Conversation}
-use Rattle.scrib_hold_stage.specs.Entries.{Closings, closed_at}
-use Rattle.scrib_hold_stage.specs.Conversations.{waiting_at}
-use Rattle.scrib_hold_stage.specs.Changes.{LeavesOthers}
 use Rattle.scrib_hold_stage.specs.PendingClosings.{IsMade, IsOf, IsApart, IsReady, IsNotReady, closings_in}
 use Rattle.scrib_hold_stage.specs.Stages as stages
 use Rattle.scrib_hold_stage.specs.Stages.{HasStaged, Waits}
-use Rattle.scrib_hold_stage.proofs.HistoryLemmas.{all_released}
 use Rattle.scrib_script_io.specs.declared.fault.ScriptFault.{ScriptFault}
 use Rattle.scrib_cli.specs.declared.gathered.Gathered.{Gathered}
 use Rattle.scrib_cli.specs.Scripts.{written}
 use Rattle.scrib_hold.specs.declared.held_monitor.HeldMonitor.{HeldMonitor}
-use Rattle.scrib_hold.specs.HeldScripts.{Asked, Pending, event_in, staged_from, opens_conversation, IsDue, IsNext, LetsOut, closes, IsBeginningOf}
+use Rattle.scrib_hold.specs.HeldScripts.{Asked, Pending, event_in, opens_conversation, IsNext, IsBeginningOf}
 use Rattle.scrib_hold.specs.LetOutSoFar.{LetsOutSoFar, closing_items}
 use Rattle.scrib_hold.specs.Progress.{AreCarriedOut, AreCarriedInPart, IsAt, HasTaken, ClosesBefore, ReadsEntry, ReadFails, ClosesReady, CloseReadyFails, TakesEntry, FailsAtEntry, ClosesOne, CloseFails, IsSameButReleased}
 use Rattle.scrib_hold.proofs.CarriedLemmas.{carried_more}

@@ -1,5 +1,5 @@
 -- Lines that the stage lets out at once.
-use Rattle.std.proofs.Common.{◌≡◌, ◌+◌, ℕ, Bool, List, [], ◌∷◌, ◌++◌, ◌∙◌, Option, Some, None, true, false, cond, map, refl, sym, ap, subst}
+use Rattle.std.proofs.Common.{◌≡◌, ◌+◌, ℕ, Bool, List, [], ◌∷◌, ◌++◌, ◌∙◌, Option, Some, None, true, false, cond, refl, sym, ap, subst}
 use Rattle.std.specs.List.{AllByRecursion}
 use Rattle.std.proofs.lemmas.List.{append-nil}
 use Rattle.std.proofs.lemmas.Option.{same_Some}
@@ -14,7 +14,6 @@ use Rattle.scrib_script_reader.specs.declared.short_line.ShortLine.{ShortLine}
 use Rattle.scrib_script_reader.specs.declared.short_line.ShortLine.TheVariants as short
 use Rattle.scrib_script_reader.specs.Scripts.{item_list}
 use Rattle.scrib_script_reader.specs.ShortLines.{short_entry, short_items}
-use Rattle.scrib_hold_stage.specs.declared.noted.Noted.{Noted}
 use Rattle.scrib_hold_stage.specs.declared.stage.HoldStage.{HoldStage}
 use Rattle.scrib_hold_stage.specs.PendingClosings.{IsNotReady, closings_in}
 use Rattle.scrib_hold_stage.specs.Stages as stages
@@ -22,7 +21,7 @@ use Rattle.scrib_hold_stage.specs.Stages.{HasStaged}
 use Rattle.scrib_cli.specs.declared.output_mode.OutputMode.TheVariants.{Printed}
 use Rattle.scrib_cli.specs.Progress.{IsShortCarriedOut, WasCarriedOut}
 use Rattle.scrib_hold.specs.declared.held_monitor.HeldMonitor.{HeldMonitor}
-use Rattle.scrib_hold.specs.HeldScripts.{Asked, Pending, event_in, staged_from, is_end_inside, item_of, closing_at, passing}
+use Rattle.scrib_hold.specs.HeldScripts.{Asked, Pending, event_in, is_end_inside, closing_at}
 use Rattle.scrib_hold.specs.StagedEntries.{PassesLine}
 use Rattle.scrib_hold.specs.Progress.{AreCarriedOut, HasTaken, TakesEntry, FailsAtEntry}
 use Rattle.scrib_hold.proofs.CarriedLemmas.{carried_none, carried_item, part_none}

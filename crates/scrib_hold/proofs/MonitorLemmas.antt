@@ -1,5 +1,5 @@
 -- What a monitor behind a stage has taken, and where it fails.
-use Rattle.std.proofs.Common.{◌≡◌, ℕ, ◌+◌, Bool, true, cond, List, [], ◌∷◌, ◌++◌, ◌∙◌, Option, map, length, inl, inr, refl, sym, ap, subst, arith}
+use Rattle.std.proofs.Common.{◌≡◌, ℕ, ◌+◌, Bool, true, cond, List, [], ◌∷◌, ◌++◌, ◌∙◌, Option, map, length, inl, inr, refl, sym, ap, subst}
 use Rattle.std.specs.List.{AllByRecursion}
 use Rattle.std.proofs.lemmas.List.{append_assoc, append-nil}
 use Rattle.scrib_core.specs.Answers.{State, initial}
@@ -17,11 +17,11 @@ use Rattle.scrib_hold_stage.specs.Stages as stages
 use Rattle.scrib_hold_stage.specs.Stages.{HasStaged, IsRead, IsFinished}
 use Rattle.scrib_cli.specs.Scripts.{written}
 use Rattle.scrib_hold.specs.declared.held_monitor.HeldMonitor.{HeldMonitor}
-use Rattle.scrib_hold.specs.HeldScripts.{Asked, Pending, event_in, staged, staged_from, item_of, closing_item, closing_at, passing, is_end_inside, ends_inside, end_item, WaitsFurther, LetsOut, nothing, reads, AreHeldItems, IsOutputOf, AreLetOut, IsBeginningOf}
+use Rattle.scrib_hold.specs.HeldScripts.{Asked, Pending, event_in, staged, staged_from, item_of, closing_item, closing_at, passing, is_end_inside, ends_inside, end_item, nothing, AreHeldItems, IsOutputOf, AreLetOut, IsBeginningOf}
 use Rattle.scrib_hold.specs.LetOutSoFar.{LetsOutSoFar}
 use Rattle.scrib_hold.specs.Progress.{AreCarriedOut, AreCarriedInPart, IsAt, HasTaken, IsBefore, ReadsEntry, ReadFails, Ends, HeldEndFails}
 use Rattle.scrib_hold.proofs.CarriedLemmas.{carried_none, carried_more}
-use Rattle.scrib_hold.proofs.EntryLemmas.{staged_more, length_staged, inside_more, noted_more, all_noted}
+use Rattle.scrib_hold.proofs.EntryLemmas.{inside_more}
 use Rattle.scrib_hold.proofs.LetOutLemmas.{let_out_further, so_far_none, so_far_next, so_far_same, so_far_let_out, read_further, held_at_end}
 
 -- a new monitor

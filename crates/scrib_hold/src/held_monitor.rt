@@ -101,8 +101,8 @@ impl HeldMonitor {
     }
 
     /// Takes the next entry of a script. Carries out what passes at once, and what the stage then releases, and gathers
-    /// the replies. A closing of the conversation that the entry opens is carried out before. The closings that are due,
-    /// or for which no event waits, are carried out then.
+    /// the replies. A closing of the conversation that the entry opens is carried out before. Behind it those are that
+    /// are due, or for which no event waits.
     ///
     /// # Errors
     /// `OutOfMemory` where there is no memory for the stage or for a text. A beginning is then gathered.
@@ -258,8 +258,8 @@ impl HeldMonitor {
         Ok(true)
     }
 
-    /// Carries out what waits at the end of the script, and then the closings that wait. Gathers the replies, and then the
-    /// report of an end inside a module text. Returns the counts of the events.
+    /// Carries out what waits at the end of the script, and then the closings that wait. Gathers the replies, and then
+    /// the report of an end inside a module text. Returns the counts of the events.
     ///
     /// # Errors
     /// `OutOfMemory` where there is no memory for the stage or for a text. A beginning is then gathered.

@@ -4,7 +4,6 @@ use Rattle.std.specs.Prelude.{IfOk, OnOk, OnErr}
 use Rattle.std.specs.List.{AllByRecursion}
 use Rattle.std.proofs.lemmas.Bool.{true≢false}
 use Rattle.std.proofs.lemmas.List.{append_assoc, append-nil}
-use Rattle.scrib_script_reader.specs.declared.item.Item.{Item}
 use Rattle.scrib_script_reader.specs.declared.entry.Entry.{Entry}
 use Rattle.scrib_script_io.specs.declared.fault.ScriptFault.{ScriptFault}
 use Rattle.scrib_hold_stage.specs.declared.noted.Noted.{Noted}
@@ -149,6 +148,17 @@ closing_done old mid new p s none = record {
     same_output : new.output.items ≡ mid.output.items
     same_output = rw s.output refl
 
+-- no closing waits
+pub ready_none : (m : HeldLines) → closings_in m.pending ≡ [] → LinesCloseReady m m
+ready_none m none = record {
+  out = [];
+  grows = sym (append-nil m.output.items);
+  after = λ bound entries before a. record {
+    at = subst (AreLinesAt bound m entries []) (sym (append-nil before)) a;
+    wait = subst (AllByRecursion (NotReadyIn m)) (sym none) tt;
+  };
+}
+
 pub closing_failed : (old mid new : HeldLines) → IsClosing old mid → LinesCloseFails (ReadyIn mid) (NotReadyIn mid) mid new → LinesReadyFail old new
 closing_failed old mid new p (inl same) = record {
   out = p.out;
@@ -227,6 +237,18 @@ opens_none m e none = record {
     at = subst (AreLinesAt bound m entries (e ∷ [])) (sym (append-nil before)) (at_next bound m entries (e ∷ []) before h.at);
     wait = h.wait;
     apart = all_weaker (NotReadyIn m) (λ (c : Pending). opens_conversation c.conversation e ≡ false) (λ c w. none c.conversation) (closings_in m.pending) h.wait;
+  };
+}
+
+-- no closing waits
+pub before_none : (m : HeldLines) (e : Entry) → closings_in m.pending ≡ [] → LinesCloseBefore m m e
+before_none m e none = record {
+  out = [];
+  grows = sym (append-nil m.output.items);
+  after = λ bound entries before h. record {
+    at = subst (AreLinesAt bound m entries (e ∷ [])) (sym (append-nil before)) (at_next bound m entries (e ∷ []) before h.at);
+    wait = h.wait;
+    apart = subst (AllByRecursion (λ (c : Pending). opens_conversation c.conversation e ≡ false)) (sym none) tt;
   };
 }
 

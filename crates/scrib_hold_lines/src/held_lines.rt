@@ -60,8 +60,8 @@ impl HeldLines {
     }
 
     /// Takes the next entry of a script, which this line gives. Gathers what passes at once, and what the stage then
-    /// releases. A closing of the conversation that the entry opens is gathered before. The closings that are due, or for
-    /// which no event waits, are gathered then.
+    /// releases. A closing of the conversation that the entry opens is gathered before. Behind it those are that are due,
+    /// or for which no event waits.
     ///
     /// # Errors
     /// `OutOfMemory` where there is no memory for the stage or for a line. A beginning is then gathered.
@@ -104,6 +104,18 @@ impl HeldLines {
         ensures err { OnErr result (LinesFailAt self.old self.new entry.now) }
         ensures fault { IfErr result (λ e. of_script e ≡ true) }
     {
+        if self.pending.is_empty() {
+            return Ok(());
+        }
+        self.close_opened(entry)
+    }
+
+    // The same where closings wait.
+    fn close_opened(&mut self, entry: &Entry) -> Result<(), ScriptFault>
+        ensures ok { OnOk result (LinesCloseBefore self.old self.new entry.now) }
+        ensures err { OnErr result (LinesFailAt self.old self.new entry.now) }
+        ensures fault { IfErr result (λ e. of_script e ≡ true) }
+    {
         let Some(id) = opened_by(entry) else {
             return Ok(());
         };
@@ -128,6 +140,18 @@ impl HeldLines {
 
     // Gathers the closings that are due, or for which no event waits.
     fn close_ready(&mut self) -> Result<(), ScriptFault>
+        ensures ok { OnOk result (LinesCloseReady self.old self.new) }
+        ensures err { OnErr result (LinesReadyFail self.old self.new) }
+        ensures fault { IfErr result (λ e. of_script e ≡ true) }
+    {
+        if self.pending.is_empty() {
+            return Ok(());
+        }
+        self.close_each_ready()
+    }
+
+    // The same where closings wait.
+    fn close_each_ready(&mut self) -> Result<(), ScriptFault>
         ensures ok { OnOk result (LinesCloseReady self.old self.new) }
         ensures err { OnErr result (LinesReadyFail self.old self.new) }
         ensures fault { IfErr result (λ e. of_script e ≡ true) }
@@ -172,8 +196,8 @@ impl HeldLines {
         Ok(true)
     }
 
-    /// Gathers what waits at the end of the script, then the closings that wait, and then `last`, where the script ended inside a module text.
-    /// Returns the counts of the events.
+    /// Gathers what waits at the end of the script, then the closings that wait, and then `last`, where the script ended
+    /// inside a module text. Returns the counts of the events.
     ///
     /// # Errors
     /// `OutOfMemory` where there is no memory for the stage or for a line. A beginning is then gathered.

@@ -1,6 +1,6 @@
 use Rattle.std.proofs.lemmas.Result.{err_from_is_err_and}
 use Rattle.scrib_hold_lines.proofs.ClosingLemmas.{closing_more, closing_done, closing_failed}
-use Rattle.scrib_hold_lines.proofs.held_lines.HeldLines.close_ready.Goals as goal
+use Rattle.scrib_hold_lines.proofs.held_lines.HeldLines.close_each_ready.Goals as goal
 
 pub loop-preserved : goal.loop-preserved
 loop-preserved c = closing_more c.args.self.now c.loop.self c.close_next_ready.new.self c.loop.invariant (c.in_ok-close_next_ready.ensures.closed c.if-branch.true)
