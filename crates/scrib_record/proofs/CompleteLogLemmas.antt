@@ -67,40 +67,33 @@ ended_test a ms log r i s m es b k here e = (
   λ h. e ∙ (Decides-eqb (length es) 0).1 (ap length (end_has_none a ms log r i s m es k here h)),
 )
 
--- a role without a place is not one of the roles
-pub nobody_declared : (roles : List (List ℕ)) (r : List ℕ) → place_in roles r ≡ None → has_role r roles ≡ true → ⊥
-nobody_declared roles r none d = true≢false (sym d ∙ not_declared roles r none)
-
 -- ---- all roles, one after another
 
 -- the roles up to the i-th are at their ends
-abbrev pub EndedSoFar : Agreement → List Event → List (List ℕ) → ℕ → Type 0
-EndedSoFar a log roles i = (k : ℕ) (r : List ℕ) → k < i → slice_get roles k ≡ Some r → HasEnded a log r
+abbrev pub EndedSoFar : Agreement → List Event → ℕ → Type 0
+EndedSoFar a log i = (k : ℕ) (r : List ℕ) → k < i → slice_get a.roles k ≡ Some r → HasEnded a log r
 
--- the role at a place is declared
-pub role_listed : (a : Agreement) (roles : List (List ℕ)) (i : ℕ) (r : List ℕ) → is_protocol a.roles a.global ≡ true → roles ≡ a.roles → i < length roles → r ≡ get_or roles i r → has_role r a.roles ≡ true
-role_listed a roles i r v same below is =
-    let here : slice_get roles i ≡ Some r = slice_get-get_or roles i r below ∙ ap (λ (x : List ℕ). Some x) (sym is) in
-    let there : slice_get a.roles i ≡ Some r = ap (λ (x : List (List ℕ)). slice_get x i) (sym same) ∙ here in
-    is_declared a.roles r i (place_at a.roles r i (valid a.roles a.global v).differ there)
+-- the role at an index has it as its place
+pub role_there : (a : Agreement) (i : ℕ) → is_protocol a.roles a.global ≡ true → i < length a.roles → (r : List ℕ) × (slice_get a.roles i ≡ Some r) × (place_in a.roles r ≡ Some i)
+role_there a i v below =
+    let r : List ℕ = get_or a.roles i [] in
+    let here : slice_get a.roles i ≡ Some r = slice_get-get_or a.roles i [] below in
+    (r, here, place_at a.roles r i (valid a.roles a.global v).differ here)
 
-pub ended_more : (a : Agreement) (log : List Event) (roles : List (List ℕ)) (i : ℕ) (r : List ℕ) → i < length roles → r ≡ get_or roles i r → EndedSoFar a log roles i → HasEnded a log r → EndedSoFar a log roles (i + 1)
-ended_more a log roles i r below is before ended k q within here = elim (cases_eq k i) [
+pub ended_more : (a : Agreement) (log : List Event) (i : ℕ) (r : List ℕ) → slice_get a.roles i ≡ Some r → EndedSoFar a log i → HasEnded a log r → EndedSoFar a log (i + 1)
+ended_more a log i r there before ended k q within here = elim (cases_eq k i) [
   | inl same ↦
-      let there : slice_get roles i ≡ Some r = slice_get-get_or roles i r below ∙ ap (λ (x : List ℕ). Some x) (sym is) in
-      let who : r ≡ q = same_Some r q (sym there ∙ ap (λ (n : ℕ). slice_get roles n) (sym same) ∙ here) in
+      let who : r ≡ q = same_Some r q (sym there ∙ ap (slice_get a.roles) (sym same) ∙ here) in
       subst (HasEnded a log) who ended
   | inr differ ↦ before k q (omega (arith, within, differ)) here
 ]
 
-pub all_ended : (a : Agreement) (log : List Event) (roles : List (List ℕ)) (i : ℕ) → roles ≡ a.roles → length roles ≤ i → EndedSoFar a log roles i → HaveEnded a log
-all_ended a log roles i same long h r d =
+pub all_ended : (a : Agreement) (log : List Event) (i : ℕ) → length a.roles ≤ i → EndedSoFar a log i → HaveEnded a log
+all_ended a log i long h r d =
     let at = place_for a.roles r d in
-    let here : slice_get roles at.0 ≡ Some r = ap (λ (x : List (List ℕ)). slice_get x at.0) same ∙ place_role a.roles r at.0 at.1 in
-    h at.0 r (within roles at.0 r i here long) here
-  where
-    within : (roles : List (List ℕ)) (k : ℕ) (r : List ℕ) (i : ℕ) → slice_get roles k ≡ Some r → length roles ≤ i → k < i
-    within roles k r i here long = let in_roles = slice_get_within roles k r here in omega (arith, in_roles, long)
+    let here : slice_get a.roles at.0 ≡ Some r = place_role a.roles r at.0 at.1 in
+    let within : at.0 < length a.roles = slice_get_within a.roles at.0 r here in
+    h at.0 r (omega (arith, within, long)) here
 
 -- ---- messages in flight
 

@@ -1,13 +1,14 @@
 //! The configuration that a conversation's log leads to.
 
-ghost use Rattle.std.specs.Prelude.{◌≡◌, ◌↔◌, [], List, true, IfOk, IsTrue, OnOk, OnErr};
+ghost use Rattle.std.specs.Prelude.{◌≡◌, ◌↔◌, [], ℕ, List, Some, true, IfOk, IsTrue, OnOk, OnErr};
 ghost use Rattle.scrib_types.specs.declared.event.Event.{Event};
 ghost use Rattle.scrib_types.specs.declared.event.Event.TheVariants.{Join, Sent, Received};
 ghost use Rattle.scrib_types.specs.Permitted.{IsPermitted};
-ghost use Rattle.scrib_types.specs.WellFormed.{has_role, is_protocol};
+ghost use Rattle.scrib_types.specs.WellFormed.{is_protocol};
 ghost use Rattle.scrib_types.specs.Complete.{HasEnded, IsComplete};
 ghost use Rattle.scrib_record.specs.CompleteRecords.{HaveEnded};
 ghost use Rattle.scrib_record.specs.Configurations as conf;
+ghost use Rattle.scrib_record.specs.Places.{place_in};
 ghost use Rattle.scrib_record.specs.Versions.{meaning_of};
 
 use crate::numbered_edge::{after_reception, after_send};
@@ -103,26 +104,24 @@ impl Configuration {
         ensures valid { IsTrue (is_protocol (meaning_of version.now).roles (meaning_of version.now).global) }
     {
         let roles = version.protocol().roles();
-        for role in roles {
-            if !self.has_ended(version, role) {
+        for place in 0..roles.len() {
+            if !self.has_ended(version, place) {
                 return false;
             }
         }
         true
     }
 
-    // Returns whether the machine of the declared role is in a state without edges.
-    fn has_ended(&self, version: &Version, role: &Role) -> bool
-        requires { conf.IsReached (meaning_of version.now) version.now.machines self.now }
+    // Returns whether the machine of the role with this place is in a state without edges.
+    fn has_ended(&self, version: &Version, place: usize) -> bool
+        requires reached { conf.IsReached (meaning_of version.now) version.now.machines self.now }
+        requires declared { (role : List ℕ) × place_in (meaning_of version.now).roles role ≡ Some place }
         ensures { (log : List Event) → conf.LeadsTo (meaning_of version.now) version.now.machines log self.now
-            → has_role role.now (meaning_of version.now).roles ≡ true
-            → IsTrue result ↔ HasEnded (meaning_of version.now) log role.now }
+            → (role : List ℕ) → place_in (meaning_of version.now).roles role ≡ Some place
+            → IsTrue result ↔ HasEnded (meaning_of version.now) log role }
     {
-        let Some(at) = version.place_of(role) else {
-            return true;
-        };
-        let role_state = &self.role_states[at];
-        let edges = version.machines()[at].edges(role_state.state);
+        let role_state = &self.role_states[place];
+        let edges = version.machines()[place].edges(role_state.state);
         edges.is_empty()
     }
 

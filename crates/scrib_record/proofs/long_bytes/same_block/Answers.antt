@@ -1,4 +1,4 @@
-use Rattle.std.proofs.Common.{◌≡◌, ◌∙◌, ℕ, List, ap, sym, take, drop, length}
+use Rattle.std.proofs.Common.{◌∙◌, ℕ, List, ap, sym, take}
 use Rattle.scrib_record.proofs.Blocks.{both_halves, second_half, from_index}
 use Rattle.scrib_record.proofs.long_bytes.same_block.Goals as goal
 

@@ -5,5 +5,5 @@ use Rattle.scrib_record.specs.Versions.{meaning_of}
 use Rattle.scrib_record.proofs.CompleteLogLemmas.{EndedSoFar}
 use Rattle.scrib_record.proofs.configuration.Configuration.have_ended.Given as goal
 
-abbrev pub invariant-loop-role : goal.invariant-loop-role
-invariant-loop-role l = (log : List Event) → LeadsTo (meaning_of l.version) l.version.machines log l.self → EndedSoFar (meaning_of l.version) log l.roles l.role-index
+abbrev pub invariant-loop-place : goal.invariant-loop-place
+invariant-loop-place l = (log : List Event) → LeadsTo (meaning_of l.version) l.version.machines log l.self → EndedSoFar (meaning_of l.version) log l.place
