@@ -1,5 +1,5 @@
 -- Whether a conversation is complete, read off its record.
-use Rattle.std.proofs.Common.{◌≡◌, ◌↔◌, ◌==◌, ◌⊎◌, ◌<◌, ◌≤◌, ◌/◌, inl, inr, ℕ, Bool, true, false, not, if◌then◌else◌, IsTrue, List, length, take, drop, Option, Some, None, option_map, refl, sym, ap, subst, ◌∙◌, arith}
+use Rattle.std.proofs.Common.{◌≡◌, ◌↔◌, ◌==◌, ◌≤◌, ◌/◌, inl, inr, ℕ, Bool, true, false, not, if◌then◌else◌, IsTrue, List, length, take, drop, Option, Some, None, option_map, refl, sym, ap, subst, ◌∙◌, arith}
 use Rattle.std.proofs.lemmas.Bool.{and_parts, true≢false, false≢true}
 use Rattle.std.proofs.lemmas.Bool.Decides.{Decides-eqb, nat_tests}
 use Rattle.std.proofs.lemmas.List.{take-append-drop}
@@ -19,9 +19,9 @@ use Rattle.scrib_record.proofs.Stamps.{present_means}
 use Rattle.scrib_library.specs.Holdings.{Holdings, HasNumber, AreNumbered}
 use Rattle.scrib_library.specs.Modules.{Means, MeansOnce}
 use Rattle.scrib_core.specs.World.{Conversation}
-use Rattle.scrib_core.specs.Marks.{Mark, Fresh, Stale, IsStale}
+use Rattle.scrib_core.specs.Marks.{Fresh, Stale, IsStale}
 use Rattle.scrib_core.specs.Answers.{IsCompleteIn}
-use Rattle.scrib_core.specs.Held.{Records, record_at, conversation_of, number_at, mark, mark_of, mark_at, state, IsKnown, AreKnown}
+use Rattle.scrib_core.specs.Held.{Records, conversation_of, number_at, mark, mark_of, mark_at, state, IsKnown, AreKnown}
 use Rattle.scrib_core.specs.ConversationSteps.{IsCompleteTest}
 use Rattle.scrib_core.proofs.ConversationLemmas.{seen, record_seen, complete_now}
 use Rattle.scrib_core.proofs.MarkLemmas.{fresh_mark, stale_mark, number_there, number_absent}

@@ -7,7 +7,6 @@ use Rattle.scrib_library.specs.Holdings.{Holdings}
 use Rattle.scrib_core.specs.declared.conversation_steps.Judged as outcome
 use Rattle.scrib_core.specs.declared.step.Step.TheVariants.{Ask}
 use Rattle.scrib_core.specs.declared.reply.Refusal.{Refusal}
-use Rattle.scrib_core.specs.declared.reply.Reply.{Reply}
 use Rattle.scrib_core.specs.Answers.{State, IsAnswered}
 use Rattle.scrib_core.specs.ConversationSteps.{IsAskedAt, VerdictFails}
 use Rattle.scrib_core.specs.Held.{Records}

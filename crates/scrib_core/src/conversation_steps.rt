@@ -5,7 +5,7 @@ ghost use Rattle.std.specs.Option.{option_copied};
 ghost use Rattle.scrib_core.specs.ConversationSteps.{IsOpened, OpenFails, IsNotedAt, NoteFails, IsTurnedAt, IsAskedAt, VerdictFails, IsClosedAt, CloseFails, IsCompleteTest, IsBegun, IsPresent, IsSoundComparison, IsSoundForRecord};
 ghost use Rattle.scrib_core.specs.Permitted.{IsOutcomeTest};
 
-use crate::places::{place_of, record_of};
+use crate::places::{RecordKey, place_at_hint, record_of};
 use crate::reply::Refusal;
 use crate::verdicts::{is_permitted_answer, verdict_of};
 use indexmap::IndexMap;
@@ -104,16 +104,16 @@ pub fn note(
     library: &Library,
     records: &mut IndexMap<u32, Record>,
     comparison: Comparison,
-    id: u32,
+    key: RecordKey,
     event: SharedEvent,
 ) -> Result<Noted, Refusal>
     requires { IsSoundComparison comparison library.now records.old.entries }
     ensures ok { IfOk result (λ n.
-        IsNotedAt library.now records.old.entries id event n.place n.told records.new.entries) }
-    ensures fault { IfErr result (NoteFails records.old.entries id) }
+        IsNotedAt library.now records.old.entries key.id event n.place n.told records.new.entries) }
+    ensures fault { IfErr result (NoteFails records.old.entries key.id) }
     ensures err { OnErr result (records.new.entries ≡ records.old.entries) }
 {
-    let Some(at) = place_of(records, id) else {
+    let Some(at) = place_at_hint(records, key.hint, key.id) else {
         return Err(Refusal::NoConversation);
     };
     let (_, record) = records.pair_mut(at);
@@ -153,15 +153,15 @@ pub fn turn(
     library: &Library,
     records: &mut IndexMap<u32, Record>,
     comparison: Comparison,
-    id: u32,
+    key: RecordKey,
 ) -> Result<Judged, Refusal>
     requires { IsSoundComparison comparison library.now records.old.entries }
     ensures ok { IfOk result (λ j.
-        IsTurnedAt library.now records.old.entries id j.name j.events j.told records.new.entries) }
-    ensures fault { IfErr result (VerdictFails records.old.entries id) }
+        IsTurnedAt library.now records.old.entries key.id j.name j.events j.told records.new.entries) }
+    ensures fault { IfErr result (VerdictFails records.old.entries key.id) }
     ensures err { OnErr result (records.new.entries ≡ records.old.entries) }
 {
-    let Some(at) = place_of(records, id) else {
+    let Some(at) = place_at_hint(records, key.hint, key.id) else {
         return Err(Refusal::NoConversation);
     };
     let (_, record) = records.pair_mut(at);
@@ -202,13 +202,13 @@ pub fn ask(
     library: &Library,
     records: &IndexMap<u32, Record>,
     comparison: Comparison,
-    id: u32,
+    key: RecordKey,
 ) -> Result<Judged, Refusal>
     requires { IsSoundComparison comparison library.now records.now.entries }
-    ensures ok { IfOk result (λ j. IsAskedAt library.now records.now.entries id j.name j.events j.told) }
-    ensures fault { IfErr result (VerdictFails records.now.entries id) }
+    ensures ok { IfOk result (λ j. IsAskedAt library.now records.now.entries key.id j.name j.events j.told) }
+    ensures fault { IfErr result (VerdictFails records.now.entries key.id) }
 {
-    let Some(record) = record_of(records, id) else {
+    let Some(record) = record_of(records, key) else {
         return Err(Refusal::NoConversation);
     };
     let Ok(name) = record.name().copy() else {
@@ -231,12 +231,12 @@ pub fn is_permitted(
     library: &Library,
     records: &IndexMap<u32, Record>,
     comparison: Comparison,
-    id: u32,
+    key: RecordKey,
 ) -> bool
     requires { IsSoundComparison comparison library.now records.now.entries }
-    ensures { IsOutcomeTest library.now records.now.entries id result }
+    ensures { IsOutcomeTest library.now records.now.entries key.id result }
 {
-    let Some(record) = record_of(records, id) else {
+    let Some(record) = record_of(records, key) else {
         return false;
     };
     // Its clause says that the record is lawful.
@@ -252,12 +252,12 @@ pub fn is_complete(
     library: &Library,
     records: &IndexMap<u32, Record>,
     comparison: Comparison,
-    id: u32,
+    key: RecordKey,
 ) -> bool
     requires { IsSoundComparison comparison library.now records.now.entries }
-    ensures { IsCompleteTest library.now records.now.entries id result }
+    ensures { IsCompleteTest library.now records.now.entries key.id result }
 {
-    let Some(record) = record_of(records, id) else {
+    let Some(record) = record_of(records, key) else {
         return false;
     };
     // Its clause says that the record is lawful.
@@ -282,14 +282,14 @@ pub fn close(
     library: &Library,
     records: &mut IndexMap<u32, Record>,
     comparison: Comparison,
-    id: u32,
+    key: RecordKey,
 ) -> Result<Closed, Refusal>
     requires { IsSoundComparison comparison library.now records.old.entries }
-    ensures ok { IfOk result (λ closed. IsClosedAt library.now records.old.entries id closed records.new.entries) }
-    ensures fault { IfErr result (CloseFails records.old.entries id) }
+    ensures ok { IfOk result (λ closed. IsClosedAt library.now records.old.entries key.id closed records.new.entries) }
+    ensures fault { IfErr result (CloseFails records.old.entries key.id) }
     ensures err { OnErr result (records.new.entries ≡ records.old.entries) }
 {
-    let Some(record) = record_of(records, id) else {
+    let Some(record) = record_of(records, key) else {
         return Err(Refusal::NoConversation);
     };
     let known = numbering_for_turn(library, record);
@@ -302,7 +302,7 @@ pub fn close(
     };
     let WholeVerdict { verdict, complete } = whole;
     let events = record.log().len();
-    let _record = records.swap_remove(&id);
+    let _record = records.swap_remove(&key.id);
     Ok(Closed {
         name,
         events,

@@ -15,6 +15,7 @@ ghost use Rattle.scrib_core.specs.Runs.{PermitsRuns};
 use crate::conversation_steps::{
     Closed, Judged, Noted, Opening, ask, close, is_complete, is_permitted, note, open, turn,
 };
+use crate::places::{PlaceHints, RecordKey};
 use crate::reply::{
     Edit, Refusal, Reply, close_reply, edit_reply, note_reply, open_reply, profile_reply,
     verdict_reply,
@@ -42,6 +43,7 @@ pub struct Core {
     alloc: Global,
     library: Library,
     records: IndexMap<u32, Record>,
+    places: PlaceHints,
 }
 
 impl Model for Core {
@@ -75,6 +77,7 @@ impl Core {
             alloc,
             library: Library::with_profile(alloc, profile),
             records: IndexMap::new(alloc),
+            places: PlaceHints::new(alloc),
         }
     }
 
@@ -143,11 +146,12 @@ impl Core {
     {
         self.library.are_numbered();
         self.library.means_protocols();
+        let hint = self.places.find(&self.records, id);
         note(
             &self.library,
             &mut self.records,
             Comparison::Numbers,
-            id,
+            RecordKey { id, hint },
             event,
         )
     }
@@ -164,7 +168,9 @@ impl Core {
         ensures refused { LeavesRefused (verdict_reply_of id result) self.now self.now }
     {
         self.library.are_numbered();
-        ask(&self.library, &self.records, Comparison::Numbers, id)
+        let hint = self.places.hint(&self.records, id);
+        let key = RecordKey { id, hint };
+        ask(&self.library, &self.records, Comparison::Numbers, key)
     }
 
     /// Returns whether the verdict that `verdict_on` returns is `Permitted`. It allocates nothing.
@@ -173,7 +179,9 @@ impl Core {
         ensures { IsReplyTest (state_of self.now) id result }
     {
         self.library.are_numbered();
-        is_permitted(&self.library, &self.records, Comparison::Numbers, id)
+        let hint = self.places.hint(&self.records, id);
+        let key = RecordKey { id, hint };
+        is_permitted(&self.library, &self.records, Comparison::Numbers, key)
     }
 
     /// Returns whether the conversation is open, its verdict is not stale, and its log is complete: permitted, no role
@@ -183,7 +191,9 @@ impl Core {
         ensures { IsTrue result ↔ IsCompleteIn (state_of self.now) id }
     {
         self.library.are_numbered();
-        is_complete(&self.library, &self.records, Comparison::Numbers, id)
+        let hint = self.places.hint(&self.records, id);
+        let key = RecordKey { id, hint };
+        is_complete(&self.library, &self.records, Comparison::Numbers, key)
     }
 
     /// Makes the step `Open` with this id and name. Returns the protocol's name. What `apply` ensures of a reply holds
@@ -204,7 +214,9 @@ impl Core {
             id,
             name,
         };
-        open(&self.library, &mut self.records, opening)
+        let opened = open(&self.library, &mut self.records, opening);
+        self.places.opened(&self.records, id);
+        opened
     }
 
     /// Makes the step `Close` with this id. Returns the protocol's name, the number of events in the log, the verdict on
@@ -219,7 +231,11 @@ impl Core {
         ensures refused { LeavesRefused (close_reply_of id result) self.old self.new }
     {
         self.library.are_numbered();
-        close(&self.library, &mut self.records, Comparison::Numbers, id)
+        let hint = self.places.find(&self.records, id);
+        let key = RecordKey { id, hint };
+        let closed = close(&self.library, &mut self.records, Comparison::Numbers, key);
+        self.places.closed(&self.records, hint);
+        closed
     }
 
     /// Returns the protocol of a conversation, if the library has it, and the log.
@@ -323,7 +339,9 @@ impl Core {
         ensures refused { LeavesRefused result self.old self.new }
     {
         self.library.are_numbered();
-        let turned = turn(&self.library, &mut self.records, Comparison::Numbers, id);
+        let hint = self.places.find(&self.records, id);
+        let key = RecordKey { id, hint };
+        let turned = turn(&self.library, &mut self.records, Comparison::Numbers, key);
         verdict_reply(id, turned)
     }
 

@@ -7,17 +7,17 @@ use Rattle.scrib_core.proofs.conversation_steps.ask.Goals as goal
 
 pub present_of-requires : goal.present_of-requires
 present_of-requires c =
-    let there : record_at c.args.records.now.entries c.args.id ≡ Some c.in-Some.record.now = sym c.record_of.ensures ∙ ap option_copied c.in-Some.is in
-    serves_record c.args.comparison c.args.library.now c.args.records.now.entries c.args.id c.in-Some.record.now c.requires there
+    let there : record_at c.args.records.now.entries c.args.key.id ≡ Some c.in-Some.record.now = sym c.record_of.ensures ∙ ap option_copied c.in-Some.is in
+    serves_record c.args.comparison c.args.library.now c.args.records.now.entries c.args.key.id c.in-Some.record.now c.requires there
 
 pub ask-answer-requires : goal.ask-answer-requires
 ask-answer-requires c =
-    let there : record_at c.args.records.now.entries c.args.id ≡ Some c.in-Some.record.now = sym c.record_of.ensures ∙ ap option_copied c.in-Some.is in
-    serves_for c.args.comparison c.args.library.now c.args.records.now.entries c.args.id c.in-Some.record.now (option_copied c.present_of.result.1) c.requires there c.present_of.ensures
+    let there : record_at c.args.records.now.entries c.args.key.id ≡ Some c.in-Some.record.now = sym c.record_of.ensures ∙ ap option_copied c.in-Some.is in
+    serves_for c.args.comparison c.args.library.now c.args.records.now.entries c.args.key.id c.in-Some.record.now (option_copied c.present_of.result.1) c.requires there c.present_of.ensures
 
 pub returns-in-Ok-verdict_of-clause-ok : goal.returns-in-Ok-verdict_of-clause-ok
 returns-in-Ok-verdict_of-clause-ok c =
-    let there : record_at c.args.records.now.entries c.args.id ≡ Some c.in-Some.record.now = sym c.record_of.ensures ∙ ap option_copied c.in-Some.is in
+    let there : record_at c.args.records.now.entries c.args.key.id ≡ Some c.in-Some.record.now = sym c.record_of.ensures ∙ ap option_copied c.in-Some.is in
     record {
       of = c.in-Some.record.now;
       there = there;

@@ -9,13 +9,13 @@ use Rattle.scrib_core.proofs.conversation_steps.is_permitted.Goals as goal
 
 pub present_of-requires : goal.present_of-requires
 present_of-requires c =
-    let there : record_at c.args.records.now.entries c.args.id ≡ Some c.in-Some.record.now = sym c.record_of.ensures ∙ ap option_copied c.in-Some.is in
-    serves_record c.args.comparison c.args.library.now c.args.records.now.entries c.args.id c.in-Some.record.now c.requires there
+    let there : record_at c.args.records.now.entries c.args.key.id ≡ Some c.in-Some.record.now = sym c.record_of.ensures ∙ ap option_copied c.in-Some.is in
+    serves_record c.args.comparison c.args.library.now c.args.records.now.entries c.args.key.id c.in-Some.record.now c.requires there
 
 pub ask-requires : goal.ask-requires
 ask-requires c =
-    let there : record_at c.args.records.now.entries c.args.id ≡ Some c.in-Some.record.now = sym c.record_of.ensures ∙ ap option_copied c.in-Some.is in
-    serves_for c.args.comparison c.args.library.now c.args.records.now.entries c.args.id c.in-Some.record.now (option_copied c.present_of.result.1) c.requires there c.present_of.ensures
+    let there : record_at c.args.records.now.entries c.args.key.id ≡ Some c.in-Some.record.now = sym c.record_of.ensures ∙ ap option_copied c.in-Some.is in
+    serves_for c.args.comparison c.args.library.now c.args.records.now.entries c.args.key.id c.in-Some.record.now (option_copied c.present_of.result.1) c.requires there c.present_of.ensures
 
 pub returns-in_default : goal.returns-in_default
 returns-in_default c = record {
@@ -27,7 +27,7 @@ returns-in_default c = record {
 
 pub returns : goal.returns
 returns c =
-    let there : record_at c.args.records.now.entries c.args.id ≡ Some c.in-Some.record.now = sym c.record_of.ensures ∙ ap option_copied c.in-Some.is in
+    let there : record_at c.args.records.now.entries c.args.key.id ≡ Some c.in-Some.record.now = sym c.record_of.ensures ∙ ap option_copied c.in-Some.is in
     let r = c.in-Some.record.now in
     let present = option_copied c.present_of.result.1 in
     record {
