@@ -1,6 +1,7 @@
 -- The passes of a connection (this project's own).
 use Rattle.std.specs.Prelude.{◌≡◌, ◌⊎◌, ℕ, List, [], map, nat_eq, unwrap_or}
 use Rattle.std.specs.Map.{keys_of, lookup}
+use Rattle.indexmap.specs.IndexMap.{IndexMap}
 use Rattle.scrib_core.specs.declared.reply.Refusal.{Refusal}
 use Rattle.scrib_core.specs.declared.reply.Refusal.TheVariants.{OutOfMemory}
 use Rattle.scrib_locked_steps.specs.declared.pass_calls.PassRefusal.{PassRefusal}
@@ -16,9 +17,19 @@ conversation_id e = e.1.conversation
 abbrev pub AreOwn : List (ℕ × PassHeld) → Type 0
 AreOwn kept = map conversation_id kept ≡ keys_of kept
 
--- the pass that is stored under the id, or else a new one of its conversation
-abbrev pub pass_of : List (ℕ × PassHeld) → ℕ → PassHeld
-pass_of kept id = unwrap_or (lookup (nat_eq id) kept) (record { conversation = id; receipts = [] })
+-- the pass that is stored under the id, or else a new one of its conversation, for the opening of this number
+abbrev pub pass_for : (opening : ℕ) → List (ℕ × PassHeld) → ℕ → PassHeld
+pass_for opening kept id =
+    unwrap_or (lookup (nat_eq id) kept) (record { conversation = id; opening = opening; receipts = [] })
+
+-- the pass after a call: the one that is stored under the id, or else a new one
+abbrev pub pass_after : {S : Type 0} → IndexMap ℕ PassHeld S → ℕ → PassHeld
+pass_after new id = pass_for 0 new.entries id
+
+-- the pass before a call: the one that was stored under the id, or else a new one, for the opening of the pass that is
+-- stored after it
+abbrev pub pass_before : {S : Type 0} → (old new : IndexMap ℕ PassHeld S) → ℕ → PassHeld
+pass_before old new id = pass_for (pass_after new id).opening old.entries id
 
 -- no pass to the conversation was made for this: it is not open in some records, or memory was refused
 abbrev pub IsUnconnected : ℕ → Refusal → Type 0

@@ -13,7 +13,7 @@ use Rattle.scrib_locked_steps.specs.Passes.{PassHeld}
 use Rattle.scrib_shards.specs.Called.{IsPutSome, PutFailsSome, IsWithdrawnSome, WithdrawFailsSome, IsProfiledSome, ProfileFailsSome, IsOpenedSome, OpenFailsSome, IsNotedSome, IsTurnedSome, TurnFailsSome, IsAskedSome}
 use Rattle.scrib_client.specs.declared.service_reply.ServiceReply.{ServiceReply}
 use Rattle.scrib_client.specs.ServiceReplies.{edit_reply, profile_reply, open_reply, noted_reply, turn_reply, ask_reply}
-use Rattle.scrib_client.specs.ConnectionPasses.{pass_of, IsNoteRefused, IsAskRefused}
+use Rattle.scrib_client.specs.ConnectionPasses.{pass_for, IsNoteRefused, IsAskRefused}
 
 -- whether the step closes a conversation
 abbrev pub is_close : Step → Bool
@@ -42,12 +42,12 @@ IsMadeSome kept (step.Open id name) a =
     (r : Result (Unit {0}) Refusal) × (a ≡ open_reply id name r)
     × OnOk r (IsOpenedSome id name) × IfErr r (OpenFailsSome id name)
 IsMadeSome kept (step.Note id e) a =
-    (r : Result Noted PassRefusal) × (a ≡ noted_reply id r)
-    × IfOk r (IsNotedSome (pass_of kept id) e) × IfErr r (IsNoteRefused id (pass_of kept id))
+    (opening : ℕ) × (r : Result Noted PassRefusal) × (a ≡ noted_reply id r)
+    × IfOk r (IsNotedSome (pass_for opening kept id) e) × IfErr r (IsNoteRefused id (pass_for opening kept id))
 IsMadeSome kept (step.Turn id) a =
     (r : Result Told Refusal) × (a ≡ turn_reply id r)
     × IfOk r (IsTurnedSome id) × IfErr r (TurnFailsSome id)
 IsMadeSome kept (step.Ask id) a =
-    (r : Result Told PassRefusal) × (a ≡ ask_reply id r)
-    × IfOk r (IsAskedSome (pass_of kept id)) × IfErr r (IsAskRefused id (pass_of kept id))
+    (opening : ℕ) × (r : Result Told PassRefusal) × (a ≡ ask_reply id r)
+    × IfOk r (IsAskedSome (pass_for opening kept id)) × IfErr r (IsAskRefused id (pass_for opening kept id))
 IsMadeSome kept (step.Close id) a = ⊥

@@ -25,12 +25,12 @@ pub struct Passes {
 }
 
 impl Passes {
-    ghost use Rattle.std.specs.Prelude.{◌≡◌, ◌<◌, ◌≤◌, [], IfOk, IfErr, IfSome, OnErr, IsSome, None, Some, nat_eq, slice_get, vec_len};
+    ghost use Rattle.std.specs.Prelude.{◌≡◌, ◌<◌, ◌≤◌, [], IfOk, IfErr, IfSome, OnErr, OnOk, IsSome, None, Some, nat_eq, slice_get, vec_len};
     ghost use Rattle.std.specs.Map.{lookup};
     ghost use Rattle.indexmap.specs.IndexMap.{index_map_len, keys, values};
     ghost use Rattle.scrib_locked_steps.specs.Passes.{PassHeld, IsReceipted, IsAnsweredOn};
     ghost use Rattle.scrib_shards.specs.Called.{IsNotedSome, AreAnsweredSome, IsAskedSome};
-    ghost use Rattle.scrib_client.specs.ConnectionPasses.{pass_of, IsUnconnected, IsNoteRefused, IsAskRefused};
+    ghost use Rattle.scrib_client.specs.ConnectionPasses.{pass_after, pass_before, IsUnconnected, IsNoteRefused, IsAskRefused};
 
     /// Returns no passes. Does not allocate.
     pub fn new(alloc: Global) -> Passes
@@ -69,12 +69,12 @@ impl Passes {
         id: u32,
         event: SharedEvent,
     ) -> PassReply
-        ensures own { (pass_of self.old.by_id.entries id).conversation ≡ id }
-        ensures noted { IfOk result (IsNotedSome (pass_of self.old.by_id.entries id) event) }
+        ensures own { (pass_before self.old.by_id self.new.by_id id).conversation ≡ id }
+        ensures noted { IfOk result (IsNotedSome (pass_before self.old.by_id self.new.by_id id) event) }
         ensures receipted { IfOk result (λ n.
-            IsReceipted (pass_of self.old.by_id.entries id) event n (pass_of self.new.by_id.entries id)) }
-        ensures fault { IfErr result (IsNoteRefused id (pass_of self.old.by_id.entries id)) }
-        ensures kept { OnErr result (pass_of self.new.by_id.entries id ≡ pass_of self.old.by_id.entries id) }
+            IsReceipted (pass_before self.old.by_id self.new.by_id id) event n (pass_after self.new.by_id id)) }
+        ensures fault { IfErr result (IsNoteRefused id (pass_before self.old.by_id self.new.by_id id)) }
+        ensures kept { OnErr result (pass_after self.new.by_id id ≡ pass_before self.old.by_id self.new.by_id id) }
     {
         let at = match self.find_or_connect(rt, service, id) {
             Ok(at) => at,
@@ -97,10 +97,10 @@ impl Passes {
         id: u32,
         batch: Batch,
     ) -> Result<Vec<PassReply>, Batch>
-        ensures own { (pass_of self.old.by_id.entries id).conversation ≡ id }
+        ensures own { (pass_before self.old.by_id self.new.by_id id).conversation ≡ id }
         ensures answered { IfOk result (λ answers.
-            AreAnsweredSome (pass_of self.old.by_id.entries id) batch.events.items answers.items
-            (pass_of self.new.by_id.entries id)) }
+            AreAnsweredSome (pass_before self.old.by_id self.new.by_id id) batch.events.items answers.items
+            (pass_after self.new.by_id id)) }
         ensures each { IfOk result (λ answers. vec_len answers ≡ vec_len batch.events) }
         ensures back { IfErr result (λ back. back ≡ batch) }
     {
@@ -120,11 +120,11 @@ impl Passes {
     ///   is refused.
     /// - Else the errors of `Service::ask`.
     pub fn ask(&mut self, rt: &impl Wait, service: &Service, id: u32) -> Result<Told, PassRefusal>
-        ensures own { (pass_of self.old.by_id.entries id).conversation ≡ id }
-        ensures asked { IfOk result (IsAskedSome (pass_of self.old.by_id.entries id)) }
-        ensures answered { IfOk result (IsAnsweredOn (pass_of self.old.by_id.entries id).receipts) }
-        ensures fault { IfErr result (IsAskRefused id (pass_of self.old.by_id.entries id)) }
-        ensures kept { pass_of self.new.by_id.entries id ≡ pass_of self.old.by_id.entries id }
+        ensures own { (pass_before self.old.by_id self.new.by_id id).conversation ≡ id }
+        ensures asked { IfOk result (IsAskedSome (pass_before self.old.by_id self.new.by_id id)) }
+        ensures answered { IfOk result (IsAnsweredOn (pass_before self.old.by_id self.new.by_id id).receipts) }
+        ensures fault { IfErr result (IsAskRefused id (pass_before self.old.by_id self.new.by_id id)) }
+        ensures kept { pass_after self.new.by_id id ≡ pass_before self.old.by_id self.new.by_id id }
     {
         let at = match self.find_or_connect(rt, service, id) {
             Ok(at) => at,
@@ -145,7 +145,7 @@ impl Passes {
         ensures once { IsSome (lookup (nat_eq id) self.old.by_id.entries) → self.new.by_id ≡ self.old.by_id }
         ensures within { IfOk result (λ at. at < index_map_len self.new.by_id) }
         ensures found { IfOk result (λ at. slice_get (keys self.new.by_id) at ≡ Some id) }
-        ensures kept { pass_of self.new.by_id.entries id ≡ pass_of self.old.by_id.entries id }
+        ensures kept { pass_after self.new.by_id id ≡ pass_before self.old.by_id self.new.by_id id }
         ensures fault { OnErr result (self.new.by_id.entries ≡ self.old.by_id.entries) }
         ensures refused { IfErr result (IsUnconnected id) }
     {
@@ -174,8 +174,8 @@ impl Passes {
     fn connect(&mut self, rt: &impl Wait, service: &Service, id: u32) -> Result<usize, Refusal>
         requires absent { lookup (nat_eq id) self.old.by_id.entries ≡ None }
         ensures found { IfOk result (λ at. slice_get (keys self.new.by_id) at ≡ Some id) }
-        ensures kept { IfOk result (λ at.
-            pass_of self.new.by_id.entries id ≡ record { conversation = id; receipts = [] }) }
+        ensures kept { OnOk result (
+            pass_after self.new.by_id id ≡ pass_before self.old.by_id self.new.by_id id) }
         ensures fault { OnErr result (self.new.by_id.entries ≡ self.old.by_id.entries) }
         ensures refused { IfErr result (IsUnconnected id) }
     {

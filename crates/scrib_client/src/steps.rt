@@ -5,7 +5,7 @@ ghost use Rattle.scrib_client.specs.Steps.{IsMadeSome, is_close};
 
 use crate::passes::Passes;
 use crate::service_reply::{ServiceReply, asked, edited, judged, noted, profiled, refused};
-use scrib_core::reply::{Edit, Reply};
+use scrib_core::reply::{Edit, Refusal, Reply};
 use scrib_core::step::Step;
 use scrib_shards::gate::OpenGate;
 use scrib_shards::service::Service;
@@ -30,6 +30,7 @@ pub fn make_step(rt: &impl Wait, service: &Service, passes: &mut Passes, step: S
         Step::Note { id, event } => noted(id, passes.note(rt, service, id, event)),
         Step::Turn { id } => judged(id, service.turn(rt, id, &OpenGate)),
         Step::Ask { id } => asked(id, passes.ask(rt, service, id)),
-        Step::Close { .. } => unreachable!(),
+        // No connection closes a conversation.
+        Step::Close { .. } => refused(Refusal::NoConversation),
     }
 }

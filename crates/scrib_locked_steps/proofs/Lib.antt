@@ -10,3 +10,4 @@ pub mod SweepLemmas
 pub mod StaleListLemmas
 pub mod StepReplies
 pub mod ClosingLemmas
+pub mod OpeningLemmas

@@ -148,7 +148,7 @@ none_some r e = cc
 same_number : (i : ℕ) → nat_eq i i ≡ true
 same_number i = (Decides-eqb i i).1 refl
 
-other_number : (i j : ℕ) → (i ≡ j → ⊥) → nat_eq i j ≡ false
+pub other_number : (i j : ℕ) → (i ≡ j → ⊥) → nat_eq i j ≡ false
 other_number i j apart = by (nat_eq i j) refl
   where
     by : (b : Bool) → nat_eq i j ≡ b → b ≡ false

@@ -62,10 +62,11 @@ pub fails_by : (h : Holdings) (s t : Records × PassHeld) (e : Event) (answer : 
 fails_by h s t e (Ok n) x = tt
 fails_by h s t e (Err f) x = x.0
 
-pub shard_left_by : (capacity : ℕ) (before : ShardHeld) (h : Holdings) (s t : Records × PassHeld) (e : Event) (answer : Result Noted PassRefusal) → AnswersBy h s e answer t
-    → (let v : ShardHeld = record { capacity = capacity; records = s.0 } in v ≡ before) → (let v : ShardHeld = record { capacity = capacity; records = t.0 } in OnErr answer (v ≡ before))
-shard_left_by capacity before h s t e (Ok n) x view = tt
-shard_left_by capacity before h s t e (Err f) x view = ap (λ (w : Records × PassHeld). let v : ShardHeld = record { capacity = capacity; records = w.0 } in v) x.1 ∙ view
+pub shard_left_by : (capacity : ℕ) (openings : List (ℕ × ℕ)) (opened : ℕ) (before : ShardHeld) (h : Holdings) (s t : Records × PassHeld) (e : Event) (answer : Result Noted PassRefusal) → AnswersBy h s e answer t
+    → (let v : ShardHeld = record { capacity = capacity; records = s.0; openings = openings; opened = opened } in v ≡ before) → (let v : ShardHeld = record { capacity = capacity; records = t.0; openings = openings; opened = opened } in OnErr answer (v ≡ before))
+shard_left_by capacity openings opened before h s t e (Ok n) x view = tt
+shard_left_by capacity openings opened before h s t e (Err f) x view =
+    ap (λ (w : Records × PassHeld). let v : ShardHeld = record { capacity = capacity; records = w.0; openings = openings; opened = opened } in v) x.1 ∙ view
 
 pub pass_left_by : (h : Holdings) (s t : Records × PassHeld) (e : Event) (answer : Result Noted PassRefusal) → AnswersBy h s e answer t → OnErr answer (t.1 ≡ s.1)
 pass_left_by h s t e (Ok n) x = tt

@@ -112,7 +112,7 @@ module _ (present : Option Version) (before : Recorded) (p : PassHeld) (e : Even
       let high : (get_or p.receipts k d).place ≤ length before.log = newest_highest 0 (length before.log) p.receipts rise newest k d below in
       omega (arith, noted.place_is, longer)
 
-  receipted : rises 0 p.receipts ≡ true → IsReceipted p e n (record { conversation = p.conversation; receipts = p.receipts ++ receipt_of n e ∷ [] })
+  receipted : rises 0 p.receipts ≡ true → IsReceipted p e n (record { conversation = p.conversation; opening = p.opening; receipts = p.receipts ++ receipt_of n e ∷ [] })
   receipted rise = record {
     added = refl;
     above = above rise;
@@ -124,14 +124,13 @@ module _ (present : Option Version) (before : Recorded) (p : PassHeld) (e : Even
     verdict = reported_verdict present after n.told noted.noted.told;
   }
 
-same_held : (c d : ℕ) (rs ss : List Receipt) → c ≡ d → rs ≡ ss → (let p : PassHeld = record { conversation = c; receipts = rs } in let q : PassHeld = record { conversation = d; receipts = ss } in p ≡ q)
-same_held c d rs ss e f =
-    ap (λ (i : ℕ). let p : PassHeld = record { conversation = i; receipts = rs } in p) e
-    ∙ ap (λ (xs : List Receipt). let p : PassHeld = record { conversation = d; receipts = xs } in p) f
+same_held : (c d m n : ℕ) (rs ss : List Receipt) → c ≡ d → m ≡ n → rs ≡ ss
+    → (let p : PassHeld = record { conversation = c; opening = m; receipts = rs } in let q : PassHeld = record { conversation = d; opening = n; receipts = ss } in p ≡ q)
+same_held c d m n rs ss e g f = λ i. let p : PassHeld = record { conversation = e i; opening = g i; receipts = f i } in p
 
 -- the fields of a pass after a note that added a receipt
-module _ (present : Option Version) (before : Recorded) (p : PassHeld) (conversation : ℕ) (old new : List Receipt) (e kept : Event) (n : Noted) (after : Recorded)
-    (view : (let q : PassHeld = record { conversation = conversation; receipts = old } in q ≡ p)) (pushed : new ≡ old ++ receipt_of n kept ∷ []) (copied : kept ≡ e)
+module _ (present : Option Version) (before : Recorded) (p : PassHeld) (conversation opening : ℕ) (old new : List Receipt) (e kept : Event) (n : Noted) (after : Recorded)
+    (view : (let q : PassHeld = record { conversation = conversation; opening = opening; receipts = old } in q ≡ p)) (pushed : new ≡ old ++ receipt_of n kept ∷ []) (copied : kept ≡ e)
     (rise : rises 0 old ≡ true) (stood : All (AgreesWith before.log) (newest_of p.receipts)) (noted : IsNotedIn present before e n after) where
   rises_before : rises 0 p.receipts ≡ true
   rises_before = subst (λ (q : PassHeld). rises 0 q.receipts ≡ true) view rise
@@ -147,9 +146,9 @@ module _ (present : Option Version) (before : Recorded) (p : PassHeld) (conversa
       subst (λ (xs : List Receipt). rises 0 xs ≡ true) same_receipts
       (rises_push 0 p.receipts (receipt_of n e) rises_before positive (above present before p e n after stood noted rises_before))
 
-  pub pass_receipted : IsReceipted p e n (record { conversation = conversation; receipts = new })
+  pub pass_receipted : IsReceipted p e n (record { conversation = conversation; opening = opening; receipts = new })
   pass_receipted =
-      subst (IsReceipted p e n) (same_held p.conversation conversation (p.receipts ++ receipt_of n e ∷ []) new (ap (λ (q : PassHeld). q.conversation) (sym view)) same_receipts)
+      subst (IsReceipted p e n) (same_held p.conversation conversation p.opening opening (p.receipts ++ receipt_of n e ∷ []) new (ap (λ (q : PassHeld). q.conversation) (sym view)) (ap (λ (q : PassHeld). q.opening) (sym view)) same_receipts)
       (receipted present before p e n after stood noted rises_before)
 
   -- and the newest receipt agrees with the log again

@@ -2,6 +2,7 @@ pub mod Indexing
 pub mod Shards
 pub mod Receipts
 pub mod Passes
+pub mod Openings
 pub mod OneByOne
 pub mod Locked
 pub mod Passing

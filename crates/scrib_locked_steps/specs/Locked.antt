@@ -9,11 +9,15 @@ use Rattle.scrib_core.specs.declared.reply.Reply.{Reply}
 use Rattle.scrib_core.specs.declared.reply.Reply.TheVariants as reply
 use Rattle.scrib_core.specs.Held.{Records, record_at}
 use Rattle.scrib_core.specs.ConversationSteps.{IsOpened, OpenFails, IsNotedAt, NoteFails, IsTurnedAt, IsAskedAt, VerdictFails, IsClosedAt, CloseFails}
+use Rattle.scrib_locked_steps.specs.Shards.{ShardHeld}
 use Rattle.scrib_locked_steps.specs.Passes.{PassHeld}
+use Rattle.scrib_locked_steps.specs.Openings.{opening_of}
 
--- the conversation is open, and its pass has no receipt
-abbrev pub IsConnected : Records → ℕ → PassHeld → Type 0
-IsConnected rs id p = IsSome (record_at rs id) × (p ≡ record { conversation = id; receipts = [] })
+-- the conversation is open, and its pass is of the present opening and has no receipt
+abbrev pub IsConnected : ShardHeld → ℕ → PassHeld → Type 0
+IsConnected s id p =
+    IsSome (record_at s.records id)
+    × (p ≡ record { conversation = id; opening = opening_of s.openings id; receipts = [] })
 
 -- the pass is refused because the conversation is not open
 abbrev pub ConnectFails : Records → ℕ → Refusal → Type 0

@@ -9,9 +9,10 @@ use Rattle.scrib_locked_steps.specs.declared.pass.Receipt.{Receipt}
 use Rattle.scrib_core.specs.declared.conversation_steps.Noted.{Noted}
 use Rattle.scrib_locked_steps.specs.Receipts.{entry_at, AgreesWith}
 
--- the conversation of a pass, and its receipts, oldest first
+-- the conversation of a pass, the number of the opening that it was made for, and its receipts, oldest first
 pub record PassHeld : Type 0 where
   pub conversation : ℕ
+  pub opening : ℕ
   pub receipts : List Receipt
 
 -- each place is above the one before it, and the first is above the floor
@@ -33,6 +34,7 @@ IsVerdictOn log (Judged v) = (o : Option Agreement) × Judges o log v
 pub record IsReceipted (old : PassHeld) (e : Event) (n : Noted) (new : PassHeld) : Type 0 where
   pub added : new ≡ record {
     conversation = old.conversation;
+    opening = old.opening;
     receipts = old.receipts ++ record { place = n.place; event = e } ∷ [];
   }
   pub above : All (λ r. r.place < n.place) old.receipts

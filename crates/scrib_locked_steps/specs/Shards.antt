@@ -9,10 +9,13 @@ use Rattle.scrib_locked_steps.specs.Indexing.{Listing, IsIndex}
 use Rattle.scrib_record.specs.declared.record.TheConstants.{MAX_EVENTS}
 use Rattle.scrib_core.specs.declared.monitor.TheConstants.{MAX_CONVERSATIONS}
 
--- the maximal number of conversations, and the records by id, in the order of opening
+-- the maximal number of conversations, the records by id, the number of each opening by id, and how many openings there
+-- were so far
 pub record ShardHeld : Type 0 where
   pub capacity : ℕ
   pub records : Records
+  pub openings : List (ℕ × ℕ)
+  pub opened : ℕ
 
 -- the log of the conversation, empty if none is open under the id
 abbrev pub log_in : Option Recorded → List Event

@@ -1,6 +1,6 @@
 //! Several notes by a pass under one holding of the locks.
 
-ghost use Rattle.std.specs.Prelude.{◌≡◌, ◌<◌, ◌≤◌, ◌^◌, None, vec_len, vec_capacity};
+ghost use Rattle.std.specs.Prelude.{◌≡◌, ◌<◌, ◌≤◌, ◌^◌, [], true, false, None, vec_len, vec_capacity};
 ghost use Rattle.std.specs.List.{sum_by};
 ghost use Rattle.std.specs.Option.{option_copied};
 ghost use Rattle.scrib_library.specs.Holdings.{Holdings};
@@ -8,6 +8,7 @@ ghost use Rattle.scrib_core.specs.Held.{Records, record_at};
 ghost use Rattle.scrib_locked_steps.specs.Noting.{AnswersIn};
 ghost use Rattle.scrib_locked_steps.specs.OneByOne.{OneByOne};
 ghost use Rattle.scrib_locked_steps.specs.Passing.{AnswersBy, added_notes};
+ghost use Rattle.scrib_locked_steps.specs.Openings.{is_current, HasSameOpenings};
 
 use crate::pass::Pass;
 use crate::pass_calls::{PassReply, notes_of, unopened_refusal};
@@ -33,17 +34,25 @@ pub struct Batch {
 /// Appends the events one after another to the log of the pass's conversation, as calls of `note_by_pass` would without
 /// other calls between them. Returns the reply to each, in order, in the list of the batch. The record and the version
 /// are looked up once. The newest receipt is compared once. So is the meaning of the held version with that of the
-/// present one, unless the record is stale.
+/// present one, unless the record is stale. For a pass of an earlier opening no conversation is open.
 pub fn note_all_by_pass(
     library: &Library,
     shard: &mut Shard,
     pass: &mut Pass,
     batch: Batch,
 ) -> Vec<PassReply>
-    ensures answered { OneByOne (AnswersBy library.now) (shard.old.records, pass.old) batch.events.items result.items
+    ensures answered { is_current shard.old.openings pass.old ≡ true
+        → OneByOne (AnswersBy library.now) (shard.old.records, pass.old) batch.events.items result.items
         (shard.new.records, pass.new) }
+    ensures refused { is_current shard.old.openings pass.old ≡ false
+        → OneByOne (AnswersBy library.now) ([], pass.old) batch.events.items result.items ([], pass.new) }
+    ensures unchanged { is_current shard.old.openings pass.old ≡ false → shard.new ≡ shard.old }
     ensures limit { shard.new.capacity ≡ shard.old.capacity }
+    ensures kept { HasSameOpenings shard.old shard.new }
 {
+    if !shard.directory.is_current(pass) {
+        return refuse_all(pass, batch);
+    }
     let answers = note_all_in_records(library, &mut shard.records, pass, batch);
     shard.book += notes_in(&answers);
     answers

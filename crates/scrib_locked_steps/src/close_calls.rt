@@ -1,11 +1,12 @@
 //! Closes by the passes of a conversation, whose receipts are compared with its log first.
 
 ghost use Rattle.std.specs.Prelude.{◌≡◌, ◌-◌, ◌^◌, min, IfOk, IfErr, OnOk, OnErr, All};
-ghost use Rattle.scrib_locked_steps.specs.Closing.{receipts_in, AreReceipted, IsClosedBy, CloseByFails, IsLeastMismatch};
+ghost use Rattle.scrib_locked_steps.specs.Closing.{receipts_in, log_for, AreReceipted, IsClosedBy, CloseByFails, IsLeastMismatch};
+ghost use Rattle.scrib_locked_steps.specs.Receipts.{IsFirstMismatch};
 
 use crate::locked_calls::stands_locked;
 use crate::pass::Pass;
-use crate::receipt_check::min_place;
+use crate::receipt_check::{first_mismatch, min_place};
 use crate::shard::Shard;
 use crate::step_results::{Closed, close_step};
 use scrib_core::reply::Refusal;
@@ -38,7 +39,7 @@ pub fn close_by_passes(
 ) -> Result<Closed, CloseRefusal>
     requires { All (λ p. p.conversation ≡ id) passes.now }
     ensures closed { IfOk result (λ c. IsClosedBy library.now shard.old id passes.now c shard.new) }
-    ensures fault { IfErr result (CloseByFails shard.old.records id passes.now) }
+    ensures fault { IfErr result (CloseByFails shard.old id passes.now) }
     ensures err { OnErr result (shard.new ≡ shard.old) }
 {
     check_receipts(shard, id, passes)?;
@@ -51,8 +52,8 @@ pub fn close_by_passes(
 // Checks that the conversation is open, and that the passes have as many receipts as its log has events, each of which
 // agrees with the log.
 fn check_receipts(shard: &Shard, id: u32, passes: &[Pass]) -> Result<(), CloseRefusal>
-    ensures ok { OnOk result (AreReceipted shard.now.records id passes.now) }
-    ensures fault { IfErr result (CloseByFails shard.now.records id passes.now) }
+    ensures ok { OnOk result (AreReceipted shard.now id passes.now) }
+    ensures fault { IfErr result (CloseByFails shard.now id passes.now) }
 {
     let Some(record) = shard.records.get(&id) else {
         return Err(CloseRefusal::Step(Refusal::NoConversation));
@@ -82,13 +83,25 @@ fn count_receipts(passes: &[Pass]) -> u64
 
 // Returns the least place of a receipt that differs from the log of its conversation.
 fn least_mismatch(shard: &Shard, passes: &[Pass]) -> Option<usize>
-    ensures { IsLeastMismatch shard.now.records passes.now result }
+    ensures { IsLeastMismatch shard.now passes.now result }
 {
     let mut least = None;
     for pass in passes {
-        if let Some(place) = stands_locked(shard, pass.conversation(), pass.receipts()) {
+        if let Some(place) = mismatch_of(shard, pass) {
             least = Some(min_place(place, least));
         }
     }
     least
+}
+
+// Returns the least place of a receipt of the pass that differs from the log of its conversation. No log has the
+// receipts of a pass of an earlier opening.
+fn mismatch_of(shard: &Shard, pass: &Pass) -> Option<usize>
+    ensures { IsFirstMismatch (log_for shard.now pass.now) pass.now.receipts result }
+{
+    if shard.directory.is_current(pass) {
+        stands_locked(shard, pass.conversation(), pass.receipts())
+    } else {
+        first_mismatch(&[], pass.receipts())
+    }
 }

@@ -63,16 +63,16 @@ pub fn close_locked(library: &Library, shard: &mut Shard, id: u32) -> Reply
     close_reply(id, close_step(library, shard, id))
 }
 
-/// Returns a pass to a conversation, without receipts.
+/// Returns a pass to a conversation, for its present opening, without receipts.
 ///
 /// # Errors
 /// `NoConversation` if no conversation of the id is open.
 pub fn connect_locked(shard: &Shard, id: u32) -> Result<Pass, Refusal>
-    ensures ok { IfOk result (IsConnected shard.now.records id) }
+    ensures ok { IfOk result (IsConnected shard.now id) }
     ensures fault { IfErr result (ConnectFails shard.now.records id) }
 {
     if shard.records.contains_key(&id) {
-        Ok(Pass::new(shard.alloc, id))
+        Ok(Pass::new(shard.alloc, id, shard.directory.opening(id)))
     } else {
         Err(Refusal::NoConversation)
     }

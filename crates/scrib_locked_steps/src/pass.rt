@@ -14,11 +14,13 @@ pub struct Receipt {
     pub event: SharedEvent,
 }
 
-/// The right to note events of one conversation. A pass holds a receipt of each event noted by it, oldest first, with
-/// rising places. It cannot be cloned. Contracts see the conversation and the receipts.
+/// The right to note events of one conversation, from its opening until it is closed. A pass holds a receipt of each
+/// event noted by it, oldest first, with rising places. It cannot be cloned. Contracts see the conversation, the number
+/// of its opening and the receipts.
 #[derive(Drop)]
 pub struct Pass {
     pub(crate) conversation: u32,
+    pub(crate) opening: u64,
     pub(crate) receipts: Vec<Receipt>,
     // The index of the conversation's record at the last look-up. Correctness does not depend on it.
     pub(crate) hint: usize,
@@ -30,18 +32,19 @@ impl Model for Pass {
 
     ghost Value = { PassHeld };
 
-    ghost view = { λ p. record { conversation = p.conversation; receipts = p.receipts.items } };
+    ghost view = { λ p. record { conversation = p.conversation; opening = p.opening; receipts = p.receipts.items } };
 
     ghost invariant = { λ p. rises 0 p.receipts.items ≡ true };
 }
 
 impl Pass {
-    /// Returns a pass to the conversation, without receipts.
-    pub(crate) fn new(alloc: Global, conversation: u32) -> Pass
-        ensures { result ≡ record { conversation = conversation; receipts = [] } }
+    /// Returns a pass to the conversation, for the opening of this number, without receipts.
+    pub(crate) fn new(alloc: Global, conversation: u32, opening: u64) -> Pass
+        ensures { result ≡ record { conversation = conversation; opening = opening; receipts = [] } }
     {
         Pass {
             conversation,
+            opening,
             receipts: Vec::new(alloc),
             hint: 0,
         }
@@ -52,6 +55,13 @@ impl Pass {
         ensures { result ≡ self.now.conversation }
     {
         self.conversation
+    }
+
+    /// Returns the number of the opening that the pass was made for.
+    pub(crate) fn opening(&self) -> u64
+        ensures { result ≡ self.now.opening }
+    {
+        self.opening
     }
 
     /// Returns the receipts, oldest first. Their number is the share of the pass.

@@ -1,9 +1,10 @@
 //! Notes and questions by passes, whose receipts are compared with the log first.
 
-ghost use Rattle.std.specs.Prelude.{◌≡◌, None, IfOk, IfErr, OnErr};
+ghost use Rattle.std.specs.Prelude.{◌≡◌, [], true, None, IfOk, IfErr, OnOk, OnErr};
 ghost use Rattle.scrib_core.specs.Held.{Records, record_at};
 ghost use Rattle.scrib_locked_steps.specs.Passes.{PassHeld, IsReceipted, IsAnsweredOn, newest_of};
 ghost use Rattle.scrib_locked_steps.specs.Passing.{AnswersBy, IsNotedBy, PassNoteFails, IsAskedBy, PassAskFails, added_notes};
+ghost use Rattle.scrib_locked_steps.specs.Openings.{is_current, records_for, HasSameOpenings};
 
 use crate::locked_calls::stands_locked;
 use crate::pass::{Pass, Receipt};
@@ -36,7 +37,8 @@ pub type PassReply = Result<Noted, PassRefusal>;
 ///
 /// # Errors
 /// `Mismatch` if the newest receipt differs from the log, else `NoConversation`, `LogFull` or `OutOfMemory`, whichever
-/// applies first. The shard and the pass are unchanged then.
+/// applies first. For a pass of an earlier opening no conversation is open, and no log has its receipts. The shard and
+/// the pass are unchanged then.
 #[inline(always)]
 pub fn note_by_pass(
     library: &Library,
@@ -46,10 +48,15 @@ pub fn note_by_pass(
 ) -> PassReply
     ensures noted { IfOk result (λ n. IsNotedBy library.now shard.old pass.old event n shard.new) }
     ensures receipted { IfOk result (λ n. IsReceipted pass.old event n pass.new) }
-    ensures fault { IfErr result (PassNoteFails shard.old.records pass.old) }
+    ensures current { OnOk result (is_current shard.old.openings pass.old ≡ true) }
+    ensures kept { HasSameOpenings shard.old shard.new }
+    ensures fault { IfErr result (PassNoteFails (records_for shard.old pass.old) pass.old) }
     ensures shard { OnErr result (shard.new ≡ shard.old) }
     ensures pass { OnErr result (pass.new ≡ pass.old) }
 {
+    if !shard.directory.is_current(pass) {
+        return Err(unopened_refusal(pass.conversation(), pass.newest()));
+    }
     let noted = note_in_records(library, &mut shard.records, pass, event);
     shard.book += notes_of(&noted);
     noted
@@ -58,12 +65,17 @@ pub fn note_by_pass(
 /// Returns the verdict on the pass's conversation, whose log has all its receipts, or `Stale`.
 ///
 /// # Errors
-/// `Mismatch` with the least place where a receipt differs from the log, else `NoConversation` or `OutOfMemory`.
+/// `Mismatch` with the least place where a receipt differs from the log, else `NoConversation` or `OutOfMemory`. For a
+/// pass of an earlier opening no conversation is open, and no log has its receipts.
 pub fn ask_by_pass(library: &Library, shard: &Shard, pass: &Pass) -> Result<Told, PassRefusal>
     ensures asked { IfOk result (IsAskedBy library.now shard.now.records pass.now) }
     ensures answered { IfOk result (IsAnsweredOn pass.now.receipts) }
-    ensures fault { IfErr result (PassAskFails shard.now.records pass.now) }
+    ensures current { OnOk result (is_current shard.now.openings pass.now ≡ true) }
+    ensures fault { IfErr result (PassAskFails (records_for shard.now pass.now) pass.now) }
 {
+    if !shard.directory.is_current(pass) {
+        return Err(unopened_question(pass));
+    }
     let id = pass.conversation();
     if let Some(place) = stands_locked(shard, id, pass.receipts()) {
         return Err(PassRefusal::Mismatch {
@@ -110,6 +122,19 @@ pub(crate) fn unopened_refusal(id: u32, newest: &[Receipt]) -> PassRefusal
     match first_mismatch(&[], newest) {
         Some(place) => PassRefusal::Mismatch {
             conversation: id,
+            place,
+        },
+        None => PassRefusal::Step(Refusal::NoConversation),
+    }
+}
+
+// Returns the refusal of a question by a pass if no conversation is open for it.
+fn unopened_question(pass: &Pass) -> PassRefusal
+    ensures { PassAskFails [] pass.now result }
+{
+    match first_mismatch(&[], pass.receipts()) {
+        Some(place) => PassRefusal::Mismatch {
+            conversation: pass.conversation(),
             place,
         },
         None => PassRefusal::Step(Refusal::NoConversation),

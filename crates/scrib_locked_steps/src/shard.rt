@@ -13,8 +13,8 @@ use std::alloc::Global;
 use std::marker::Model;
 
 /// The records of some conversations, up to a limit of the shard's own. They are in the order of opening, until one is
-/// closed. A directory lists their ids by protocol, and a book counts the events of all logs. Contracts see the limit
-/// and the records.
+/// closed. A directory lists their ids by protocol and numbers the openings, and a book counts the events of all logs.
+/// Contracts see the limit, the records and the numbers.
 #[derive(Drop)]
 pub struct Shard {
     pub(crate) alloc: Global,
@@ -33,7 +33,7 @@ impl Model for Shard {
 
     ghost coded = { Prim.hlevel (codes, version.the_row.coded) };
 
-    ghost view = { λ s. record { capacity = s.capacity; records = s.records.entries } };
+    ghost view = { λ s. record { capacity = s.capacity; records = s.records.entries; openings = s.directory.openings.entries; opened = s.directory.opened } };
 
     ghost invariant = { λ s. IsShardStored s.capacity s.records.entries s.directory.index.entries s.book };
 }
@@ -42,7 +42,7 @@ impl Shard {
     /// Returns a shard without conversations, for at most `capacity` of them. `capacity` is at most 65,536.
     pub fn new(alloc: Global, capacity: usize) -> Shard
         requires { capacity ≤ 65536 }
-        ensures { result ≡ record { capacity = capacity; records = [] } }
+        ensures { result ≡ record { capacity = capacity; records = []; openings = []; opened = 0 } }
     {
         Shard {
             alloc,

@@ -3,10 +3,12 @@
 
 ghost use Rattle.std.specs.Prelude.{◌≡◌, IfOk, IfErr, OnOk, OnErr};
 ghost use Rattle.scrib_core.specs.ConversationSteps.{IsOpened, OpenFails, IsNotedAt, NoteFails, IsTurnedAt, IsAskedAt, VerdictFails, IsClosedAt, CloseFails};
+ghost use Rattle.scrib_locked_steps.specs.Openings.{IsNumbered, IsUnnumbered, HasSameOpenings};
 
 use crate::shard::Shard;
 pub use scrib_core::conversation_steps::{Closed, Judged, Noted};
 use scrib_core::conversation_steps::{Opening, ask, close, note, open, turn};
+use scrib_core::places::{RecordKey, usual_place};
 use scrib_core::reply::Refusal;
 use scrib_library::library::Library;
 use scrib_record::comparison::Comparison;
@@ -29,6 +31,8 @@ pub fn open_step(
     ensures fault { IfErr result (OpenFails shard.old.capacity library.now shard.old.records id name.now) }
     ensures err { OnErr result (shard.new.records ≡ shard.old.records) }
     ensures limit { shard.new.capacity ≡ shard.old.capacity }
+    ensures number { OnOk result (IsNumbered shard.old.openings shard.old.opened id shard.new.openings shard.new.opened) }
+    ensures kept { OnErr result (HasSameOpenings shard.old shard.new) }
 {
     library.means_protocols();
     let opening = Opening {
@@ -59,8 +63,11 @@ pub fn note_step(
     ensures fault { IfErr result (NoteFails shard.old.records id) }
     ensures err { OnErr result (shard.new.records ≡ shard.old.records) }
     ensures limit { shard.new.capacity ≡ shard.old.capacity }
+    ensures kept { HasSameOpenings shard.old shard.new }
 {
-    let noted = note(library, &mut shard.records, Comparison::Whole, id, event)?;
+    let hint = usual_place(&shard.records, id);
+    let key = RecordKey { id, hint };
+    let noted = note(library, &mut shard.records, Comparison::Whole, key, event)?;
     shard.book += 1;
     Ok(noted)
 }
@@ -75,8 +82,11 @@ pub fn turn_step(library: &Library, shard: &mut Shard, id: u32) -> Result<Judged
     ensures fault { IfErr result (VerdictFails shard.old.records id) }
     ensures err { OnErr result (shard.new.records ≡ shard.old.records) }
     ensures limit { shard.new.capacity ≡ shard.old.capacity }
+    ensures kept { HasSameOpenings shard.old shard.new }
 {
-    turn(library, &mut shard.records, Comparison::Whole, id)
+    let hint = usual_place(&shard.records, id);
+    let key = RecordKey { id, hint };
+    turn(library, &mut shard.records, Comparison::Whole, key)
 }
 
 /// Returns the verdict on a conversation, or `Stale`.
@@ -87,7 +97,9 @@ pub fn ask_step(library: &Library, shard: &Shard, id: u32) -> Result<Judged, Ref
     ensures ok { IfOk result (λ j. IsAskedAt library.now shard.now.records id j.name j.events j.told) }
     ensures fault { IfErr result (VerdictFails shard.now.records id) }
 {
-    ask(library, &shard.records, Comparison::Whole, id)
+    let hint = usual_place(&shard.records, id);
+    let key = RecordKey { id, hint };
+    ask(library, &shard.records, Comparison::Whole, key)
 }
 
 /// Takes the conversation out of the shard. Returns the protocol's name, the number of events in the log, the verdict
@@ -100,13 +112,17 @@ pub fn close_step(library: &Library, shard: &mut Shard, id: u32) -> Result<Close
     ensures fault { IfErr result (CloseFails shard.old.records id) }
     ensures err { OnErr result (shard.new ≡ shard.old) }
     ensures limit { shard.new.capacity ≡ shard.old.capacity }
+    ensures opened { shard.new.opened ≡ shard.old.opened }
+    ensures openings { OnOk result (IsUnnumbered shard.old.openings id shard.new.openings) }
 {
+    let hint = usual_place(&shard.records, id);
+    let key = RecordKey { id, hint };
     let Closed {
         name,
         events,
         verdict,
         complete,
-    } = close(library, &mut shard.records, Comparison::Whole, id)?;
+    } = close(library, &mut shard.records, Comparison::Whole, key)?;
     shard.book -= events as u64;
     let name = shard.directory.unlist(name, id);
     Ok(Closed {

@@ -8,7 +8,7 @@ use Rattle.scrib_locked_steps.specs.Passes.{PassHeld}
 
 -- a shard without conversations
 abbrev pub no_shard : ShardHeld
-no_shard = record { capacity = 0; records = [] }
+no_shard = record { capacity = 0; records = []; openings = []; opened = 0 }
 
 -- the records of the shard of this number, from 0; none after the last
 abbrev pub records_at : List ShardHeld → ℕ → Records

@@ -82,9 +82,9 @@ abbrev pub OpenFailsSome : ℕ → List (List ℕ) → Refusal → Type 0
 OpenFailsSome id name f =
     (h : Holdings) × (s : ShardHeld) × IsAccepting h × IsLawfulShard s × OpenFails s.capacity h s.records id name f
 
--- a new pass to a conversation of some records
+-- a new pass to a conversation of some shard
 abbrev pub IsConnectedSome : ℕ → PassHeld → Type 0
-IsConnectedSome id p = (rs : Records) × IsConnected rs id p
+IsConnectedSome id p = (s : ShardHeld) × IsConnected s id p
 
 -- a pass is refused for this in some records
 abbrev pub ConnectFailsSome : ℕ → Refusal → Type 0
@@ -128,9 +128,9 @@ IsClosedSome id passes closed =
     (h : Holdings) × (old : ShardHeld) × (new : ShardHeld) × IsAccepting h × IsLawfulShard old
     × IsClosedBy h old id passes closed new
 
--- the close by the passes is refused for this in some records
+-- the close by the passes is refused for this in some shard
 abbrev pub CloseFailsSome : ℕ → List PassHeld → CloseRefusal → Type 0
-CloseFailsSome id passes f = (rs : Records) × CloseByFails rs id passes f
+CloseFailsSome id passes f = (s : ShardHeld) × CloseByFails s id passes f
 
 -- the ids of the stale conversations of some records under some library
 abbrev pub AreStaleSome : List ℕ → Type 0

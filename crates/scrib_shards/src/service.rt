@@ -1,6 +1,6 @@
 //! The service.
 
-ghost use Rattle.std.specs.Prelude.{◌≡◌, ◌⊎◌, ◌↔◌, ◌<◌, ◌≤◌, [], IfOk, IfErr, OnOk, OnErr, IsErrOf, All, vec_len, vec_capacity};
+ghost use Rattle.std.specs.Prelude.{◌≡◌, ◌⊎◌, ◌↔◌, ◌<◌, ◌≤◌, ℕ, [], IfOk, IfErr, OnOk, OnErr, IsErrOf, All, vec_len, vec_capacity};
 ghost use Rattle.scrib_locked_steps.specs.Passes.{IsReceipted, IsAnsweredOn};
 ghost use Rattle.scrib_shards.specs.Called.{IsPutSome, PutFailsSome, IsWithdrawnSome, WithdrawFailsSome, IsProfiledSome, ProfileFailsSome, IsOpenedSome, OpenFailsSome, IsConnectedSome, ConnectFailsSome, IsNotedSome, NoteFailsSome, AreAnsweredSome, IsTurnedSome, TurnFailsSome, IsAskedSome, AskFailsSome, IsClosedSome, CloseFailsSome};
 
@@ -179,7 +179,7 @@ impl Service {
     /// `NoConversation` if no conversation of the id is open.
     pub fn connect(&self, rt: &impl Wait, id: u32) -> Result<Pass, Refusal>
         ensures ok { IfOk result (IsConnectedSome id) }
-        ensures new { IfOk result (λ p. p ≡ record { conversation = id; receipts = [] }) }
+        ensures new { IfOk result (λ p. (opening : ℕ) × (p ≡ record { conversation = id; opening = opening; receipts = [] })) }
         ensures fault { IfErr result (ConnectFailsSome id) }
     {
         let shard = self.shards[self.shard_of(id)].lock(rt);

@@ -1,5 +1,7 @@
-use Rattle.std.proofs.Common.{◌≡◌, true, false, Ok, Err, Result, OnErr, sym, ◌∙◌, true≢false}
+use Rattle.std.proofs.Common.{◌≡◌, true, false, Ok, Err, Result, OnErr, ap, sym, subst, ◌∙◌, true≢false}
 use Rattle.std.specs.Prelude.{OnOk, is_err}
+use Rattle.scrib_locked_steps.specs.Shards.{ShardHeld}
+use Rattle.scrib_locked_steps.specs.Openings.{IsNumbered}
 use Rattle.scrib_locked_steps.proofs.ShardLemmas.{open_keeps, opened_some, taken_back, listed_same, stored_same}
 use Rattle.scrib_locked_steps.proofs.step_results.open_step.Goals as goal
 
@@ -30,3 +32,14 @@ invariant_of-shard-then-is_err c =
     listed_same c.shard.inside.capacity left c.shard.inside.directory.index.entries c.list.new.self.index.entries c.shard.inside.book
     (when_err c.list.result c.list.ensures.err (sym c.is_err.ensures.value ∙ c.if-is_err.true))
     (stored_same c.shard.inside.capacity old left c.shard.inside.directory.index.entries c.shard.inside.book back c.shard.invariant)
+
+pub returns-clause-number : goal.returns-clause-number
+returns-clause-number c =
+    subst (λ (s : ShardHeld). IsNumbered s.openings s.opened c.args.id c.list.new.self.openings.entries c.list.new.self.opened) c.shard.view_is
+    (when_ok c.list.result c.list.ensures.number (sym c.is_err.ensures.value ∙ c.if-is_err.false))
+
+pub returns-then-is_err-clause-kept : goal.returns-then-is_err-clause-kept
+returns-then-is_err-clause-kept c = (
+  when_err c.list.result c.list.ensures.openings (sym c.is_err.ensures.value ∙ c.if-is_err.true) ∙ ap (λ (s : ShardHeld). s.openings) c.shard.view_is,
+  when_err c.list.result c.list.ensures.opened (sym c.is_err.ensures.value ∙ c.if-is_err.true) ∙ ap (λ (s : ShardHeld). s.opened) c.shard.view_is,
+)

@@ -1,6 +1,7 @@
-use Rattle.std.proofs.Common.{◌≡◌, ◌∙◌, sym, arith}
-use Rattle.scrib_client.specs.ConnectionPasses.{pass_of}
-use Rattle.scrib_client.proofs.PassLemmas.{replies_each, conversation_kept_by_all, own_pass, own_set, own_there, pass_there, pass_set, value_read}
+use Rattle.std.proofs.Common.{◌≡◌, ◌∙◌, arith}
+use Rattle.indexmap.specs.IndexMap.{set_value_at}
+use Rattle.scrib_client.specs.ConnectionPasses.{pass_for}
+use Rattle.scrib_client.proofs.PassLemmas.{replies_each, before_kept, both_kept_by_all, own_pass, own_set, own_there, pass_there, pass_set, value_read}
 use Rattle.scrib_client.proofs.passes.Passes.note_all.Goals as goal
 
 pub invariant_of-self : goal.invariant_of-self
@@ -11,14 +12,14 @@ invariant_of-self g c =
     let value = value_read c.args.id kept c.in-Ok.at c.pair_mut-pass.result.0.now p c.pair_mut-pass.ensures.value in
     record {
       own = own_set c.args.id kept c.in-Ok.at q c.find_or_connect.new.self.own c.in-Ok.ensures.found
-          (conversation_kept_by_all p q c.args.batch.events.items c.note_all.result.items c.note_all.ensures ∙ own_there c.args.id kept c.in-Ok.at p c.find_or_connect.new.self.own c.in-Ok.ensures.found value);
+          ((both_kept_by_all p q c.args.batch.events.items c.note_all.result.items c.note_all.ensures).0 ∙ own_there c.args.id kept c.in-Ok.at p c.find_or_connect.new.self.own c.in-Ok.ensures.found value);
     }
 
 pub returns-in_default-clause-own : goal.returns-in_default-clause-own
-returns-in_default-clause-own g c = own_pass c.args.id c.args.self.now.by_id.entries c.args.self.now.own
+returns-in_default-clause-own g c = own_pass c.args.id _ c.args.self.now.by_id.entries c.args.self.now.own
 
 pub returns-clause-own : goal.returns-clause-own
-returns-clause-own g c = own_pass c.args.id c.args.self.now.by_id.entries c.args.self.now.own
+returns-clause-own g c = own_pass c.args.id _ c.args.self.now.by_id.entries c.args.self.now.own
 
 pub returns-clause-answered : goal.returns-clause-answered
 returns-clause-answered g c =
@@ -26,8 +27,10 @@ returns-clause-answered g c =
     let p = c.pair_mut-pass.result.1.now in
     let q = c.note_all.new.pass in
     let value = value_read c.args.id kept c.in-Ok.at c.pair_mut-pass.result.0.now p c.pair_mut-pass.ensures.value in
-    let before : pass_of c.args.self.now.by_id.entries c.args.id ≡ p = sym c.in-Ok.ensures.kept ∙ pass_there c.args.id kept c.in-Ok.at p c.pair_mut-pass.ensures.unique c.in-Ok.ensures.found value in
-    let after = pass_set c.args.id kept c.in-Ok.at q c.pair_mut-pass.ensures.unique c.in-Ok.ensures.found in
+    let first : pass_for 0 kept c.args.id ≡ p = pass_there c.args.id 0 kept c.in-Ok.at p c.pair_mut-pass.ensures.unique c.in-Ok.ensures.found value in
+    let after = pass_set c.args.id 0 kept c.in-Ok.at q c.pair_mut-pass.ensures.unique c.in-Ok.ensures.found in
+    let left = both_kept_by_all p q c.args.batch.events.items c.note_all.result.items c.note_all.ensures in
+    let before = before_kept c.args.self.now.by_id.entries kept (set_value_at kept c.in-Ok.at q) c.args.id p q first after left.1 c.in-Ok.ensures.kept in
     rw (before, after) c.note_all.ensures
 
 pub returns-clause-each : goal.returns-clause-each
