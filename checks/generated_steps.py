@@ -1,14 +1,19 @@
 #!/usr/bin/env python3
 """Prints examples of generated steps: edits, withdrawals, openings, turns, asks and events over a service.
 
-    generated_steps.py [--lists N]
+    generated_steps.py [--lists N] [--closes]
 
 Sixteen lists under each profile are the stored examples of the topic `generated_steps`, among the cases of
 crates/scrib_examples. Such an example runs its steps over a service of two shards and beside a core. Where two replies
 differ, its output has one line more. Without titles and commands, each list is a script that `watch` reads too.
+
+With `--closes` the lists also close conversations and open their ids again. Four such lists under each profile are the
+stored examples of the topic `generated_closes`. The output of such an example is one line: how many replies there are,
+how many of them differ from the core's, and how many conversations were closed. It is printed to standard error.
 """
 
 import argparse
+import sys
 
 STEPS = 500
 CALLED = "module lib; global protocol P(role A, role B) { a() from A to B; }"
@@ -66,23 +71,60 @@ def next_step(numbers, made):
     return line_with(EXCHANGED[made % 2], id)
 
 
-def steps(profile, numbers):
-    """A list of steps: the profile, three modules, four conversations that two roles join, and generated steps."""
+def setup(profile):
+    """The profile, three modules, and four conversations that two roles join."""
     made = [f"profile {profile}", *map(put, [CALLED, CALLING, LOOP]), *OPENED]
     for id in range(4):
         made += [f"join {id} A", f"join {id} B"]
+    return made
+
+
+def steps(profile, numbers):
+    """A list of steps: the setup, and generated steps."""
+    made = setup(profile)
     while len(made) < STEPS:
         made.append(next_step(numbers, len(made)))
     return made
 
 
+def closing_steps(profile, numbers):
+    """As `steps`, with closes and openings among them; and how many closes are accepted."""
+    made = setup(profile)
+    is_open = [True] * 4
+    closed = 0
+    while len(made) < STEPS:
+        id = numbers.next() & 3
+        if numbers.once_in(20):
+            made.append(f"close {id}")
+            closed += is_open[id]
+            is_open[id] = False
+        elif not is_open[id] and numbers.once_in(4):
+            made += [put(LOOP), f"open {id} k.K", f"join {id} A", f"join {id} B"]
+            is_open[id] = True
+        else:
+            made.append(next_step(numbers, len(made)))
+    return made, closed
+
+
+def print_closing(profile, number, numbers):
+    """Prints an example of closes, and to standard error what it prints."""
+    made, closed = closing_steps(profile, numbers)
+    print(f"== generated closes, {profile}, list {number}\nservice agree 2")
+    print("\n".join(made))
+    print(f"{profile}, list {number}: {len(made)} replies, 0 differ, {closed} closed", file=sys.stderr)
+
+
 def main():
     parser = argparse.ArgumentParser(description=__doc__, formatter_class=argparse.RawDescriptionHelpFormatter)
     parser.add_argument("--lists", metavar="N", type=int, default=16, help="lists under each profile (default: 16)")
-    lists = parser.parse_args().lists
+    parser.add_argument("--closes", action="store_true", help="lists with closes")
+    options = parser.parse_args()
     numbers = Numbers()
     for profile in ("plain", "reception"):
-        for number in range(1, lists + 1):
+        for number in range(1, options.lists + 1):
+            if options.closes:
+                print_closing(profile, number, numbers)
+                continue
             print(f"== generated steps, {profile}, list {number}\nservice script 2")
             print("\n".join(steps(profile, numbers)))
 

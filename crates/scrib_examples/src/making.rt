@@ -1,6 +1,6 @@
 //! What examples are made of.
 
-ghost use Rattle.std.specs.Prelude.{◌≡◌};
+ghost use Rattle.std.specs.Prelude.{◌≡◌, None, false};
 ghost use Rattle.scrib_client.specs.Steps.{is_close};
 
 use crate::fault::RowsFault;
@@ -82,6 +82,16 @@ pub(crate) fn steps_of(alloc: Global, script: &str) -> Result<Vec<Step>, RowsFau
         Err(_) => return Err(RowsFault::Wrong),
     }
     Ok(steps)
+}
+
+/// The id of the conversation that the step closes, if it closes one.
+pub(crate) fn closed_id(step: &Step) -> Option<u32>
+    ensures { result ≡ None → is_close step.now ≡ false }
+{
+    match step {
+        Step::Close { id } => Some(*id),
+        _ => None,
+    }
 }
 
 /// Whether the step closes a conversation, which no connection does.

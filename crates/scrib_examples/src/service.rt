@@ -1,6 +1,7 @@
 //! Worked examples of the service and of its sweeps, with threads and beside a core.
 
 mod alone;
+mod closing;
 mod crew;
 mod crossing;
 mod events;
@@ -12,6 +13,7 @@ mod table;
 
 use crate::fault::RowsFault;
 use crate::service::alone::apply;
+pub(crate) use crate::service::closing::close;
 use crate::service::crew::{Editing, Plan};
 use crate::service::parts::printed_parts;
 pub(crate) use crate::service::settling::push_settling_twice;
@@ -55,7 +57,8 @@ fn printed_by_threads<R: Threads + Wait + Sync>(
 }
 
 // What is printed by the example of this word and number, over what follows its line. `script` is run on a service of
-// so many shards, on one thread, beside a core. `apply` notes so many events by a core; how many were noted.
+// so many shards, on one thread, beside a core, and so is `agree`, which prints how many replies differ. `apply` notes so
+// many events by a core; how many were noted.
 fn printed_by_number<R: Threads + Wait + Sync>(
     rt: &R,
     alloc: Global,
@@ -76,6 +79,7 @@ fn printed_by_number<R: Threads + Wait + Sync>(
             Ok(out)
         }
         "script" => play(rt, alloc, number, &[Act::Compare(body)], Ending::Settle),
+        "agree" => play(rt, alloc, number, &[Act::Agree(body)], Ending::Nothing),
         "many-threads" => printed_by_threads(rt, alloc, "settle", (number, 64, 8_000)),
         "numbers-of-workers" => {
             let acts = [Act::Sweep(Sweep::UpTo(number))];

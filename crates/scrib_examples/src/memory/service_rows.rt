@@ -4,12 +4,13 @@ use crate::fault::{RowsFault, check};
 use crate::making::{event_of, is_close, step_of};
 use crate::memory::rows::{PUT_CHOICE, PUT_LOOP};
 use crate::memory::script_rows::PAGE_BYTES;
-use crate::service::push_settling_twice;
+use crate::service::{close, push_settling_twice};
 use scrib_client::passes::Passes;
 use scrib_client::service_reply::{ServiceReply, is_change};
 use scrib_client::steps::make_step;
 use scrib_core::reply::{Refusal, Reply};
 use scrib_library::fault::EditFault;
+use scrib_locked_steps::close_calls::CloseRefusal;
 use scrib_rejudge::alone::sweep_alone;
 use scrib_shards::gate::OpenGate;
 use scrib_shards::pass::Pass;
@@ -104,11 +105,34 @@ fn noted(rt: &impl Wait, alloc: Global, service: &Service) -> Result<Vec<Pass>, 
     Ok(passes)
 }
 
-/// Two conversations are noted by a pass each, while their protocol is edited; a sweep brings their verdicts up to
-/// date, and the service is settled, first without the second pass.
+// Opens a third conversation, of which a pass notes an event, edits its protocol, and closes it. Where memory is refused
+// to the close, the conversation and its pass are to be as before, and it is closed once more.
+fn close_third(rt: &impl Wait, alloc: Global, service: &Service) -> Result<(), RowsFault> {
+    make(rt, alloc, service, "open 2 k.K")?;
+    let mut pass = service.connect(rt, 2)?;
+    note(rt, service, &mut pass, &event_of(alloc, "join 2 A")?)?;
+    make(rt, alloc, service, PUT_CHOICE)?;
+    let mut passes = Vec::with_capacity(alloc, 1)?;
+    passes.push(pass)?;
+    let closed = match close(rt, alloc, service, 2, &mut passes)? {
+        Err(CloseRefusal::Step(Refusal::OutOfMemory)) => {
+            let pass = passes.first().ok_or(RowsFault::Wrong)?;
+            check(pass.receipts().len() == 1)?;
+            service.ask(rt, pass).ok().ok_or(RowsFault::Again)?;
+            close(rt, alloc, service, 2, &mut passes)?
+        }
+        closed => closed,
+    };
+    let closed = closed.ok().ok_or(RowsFault::Again)?;
+    check(closed.events == 1 && passes.is_empty())
+}
+
+/// Two conversations are noted by a pass each, while their protocol is edited, and a third is closed; a sweep brings
+/// verdicts up to date, and the service is settled, first without the second pass.
 pub(crate) fn run_passes(rt: &impl Wait, alloc: Global) -> Result<(), RowsFault> {
     let mut service = Service::new(alloc, 2).ok().ok_or(RowsFault::Memory)?;
     let passes = noted(rt, alloc, &service)?;
+    close_third(rt, alloc, &service)?;
     if sweep_alone(&mut service).is_err() && sweep_alone(&mut service).is_err() {
         return Err(RowsFault::Again);
     }

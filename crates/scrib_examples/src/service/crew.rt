@@ -2,8 +2,10 @@
 
 use crate::fault::RowsFault;
 use crate::making::{CHOICE, DEMO, LOOP, event_of, name_of, steps_of};
+use crate::service::closing::close_in_rounds;
 use crate::service::crossing::Crossing;
 use crate::service::events::{EVENTS, PER_LOG, event_at};
+use crate::service::sweeping::sweep_by_notices;
 use scrib_core::reply::Refusal;
 use scrib_report::verdict::verdict;
 use scrib_shards::gate::OpenGate;
@@ -49,6 +51,9 @@ pub(crate) enum Plan {
     Report,
     /// Two threads note an event each, in shards 0 and 1, where each waits for the other.
     Meet,
+    /// One thread opens and closes conversations whose verdicts are out of date, while the other brings verdicts up to
+    /// date. How many were closed is printed.
+    Close,
     /// So many threads note so many events in all, each in conversations of its own, while a further one edits.
     Note {
         threads: usize,
@@ -162,6 +167,31 @@ fn edit(
     Ok(())
 }
 
+// Closes conversations, and says when all are closed. The other thread sweeps until then.
+fn close_or_sweep(
+    rt: &impl Wait,
+    alloc: Global,
+    service: &Service,
+    crew: &Crew,
+    thread: usize,
+) -> Result<Record, RowsFault> {
+    let mut out = Vec::new(alloc);
+    if thread == 0 {
+        let closed = close_in_rounds(rt, alloc, service);
+        crew.done.fetch_add(1, Ordering::SeqCst);
+        writeln!(out, "{} closed", closed?)?;
+    } else {
+        for _ in 0..u64::MAX {
+            if crew.done.load(Ordering::SeqCst) > 0 {
+                break;
+            }
+            sweep_by_notices(rt, alloc, service)?;
+        }
+    }
+    let passes = Vec::new(alloc);
+    Ok(Record { passes, out })
+}
+
 // What the thread of this number does: the one after those that note edits.
 fn work(
     rt: &impl Wait,
@@ -175,6 +205,7 @@ fn work(
             let lines = REPORTS.get(thread).ok_or(RowsFault::Wrong)?;
             return report(rt, alloc, service, lines);
         }
+        Plan::Close => return close_or_sweep(rt, alloc, service, crew, thread),
         Plan::Meet => meet(rt, alloc, service, &crew.crossing, thread)?,
         Plan::Note { threads, notes, .. } if thread < threads => {
             let own = notes.checked_div(threads).unwrap_or(0);
@@ -220,7 +251,7 @@ pub(crate) fn run_crew<R: Threads + Wait + Sync>(
     record: &mut Record,
 ) -> Result<(), RowsFault> {
     let threads = match plan {
-        Plan::Report | Plan::Meet => 2,
+        Plan::Report | Plan::Meet | Plan::Close => 2,
         Plan::Note {
             threads,
             editing: Editing::Nothing,

@@ -1,7 +1,8 @@
 //! Examples of a service, as lists of acts.
 
 use crate::fault::RowsFault;
-use crate::making::{event_of, is_close, name_of, steps_of};
+use crate::making::{closed_id, event_of, name_of, steps_of};
+use crate::service::closing::close;
 use crate::service::crew::{Plan, Record, run_crew};
 use crate::service::settling::{push_settling, push_settling_twice};
 use crate::service::sweeping::{NOTHING_SWEPT, Sweep, push_touched, sweep_by};
@@ -10,8 +11,9 @@ use scrib_client::service_reply::{ServiceReply, push_service_reply, refused};
 use scrib_client::steps::make_step;
 use scrib_core::format::Format;
 use scrib_core::monitor::Core;
-use scrib_core::reply::Reply;
+use scrib_core::reply::{Reply, close_reply};
 use scrib_core::step::Step;
+use scrib_locked_steps::close_calls::CloseRefusal;
 use scrib_rejudge::Swept;
 use scrib_shards::service::{Service, ServiceFault};
 use std::alloc::Global;
@@ -29,6 +31,11 @@ pub(crate) enum Act<'a> {
     Answer(&'a str),
     /// The same, and by a core too: each of its replies that differs is printed as well.
     Compare(&'a str),
+    /// The same, but how many replies there are, how many of them differ, and how many conversations were closed is
+    /// printed alone.
+    Agree(&'a str),
+    /// The conversation of this id is closed, without the passes by which steps are made now.
+    Close(u32),
     /// The event of a line is noted so often in conversation 0.
     Repeat(&'a str, usize),
     /// Conversations of the first shard are opened, of the protocol of this line, until one is refused. How many are
@@ -71,43 +78,113 @@ struct Stage {
     swept: Swept,
 }
 
-// Adds the line of a reply, and that of a core's reply where it differs.
+// Adds the line of a reply, and that of a core's reply where it differs. Whether it does.
 fn push_reply(
     alloc: Global,
     reply: &ServiceReply,
     by_core: Option<Reply>,
     out: &mut Vec<u8>,
-) -> Result<(), RowsFault> {
+) -> Result<bool, RowsFault> {
     let mut line = Vec::new(alloc);
     push_service_reply(&mut line, reply, Format::Line)?;
     out.extend_from_slice(&line)?;
     let Some(by_core) = by_core else {
-        return Ok(());
+        return Ok(false);
     };
     let mut other = Vec::new(alloc);
     push_service_reply(&mut other, &ServiceReply::Reply(by_core), Format::Line)?;
-    if other.as_slice() != line.as_slice() {
+    let differs = other.as_slice() != line.as_slice();
+    if differs {
         out.extend_from_slice(b"but the core: ")?;
         out.extend_from_slice(&other)?;
     }
-    Ok(())
+    Ok(differs)
 }
 
-// Makes the steps of the script, of which a core may have these replies, and adds the lines of the replies.
+// Makes the steps of the script, of which a core may have these replies, and adds the lines of the replies. How many
+// replies differ.
 fn push_replies(
     rt: &impl Wait,
     stage: &mut Stage,
     steps: Vec<Step>,
     by_core: Vec<Reply>,
-) -> Result<(), RowsFault> {
+) -> Result<usize, RowsFault> {
     let mut by_core = by_core.into_iter();
+    let mut different: usize = 0;
     for step in steps {
-        if is_close(&step) {
-            return Err(RowsFault::BadRow);
-        }
-        let reply = make_step(rt, &stage.service, &mut stage.passes, step);
-        push_reply(stage.alloc, &reply, by_core.next(), &mut stage.record.out)?;
+        let by_core = by_core.next();
+        let differs = match closed_id(&step) {
+            Some(id) => {
+                reconnect(stage)?;
+                push_closing(rt, stage, id, by_core)?
+            }
+            None => {
+                let reply = make_step(rt, &stage.service, &mut stage.passes, step);
+                push_reply(stage.alloc, &reply, by_core, &mut stage.record.out)?
+            }
+        };
+        different = different.saturating_add(usize::from(differs));
     }
+    Ok(different)
+}
+
+// Closes the conversation with the passes that were made before, and adds the line of the reply, and that of a core's
+// reply where it differs. Whether it does.
+fn push_closing(
+    rt: &impl Wait,
+    stage: &mut Stage,
+    id: u32,
+    by_core: Option<Reply>,
+) -> Result<bool, RowsFault> {
+    let alloc = stage.alloc;
+    let closed = close(rt, alloc, &stage.service, id, &mut stage.record.passes)?;
+    let out = &mut stage.record.out;
+    let reply = match closed {
+        Ok(closed) => close_reply(id, Ok(closed)),
+        Err(CloseRefusal::Step(refusal)) => close_reply(id, Err(refusal)),
+        Err(CloseRefusal::PassesMissing) => {
+            writeln!(out, "refused PassesMissing")?;
+            return Ok(true);
+        }
+        Err(
+            CloseRefusal::Mismatch {
+                conversation,
+                place,
+            },
+        ) => {
+            writeln!(out, "refused Mismatch {conversation} {place}")?;
+            return Ok(true);
+        }
+    };
+    push_reply(alloc, &ServiceReply::Reply(reply), by_core, out)
+}
+
+// Makes the steps of the script by the service and by a core, and adds how many replies there are, how many of them
+// differ, and how many conversations were closed.
+fn push_agreement(rt: &impl Wait, stage: &mut Stage, script: &str) -> Result<(), RowsFault> {
+    let alloc = stage.alloc;
+    let steps = steps_of(alloc, script)?;
+    let by_core = Core::new(alloc).run(&steps)?;
+    let replies = by_core.len();
+    let mut closed: usize = 0;
+    for reply in &by_core {
+        closed = closed.saturating_add(usize::from(matches!(reply, Reply::Closed { .. })));
+    }
+    let length = stage.record.out.len();
+    let different = push_replies(rt, stage, steps, by_core)?;
+    stage.record.out.truncate(length);
+    writeln!(
+        stage.record.out,
+        "{replies} replies, {different} differ, {closed} closed"
+    )?;
+    Ok(())
+}
+
+// Lets new passes make steps from now on.
+fn reconnect(stage: &mut Stage) -> Result<(), RowsFault> {
+    let alloc = stage.alloc;
+    let passes = mem::replace(&mut stage.passes, Passes::new(alloc));
+    stage.record.passes.append(&mut passes.into_vec(alloc)?)?;
     Ok(())
 }
 
@@ -134,7 +211,8 @@ fn fill(rt: &impl Wait, stage: &mut Stage, line: &str) -> Result<(), RowsFault> 
     for (count, id) in (0..=65_536_u32).step_by(shards).enumerate() {
         if let Err(refusal) = stage.service.open(rt, id, &name) {
             write!(stage.record.out, "{count} open\n{id}: ")?;
-            return push_reply(stage.alloc, &refused(refusal), None, &mut stage.record.out);
+            push_reply(stage.alloc, &refused(refusal), None, &mut stage.record.out)?;
+            return Ok(());
         }
     }
     Err(RowsFault::Wrong)
@@ -178,18 +256,21 @@ fn perform<R: Threads + Wait + Sync>(
             push_replies(rt, stage, steps_of(alloc, script)?, Vec::new(alloc))?;
             stage.record.out.truncate(length);
         }
-        Act::Answer(script) => push_replies(rt, stage, steps_of(alloc, script)?, Vec::new(alloc))?,
+        Act::Answer(script) => {
+            push_replies(rt, stage, steps_of(alloc, script)?, Vec::new(alloc))?;
+        }
         Act::Compare(script) => {
             let steps = steps_of(alloc, script)?;
             let by_core = Core::new(alloc).run(&steps)?;
             push_replies(rt, stage, steps, by_core)?;
         }
+        Act::Agree(script) => push_agreement(rt, stage, script)?,
+        Act::Close(id) => {
+            push_closing(rt, stage, id, None)?;
+        }
         Act::Repeat(line, times) => note_often(rt, stage, line, times)?,
         Act::Fill(line) => fill(rt, stage, line)?,
-        Act::Reconnect => {
-            let passes = mem::replace(&mut stage.passes, Passes::new(alloc));
-            stage.record.passes.append(&mut passes.into_vec(alloc)?)?;
-        }
+        Act::Reconnect => reconnect(stage)?,
         Act::Replace => {
             let shards = stage.service.shards();
             stage.service = Service::new(alloc, shards).ok().ok_or(RowsFault::Memory)?;

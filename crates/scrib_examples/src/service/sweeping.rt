@@ -50,8 +50,12 @@ pub(crate) fn push_touched(
     Ok(())
 }
 
-// Sweeps by notices.
-fn sweep_by_notices(rt: &impl Wait, alloc: Global, service: &Service) -> Result<Swept, RowsFault> {
+/// Sweeps by notices.
+pub(crate) fn sweep_by_notices(
+    rt: &impl Wait,
+    alloc: Global,
+    service: &Service,
+) -> Result<Swept, RowsFault> {
     let (outbox, inbox) = unbounded(alloc)?;
     for shard in [0, 1, 7] {
         if outbox.send(rt, Notice { shard }).is_err() {

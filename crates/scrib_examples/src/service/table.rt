@@ -124,6 +124,29 @@ pub(crate) const EXAMPLES: &[(&str, &[Act<'static>], Ending)] = &[
         &[Act::Make(EDITED), Act::Sweep(Sweep::Meeting)],
         Ending::Nothing,
     ),
+    // A pass without receipts outlives its conversation, and the id is opened again. The last close lacks the pass of
+    // an event.
+    (
+        "reopened",
+        &[
+            Act::Make(DEMO_OPENED),
+            Act::Make("ask 0\n"),
+            Act::Close(0),
+            Act::Answer("join 0 A\nask 0\n"),
+            Act::Make("open 0 demo.Hello\n"),
+            Act::Answer("join 0 A\nask 0\n"),
+            Act::Reconnect,
+            Act::Answer("join 0 A\nask 0\n"),
+            Act::Close(0),
+        ],
+        Ending::Settle,
+    ),
+    // Closes by one thread, and sweeps by another.
+    (
+        "closed-and-swept",
+        &[Act::Make(PUT_LOOP), Act::Run(Plan::Close)],
+        Ending::Settle,
+    ),
     (
         "notices",
         &[Act::Make(EDITED), Act::Sweep(Sweep::Notices), Act::Swept],
