@@ -85,6 +85,7 @@ impl Configuration {
 
     /// Returns whether the permitted log that leads here is complete: each role is at its end, and no message is in
     /// flight. It allocates nothing.
+    #[inline(always)]
     pub fn is_complete(&self, version: &Version) -> bool
         requires { conf.IsReached (meaning_of version.now) version.now.machines self.now }
         ensures { (log : List Event) → conf.LeadsTo (meaning_of version.now) version.now.machines log self.now
@@ -97,6 +98,7 @@ impl Configuration {
     }
 
     // Returns whether each role is at its end.
+    #[inline(always)]
     fn have_ended(&self, version: &Version) -> bool
         requires { conf.IsReached (meaning_of version.now) version.now.machines self.now }
         ensures ended { (log : List Event) → conf.LeadsTo (meaning_of version.now) version.now.machines log self.now
@@ -113,6 +115,7 @@ impl Configuration {
     }
 
     // Returns whether the machine of the role with this place is in a state without edges.
+    #[inline(always)]
     fn has_ended(&self, version: &Version, place: usize) -> bool
         requires reached { conf.IsReached (meaning_of version.now) version.now.machines self.now }
         requires declared { (role : List ℕ) × place_in (meaning_of version.now).roles role ≡ Some place }

@@ -120,6 +120,7 @@ impl Judging {
     }
 
     /// Returns whether all of the log is judged and permitted, and the log is complete. It allocates nothing.
+    #[inline(always)]
     pub fn is_complete(&self, log: &[SharedEvent]) -> bool
         requires { kept.IsKept log.now self.now }
         ensures { IsTrue result ↔ IsCompleteWith self.now.held log.now self.now.verdict self.now.judged }

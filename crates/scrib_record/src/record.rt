@@ -122,6 +122,7 @@ impl Record {
     }
 
     /// Returns the events, oldest first.
+    #[inline(always)]
     pub fn log(&self) -> &[SharedEvent]
         ensures log { result.now ≡ self.now.log }
         ensures lawful { IsLawful self.now }
@@ -218,6 +219,7 @@ impl Record {
 
     /// Returns whether the record holds a version, its verdict on the whole log is `Permitted`, and the log is complete
     /// under that version: no role has a further action, and no message is in flight. It allocates nothing.
+    #[inline(always)]
     pub fn is_complete(&self) -> bool
         ensures { IsTrue result ↔ IsCompleteRecord self.now }
     {
