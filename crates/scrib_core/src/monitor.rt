@@ -1,6 +1,6 @@
 //! The core: the monitor on one thread.
 
-ghost use Rattle.std.specs.Prelude.{◌≡◌, ◌↔◌, IfOk, IsTrue, OnErr};
+ghost use Rattle.std.specs.Prelude.{◌≡◌, ◌↔◌, true, false, IfOk, IsTrue, OnOk, OnErr};
 ghost use Rattle.std.specs.Option.{option_map};
 ghost use Rattle.scrib_types.specs.Meaning.{agreement_of};
 ghost use Rattle.scrib_library.specs.Modules.{IsMeaning};
@@ -154,6 +154,45 @@ impl Core {
             RecordKey { id, hint },
             event,
         )
+    }
+
+    /// Makes the step `Note` as [`Core::note_event`] does, and returns what that returns. Returns also whether the step
+    /// was accepted, a test was asked for, and the conversation is complete now, as [`Core::is_complete`] has it.
+    ///
+    /// # Errors
+    /// `NoConversation`, `LogFull` or `OutOfMemory`, whichever applies first. Nothing changes then.
+    #[inline(always)]
+    pub fn note_and_test(
+        &mut self,
+        id: u32,
+        event: SharedEvent,
+        tests: bool,
+    ) -> (Result<Noted, Refusal>, bool)
+        ensures answered { IsAnswered (state_of self.old) (Note id event) (note_reply_of id result.0)
+            (state_of self.new) }
+        ensures memory { IsDue (state_of self.old).world (Note id event) (note_reply_of id result.0) }
+        ensures refused { LeavesRefused (note_reply_of id result.0) self.old self.new }
+        ensures runs { PermitsRuns (state_of self.new).world }
+        ensures complete { OnOk result.0 (IsTrue result.1 ↔ (tests ≡ true) × IsCompleteIn (state_of self.new) id) }
+        ensures untested { OnErr result.0 (result.1 ≡ false) }
+    {
+        self.library.are_numbered();
+        self.library.means_protocols();
+        let hint = self.places.find(&self.records, id);
+        let key = RecordKey { id, hint };
+        let noted = note(
+            &self.library,
+            &mut self.records,
+            Comparison::Numbers,
+            key,
+            event,
+        );
+        if !tests || noted.is_err() {
+            return (noted, false);
+        }
+        // The record is where it was.
+        let complete = is_complete(&self.library, &self.records, Comparison::Numbers, key);
+        (noted, complete)
     }
 
     /// Makes the step `Ask` with this id. Returns the protocol's name, the number of events in the log, and the verdict,
