@@ -1,21 +1,15 @@
 -- Items that are carried out one after another, where complete conversations are closed.
-use Rattle.std.proofs.Common.{◌≡◌, ℕ, Bool, true, false, List, [], ◌∷◌, ◌++◌, ◌∙◌, Option, Some, None, Result, Ok, Err, refl, sym, ap, subst}
-use Rattle.std.specs.Prelude.{is_ok}
+use Rattle.std.proofs.Common.{◌≡◌, ℕ, Bool, true, List, [], ◌∷◌, ◌++◌, ◌∙◌, Option, Some, None, refl, sym, ap, subst}
 use Rattle.std.proofs.lemmas.Bool.{false≢true}
 use Rattle.std.proofs.lemmas.List.{append_assoc, append-nil}
-use Rattle.std.proofs.lemmas.Option.{same_Some}
-use Rattle.scrib_core.specs.declared.conversation_steps.Noted.{Noted}
 use Rattle.scrib_core.specs.declared.format.Format.{Format}
 use Rattle.scrib_core.specs.declared.format.Format.TheVariants as format
 use Rattle.scrib_core.specs.declared.step.Step.{Step}
-use Rattle.scrib_core.specs.declared.step.Step.TheVariants.{Put, Withdraw, Open, Note, Turn, Ask, Close}
-use Rattle.scrib_core.specs.declared.step.Step.TheVariants as step
-use Rattle.scrib_core.specs.declared.reply.Refusal.{Refusal}
+use Rattle.scrib_core.specs.declared.step.Step.TheVariants.{Close}
 use Rattle.scrib_core.specs.declared.reply.Refusal.TheVariants.{OutOfMemory}
 use Rattle.scrib_core.specs.declared.reply.Reply.{Reply}
 use Rattle.scrib_core.specs.declared.reply.Reply.TheVariants.{Refused}
 use Rattle.scrib_core.specs.Answers.{State, IsCompleteIn, IsAnswered, Answers}
-use Rattle.scrib_core.specs.ReplyValues.{note_reply_of}
 use Rattle.scrib_report.specs.ReplyTexts.{bad_line, end_of_text, reply_format, reply_text}
 use Rattle.scrib_script_reader.specs.declared.item.Item.{Item}
 use Rattle.scrib_script_reader.specs.declared.item.Item.TheVariants as item
@@ -151,11 +145,6 @@ module _ (o f : Format) (s : Step) (r : Reply) (w u t : State) (id : ℕ) (answe
 pub plain_format : (o : Format) → reply_format o format.Line ≡ o
 plain_format format.Line = refl
 plain_format format.Json = refl
-
--- the reply to a note accepts it where the note had a result
-pub note_accepted : (id : ℕ) (noted : Result Noted Refusal) → is_accepted (note_reply_of id noted) ≡ is_ok noted
-note_accepted id (Ok n) = refl
-note_accepted id (Err f) = refl
 
 -- the test after a step, in terms of the step and its reply
 module _ (s : Step) (r : Reply) (u : State) (judged : Option ℕ) (accepted : Bool) (of_step : judged ≡ judged_by s) (of_reply : accepted ≡ is_accepted r) where

@@ -1,12 +1,12 @@
--- A send completes no conversation: its message is in flight then.
-use Rattle.std.proofs.Common.{◌≡◌, ◌≤◌, ◌&&◌, ℕ, Bool, true, false, cond, List, [], ◌∷◌, ◌++◌, ◌∙◌, Option, Some, None, Result, Ok, Err, filter_map, length, drop, nat_eq, refl, sym, ap, subst, arith}
-use Rattle.std.specs.Prelude.{IsSome}
+-- Notes of events, and whether they complete their conversations. A send does not: its message is in flight then.
+use Rattle.std.proofs.Common.{◌≡◌, ◌↔◌, ◌≤◌, ◌&&◌, ℕ, Bool, true, false, not, cond, IsTrue, List, [], ◌∷◌, ◌++◌, ◌∙◌, Some, Result, Ok, Err, filter_map, length, drop, nat_eq, refl, sym, ap, subst, arith}
+use Rattle.std.specs.Prelude.{IsSome, OnOk, OnErr}
 use Rattle.std.specs.Cmp.{nat_eq_equiv}
 use Rattle.std.specs.Map.{lookup, set_value}
 use Rattle.std.specs.Str.{bytes_eq}
 use Rattle.std.proofs.lemmas.Bool.{false≢true}
 use Rattle.std.proofs.lemmas.Bool.Decides.{Decides-eqb}
-use Rattle.std.proofs.lemmas.List.{append-nil, drop-append-le, length-append, length-drop}
+use Rattle.std.proofs.lemmas.List.{append-nil, drop-append-le, length-append}
 use Rattle.std.proofs.lemmas.List.Elements.{filter_map-append}
 use Rattle.std.proofs.lemmas.Map.{lookup-set_value}
 use Rattle.std.proofs.lemmas.Slice.Eq.{bytes_eq-Decides}
@@ -15,7 +15,7 @@ use Rattle.scrib_types.specs.declared.event.Event.{Event}
 use Rattle.scrib_types.specs.declared.event.Event.TheVariants.{Join, Sent, Received}
 use Rattle.scrib_types.specs.Agreement.{Agreement}
 use Rattle.scrib_types.specs.Complete.{IsComplete}
-use Rattle.scrib_types.specs.Queues.{sent_message, received_message, sent, received, flights}
+use Rattle.scrib_types.specs.Queues.{sent_message, received_message, sent, received}
 use Rattle.scrib_core.specs.declared.conversation_steps.Noted.{Noted}
 use Rattle.scrib_core.specs.declared.step.Step.TheVariants.{Note}
 use Rattle.scrib_core.specs.declared.reply.Refusal.{Refusal}
@@ -78,3 +78,18 @@ send_open id e (Ok n) w u sends answered j k =
     let both : Some (noted step.0 e) ≡ Some c.0 = sym there ∙ ap (conversation u.world) same ∙ c.1 in
     let is : noted step.0 e ≡ c.0 = cc in
     never_complete id e step.0.log c.2.0 sends (subst (λ (x : Conversation). IsComplete c.2.0 x.log) (sym is) c.2.2)
+
+-- a note behind which the test holds
+pub note_completes : (id : ℕ) (e : Event) (outcome : Result Noted Refusal) (u : State) (tests complete : Bool) → OnOk outcome (IsTrue complete ↔ (tests ≡ true) × IsCompleteIn u id) → OnErr outcome (complete ≡ false) → complete ≡ true
+    → Completes (Note id e) (note_reply_of id outcome) u id
+note_completes id e (Ok n) u tests complete asked unasked holds = (refl, refl, (asked.0 holds).1)
+note_completes id e (Err f) u tests complete asked unasked holds = absurd (false≢true (sym unasked ∙ holds))
+
+-- a note behind which it does not hold, where the test is asked for unless the event is a send
+pub note_stays : (id : ℕ) (e : Event) (outcome : Result Noted Refusal) (w u : State) (sends complete : Bool) → sends ≡ is_send e → IsAnswered w (Note id e) (note_reply_of id outcome) u
+    → OnOk outcome (IsTrue complete ↔ (not sends ≡ true) × IsCompleteIn u id) → complete ≡ false → (j : ℕ) → Completes (Note id e) (note_reply_of id outcome) u j → ⊥
+note_stays id e (Err f) w u sends complete of_event answered asked fails j k = false≢true k.1
+note_stays id e (Ok n) w u true complete of_event answered asked fails j k = send_open id e (Ok n) w u (sym of_event) answered j k
+note_stays id e (Ok n) w u false complete of_event answered asked fails j k =
+    let same : id ≡ j = let e : Some id ≡ Some j = k.0 in cc in
+    false≢true (sym fails ∙ asked.1 (refl, subst (IsCompleteIn u) (sym same) k.2))

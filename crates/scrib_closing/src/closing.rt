@@ -69,18 +69,14 @@ pub(crate) fn gather_note(
         (state_of core.old) gathered.old.bytes.items gathered.new.bytes.items) }
     ensures fault { IfErr result (λ e. of_output e ≡ true) }
 {
+    // After a send its message is in flight.
     let sends = is_send(&event);
-    let noted = core.note_event(id, event);
-    let accepted = noted.is_ok();
+    let (noted, complete) = core.note_and_test(id, event, !sends);
     gathered.add_noted(id, noted, format)?;
-    // The message of a send is in flight then.
-    if sends {
+    if !complete {
         return Ok(());
     }
-    match completed(core, Some(id), accepted) {
-        Some(id) => gather_close(gathered, core, id, format),
-        None => Ok(()),
-    }
+    gather_close(gathered, core, id, format)
 }
 
 // Returns the conversation in which the step notes an event, or makes a turn.
