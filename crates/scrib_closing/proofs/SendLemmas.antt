@@ -1,6 +1,6 @@
 -- Notes of events, and whether they complete their conversations. A send does not: its message is in flight then.
-use Rattle.std.proofs.Common.{◌≡◌, ◌↔◌, ◌≤◌, ◌&&◌, ℕ, Bool, true, false, not, cond, IsTrue, List, [], ◌∷◌, ◌++◌, ◌∙◌, Some, Result, Ok, Err, filter_map, length, drop, nat_eq, refl, sym, ap, subst, arith}
-use Rattle.std.specs.Prelude.{IsSome, OnOk, OnErr}
+use Rattle.std.proofs.Common.{◌≡◌, ◌↔◌, ◌≤◌, ◌&&◌, ℕ, Bool, true, false, cond, IsTrue, List, [], ◌∷◌, ◌++◌, ◌∙◌, Some, Result, Ok, Err, filter_map, length, drop, nat_eq, refl, sym, ap, subst, arith}
+use Rattle.std.specs.Prelude.{IsSome}
 use Rattle.std.specs.Cmp.{nat_eq_equiv}
 use Rattle.std.specs.Map.{lookup, set_value}
 use Rattle.std.specs.Str.{bytes_eq}
@@ -80,16 +80,15 @@ send_open id e (Ok n) w u sends answered j k =
     never_complete id e step.0.log c.2.0 sends (subst (λ (x : Conversation). IsComplete c.2.0 x.log) (sym is) c.2.2)
 
 -- a note behind which the test holds
-pub note_completes : (id : ℕ) (e : Event) (outcome : Result Noted Refusal) (u : State) (tests complete : Bool) → OnOk outcome (IsTrue complete ↔ (tests ≡ true) × IsCompleteIn u id) → OnErr outcome (complete ≡ false) → complete ≡ true
-    → Completes (Note id e) (note_reply_of id outcome) u id
-note_completes id e (Ok n) u tests complete asked unasked holds = (refl, refl, (asked.0 holds).1)
-note_completes id e (Err f) u tests complete asked unasked holds = absurd (false≢true (sym unasked ∙ holds))
+pub tested_completes : (id : ℕ) (e : Event) (n : Noted) (u : State) (complete : Bool) → (IsTrue complete ↔ IsCompleteIn u id) → complete ≡ true → Completes (Note id e) (note_reply_of id (Ok n)) u id
+tested_completes id e n u complete test holds = (refl, refl, test.0 holds)
 
--- a note behind which it does not hold, where the test is asked for unless the event is a send
-pub note_stays : (id : ℕ) (e : Event) (outcome : Result Noted Refusal) (w u : State) (sends complete : Bool) → sends ≡ is_send e → IsAnswered w (Note id e) (note_reply_of id outcome) u
-    → OnOk outcome (IsTrue complete ↔ (not sends ≡ true) × IsCompleteIn u id) → complete ≡ false → (j : ℕ) → Completes (Note id e) (note_reply_of id outcome) u j → ⊥
-note_stays id e (Err f) w u sends complete of_event answered asked fails j k = false≢true k.1
-note_stays id e (Ok n) w u true complete of_event answered asked fails j k = send_open id e (Ok n) w u (sym of_event) answered j k
-note_stays id e (Ok n) w u false complete of_event answered asked fails j k =
+-- a note behind which it does not hold
+pub tested_stays : (id : ℕ) (e : Event) (n : Noted) (u : State) (complete : Bool) → (IsTrue complete ↔ IsCompleteIn u id) → complete ≡ false → (j : ℕ) → Completes (Note id e) (note_reply_of id (Ok n)) u j → ⊥
+tested_stays id e n u complete test fails j k =
     let same : id ≡ j = let e : Some id ≡ Some j = k.0 in cc in
-    false≢true (sym fails ∙ asked.1 (refl, subst (IsCompleteIn u) (sym same) k.2))
+    false≢true (sym fails ∙ test.1 (subst (IsCompleteIn u) (sym same) k.2))
+
+-- a note that is refused
+pub refused_stays : (id : ℕ) (e : Event) (f : Refusal) (u : State) (j : ℕ) → Completes (Note id e) (note_reply_of id (Err f)) u j → ⊥
+refused_stays id e f u j k = false≢true k.1

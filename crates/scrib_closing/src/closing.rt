@@ -13,6 +13,7 @@ ghost use Rattle.scrib_closing.specs.ClosingScripts.{is_accepted, judged_by};
 ghost use Rattle.scrib_closing.specs.Progress.{AreCarriedInPart, AreCarriedOut, is_send};
 
 use scrib_cli::gathered::Gathered;
+use scrib_core::conversation_steps::Tested;
 use scrib_core::format::Format;
 use scrib_core::monitor::Core;
 use scrib_core::reply::{Reply, close_reply};
@@ -69,14 +70,43 @@ pub(crate) fn gather_note(
         (state_of core.old) gathered.old.bytes.items gathered.new.bytes.items) }
     ensures fault { IfErr result (λ e. of_output e ≡ true) }
 {
-    // After a send its message is in flight.
-    let sends = is_send(&event);
-    let (noted, complete) = core.note_and_test(id, event, !sends);
-    gathered.add_noted(id, noted, format)?;
-    if !complete {
-        return Ok(());
+    if !is_send(&event) {
+        return gather_tested(gathered, core, id, event, format);
     }
-    gather_close(gathered, core, id, format)
+    // The message of a send is in flight then, so the conversation is not complete.
+    let noted = core.note_event(id, event);
+    gathered.add_noted(id, noted, format)?;
+    Ok(())
+}
+
+// The same, with a test whether the conversation is complete.
+#[inline(always)]
+fn gather_tested(
+    gathered: &mut Gathered,
+    core: &mut Core,
+    id: u32,
+    event: SharedEvent,
+    format: Format,
+) -> Result<(), ScriptFault>
+    ensures ok { OnOk result (AreCarriedOut format (item.Step formats.Line (Note id event) ∷ [])
+        (state_of core.old) (state_of core.new) gathered.old.bytes.items gathered.new.bytes.items) }
+    ensures err { OnErr result (AreCarriedInPart format (item.Step formats.Line (Note id event) ∷ [])
+        (state_of core.old) gathered.old.bytes.items gathered.new.bytes.items) }
+    ensures fault { IfErr result (λ e. of_output e ≡ true) }
+{
+    match core.note_and_test(id, event) {
+        Ok(Tested { noted, complete }) => {
+            gathered.add_noted(id, Ok(noted), format)?;
+            if !complete {
+                return Ok(());
+            }
+            gather_close(gathered, core, id, format)
+        }
+        Err(refusal) => {
+            gathered.add_noted(id, Err(refusal), format)?;
+            Ok(())
+        }
+    }
 }
 
 // Returns the conversation in which the step notes an event, or makes a turn.

@@ -1,6 +1,5 @@
--- Whether a conversation is complete, read off its record, and the test behind a note.
-use Rattle.std.proofs.Common.{◌≡◌, ◌↔◌, ◌==◌, ◌≤◌, ◌/◌, inl, inr, Result, Ok, Err, ℕ, Bool, true, false, not, if◌then◌else◌, IsTrue, List, length, take, drop, Option, Some, None, option_map, refl, sym, ap, subst, ◌∙◌, arith}
-use Rattle.std.specs.Prelude.{OnOk}
+-- Whether a conversation is complete, read off its record.
+use Rattle.std.proofs.Common.{◌≡◌, ◌↔◌, ◌==◌, ◌≤◌, ◌/◌, inl, inr, ℕ, Bool, true, false, not, if◌then◌else◌, IsTrue, List, length, take, drop, Option, Some, None, option_map, refl, sym, ap, subst, ◌∙◌, arith}
 use Rattle.std.proofs.lemmas.Bool.{and_parts, true≢false, false≢true}
 use Rattle.std.proofs.lemmas.Bool.Decides.{Decides-eqb, nat_tests}
 use Rattle.std.proofs.lemmas.List.{take-append-drop}
@@ -19,8 +18,6 @@ use Rattle.scrib_record.specs.Versions.{meaning_of, number_of}
 use Rattle.scrib_record.proofs.Stamps.{present_means}
 use Rattle.scrib_library.specs.Holdings.{Holdings, HasNumber, AreNumbered}
 use Rattle.scrib_library.specs.Modules.{Means, MeansOnce}
-use Rattle.scrib_core.specs.declared.conversation_steps.Noted.{Noted}
-use Rattle.scrib_core.specs.declared.reply.Refusal.{Refusal}
 use Rattle.scrib_core.specs.World.{Conversation}
 use Rattle.scrib_core.specs.Marks.{Fresh, Stale, IsStale}
 use Rattle.scrib_core.specs.Answers.{IsCompleteIn}
@@ -93,10 +90,3 @@ module _ (h : Holdings) (rs : Records) (id : ℕ) (numbered : AreNumbered h) (on
   pub complete_test : (test : Bool) → IsCompleteTest h rs id test → IsTrue test ↔ IsCompleteIn (state h rs) id
   complete_test true t = (λ e. test_holds t, λ c. refl)
   complete_test false t = (λ e. absurd (false≢true e), λ c. absurd (test_fails t c))
-
--- ---- the test behind a note
-
--- a test that was asked for
-pub tested : (r : Result Noted Refusal) (tests complete : Bool) (P : Type 0) → tests ≡ true → (IsTrue complete ↔ P) → OnOk r (IsTrue complete ↔ (tests ≡ true) × P)
-tested (Ok n) tests complete P on k = (λ e. (on, k.0 e), λ p. k.1 p.1)
-tested (Err f) tests complete P on k = tt

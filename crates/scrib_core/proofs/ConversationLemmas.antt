@@ -27,6 +27,7 @@ use Rattle.scrib_library.specs.Holdings.{Holdings, HasNumber, AreNumbered}
 use Rattle.scrib_library.specs.Modules.{Means, IsMeaning, MeansOnce}
 use Rattle.scrib_tree.specs.declared.tree.ModuleTree.{ModuleTree}
 use Rattle.scrib_core.specs.declared.conversation_steps.Noted.{Noted}
+use Rattle.scrib_core.specs.declared.conversation_steps.Tested.{Tested}
 use Rattle.scrib_core.specs.declared.conversation_steps.Judged.{Judged}
 use Rattle.scrib_core.specs.declared.conversation_steps.Closed.{Closed}
 use Rattle.scrib_core.specs.declared.step.Step.{Step}
@@ -40,7 +41,7 @@ use Rattle.scrib_core.specs.Marks.{Mark, Fresh, IsStale, IsLeft, UpdatesMarks}
 use Rattle.scrib_core.specs.Answers.{IsReportedIn, IsConcluded, IsAnswered, IsDue}
 use Rattle.scrib_core.specs.Held.{Records, Held, LeavesRefused, record_at, conversation_of, world_of, mark_of, mark_at, marks_of, state, IsKnown, AreKnown}
 use Rattle.scrib_core.specs.ConversationSteps.{IsPresent, IsOpened, OpenFails, IsNotedAt, NoteFails, IsTurnedAt, IsAskedAt, VerdictFails, IsClosedAt, CloseFails}
-use Rattle.scrib_core.specs.ReplyValues.{open_reply_of, note_reply_of, verdict_reply_of, close_reply_of}
+use Rattle.scrib_core.specs.ReplyValues.{open_reply_of, note_reply_of, verdict_reply_of, close_reply_of, tested_reply_of}
 use Rattle.scrib_core.proofs.MarkLemmas.{fresh_mark, stale_mark, note_mark, turn_mark}
 
 same_some : {X : Type 0} (x y : X) → Some x ≡ Some y → x ≡ y
@@ -132,7 +133,7 @@ module _ (h : Holdings) (old : Records) (id : ℕ) (r s : Recorded) (there : rec
   abbrev written : Records
   written = set_value (nat_eq id) old s
 
-  at_itself : record_at written id ≡ Some s
+  pub at_itself : record_at written id ≡ Some s
   at_itself = at_set old id id s r there ∙ ap (λ (b : Bool). cond b (Some s) (record_at old id)) ((Decides-eqb id id).1 refl)
 
   at_other : (i : ℕ) → (id ≡ i → ⊥) → record_at written i ≡ record_at old i
@@ -327,6 +328,10 @@ module _ (h : Holdings) (old : Records) (numbered : AreNumbered h) (once : Means
     pub note_answered : (r : Result Noted Refusal) → IfOk r (λ n. IsNotedAt h old id e n.place n.told new) → IfErr r (NoteFails old id) → OnErr r (new ≡ old) → Makes h old (Note id e) (note_reply_of id r) h new
     note_answered (Ok n) made fails same = note_made n.place n.told made
     note_answered (Err f) made fails same = note_refused f fails same
+
+    pub tested_answered : (r : Result Tested Refusal) → IfOk r (λ t. IsNotedAt h old id e t.noted.place t.noted.told new) → IfErr r (NoteFails old id) → OnErr r (new ≡ old) → Makes h old (Note id e) (tested_reply_of id r) h new
+    tested_answered (Ok t) made fails same = note_made t.noted.place t.noted.told made
+    tested_answered (Err f) made fails same = note_refused f fails same
 
   module _ (id : ℕ) (new : Records) where
     turn_refused : (f : Refusal) → VerdictFails old id f → new ≡ old → Makes h old (Turn id) (reply.Refused f) h new

@@ -12,6 +12,7 @@ use Rattle.scrib_library.specs.declared.changes.Changes.{Changes}
 use Rattle.scrib_library.specs.declared.fault.EditFault.{EditFault}
 use Rattle.scrib_library.specs.declared.fault.EditFault.TheVariants as fault
 use Rattle.scrib_core.specs.declared.conversation_steps.Noted.{Noted}
+use Rattle.scrib_core.specs.declared.conversation_steps.Tested.{Tested}
 use Rattle.scrib_core.specs.declared.conversation_steps.Judged.{Judged}
 use Rattle.scrib_core.specs.declared.conversation_steps.Closed.{Closed}
 use Rattle.scrib_core.specs.declared.reply.Edit.{Edit}
@@ -70,6 +71,11 @@ open_reply_of id (Err f) = reply.Refused f
 abbrev pub note_reply_of : ℕ → Result Noted Refusal → Reply
 note_reply_of id (Ok n) = reply.Noted id n.place n.told
 note_reply_of id (Err f) = reply.Refused f
+
+-- the reply to a note with a test
+abbrev pub tested_reply_of : ℕ → Result Tested Refusal → Reply
+tested_reply_of id (Ok t) = reply.Noted id t.noted.place t.noted.told
+tested_reply_of id (Err f) = reply.Refused f
 
 -- the reply to a turn or a question
 abbrev pub verdict_reply_of : ℕ → Result Judged Refusal → Reply

@@ -1,9 +1,11 @@
 //! The steps of one conversation over a library: open, note, turn, ask and close.
 
-ghost use Rattle.std.specs.Prelude.{◌≡◌, IfOk, IfErr, OnOk, OnErr};
+ghost use Rattle.std.specs.Prelude.{◌≡◌, ◌≢◌, ◌⊎◌, true, false, IfOk, IfErr, OnOk, OnErr};
 ghost use Rattle.std.specs.Option.{option_copied};
 ghost use Rattle.scrib_core.specs.ConversationSteps.{IsOpened, OpenFails, IsNotedAt, NoteFails, IsTurnedAt, IsAskedAt, VerdictFails, IsClosedAt, CloseFails, IsCompleteTest, IsBegun, IsPresent, IsSoundComparison, IsSoundForRecord};
 ghost use Rattle.scrib_core.specs.Permitted.{IsOutcomeTest};
+ghost use Rattle.scrib_record.specs.CompleteRecords.{IsCompleteRecord};
+ghost use Rattle.scrib_types.specs.declared.event.Told.TheVariants.{Stale};
 
 use crate::places::{RecordKey, place_at_hint, record_of};
 use crate::reply::Refusal;
@@ -26,6 +28,13 @@ use std::alloc::{AllocError, Global};
 pub struct Noted {
     pub place: usize,
     pub told: Told,
+}
+
+/// A noted event, and whether its conversation is complete then: permitted, not stale, and at its end.
+#[derive(Drop)]
+pub struct Tested {
+    pub noted: Noted,
+    pub complete: bool,
 }
 
 /// The verdict on a conversation, or `Stale`, with the protocol's name and the number of events in the log.
@@ -124,6 +133,53 @@ pub fn note(
         place: record.log().len(),
         told: verdict,
     })
+}
+
+/// Appends the event as [`note`] does. Returns also whether the conversation is complete then.
+///
+/// # Errors
+/// `NoConversation`, `LogFull` or `OutOfMemory`, whichever applies first. Nothing changes then.
+#[inline(always)]
+pub fn note_and_test(
+    library: &Library,
+    records: &mut IndexMap<u32, Record>,
+    comparison: Comparison,
+    key: RecordKey,
+    event: SharedEvent,
+) -> Result<Tested, Refusal>
+    requires { IsSoundComparison comparison library.now records.old.entries }
+    ensures ok { IfOk result (λ t.
+        IsNotedAt library.now records.old.entries key.id event t.noted.place t.noted.told records.new.entries) }
+    ensures complete { IfOk result (λ t. IsCompleteTest library.now records.new.entries key.id t.complete) }
+    ensures fault { IfErr result (NoteFails records.old.entries key.id) }
+    ensures err { OnErr result (records.new.entries ≡ records.old.entries) }
+{
+    let Some(at) = place_at_hint(records, key.hint, key.id) else {
+        return Err(Refusal::NoConversation);
+    };
+    let (_, record) = records.pair_mut(at);
+    let (hint, present) = present_of(library, record, comparison);
+    let verdict = record.note(present, comparison, event)?;
+    record.set_hint(hint);
+    let complete = is_complete_then(record, &verdict);
+    let place = record.log().len();
+    let noted = Noted {
+        place,
+        told: verdict,
+    };
+    Ok(Tested { noted, complete })
+}
+
+// Returns whether a record with this verdict on its whole log is complete.
+#[inline(always)]
+fn is_complete_then(conversation: &Record, told: &Told) -> bool
+    ensures holds { result ≡ true → IsCompleteRecord conversation.now × (told.now ≢ Stale) }
+    ensures fails { result ≡ false → (IsCompleteRecord conversation.now → ⊥) ⊎ (told.now ≡ Stale) }
+{
+    match told {
+        Told::Stale => false,
+        Told::Judged(_) => conversation.is_complete(),
+    }
 }
 
 // Returns the present version of the conversation's protocol, if it has one, and a hint for the next look-up. If

@@ -1,6 +1,6 @@
 //! The core: the monitor on one thread.
 
-ghost use Rattle.std.specs.Prelude.{◌≡◌, ◌↔◌, true, false, IfOk, IsTrue, OnOk, OnErr};
+ghost use Rattle.std.specs.Prelude.{◌≡◌, ◌↔◌, IfOk, IsTrue, OnErr};
 ghost use Rattle.std.specs.Option.{option_map};
 ghost use Rattle.scrib_types.specs.Meaning.{agreement_of};
 ghost use Rattle.scrib_library.specs.Modules.{IsMeaning};
@@ -9,11 +9,12 @@ ghost use Rattle.scrib_core.specs.declared.step.Step.TheVariants as steps;
 ghost use Rattle.scrib_core.specs.Answers.{initial, initial_under, IsCompleteIn, IsAnswered, IsDue, AnswersAsDue};
 ghost use Rattle.scrib_core.specs.Held.{state_of, LeavesRefused, AnswersHeld, IsViewed};
 ghost use Rattle.scrib_core.specs.Permitted.{IsReplyTest};
-ghost use Rattle.scrib_core.specs.ReplyValues.{close_reply_of, note_reply_of, open_reply_of, verdict_reply_of};
+ghost use Rattle.scrib_core.specs.ReplyValues.{close_reply_of, note_reply_of, open_reply_of, tested_reply_of, verdict_reply_of};
 ghost use Rattle.scrib_core.specs.Runs.{PermitsRuns};
 
 use crate::conversation_steps::{
-    Closed, Judged, Noted, Opening, ask, close, is_complete, is_permitted, note, open, turn,
+    Closed, Judged, Noted, Opening, Tested, ask, close, is_complete, is_permitted, note,
+    note_and_test, open, turn,
 };
 use crate::places::{PlaceHints, RecordKey};
 use crate::reply::{
@@ -156,43 +157,30 @@ impl Core {
         )
     }
 
-    /// Makes the step `Note` as [`Core::note_event`] does, and returns what that returns. Returns also whether the step
-    /// was accepted, a test was asked for, and the conversation is complete now, as [`Core::is_complete`] has it.
+    /// Makes the step `Note` as [`Core::note_event`] does. Returns what that returns, and whether the conversation is
+    /// complete then, as [`Core::is_complete`] does. The record of the conversation is looked up once.
     ///
     /// # Errors
     /// `NoConversation`, `LogFull` or `OutOfMemory`, whichever applies first. Nothing changes then.
     #[inline(always)]
-    pub fn note_and_test(
-        &mut self,
-        id: u32,
-        event: SharedEvent,
-        tests: bool,
-    ) -> (Result<Noted, Refusal>, bool)
-        ensures answered { IsAnswered (state_of self.old) (Note id event) (note_reply_of id result.0)
+    pub fn note_and_test(&mut self, id: u32, event: SharedEvent) -> Result<Tested, Refusal>
+        ensures answered { IsAnswered (state_of self.old) (Note id event) (tested_reply_of id result)
             (state_of self.new) }
-        ensures memory { IsDue (state_of self.old).world (Note id event) (note_reply_of id result.0) }
-        ensures refused { LeavesRefused (note_reply_of id result.0) self.old self.new }
+        ensures memory { IsDue (state_of self.old).world (Note id event) (tested_reply_of id result) }
+        ensures refused { LeavesRefused (tested_reply_of id result) self.old self.new }
         ensures runs { PermitsRuns (state_of self.new).world }
-        ensures complete { OnOk result.0 (IsTrue result.1 ↔ (tests ≡ true) × IsCompleteIn (state_of self.new) id) }
-        ensures untested { OnErr result.0 (result.1 ≡ false) }
+        ensures complete { IfOk result (λ t. IsTrue t.complete ↔ IsCompleteIn (state_of self.new) id) }
     {
         self.library.are_numbered();
         self.library.means_protocols();
         let hint = self.places.find(&self.records, id);
-        let key = RecordKey { id, hint };
-        let noted = note(
+        note_and_test(
             &self.library,
             &mut self.records,
             Comparison::Numbers,
-            key,
+            RecordKey { id, hint },
             event,
-        );
-        if !tests || noted.is_err() {
-            return (noted, false);
-        }
-        // The record is where it was.
-        let complete = is_complete(&self.library, &self.records, Comparison::Numbers, key);
-        (noted, complete)
+        )
     }
 
     /// Makes the step `Ask` with this id. Returns the protocol's name, the number of events in the log, and the verdict,
