@@ -1,9 +1,12 @@
 //! Tests that need code: what is written for readers that give little or fail, and for writers that take little or fail,
-//! where a script is too long by smaller limits than its own, what is held back of short logs, and what may come next.
+//! where a script is too long by smaller limits than its own, what is held back of short logs, what may come next, and
+//! which tags and names are taken and put back.
 #![tactic(auto)]
 
 #[cfg(test)]
 mod holding;
+#[cfg(test)]
+mod labels;
 #[cfg(test)]
 mod next;
 #[cfg(test)]

@@ -1,0 +1,4 @@
+mod FieldLemmas
+mod NamingLemmas
+mod NumberedLines
+mod TagLemmas

@@ -1,0 +1,6 @@
+pub mod Tags
+pub mod SessionNames
+pub mod SessionLines
+pub mod NameSlots
+pub mod Naming
+pub mod PutBack

@@ -1,0 +1,10 @@
+//! Tags of lines and names of conversations: what is taken from a script's lines, and put back into the replies.
+#![tactic(auto)]
+
+pub mod field;
+pub mod label;
+pub mod put_back;
+pub mod session_line;
+pub mod session_name;
+pub mod session_names;
+pub mod tag;

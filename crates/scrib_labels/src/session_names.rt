@@ -1,0 +1,89 @@
+//! The numbers that stand for the names of conversations.
+
+ghost use Rattle.std.specs.Prelude.{◌≡◌, ℕ, List, Some};
+ghost use Rattle.std.specs.HashMap.{get_by_text};
+ghost use Rattle.scrib_labels.specs.NameSlots.{name_at};
+
+use indexmap::IndexMap;
+use slab::Slab;
+use std::alloc::{AllocError, Global};
+
+/// Names of conversations, each with a number of its own. A name's number stays the same until the name is removed.
+#[derive(Drop)]
+pub struct SessionNames {
+    alloc: Global,
+    // The name of each number in use.
+    names: Slab<String>,
+    numbers: IndexMap<String, u32>,
+    ghost kept: { (name : List ℕ) (number : ℕ) → get_by_text numbers name ≡ Some number
+        → name_at names number ≡ Some name },
+}
+
+impl SessionNames {
+    ghost use Rattle.std.specs.Prelude.{◌≡◌, ℕ, List, None, Some, IfOk, IfSome, OnErr};
+    ghost use Rattle.std.specs.Map.{update};
+    ghost use Rattle.std.specs.Str.{bytes_eq};
+    ghost use Rattle.scrib_labels.specs.Naming.{IsVacant, number_of};
+
+    /// Returns no names.
+    pub fn new(alloc: Global) -> SessionNames
+        ensures { (name : List ℕ) → number_of result name ≡ None }
+    {
+        SessionNames {
+            alloc,
+            names: Slab::new(alloc),
+            numbers: IndexMap::new(alloc),
+        }
+    }
+
+    /// Returns the number of the name, if it has one.
+    pub fn number_of(&self, name: &str) -> Option<u32>
+        ensures { result ≡ number_of self.now name.now }
+    {
+        self.numbers.get(name).copied()
+    }
+
+    /// Returns a number that no name has. None where 4,294,967,296 names have one.
+    pub fn vacant(&self) -> Option<u32>
+        ensures vacant { IfSome result (IsVacant self.now) }
+        ensures next { IfSome result (λ number. number ≡ self.now.names.vacant_key) }
+    {
+        match u32::try_from(self.names.vacant_key()) {
+            Ok(number) => Some(number),
+            Err(_) => None,
+        }
+    }
+
+    /// Gives the name a number that no name had, and returns it.
+    ///
+    /// # Errors
+    /// `AllocError` where memory is refused, or 4,294,967,296 names have a number. Each name keeps what it had.
+    pub fn add(&mut self, name: &str) -> Result<u32, AllocError>
+        requires { number_of self.old name.now ≡ None }
+        ensures given { IfOk result (λ number. (other : List ℕ)
+            → number_of self.new other ≡ update bytes_eq (number_of self.old) name.now (Some number) other) }
+        ensures vacant { IfOk result (IsVacant self.old) }
+        ensures err { OnErr result ((other : List ℕ) → number_of self.new other ≡ number_of self.old other) }
+    {
+        let Some(number) = self.vacant() else {
+            return Err(AllocError);
+        };
+        let key = String::from_str(self.alloc, name)?;
+        let at = self.names.insert(String::from_str(self.alloc, name)?)?;
+        let Ok(_) = self.numbers.insert(key, number) else {
+            self.names.try_remove(at);
+            return Err(AllocError);
+        };
+        Ok(number)
+    }
+
+    /// Takes the number of the name away, if it has one. The number may be given to another name then.
+    pub fn remove(&mut self, name: &str)
+        ensures { (other : List ℕ)
+            → number_of self.new other ≡ update bytes_eq (number_of self.old) name.now None other }
+    {
+        if let Some(number) = self.numbers.swap_remove(name) {
+            self.names.try_remove(number as usize);
+        }
+    }
+}
