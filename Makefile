@@ -15,7 +15,7 @@ help: ## prints this table
 
 # Feeds the first example to a program that was compiled without any proof.
 run: ## builds without proof and runs the first example: a minute or two
-	@echo 'Built without proof. make build proves and builds the program, which takes about 40 minutes on four processors.'
+	@echo 'Built without proof. make build proves and builds the program, which takes 30 to 40 minutes on four processors.'
 	cd crates/scribmon && $(RT) try -- watch < ../../examples/01_hello/receive_before_send.script
 
 try: run ## the same as run
@@ -27,7 +27,7 @@ CHAIN = scrib_elaborate scrib_shards scrib_run_service
 BESIDE = scrib_parser scrib_record scrib_global scrib_hold_stage scrib_arguments
 LAST = scrib_cli scrib_closing scrib_hold_lines
 
-build: ## proves and builds crates/scribmon/out/scribmon: 40 minutes on four processors
+build: ## proves and builds crates/scribmon/out/scribmon: 30 to 40 minutes on four processors
 	@work=$$(mktemp -d) && trap 'rm -rf "$$work"' EXIT && \
 	for copy in chain beside; do \
 	  mkdir "$$work/$$copy" && \
