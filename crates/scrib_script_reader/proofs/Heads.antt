@@ -84,7 +84,7 @@ recv-no-blank : NoBlank (codes "recv")
 recv-no-blank = search rules
 
 -- the fields of a line of an exchange
-head-fields : (bytes text : List ℕ) (a : Direction) (id : ℕ) (h : IsHead bytes a id text) → fields bytes ≡ direction_word a ∷ h.1.0 ∷ fields text
+pub head-fields : (bytes text : List ℕ) (a : Direction) (id : ℕ) (h : IsHead bytes a id text) → fields bytes ≡ direction_word a ∷ h.1.0 ∷ fields text
 head-fields bytes text direction.Send id h =
     ap fields h.1.1 ∙ first-field-cut 115 (codes "end") (h.1.0 ++ 32 ∷ text) send-no-blank ∙ ap (λ fs. codes "send" ∷ fs) (number-cut h.1.0 text id h.1.2)
 head-fields bytes text direction.Receive id h =

@@ -23,7 +23,7 @@ use Rattle.scrib_script_reader.proofs.Bytes.{bare_last, length-bare, all_or_most
 use Rattle.scrib_script_reader.specs.declared.limits.Limits.{Limits}
 use Rattle.scrib_script_reader.specs.Limits.{IsPast}
 use Rattle.scrib_script_reader.proofs.LimitLemmas.{counts_none, counts_then, counts_line, first_ended, first_last, past_line, within_more}
-use Rattle.scrib_script_reader.proofs.PositionLemmas.{at, are_spelled, give_entries, spells_items, items_more, spells_line, spells_last, leads_none, leads_then, leads_part, leads_line}
+use Rattle.scrib_script_reader.proofs.PositionLemmas.{at, give_entries, spells_items, items_more, spells_line, spells_last, leads_none, leads_then, leads_part, leads_line}
 
 none_some : {A : Type 0} (x : A) → None ≡ Some x → ⊥
 none_some x e = cc

@@ -4,6 +4,7 @@ pub mod Says
 pub mod FirstBytes
 pub mod Heads
 pub mod NamedHeads
+pub mod WordHeads
 pub mod PlainLines
 pub mod Limits
 pub mod Scripts

@@ -3,6 +3,7 @@
 ghost use Rattle.std.specs.Prelude.{◌≡◌, ◌<◌, ◌≤◌, ◌++◌, ◌∷◌, IfSome, length, take, slice_index, codes};
 ghost use Rattle.std.specs.Str.Parse.{AllDigits, digits_value};
 ghost use Rattle.scrib_script_reader.specs.Heads.{IsHead, IsIdBefore, direction_word};
+ghost use Rattle.scrib_script_reader.specs.WordHeads.{IsWordBefore, IsWordHead};
 ghost use Rattle.scrib_script_reader.specs.NamedHeads.{IsNamedHead, named_word};
 
 use crate::direction::Direction;
@@ -17,6 +18,22 @@ pub(crate) struct Head<'a> {
     // The bytes after the id and a blank.
     pub text: &'a [u8],
 }
+
+/// A line of an exchange with any word in the place of its id, parsed up to that word.
+#[derive(Clone, Copy)]
+pub struct WordHead<'a> {
+    pub(crate) direction: Direction,
+    /// The word, up to the next blank.
+    pub word: &'a [u8],
+    // The bytes after the word and a blank.
+    pub(crate) text: &'a [u8],
+}
+
+// The most bytes of a word in the place of an id that is looked for.
+const MAX_WORD_BYTES: usize = 128;
+
+// The most bytes after that word, so that the line with an id in its place is never too long.
+const MAX_WORD_TEXT_BYTES: usize = 65_536;
 
 // The word of a line that names a protocol or a role.
 #[derive(Clone, Copy)]
@@ -46,6 +63,24 @@ pub(crate) fn head_of(bytes: &[u8]) -> Option<Head<'_>>
     Some(Head {
         direction,
         id,
+        text,
+    })
+}
+
+/// Returns the direction and the word in the place of an id that a line begins with, where it is spelled with single
+/// blanks. None of other lines, and where the word has more than 128 bytes or the text after it more than 65,536.
+#[inline(always)]
+pub fn word_head_of(bytes: &[u8]) -> Option<WordHead<'_>>
+    ensures { IfSome result (IsWordHead bytes.now) }
+{
+    let (direction, rest) = direction_of(bytes)?;
+    let (word, text) = word_of(rest)?;
+    if text.len() > MAX_WORD_TEXT_BYTES {
+        return None;
+    }
+    Some(WordHead {
+        direction,
+        word,
         text,
     })
 }
@@ -139,4 +174,17 @@ fn id_before(bytes: &[u8], at: usize, value: u64) -> Option<(u32, &[u8])>
         return None;
     };
     Some((id, &bytes[at + 1..]))
+}
+
+// The bytes before the first blank, and those after it.
+#[inline(always)]
+fn word_of(bytes: &[u8]) -> Option<(&[u8], &[u8])>
+    ensures { IfSome result (λ cut. IsWordBefore bytes.now cut.0.now cut.1.now) }
+{
+    for at in 0..bytes.len().min(MAX_WORD_BYTES + 1) {
+        if bytes[at] == b' ' {
+            return Some((&bytes[..at], &bytes[at + 1..]));
+        }
+    }
+    None
 }

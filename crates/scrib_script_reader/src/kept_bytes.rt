@@ -29,8 +29,8 @@ pub fn append_up_to(kept: &mut Vec<u8>, bytes: &[u8], capacity: usize) -> Result
     kept.extend_from_slice(&bytes[..room])
 }
 
-// A line that an LF ended, without the CR before that LF.
-pub(crate) fn without_cr(line: &[u8]) -> &[u8]
+/// Returns a line that an LF ended, given without that LF, without the CR before the LF.
+pub fn without_cr(line: &[u8]) -> &[u8]
     ensures { result.now ≡ bare (line.now ++ 10 ∷ []) }
 {
     let Some((last, front)) = line.split_last() else {
@@ -39,8 +39,8 @@ pub(crate) fn without_cr(line: &[u8]) -> &[u8]
     if *last == b'\r' { front } else { line }
 }
 
-// The offset of the first LF.
-pub(crate) fn next_lf(bytes: &[u8]) -> Option<usize>
+/// Returns the offset of the first LF, or none where there is none.
+pub fn next_lf(bytes: &[u8]) -> Option<usize>
     ensures within { MatchOption result (NoLf bytes.now) (λ at. at < length bytes.now) }
     ensures lf { MatchOption result (NoLf bytes.now) (λ at. slice_index bytes.now at ≡ 10) }
     ensures before { MatchOption result (NoLf bytes.now) (λ at. NoLf (take at bytes.now)) }

@@ -4,11 +4,12 @@ ghost use Rattle.std.specs.Prelude.{ℕ, IfOk, IfSome};
 ghost use Rattle.scrib_core.specs.declared.format.Format.TheVariants as format;
 ghost use Rattle.scrib_core.specs.declared.step.Step.TheVariants.{Note, Open};
 ghost use Rattle.scrib_script_reader.specs.Says.{Says};
+ghost use Rattle.scrib_script_reader.specs.Heads.{SpellsEvent};
 ghost use Rattle.scrib_script_reader.specs.PlainLines.{IsShort};
 ghost use Rattle.scrib_script_reader.specs.declared.line.Line.TheVariants as line;
 
 use crate::event_cache::ExchangeEvents;
-use crate::head::{NamedWord, head_of, named_head_of};
+use crate::head::{NamedWord, WordHead, head_of, named_head_of};
 use crate::line::{Line, line_of};
 use crate::plain_line::plain_line_of;
 use crate::short_line::ShortLine;
@@ -54,12 +55,13 @@ impl Reader {
         }
     }
 
-    // The id and the event of a line that is spelled as an exchange with single blanks around its id, if it is.
+    /// Returns the id and the event of a line, given without its end, that is spelled as an exchange with single blanks
+    /// around its id. None of other lines, some of which are exchanges.
+    ///
+    /// # Errors
+    /// `AllocError` where memory for the event is refused.
     #[inline(always)]
-    pub(crate) fn exchange(
-        &mut self,
-        bytes: &[u8],
-    ) -> Result<Option<(u32, SharedEvent)>, AllocError>
+    pub fn exchange(&mut self, bytes: &[u8]) -> Result<Option<(u32, SharedEvent)>, AllocError>
         ensures { IfOk result (λ found. IfSome found
             (λ note. Says bytes.now (line.Step format.Line (Note note.0 note.1)))) }
     {
@@ -70,6 +72,18 @@ impl Reader {
             return Ok(None);
         };
         Ok(Some((head.id, event)))
+    }
+
+    /// Returns the event of an exchange that begins so: the same for each word in the place of an id. None where the text
+    /// after the word spells no exchange.
+    ///
+    /// # Errors
+    /// `AllocError` where memory for the event is refused.
+    #[inline(always)]
+    pub fn word_exchange(&mut self, head: WordHead<'_>) -> Result<Option<SharedEvent>, AllocError>
+        ensures { IfOk result (λ found. IfSome found (SpellsEvent head.entry.text.now head.entry.direction)) }
+    {
+        self.exchanges.event(head.direction, head.text)
     }
 
     // The line of this number, given without its end, where it is read without an `Item`. None where memory is refused.

@@ -1,5 +1,3 @@
-use Rattle.std.proofs.Common.{sym, ◌∙◌}
-use Rattle.std.proofs.lemmas.Result.{err_from_is_err_and}
 use Rattle.scrib_script_reader.proofs.ScriptLemmas.{last_items}
 use Rattle.scrib_script_reader.proofs.script.Script.last_item.Goals as goal
 

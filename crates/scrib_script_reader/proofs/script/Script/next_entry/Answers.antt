@@ -1,4 +1,4 @@
-use Rattle.std.proofs.Common.{◌∙◌, [], sym}
+use Rattle.std.proofs.Common.{◌∙◌, sym}
 use Rattle.std.proofs.lemmas.Result.{err_from_is_err_and}
 use Rattle.scrib_script_reader.specs.Entries.{entry_list}
 use Rattle.scrib_script_reader.proofs.ScriptLemmas.{passes_line, passes_part, front_first, front_part}
