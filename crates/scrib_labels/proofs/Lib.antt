@@ -1,4 +1,4 @@
 mod FieldLemmas
 mod NamingLemmas
-mod NumberedLines
+pub mod NumberedLines
 mod TagLemmas

@@ -1,5 +1,5 @@
 -- The names at numbers, and the numbers of names.
-use Rattle.std.proofs.Common.{◌≡◌, ◌≢◌, ◌∙◌, inl, inr, ℕ, List, Option, Some, None, Bool, cond, sym, ap}
+use Rattle.std.proofs.Common.{◌≡◌, ◌≢◌, ◌∙◌, inl, inr, ℕ, List, Option, Some, None, Bool, true, cond, sym, ap, subst}
 use Rattle.std.specs.Prelude.{String, string_bytes, option_map}
 use Rattle.std.specs.declared.alloc.Global.{Global}
 use Rattle.std.specs.HashMap.{HashMap, get_by_text}
@@ -9,6 +9,7 @@ use Rattle.std.proofs.lemmas.Bool.{cases_Bool}
 use Rattle.std.proofs.lemmas.Slice.Eq.{bytes_eq-Decides}
 use Rattle.slab.specs.Slab.{Slab, get, Updates}
 use Rattle.scrib_labels.specs.NameSlots.{name_at}
+use Rattle.scrib_labels.specs.SessionNames.{is_session_name}
 
 -- the name at a number that did not change
 same-at : (s t : Slab (String Global)) (k number : ℕ) (o : Option (String Global)) → Updates s t k o → number ≢ k → name_at t number ≡ name_at s number
@@ -64,3 +65,15 @@ module _ {S : Type 0} where
       let here : name_at s k ≡ None = ap (option_map string_bytes) free in
       let there : name_at s k ≡ Some name = kept name k at in
       absurd (cc)
+
+  -- only names of conversations have numbers
+  abbrev pub Named : HashMap (String Global) ℕ S → Type 0
+  Named m = (name : List ℕ) (number : ℕ) → get_by_text m name ≡ Some number → is_session_name name ≡ true
+
+  -- what a name of a conversation has is changed
+  pub named_updated : (m n : HashMap (String Global) ℕ S) (at : List ℕ) (w : Option ℕ) → Named m → is_session_name at ≡ true → ((cs : List ℕ) → get_by_text n cs ≡ update bytes_eq (get_by_text m) at w cs) → Named n
+  named_updated m n at w named is upd name number e =
+      elim (cases_Bool (bytes_eq at name)) [
+        | inl same ↦ subst (λ (t : List ℕ). is_session_name t ≡ true) ((bytes_eq-Decides at name).0 same) is
+        | inr apart ↦ named name number (sym (upd name ∙ ap (λ (b : Bool). cond b w (get_by_text m name)) apart) ∙ e)
+      ]

@@ -10,7 +10,7 @@ use Rattle.scrib_script_reader.proofs.Heads.{NoBlank, first-field-cut, number-cu
 use Rattle.scrib_labels.specs.SessionLines.{is_event_word, is_id_word, is_state_word, json_field}
 
 -- a number in decimal is the text of that number
-decimal-number : (n : ℕ) → n < 2 ^ 32 → IsNumberText (decimal n) n
+pub decimal-number : (n : ℕ) → n < 2 ^ 32 → IsNumberText (decimal n) n
 decimal-number n h =
     let big : n < 2 ^ 64 = omega (arith, h) in
     let is = decimal_is_IsNumeral n big in
@@ -29,10 +29,10 @@ of-word w known h is = subst IsField (sym ((bytes_eq-Decides w known).0 h)) is
 join-field : IsField (codes "join")
 join-field = is-field 106 (codes "oin") (search rules)
 
-send-field : IsField (codes "send")
+pub send-field : IsField (codes "send")
 send-field = is-field 115 (codes "end") (search rules)
 
-recv-field : IsField (codes "recv")
+pub recv-field : IsField (codes "recv")
 recv-field = is-field 114 (codes "ecv") (search rules)
 
 open-field : IsField (codes "open")

@@ -3,4 +3,3 @@ pub mod SessionNames
 pub mod SessionLines
 pub mod NameSlots
 pub mod Naming
-pub mod PutBack

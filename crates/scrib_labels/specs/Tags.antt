@@ -2,6 +2,7 @@
 use Rattle.std.specs.Prelude.{◌≡◌, ℕ, Bool, true, false, ◌&&◌, ◌==◌, nat_le, nat_lt, IsTrue, List, [], ◌∷◌, ◌++◌, length}
 use Rattle.scrib_script_reader.specs.Fields.{is_blank}
 use Rattle.scrib_labels.specs.declared.tag.TagCut.{TagCut}
+use Rattle.scrib_labels.specs.declared.tag.TagHead.{TagHead}
 use Rattle.scrib_labels.specs.declared.tag.TagCut.TheVariants.{Untagged, Tagged, Bad}
 
 -- a visible ASCII byte
@@ -36,3 +37,8 @@ abbrev pub IsTagCut : List ℕ → TagCut → Type 0
 IsTagCut line Untagged = begins_tag line ≡ false
 IsTagCut line (Tagged tag rest) = HasTag line tag.now rest.now
 IsTagCut line Bad = (begins_tag line ≡ true) × ((tag rest : List ℕ) → HasTag line tag rest → ⊥)
+
+-- the line is this head, which is `@`, a tag and a blank, and this rest
+abbrev pub IsTagHead : List ℕ → TagHead → Type 0
+IsTagHead line h =
+    HasTag line h.tag.now (32 ∷ h.rest.now) × (h.head.now ≡ 64 ∷ h.tag.now ++ 32 ∷ [])

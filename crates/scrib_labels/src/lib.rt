@@ -2,8 +2,6 @@
 #![tactic(auto)]
 
 pub mod field;
-pub mod label;
-pub mod put_back;
 pub mod session_line;
 pub mod session_name;
 pub mod session_names;

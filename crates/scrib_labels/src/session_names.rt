@@ -1,7 +1,8 @@
 //! The numbers that stand for the names of conversations.
 
-ghost use Rattle.std.specs.Prelude.{◌≡◌, ℕ, List, Some};
+ghost use Rattle.std.specs.Prelude.{◌≡◌, ℕ, List, Some, true};
 ghost use Rattle.std.specs.HashMap.{get_by_text};
+ghost use Rattle.scrib_labels.specs.SessionNames.{is_session_name};
 ghost use Rattle.scrib_labels.specs.NameSlots.{name_at};
 
 use indexmap::IndexMap;
@@ -17,13 +18,15 @@ pub struct SessionNames {
     numbers: IndexMap<String, u32>,
     ghost kept: { (name : List ℕ) (number : ℕ) → get_by_text numbers name ≡ Some number
         → name_at names number ≡ Some name },
+    ghost named: { (name : List ℕ) (number : ℕ) → get_by_text numbers name ≡ Some number
+        → is_session_name name ≡ true },
 }
 
 impl SessionNames {
-    ghost use Rattle.std.specs.Prelude.{◌≡◌, ℕ, List, None, Some, IfOk, IfSome, OnErr};
+    ghost use Rattle.std.specs.Prelude.{◌≡◌, ℕ, List, None, Some, true, IfOk, IfSome, OnOk, OnErr};
     ghost use Rattle.std.specs.Map.{update};
     ghost use Rattle.std.specs.Str.{bytes_eq};
-    ghost use Rattle.scrib_labels.specs.Naming.{IsVacant, number_of};
+    ghost use Rattle.scrib_labels.specs.Naming.{IsNumberFor, IsVacant, next_number, number_of};
 
     /// Returns no names.
     pub fn new(alloc: Global) -> SessionNames
@@ -46,7 +49,7 @@ impl SessionNames {
     /// Returns a number that no name has. None where 4,294,967,296 names have one.
     pub fn vacant(&self) -> Option<u32>
         ensures vacant { IfSome result (IsVacant self.now) }
-        ensures next { IfSome result (λ number. number ≡ self.now.names.vacant_key) }
+        ensures next { IfSome result (λ number. number ≡ next_number self.now) }
     {
         match u32::try_from(self.names.vacant_key()) {
             Ok(number) => Some(number),
@@ -59,10 +62,12 @@ impl SessionNames {
     /// # Errors
     /// `AllocError` where memory is refused, or 4,294,967,296 names have a number. Each name keeps what it had.
     pub fn add(&mut self, name: &str) -> Result<u32, AllocError>
-        requires { number_of self.old name.now ≡ None }
+        requires new { number_of self.old name.now ≡ None }
+        requires named { is_session_name name.now ≡ true }
         ensures given { IfOk result (λ number. (other : List ℕ)
             → number_of self.new other ≡ update bytes_eq (number_of self.old) name.now (Some number) other) }
         ensures vacant { IfOk result (IsVacant self.old) }
+        ensures next { IfOk result (λ number. number ≡ next_number self.old) }
         ensures err { OnErr result ((other : List ℕ) → number_of self.new other ≡ number_of self.old other) }
     {
         let Some(number) = self.vacant() else {
@@ -75,6 +80,37 @@ impl SessionNames {
             return Err(AllocError);
         };
         Ok(number)
+    }
+
+    /// Returns the number that stands for the name: its own, or the next one where it has none.
+    ///
+    /// # Errors
+    /// `AllocError` where the name has no number, and 4,294,967,296 names have one.
+    pub fn number_for(&self, name: &str) -> Result<u32, AllocError>
+        ensures { IfOk result (IsNumberFor self.now name.now) }
+    {
+        match self.number_of(name) {
+            Some(number) => Ok(number),
+            None => self.vacant().ok_or(AllocError),
+        }
+    }
+
+    /// Keeps the number that stands for the name, as [`SessionNames::number_for`] returned it.
+    ///
+    /// # Errors
+    /// `AllocError` where memory is refused. Each name keeps what it had.
+    pub fn keep(&mut self, name: &str, number: u32) -> Result<(), AllocError>
+        requires number { IsNumberFor self.old name.now number }
+        requires named { is_session_name name.now ≡ true }
+        ensures kept { OnOk result ((other : List ℕ)
+            → number_of self.new other ≡ update bytes_eq (number_of self.old) name.now (Some number) other) }
+        ensures err { OnErr result ((other : List ℕ) → number_of self.new other ≡ number_of self.old other) }
+    {
+        if self.number_of(name).is_some() {
+            return Ok(());
+        }
+        self.add(name)?;
+        Ok(())
     }
 
     /// Takes the number of the name away, if it has one. The number may be given to another name then.

@@ -1,6 +1,6 @@
 //! Tags at the heads of lines.
 
-ghost use Rattle.std.specs.Prelude.{◌≡◌, ◌∷◌, false, MatchOption};
+ghost use Rattle.std.specs.Prelude.{◌≡◌, ◌≤◌, ◌∷◌, true, false, take, length, IfSome, MatchOption};
 ghost use Rattle.scrib_labels.specs.Tags as spec;
 
 use crate::field::field_len;
@@ -19,6 +19,47 @@ pub enum TagCut<'a> {
     Bad,
 }
 
+/// A tag at the head of a line, with one blank behind it.
+#[derive(Clone, Copy)]
+pub struct TagHead<'a> {
+    pub tag: &'a [u8],
+    /// The bytes in front of the rest: `@`, the tag and a blank.
+    pub head: &'a [u8],
+    pub rest: &'a [u8],
+}
+
+/// Returns the tag that a line begins with, and the rest behind one blank. None where there is no tag, or where a tab or
+/// the end of the line is behind it.
+pub fn tag_head(line: &[u8]) -> Option<TagHead<'_>>
+    ensures { IfSome result (spec.IsTagHead line.now) }
+{
+    let after = after_at(line)?;
+    let len = visible_len(after);
+    if len == 0 || after.get(len).copied() != Some(b' ') {
+        return None;
+    }
+    Some(TagHead {
+        tag: &after[..len],
+        head: &line[..len + 2],
+        rest: &after[len + 1..],
+    })
+}
+
+// The number of visible bytes that the bytes begin with, up to 64.
+fn visible_len(bytes: &[u8]) -> usize
+    ensures visible { spec.all_visible (take result bytes.now) ≡ true }
+    ensures within { result ≤ length bytes.now }
+    ensures few { result ≤ 64 }
+{
+    let most = bytes.len().min(MAX_TAG_BYTES);
+    for at in 0..most {
+        if bytes[at] < b'!' || bytes[at] > b'~' {
+            return at;
+        }
+    }
+    most
+}
+
 /// Returns the tag that a line begins with, and the rest of the line.
 ///
 /// A tag is 1 to 64 visible ASCII bytes behind `@`, up to a blank, a tab or the end of the line.
@@ -34,6 +75,13 @@ pub fn tag_cut(line: &[u8]) -> TagCut<'_>
     } else {
         TagCut::Bad
     }
+}
+
+/// Returns whether the line begins with `@`, as each line with a tag does.
+pub fn begins_tag(line: &[u8]) -> bool
+    ensures { result ≡ spec.begins_tag line.now }
+{
+    after_at(line).is_some()
 }
 
 // The bytes after `@`, where the line begins with it.

@@ -1,3 +1,5 @@
 pub mod EventLine
+mod HeadedEventLemmas
+mod LabelledMembers
 mod Members
 mod Totals

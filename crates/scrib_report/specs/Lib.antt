@@ -5,3 +5,6 @@ pub mod Parts
 pub mod LineOutput
 pub mod JsonOutput
 pub mod ReplyTexts
+pub mod PutBack
+pub mod LabelledReplies
+pub mod HeadedEvents

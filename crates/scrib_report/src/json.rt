@@ -23,7 +23,7 @@ use std::alloc::{AllocError, Global};
 
 // A text as a JSON string. Each text here is ASCII, since names are. No contract of a name has that fact, so the text
 // is checked to be UTF-8.
-fn text_value(text: Vec<u8>) -> Result<Value, AllocError>
+pub(crate) fn text_value(text: Vec<u8>) -> Result<Value, AllocError>
     ensures { IfOk result (λ value. view value ≡ string text.items) }
 {
     match String::from_utf8(text) {
@@ -222,7 +222,7 @@ fn refused_value(alloc: Global, refusal: &Refusal) -> Result<Value, AllocError>
 }
 
 #[tactic(auto, unfolding(crate::specs::Json::json_of))]
-fn reply_value(alloc: Global, reply: &Reply) -> Result<Value, AllocError>
+pub(crate) fn reply_value(alloc: Global, reply: &Reply) -> Result<Value, AllocError>
     ensures { IfOk result (λ value. view value ≡ objects.json_of reply.now) }
 {
     match reply {

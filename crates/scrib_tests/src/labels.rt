@@ -1,11 +1,11 @@
 //! Tags and names: what is taken from lines, what is put back, and the numbers of names.
 
-use scrib_labels::label::Label;
-use scrib_labels::put_back::push_labelled_line;
 use scrib_labels::session_line::{push_numbered_line, session_line};
 use scrib_labels::session_name::is_session_name;
 use scrib_labels::session_names::SessionNames;
 use scrib_labels::tag::{TagCut, tag_cut};
+use scrib_report::label::Label;
+use scrib_report::put_back::push_labelled_line;
 use std::alloc::{AllocError, Global};
 use std::test::Fail;
 

@@ -1,4 +1,4 @@
-use Rattle.std.proofs.Common.{◌≡◌, ◌≤◌, ◌-◌, ◌++◌, ◌∷◌, [], ◌∙◌, ap, codes, drop, length, set, sym, append_assoc, arith}
+use Rattle.std.proofs.Common.{◌≤◌, ◌-◌, ◌++◌, ◌∙◌, ap, drop, length, set, arith}
 use Rattle.std.proofs.lemmas.List.{length-set}
 use Rattle.std.specs.Fmt.{decimal}
 use Rattle.scrib_report.proofs.EventLine.{two_numbers, long_digits, short_digits}

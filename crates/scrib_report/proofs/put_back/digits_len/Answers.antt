@@ -2,7 +2,7 @@ use Rattle.std.proofs.Common.{sym, arith}
 use Rattle.std.proofs.lemmas.Bool.Decides.{nat_tests}
 use Rattle.std.proofs.lemmas.List.Sums.{prefix_len_is}
 use Rattle.scrib_types.specs.Names.{is_digit}
-use Rattle.scrib_labels.proofs.put_back.digits_len.Goals as goal
+use Rattle.scrib_report.proofs.put_back.digits_len.Goals as goal
 
 pub returns-then-text-at-lt48-clause-is : goal.returns-then-text-at-lt48-clause-is
 returns-then-text-at-lt48-clause-is c = sym (prefix_len_is is_digit c.args.text.now c.loop-at.at 0 c.loop-at.auto.at-end c.loop-at.invariant (λ _. grind (arith, nat_tests)))

@@ -1,7 +1,7 @@
 //! Puts tags and names back into the lines of replies.
 
 ghost use Rattle.std.specs.Prelude.{◌≡◌, ◌++◌, ◌≤◌, OnOk, length};
-ghost use Rattle.scrib_labels.specs.PutBack as spec;
+ghost use Rattle.scrib_report.specs.PutBack as spec;
 
 use crate::label::Label;
 use scrib_types::text::push_bytes;
@@ -13,7 +13,7 @@ use std::alloc::AllocError;
 /// name.
 ///
 /// # Errors
-/// `AllocError` where memory for the longer text is refused.
+/// `AllocError` where memory is refused.
 pub fn push_labelled_line(
     out: &mut Vec<u8>,
     line: &[u8],

@@ -4,7 +4,7 @@ use Rattle.std.specs.Borrow.{Bor}
 use Rattle.std.specs.List.{prefix_len}
 use Rattle.std.specs.Str.{bytes_eq}
 use Rattle.scrib_types.specs.Names.{is_digit}
-use Rattle.scrib_labels.specs.declared.label.Label.{Label}
+use Rattle.scrib_report.specs.declared.label.Label.{Label}
 
 -- the bytes that a value of the code refers to, if there are any
 abbrev pub bytes_of : Option (Bor (List ℕ)) → Option (List ℕ)
