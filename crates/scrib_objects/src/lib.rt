@@ -1,0 +1,10 @@
+//! Lines of scripts as JSON objects: the line that each object stands for.
+#![tactic(auto)]
+
+mod body;
+mod keys;
+mod line;
+mod members;
+pub mod object_line;
+pub mod object_options;
+pub mod object_reader;
