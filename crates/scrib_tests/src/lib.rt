@@ -1,6 +1,6 @@
 //! Tests that need code: what is written for readers that give little or fail, and for writers that take little or fail,
-//! where a script is too long by smaller limits than its own, what is held back of short logs, what may come next, and
-//! which tags and names are taken and put back.
+//! where a script is too long by smaller limits than its own, what is held back of short logs, what may come next, which
+//! tags and names are taken and put back, and what JSON objects stand for.
 #![tactic(auto)]
 
 #[cfg(test)]
@@ -9,5 +9,7 @@ mod holding;
 mod labels;
 #[cfg(test)]
 mod next;
+#[cfg(test)]
+mod objects;
 #[cfg(test)]
 mod running;

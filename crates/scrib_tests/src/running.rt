@@ -7,6 +7,8 @@ use scrib_cli::check::{Core, check_module};
 use scrib_cli::explain_script::explain_script;
 use scrib_cli::next_script::next_script;
 use scrib_cli::run_script::{Format, ScriptFault, run_script};
+use scrib_labelled::label_options::LabelOptions;
+use scrib_labelled::run_labelled_script::{LabelledFormat, Limits, run_labelled_script};
 use std::alloc::Global;
 use std::io;
 use std::io::{ErrorKind, Read, Write};
@@ -70,6 +72,8 @@ impl Write for Page {
 enum Command {
     // It is a script.
     Watch,
+    // It is a script with names and tags.
+    Labelled,
     // It is a script, of whose conversation 1 the messages in flight are told.
     Explain,
     // It is a script, behind which each role of conversation 1 has a line.
@@ -87,6 +91,14 @@ struct Outcome {
     writes: u32,
 }
 
+const LABELLED: LabelledFormat = LabelledFormat {
+    labels: LabelOptions {
+        tags: true,
+        names: true,
+    },
+    format: Format::Line,
+};
+
 fn obey<R: Read, W: Write>(
     alloc: Global,
     command: Command,
@@ -95,6 +107,9 @@ fn obey<R: Read, W: Write>(
 ) -> Result<(), ScriptFault> {
     match command {
         Command::Watch => run_script(alloc, Format::Line, reader, writer)?,
+        Command::Labelled => {
+            run_labelled_script(alloc, LABELLED, Limits::of_scripts(), reader, writer)?
+        }
         Command::Explain => {
             explain_script(alloc, reader, 1, writer)?;
         }
@@ -156,6 +171,14 @@ const CUT: &[u8] = b"put\nmodule demo; global protocol Hello(role A, role B) { h
 
 const CUT_OUTPUT: &[u8] = b"refused EndOfText\n";
 
+// The demonstration with names and tags. A name is given anew, a tag is no tag, and a line has a tab behind its tag. A put
+// has its tag at its end, and another one at the end of the script.
+const NAMED: &[u8] =
+    b"@p put\nmodule demo; global protocol Hello(role A, role B) { hello() from A to B; }\n%%\n@1 open a.b:c demo.Hello\njoin a.b:c A\n@2 join a.b:c B\n@3\tsend a.b:c A B hello()\n@ ask a.b:c\n@4 close a.b:c\n@5 recv a.b:c A B hello()\n@6 json open a.b:c demo.Hello\n@7 recv a.b:c A B hello()\n@8 put\nmodule";
+
+const NAMED_OUTPUT: &[u8] =
+    b"@p put demo: +demo.Hello\n@1 open a.b:c: demo.Hello\na.b:c.1 permitted\n@2 a.b:c.2 permitted\n@3 a.b:c.3 permitted\nrefused BadLine 8\n@4 close a.b:c: permitted\n@5 refused NoConversation\n{\"conversation\":\"a.b:c\",\"opened\":\"demo.Hello\",\"tag\":\"6\"}\n@7 a.b:c.1 offence at 1 by B, allowed: join\n@8 refused EndOfText\n";
+
 // The demonstration, up to the first message.
 const SENT: &[u8] =
     b"put\nmodule demo; global protocol Hello(role A, role B) { hello() from A to B; bye() from B to A; }\n%%\nopen 1 demo.Hello\njoin 1 A\njoin 1 B\nsend 1 A B hello()\n";
@@ -164,10 +187,11 @@ const MODULE: &[u8] =
     b"module demo; global protocol Hello(role A, role B) { hello() from A to B; bye() from B to A; }";
 
 // Commands, the texts that they are given, and what they write where no call fails.
-const ROWS: [(Command, &[u8], &[u8]); 11] = [
+const ROWS: [(Command, &[u8], &[u8]); 12] = [
     (Command::Watch, DEMO, DEMO_OUTPUT),
     (Command::Watch, CALLED, CALLED_OUTPUT),
     (Command::Watch, CUT, CUT_OUTPUT),
+    (Command::Labelled, NAMED, NAMED_OUTPUT),
     (Command::Explain, SENT, b"A B hello()\n"),
     (Command::Explain, DEMO, b""),
     (Command::Explain, CUT, b"refused NoConversation\n"),
@@ -218,7 +242,7 @@ fn fail_reads(
             "read {at} of {size} bytes"
         );
         assert!(rt;
-            matches!(command, Command::Watch) || output.is_empty(),
+            matches!(command, Command::Watch | Command::Labelled) || output.is_empty(),
             "read {at} of {size} bytes"
         );
     }

@@ -1,0 +1,9 @@
+mod InputLemmas
+mod LastLineLemmas
+mod LineEndLemmas
+mod ExchangeLemmas
+mod LineLemmas
+mod ItemLemmas
+mod PieceLemmas
+mod RunLemmas
+mod SplitLemmas

@@ -1,0 +1,67 @@
+-- The lines of a script with tags and names, and the lines of the script that they stand for (this project's own).
+use Rattle.std.specs.Prelude.{◌≡◌, ◌⊎◌, ℕ, ◌≤◌, ◌<◌, Bool, true, false, if◌then◌else◌, List, [], ◌∷◌, Option, Some, None, length, codes}
+use Rattle.std.specs.Fmt.{decimal}
+use Rattle.std.specs.Str.{bytes_eq}
+use Rattle.scrib_script_reader.specs.declared.line.Line.TheVariants as line
+use Rattle.scrib_script_reader.specs.Fields.{fields}
+use Rattle.scrib_script_reader.specs.Says.{Says}
+use Rattle.scrib_labels.specs.SessionLines.{id_field}
+use Rattle.scrib_labels.specs.SessionNames.{is_session_name}
+use Rattle.scrib_labels.specs.Tags.{HasTag}
+use Rattle.scrib_labelled.specs.declared.label_options.LabelOptions.{LabelOptions}
+
+-- the label of a line: its tag, and the name of its conversation with the number that stands for it
+pub record LineLabel : Type 0 where
+  pub tag : Option (List ℕ)
+  pub session : Option (List ℕ × ℕ)
+
+-- the label of a line without tag and name
+abbrev pub no_label : LineLabel
+no_label = record { tag = None; session = None }
+
+-- the fields with other bytes in the place of a conversation's number
+abbrev pub bare_with_id : List ℕ → List (List ℕ) → List (List ℕ)
+bare_with_id id (word ∷ old ∷ fs) = word ∷ id ∷ fs
+bare_with_id id fs = fs
+
+-- the same, with or without a field `json` in front
+abbrev pub with_id : List ℕ → List (List ℕ) → List (List ℕ)
+with_id id [] = []
+with_id id (first ∷ fs) =
+    if bytes_eq first (codes "json") then first ∷ bare_with_id id fs else bare_with_id id (first ∷ fs)
+
+-- the bytes behind the first
+abbrev pub behind_first : List ℕ → List ℕ
+behind_first [] = []
+behind_first (b ∷ bs) = bs
+
+-- The line without its tag and the blank behind it, where tags are read. A line without a tag stays whole.
+abbrev pub IsUntagged : Bool → (whole : List ℕ) → (tag : Option (List ℕ)) → (rest : List ℕ) → Type 0
+IsUntagged false whole tag rest = (tag ≡ None) × (rest ≡ whole)
+IsUntagged true whole None rest = ((tag more : List ℕ) → HasTag whole tag more → ⊥) × (rest ≡ whole)
+IsUntagged true whole (Some tag) rest = (behind : List ℕ) × HasTag whole tag behind × (rest ≡ behind_first behind)
+
+-- the line with a number in the place of the name, or a bad line where the field is no name
+abbrev pub IsNumberedAt : (field rest : List ℕ) → Option (List ℕ × ℕ) → (plain : List ℕ) → Type 0
+IsNumberedAt field rest None plain = (is_session_name field ≡ false) × Says plain line.Bad
+IsNumberedAt field rest (Some session) plain =
+    (is_session_name field ≡ true) × (session.0 ≡ field)
+    × (fields plain ≡ with_id (decimal session.1) (fields rest))
+
+-- the same of a line with this field in the place of a number; a line without one stays whole
+abbrev pub IsNumberedBy : Option (List ℕ) → (rest : List ℕ) → Option (List ℕ × ℕ) → (plain : List ℕ) → Type 0
+IsNumberedBy None rest session plain = (session ≡ None) × (plain ≡ rest)
+IsNumberedBy (Some field) rest session plain = IsNumberedAt field rest session plain
+
+-- the same of any line; where names are not read, each line stays whole
+abbrev pub IsNumbered : Bool → (rest : List ℕ) → Option (List ℕ × ℕ) → (plain : List ℕ) → Type 0
+IsNumbered false rest session plain = (session ≡ None) × (plain ≡ rest)
+IsNumbered true rest session plain = IsNumberedBy (id_field (fields rest)) rest session plain
+
+-- The line has this label, and stands for this line of a script without labels. Both are without their ends. A line of
+-- more than 131,072 bytes is bad, and its label is not read.
+abbrev pub StandsFor : LabelOptions → (whole : List ℕ) → LineLabel → (plain : List ℕ) → Type 0
+StandsFor o whole label plain =
+    ((131072 < length whole) × (label ≡ no_label) × Says plain line.Bad)
+    ⊎ ((length whole ≤ 131072)
+    × ((rest : List ℕ) × IsUntagged o.tags whole label.tag rest × IsNumbered o.names rest label.session plain))

@@ -1,0 +1,142 @@
+//! Reads most lines of a long script: exchanges that are spelled with single blanks.
+
+ghost use Rattle.std.specs.Prelude.{◌≡◌, true, IfSome};
+ghost use Rattle.scrib_report.specs.PutBack.{bytes_of, tag_text};
+ghost use Rattle.scrib_labelled.specs.ExchangeLines.{IsExchangeIn, IsExchangeLine};
+ghost use Rattle.scrib_labelled.specs.LabelledLines.{IsUntagged};
+
+use crate::label_options::LabelOptions;
+use crate::line_reading::{LineParts, Session};
+use scrib_labels::session_names::SessionNames;
+use scrib_labels::tag::{TagHead, begins_tag, tag_head};
+use scrib_script_reader::head::word_head_of;
+use scrib_script_reader::line::MAX_LINE_BYTES;
+use scrib_script_reader::reader::Reader;
+use scrib_types::shared_event::SharedEvent;
+
+/// The line of an exchange, with its label.
+#[derive(Drop)]
+pub(crate) struct ExchangeLine<'a> {
+    pub(crate) parts: LineParts<'a>,
+    /// What a reply begins with for the tag.
+    pub(crate) tag_text: &'a [u8],
+    /// The name of the conversation, if it has one.
+    pub(crate) name: Option<&'a [u8]>,
+    pub(crate) id: u32,
+    pub(crate) event: SharedEvent,
+}
+
+// A line without its tag, and what a reply begins with for the tag.
+#[derive(Clone, Copy)]
+struct LineHead<'a> {
+    tag: Option<&'a [u8]>,
+    tag_text: &'a [u8],
+    rest: &'a [u8],
+}
+
+/// The conversation and the event of an exchange.
+#[derive(Drop)]
+pub(crate) struct Exchange<'a> {
+    session: Option<Session<'a>>,
+    name: Option<&'a [u8]>,
+    id: u32,
+    event: SharedEvent,
+}
+
+/// Returns the exchange of a line, given without its end, that is spelled with single blanks, and whose conversation is a
+/// number or has a name with a number. None of other lines, some of which are exchanges, and where memory is refused.
+#[inline(always)]
+pub(crate) fn exchange_line<'a>(
+    reader: &mut Reader,
+    names: &SessionNames,
+    options: LabelOptions,
+    line: &'a [u8],
+) -> Option<ExchangeLine<'a>>
+    ensures { IfSome result (IsExchangeLine options names.now line.now) }
+{
+    if line.len() > MAX_LINE_BYTES {
+        return None;
+    }
+    let head = line_head(options.tags, line)?;
+    let exchange = exchange_in(reader, names, options.names, head.rest)?;
+    Some(ExchangeLine {
+        parts: LineParts {
+            tag: head.tag,
+            session: exchange.session,
+        },
+        tag_text: head.tag_text,
+        name: exchange.name,
+        id: exchange.id,
+        event: exchange.event,
+    })
+}
+
+// The line without its tag, where lines may have tags. None where a tag has no single blank behind it.
+#[inline(always)]
+fn line_head(tags: bool, line: &[u8]) -> Option<LineHead<'_>>
+    ensures untagged { IfSome result (λ h. IsUntagged tags line.now (bytes_of h.tag) h.rest.now) }
+    ensures tag_text { IfSome result (λ h. h.tag_text.now ≡ tag_text (bytes_of h.tag)) }
+{
+    if !tags || !begins_tag(line) {
+        return Some(LineHead {
+            tag: None,
+            tag_text: &[],
+            rest: line,
+        });
+    }
+    let TagHead { tag, head, rest } = tag_head(line)?;
+    Some(LineHead {
+        tag: Some(tag),
+        tag_text: head,
+        rest,
+    })
+}
+
+// The exchange of a line without its tag, where conversations may have names.
+#[inline(always)]
+fn exchange_in<'a>(
+    reader: &mut Reader,
+    names: &SessionNames,
+    named: bool,
+    rest: &'a [u8],
+) -> Option<Exchange<'a>>
+    ensures { IfSome result (IsExchangeIn names.now named rest.now) }
+{
+    if named {
+        return named_exchange(reader, names, rest);
+    }
+    let Ok(Some((id, event))) = reader.exchange(rest) else {
+        return None;
+    };
+    Some(Exchange {
+        session: None,
+        name: None,
+        id,
+        event,
+    })
+}
+
+// The exchange of a line whose conversation has a name, if the name has a number.
+#[inline(always)]
+fn named_exchange<'a>(
+    reader: &mut Reader,
+    names: &SessionNames,
+    rest: &'a [u8],
+) -> Option<Exchange<'a>>
+    ensures { IfSome result (IsExchangeIn names.now true rest.now) }
+{
+    let head = word_head_of(rest)?;
+    let Ok(name) = str::from_utf8(head.word) else {
+        return None;
+    };
+    let number = names.number_of(name)?;
+    let Ok(Some(event)) = reader.word_exchange(head) else {
+        return None;
+    };
+    Some(Exchange {
+        session: Some(Session { name, number }),
+        name: Some(name.as_bytes()),
+        id: number,
+        event,
+    })
+}

@@ -1,0 +1,304 @@
+//! Takes the lines of a script with labels, one after another.
+
+ghost use Rattle.std.specs.Prelude.{◌≡◌, ◌↔◌, ◌≤◌, ◌<◌, ◌+◌, ◌^◌, ◌++◌, ◌∷◌, [], IsTrue, option_map};
+ghost use Rattle.scrib_report.specs.PutBack.{bytes_of};
+ghost use Rattle.scrib_script_reader.specs.Scripts.{bare, text_end};
+ghost use Rattle.scrib_labelled.specs.Splits.{IsEnded};
+
+use crate::exchange_line::exchange_line;
+use crate::label_options::LabelOptions;
+use crate::line_count::LineCount;
+use crate::line_reading::{LineParts, read_line};
+use crate::named_monitor::NamedMonitor;
+use crate::put_text::PutText;
+use scrib_core::format::Format;
+use scrib_core::step::Step;
+use scrib_script_io::fault::ScriptFault;
+use scrib_script_reader::item::Item;
+use scrib_script_reader::kept_bytes::{KEPT_TEXT_BYTES, append_up_to, without_cr};
+use scrib_script_reader::line::Line;
+use scrib_script_reader::reader::Reader;
+use scrib_types::containers::Items;
+use std::alloc::{AllocError, Global};
+use std::mem::replace;
+
+// The bytes that are kept of a line outside module texts: its limit, one byte to see that it is longer, and a CR.
+const KEPT_LINE_BYTES: usize = 131_074;
+
+/// A script with labels that runs over a monitor.
+#[derive(Drop)]
+pub(crate) struct LabelledRun {
+    pub(crate) alloc: Global,
+    pub(crate) options: LabelOptions,
+    pub(crate) reader: Reader,
+    pub(crate) named: NamedMonitor,
+    // The line so far, as far as it is kept.
+    pub(crate) line: Vec<u8>,
+    // The module text that is read, or none outside module texts.
+    pub(crate) text: Option<PutText>,
+    // The line that the last line stands for.
+    pub(crate) plain: Vec<u8>,
+    pub(crate) count: LineCount,
+}
+
+impl LabelledRun {
+    ghost use Rattle.std.specs.Prelude.{◌≡◌, ◌<◌, ◌+◌, ◌^◌, true, length, Option, IfOk, IfErr, OnErr, OnOk, None};
+    ghost use Rattle.scrib_script_io.specs.Faults.{of_script};
+    ghost use Rattle.scrib_script_reader.specs.Scripts.{NoLf};
+    ghost use Rattle.scrib_labelled.specs.LabelledScripts.{LabelledText};
+    ghost use Rattle.scrib_labelled.specs.Splits.{IsEnded};
+    ghost use Rattle.scrib_labelled.specs.Progress.{EndsBody, EndsLine, EndsPlainLine, EndsTextLine, GathersBytes, HoldsUnended, kept_len};
+    ghost use Rattle.scrib_labelled.specs.Progress.{EndsLast, EndsLastTextLine, EndsText, PutsText};
+
+    // Consumes bytes of a line, without its LF.
+    pub(crate) fn take_part(&mut self, part: &[u8]) -> Result<(), ScriptFault>
+        requires { NoLf part.now }
+        ensures ok { OnOk result (GathersBytes self.old self.new part.now) }
+        ensures err { OnErr result
+            (self.new.named.monitor.gathered.bytes.items ≡ self.old.named.monitor.gathered.bytes.items) }
+        ensures fault { IfErr result (λ e. of_script e ≡ true) }
+    {
+        if !self.count.take(part.len()) {
+            return Err(ScriptFault::Read);
+        }
+        let capacity = self.capacity();
+        append_up_to(&mut self.line, part, capacity)?;
+        Ok(())
+    }
+
+    // Consumes the last bytes of a line, and its LF.
+    #[inline(always)]
+    pub(crate) fn take_end(&mut self, bytes: &[u8]) -> Result<(), ScriptFault>
+        requires { IsEnded bytes.now }
+        ensures ok { OnOk result (GathersBytes self.old self.new bytes.now) }
+        ensures err { OnErr result
+            (self.new.named.monitor.gathered.bytes.items ≡ self.old.named.monitor.gathered.bytes.items) }
+        ensures fault { IfErr result (λ e. of_script e ≡ true) }
+    {
+        if !self.count.take(bytes.len()) {
+            return Err(ScriptFault::Read);
+        }
+        self.end_body(without_lf(bytes))?;
+        self.count.end_line();
+        Ok(())
+    }
+
+    // Takes a line that ends with these bytes, without its LF.
+    #[inline(always)]
+    fn end_body(&mut self, body: &[u8]) -> Result<(), AllocError>
+        ensures ok { OnOk result (EndsBody self.old self.new body.now) }
+        ensures err { OnErr result
+            (self.new.named.monitor.gathered.bytes.items ≡ self.old.named.monitor.gathered.bytes.items) }
+    {
+        let capacity = self.capacity();
+        if self.line.is_empty() {
+            return self.end_line(&body[..body.len().min(capacity)]);
+        }
+        append_up_to(&mut self.line, body, capacity)?;
+        let line = replace(&mut self.line, Vec::new(self.alloc));
+        self.end_line(line.as_slice())
+    }
+
+    // Returns how many bytes of the line are kept.
+    #[inline(always)]
+    fn capacity(&self) -> usize
+        ensures { (before : Option LabelledText) → HoldsUnended self.now.text before → result ≡ kept_len before }
+    {
+        if self.text.is_some() {
+            KEPT_TEXT_BYTES
+        } else {
+            KEPT_LINE_BYTES
+        }
+    }
+
+    // Takes a line that has ended, as far as it is kept, without its LF.
+    #[inline(always)]
+    fn end_line(&mut self, line: &[u8]) -> Result<(), AllocError>
+        ensures ok { OnOk result (EndsLine self.old self.new line.now) }
+        ensures err { OnErr result
+            (self.new.named.monitor.gathered.bytes.items ≡ self.old.named.monitor.gathered.bytes.items) }
+    {
+        // most lines of a long script
+        if self.text.is_none() {
+            return self.end_plain_line(without_cr(line));
+        }
+        self.end_any_line(line)
+    }
+
+    // The same, in a module text and outside of one.
+    #[inline(never)]
+    fn end_any_line(&mut self, line: &[u8]) -> Result<(), AllocError>
+        ensures ok { OnOk result (EndsLine self.old self.new line.now) }
+        ensures err { OnErr result
+            (self.new.named.monitor.gathered.bytes.items ≡ self.old.named.monitor.gathered.bytes.items) }
+    {
+        match self.text.take() {
+            Some(text) => self.end_text_line(text, line),
+            None => self.end_plain_line(without_cr(line)),
+        }
+    }
+
+    // The same of a line in this module text.
+    fn end_text_line(&mut self, mut text: PutText, line: &[u8]) -> Result<(), AllocError>
+        requires { self.old.text ≡ None }
+        ensures ok { OnOk result (EndsTextLine self.old self.new text line.now) }
+        ensures err { OnErr result
+            (self.new.named.monitor.gathered.bytes.items ≡ self.old.named.monitor.gathered.bytes.items) }
+    {
+        if !is_text_end(line) {
+            text.add_line(line)?;
+            self.text = Some(text);
+            return Ok(());
+        }
+        self.put(text)
+    }
+
+    // Carries the put of a text out.
+    fn put(&mut self, text: PutText) -> Result<(), AllocError>
+        ensures ok { OnOk result (PutsText self.old self.new text) }
+        ensures err { OnErr result
+            (self.new.named.monitor.gathered.bytes.items ≡ self.old.named.monitor.gathered.bytes.items) }
+    {
+        let PutText { bytes, format, tag } = text;
+        let put = Step::Put {
+            text: Items::from_vec(bytes),
+        };
+        let parts = LineParts {
+            tag: tag_of(&tag),
+            session: None,
+        };
+        self.named.carry_out(Item::Step(format, put), parts)
+    }
+
+    // Takes a line outside module texts, given without its end.
+    #[inline(always)]
+    fn end_plain_line(&mut self, line: &[u8]) -> Result<(), AllocError>
+        requires { self.old.text ≡ None }
+        ensures ok { OnOk result (EndsPlainLine self.old self.new line.now) }
+        ensures err { OnErr result
+            (self.new.named.monitor.gathered.bytes.items ≡ self.old.named.monitor.gathered.bytes.items) }
+    {
+        // most lines of a long script
+        if self.named.monitor.prints_lines()
+            && let Some(exchange) = exchange_line(
+                &mut self.reader,
+                &self.named.names,
+                self.options,
+                line,
+            )
+        {
+            return self.named.note(exchange);
+        }
+        self.end_other_line(line)
+    }
+
+    // The same, where the line may be any.
+    #[inline(never)]
+    fn end_other_line(&mut self, line: &[u8]) -> Result<(), AllocError>
+        requires { self.old.text ≡ None }
+        ensures ok { OnOk result (EndsPlainLine self.old self.new line.now) }
+        ensures err { OnErr result
+            (self.new.named.monitor.gathered.bytes.items ≡ self.old.named.monitor.gathered.bytes.items) }
+    {
+        let (parts, meaning) = read_line(
+            &mut self.reader,
+            &mut self.plain,
+            &self.named.names,
+            self.options,
+            line,
+        )?;
+        match meaning {
+            Line::Skipped => Ok(()),
+            Line::Put(format) => {
+                self.text = Some(PutText::new(self.alloc, format, parts.tag)?);
+                Ok(())
+            }
+            Line::Step(format, step) => self.named.carry_out(Item::Step(format, step), parts),
+            Line::Bad => self
+                .named
+                .carry_out(Item::BadLine(self.count.number()), parts),
+        }
+    }
+
+    // Takes the last bytes of the script, which no LF ended.
+    pub(crate) fn end_last_line(&mut self) -> Result<(), AllocError>
+        ensures ok { OnOk result (EndsLast self.old self.new) }
+        ensures err { OnErr result
+            (self.new.named.monitor.gathered.bytes.items ≡ self.old.named.monitor.gathered.bytes.items) }
+    {
+        if self.line.is_empty() {
+            return Ok(());
+        }
+        let line = replace(&mut self.line, Vec::new(self.alloc));
+        match self.text.take() {
+            Some(text) => self.end_last_text_line(text, line.as_slice()),
+            None => self.end_plain_line(line.as_slice()),
+        }
+    }
+
+    // The same in this module text.
+    fn end_last_text_line(&mut self, text: PutText, line: &[u8]) -> Result<(), AllocError>
+        requires { self.old.text ≡ None }
+        ensures ok { OnOk result (EndsLastTextLine self.old self.new text line.now) }
+        ensures err { OnErr result
+            (self.new.named.monitor.gathered.bytes.items ≡ self.old.named.monitor.gathered.bytes.items) }
+    {
+        if is_mark(line) {
+            return self.put(text);
+        }
+        self.text = Some(text);
+        Ok(())
+    }
+
+    // Takes the end of the script.
+    pub(crate) fn end_text(&mut self) -> Result<(), AllocError>
+        ensures ok { OnOk result (EndsText self.old self.new) }
+        ensures err { OnErr result
+            (self.new.named.monitor.gathered.bytes.items ≡ self.old.named.monitor.gathered.bytes.items) }
+    {
+        let Some(text) = self.text.take() else {
+            return Ok(());
+        };
+        let parts = LineParts {
+            tag: tag_of(&text.tag),
+            session: None,
+        };
+        self.named.carry_out(Item::EndOfText, parts)
+    }
+}
+
+// Returns whether the line, given without its LF, ends a module text.
+fn is_text_end(line: &[u8]) -> bool
+    ensures { IsTrue result ↔ (bare (line.now ++ 10 ∷ []) ≡ text_end) }
+{
+    is_mark(without_cr(line))
+}
+
+// Returns whether the line, given without its end, ends a module text.
+fn is_mark(line: &[u8]) -> bool
+    ensures { IsTrue result ↔ (line.now ≡ text_end) }
+{
+    line == b"%%".as_slice()
+}
+
+// Returns the bytes of the tag, if there is one.
+fn tag_of(tag: &Option<Vec<u8>>) -> Option<&[u8]>
+    ensures { bytes_of result ≡ option_map (λ tag. tag.items) tag.now }
+{
+    match tag {
+        Some(tag) => Some(tag.as_slice()),
+        None => None,
+    }
+}
+
+// Returns the bytes in front of the LF at their end.
+#[inline(always)]
+fn without_lf(bytes: &[u8]) -> &[u8]
+    requires { IsEnded bytes.now }
+    ensures { bytes.now ≡ result.now ++ 10 ∷ [] }
+{
+    match bytes.split_last() {
+        Some((_, front)) => front,
+        None => bytes,
+    }
+}

@@ -1,0 +1,14 @@
+//! Runs scripts whose lines have tags, and names of conversations, over one monitor.
+#![tactic(auto)]
+
+mod exchange_line;
+pub mod label_options;
+mod labelled_line;
+mod labelled_monitor;
+mod labelled_run;
+mod line_count;
+mod line_reading;
+mod named_monitor;
+mod piece_run;
+mod put_text;
+pub mod run_labelled_script;

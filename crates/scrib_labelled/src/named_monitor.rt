@@ -1,0 +1,112 @@
+//! A monitor whose conversations may have names.
+
+use crate::exchange_line::ExchangeLine;
+use crate::labelled_monitor::{Change, LabelledMonitor};
+use crate::line_reading::{LineParts, Session};
+use scrib_core::format::Format;
+use scrib_labels::session_names::SessionNames;
+use scrib_report::label::Label;
+use scrib_script_reader::item::Item;
+use std::alloc::{AllocError, Global};
+
+/// A monitor, and the numbers that stand for the names of its conversations.
+#[derive(Drop)]
+pub(crate) struct NamedMonitor {
+    pub(crate) names: SessionNames,
+    pub(crate) monitor: LabelledMonitor,
+}
+
+impl NamedMonitor {
+    ghost use Rattle.std.specs.Prelude.{◌≡◌, ℕ, List, OnErr, OnOk, None, Some};
+    ghost use Rattle.scrib_core.specs.Answers.{initial};
+    ghost use Rattle.scrib_core.specs.Held.{state_of};
+    ghost use Rattle.scrib_core.specs.declared.format.Format.TheVariants as format;
+    ghost use Rattle.scrib_core.specs.declared.step.Step.TheVariants.{Note};
+    ghost use Rattle.scrib_script_reader.specs.declared.item.Item.TheVariants as item;
+    ghost use Rattle.scrib_report.specs.PutBack.{bytes_of, tag_text};
+    ghost use Rattle.scrib_labels.specs.Naming.{number_of};
+    ghost use Rattle.scrib_labelled.specs.LabelledRuns.{session_name};
+    ghost use Rattle.scrib_labelled.specs.NamedLines.{IsNumbersOf, label_of, session_of};
+    ghost use Rattle.scrib_labelled.specs.Progress.{CarriesOut, after_change};
+
+    /// Returns a new monitor, without names.
+    pub(crate) fn new(alloc: Global, format: Format) -> NamedMonitor
+        ensures state { state_of result.monitor.core ≡ initial }
+        ensures format { result.monitor.format ≡ format }
+        ensures names { (name : List ℕ) → number_of result.names name ≡ None }
+    {
+        NamedMonitor {
+            names: SessionNames::new(alloc),
+            monitor: LabelledMonitor::new(alloc, format),
+        }
+    }
+
+    /// Carries the item of a line with this label out, and gathers its output.
+    ///
+    /// # Errors
+    /// `AllocError` where there is no memory for its text or its name. Nothing is gathered then.
+    pub(crate) fn carry_out(&mut self, item: Item, parts: LineParts<'_>) -> Result<(), AllocError>
+        requires { IsNumbersOf self.old.names (session_of parts.session) }
+        ensures ok { OnOk result (CarriesOut self.old self.new (label_of parts.entry) item) }
+        ensures err { OnErr result
+            (self.new.monitor.gathered.bytes.items ≡ self.old.monitor.gathered.bytes.items) }
+    {
+        let name = match parts.session {
+            Some(session) => Some(session.name.as_bytes()),
+            None => None,
+        };
+        let label = Label {
+            tag: parts.tag,
+            name,
+        };
+        let change = self.monitor.take(item, label)?;
+        if let Some(session) = parts.session {
+            self.rename(session, change)?;
+        }
+        self.monitor.gather()
+    }
+
+    /// Notes the event of a line, and gathers its reply as a line of text.
+    ///
+    /// # Errors
+    /// `AllocError` where there is no memory for the text. Nothing is gathered then.
+    #[inline(always)]
+    pub(crate) fn note(&mut self, line: ExchangeLine<'_>) -> Result<(), AllocError>
+        requires tag { line.tag_text.now ≡ tag_text (bytes_of line.parts.tag) }
+        requires name { bytes_of line.name ≡ session_name (session_of line.parts.session) }
+        requires lines { self.old.monitor.format ≡ format.Line }
+        ensures ok { OnOk result (CarriesOut self.old self.new (label_of line.entry.parts)
+            (item.Step format.Line (Note line.entry.id line.entry.event))) }
+        ensures err { OnErr result
+            (self.new.monitor.gathered.bytes.items ≡ self.old.monitor.gathered.bytes.items) }
+    {
+        let ExchangeLine {
+            parts,
+            tag_text,
+            name,
+            id,
+            event,
+        } = line;
+        let label = Label {
+            tag: parts.tag,
+            name,
+        };
+        self.monitor.note(id, event, label, tag_text)
+    }
+
+    // Gives the name its number where its conversation was opened, and takes it away where that was closed.
+    fn rename(&mut self, session: Session<'_>, change: Change) -> Result<(), AllocError>
+        requires { IsNumbersOf self.old.names (Some (session.name.now, session.number)) }
+        ensures same { self.new ≡ record self.old { names = self.new.names } }
+        ensures named { OnOk result ((name : List ℕ) → number_of self.new.names name
+            ≡ after_change (number_of self.old.names)
+            (Some (session.entry.name.now, session.entry.number)) change name) }
+    {
+        match change {
+            Change::Opened => self.names.keep(session.name, session.number)?,
+            Change::Closed => self.names.remove(session.name),
+            Change::Unchanged => {}
+        }
+        Ok(())
+    }
+}
