@@ -78,6 +78,24 @@ fn close_complete_arg<'a>(alloc: Global) -> Result<Arg<'a>, AllocError> {
     flag_arg(alloc, "close-complete", help).conflicts_with("hold")
 }
 
+// A flag of the labels that the lines of a script have.
+fn label_arg<'a>(alloc: Global, name: &'a str, help: &'a str) -> Result<Arg<'a>, AllocError> {
+    flag_arg(alloc, name, help)
+        .conflicts_with("hold")?
+        .conflicts_with("close-complete")
+}
+
+fn names_arg<'a>(alloc: Global) -> Result<Arg<'a>, AllocError> {
+    let help = "Let words name the conversations; not with --hold or --close-complete";
+    label_arg(alloc, "names", help)
+}
+
+fn tags_arg<'a>(alloc: Global) -> Result<Arg<'a>, AllocError> {
+    let help =
+        "Let a line begin with @TAG, as its reply then does; not with --hold or --close-complete";
+    label_arg(alloc, "tags", help)
+}
+
 fn hold_arg<'a>(alloc: Global) -> Arg<'a> {
     Arg::new(alloc, "hold").long("hold").value_name("N").help(
         "Hold each event back until it may have happened, for at most N lines, 1 to 16777216",
@@ -153,6 +171,8 @@ fn watch_command<'a>(alloc: Global) -> Result<Command<'a>, AllocError> {
         .arg(json_arg(alloc))?
         .arg(hold_arg(alloc))?
         .arg(close_complete_arg(alloc)?)?
+        .arg(names_arg(alloc)?)?
+        .arg(tags_arg(alloc)?)?
         .arg(endless_arg(alloc))?
         .arg(file_arg(alloc))
 }

@@ -82,6 +82,10 @@ answered once it is released, and standard error has the counts at the end:
   scribmon: 5400 events, 812 waited, at most 31 at once, 0 released by the limit
 With --close-complete the reply to an event or a turn by which a conversation
 is complete is followed by that to a close of it.
+With --names each ID is a word of letters, digits and `_ . : -`, as in:
+  open order-8f3a demo.Hello
+With --tags a line may begin with a tag, and its reply then does:
+  @17 ask 1
 
 Example:
   scribmon watch examples/01_hello/receive_before_send.script

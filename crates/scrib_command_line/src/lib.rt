@@ -3,6 +3,7 @@
 
 mod closing_scripts;
 mod held_scripts;
+mod labelled_scripts;
 mod outcomes;
 mod request;
 pub mod run_command_line;

@@ -6,6 +6,7 @@ use clap::ArgMatches;
 use scrib_cli::id::id_of;
 use scrib_cli::role_query::{Form, RoleQuery};
 use scrib_core::format::Format;
+use scrib_labelled::label_options::LabelOptions;
 use scrib_run_service::shape::{Shape, ShapeFault};
 use scrib_script_reader::limits::Limits;
 use scrib_types::profile::Profile;
@@ -30,6 +31,14 @@ pub(crate) fn limits_of(matches: &ArgMatches) -> Limits
         Limits::endless()
     } else {
         Limits::of_scripts()
+    }
+}
+
+// The labels that the lines of the script have.
+pub(crate) fn labels_of(matches: &ArgMatches) -> LabelOptions {
+    LabelOptions {
+        tags: matches.get_flag("tags"),
+        names: matches.get_flag("names"),
     }
 }
 

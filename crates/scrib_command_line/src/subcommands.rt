@@ -2,8 +2,9 @@
 
 use crate::closing_scripts::watch_closing;
 use crate::held_scripts::watch_held;
+use crate::labelled_scripts::watch_labelled;
 use crate::outcomes::{flush_and_print_fault, refuse_value};
-use crate::request::{format_of, limits_of, profile_of, query_of, shape_of};
+use crate::request::{format_of, labels_of, limits_of, profile_of, query_of, shape_of};
 use crate::run_command_line::Streams;
 use crate::run_files::{RunScripts, run_files};
 use clap::ArgMatches;
@@ -76,6 +77,10 @@ pub(crate) fn run_watch<R: Files + AllocGlobal, I: Input, W: Write, E: Print + E
     }
     if matches.get_flag("close-complete") {
         return watch_closing(system, streams, matches);
+    }
+    let labels = labels_of(matches);
+    if labels.tags || labels.names {
+        return watch_labelled(system, streams, matches, labels);
     }
     let watched = run_simple_command(system, streams, "watch", matches);
     flush_and_print_fault(streams, &watched)

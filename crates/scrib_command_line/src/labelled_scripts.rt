@@ -1,0 +1,60 @@
+//! The commands `watch --names` and `watch --tags`.
+
+ghost use Rattle.std.specs.Prelude.{◌<◌, ◌+◌, ◌^◌};
+
+use crate::held_scripts::open;
+use crate::outcomes::flush_and_print_fault;
+use crate::request::{format_of, limits_of};
+use crate::run_command_line::Streams;
+use clap::ArgMatches;
+use scrib_cli::commands::fault::CommandFault;
+use scrib_cli::commands::folder::SystemFiles;
+use scrib_cli::commands::opened::Opened;
+use scrib_labelled::label_options::{LabelOptions, LabelledFormat};
+use scrib_labelled::run_labelled_script::run_labelled_script;
+use scrib_script_reader::limits::Limits;
+use std::alloc::Global;
+use std::io::{Input, Read, Write};
+use std::rt::Files;
+
+// Runs `watch` over a script with these labels, and returns the exit status.
+pub(crate) fn watch_labelled<R: Files + AllocGlobal, I: Input, W: Write, E: Print + Eprint>(
+    system: &R,
+    streams: &mut Streams<'_, I, W, E>,
+    matches: &ArgMatches<'_>,
+    labels: LabelOptions,
+) -> u8 {
+    let files = SystemFiles {
+        files: system,
+        input: streams.input,
+    };
+    let script = open(&files, matches.get_str("FILE").unwrap_or("-"));
+    let written = write_labelled(
+        system.alloc(),
+        LabelledFormat {
+            labels,
+            format: format_of(matches),
+        },
+        limits_of(matches),
+        script,
+        streams.output,
+    );
+    flush_and_print_fault(streams, &written)
+}
+
+// Reads the script and writes the output. Returns true: its refusals are replies to steps.
+fn write_labelled<'a, R: Read + Drop, W: Write>(
+    alloc: Global,
+    style: LabelledFormat,
+    limits: Limits,
+    script: Result<Opened<'a, R>, CommandFault<'a>>,
+    writer: &mut W,
+) -> Result<bool, CommandFault<'a>>
+    requires { limits.lines + 1 < 2 ^ 64 }
+{
+    let mut script = script?;
+    match run_labelled_script(alloc, style, limits, &mut script.reader, writer) {
+        Ok(()) => Ok(true),
+        Err(fault) => Err(script.fault(&fault)),
+    }
+}
