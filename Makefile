@@ -25,7 +25,7 @@ try: run ## the same as run
 # their own, until the last run waits for what is still being proved.
 CHAIN = scrib_elaborate scrib_shards scrib_run_service
 BESIDE = scrib_parser scrib_record scrib_global scrib_hold_stage scrib_arguments
-LAST = scrib_cli scrib_closing scrib_hold_lines
+LAST = scrib_cli scrib_closing scrib_labelled scrib_hold_lines
 
 build: ## proves and builds crates/scribmon/out/scribmon: 30 to 40 minutes on four processors
 	@work=$$(mktemp -d) && trap 'rm -rf "$$work"' EXIT && \
@@ -68,6 +68,7 @@ checks: ## tries the built programs outside the gate: some ten minutes
 	$(PYTHON) checks/held_logs.py
 	$(PYTHON) checks/next_prefixes.py
 	$(PYTHON) checks/closed_logs.py
+	$(PYTHON) checks/labelled_logs.py
 	$(PYTHON) checks/generated_logs.py | $(PROGRAM) watch --json | $(PYTHON) checks/json_lines.py
 	$(PYTHON) checks/little_memory.py
 	$(PYTHON) checks/broken_input.py --rounds 1000

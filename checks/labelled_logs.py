@@ -1,0 +1,166 @@
+#!/usr/bin/env python3
+"""Gives stored scripts names and tags, and compares the replies with those to the scripts themselves.
+
+    labelled_logs.py [--program FILE] [--seed N]
+
+The stored scripts are those of the worked examples that `watch`, `hold`, `explain`, `next` or `judge` reads, and those
+of the numbered examples. In each line about a conversation the number becomes a word, and half of the lines outside
+module texts get a tag in front. Some have a tab behind the tag, and some two blanks. `watch --names --tags` must then
+print what `watch` prints for the stored script, with the word in place of the number and the tag in front. Both are
+compared in lines and in JSON. Scripts with a line that is about a bad number or near the longest line are left out.
+
+Prints how many scripts were compared, and how often each kind of reply had a label. Status: 0 fine; 1 where a reply is
+another one, or a kind of reply never had a label; 2 a bad command line, or no program.
+"""
+
+import argparse
+import json
+import random
+import re
+import sys
+from collections import Counter
+
+from examples import read_examples
+from next_prefixes import PROGRAM, CheckFault, is_script, reply_lines
+
+WORDS = "open|join|send|recv|ask|turn|close"
+ABOUT = re.compile(r"(?s)((?:[ \t]*json(?=[ \t]))?[ \t]*(?:%s)[ \t]+)([^ \t]+)(.*)" % WORDS)
+NUMBER = re.compile(r"0|[1-9][0-9]{0,8}")
+PUT = re.compile(r"[ \t]*(?:json[ \t]+)?put[ \t]*")
+SILENT = re.compile(r"[ \t]*(?:#.*)?", re.S)
+# The longest line that gets a name and a tag, far from the limit of 131,072 bytes.
+LONGEST = 131_000
+KINDS = ["event", "verdict", "open", "close", "put", "withdraw", "profile", "refused"]
+SHOWN_FAILURES = 3
+
+
+class Labelled:
+    """A script with names and tags, and the tag of each of its replies, or none."""
+
+    def __init__(self, pick, script):
+        self.pick, self.lines, self.tags = pick, [], []
+        self.in_text, self.text_tag = False, None
+        lines = script.split("\n")
+        for at, line in enumerate(lines):
+            self.take(line, at == len(lines) - 1)
+        if self.in_text:
+            self.tags.append(self.text_tag)
+
+    def take(self, line, is_last):
+        """Takes a line of the script, given without its LF."""
+        bare = line if is_last else re.sub(r"\r\Z", "", line)
+        if self.in_text:
+            self.lines.append(line)
+            if bare == "%%":
+                self.in_text = False
+                self.tags.append(self.text_tag)
+            return
+        if len(line) > LONGEST:
+            raise ValueError("a long line")
+        tag = None if is_last and line == "" or self.pick.random() < 0.5 else "t%d" % self.pick.randrange(10 ** 6)
+        blank = self.pick.choice([" ", " ", " ", "  ", "\t"])
+        self.lines.append(("" if tag is None else "@" + tag + blank) + named(line))
+        if PUT.fullmatch(bare):
+            self.in_text, self.text_tag = True, tag
+        elif not SILENT.fullmatch(bare):
+            self.tags.append(tag)
+
+    def script(self):
+        return "\n".join(self.lines)
+
+
+def named(line):
+    """The line with a word in place of its conversation's number."""
+    found = ABOUT.fullmatch(line)
+    if not found:
+        return line
+    before, number, behind = found.groups()
+    if not NUMBER.fullmatch(number):
+        raise ValueError("no number")
+    return before + "c-" + number + behind
+
+
+def labelled_line(reply, tag):
+    """The line of a reply with its label."""
+    reply = re.sub(r"\A((?:open |close )?)([0-9]+)", r"\1c-\2", reply)
+    return reply if tag is None else "@%s %s" % (tag, reply)
+
+
+def labelled_json(reply, tag):
+    """The JSON of a reply with its label. The keys of an object are in the order of their bytes."""
+    members = json.loads(reply)
+    if "conversation" in members:
+        members["conversation"] = "c-%d" % members["conversation"]
+    if tag is not None:
+        members["tag"] = tag
+    return json.dumps(dict(sorted(members.items())), separators=(",", ":"), ensure_ascii=False)
+
+
+def kind_of(reply):
+    """The kind of a reply, which is a line."""
+    word = reply.split(" ")[0]
+    if word in KINDS:
+        return word
+    return "event" if "." in word else "verdict"
+
+
+def expected(plain, tags):
+    """The replies with their labels, to a script without labels whose replies are these."""
+    if len(plain) != len(tags):
+        raise CheckFault("%d replies to %d lines that have one" % (len(plain), len(tags)))
+    label = {True: labelled_json, False: labelled_line}
+    return [label[reply.startswith("{")](reply, tag) for reply, tag in zip(plain, tags)]
+
+
+def compare(program, pick, script, seen):
+    """What differs between the replies to the script with and without labels, as lines. None where all is right."""
+    labelled = Labelled(pick, script)
+    for words in ([], ["--json"]):
+        plain = reply_lines(program, ["watch", *words], script)
+        wanted = expected(plain, labelled.tags)
+        given = reply_lines(program, ["watch", "--names", "--tags", *words], labelled.script())
+        if given != wanted:
+            at = next(at for at, pair in enumerate(zip(wanted + [None], given + [None])) if pair[0] != pair[1])
+            return "reply %d: %r, not %r" % (at + 1, (given + [None])[at], (wanted + [None])[at])
+        if not words:
+            seen.update(kind_of(reply) for reply, tag in zip(plain, labelled.tags) if tag is not None)
+    return None
+
+
+def parse_arguments():
+    parser = argparse.ArgumentParser(description="Gives stored scripts names and tags, and compares the replies.")
+    parser.add_argument("--program", default=PROGRAM)
+    parser.add_argument("--seed", type=int, default=1)
+    return parser.parse_args()
+
+
+def main():
+    options = parse_arguments()
+    pick, seen, compared, left_out, failures = random.Random(options.seed), Counter(), 0, 0, []
+    try:
+        for example in read_examples():
+            if not is_script(example):
+                continue
+            try:
+                fault = compare(options.program, pick, example.input.decode("latin-1"), seen)
+            except ValueError:
+                left_out += 1
+                continue
+            compared += 1
+            if fault:
+                failures.append("%s: %s" % (example.title, fault))
+    except FileNotFoundError as fault:
+        print("labelled_logs: no program: %s" % fault.filename, file=sys.stderr)
+        return 2
+    print("%d scripts compared, %d left out" % (compared, left_out))
+    print(", ".join("%s %d" % (kind, seen[kind]) for kind in KINDS))
+    for failure in failures[:SHOWN_FAILURES]:
+        print(failure)
+    missing = [kind for kind in KINDS if seen[kind] == 0]
+    if missing:
+        print("no reply with a label: %s" % ", ".join(missing))
+    return 1 if failures or missing else 0
+
+
+if __name__ == "__main__":
+    sys.exit(main())
