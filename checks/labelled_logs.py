@@ -7,7 +7,8 @@ The stored scripts are those of the worked examples that `watch`, `hold`, `expla
 of the numbered examples. In each line about a conversation the number becomes a word, and half of the lines outside
 module texts get a tag in front. Some have a tab behind the tag, and some two blanks. `watch --names --tags` must then
 print what `watch` prints for the stored script, with the word in place of the number and the tag in front. Both are
-compared in lines and in JSON. Scripts with a line that is about a bad number or near the longest line are left out.
+compared in lines and in JSON. Scripts with a line that is about a bad number or near the longest line are left out, and
+so are those with labels of their own.
 
 Prints how many scripts were compared, and how often each kind of reply had a label. Status: 0 fine; 1 where a reply is
 another one, or a kind of reply never had a label; 2 a bad command line, or no program.
@@ -55,8 +56,8 @@ class Labelled:
                 self.in_text = False
                 self.tags.append(self.text_tag)
             return
-        if len(line) > LONGEST:
-            raise ValueError("a long line")
+        if len(line) > LONGEST or line.startswith("@"):
+            raise ValueError("a long line, or one with a tag")
         tag = None if is_last and line == "" or self.pick.random() < 0.5 else "t%d" % self.pick.randrange(10 ** 6)
         blank = self.pick.choice([" ", " ", " ", "  ", "\t"])
         self.lines.append(("" if tag is None else "@" + tag + blank) + named(line))
@@ -67,6 +68,12 @@ class Labelled:
 
     def script(self):
         return "\n".join(self.lines)
+
+
+def has_labels(example):
+    """Whether the script of a worked example has names or tags."""
+    words = example.text.split(b"\n")[1].split()
+    return b"--names" in words or b"--tags" in words
 
 
 def named(line):
@@ -139,7 +146,7 @@ def main():
     pick, seen, compared, left_out, failures = random.Random(options.seed), Counter(), 0, 0, []
     try:
         for example in read_examples():
-            if not is_script(example):
+            if not is_script(example) or has_labels(example):
                 continue
             try:
                 fault = compare(options.program, pick, example.input.decode("latin-1"), seen)
