@@ -1,5 +1,6 @@
 -- What items change, and what is gathered for them.
 use Rattle.std.proofs.Common.{◌≡◌, ◌∙◌, ℕ, List, [], ◌∷◌, ◌++◌, Option, Some, None, Result, Ok, Err, refl, sym, ap, subst}
+use Rattle.std.specs.Borrow.{Bor}
 use Rattle.scrib_types.specs.declared.event.Event.{Event}
 use Rattle.scrib_types.specs.declared.event.Told.TheVariants.{Judged}
 use Rattle.scrib_types.specs.declared.event.Verdict.TheVariants.{Permitted}
@@ -15,7 +16,7 @@ use Rattle.scrib_core.specs.declared.reply.Reply.TheVariants as reply
 use Rattle.scrib_core.specs.declared.step.Step.TheVariants.{Note}
 use Rattle.scrib_report.specs.HeadedEvents.{permitted_text}
 use Rattle.scrib_report.specs.LabelledReplies.{labelled_reply}
-use Rattle.scrib_report.specs.PutBack.{tag_text, with_name}
+use Rattle.scrib_report.specs.PutBack.{bytes_of, tag_text, with_name}
 use Rattle.scrib_report.specs.ReplyTexts.{reply_format}
 use Rattle.scrib_script_reader.specs.declared.item.Item.{Item}
 use Rattle.scrib_script_reader.specs.declared.item.Item.TheVariants as item
@@ -25,6 +26,7 @@ use Rattle.scrib_labelled.specs.declared.labelled_monitor.Change.{Change}
 use Rattle.scrib_labelled.specs.declared.labelled_monitor.Change.TheVariants as change
 use Rattle.scrib_labelled.specs.declared.labelled_monitor.LabelledMonitor.{LabelledMonitor}
 use Rattle.scrib_labelled.specs.declared.named_monitor.NamedMonitor.{NamedMonitor}
+use Rattle.scrib_labelled.specs.ExchangeLines.{named_id}
 use Rattle.scrib_labelled.specs.LabelledLines.{LineLabel}
 use Rattle.scrib_labelled.specs.LabelledRuns.{Naming, Takes, after_replies, after_reply, session_name}
 use Rattle.scrib_labelled.specs.Progress.{CarriesOut, IsChangeBy, NotesEvent, TakesItem, after_change, change_by}
@@ -56,6 +58,11 @@ notes_permitted old new tag name head id place e same answered is grows = record
   changes = refl;
   grows = grows ∙ ap (λ (t : List ℕ). old.gathered.bytes.items ++ (t ++ with_name name (permitted_text id place))) is;
 }
+
+-- the name of a conversation, without its number
+pub name_back : (name : Option (Bor (List ℕ))) (id : ℕ) → session_name (named_id name id) ≡ bytes_of name
+name_back None id = refl
+name_back (Some n) id = refl
 
 -- the note of a line's event, as the line's item
 pub carries_note : (old new : NamedMonitor) (label : LineLabel) (id : ℕ) (e : Event) → old.monitor.format ≡ format.Line → ((name : List ℕ) → number_of new.names name ≡ number_of old.names name)

@@ -11,6 +11,7 @@ use Rattle.scrib_script_reader.specs.declared.item.Item.TheVariants as item
 use Rattle.scrib_script_reader.specs.declared.line.Line.{Line}
 use Rattle.scrib_script_reader.specs.declared.reader.Reader.{Reader}
 use Rattle.scrib_script_reader.specs.declared.line.Line.TheVariants as line
+use Rattle.scrib_script_reader.specs.Says.{Says}
 use Rattle.scrib_script_reader.specs.Scripts.{bare, empty_text, text_end, with_line}
 use Rattle.scrib_script_reader.proofs.Bytes.{all_or_most, length-bare, take_kept, take_kept_line, take_of_none}
 use Rattle.scrib_labels.specs.declared.session_names.SessionNames.{SessionNames}
@@ -20,7 +21,7 @@ use Rattle.scrib_labelled.specs.declared.labelled_run.LabelledRun.{LabelledRun}
 use Rattle.scrib_labelled.specs.declared.line_reading.LineParts.{LineParts}
 use Rattle.scrib_labelled.specs.declared.named_monitor.NamedMonitor.{NamedMonitor}
 use Rattle.scrib_labelled.specs.declared.put_text.PutText.{PutText}
-use Rattle.scrib_labelled.specs.LabelledLines.{LineLabel}
+use Rattle.scrib_labelled.specs.LabelledLines.{LineLabel, StandsFor}
 use Rattle.scrib_labelled.specs.LabelledRuns.{IsNumberIn, Runs, takes}
 use Rattle.scrib_labelled.specs.LabelledScripts.{LabelledText, SaysAs, SpellsLabelled, begins, goes_on, is_bad, makes, puts, skips}
 use Rattle.scrib_labelled.specs.NamedLines.{IsNumbersOf, ReadsAs, label_of}
@@ -28,16 +29,16 @@ use Rattle.scrib_labelled.specs.Progress.{CarriesOut, Gathers, IsCutOf, EndsLine
 use Rattle.scrib_labelled.specs.TextProgress.{HoldsMore, HoldsText, tag_in}
 use Rattle.scrib_labelled.proofs.LineLemmas.{put_no_session}
 
+-- what a cut of a line stands for, the line stands for
+pub stands_cut : (o : LabelOptions) (l cut : List ℕ) (label : LineLabel) (plain : List ℕ) (meaning : Line) → IsCutOf cut l → StandsFor o cut label plain → Says plain meaning → SaysAs o (bare l) label meaning
+stands_cut o l cut label plain meaning (inl same) h says = (plain, subst (λ (t : List ℕ). StandsFor o t label plain) same h, says)
+stands_cut o l cut label plain meaning (inr long) (inl h) says = (plain, inl (long.1, h.1, h.2), says)
+stands_cut o l cut label plain meaning (inr long) (inr h) says = absurd (omega (arith, long.0, h.0))
+
 -- what is read of a cut of a line holds for the line
 pub reads_cut : (o : LabelOptions) (names : SessionNames) (l cut : List ℕ) (parts : LineParts) (meaning : Line) → IsCutOf cut l
     → ReadsAs o names cut parts meaning → SaysAs o (bare l) (label_of parts) meaning
-reads_cut o names l cut parts meaning (inl same) r =
-    let r2 = subst (λ (t : List ℕ). ReadsAs o names t parts meaning) same r in
-    (r2.plain, r2.stands, r2.says)
-reads_cut o names l cut parts meaning (inr long) r = elim r.stands [
-  | inl h ↦ (r.plain, inl (long.1, h.1, h.2), r.says)
-  | inr h ↦ absurd (omega (arith, long.0, h.0))
-]
+reads_cut o names l cut parts meaning is r = stands_cut o l cut (label_of parts) r.plain meaning is r.stands r.says
 
 -- the kept part of a line that has ended
 pub cut_ended : (full kept cut : List ℕ) → kept ≡ take 131074 full → cut ≡ bare (kept ++ 10 ∷ []) → IsCutOf cut (full ++ 10 ∷ [])

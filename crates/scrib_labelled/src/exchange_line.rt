@@ -1,12 +1,12 @@
 //! Reads most lines of a long script: exchanges that are spelled with single blanks.
 
-ghost use Rattle.std.specs.Prelude.{◌≡◌, true, IfSome};
+ghost use Rattle.std.specs.Prelude.{◌≡◌, Some, true, IfSome};
+ghost use Rattle.scrib_labels.specs.Naming.{number_of};
 ghost use Rattle.scrib_report.specs.PutBack.{bytes_of, tag_text};
 ghost use Rattle.scrib_labelled.specs.ExchangeLines.{IsExchangeIn, IsExchangeLine};
 ghost use Rattle.scrib_labelled.specs.LabelledLines.{IsUntagged};
 
 use crate::label_options::LabelOptions;
-use crate::line_reading::{LineParts, Session};
 use scrib_labels::session_names::SessionNames;
 use scrib_labels::tag::{TagHead, begins_tag, tag_head};
 use scrib_script_reader::head::word_head_of;
@@ -17,7 +17,7 @@ use scrib_types::shared_event::SharedEvent;
 /// The line of an exchange, with its label.
 #[derive(Drop)]
 pub(crate) struct ExchangeLine<'a> {
-    pub(crate) parts: LineParts<'a>,
+    pub(crate) tag: Option<&'a [u8]>,
     /// What a reply begins with for the tag.
     pub(crate) tag_text: &'a [u8],
     /// The name of the conversation, if it has one.
@@ -37,7 +37,6 @@ struct LineHead<'a> {
 /// The conversation and the event of an exchange.
 #[derive(Drop)]
 pub(crate) struct Exchange<'a> {
-    session: Option<Session<'a>>,
     name: Option<&'a [u8]>,
     id: u32,
     event: SharedEvent,
@@ -60,10 +59,7 @@ pub(crate) fn exchange_line<'a>(
     let head = line_head(options.tags, line)?;
     let exchange = exchange_in(reader, names, options.names, head.rest)?;
     Some(ExchangeLine {
-        parts: LineParts {
-            tag: head.tag,
-            session: exchange.session,
-        },
+        tag: head.tag,
         tag_text: head.tag_text,
         name: exchange.name,
         id: exchange.id,
@@ -109,7 +105,6 @@ fn exchange_in<'a>(
         return None;
     };
     Some(Exchange {
-        session: None,
         name: None,
         id,
         event,
@@ -126,17 +121,35 @@ fn named_exchange<'a>(
     ensures { IfSome result (IsExchangeIn names.now true rest.now) }
 {
     let head = word_head_of(rest)?;
-    let Ok(name) = str::from_utf8(head.word) else {
-        return None;
-    };
-    let number = names.number_of(name)?;
+    let id = number_of(names, head.word)?;
     let Ok(Some(event)) = reader.word_exchange(head) else {
         return None;
     };
     Some(Exchange {
-        session: Some(Session { name, number }),
-        name: Some(name.as_bytes()),
-        id: number,
+        name: Some(head.word),
+        id,
         event,
     })
+}
+
+// The number of the name, if it has one.
+#[inline(always)]
+fn number_of(names: &SessionNames, name: &[u8]) -> Option<u32>
+    ensures { IfSome result (λ number. number_of names.now name.now ≡ Some number) }
+{
+    match names.find(name) {
+        Some(number) => Some(number),
+        None => other_number_of(names, name),
+    }
+}
+
+// The same, where its hash does not lead to it.
+#[inline(never)]
+fn other_number_of(names: &SessionNames, name: &[u8]) -> Option<u32>
+    ensures { IfSome result (λ number. number_of names.now name.now ≡ Some number) }
+{
+    match str::from_utf8(name) {
+        Ok(name) => names.number_of(name),
+        Err(_) => None,
+    }
 }

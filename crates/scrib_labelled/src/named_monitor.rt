@@ -25,7 +25,7 @@ impl NamedMonitor {
     ghost use Rattle.scrib_script_reader.specs.declared.item.Item.TheVariants as item;
     ghost use Rattle.scrib_report.specs.PutBack.{bytes_of, tag_text};
     ghost use Rattle.scrib_labels.specs.Naming.{number_of};
-    ghost use Rattle.scrib_labelled.specs.LabelledRuns.{session_name};
+    ghost use Rattle.scrib_labelled.specs.ExchangeLines.{exchange_label};
     ghost use Rattle.scrib_labelled.specs.NamedLines.{IsNumbersOf, label_of, session_of};
     ghost use Rattle.scrib_labelled.specs.Progress.{CarriesOut, after_change};
 
@@ -72,26 +72,21 @@ impl NamedMonitor {
     /// `AllocError` where there is no memory for the text. Nothing is gathered then.
     #[inline(always)]
     pub(crate) fn note(&mut self, line: ExchangeLine<'_>) -> Result<(), AllocError>
-        requires tag { line.tag_text.now ≡ tag_text (bytes_of line.parts.tag) }
-        requires name { bytes_of line.name ≡ session_name (session_of line.parts.session) }
+        requires tag { line.tag_text.now ≡ tag_text (bytes_of line.tag) }
         requires lines { self.old.monitor.format ≡ format.Line }
-        ensures ok { OnOk result (CarriesOut self.old self.new (label_of line.entry.parts)
+        ensures ok { OnOk result (CarriesOut self.old self.new (exchange_label line.entry)
             (item.Step format.Line (Note line.entry.id line.entry.event))) }
         ensures err { OnErr result
             (self.new.monitor.gathered.bytes.items ≡ self.old.monitor.gathered.bytes.items) }
     {
         let ExchangeLine {
-            parts,
+            tag,
             tag_text,
             name,
             id,
             event,
         } = line;
-        let label = Label {
-            tag: parts.tag,
-            name,
-        };
-        self.monitor.note(id, event, label, tag_text)
+        self.monitor.note(id, event, Label { tag, name }, tag_text)
     }
 
     // Gives the name its number where its conversation was opened, and takes it away where that was closed.

@@ -6,8 +6,13 @@ ghost use Rattle.scrib_labels.specs.SessionNames.{is_session_name};
 ghost use Rattle.scrib_labels.specs.NameSlots.{name_at};
 
 use indexmap::IndexMap;
+use scrib_types::bytes::same_bytes;
+use scrib_types::hashing::{hash_bytes, slot_of};
 use slab::Slab;
 use std::alloc::{AllocError, Global};
+
+// How many hints there are at first. There is always a power of two of them, or none.
+const FIRST_HINTS: usize = 64;
 
 /// Names of conversations, each with a number of its own. A name's number stays the same until the name is removed.
 #[derive(Drop)]
@@ -16,10 +21,14 @@ pub struct SessionNames {
     // The name of each number in use.
     names: Slab<String>,
     numbers: IndexMap<String, u32>,
+    // The number of a name by the low bits of its hash. The name of what is found is compared, so no contract speaks of it.
+    hints: Vec<u32>,
     ghost kept: { (name : List ℕ) (number : ℕ) → get_by_text numbers name ≡ Some number
         → name_at names number ≡ Some name },
     ghost named: { (name : List ℕ) (number : ℕ) → get_by_text numbers name ≡ Some number
         → is_session_name name ≡ true },
+    ghost found: { (name : List ℕ) (number : ℕ) → name_at names number ≡ Some name
+        → get_by_text numbers name ≡ Some number },
 }
 
 impl SessionNames {
@@ -36,6 +45,7 @@ impl SessionNames {
             alloc,
             names: Slab::new(alloc),
             numbers: IndexMap::new(alloc),
+            hints: Vec::new(alloc),
         }
     }
 
@@ -44,6 +54,26 @@ impl SessionNames {
         ensures { result ≡ number_of self.now name.now }
     {
         self.numbers.get(name).copied()
+    }
+
+    /// Returns the number of the name, where its hash leads to it. None where it has none, and where another name of that
+    /// hash came later.
+    #[inline(always)]
+    pub fn find(&self, name: &[u8]) -> Option<u32>
+        ensures { IfSome result (λ number. number_of self.now name.now ≡ Some number) }
+    {
+        let number = *self.hints.get(self.slot_of(name))?;
+        let found = self.names.get(number as usize)?;
+        if !same_bytes(found.as_bytes(), name) {
+            return None;
+        }
+        Some(number)
+    }
+
+    // The slot of the name among the hints.
+    #[inline(always)]
+    fn slot_of(&self, name: &[u8]) -> usize {
+        slot_of(hash_bytes(0, name), self.hints.len())
     }
 
     /// Returns a number that no name has. None where 4,294,967,296 names have one.
@@ -79,7 +109,36 @@ impl SessionNames {
             self.names.try_remove(at);
             return Err(AllocError);
         };
+        self.hint(name.as_bytes(), number);
         Ok(number)
+    }
+
+    // Notes where the name is. Where memory for more hints is refused, there are as many as before.
+    fn hint(&mut self, name: &[u8], number: u32)
+        ensures { self.new ≡ record self.old { hints = self.new.hints } }
+    {
+        if self.hints.len() < 2 * self.numbers.len() {
+            let _ = self.more_hints();
+        }
+        let slot = self.slot_of(name);
+        if let Some(hint) = self.hints.get_mut(slot) {
+            *hint = number;
+        }
+    }
+
+    // Makes room for twice as many hints, and notes each name anew.
+    fn more_hints(&mut self) -> Result<(), AllocError>
+        ensures { self.new ≡ record self.old { hints = self.new.hints } }
+    {
+        let count = self.hints.len().saturating_mul(2).max(FIRST_HINTS);
+        self.hints.resize(count, 0)?;
+        for (name, number) in self.numbers.iter() {
+            let slot = slot_of(hash_bytes(0, name.as_bytes()), self.hints.len());
+            if let Some(hint) = self.hints.get_mut(slot) {
+                *hint = *number;
+            }
+        }
+        Ok(())
     }
 
     /// Returns the number that stands for the name: its own, or the next one where it has none.

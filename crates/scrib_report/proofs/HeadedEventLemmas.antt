@@ -1,5 +1,5 @@
 -- The line of a permitted event with a name in the place of the conversation's number.
-use Rattle.std.proofs.Common.{◌≡◌, ◌∙◌, ◌==◌, ◌≤◌, ◌<◌, ◌+◌, ◌-◌, ◌^◌, inl, inr, ℕ, suc, true, false, Bool, List, [], ◌∷◌, ◌++◌, Some, cond, codes, length, take, drop, set, refl, sym, ap, arith}
+use Rattle.std.proofs.Common.{◌≡◌, ◌∙◌, ◌==◌, ◌≤◌, ◌<◌, ◌+◌, ◌-◌, ◌^◌, inl, inr, ℕ, suc, true, false, Bool, List, [], ◌∷◌, ◌++◌, Some, cond, codes, length, take, drop, set, refl, sym, ap, append_assoc, Result, Ok, Err, is_ok, if◌then◌else◌, arith}
 use Rattle.std.specs.Char.{digit_value}
 use Rattle.std.specs.Fmt.{decimal}
 use Rattle.std.specs.Str.Parse.{AllDigits}
@@ -97,3 +97,8 @@ dot_before n at one end some within e =
 
 pub place_pieces : (old dot place end : List ℕ) → old ++ (dot ++ (place ++ end)) ≡ old ++ dot ++ place ++ end
 place_pieces old dot place end = grind (arith, common_steps)
+
+-- two pieces, of which the first is there and the second may be
+pub kept_pieces : {E : Type 0} (r : Result (Unit {0}) E) (new mid old a b : List ℕ) → mid ≡ old ++ a → new ≡ (if is_ok r then mid ++ b else mid) → (x : List ℕ) × (new ≡ old ++ x)
+kept_pieces (Ok u) new mid old a b m e = (a ++ b, e ∙ ap (λ (t : List ℕ). t ++ b) m ∙ append_assoc old a b)
+kept_pieces (Err u) new mid old a b m e = (a, e ∙ m)

@@ -19,7 +19,7 @@ const PERMITTED_END: usize = 21;
 ///
 /// # Errors
 /// `AllocError` where memory for the longer text is refused; the text is then as it was.
-#[inline(never)]
+#[inline(always)]
 pub fn push_headed_permitted(
     out: &mut Vec<u8>,
     id: u32,
@@ -48,22 +48,35 @@ fn push_pieces(
     ensures ok { OnOk result (out.new.items ≡ out.old.items ++ headed_permitted head.entry id place) }
     ensures kept { (more : List ℕ) × (out.new.items ≡ out.old.items ++ more) }
 {
-    out.extend_from_slice(head.tag_text)?;
-    let Some(name) = head.name else {
-        return push_permitted(out, id, place);
-    };
-    out.extend_from_slice(name)?;
-    push_place(out, place)
+    push_tag_text(out, head.tag_text)?;
+    match head.name {
+        Some(name) => push_named(out, name, place),
+        None => push_permitted(out, id, place),
+    }
 }
 
-// Appends a dot, the place, and ` permitted` with a line feed.
+// Appends the text of the tag, which is often empty.
 #[inline(always)]
-fn push_place(out: &mut Vec<u8>, place: u64) -> Result<(), AllocError>
-    ensures ok { OnOk result (out.new.items ≡ out.old.items ++ codes "." ++ decimal place ++ codes " permitted\n") }
+fn push_tag_text(out: &mut Vec<u8>, tag_text: &[u8]) -> Result<(), AllocError>
+    ensures ok { OnOk result (out.new.items ≡ out.old.items ++ tag_text.now) }
     ensures err { OnErr result (out.new.items ≡ out.old.items) }
+{
+    if tag_text.is_empty() {
+        return Ok(());
+    }
+    out.extend_from_slice(tag_text)
+}
+
+// Appends the name, a dot, the place, and ` permitted` with a line feed. After an error, the name may be there.
+#[inline(never)]
+fn push_named(out: &mut Vec<u8>, name: &[u8], place: u64) -> Result<(), AllocError>
+    ensures ok { OnOk result
+        (out.new.items ≡ out.old.items ++ name.now ++ codes "." ++ decimal place ++ codes " permitted\n") }
+    ensures kept { (more : List ℕ) × (out.new.items ≡ out.old.items ++ more) }
 {
     let mut line = PERMITTED;
     let place_at = write_digits(place, &mut line, PERMITTED_END);
     line[place_at - 1] = b'.';
+    out.extend_from_slice(name)?;
     out.extend_from_slice(&line[place_at - 1..])
 }

@@ -5,25 +5,25 @@ use Rattle.scrib_core.specs.declared.step.Step.TheVariants.{Note}
 use Rattle.scrib_script_reader.specs.declared.item.Item.TheVariants as item
 use Rattle.scrib_script_reader.specs.declared.line.Line.TheVariants as line
 use Rattle.scrib_labelled.specs.declared.labelled_run.LabelledRun.{LabelledRun}
-use Rattle.scrib_labelled.specs.NamedLines.{label_of}
+use Rattle.scrib_labelled.specs.ExchangeLines.{exchange_label}
 use Rattle.scrib_labelled.specs.Progress.{EndsPlainLine}
-use Rattle.scrib_labelled.proofs.LineEndLemmas.{ends_plain_reader, gathers_output, line_makes, says_read}
+use Rattle.scrib_labelled.proofs.LineEndLemmas.{ends_plain_reader, gathers_output, line_makes, stands_cut}
 use Rattle.scrib_labelled.proofs.labelled_run.LabelledRun.end_plain_line.Goals.{else-prints_lines-via-else-prints_lines, else-prints_lines-via-then-prints_lines+in-None-1}
 use Rattle.scrib_labelled.proofs.labelled_run.LabelledRun.end_plain_line.Goals as goal
 
 pub returns-clause-ok : goal.returns-clause-ok
 returns-clause-ok c =
     let exchange = c.in-Some.exchange in
+    let is = c.in-Some.ensures in
+    let label = exchange_label exchange in
     let step = Note exchange.id exchange.event in
-    let meaning = line.Step format.Line step in
     on_ok_weaker c.note.result
     (λ h. record {
       same = record { options = refl; format = h.format; line = refl; count = refl };
-      wrote = gathers_output c.args.self.now _ (label_of exchange.parts) (item.Step format.Line step) h;
-      ends = λ l is.
-          line_makes c.args.self.now _ l (label_of exchange.parts) format.Line step c.requires
-          (says_read c.args.self.now.options c.args.self.now.named.names l c.args.line.now exchange.parts meaning meaning is c.in-Some.ensures.0 refl)
-          c.in-Some.ensures.0.numbers h;
+      wrote = gathers_output c.args.self.now _ label (item.Step format.Line step) h;
+      ends = λ l cut.
+          line_makes c.args.self.now _ l label format.Line step c.requires
+          (stands_cut c.args.self.now.options l c.args.line.now label is.plain (line.Step format.Line step) cut is.stands is.says) is.numbers h;
     })
     c.note.ensures.ok
 
