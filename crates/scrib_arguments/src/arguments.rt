@@ -4,6 +4,9 @@ use crate::help;
 use clap::{Arg, ArgAction, Command};
 use std::alloc::{AllocError, Global};
 
+// The values of `--input`.
+const INPUTS: [&str; 2] = ["script", "json"];
+
 fn file_arg<'a>(alloc: Global) -> Arg<'a> {
     Arg::new(alloc, "FILE").help("The script; standard input where none is named, or -")
 }
@@ -73,33 +76,49 @@ fn endless_arg<'a>(alloc: Global) -> Arg<'a> {
     )
 }
 
-fn close_complete_arg<'a>(alloc: Global) -> Result<Arg<'a>, AllocError> {
+fn close_complete_arg<'a>(alloc: Global) -> Arg<'a> {
     let help = "Close each conversation behind the line by which it is complete; not with --hold";
-    flag_arg(alloc, "close-complete", help).conflicts_with("hold")
+    flag_arg(alloc, "close-complete", help)
 }
 
-// A flag of the labels that the lines of a script have.
-fn label_arg<'a>(alloc: Global, name: &'a str, help: &'a str) -> Result<Arg<'a>, AllocError> {
-    flag_arg(alloc, name, help)
-        .conflicts_with("hold")?
-        .conflicts_with("close-complete")
+fn id_arg<'a>(alloc: Global) -> Arg<'a> {
+    let help = "The conversation's number in the script; with --names its name";
+    value_arg(alloc, "ID", help)
 }
 
-fn names_arg<'a>(alloc: Global) -> Result<Arg<'a>, AllocError> {
-    let help = "Let words name the conversations; not with --hold or --close-complete";
-    label_arg(alloc, "names", help)
+fn names_arg<'a>(alloc: Global) -> Arg<'a> {
+    flag_arg(
+        alloc,
+        "names",
+        "Let words name the conversations, as in: open order-8f3a demo.Hello",
+    )
 }
 
-fn tags_arg<'a>(alloc: Global) -> Result<Arg<'a>, AllocError> {
-    let help =
-        "Let a line begin with @TAG, as its reply then does; not with --hold or --close-complete";
-    label_arg(alloc, "tags", help)
+fn tags_arg<'a>(alloc: Global) -> Arg<'a> {
+    flag_arg(
+        alloc,
+        "tags",
+        "Let a line begin with @TAG, as its reply then does",
+    )
+}
+
+fn input_arg<'a>(alloc: Global) -> Arg<'a> {
+    Arg::new(alloc, "input")
+        .long("input")
+        .value_name("FORMAT")
+        .value_parser(INPUTS.as_slice())
+        .help("How lines are spelled: script, or json for one JSON object a line")
 }
 
 fn hold_arg<'a>(alloc: Global) -> Arg<'a> {
     Arg::new(alloc, "hold").long("hold").value_name("N").help(
         "Hold each event back until it may have happened, for at most N lines, 1 to 16777216",
     )
+}
+
+// An argument of `watch` that `--hold` refuses.
+fn unheld(arg: Arg<'_>) -> Result<Arg<'_>, AllocError> {
+    arg.conflicts_with("hold")
 }
 
 fn lines_arg<'a>(alloc: Global) -> Arg<'a> {
@@ -170,9 +189,10 @@ fn watch_command<'a>(alloc: Global) -> Result<Command<'a>, AllocError> {
         .after_help(help::WATCH)
         .arg(json_arg(alloc))?
         .arg(hold_arg(alloc))?
-        .arg(close_complete_arg(alloc)?)?
-        .arg(names_arg(alloc)?)?
-        .arg(tags_arg(alloc)?)?
+        .arg(unheld(close_complete_arg(alloc))?)?
+        .arg(unheld(names_arg(alloc))?)?
+        .arg(unheld(tags_arg(alloc))?)?
+        .arg(unheld(input_arg(alloc))?)?
         .arg(endless_arg(alloc))?
         .arg(file_arg(alloc))
 }
@@ -196,7 +216,10 @@ fn conversation_command<'a>(
     Command::new(alloc, name)
         .about(about)
         .after_help(after)
-        .arg(value_arg(alloc, "ID", "The conversation's number in the script"))?
+        .arg(names_arg(alloc))?
+        .arg(tags_arg(alloc))?
+        .arg(input_arg(alloc))?
+        .arg(id_arg(alloc))?
         .arg(file_arg(alloc))
 }
 

@@ -86,6 +86,10 @@ With --names each ID is a word of letters, digits and `_ . : -`, as in:
   open order-8f3a demo.Hello
 With --tags a line may begin with a tag, and its reply then does:
   @17 ask 1
+With --input json each line is one JSON object, as in:
+  {\"do\":\"send\",\"from\":\"A\",\"id\":1,\"message\":\"hello()\",\"to\":\"B\"}
+  {\"do\":\"put\",\"text\":\"module demo; ..\"}
+These three and --close-complete go together, but not with --hold.
 
 Example:
   scribmon watch examples/01_hello/receive_before_send.script
@@ -120,7 +124,8 @@ pub(crate) const EXPLAIN: &str = "\
 Prints a line for each message in flight, by sender and then receiver in the
 order in which the roles are declared, the oldest first:
   A B hello()
-The lines of a script are those of `scribmon watch --help`.
+The lines of a script are those of `scribmon watch --help`, and --names, --tags
+and --input mean what they mean there.
 
 Example:
   examples/put.sh examples/01_hello/hello.scr \\
@@ -143,7 +148,8 @@ Prints a line for each role, in the order in which the roles are declared:
   D: may join, done          D has not joined, and never acts
 Behind them comes a line `complete` where the conversation has ended: each
 role is done or never acts, and nothing is in flight.
-The lines of a script are those of `scribmon watch --help`.
+The lines of a script are those of `scribmon watch --help`, and --names, --tags
+and --input mean what they mean there.
 
 Example:
   examples/put.sh examples/01_hello/hello.scr \\

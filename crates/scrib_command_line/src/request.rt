@@ -34,11 +34,45 @@ pub(crate) fn limits_of(matches: &ArgMatches) -> Limits
     }
 }
 
-// The labels that the lines of the script have.
-pub(crate) fn labels_of(matches: &ArgMatches) -> LabelOptions {
-    LabelOptions {
+// How the lines of the script are spelled, where it is not a script of plain lines.
+pub(crate) fn labels_of(matches: &ArgMatches) -> Option<LabelOptions> {
+    let labels = LabelOptions {
         tags: matches.get_flag("tags"),
         names: matches.get_flag("names"),
+        objects: matches.get_str("input") == Some("json"),
+    };
+    if labels.tags || labels.names || labels.objects {
+        Some(labels)
+    } else {
+        None
+    }
+}
+
+// The number of the conversation that `explain` or `next` is asked about. Fails with the message for the user where the
+// word is none.
+pub(crate) fn number_of(matches: &ArgMatches) -> Result<u32, &'static str> {
+    match id_of(matches.get_str("ID").unwrap_or("")) {
+        Some(id) => Ok(id),
+        None => Err("the ID is 1 to 10 decimal digits, at most 4294967295"),
+    }
+}
+
+// The conversation that `explain` or `next` is asked about: a name where conversations have names, else a number. Fails
+// with the message for the user where the word is neither.
+pub(crate) fn session_key_of<'a>(
+    matches: &ArgMatches<'a>,
+    named: bool,
+) -> Result<SessionKey<'a>, &'static str> {
+    if !named {
+        return Ok(SessionKey::Number(number_of(matches)?));
+    }
+    let word = matches.get_str("ID").unwrap_or("");
+    if is_session_name(word.as_bytes()) {
+        Ok(SessionKey::Name(word))
+    } else {
+        Err(
+            "with --names the ID is 1 to 128 letters, digits and _ . : -, and no word that begins replies",
+        )
     }
 }
 

@@ -75,12 +75,11 @@ pub(crate) fn run_watch<R: Files + AllocGlobal, I: Input, W: Write, E: Print + E
     if let Some(bound) = matches.get_str("hold") {
         return watch_held(system, streams, matches, bound);
     }
+    if let Some(labels) = labels_of(matches) {
+        return watch_labelled(system, streams, matches, labels);
+    }
     if matches.get_flag("close-complete") {
         return watch_closing(system, streams, matches);
-    }
-    let labels = labels_of(matches);
-    if labels.tags || labels.names {
-        return watch_labelled(system, streams, matches, labels);
     }
     let watched = run_simple_command(system, streams, "watch", matches);
     flush_and_print_fault(streams, &watched)
@@ -102,10 +101,13 @@ pub(crate) fn report_by_id<R: Files + AllocGlobal, I: Input, W: Write, E: Print 
     report: Report,
     matches: &ArgMatches<'_>,
 ) -> u8 {
+    if let Some(labels) = labels_of(matches) {
+        return report_labelled(system, streams, report, matches, labels);
+    }
     let alloc = system.alloc();
-    let Some(id) = id_of(matches.get_str("ID").unwrap_or("")) else {
-        let message = "the ID is 1 to 10 decimal digits, at most 4294967295";
-        return refuse_value(alloc, streams, message);
+    let id = match number_of(matches) {
+        Ok(id) => id,
+        Err(message) => return refuse_value(alloc, streams, message),
     };
     let files = SystemFiles {
         files: system,

@@ -9,10 +9,11 @@ use Rattle.scrib_script_reader.specs.Scripts.{NoLf, lines, text_end, with_line}
 use Rattle.scrib_script_reader.proofs.Bytes.{all_or_most, bare_last, last_is_kept, last_of_kept}
 use Rattle.scrib_script_reader.proofs.LimitLemmas.{one_last}
 use Rattle.scrib_labels.specs.Naming.{number_of}
+use Rattle.scrib_labelled.specs.declared.label_options.LabelOptions.{LabelOptions}
 use Rattle.scrib_labelled.specs.declared.labelled_run.LabelledRun.{LabelledRun}
 use Rattle.scrib_labelled.specs.declared.named_monitor.NamedMonitor.{NamedMonitor}
 use Rattle.scrib_labelled.specs.declared.put_text.PutText.{PutText}
-use Rattle.scrib_labelled.specs.LabelledLines.{LineLabel}
+use Rattle.scrib_labelled.specs.LabelledLines.{LineLabel, line_limit}
 use Rattle.scrib_labelled.specs.LabelledRuns.{IsNumberIn, Runs}
 use Rattle.scrib_labelled.specs.LabelledScripts.{LabelledText, SpellsLabelled, all_items, goes_on}
 use Rattle.scrib_labelled.specs.Progress.{CarriesOut, EndsLast, EndsLastTextLine, EndsPlainLine, EndsText, HasLabel, HoldsUnended, IsCutOf, LastLineEnds, LineEnds, PutsText, kept_len}
@@ -34,7 +35,7 @@ last_none old new none named text = record {
   format = ap (λ (n : NamedMonitor). n.monitor.format) named;
   wrote = gathers_nothing old new named;
   ends = λ before part held no_lf is.
-      let no_part : part ≡ [] = none_taken before part (sym is ∙ none) in
+      let no_part : part ≡ [] = none_taken old.options before part (sym is ∙ none) in
       record {
         after = before;
         given = [];
@@ -61,26 +62,26 @@ last_as old new before part more no_lf some l = record {
   runs = l.runs;
 }
 
-some_part : (before : Option LabelledText) (part kept : List ℕ) → kept ≡ take (kept_len before) part → 0 < length kept → 0 < length part
-some_part None part kept is some = omega (arith, some, ap length is, length-take 131074 part)
-some_part (Some t) part kept is some = omega (arith, some, ap length is, length-take 1048577 part)
+some_part : (o : LabelOptions) (before : Option LabelledText) (part kept : List ℕ) → kept ≡ take (kept_len o before) part → 0 < length kept → 0 < length part
+some_part o None part kept is some = omega (arith, some, ap length is, length-take (line_limit o + 2) part)
+some_part o (Some t) part kept is some = omega (arith, some, ap length is, length-take 1048577 part)
 
 -- the kept part of the last line
-cut_last : (part kept : List ℕ) → NoLf part → kept ≡ take 131074 part → IsCutOf kept part
-cut_last part kept no_lf is = elim (all_or_most 131074 part) [
+cut_last : (o : LabelOptions) (part kept : List ℕ) → NoLf part → kept ≡ take (line_limit o + 2) part → IsCutOf o kept part
+cut_last o part kept no_lf is = elim (all_or_most (line_limit o + 2) part) [
   | inl same ↦ inl (is ∙ same ∙ sym (bare_last part no_lf))
   | inr long ↦ inr (omega (arith, ap length is, long.0), omega (arith, ap length (bare_last part no_lf), long.1))
 ]
 
 last-in-text : (old new : LabelledRun) (text : PutText) (kept : List ℕ) → (e : EndsLastTextLine old new text kept) → 0 < length kept → (before : Option LabelledText) (part : List ℕ) → HoldsUnended (Some text) before → NoLf part
-    → kept ≡ take (kept_len before) part → LastLineEnds old new before part e.wrote.more
+    → kept ≡ take (kept_len old.options before) part → LastLineEnds old new before part e.wrote.more
 last-in-text old new text kept e some None part held no_lf is = absurd held
-last-in-text old new text kept e some (Some t) part held no_lf is = e.ends t part held no_lf (some_part (Some t) part kept is some) is
+last-in-text old new text kept e some (Some t) part held no_lf is = e.ends t part held no_lf (some_part old.options (Some t) part kept is some) is
 
 last-outside : (old new : LabelledRun) (kept : List ℕ) → (e : EndsPlainLine old new kept) → 0 < length kept → (before : Option LabelledText) (part : List ℕ) → HoldsUnended None before → NoLf part
-    → kept ≡ take (kept_len before) part → LastLineEnds old new before part e.wrote.more
+    → kept ≡ take (kept_len old.options before) part → LastLineEnds old new before part e.wrote.more
 last-outside old new kept e some None part held no_lf is =
-    last_as old new None part e.wrote.more no_lf (some_part None part kept is some) (e.ends part (cut_last part kept no_lf is))
+    last_as old new None part e.wrote.more no_lf (some_part old.options None part kept is some) (e.ends part (cut_last old.options part kept no_lf is))
 last-outside old new kept e some (Some t) part held no_lf is = absurd held
 
 -- the bytes of the last line, and the text that is read, were taken out of the run

@@ -7,3 +7,4 @@ mod ItemLemmas
 mod PieceLemmas
 mod RunLemmas
 mod SplitLemmas
+mod ObjectLemmas

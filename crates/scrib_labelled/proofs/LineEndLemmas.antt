@@ -1,6 +1,6 @@
 -- What a line that has ended changes.
 use Rattle.std.specs.Prelude.{is_some, not}
-use Rattle.std.proofs.Common.{◌≡◌, ◌≢◌, ◌∙◌, ◌+◌, ◌≤◌, inl, inr, ℕ, Bool, true, false, List, [], ◌∷◌, ◌++◌, Option, Some, None, take, length, refl, sym, ap, subst, arith}
+use Rattle.std.proofs.Common.{◌≡◌, ◌≢◌, ◌∙◌, ◌+◌, ◌≤◌, inl, inr, ℕ, Bool, true, false, List, [], ◌∷◌, ◌++◌, Option, Some, None, Vec, Global, take, length, refl, sym, ap, subst, arith}
 use Rattle.std.proofs.lemmas.List.{append-nil, append_assoc, length-take}
 use Rattle.scrib_core.specs.declared.format.Format.{Format}
 use Rattle.scrib_core.specs.declared.step.Step.{Step}
@@ -21,28 +21,30 @@ use Rattle.scrib_labelled.specs.declared.labelled_run.LabelledRun.{LabelledRun}
 use Rattle.scrib_labelled.specs.declared.line_reading.LineParts.{LineParts}
 use Rattle.scrib_labelled.specs.declared.named_monitor.NamedMonitor.{NamedMonitor}
 use Rattle.scrib_labelled.specs.declared.put_text.PutText.{PutText}
-use Rattle.scrib_labelled.specs.LabelledLines.{LineLabel, StandsFor}
+use Rattle.scrib_labelled.specs.LabelledLines.{IsPutObject, LineLabel, StandsFor, line_limit}
 use Rattle.scrib_labelled.specs.LabelledRuns.{IsNumberIn, Runs, takes}
-use Rattle.scrib_labelled.specs.LabelledScripts.{LabelledText, SaysAs, SpellsLabelled, begins, goes_on, is_bad, makes, puts, skips}
-use Rattle.scrib_labelled.specs.NamedLines.{IsNumbersOf, ReadsAs, label_of}
-use Rattle.scrib_labelled.specs.Progress.{CarriesOut, Gathers, IsCutOf, EndsLine, EndsPlainLine, EndsTextLine, HoldsUnended, IsSameRun, LineEnds, kept_len}
+use Rattle.scrib_labelled.specs.LabelledScripts.{LabelledText, SaysAs, SpellsLabelled, begins, goes_on, is_bad, makes, puts, puts_object, skips}
+use Rattle.scrib_labelled.specs.NamedLines.{IsNumbersOf, ReadsAs, ReadsRest, label_of}
+use Rattle.scrib_labelled.specs.Progress.{CarriesOut, Gathers, IsCutOf, EndsLine, EndsMeaning, EndsPlainLine, EndsTextLine, HoldsUnended, IsSameRun, LineEnds, PutsText, kept_len}
+use Rattle.scrib_labelled.specs.ObjectLines.{EndsObjectLine, SaysObject}
+use Rattle.scrib_objects.specs.declared.object_reader.ObjectReader.{ObjectReader}
 use Rattle.scrib_labelled.specs.TextProgress.{HoldsMore, HoldsText, tag_in}
 use Rattle.scrib_labelled.proofs.LineLemmas.{put_no_session}
 
 -- what a cut of a line stands for, the line stands for
-pub stands_cut : (o : LabelOptions) (l cut : List ℕ) (label : LineLabel) (plain : List ℕ) (meaning : Line) → IsCutOf cut l → StandsFor o cut label plain → Says plain meaning → SaysAs o (bare l) label meaning
+pub stands_cut : (o : LabelOptions) (l cut : List ℕ) (label : LineLabel) (plain : List ℕ) (meaning : Line) → IsCutOf o cut l → StandsFor o cut label plain → Says plain meaning → SaysAs o (bare l) label meaning
 stands_cut o l cut label plain meaning (inl same) h says = (plain, subst (λ (t : List ℕ). StandsFor o t label plain) same h, says)
 stands_cut o l cut label plain meaning (inr long) (inl h) says = (plain, inl (long.1, h.1, h.2), says)
 stands_cut o l cut label plain meaning (inr long) (inr h) says = absurd (omega (arith, long.0, h.0))
 
 -- what is read of a cut of a line holds for the line
-pub reads_cut : (o : LabelOptions) (names : SessionNames) (l cut : List ℕ) (parts : LineParts) (meaning : Line) → IsCutOf cut l
+pub reads_cut : (o : LabelOptions) (names : SessionNames) (l cut : List ℕ) (parts : LineParts) (meaning : Line) → IsCutOf o cut l
     → ReadsAs o names cut parts meaning → SaysAs o (bare l) (label_of parts) meaning
 reads_cut o names l cut parts meaning is r = stands_cut o l cut (label_of parts) r.plain meaning is r.stands r.says
 
 -- the kept part of a line that has ended
-pub cut_ended : (full kept cut : List ℕ) → kept ≡ take 131074 full → cut ≡ bare (kept ++ 10 ∷ []) → IsCutOf cut (full ++ 10 ∷ [])
-cut_ended full kept cut is cut_is = elim (all_or_most 131074 full) [
+pub cut_ended : (o : LabelOptions) (full kept cut : List ℕ) → kept ≡ take (line_limit o + 2) full → cut ≡ bare (kept ++ 10 ∷ []) → IsCutOf o cut (full ++ 10 ∷ [])
+cut_ended o full kept cut is cut_is = elim (all_or_most (line_limit o + 2) full) [
   | inl same ↦ inl (cut_is ∙ ap (λ (t : List ℕ). bare (t ++ 10 ∷ [])) (is ∙ same))
   | inr long ↦ inr (omega (arith, ap length cut_is, length-bare kept, ap length is, long.0), omega (arith, length-bare full, long.1))
 ]
@@ -117,7 +119,7 @@ line_bad old new l label text says number c = record {
   runs = ran old.named new.named label (item.BadLine (old.count.lines + 1)) c (number-in old.named.names label.session number);
 }
 
-pub says_read : (o : LabelOptions) (names : SessionNames) (l cut : List ℕ) (parts : LineParts) (meaning word : Line) → IsCutOf cut l
+pub says_read : (o : LabelOptions) (names : SessionNames) (l cut : List ℕ) (parts : LineParts) (meaning word : Line) → IsCutOf o cut l
     → ReadsAs o names cut parts meaning → meaning ≡ word → SaysAs o (bare l) (label_of parts) word
 says_read o names l cut parts meaning word is r same =
     subst (λ (m : Line). SaysAs o (bare l) (label_of parts) m) same (reads_cut o names l cut parts meaning is r)
@@ -191,7 +193,7 @@ abbrev gathers-but-text : (old new : LabelledRun) → Gathers (record old { text
 gathers-but-text old new g = record { more = g.more; grows = g.grows }
 
 in-text : (old new : LabelledRun) (text : PutText) (kept : List ℕ) → (e : EndsTextLine (record old { text = None }) new text kept) → (before : Option LabelledText) (full : List ℕ) → HoldsUnended (Some text) before
-    → kept ≡ take (kept_len before) full → LineEnds old new before (full ++ 10 ∷ []) e.wrote.more
+    → kept ≡ take (kept_len old.options before) full → LineEnds old new before (full ++ 10 ∷ []) e.wrote.more
 in-text old new text kept e None full held is = absurd held
 in-text old new text kept e (Some t) full held is = ends-but-text old new (Some t) (full ++ 10 ∷ []) e.wrote.more (e.ends t full held is)
 
@@ -203,8 +205,8 @@ ends_in_text old new text kept was e = record {
 }
 
 outside : (old new : LabelledRun) (kept cut : List ℕ) → cut ≡ bare (kept ++ 10 ∷ []) → (e : EndsPlainLine (record old { text = None }) new cut) → (before : Option LabelledText) (full : List ℕ) → HoldsUnended None before
-    → kept ≡ take (kept_len before) full → LineEnds old new before (full ++ 10 ∷ []) e.wrote.more
-outside old new kept cut cut_is e None full held is = ends-but-text old new None (full ++ 10 ∷ []) e.wrote.more (e.ends (full ++ 10 ∷ []) (cut_ended full kept cut is cut_is))
+    → kept ≡ take (kept_len old.options before) full → LineEnds old new before (full ++ 10 ∷ []) e.wrote.more
+outside old new kept cut cut_is e None full held is = ends-but-text old new None (full ++ 10 ∷ []) e.wrote.more (e.ends (full ++ 10 ∷ []) (cut_ended old.options full kept cut is cut_is))
 outside old new kept cut cut_is e (Some t) full held is = absurd held
 
 pub ends_outside : (old new : LabelledRun) (kept cut : List ℕ) → old.text ≡ None → cut ≡ bare (kept ++ 10 ∷ []) → EndsPlainLine (record old { text = None }) new cut → EndsLine old new kept
@@ -216,14 +218,71 @@ ends_outside old new kept cut was cut_is e = record {
 
 -- ---- a line that is read quickly, or not
 
--- the caches of the reader do not matter
+-- the caches of the readers do not matter
+ends-but-readers : (old new : LabelledRun) (r : Reader) (objects : ObjectReader) (plain : Vec ℕ Global) (l more : List ℕ) → LineEnds (record old { reader = r; objects = objects; plain = plain }) new None l more → LineEnds old new None l more
+ends-but-readers old new r objects plain l more ended = record { after = ended.after; given = ended.given; text = ended.text; spells = ended.spells; runs = ended.runs }
+
+same-but-readers : (old new : LabelledRun) (r : Reader) (objects : ObjectReader) (plain : Vec ℕ Global) → IsSameRun (record old { reader = r; objects = objects; plain = plain }) new → IsSameRun old new
+same-but-readers old new r objects plain s = record { options = s.options; format = s.format; line = s.line; count = s.count }
+
 pub ends_plain_reader : (old new : LabelledRun) (r : Reader) (cut : List ℕ) → EndsPlainLine (record old { reader = r }) new cut → EndsPlainLine old new cut
 ends_plain_reader old new r cut e = record {
-  same = record { options = e.same.options; format = e.same.format; line = e.same.line; count = e.same.count };
+  same = same-but-readers old new r old.objects old.plain e.same;
   wrote = record { more = e.wrote.more; grows = e.wrote.grows };
-  ends = λ l is.
-      let ended = e.ends l is in
-      record { after = ended.after; given = ended.given; text = ended.text; spells = ended.spells; runs = ended.runs };
+  ends = λ l is. ends-but-readers old new r old.objects old.plain l e.wrote.more (e.ends l is);
+}
+
+-- what a line means was carried out
+pub ends_plain_meaning : (old new : LabelledRun) (r : Reader) (objects : ObjectReader) (plain : Vec ℕ Global) (cut : List ℕ) (label : LineLabel) (meaning : Line)
+    → ((l : List ℕ) → IsCutOf old.options cut l → SaysAs old.options (bare l) label meaning) → EndsMeaning (record old { reader = r; objects = objects; plain = plain }) new label meaning → EndsPlainLine old new cut
+ends_plain_meaning old new r objects plain cut label meaning says e = record {
+  same = same-but-readers old new r objects plain e.same;
+  wrote = record { more = e.wrote.more; grows = e.wrote.grows };
+  ends = λ l is. ends-but-readers old new r objects plain l e.wrote.more (e.ends l (says l is));
+}
+
+-- the line of an object was carried out
+pub ends_plain_object : (old new : LabelledRun) (r : Reader) (objects : ObjectReader) (plain : Vec ℕ Global) (cut : List ℕ) (tag : Option (List ℕ)) (spelled : List ℕ)
+    → ((l : List ℕ) → IsCutOf old.options cut l → SaysObject old.options tag spelled l) → EndsObjectLine (record old { reader = r; objects = objects; plain = plain }) new tag spelled → EndsPlainLine old new cut
+ends_plain_object old new r objects plain cut tag spelled says e = record {
+  same = same-but-readers old new r objects plain e.same;
+  wrote = record { more = e.wrote.more; grows = e.wrote.grows };
+  ends = λ l is. ends-but-readers old new r objects plain l e.wrote.more (e.ends l (says l is));
+}
+
+pub ends_object_meaning : (old new : LabelledRun) (r : Reader) (plain : Vec ℕ Global) (tag : Option (List ℕ)) (spelled : List ℕ) (label : LineLabel) (meaning : Line) (names : SessionNames)
+    → label.tag ≡ tag → ReadsRest names old.options.names spelled label.session meaning → EndsMeaning (record old { reader = r; plain = plain }) new label meaning → EndsObjectLine old new tag spelled
+ends_object_meaning old new r plain tag spelled label meaning names t rest e = record {
+  same = same-but-readers old new r old.objects plain e.same;
+  wrote = record { more = e.wrote.more; grows = e.wrote.grows };
+  ends = λ l says. ends-but-readers old new r old.objects plain l e.wrote.more (e.ends l (says label rest.plain meaning t rest.numbered rest.says));
+}
+
+-- an object put its text
+pub line_puts_object : (old new : LabelledRun) (l bytes : List ℕ) (text : PutText) → old.text ≡ None → (p : PutsText old new text) → text.bytes.items ≡ take 1048577 bytes
+    → IsPutObject old.options (bare l) (record { tag = tag_in text; session = None }) text.format bytes → LineEnds old new None l p.carries.more
+line_puts_object old new l bytes text none p kept is =
+    let label : LineLabel = record { tag = tag_in text; session = None } in
+    let same : p.label ≡ label = ap (λ (x : Option (List ℕ)). record { tag = x; session = p.label.session }) p.tag ∙ ap (λ (x : Option (List ℕ × ℕ)). record { tag = tag_in text; session = x }) p.session in
+    let put : item.Step text.format (Put text.bytes.items) ≡ item.Step text.format (Put (take 1048577 bytes)) = ap (λ (x : List ℕ). item.Step text.format (Put x)) kept in
+    record {
+      after = None;
+      given = (label, item.Step text.format (Put (take 1048577 bytes))) ∷ [];
+      text = subst (λ (x : Option PutText). HoldsUnended x None) (sym (p.rest ∙ none)) tt;
+      spells = λ whole items s. puts_object whole (old.count.lines + 1) items l label text.format bytes s is;
+      runs = λ items out r.
+          subst (λ (b : LineLabel). Runs old.named.monitor.format (items ++ (b, item.Step text.format (Put (take 1048577 bytes))) ∷ []) (number_of new.named.names) (state_of new.named.monitor.core) (out ++ p.carries.more)) same
+          (subst (λ (i : Item). Runs old.named.monitor.format (items ++ (p.label, i) ∷ []) (number_of new.named.names) (state_of new.named.monitor.core) (out ++ p.carries.more)) put
+          (ran old.named new.named p.label (item.Step text.format (Put text.bytes.items)) p.carries (subst (λ (x : Option (List ℕ × ℕ)). IsNumberIn (number_of old.named.names) x) (sym p.session) tt) items out r));
+    }
+
+pub ends_plain_put : (old new : LabelledRun) (objects : ObjectReader) (cut bytes : List ℕ) (text : PutText) → old.text ≡ None → text.bytes.items ≡ take 1048577 bytes
+    → ((l : List ℕ) → IsCutOf old.options cut l → IsPutObject old.options (bare l) (record { tag = tag_in text; session = None }) text.format bytes)
+    → PutsText (record old { objects = objects }) new text → EndsPlainLine old new cut
+ends_plain_put old new objects cut bytes text none kept says p = record {
+  same = same-but-readers old new old.reader objects old.plain p.same;
+  wrote = record { more = p.carries.more; grows = p.carries.grows };
+  ends = λ l is. ends-but-readers old new old.reader objects old.plain l p.carries.more (line_puts_object (record old { objects = objects }) new l bytes text none p kept (says l is));
 }
 
 pub is_none_only : (o : Option PutText) (b : Bool) → is_some o ≡ not b → b ≡ true → o ≡ None

@@ -1,5 +1,5 @@
 -- What a line with a label stands for.
-use Rattle.std.proofs.Common.{◌≡◌, ◌∙◌, ◌≤◌, ◌||◌, ◌⊎◌, inl, inr, ℕ, true, false, Bool, List, [], ◌∷◌, ◌++◌, Option, Some, None, cond, codes, length, refl, sym, ap, subst, arith}
+use Rattle.std.proofs.Common.{◌≡◌, ◌∙◌, ◌≤◌, ◌<◌, ◌||◌, ◌⊎◌, inl, inr, ℕ, true, false, Bool, List, [], ◌∷◌, ◌++◌, Option, Some, None, cond, codes, length, refl, sym, ap, subst, arith}
 use Rattle.std.specs.Fmt.{decimal}
 use Rattle.std.specs.Str.{bytes_eq}
 use Rattle.std.proofs.lemmas.Bool.{cases_Bool, or_cases}
@@ -21,8 +21,9 @@ use Rattle.scrib_report.specs.PutBack.{bytes_of}
 use Rattle.scrib_labelled.specs.declared.label_options.LabelOptions.{LabelOptions}
 use Rattle.scrib_labelled.specs.declared.line_reading.LineParts.{LineParts}
 use Rattle.scrib_labelled.specs.declared.line_reading.Session.{Session}
-use Rattle.scrib_labelled.specs.NamedLines.{IsNumbersOf, ReadsAs, label_of, session_of}
-use Rattle.scrib_labelled.specs.LabelledLines.{IsNumbered, IsNumberedBy, IsUntagged, LineLabel, StandsFor, bare_with_id, with_id}
+use Rattle.scrib_labelled.specs.NamedLines.{IsNumbersOf, ReadsAs, ReadsRest, label_of, session_of}
+use Rattle.scrib_labelled.specs.LabelledLines.{IsLineOf, IsNumbered, IsNumberedBy, IsObjectBody, IsObjectOf, IsUntagged, LineLabel, StandsFor, bare_with_id, line_limit, with_id}
+use Rattle.scrib_objects.specs.Objects.{Spelled, Spelling, as_bad, as_line, as_put}
 
 -- ---- a bad line
 
@@ -104,19 +105,9 @@ whole-numbered false rest h = (refl, refl)
 whole-numbered true rest (inl e) = absurd (cc)
 whole-numbered true rest (inr e) = subst (λ (x : Option (List ℕ)). IsNumberedBy x rest None rest) (sym e) (refl, refl)
 
--- a line about no conversation, or where conversations have numbers
-pub stands_whole : (o : LabelOptions) (whole rest : List ℕ) (tag : Option (List ℕ)) → length whole ≤ 131072 → IsUntagged o.tags whole tag rest
-    → (o.names ≡ false) ⊎ (id_field (fields rest) ≡ None) → StandsFor o whole (record { tag = tag; session = None }) rest
-stands_whole o whole rest tag short cut h = inr (short, (rest, cut, whole-numbered o.names rest h))
-
 bad-numbered : (b : Bool) (rest field : List ℕ) → b ≡ true → id_field (fields rest) ≡ Some field → is_session_name field ≡ false → IsNumbered b rest None (63 ∷ [])
 bad-numbered false rest field e f h = absurd (cc)
 bad-numbered true rest field e f h = subst (λ (x : Option (List ℕ)). IsNumberedBy x rest None (63 ∷ [])) (sym f) (h, bad-mark)
-
--- a line with a field that is no name
-pub stands_bad : (o : LabelOptions) (whole rest field : List ℕ) (tag : Option (List ℕ)) → length whole ≤ 131072 → IsUntagged o.tags whole tag rest
-    → o.names ≡ true → id_field (fields rest) ≡ Some field → is_session_name field ≡ false → StandsFor o whole (record { tag = tag; session = None }) (63 ∷ [])
-stands_bad o whole rest field tag short cut names f h = inr (short, (rest, cut, bad-numbered o.names rest field names f h))
 
 pub bad_mark : Says (63 ∷ []) line.Bad
 bad_mark = bad-mark
@@ -131,43 +122,61 @@ numbered_by_parts true rest plain j w name fs k e parts word h f =
     subst (λ (x : Option (List ℕ)). IsNumberedBy x rest (Some (name, k)) plain) (sym field)
     (h, refl, f ∙ sym with)
 
-session-numbered : (b : Bool) (rest plain : List ℕ) (s : SessionLine) (k : ℕ) → b ≡ true → IsSessionLine rest s → is_session_name s.name.now ≡ true
+pub session_numbered : (b : Bool) (rest plain : List ℕ) (s : SessionLine) (k : ℕ) → b ≡ true → IsSessionLine rest s → is_session_name s.name.now ≡ true
     → fields plain ≡ json_field s.json ++ s.word.now ∷ decimal k ∷ fields s.rest.now → IsNumbered b rest (Some (s.name.now, k)) plain
-session-numbered b rest plain s k e parts h f = numbered_by_parts b rest plain s.json s.word.now s.name.now (fields s.rest.now) k e parts.0 parts.1 h f
+session_numbered b rest plain s k e parts h f = numbered_by_parts b rest plain s.json s.word.now s.name.now (fields s.rest.now) k e parts.0 parts.1 h f
 
--- a line that names its conversation
-pub stands_named : (o : LabelOptions) (whole rest plain : List ℕ) (tag : Option (List ℕ)) (s : SessionLine) (k : ℕ) → length whole ≤ 131072 → IsUntagged o.tags whole tag rest
-    → o.names ≡ true → IsSessionLine rest s → is_session_name s.name.now ≡ true
-    → fields plain ≡ json_field s.json ++ s.word.now ∷ decimal k ∷ fields s.rest.now
-    → StandsFor o whole (record { tag = tag; session = Some (s.name.now, k) }) plain
-stands_named o whole rest plain tag s k short cut names parts h f = inr (short, (rest, cut, session-numbered o.names rest plain s k names parts h f))
+-- ---- what is read of a line without its tag
 
--- ---- what is read of a line
+none-numbered : (names : SessionNames) (session : Option Session) → session ≡ None → IsNumbersOf names (session_of session)
+none-numbered names session s = subst (λ (x : Option Session). IsNumbersOf names (session_of x)) (sym s) tt
 
-bare-parts : (parts : LineParts) (tag : Option (Bor (List ℕ))) → parts.tag ≡ tag → parts.session ≡ None → label_of parts ≡ record { tag = bytes_of tag; session = None }
-bare-parts parts tag t s = ap (λ (b : Option (Bor (List ℕ))). record { tag = bytes_of b; session = session_of parts.session }) t ∙ ap (λ (x : Option Session). record { tag = bytes_of tag; session = session_of x }) s
-
-none-numbered : (names : SessionNames) (parts : LineParts) → parts.session ≡ None → IsNumbersOf names (label_of parts).session
-none-numbered names parts s = subst (λ (x : Option Session). IsNumbersOf names (session_of x)) (sym s) tt
-
-pub reads_whole : (o : LabelOptions) (names : SessionNames) (whole rest : List ℕ) (tag : Option (Bor (List ℕ))) (parts : LineParts) (meaning : Line)
-    → length whole ≤ 131072 → IsUntagged o.tags whole (bytes_of tag) rest → (o.names ≡ false) ⊎ (id_field (fields rest) ≡ None) → Says rest meaning
-    → parts.tag ≡ tag → parts.session ≡ None → ReadsAs o names whole parts meaning
-reads_whole o names whole rest tag parts meaning short cut h says t s = record {
+pub rest_whole : (names : SessionNames) (named : Bool) (rest : List ℕ) (session : Option Session) (meaning : Line)
+    → (named ≡ false) ⊎ (id_field (fields rest) ≡ None) → Says rest meaning → session ≡ None → ReadsRest names named rest (session_of session) meaning
+rest_whole names named rest session meaning h says s = record {
   plain = rest;
-  stands = subst (λ (l : LineLabel). StandsFor o whole l rest) (sym (bare-parts parts tag t s)) (stands_whole o whole rest (bytes_of tag) short cut h);
+  numbered = subst (λ (x : Option Session). IsNumbered named rest (session_of x) rest) (sym s) (whole-numbered named rest h);
   says = says;
-  numbers = none-numbered names parts s;
+  numbers = none-numbered names session s;
 }
 
-pub reads_bad : (o : LabelOptions) (names : SessionNames) (whole rest field : List ℕ) (tag : Option (Bor (List ℕ))) (parts : LineParts)
-    → length whole ≤ 131072 → IsUntagged o.tags whole (bytes_of tag) rest → o.names ≡ true → id_field (fields rest) ≡ Some field → is_session_name field ≡ false
-    → parts.tag ≡ tag → parts.session ≡ None → ReadsAs o names whole parts line.Bad
-reads_bad o names whole rest field tag parts short cut on f h t s = record {
+pub rest_bad : (names : SessionNames) (named : Bool) (rest field : List ℕ) (session : Option Session)
+    → named ≡ true → id_field (fields rest) ≡ Some field → is_session_name field ≡ false → session ≡ None → ReadsRest names named rest (session_of session) line.Bad
+rest_bad names named rest field session on f h s = record {
   plain = 63 ∷ [];
-  stands = subst (λ (l : LineLabel). StandsFor o whole l (63 ∷ [])) (sym (bare-parts parts tag t s)) (stands_bad o whole rest field (bytes_of tag) short cut on f h);
+  numbered = subst (λ (x : Option Session). IsNumbered named rest (session_of x) (63 ∷ [])) (sym s) (bad-numbered named rest field on f h);
   says = bad-mark;
-  numbers = none-numbered names parts s;
+  numbers = none-numbered names session s;
+}
+
+-- ---- what is read of a line that is no object
+
+limit-of-lines : (o : LabelOptions) → o.objects ≡ false → line_limit o ≡ 131072
+limit-of-lines o e = ap (λ (b : Bool). cond b 8388608 131072) e
+
+-- a line and what is behind its tag
+pub stands_line : (o : LabelOptions) (whole rest plain : List ℕ) (label : LineLabel) → o.objects ≡ false → length whole ≤ 131072 → IsUntagged o.tags whole label.tag rest
+    → IsNumbered o.names rest label.session plain → StandsFor o whole label plain
+stands_line o whole rest plain label lines short cut numbered =
+    inr (omega (arith, short, limit-of-lines o lines), subst (λ (b : Bool). IsLineOf b o whole label plain) (sym lines) (rest, cut, numbered))
+
+pub reads_line : (o : LabelOptions) (names : SessionNames) (whole rest : List ℕ) (tag : Option (Bor (List ℕ))) (parts : LineParts) (meaning : Line) → o.objects ≡ false → length whole ≤ 131072
+    → IsUntagged o.tags whole (bytes_of tag) rest → parts.tag ≡ tag → ReadsRest names o.names rest (session_of parts.session) meaning → ReadsAs o names whole parts meaning
+reads_line o names whole rest tag parts meaning lines short cut t r = record {
+  plain = r.plain;
+  stands = stands_line o whole rest r.plain (label_of parts) lines short (subst (λ (x : Option (Bor (List ℕ))). IsUntagged o.tags whole (bytes_of x) rest) (sym t) cut) r.numbered;
+  says = r.says;
+  numbers = r.numbers;
+}
+
+-- a line that is too long
+pub reads_long : (o : LabelOptions) (names : SessionNames) (whole : List ℕ) (parts : LineParts) → o.objects ≡ false → 131072 < length whole → parts.tag ≡ None → parts.session ≡ None
+    → ReadsAs o names whole parts line.Bad
+reads_long o names whole parts lines long t s = record {
+  plain = 63 ∷ [];
+  stands = inl (omega (arith, long, limit-of-lines o lines), ap (λ (x : Option (Bor (List ℕ))). record { tag = bytes_of x; session = session_of parts.session }) t ∙ ap (λ (x : Option Session). record { tag = None; session = session_of x }) s, bad-mark);
+  says = bad-mark;
+  numbers = none-numbered names parts.session s;
 }
 
 -- ---- a put names no conversation
@@ -225,6 +234,19 @@ session-of-put : (b : Bool) (rest plain : List ℕ) (session : Option (List ℕ 
 session-of-put false rest plain session f n h = n.0
 session-of-put true rest plain session f n h = by-field (id_field (fields rest)) rest plain session f refl n h
 
+body-of-put : (names : Bool) (b : Spelling) (session : Option (List ℕ × ℕ)) (plain : List ℕ) (f : Format) → IsObjectBody names b session plain → Puts (fields plain) f → session ≡ None
+body-of-put names (as_line bytes) session plain f h p = session-of-put names bytes plain session f h p
+body-of-put names (as_put replies text) session plain f h p = absurd h
+body-of-put names as_bad session plain f h p = h.0
+
+object-of-put : (names : Bool) (found : Option Spelled) (label : LineLabel) (plain : List ℕ) (f : Format) → IsObjectOf names found label plain → Puts (fields plain) f → label.session ≡ None
+object-of-put names None label plain f h p = ap (λ (l : LineLabel). l.session) h.0
+object-of-put names (Some s) label plain f h p = body-of-put names s.body label.session plain f h.1 p
+
+line-of-put : (b : Bool) (o : LabelOptions) (whole : List ℕ) (label : LineLabel) (plain : List ℕ) (f : Format) → IsLineOf b o whole label plain → Puts (fields plain) f → label.session ≡ None
+line-of-put false o whole label plain f h p = session-of-put o.names h.0 plain label.session f h.2 p
+line-of-put true o whole label plain f h p = object-of-put o.names h.0 label plain f h.2 p
+
 pub put_no_session : (o : LabelOptions) (whole : List ℕ) (label : LineLabel) (plain : List ℕ) (f : Format) → StandsFor o whole label plain → Says plain (line.Put f) → label.session ≡ None
 put_no_session o whole label plain f (inl h) says = ap (λ (l : LineLabel). l.session) h.1
-put_no_session o whole label plain f (inr h) says = session-of-put o.names h.1.0 plain label.session f h.1.2 says.1
+put_no_session o whole label plain f (inr h) says = line-of-put o.objects o whole label plain f h.1 says.1

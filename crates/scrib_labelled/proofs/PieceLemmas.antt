@@ -19,7 +19,8 @@ use Rattle.scrib_labelled.specs.declared.labelled_run.LabelledRun.{LabelledRun}
 use Rattle.scrib_labelled.specs.declared.put_text.PutText.{PutText}
 use Rattle.scrib_labelled.specs.LabelledRuns.{IsLabelledOutput, IsLabelledPart, Runs, nothing}
 use Rattle.scrib_labelled.specs.LabelledScripts.{SpellsLabelled, all_items, no_line}
-use Rattle.scrib_labelled.specs.Progress.{EndIsCut, EndSucceeds, EndsLast, EndsText, GatherFails, GathersBytes, GathersFront, IsAt, HoldsUnended, IsNewLabelled, PieceFails, RunAdvances, Style, Writes, WritesFirst}
+use Rattle.scrib_labelled.specs.Progress.{EndIsCut, EndSucceeds, EndsLast, EndsText, GatherFails, GathersBytes, GathersFront, IsAt, HoldsUnended, IsNewLabelled, PieceFails, RunAdvances, Style, Writes, WritesFirst, kept_len}
+use Rattle.scrib_script_reader.proofs.Bytes.{take_of_none}
 use Rattle.scrib_labelled.proofs.SplitLemmas.{split_lines, split_none}
 
 -- the output of a run so far is a beginning of what its script gives
@@ -116,7 +117,7 @@ is_new o m run options format limits lines bytes line text names state = record 
     items = [];
     spells = subst (λ (n : ℕ). SpellsLabelled o.labels [] (n + 1) None []) (sym lines) no_line;
     text = subst (λ (t : Option PutText). HoldsUnended t None) (sym text) tt;
-    kept = line;
+    kept = line ∙ sym (take_of_none (kept_len run.options None));
     runs = subst (λ (w : State). Runs o.format [] (number_of run.named.names) w []) (sym state) (nothing (number_of run.named.names) names);
     bytes = bytes;
     lines = lines;

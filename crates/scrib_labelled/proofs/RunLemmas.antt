@@ -16,7 +16,7 @@ use Rattle.scrib_labelled.specs.declared.labelled_run.LabelledRun.{LabelledRun}
 use Rattle.scrib_labelled.specs.declared.line_count.LineCount.{LineCount}
 use Rattle.scrib_labelled.specs.declared.named_monitor.NamedMonitor.{NamedMonitor}
 use Rattle.scrib_labelled.specs.declared.put_text.PutText.{PutText}
-use Rattle.scrib_labelled.specs.LabelledLines.{LineLabel}
+use Rattle.scrib_labelled.specs.LabelledLines.{LineLabel, line_limit}
 use Rattle.scrib_labelled.specs.LabelledRuns.{Runs}
 use Rattle.scrib_labelled.specs.LabelledScripts.{LabelledText, SpellsLabelled}
 use Rattle.scrib_labelled.specs.Progress.{EndsBody, EndsLine, GathersBytes, HoldsUnended, LineEnds, Style, kept_len}
@@ -42,7 +42,7 @@ within_part m seen before part c d s lines_is limits few bytes_is few_bytes = (
 
 -- bytes of a line were consumed
 pub gathers_part : (old new : LabelledRun) (part : List ℕ) → NoLf part → new.options ≡ old.options → new.named ≡ old.named → new.text ≡ old.text
-    → ((before : Option LabelledText) → HoldsUnended old.text before → length old.line.items ≤ kept_len before → new.line.items ≡ take (kept_len before) (old.line.items ++ part))
+    → ((before : Option LabelledText) → HoldsUnended old.text before → length old.line.items ≤ kept_len old.options before → new.line.items ≡ take (kept_len old.options before) (old.line.items ++ part))
     → new.count.limits ≡ old.count.limits → new.count.lines ≡ old.count.lines → new.count.bytes ≡ old.count.bytes + length part → new.count.bytes ≤ old.count.limits.bytes → old.count.lines < old.count.limits.lines
     → GathersBytes old new part
 gathers_part old new part no_lf options named text line limits lines_is bytes few_bytes few_lines = record {
@@ -64,8 +64,9 @@ gathers_part old new part no_lf options named text line limits lines_is bytes fe
           spells = subst (λ (n : ℕ). SpellsLabelled o.labels at.whole (n + 1) at.unended at.items) (sym lines_is) at.spells;
           text = subst (λ (t : Option PutText). HoldsUnended t at.unended) (sym text) at.text;
           kept =
-              line at.unended at.text (omega (arith, ap length at.kept, length-take (kept_len at.unended) at.part))
-              ∙ ap (λ (t : List ℕ). take (kept_len at.unended) (t ++ part)) at.kept ∙ take_kept (kept_len at.unended) at.part part;
+              subst (λ (l : LabelOptions). new.line.items ≡ take (kept_len l at.unended) (at.part ++ part)) (sym options)
+              (line at.unended at.text (omega (arith, ap length at.kept, length-take (kept_len old.options at.unended) at.part))
+              ∙ ap (λ (t : List ℕ). take (kept_len old.options at.unended) (t ++ part)) at.kept ∙ take_kept (kept_len old.options at.unended) at.part part);
           runs =
               subst (λ (t : List ℕ). Runs o.format at.items (number_of new.named.names) (state_of new.named.monitor.core) t) (sym (append-nil before))
               (subst (λ (n : NamedMonitor). Runs o.format at.items (number_of n.names) (state_of n.monitor.core) before) (sym named) at.runs);
@@ -78,9 +79,9 @@ gathers_part old new part no_lf options named text line limits lines_is bytes fe
 
 -- ---- the end of a line
 
-pub none_taken : (before : Option LabelledText) (part : List ℕ) → take (kept_len before) part ≡ [] → part ≡ []
-none_taken None part h = nil_from_length part (omega (arith, ap length h, length-take 131074 part))
-none_taken (Some t) part h = nil_from_length part (omega (arith, ap length h, length-take 1048577 part))
+pub none_taken : (o : LabelOptions) (before : Option LabelledText) (part : List ℕ) → take (kept_len o before) part ≡ [] → part ≡ []
+none_taken o None part h = nil_from_length part (omega (arith, ap length h, length-take (line_limit o + 2) part))
+none_taken o (Some t) part h = nil_from_length part (omega (arith, ap length h, length-take 1048577 part))
 
 -- what is kept of a slice's front is kept of the slice
 pub take_least : (n m : ℕ) (b : List ℕ) → m ≡ min (length b) n → take m b ≡ take n b
@@ -96,7 +97,7 @@ pub no_lf_before : (k bytes : List ℕ) → IsEnded bytes → bytes ≡ k ++ 10 
 no_lf_before k bytes ended is = subst NoLf (append_cancel_right ended.0 k (10 ∷ []) (sym ended.2 ∙ is)) ended.1
 
 -- the whole of a line that was not begun
-pub ends_short : (old new : LabelledRun) (body kept : List ℕ) → old.line.items ≡ [] → ((before : Option LabelledText) → HoldsUnended old.text before → kept ≡ take (kept_len before) body)
+pub ends_short : (old new : LabelledRun) (body kept : List ℕ) → old.line.items ≡ [] → ((before : Option LabelledText) → HoldsUnended old.text before → kept ≡ take (kept_len old.options before) body)
     → EndsLine old new kept → EndsBody old new body
 ends_short old new body kept none is e = record {
   options = e.same.options;
@@ -105,7 +106,7 @@ ends_short old new body kept none is e = record {
   count = e.same.count;
   wrote = e.wrote;
   ends = λ before part held old_is.
-      let no_part : part ≡ [] = none_taken before part (sym old_is ∙ none) in
+      let no_part : part ≡ [] = none_taken old.options before part (sym old_is ∙ none) in
       subst (λ (t : List ℕ). LineEnds old new before ((t ++ body) ++ 10 ∷ []) e.wrote.more) (sym no_part) (e.ends before body held (is before held));
 }
 
@@ -114,7 +115,7 @@ ends-but-line old new line before whole more l = record { after = l.after; given
 
 -- the end of a line that was begun
 pub ends_long : (old new : LabelledRun) (line : Vec ℕ Global) (body kept : List ℕ) → line.items ≡ []
-    → ((before : Option LabelledText) → HoldsUnended old.text before → length old.line.items ≤ kept_len before → kept ≡ take (kept_len before) (old.line.items ++ body))
+    → ((before : Option LabelledText) → HoldsUnended old.text before → length old.line.items ≤ kept_len old.options before → kept ≡ take (kept_len old.options before) (old.line.items ++ body))
     → EndsLine (record old { line = line }) new kept → EndsBody old new body
 ends_long old new line body kept none is e = record {
   options = e.same.options;
@@ -123,9 +124,9 @@ ends_long old new line body kept none is e = record {
   count = e.same.count;
   wrote = record { more = e.wrote.more; grows = e.wrote.grows };
   ends = λ before part held old_is.
-      let whole : kept ≡ take (kept_len before) (part ++ body) =
-      is before held (omega (arith, ap length old_is, length-take (kept_len before) part))
-      ∙ ap (λ (t : List ℕ). take (kept_len before) (t ++ body)) old_is ∙ take_kept (kept_len before) part body in
+      let whole : kept ≡ take (kept_len old.options before) (part ++ body) =
+      is before held (omega (arith, ap length old_is, length-take (kept_len old.options before) part))
+      ∙ ap (λ (t : List ℕ). take (kept_len old.options before) (t ++ body)) old_is ∙ take_kept (kept_len old.options before) part body in
       ends-but-line old new line before ((part ++ body) ++ 10 ∷ []) e.wrote.more (e.ends before (part ++ body) held whole);
 }
 
@@ -173,7 +174,7 @@ gathers_end old mid c1 c2 k bytes no_lf is e limits1 lines1 bytes1 few_bytes few
           items = at.items ++ ended.given;
           spells = spelled old o c1 c2 at.whole (at.part ++ k) at.unended ended.after at.items ended.given at.options lines1 lines2 at.spells ended.spells;
           text = ended.text;
-          kept = e.line ∙ sym (take_of_none (kept_len ended.after));
+          kept = e.line ∙ sym (take_of_none (kept_len mid.options ended.after));
           runs =
               subst (λ (f : Format). Runs f (at.items ++ ended.given) (number_of mid.named.names) (state_of mid.named.monitor.core) (before ++ e.wrote.more)) at.format
               (ended.runs at.items before (subst (λ (f : Format). Runs f at.items (number_of old.named.names) (state_of old.named.monitor.core) before) (sym at.format) at.runs));

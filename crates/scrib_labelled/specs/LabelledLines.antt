@@ -1,13 +1,16 @@
--- The lines of a script with tags and names, and the lines of the script that they stand for (this project's own).
+-- The lines of a script with tags and names or of objects, and the lines that they stand for (this project's own).
 use Rattle.std.specs.Prelude.{◌≡◌, ◌⊎◌, ℕ, ◌≤◌, ◌<◌, Bool, true, false, if◌then◌else◌, List, [], ◌∷◌, Option, Some, None, length, codes}
 use Rattle.std.specs.Fmt.{decimal}
 use Rattle.std.specs.Str.{bytes_eq}
+use Rattle.scrib_core.specs.declared.format.Format.{Format}
 use Rattle.scrib_script_reader.specs.declared.line.Line.TheVariants as line
 use Rattle.scrib_script_reader.specs.Fields.{fields}
 use Rattle.scrib_script_reader.specs.Says.{Says}
 use Rattle.scrib_labels.specs.SessionLines.{id_field}
 use Rattle.scrib_labels.specs.SessionNames.{is_session_name}
 use Rattle.scrib_labels.specs.Tags.{HasTag}
+use Rattle.scrib_objects.specs.declared.object_options.ObjectOptions.{ObjectOptions}
+use Rattle.scrib_objects.specs.Objects.{IsObjectLine, Spelled, Spelling, as_bad, as_line, as_put}
 use Rattle.scrib_labelled.specs.declared.label_options.LabelOptions.{LabelOptions}
 
 -- the label of a line: its tag, and the name of its conversation with the number that stands for it
@@ -58,10 +61,41 @@ abbrev pub IsNumbered : Bool → (rest : List ℕ) → Option (List ℕ × ℕ) 
 IsNumbered false rest session plain = (session ≡ None) × (plain ≡ rest)
 IsNumbered true rest session plain = IsNumberedBy (id_field (fields rest)) rest session plain
 
--- The line has this label, and stands for this line of a script without labels. Both are without their ends. A line of
--- more than 131,072 bytes is bad, and its label is not read.
+-- the members that objects may have
+abbrev pub object_options : LabelOptions → ObjectOptions
+object_options o = record { tags = o.tags; names = o.names }
+
+-- the line of a script without labels that an object's line stands for; a put is no line
+abbrev pub IsObjectBody : (names : Bool) → Spelling → Option (List ℕ × ℕ) → (plain : List ℕ) → Type 0
+IsObjectBody names (as_line bytes) session plain = IsNumbered names bytes session plain
+IsObjectBody names (as_put replies text) session plain = ⊥
+IsObjectBody names as_bad session plain = (session ≡ None) × Says plain line.Bad
+
+-- the same with the label of the object; a line that is no object with a good tag is bad, and has none
+abbrev pub IsObjectOf : (names : Bool) → Option Spelled → LineLabel → (plain : List ℕ) → Type 0
+IsObjectOf names None label plain = (label ≡ no_label) × Says plain line.Bad
+IsObjectOf names (Some s) label plain = (label.tag ≡ s.tag) × IsObjectBody names s.body label.session plain
+
+-- a line within the limit has this label, and stands for this one: as an object, or behind its tag
+abbrev pub IsLineOf : (objects : Bool) → LabelOptions → (whole : List ℕ) → LineLabel → (plain : List ℕ) → Type 0
+IsLineOf false o whole label plain =
+    (rest : List ℕ) × IsUntagged o.tags whole label.tag rest × IsNumbered o.names rest label.session plain
+IsLineOf true o whole label plain =
+    (found : Option Spelled) × IsObjectLine (object_options o) whole found × IsObjectOf o.names found label plain
+
+-- the most bytes of a line: 8 MiB of an object, else 131,072
+abbrev pub line_limit : LabelOptions → ℕ
+line_limit o = if o.objects then 8388608 else 131072
+
+-- The line has this label, and stands for this line of a script without labels. Both are without their ends. A longer
+-- line than the limit is bad, and its label is not read.
 abbrev pub StandsFor : LabelOptions → (whole : List ℕ) → LineLabel → (plain : List ℕ) → Type 0
 StandsFor o whole label plain =
-    ((131072 < length whole) × (label ≡ no_label) × Says plain line.Bad)
-    ⊎ ((length whole ≤ 131072)
-    × ((rest : List ℕ) × IsUntagged o.tags whole label.tag rest × IsNumbered o.names rest label.session plain))
+    ((line_limit o < length whole) × (label ≡ no_label) × Says plain line.Bad)
+    ⊎ ((length whole ≤ line_limit o) × IsLineOf o.objects o whole label plain)
+
+-- the line is an object with this label that puts a text, whose reply is printed in this format
+abbrev pub IsPutObject : LabelOptions → (whole : List ℕ) → LineLabel → Format → (text : List ℕ) → Type 0
+IsPutObject o whole label f text =
+    (length whole ≤ line_limit o) × (o.objects ≡ true) × (label.session ≡ None)
+    × IsObjectLine (object_options o) whole (Some (record { tag = label.tag; body = as_put f text }))

@@ -10,7 +10,7 @@ use Rattle.scrib_script_reader.specs.declared.line.Line.TheVariants as line
 use Rattle.scrib_script_reader.specs.Says.{Says}
 use Rattle.scrib_script_reader.specs.Scripts.{Text, bare, empty_text, text_end, with_line}
 use Rattle.scrib_labelled.specs.declared.label_options.LabelOptions.{LabelOptions}
-use Rattle.scrib_labelled.specs.LabelledLines.{LineLabel, StandsFor}
+use Rattle.scrib_labelled.specs.LabelledLines.{IsPutObject, LineLabel, StandsFor}
 
 -- the line has this label, and the line that it stands for has this meaning; both are without their ends
 abbrev pub SaysAs : LabelOptions → (whole : List ℕ) → LineLabel → Line → Type 0
@@ -45,6 +45,9 @@ pub data SpellsLabelled (o : LabelOptions)
       → SpellsLabelled o ls n (Some t) items → bare l ≡ text_end
       → SpellsLabelled o (ls ++ l ∷ []) (n + 1) None
       (items ++ (t.label, item.Step t.text.format (Put (take 1_048_577 t.text.bytes))) ∷ [])
+  puts_object : (ls : List (List ℕ)) (n : ℕ) (items : List (LineLabel × Item)) (l : List ℕ) (label : LineLabel)
+      (f : Format) (text : List ℕ) → SpellsLabelled o ls n None items → IsPutObject o (bare l) label f text
+      → SpellsLabelled o (ls ++ l ∷ []) (n + 1) None (items ++ (label, item.Step f (Put (take 1_048_577 text))) ∷ [])
 
 -- the items of a whole script: where it ends inside a module text, the last is that end
 abbrev pub all_items : Option LabelledText → List (LineLabel × Item) → List (LineLabel × Item)

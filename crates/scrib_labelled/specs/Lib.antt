@@ -6,3 +6,4 @@ pub mod ExchangeLines
 pub mod TextProgress
 pub mod Splits
 pub mod Progress
+pub mod ObjectLines

@@ -11,7 +11,7 @@ use Rattle.scrib_report.specs.PutBack.{bytes_of}
 use Rattle.scrib_labelled.specs.declared.label_options.LabelOptions.{LabelOptions}
 use Rattle.scrib_labelled.specs.declared.line_reading.LineParts.{LineParts}
 use Rattle.scrib_labelled.specs.declared.line_reading.Session.{Session}
-use Rattle.scrib_labelled.specs.LabelledLines.{LineLabel, StandsFor}
+use Rattle.scrib_labelled.specs.LabelledLines.{IsNumbered, LineLabel, StandsFor}
 use Rattle.scrib_labelled.specs.declared.labelled_line.Named.{Named}
 use Rattle.scrib_labelled.specs.declared.labelled_line.Named.TheVariants as named
 use Rattle.scrib_labelled.specs.declared.labelled_line.Named.TheVariants.{Whole, Bad}
@@ -43,3 +43,11 @@ pub record ReadsAs (o : LabelOptions) (names : SessionNames) (whole : List ℕ) 
   pub stands : StandsFor o whole (label_of parts) plain
   pub says : Says plain meaning
   pub numbers : IsNumbersOf names (label_of parts).session
+
+-- the line without its tag names this conversation, if any, and the line that it stands for has this meaning
+pub record ReadsRest (names : SessionNames) (named : Bool) (rest : List ℕ) (session : Option (List ℕ × ℕ))
+    (meaning : Line) : Type 0 where
+  pub plain : List ℕ
+  pub numbered : IsNumbered named rest session plain
+  pub says : Says plain meaning
+  pub numbers : IsNumbersOf names session

@@ -14,9 +14,10 @@ use Rattle.scrib_labelled.specs.Splits.{IsSplit}
 use Rattle.scrib_core.specs.Held.{state_of}
 use Rattle.scrib_script_reader.specs.declared.item.Item.{Item}
 use Rattle.scrib_script_reader.specs.declared.item.Item.TheVariants as item
+use Rattle.scrib_script_reader.specs.declared.line.Line.{Line}
 use Rattle.scrib_types.specs.declared.event.Event.{Event}
 use Rattle.scrib_core.specs.Answers.{IsAnswered}
-use Rattle.scrib_core.specs.declared.format.Format.TheVariants.{Line}
+use Rattle.scrib_core.specs.declared.format.Format.TheVariants as formats
 use Rattle.scrib_core.specs.declared.step.Step.TheVariants.{Note, Put}
 use Rattle.scrib_report.specs.LabelledReplies.{labelled_reply}
 use Rattle.scrib_core.specs.declared.reply.Reply.{Reply}
@@ -27,9 +28,9 @@ use Rattle.scrib_labelled.specs.declared.labelled_monitor.LabelledMonitor.{Label
 use Rattle.scrib_labelled.specs.declared.labelled_run.LabelledRun.{LabelledRun}
 use Rattle.scrib_labelled.specs.declared.named_monitor.NamedMonitor.{NamedMonitor}
 use Rattle.scrib_labelled.specs.declared.put_text.PutText.{PutText}
-use Rattle.scrib_labelled.specs.LabelledScripts.{LabelledText, SpellsLabelled, all_items}
+use Rattle.scrib_labelled.specs.LabelledScripts.{LabelledText, SaysAs, SpellsLabelled, all_items}
 use Rattle.scrib_labelled.specs.TextProgress.{HoldsText, tag_in}
-use Rattle.scrib_labelled.specs.LabelledLines.{LineLabel}
+use Rattle.scrib_labelled.specs.LabelledLines.{LineLabel, line_limit}
 use Rattle.scrib_labelled.specs.LabelledRuns.{IsLabelledOutput, IsLabelledPart, Naming, Runs, Takes, after_replies, session_name}
 
 -- what a reply changes
@@ -56,7 +57,7 @@ pub record NotesEvent (old new : LabelledMonitor) (tag name : Option (List ℕ))
   pub reply : Reply
   pub answered : IsAnswered (state_of old.core) (Note id e) reply (state_of new.core)
   pub changes : change_by reply ≡ change.Unchanged
-  pub grows : new.gathered.bytes.items ≡ old.gathered.bytes.items ++ labelled_reply Line tag name reply
+  pub grows : new.gathered.bytes.items ≡ old.gathered.bytes.items ++ labelled_reply formats.Line tag name reply
 
 -- the numbers of names behind a change in the conversation of a session
 abbrev pub after_change : Naming → Option (List ℕ × ℕ) → Change → Naming
@@ -84,9 +85,9 @@ pub record IsSameRun (old new : LabelledRun) : Type 0 where
   pub count : new.count ≡ old.count
 
 -- the bytes that are kept of a line
-abbrev pub kept_len : Option LabelledText → ℕ
-kept_len None = 131074
-kept_len (Some t) = 1048577
+abbrev pub kept_len : LabelOptions → Option LabelledText → ℕ
+kept_len o None = line_limit o + 2
+kept_len o (Some t) = 1048577
 
 -- what is kept of the module text that is read, if one is
 abbrev pub HoldsUnended : Option PutText → Option LabelledText → Type 0
@@ -95,8 +96,8 @@ HoldsUnended (Some kept) (Some t) = HoldsText kept t
 HoldsUnended _ _ = ⊥
 
 -- what is read of a line, without its end: all of it, or a part that is as much too long as the line is
-abbrev pub IsCutOf : (cut l : List ℕ) → Type 0
-IsCutOf cut l = (cut ≡ bare l) ⊎ ((131072 < length cut) × (131072 < length (bare l)))
+abbrev pub IsCutOf : LabelOptions → (cut l : List ℕ) → Type 0
+IsCutOf o cut l = (cut ≡ bare l) ⊎ ((line_limit o < length cut) × (line_limit o < length (bare l)))
 
 -- what a whole line changes: the module text that is read behind it, the items, and what the output has more
 pub record LineEnds (old new : LabelledRun) (before : Option LabelledText) (l more : List ℕ) : Type 0 where
@@ -120,13 +121,19 @@ pub record EndsLine (old new : LabelledRun) (kept : List ℕ) : Type 0 where
   pub same : IsSameRun old new
   pub wrote : Gathers old new
   pub ends : (before : Option LabelledText) (full : List ℕ) → HoldsUnended old.text before
-      → kept ≡ take (kept_len before) full → LineEnds old new before (full ++ 10 ∷ []) wrote.more
+      → kept ≡ take (kept_len old.options before) full → LineEnds old new before (full ++ 10 ∷ []) wrote.more
 
 -- the run took a line outside module texts, of which this is read
 pub record EndsPlainLine (old new : LabelledRun) (cut : List ℕ) : Type 0 where
   pub same : IsSameRun old new
   pub wrote : Gathers old new
-  pub ends : (l : List ℕ) → IsCutOf cut l → LineEnds old new None l wrote.more
+  pub ends : (l : List ℕ) → IsCutOf old.options cut l → LineEnds old new None l wrote.more
+
+-- the run carried out what a line with this label means
+pub record EndsMeaning (old new : LabelledRun) (label : LineLabel) (meaning : Line) : Type 0 where
+  pub same : IsSameRun old new
+  pub wrote : Gathers old new
+  pub ends : (l : List ℕ) → SaysAs old.options (bare l) label meaning → LineEnds old new None l wrote.more
 
 -- the run took a line of this module text that has ended, of which this much is kept
 pub record EndsTextLine (old new : LabelledRun) (text : PutText) (kept : List ℕ) : Type 0 where
@@ -143,7 +150,7 @@ pub record EndsBody (old new : LabelledRun) (body : List ℕ) : Type 0 where
   pub count : new.count ≡ old.count
   pub wrote : Gathers old new
   pub ends : (before : Option LabelledText) (part : List ℕ) → HoldsUnended old.text before
-      → old.line.items ≡ take (kept_len before) part → LineEnds old new before ((part ++ body) ++ 10 ∷ []) wrote.more
+      → old.line.items ≡ take (kept_len old.options before) part → LineEnds old new before ((part ++ body) ++ 10 ∷ []) wrote.more
 
 -- the text was put, and the output was gathered
 pub record PutsText (old new : LabelledRun) (text : PutText) : Type 0 where
@@ -177,7 +184,7 @@ pub record EndsLast (old new : LabelledRun) : Type 0 where
   pub format : new.named.monitor.format ≡ old.named.monitor.format
   pub wrote : Gathers old new
   pub ends : (before : Option LabelledText) (part : List ℕ) → HoldsUnended old.text before → NoLf part
-      → old.line.items ≡ take (kept_len before) part → LastLineEnds old new before part wrote.more
+      → old.line.items ≡ take (kept_len old.options before) part → LastLineEnds old new before part wrote.more
 
 -- the same in this module text, with this much of the last line kept
 pub record EndsLastTextLine (old new : LabelledRun) (text : PutText) (kept : List ℕ) : Type 0 where
@@ -215,7 +222,7 @@ pub record IsAt (o : Style) (m : Limits) (run : LabelledRun) (seen out : List �
   pub items : List (LineLabel × Item)
   pub spells : SpellsLabelled o.labels whole (run.count.lines + 1) unended items
   pub text : HoldsUnended run.text unended
-  pub kept : run.line.items ≡ take (kept_len unended) part
+  pub kept : run.line.items ≡ take (kept_len run.options unended) part
   pub runs : Runs o.format items (number_of run.named.names) (state_of run.named.monitor.core) out
   pub bytes : run.count.bytes ≡ length seen
   pub lines : run.count.lines ≡ length whole

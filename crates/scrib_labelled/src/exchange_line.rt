@@ -1,6 +1,6 @@
 //! Reads most lines of a long script: exchanges that are spelled with single blanks.
 
-ghost use Rattle.std.specs.Prelude.{◌≡◌, Some, true, IfSome};
+ghost use Rattle.std.specs.Prelude.{◌≡◌, Some, true, false, IfSome};
 ghost use Rattle.scrib_labels.specs.Naming.{number_of};
 ghost use Rattle.scrib_report.specs.PutBack.{bytes_of, tag_text};
 ghost use Rattle.scrib_labelled.specs.ExchangeLines.{IsExchangeIn, IsExchangeLine};
@@ -51,6 +51,7 @@ pub(crate) fn exchange_line<'a>(
     options: LabelOptions,
     line: &'a [u8],
 ) -> Option<ExchangeLine<'a>>
+    requires { options.objects ≡ false }
     ensures { IfSome result (IsExchangeLine options names.now line.now) }
 {
     if line.len() > MAX_LINE_BYTES {

@@ -13,6 +13,7 @@ use crate::named_monitor::NamedMonitor;
 use crate::put_text::PutText;
 use scrib_core::format::Format;
 use scrib_core::step::Step;
+use scrib_objects::object_reader::ObjectReader;
 use scrib_script_io::fault::ScriptFault;
 use scrib_script_reader::item::Item;
 use scrib_script_reader::kept_bytes::{KEPT_TEXT_BYTES, append_up_to, without_cr};
@@ -25,12 +26,15 @@ use std::mem::replace;
 // The bytes that are kept of a line outside module texts: its limit, one byte to see that it is longer, and a CR.
 const KEPT_LINE_BYTES: usize = 131_074;
 
+const KEPT_OBJECT_BYTES: usize = 8_388_610;
+
 /// A script with labels that runs over a monitor.
 #[derive(Drop)]
 pub(crate) struct LabelledRun {
     pub(crate) alloc: Global,
     pub(crate) options: LabelOptions,
     pub(crate) reader: Reader,
+    pub(crate) objects: ObjectReader,
     pub(crate) named: NamedMonitor,
     // The line so far, as far as it is kept.
     pub(crate) line: Vec<u8>,
@@ -42,13 +46,14 @@ pub(crate) struct LabelledRun {
 }
 
 impl LabelledRun {
-    ghost use Rattle.std.specs.Prelude.{◌≡◌, ◌<◌, ◌+◌, ◌^◌, true, length, Option, IfOk, IfErr, OnErr, OnOk, None};
+    ghost use Rattle.std.specs.Prelude.{◌≡◌, ◌<◌, ◌+◌, ◌^◌, true, false, length, Option, IfOk, IfErr, OnErr, OnOk, None};
     ghost use Rattle.scrib_script_io.specs.Faults.{of_script};
     ghost use Rattle.scrib_script_reader.specs.Scripts.{NoLf};
     ghost use Rattle.scrib_labelled.specs.LabelledScripts.{LabelledText};
     ghost use Rattle.scrib_labelled.specs.Splits.{IsEnded};
     ghost use Rattle.scrib_labelled.specs.Progress.{EndsBody, EndsLine, EndsPlainLine, EndsTextLine, GathersBytes, HoldsUnended, kept_len};
-    ghost use Rattle.scrib_labelled.specs.Progress.{EndsLast, EndsLastTextLine, EndsText, PutsText};
+    ghost use Rattle.scrib_labelled.specs.Progress.{EndsLast, EndsLastTextLine, EndsMeaning, EndsText, PutsText};
+    ghost use Rattle.scrib_labelled.specs.NamedLines.{IsNumbersOf, label_of, session_of};
 
     // Consumes bytes of a line, without its LF.
     pub(crate) fn take_part(&mut self, part: &[u8]) -> Result<(), ScriptFault>
@@ -102,10 +107,12 @@ impl LabelledRun {
     // Returns how many bytes of the line are kept.
     #[inline(always)]
     fn capacity(&self) -> usize
-        ensures { (before : Option LabelledText) → HoldsUnended self.now.text before → result ≡ kept_len before }
+        ensures { (before : Option LabelledText) → HoldsUnended self.now.text before → result ≡ kept_len self.now.options before }
     {
         if self.text.is_some() {
             KEPT_TEXT_BYTES
+        } else if self.options.objects {
+            KEPT_OBJECT_BYTES
         } else {
             KEPT_LINE_BYTES
         }
@@ -154,7 +161,7 @@ impl LabelledRun {
     }
 
     // Carries the put of a text out.
-    fn put(&mut self, text: PutText) -> Result<(), AllocError>
+    pub(crate) fn put(&mut self, text: PutText) -> Result<(), AllocError>
         ensures ok { OnOk result (PutsText self.old self.new text) }
         ensures err { OnErr result
             (self.new.named.monitor.gathered.bytes.items ≡ self.old.named.monitor.gathered.bytes.items) }
@@ -178,6 +185,9 @@ impl LabelledRun {
         ensures err { OnErr result
             (self.new.named.monitor.gathered.bytes.items ≡ self.old.named.monitor.gathered.bytes.items) }
     {
+        if self.options.objects {
+            return self.end_object(line);
+        }
         // most lines of a long script
         if self.named.monitor.prints_lines()
             && let Some(exchange) = exchange_line(
@@ -192,10 +202,11 @@ impl LabelledRun {
         self.end_other_line(line)
     }
 
-    // The same, where the line may be any.
+    // The same of a line that is no object, where it may be any.
     #[inline(never)]
     fn end_other_line(&mut self, line: &[u8]) -> Result<(), AllocError>
-        requires { self.old.text ≡ None }
+        requires text { self.old.text ≡ None }
+        requires lines { self.old.options.objects ≡ false }
         ensures ok { OnOk result (EndsPlainLine self.old self.new line.now) }
         ensures err { OnErr result
             (self.new.named.monitor.gathered.bytes.items ≡ self.old.named.monitor.gathered.bytes.items) }
@@ -207,6 +218,21 @@ impl LabelledRun {
             self.options,
             line,
         )?;
+        self.end_meaning(parts, meaning)
+    }
+
+    // Carries out what a line with this label means.
+    pub(crate) fn end_meaning(
+        &mut self,
+        parts: LineParts<'_>,
+        meaning: Line,
+    ) -> Result<(), AllocError>
+        requires text { self.old.text ≡ None }
+        requires numbers { IsNumbersOf self.old.named.names (session_of parts.session) }
+        ensures ok { OnOk result (EndsMeaning self.old self.new (label_of parts.entry) meaning) }
+        ensures err { OnErr result
+            (self.new.named.monitor.gathered.bytes.items ≡ self.old.named.monitor.gathered.bytes.items) }
+    {
         match meaning {
             Line::Skipped => Ok(()),
             Line::Put(format) => {
@@ -281,8 +307,8 @@ fn is_mark(line: &[u8]) -> bool
     line == b"%%".as_slice()
 }
 
-// Returns the bytes of the tag, if there is one.
-fn tag_of(tag: &Option<Vec<u8>>) -> Option<&[u8]>
+/// Returns the bytes of the tag, if there is one.
+pub(crate) fn tag_of(tag: &Option<Vec<u8>>) -> Option<&[u8]>
     ensures { bytes_of result ≡ option_map (λ tag. tag.items) tag.now }
 {
     match tag {

@@ -1,4 +1,4 @@
-//! Runs scripts whose lines have tags, and names of conversations, over one monitor.
+//! Runs scripts whose lines have tags and names of conversations, or are JSON objects, over one monitor.
 #![tactic(auto)]
 
 mod exchange_line;
@@ -9,6 +9,7 @@ mod labelled_run;
 mod line_count;
 mod line_reading;
 mod named_monitor;
+mod object_lines;
 mod piece_run;
 mod put_text;
 pub mod run_labelled_script;

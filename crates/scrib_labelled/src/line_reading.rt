@@ -1,8 +1,8 @@
 //! Reads a line with its label: the meaning of the line that it stands for.
 
-ghost use Rattle.std.specs.Prelude.{◌≡◌, IfOk};
+ghost use Rattle.std.specs.Prelude.{◌≡◌, false, IfOk};
 ghost use Rattle.scrib_labels.specs.Naming.{IsNumberFor};
-ghost use Rattle.scrib_labelled.specs.NamedLines.{ReadsAs};
+ghost use Rattle.scrib_labelled.specs.NamedLines.{ReadsAs, ReadsRest, session_of};
 
 use crate::label_options::LabelOptions;
 use crate::labelled_line::{Named, Untagged, conversation_in, without_tag};
@@ -37,13 +37,32 @@ pub(crate) fn read_line<'a>(
     options: LabelOptions,
     line: &'a [u8],
 ) -> Result<(LineParts<'a>, Line), AllocError>
+    requires { options.objects ≡ false }
     ensures { IfOk result (λ r. ReadsAs options names.now line.now r.0 r.1) }
 {
     if line.len() > MAX_LINE_BYTES {
         return Ok((unlabelled(None), Line::Bad));
     }
-    let Untagged { tag, rest } = without_tag(options.tags, line);
-    match conversation_in(options.names, rest) {
+    let untagged = without_tag(options.tags, line);
+    read_untagged(reader, plain, names, options.names, untagged)
+}
+
+/// The same of a line without its tag, where conversations may have names.
+///
+/// # Errors
+/// As those of [`read_line`].
+pub(crate) fn read_untagged<'a>(
+    reader: &mut Reader,
+    plain: &mut Vec<u8>,
+    names: &SessionNames,
+    named: bool,
+    untagged: Untagged<'a>,
+) -> Result<(LineParts<'a>, Line), AllocError>
+    ensures { IfOk result (λ r. (r.0.tag ≡ untagged.entry.tag)
+        × ReadsRest names.now named untagged.entry.rest.now (session_of r.0.session) r.1) }
+{
+    let Untagged { tag, rest } = untagged;
+    match conversation_in(named, rest) {
         Named::Whole => Ok((unlabelled(tag), reader.line(rest)?)),
         Named::Bad => Ok((unlabelled(tag), Line::Bad)),
         Named::Session(line) => {

@@ -5,6 +5,7 @@ use crate::labelled_run::LabelledRun;
 use crate::line_count::LineCount;
 use crate::named_monitor::NamedMonitor;
 use scrib_core::format::Format;
+use scrib_objects::object_reader::ObjectReader;
 use scrib_script_io::fault::ScriptFault;
 use scrib_script_reader::kept_bytes::next_lf;
 use scrib_script_reader::limits::Limits;
@@ -33,6 +34,7 @@ impl LabelledRun {
             alloc,
             options,
             reader: Reader::new(alloc),
+            objects: ObjectReader::new(alloc),
             named: NamedMonitor::new(alloc, format),
             line: Vec::new(alloc),
             text: None,

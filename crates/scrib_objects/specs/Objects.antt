@@ -1,5 +1,5 @@
 -- The line that a JSON object stands for (this project's own).
-use Rattle.std.specs.Prelude.{◌≡◌, ◌⊎◌, ℕ, Bool, false, not, ◌&&◌, if◌then◌else◌, List, [], ◌∷◌, ◌++◌, Option, Some, None, option_map, option_and_then, codes}
+use Rattle.std.specs.Prelude.{◌≡◌, ◌⊎◌, ℕ, Bool, false, not, ◌&&◌, if◌then◌else◌, List, [], ◌∷◌, ◌++◌, Option, Some, None, option_map, option_and_then, unwrap_or, codes}
 use Rattle.std.specs.List.{list_all}
 use Rattle.std.specs.Option.{option_or}
 use Rattle.std.specs.Str.{IsUtf8, bytes_eq}
@@ -17,10 +17,11 @@ use Rattle.scrib_objects.specs.declared.object_line.ObjectBody.{ObjectBody}
 use Rattle.scrib_objects.specs.declared.object_line.ObjectBody.TheVariants as body
 use Rattle.scrib_objects.specs.declared.object_line.ObjectLine.{ObjectLine}
 
--- what an object stands for: a line, or a put of a text
+-- what an object stands for: a line, a put of a text, or neither where it is bad
 pub data Spelling : Type 0 where
   as_line : (bytes : List ℕ) → Spelling
   as_put : (replies : Format) (text : List ℕ) → Spelling
+  as_bad : Spelling
 
 -- the same, with the tag of the object
 pub record Spelled : Type 0 where
@@ -134,26 +135,30 @@ tag_in (Some member) = option_map Some (tag_text member)
 abbrev pub tag_of : (tags : Bool) → Json → Option (Option (List ℕ))
 tag_of tags j = if tags then tag_in (get (codes "tag") j) else Some None
 
--- what the value stands for, where it is an object that stands for something
+-- the same, and where it is bad, that it is
+abbrev pub body_or_bad : (names : Bool) → Json → Spelling
+body_or_bad names j = unwrap_or (body_of names j) as_bad
+
+-- what the value stands for, and its tag; none where it has a bad tag
 abbrev pub spelled : ObjectOptions → Json → Option Spelled
-spelled o j =
-    option_and_then (λ tag. option_map (λ b. record { tag = tag; body = b }) (body_of o.names j)) (tag_of o.tags j)
+spelled o j = option_map (λ tag. record { tag = tag; body = body_or_bad o.names j }) (tag_of o.tags j)
 
 -- what the body shows
 abbrev pub shown_body : ObjectBody → Spelling
 shown_body (body.Line bytes) = as_line bytes.items
 shown_body (body.Put replies text) = as_put replies text.items
+shown_body body.Bad = as_bad
 
 -- what the line of an object shows
 abbrev pub shown : ObjectLine → Spelled
 shown l = record { tag = option_map (λ t. t.items) l.tag; body = shown_body l.body }
 
 -- the bytes are a JSON text in which no object has a key twice, and stand for this
-abbrev pub StandsFor : ObjectOptions → List ℕ → ObjectLine → Type 0
-StandsFor o line l =
-    IsUtf8 line × ((j : Json) × (document line ≡ Some j) × HasUniqueKeys j × (spelled o j ≡ Some (shown l)))
+abbrev pub IsSpelled : ObjectOptions → List ℕ → Spelled → Type 0
+IsSpelled o line s =
+    IsUtf8 line × ((j : Json) × (document line ≡ Some j) × HasUniqueKeys j × (spelled o j ≡ Some s))
 
--- the bytes are bad: no UTF-8, no JSON text, an object in it has a key twice, or it stands for nothing
+-- the bytes have no tag and are bad: no UTF-8, no JSON text, an object in it has a key twice, or its tag is bad
 abbrev pub IsBad : ObjectOptions → List ℕ → Type 0
 IsBad o line =
     (¬ IsUtf8 line)
@@ -161,7 +166,7 @@ IsBad o line =
     ⊎ ((j : Json) × (document line ≡ Some j) × (¬ HasUniqueKeys j))
     ⊎ ((j : Json) × (document line ≡ Some j) × (spelled o j ≡ None))
 
--- what the line stands for, or that it is bad
-abbrev pub IsObjectLine : ObjectOptions → List ℕ → Option ObjectLine → Type 0
+-- what the line stands for, or that it has no tag and is bad
+abbrev pub IsObjectLine : ObjectOptions → List ℕ → Option Spelled → Type 0
 IsObjectLine o line None = IsBad o line
-IsObjectLine o line (Some l) = StandsFor o line l
+IsObjectLine o line (Some s) = IsSpelled o line s

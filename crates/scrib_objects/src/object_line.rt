@@ -9,6 +9,8 @@ pub enum ObjectBody {
     Line(Vec<u8>),
     /// A put of a module text, and the format of its reply.
     Put { format: Format, text: Vec<u8> },
+    /// No line and no put: a member is missing or wrong.
+    Bad,
 }
 
 /// What an object stands for.

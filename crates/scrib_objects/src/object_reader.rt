@@ -7,7 +7,7 @@ ghost use Rattle.scrib_objects.specs.Objects as spec;
 
 use crate::body::body_of;
 use crate::members::tag_of;
-use crate::object_line::ObjectLine;
+use crate::object_line::{ObjectBody, ObjectLine};
 use crate::object_options::ObjectOptions;
 use json::{Element, Error, Scratch, Tape};
 use simdutf8::basic::from_utf8;
@@ -21,8 +21,8 @@ pub struct ObjectReader {
 }
 
 impl ObjectReader {
-    ghost use Rattle.std.specs.Prelude.{IfOk};
-    ghost use Rattle.scrib_objects.specs.Objects.{IsObjectLine};
+    ghost use Rattle.std.specs.Prelude.{IfOk, option_map};
+    ghost use Rattle.scrib_objects.specs.Objects.{IsObjectLine, shown};
 
     /// Returns a reader, which takes memory from `alloc` as it reads.
     pub fn new(alloc: Global) -> ObjectReader {
@@ -32,11 +32,10 @@ impl ObjectReader {
         }
     }
 
-    /// Returns what the object in this line stands for, or none where the line is bad. The line is given without its
-    /// end.
+    /// Returns what the object in this line stands for. The line is given without its end.
     ///
-    /// A line is bad where it is no JSON object in UTF-8, where an object in it has a key twice, or where a member is
-    /// missing or wrong.
+    /// It is none where the line is no JSON text in UTF-8, where an object in it has a key twice, or where its tag is no
+    /// tag. Of any other bad line it is the tag, if there is one, and `Bad`.
     ///
     /// # Errors
     /// `AllocError` where memory is refused, or the line is longer than 4,294,967,040 bytes. The reader can go on.
@@ -45,7 +44,7 @@ impl ObjectReader {
         options: ObjectOptions,
         line: &[u8],
     ) -> Result<Option<ObjectLine>, AllocError>
-        ensures { IfOk result (IsObjectLine options line.now) }
+        ensures { IfOk result (λ l. IsObjectLine options line.now (option_map shown l)) }
     {
         let Ok(text) = from_utf8(line) else {
             return Ok(None);
@@ -59,7 +58,7 @@ impl ObjectReader {
     }
 }
 
-// What the object stands for, or none where it is bad. Its line is made in this much room.
+// What the object stands for, or none where its tag is bad. Its line is made in this much room.
 fn object_line(
     alloc: Global,
     object: &Element<'_, '_>,
@@ -72,12 +71,13 @@ fn object_line(
     let Some(tag) = tag_of(object, options.tags) else {
         return Ok(None);
     };
-    let Some(body) = body_of(alloc, object, options.names, room)? else {
-        return Ok(None);
-    };
+    let body = body_of(alloc, object, options.names, room)?;
     let tag = match tag {
         Some(text) => Some(text.as_bytes().to_vec(alloc)?),
         None => None,
     };
-    Ok(Some(ObjectLine { tag, body }))
+    Ok(Some(ObjectLine {
+        tag,
+        body: body.unwrap_or(ObjectBody::Bad),
+    }))
 }

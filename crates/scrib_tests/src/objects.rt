@@ -18,7 +18,7 @@ const NONE: ObjectOptions = ObjectOptions {
 };
 
 // Objects, and what each stands for where tags and names are allowed.
-const OBJECTS: [(&str, &str); 26] = [
+const OBJECTS: [(&str, &str); 28] = [
     ("{\"do\":\"withdraw\",\"module\":\"demo\"}", "withdraw demo"),
     (
         "{\"do\":\"profile\",\"profile\":\"plain\"}",
@@ -75,6 +75,8 @@ const OBJECTS: [(&str, &str); 26] = [
     ("{\"do\":\"ask\",\"id\":1,\"tag\":\"a b\"}", "bad"),
     ("{\"do\":\"ask\",\"id\":1,\"tag\":null}", "bad"),
     ("{\"do\":\"withdraw\",\"module\":\"\"}", "bad"),
+    ("{\"do\":\"json\",\"id\":1,\"tag\":\"17\"}", "@17 bad"),
+    ("{\"tag\":\"17\"}", "@17 bad"),
 ];
 
 // The same where no tags and names are allowed.
@@ -105,6 +107,7 @@ fn printed(alloc: Global, line: Option<ObjectLine>) -> Result<Vec<u8>, AllocErro
             out.extend_from_slice(b"put ")?;
             out.extend_from_slice(&text)?;
         }
+        ObjectBody::Bad => out.extend_from_slice(b"bad")?,
     }
     Ok(out)
 }

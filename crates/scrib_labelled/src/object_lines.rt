@@ -1,0 +1,98 @@
+//! Takes the lines of a script that are JSON objects.
+
+ghost use Rattle.std.specs.Prelude.{IfOk, option_map};
+ghost use Rattle.scrib_objects.specs.Objects.{shown};
+ghost use Rattle.scrib_labelled.specs.ObjectLines.{IsObjectRead};
+
+use crate::label_options::LabelOptions;
+use crate::labelled_line::Untagged;
+use crate::labelled_run::{LabelledRun, tag_of};
+use crate::line_reading::{LineParts, read_untagged};
+use crate::put_text::PutText;
+use scrib_objects::object_line::{ObjectBody, ObjectLine};
+use scrib_objects::object_options::ObjectOptions;
+use scrib_objects::object_reader::ObjectReader;
+use scrib_script_reader::kept_bytes::KEPT_TEXT_BYTES;
+use scrib_script_reader::line::Line;
+use std::alloc::AllocError;
+
+/// The most bytes of a line that is an object.
+pub const MAX_OBJECT_BYTES: usize = 8_388_608;
+
+impl LabelledRun {
+    ghost use Rattle.std.specs.Prelude.{◌≡◌, true, OnOk, OnErr, None};
+    ghost use Rattle.scrib_report.specs.PutBack.{bytes_of};
+    ghost use Rattle.scrib_script_reader.specs.declared.line.Line.TheVariants as line;
+    ghost use Rattle.scrib_labelled.specs.Progress.{EndsMeaning, EndsPlainLine};
+    ghost use Rattle.scrib_labelled.specs.ObjectLines.{EndsObjectLine};
+
+    // Takes a line outside module texts, given without its end, as an object.
+    #[inline(never)]
+    pub(crate) fn end_object(&mut self, line: &[u8]) -> Result<(), AllocError>
+        requires text { self.old.text ≡ None }
+        requires objects { self.old.options.objects ≡ true }
+        ensures ok { OnOk result (EndsPlainLine self.old self.new line.now) }
+        ensures err { OnErr result
+            (self.new.named.monitor.gathered.bytes.items ≡ self.old.named.monitor.gathered.bytes.items) }
+    {
+        let Some(object) = read_object(&mut self.objects, self.options, line)? else {
+            return self.end_bad_object(None);
+        };
+        let ObjectLine { tag, body } = object;
+        match body {
+            ObjectBody::Line(bytes) => self.end_object_line(tag_of(&tag), bytes.as_slice()),
+            ObjectBody::Put { format, text } => {
+                let mut bytes = text;
+                bytes.truncate(KEPT_TEXT_BYTES);
+                self.put(PutText { bytes, format, tag })
+            }
+            ObjectBody::Bad => self.end_bad_object(tag_of(&tag)),
+        }
+    }
+
+    // Takes the line that an object with this tag stands for.
+    fn end_object_line(&mut self, tag: Option<&[u8]>, line: &[u8]) -> Result<(), AllocError>
+        requires { self.old.text ≡ None }
+        ensures ok { OnOk result (EndsObjectLine self.old self.new (bytes_of tag.entry) line.now) }
+        ensures err { OnErr result
+            (self.new.named.monitor.gathered.bytes.items ≡ self.old.named.monitor.gathered.bytes.items) }
+    {
+        let (parts, meaning) = read_untagged(
+            &mut self.reader,
+            &mut self.plain,
+            &self.named.names,
+            self.options.names,
+            Untagged { tag, rest: line },
+        )?;
+        self.end_meaning(parts, meaning)
+    }
+
+    // Takes a bad object with this tag.
+    fn end_bad_object(&mut self, tag: Option<&[u8]>) -> Result<(), AllocError>
+        requires { self.old.text ≡ None }
+        ensures ok { OnOk result
+            (EndsMeaning self.old self.new (record { tag = bytes_of tag.entry; session = None }) line.Bad) }
+        ensures err { OnErr result
+            (self.new.named.monitor.gathered.bytes.items ≡ self.old.named.monitor.gathered.bytes.items) }
+    {
+        self.end_meaning(LineParts { tag, session: None }, Line::Bad)
+    }
+}
+
+// What the line stands for as an object, or none where it is longer than an object may be, or has no tag and is bad.
+fn read_object(
+    objects: &mut ObjectReader,
+    options: LabelOptions,
+    line: &[u8],
+) -> Result<Option<ObjectLine>, AllocError>
+    ensures { IfOk result (λ found. IsObjectRead options line.now (option_map shown found)) }
+{
+    if line.len() > MAX_OBJECT_BYTES {
+        return Ok(None);
+    }
+    let options = ObjectOptions {
+        tags: options.tags,
+        names: options.names,
+    };
+    objects.read(options, line)
+}
