@@ -69,6 +69,7 @@ checks: ## tries the built programs outside the gate: some ten minutes
 	$(PYTHON) checks/next_prefixes.py
 	$(PYTHON) checks/closed_logs.py
 	$(PYTHON) checks/labelled_logs.py
+	$(PYTHON) checks/object_logs.py
 	$(PYTHON) checks/generated_logs.py | $(PROGRAM) watch --json | $(PYTHON) checks/json_lines.py
 	$(PYTHON) checks/little_memory.py
 	$(PYTHON) checks/broken_input.py --rounds 1000

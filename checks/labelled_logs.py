@@ -71,9 +71,9 @@ class Labelled:
 
 
 def has_labels(example):
-    """Whether the script of a worked example has names or tags."""
+    """Whether the script of a worked example has names or tags, or is one of objects."""
     words = example.text.split(b"\n")[1].split()
-    return b"--names" in words or b"--tags" in words
+    return b"--names" in words or b"--tags" in words or b"--input" in words
 
 
 def named(line):

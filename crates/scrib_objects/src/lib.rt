@@ -2,6 +2,7 @@
 #![tactic(auto)]
 
 mod body;
+pub mod exchange_object;
 mod keys;
 mod line;
 mod members;

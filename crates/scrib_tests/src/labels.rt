@@ -146,3 +146,17 @@ fn names_keep_their_numbers_until_removed(rt: HostRuntime) -> Result<(), Fail> {
     assert_eq!(rt; names.vacant(), Some(first));
     Ok(())
 }
+
+#[test]
+fn names_are_found_by_their_bytes(rt: HostRuntime) -> Result<(), Fail> {
+    let mut names = SessionNames::new(rt.alloc());
+    assert_eq!(rt; names.find(b"a"), None);
+    let first = names.add("a")?;
+    assert_eq!(rt; names.find(b"a"), Some(first));
+    assert_eq!(rt; names.find(b"b"), None);
+    names.remove("a");
+    assert_eq!(rt; names.find(b"a"), None);
+    let again = names.add("a")?;
+    assert_eq!(rt; names.find(b"a"), Some(again));
+    Ok(())
+}
