@@ -1,4 +1,4 @@
-mod Names
+pub mod Names
 mod Substitution
 mod ProjectionLemmas
 mod Locals
@@ -8,15 +8,15 @@ mod TransitionLemmas
 mod FlightPaths
 mod EnabledEvents
 mod Events
-mod ProtocolFacts
+pub mod ProtocolFacts
 pub mod Runs
 mod LogPrefixes
 mod Branches
 mod Steps
 mod Order
-mod Candidates
+pub mod Candidates
 pub mod JudgementLemmas
-mod UndeclaredFlights
+pub mod UndeclaredFlights
 mod FlightLists
 mod Samples
 mod MovingStates
@@ -25,8 +25,8 @@ mod Extensions
 pub mod Completion
 pub mod Progress
 pub mod Draining
-mod FormedTypes
-mod OfferedActions
-mod NextLogs
+pub mod FormedTypes
+pub mod OfferedActions
+pub mod NextLogs
 mod NextLemmas
 mod NextLists

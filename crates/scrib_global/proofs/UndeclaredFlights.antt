@@ -102,7 +102,7 @@ trace_named : (w v : List Action) (l : LocalTree) (a : Action) → IsTrace l (w 
 trace_named [] v l a t = (does_named t.1).0
 trace_named (b ∷ w) v l a t = (does_named t.1).1 a (trace_named w v t.0 a t.2)
 
-both_declared : (a : Agreement) → is_protocol a.roles a.global ≡ true → (log : List Event) → IsPermitted a log → (before after : List Event) (p q : List ℕ) (m : Message) → log ≡ before ++ Sent p q m ∷ after → (has_role p a.roles && has_role q a.roles) ≡ true
+pub both_declared : (a : Agreement) → is_protocol a.roles a.global ≡ true → (log : List Event) → IsPermitted a log → (before after : List Event) (p q : List ℕ) (m : Message) → log ≡ before ++ Sent p q m ∷ after → (has_role p a.roles && has_role q a.roles) ≡ true
 both_declared a v log h before after p q m eq =
     let e = Sent p q m in
     let d : has_role p a.roles ≡ true = all_here (λ x. has_role (subject_of x) a.roles ≡ true) before after e (subst (AllByRecursion (λ x. has_role (subject_of x) a.roles ≡ true)) eq h.declared) in

@@ -60,7 +60,7 @@ IsNextOf a log r next =
     (l : LocalTree) × IsTypeAfter a.global log r l
     × (next ≡ (if has_joined r log then next_by_type l r log else MayJoin (occurs r a.global)))
 
--- The rest of this file is cited by contracts of private functions alone.
+-- The rest of this file is cited by contracts of private functions, and by that of `type_left`.
 
 -- the local type that is left to the role, or that there is none
 abbrev pub IsTypeLeft : GlobalTree → List Event → List ℕ → Option Local → Type 0

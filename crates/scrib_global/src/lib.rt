@@ -8,7 +8,7 @@ pub mod explain;
 pub mod fault;
 pub mod judge;
 pub mod law;
-mod logs;
+pub mod logs;
 pub mod next;
 mod permitted;
 mod queues;

@@ -78,7 +78,7 @@ fn is_action_of(role: &Role, event: &SharedEvent) -> bool
     }
 }
 
-// The event as an action of its subject. It fails where memory is refused, as do the functions below.
+// The event as an action of its subject. It fails where memory is refused.
 fn action_of(alloc: Global, event: &SharedEvent) -> Result<Action, AllocError>
     ensures { IfOk result (λ act. act ≡ logs.action_of event.now) }
 {
@@ -98,6 +98,9 @@ fn action_of(alloc: Global, event: &SharedEvent) -> Result<Action, AllocError>
 }
 
 /// The event that is this action of the role.
+///
+/// # Errors
+/// `AllocError` where memory is refused.
 pub fn event_of(alloc: Global, role: &Role, action: &Action) -> Result<SharedEvent, AllocError>
     ensures { IfOk result (λ event. event ≡ logs.event_of role.now action.now) }
 {
@@ -119,6 +122,9 @@ pub fn event_of(alloc: Global, role: &Role, action: &Action) -> Result<SharedEve
 }
 
 /// The role's sends and receptions, in order.
+///
+/// # Errors
+/// `AllocError` where memory is refused.
 pub fn own_actions(
     alloc: Global,
     role: &Role,

@@ -111,8 +111,12 @@ fn role_next(
     }
 }
 
-// The local type that is left to the role after what it did, if there is one.
-fn type_left(
+/// The local type that is left to the role after what it did, or `None` where there is none. A declared role has one
+/// after a permitted log.
+///
+/// # Errors
+/// `AllocError` where memory is refused.
+pub fn type_left(
     alloc: Global,
     global: &GlobalType,
     role: &Role,
@@ -170,8 +174,11 @@ fn next_reception(
     }
 }
 
-// The oldest message in flight from the one role to the other, if there is one.
-fn oldest(
+/// The oldest message in flight from the one role to the other, or `None` where none is.
+///
+/// # Errors
+/// `AllocError` where memory is refused.
+pub fn oldest(
     alloc: Global,
     from: &Role,
     to: &Role,
