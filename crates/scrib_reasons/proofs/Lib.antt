@@ -1,0 +1,4 @@
+mod Choices
+mod ReasonLemmas
+mod FindLemmas
+mod Samples
