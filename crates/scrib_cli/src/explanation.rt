@@ -23,12 +23,11 @@ pub enum Explained {
     Refused,
 }
 
-// The kind and the text of the explanation of the conversation.
-pub(crate) fn explanation(
-    alloc: Global,
-    core: &Core,
-    id: u32,
-) -> Result<(Explained, Vec<u8>), ScriptFault>
+/// Returns the kind and the text of the explanation of the conversation.
+///
+/// # Errors
+/// `OutOfMemory` where there is no memory for the text.
+pub fn explanation(alloc: Global, core: &Core, id: u32) -> Result<(Explained, Vec<u8>), ScriptFault>
     ensures explained { IfOk result (λ r. Explanation (state_of core.now).world id r.0 r.1.items) }
     ensures fault { IfErr result (λ e. e ≡ fault.OutOfMemory) }
 {
@@ -49,8 +48,11 @@ pub(crate) fn explanation(
     }
 }
 
-// The refusal line of this word.
-pub(crate) fn refusal(alloc: Global, word: &[u8]) -> Result<Vec<u8>, AllocError>
+/// Returns the refusal line of this word.
+///
+/// # Errors
+/// `AllocError` where there is no memory for it.
+pub fn refusal(alloc: Global, word: &[u8]) -> Result<Vec<u8>, AllocError>
     ensures { IfOk result (λ text. text.items ≡ refusal_line word.now) }
 {
     let mut text = Vec::new(alloc);

@@ -4,14 +4,14 @@
 pub mod check;
 pub mod commands;
 pub mod explain_script;
-mod explanation;
+pub mod explanation;
 mod form;
 mod full_name;
 pub mod gathered;
 pub mod id;
 pub mod item_output;
 mod modules;
-mod next_lines;
+pub mod next_lines;
 pub mod next_script;
 pub mod output_mode;
 pub mod printing;

@@ -14,12 +14,11 @@ use scrib_types::allowed::push_allowed;
 use scrib_types::text::push_bytes;
 use std::alloc::{AllocError, Global};
 
-// Whether the roles of the conversation are listed, and the text.
-pub(crate) fn next_steps(
-    alloc: Global,
-    core: &Core,
-    id: u32,
-) -> Result<(bool, Vec<u8>), ScriptFault>
+/// Returns whether the roles of the conversation are listed, and the text.
+///
+/// # Errors
+/// `OutOfMemory` where there is no memory for the text.
+pub fn next_steps(alloc: Global, core: &Core, id: u32) -> Result<(bool, Vec<u8>), ScriptFault>
     ensures steps { IfOk result (λ r. lines.NextSteps (state_of core.now).world id r.0 r.1.items) }
     ensures fault { IfErr result (λ e. e ≡ fault.OutOfMemory) }
 {
