@@ -1,5 +1,5 @@
-mod ClosingLemmas
-mod SendLemmas
+pub mod ClosingLemmas
+pub mod SendLemmas
 mod MonitorLemmas
 mod ClosingRunLemmas
 mod InputLemmas

@@ -22,8 +22,7 @@ use Rattle.scrib_core.specs.declared.reply.Refusal.{Refusal}
 use Rattle.scrib_core.specs.World.{World, Conversation, conversation, noted}
 use Rattle.scrib_core.specs.Answers.{State, IsCompleteIn, IsAnswered}
 use Rattle.scrib_core.specs.ReplyValues.{note_reply_of}
-use Rattle.scrib_closing.specs.ClosingScripts.{Completes}
-use Rattle.scrib_closing.specs.Progress.{is_send}
+use Rattle.scrib_closing.specs.ClosingScripts.{Completes, is_send}
 
 -- ---- the message of the last event
 

@@ -1,5 +1,7 @@
 -- Scripts whose conversations are closed once they are complete (this project's own).
 use Rattle.std.specs.Prelude.{◌≡◌, ℕ, Bool, true, false, List, [], ◌∷◌, ◌++◌, Option, Some, None}
+use Rattle.scrib_types.specs.declared.event.Event.{Event}
+use Rattle.scrib_types.specs.declared.event.Event.TheVariants.{Join, Sent, Received}
 use Rattle.scrib_core.specs.declared.format.Format.{Format}
 use Rattle.scrib_core.specs.declared.step.Step.{Step}
 use Rattle.scrib_core.specs.declared.step.Step.TheVariants.{Note, Turn, Close}
@@ -10,6 +12,12 @@ use Rattle.scrib_script_reader.specs.declared.item.Item.{Item}
 use Rattle.scrib_script_reader.specs.declared.item.Item.TheVariants as item
 use Rattle.scrib_script_reader.specs.Scripts.{Spells, lines, steps_of}
 use Rattle.scrib_cli.specs.Scripts.{written}
+
+-- whether the event is a send
+abbrev pub is_send : Event → Bool
+is_send (Join r) = false
+is_send (Sent p q m) = true
+is_send (Received p q m) = false
 
 -- the conversation in which the step notes an event, or makes a turn
 abbrev pub judged_by : Step → Option ℕ

@@ -1,9 +1,7 @@
 -- The progress of a run that closes complete conversations: what its functions promise one another (this project's own).
 -- Only contracts of private functions cite this file.
-use Rattle.std.specs.Prelude.{◌≡◌, ℕ, Bool, true, false, List, [], ◌∷◌, ◌++◌, Option, IfSome}
+use Rattle.std.specs.Prelude.{◌≡◌, ℕ, List, [], ◌∷◌, ◌++◌, Option, IfSome}
 use Rattle.std.specs.Io.KnownBytes.{Appends}
-use Rattle.scrib_types.specs.declared.event.Event.{Event}
-use Rattle.scrib_types.specs.declared.event.Event.TheVariants.{Join, Sent, Received}
 use Rattle.scrib_core.specs.declared.format.Format.{Format}
 use Rattle.scrib_core.specs.declared.reply.Reply.{Reply}
 use Rattle.scrib_core.specs.Answers.{State, initial}
@@ -18,12 +16,6 @@ use Rattle.scrib_cli.specs.Scripts.{written}
 use Rattle.scrib_closing.specs.declared.closing_monitor.ClosingMonitor.{ClosingMonitor}
 use Rattle.scrib_closing.specs.declared.closing_run.ClosingRun.{ClosingRun}
 use Rattle.scrib_closing.specs.ClosingScripts.{ClosesComplete, IsClosingOutput, IsClosingPart}
-
--- whether the event is a send
-abbrev pub is_send : Event → Bool
-is_send (Join r) = false
-is_send (Sent p q m) = true
-is_send (Received p q m) = false
 
 -- the items were carried out, from one state of a monitor to another, and the replies were put behind what was there
 abbrev pub AreCarriedOut : Format → List Item → (w v : State) → (was now : List ℕ) → Type 0

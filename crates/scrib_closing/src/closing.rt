@@ -1,7 +1,7 @@
 //! Makes steps, and closes the conversations that they complete.
 
-ghost use Rattle.std.specs.Prelude.{◌≡◌, ◌++◌, ◌∷◌, [], ℕ, Some, true, IfErr, IsTrue, MatchOption, OnOk, OnErr};
-ghost use Rattle.scrib_core.specs.Answers.{IsAnswered, IsCompleteIn};
+ghost use Rattle.std.specs.Prelude.{◌≡◌, ◌++◌, ◌∷◌, [], true, IfErr, OnOk, OnErr};
+ghost use Rattle.scrib_core.specs.Answers.{IsAnswered};
 ghost use Rattle.scrib_core.specs.Held.{state_of};
 ghost use Rattle.scrib_core.specs.declared.format.Format.TheVariants as formats;
 ghost use Rattle.scrib_core.specs.declared.reply.Reply.{Reply};
@@ -9,9 +9,9 @@ ghost use Rattle.scrib_core.specs.declared.step.Step.TheVariants.{Close, Note};
 ghost use Rattle.scrib_report.specs.ReplyTexts.{reply_text};
 ghost use Rattle.scrib_script_io.specs.Faults.{of_output};
 ghost use Rattle.scrib_script_reader.specs.declared.item.Item.TheVariants as item;
-ghost use Rattle.scrib_closing.specs.ClosingScripts.{is_accepted, judged_by};
-ghost use Rattle.scrib_closing.specs.Progress.{AreCarriedInPart, AreCarriedOut, is_send};
+ghost use Rattle.scrib_closing.specs.Progress.{AreCarriedInPart, AreCarriedOut};
 
+use crate::completion::{completed, is_accepted, is_send, judged_by};
 use scrib_cli::gathered::Gathered;
 use scrib_core::conversation_steps::Tested;
 use scrib_core::format::Format;
@@ -20,7 +20,6 @@ use scrib_core::reply::{Reply, close_reply};
 use scrib_core::step::Step;
 use scrib_report::printing::reply_format;
 use scrib_script_io::fault::ScriptFault;
-use scrib_types::event::Event;
 use scrib_types::shared_event::SharedEvent;
 
 // Closes the conversation, and gathers the reply in this format. After an error the gathered texts are unchanged.
@@ -41,14 +40,6 @@ fn gather_close(
     let reply = close_reply(id, closed);
     gathered.add_reply(&reply, format)?;
     Ok(())
-}
-
-// Returns whether the event is a send.
-#[inline(always)]
-fn is_send(event: &SharedEvent) -> bool
-    ensures { result ≡ is_send event.now }
-{
-    matches!(event.get(), Event::Sent { .. })
 }
 
 /// Notes the event, whose line asks for no format, and gathers the reply. Where it completes the conversation, closes that
@@ -107,37 +98,6 @@ fn gather_tested(
             Ok(())
         }
     }
-}
-
-// Returns the conversation in which the step notes an event, or makes a turn.
-fn judged_by(step: &Step) -> Option<u32>
-    ensures { result ≡ judged_by step.now }
-{
-    match step {
-        Step::Note { id, .. } | Step::Turn { id } => Some(*id),
-        _ => None,
-    }
-}
-
-// Returns whether the reply accepts its step.
-fn is_accepted(reply: &Reply) -> bool
-    ensures { result ≡ is_accepted reply.now }
-{
-    !matches!(reply, Reply::Refused(_))
-}
-
-// Returns the conversation in which an accepted step noted an event or made a turn, if it is complete.
-#[inline(always)]
-fn completed(core: &Core, judged: Option<u32>, accepted: bool) -> Option<u32>
-    ensures { MatchOption result
-        ((id : ℕ) → judged ≡ Some id → accepted ≡ true → IsCompleteIn (state_of core.now) id → ⊥)
-        (λ id. (judged ≡ Some id) × (accepted ≡ true) × IsCompleteIn (state_of core.now) id) }
-{
-    let id = judged?;
-    if !accepted {
-        return None;
-    }
-    if core.is_complete(id) { Some(id) } else { None }
 }
 
 /// Makes the step, whose line asks for the format `asked`, and gathers the reply. Where it completes its conversation,

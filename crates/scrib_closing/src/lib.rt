@@ -4,4 +4,5 @@
 mod closing;
 mod closing_monitor;
 mod closing_run;
+pub mod completion;
 pub mod run_closing_script;
