@@ -20,6 +20,7 @@ use Rattle.scrib_labels.specs.Tags.{HasTag, begins_tag}
 use Rattle.scrib_labels.proofs.NumberedLines.{decimal-number, recv-field, send-field}
 use Rattle.scrib_labelled.specs.LabelledLines.{IsNumbered, IsUntagged}
 use Rattle.scrib_labelled.proofs.LineLemmas.{numbered_by_parts}
+use Rattle.scrib_labelled.proofs.NameLemmas.{name_bytes}
 
 -- ---- a name is a field
 
@@ -30,12 +31,9 @@ no-blank : (bs : List ℕ) → all_session_bytes bs ≡ true → NoBlank bs
 no-blank [] h = All-nil (λ b. is_blank b ≡ false)
 no-blank (b ∷ bs) h = All-cons (λ b. is_blank b ≡ false) b bs (no-blank-byte b (search rules)) (no-blank bs (search rules))
 
-name-bytes : (w : List ℕ) → is_session_name w ≡ true → all_session_bytes w ≡ true
-name-bytes w h = grind (arith, nat_tests)
-
 name-field : (w text : List ℕ) → is_session_name w ≡ true → fields (w ++ 32 ∷ text) ≡ w ∷ fields text
 name-field [] text h = absurd (cc)
-name-field (b ∷ bs) text h = first-field-cut b bs text (no-blank (b ∷ bs) (name-bytes (b ∷ bs) h))
+name-field (b ∷ bs) text h = first-field-cut b bs text (no-blank (b ∷ bs) (name_bytes (b ∷ bs) h))
 
 -- ---- the fields of an exchange with a name
 

@@ -1,11 +1,12 @@
 -- What items change, and what is gathered for them.
-use Rattle.std.proofs.Common.{◌≡◌, ◌∙◌, ℕ, List, [], ◌∷◌, ◌++◌, Option, Some, None, Result, Ok, Err, refl, sym, ap, subst}
+use Rattle.std.proofs.Common.{◌≡◌, ◌≢◌, ◌∙◌, ◌&&◌, inl, inr, ℕ, Bool, true, false, not, cond, List, [], ◌∷◌, ◌++◌, Option, Some, None, Result, Ok, Err, refl, sym, ap, subst}
 use Rattle.std.specs.Borrow.{Bor}
+use Rattle.std.specs.Str.{bytes_eq}
+use Rattle.std.proofs.lemmas.List.{append-nil}
 use Rattle.scrib_types.specs.declared.event.Event.{Event}
-use Rattle.scrib_types.specs.declared.event.Told.TheVariants.{Judged}
-use Rattle.scrib_types.specs.declared.event.Verdict.TheVariants.{Permitted}
-use Rattle.scrib_core.specs.Answers.{IsAnswered}
-use Rattle.scrib_core.specs.Held.{state_of}
+use Rattle.scrib_types.specs.declared.event.Verdict.{Verdict}
+use Rattle.scrib_core.specs.Answers.{State, IsAccepted, IsAnswered}
+use Rattle.scrib_labelled.specs.CheckedCores.{GotMemory, state_of}
 use Rattle.scrib_core.specs.ReplyValues.{note_reply_of}
 use Rattle.scrib_core.specs.declared.conversation_steps.Noted.{Noted}
 use Rattle.scrib_core.specs.declared.format.Format.{Format}
@@ -13,70 +14,67 @@ use Rattle.scrib_core.specs.declared.format.Format.TheVariants as format
 use Rattle.scrib_core.specs.declared.reply.Refusal.{Refusal}
 use Rattle.scrib_core.specs.declared.reply.Reply.{Reply}
 use Rattle.scrib_core.specs.declared.reply.Reply.TheVariants as reply
-use Rattle.scrib_core.specs.declared.step.Step.TheVariants.{Note}
-use Rattle.scrib_report.specs.HeadedEvents.{permitted_text}
+use Rattle.scrib_core.specs.declared.step.Step.{Step}
+use Rattle.scrib_core.specs.declared.step.Step.TheVariants as step
 use Rattle.scrib_report.specs.LabelledReplies.{labelled_reply}
-use Rattle.scrib_report.specs.PutBack.{bytes_of, tag_text, with_name}
+use Rattle.scrib_report.specs.PutBack.{bytes_of}
 use Rattle.scrib_report.specs.ReplyTexts.{reply_format}
 use Rattle.scrib_script_reader.specs.declared.item.Item.{Item}
 use Rattle.scrib_script_reader.specs.declared.item.Item.TheVariants as item
 use Rattle.scrib_cli.specs.declared.gathered.Gathered.{Gathered}
+use Rattle.scrib_closing.specs.ClosingScripts.{Completes, is_send, judged_by}
+use Rattle.scrib_closing.proofs.SendLemmas.{send_open}
 use Rattle.scrib_labels.specs.Naming.{number_of}
+use Rattle.scrib_labelled.specs.declared.label_options.LabelledStyle.{LabelledStyle}
 use Rattle.scrib_labelled.specs.declared.labelled_monitor.Change.{Change}
 use Rattle.scrib_labelled.specs.declared.labelled_monitor.Change.TheVariants as change
 use Rattle.scrib_labelled.specs.declared.labelled_monitor.LabelledMonitor.{LabelledMonitor}
 use Rattle.scrib_labelled.specs.declared.named_monitor.NamedMonitor.{NamedMonitor}
 use Rattle.scrib_labelled.specs.ExchangeLines.{named_id}
 use Rattle.scrib_labelled.specs.LabelledLines.{LineLabel}
-use Rattle.scrib_labelled.specs.LabelledRuns.{Naming, Takes, after_replies, after_reply, session_name}
+use Rattle.scrib_labelled.specs.LabelledRuns.{ClosesBehind, Naming, Takes, after_replies, after_reply, session_name}
 use Rattle.scrib_labelled.specs.Progress.{CarriesOut, IsChangeBy, NotesEvent, TakesItem, after_change, change_by}
 
+-- ---- what replies change
+
 -- the reply to a note opens and closes no conversation
-pub note_changes_nothing : (id : ℕ) (r : Result Noted Refusal) → change_by (note_reply_of id r) ≡ change.Unchanged
-note_changes_nothing id (Ok n) = refl
-note_changes_nothing id (Err f) = refl
+note-changes-nothing : (id : ℕ) (r : Result Noted Refusal) → change_by (note_reply_of id r) ≡ change.Unchanged
+note-changes-nothing id (Ok n) = refl
+note-changes-nothing id (Err f) = refl
 
--- so each name keeps its number
-unchanged-names : (names : Naming) (session : Option (List ℕ × ℕ)) (r : Reply) → change_by r ≡ change.Unchanged → (name : List ℕ) → after_reply names session r name ≡ names name
-unchanged-names names None r same name = refl
-unchanged-names names (Some s) (reply.Edited e cs) same name = refl
-unchanged-names names (Some s) (reply.Profiled p) same name = refl
-unchanged-names names (Some s) (reply.Opened id n) same name = absurd (cc)
-unchanged-names names (Some s) (reply.Noted id place told) same name = refl
-unchanged-names names (Some s) (reply.Judged id n events told) same name = refl
-unchanged-names names (Some s) (reply.Closed id n events verdict complete) same name = absurd (cc)
-unchanged-names names (Some s) (reply.Refused f) same name = refl
+no-judged : (id : ℕ) → None ≡ Some id → ⊥
+no-judged id e = absurd (cc)
 
--- the line of a permitted event behind the text of a tag
-pub notes_permitted : (old new : LabelledMonitor) (tag name : Option (List ℕ)) (head : List ℕ) (id place : ℕ) (e : Event) → new.format ≡ old.format
-    → IsAnswered (state_of old.core) (Note id e) (reply.Noted id place (Judged Permitted)) (state_of new.core) → head ≡ tag_text tag
-    → new.gathered.bytes.items ≡ old.gathered.bytes.items ++ (head ++ with_name name (permitted_text id place)) → NotesEvent old new tag name id e
-notes_permitted old new tag name head id place e same answered is grows = record {
-  format = same;
-  reply = reply.Noted id place (Judged Permitted);
-  answered = answered;
-  changes = refl;
-  grows = grows ∙ ap (λ (t : List ℕ). old.gathered.bytes.items ++ (t ++ with_name name (permitted_text id place))) is;
-}
+-- nor does the reply to any step that notes an event or makes a turn
+judged-opens : (w u : State) (s : Step) (i : ℕ) (n : List (List ℕ)) (id : ℕ) → judged_by s ≡ Some id → IsAccepted w s (reply.Opened i n) u → ⊥
+judged-opens w u (step.Put t) i n id e a = no-judged id e
+judged-opens w u (step.Withdraw m) i n id e a = no-judged id e
+judged-opens w u (step.Profile p) i n id e a = no-judged id e
+judged-opens w u (step.Open j m) i n id e a = no-judged id e
+judged-opens w u (step.Note j v) i n id e a = a.replies
+judged-opens w u (step.Turn j) i n id e a = a.replies
+judged-opens w u (step.Ask j) i n id e a = no-judged id e
+judged-opens w u (step.Close j) i n id e a = no-judged id e
 
--- the name of a conversation, without its number
-pub name_back : (name : Option (Bor (List ℕ))) (id : ℕ) → session_name (named_id name id) ≡ bytes_of name
-name_back None id = refl
-name_back (Some n) id = refl
+judged-closes : (w u : State) (s : Step) (i : ℕ) (n : List (List ℕ)) (k : ℕ) (v : Verdict) (b : Bool) (id : ℕ) → judged_by s ≡ Some id → IsAccepted w s (reply.Closed i n k v b) u → ⊥
+judged-closes w u (step.Put t) i n k v b id e a = no-judged id e
+judged-closes w u (step.Withdraw m) i n k v b id e a = no-judged id e
+judged-closes w u (step.Profile p) i n k v b id e a = no-judged id e
+judged-closes w u (step.Open j m) i n k v b id e a = no-judged id e
+judged-closes w u (step.Note j x) i n k v b id e a = a.replies
+judged-closes w u (step.Turn j) i n k v b id e a = a.replies
+judged-closes w u (step.Ask j) i n k v b id e a = no-judged id e
+judged-closes w u (step.Close j) i n k v b id e a = no-judged id e
 
--- the note of a line's event, as the line's item
-pub carries_note : (old new : NamedMonitor) (label : LineLabel) (id : ℕ) (e : Event) → old.monitor.format ≡ format.Line → ((name : List ℕ) → number_of new.names name ≡ number_of old.names name)
-    → NotesEvent old.monitor new.monitor label.tag (session_name label.session) id e → CarriesOut old new label (item.Step format.Line (Note id e))
-carries_note old new label id e prints names h = record {
-  format = h.format;
-  replies = h.reply ∷ [];
-  more = labelled_reply format.Line label.tag (session_name label.session) h.reply;
-  takes = (h.reply, refl, h.answered, ap (λ (f : Format). labelled_reply (reply_format f format.Line) label.tag (session_name label.session) h.reply) (sym prints));
-  named = λ name. names name ∙ sym (unchanged-names (number_of old.names) label.session h.reply h.changes name);
-  grows = h.grows;
-}
-
--- ---- any item
+-- so such a step changes nothing
+pub judged_unchanged : (w u : State) (s : Step) (r : Reply) (id : ℕ) → judged_by s ≡ Some id → IsAnswered w s r u → change_by r ≡ change.Unchanged
+judged_unchanged w u s (reply.Edited e cs) id judged a = refl
+judged_unchanged w u s (reply.Profiled p) id judged a = refl
+judged_unchanged w u s (reply.Opened i n) id judged a = absurd (judged-opens w u s i n id judged a)
+judged_unchanged w u s (reply.Noted i place told) id judged a = refl
+judged_unchanged w u s (reply.Judged i n events told) id judged a = refl
+judged_unchanged w u s (reply.Closed i n events verdict complete) id judged a = absurd (judged-closes w u s i n events verdict complete id judged a)
+judged_unchanged w u s (reply.Refused f) id judged a = refl
 
 one-reply : (names : Naming) (session : Option (List ℕ × ℕ)) (r : Reply) (name : List ℕ) → after_reply names session r name ≡ after_change names session (change_by r) name
 one-reply names None r name = refl
@@ -88,26 +86,154 @@ one-reply names (Some s) (reply.Judged id n events told) name = refl
 one-reply names (Some s) (reply.Closed id n events verdict complete) name = refl
 one-reply names (Some s) (reply.Refused f) name = refl
 
-unchanged : (names : Naming) (session : Option (List ℕ × ℕ)) (name : List ℕ) → names name ≡ after_change names session change.Unchanged name
+pub unchanged : (names : Naming) (session : Option (List ℕ × ℕ)) (name : List ℕ) → names name ≡ after_change names session change.Unchanged name
 unchanged names None name = refl
 unchanged names (Some s) name = refl
+
+-- a change depends on the number that the name has
+same-change : (names others : Naming) (session : Option (List ℕ × ℕ)) (c : Change) (name : List ℕ) → names name ≡ others name → after_change names session c name ≡ after_change others session c name
+same-change names others None c name same = same
+same-change names others (Some s) change.Opened name same = ap (λ (n : Option ℕ). cond (bytes_eq s.0 name) (Some s.1) n) same
+same-change names others (Some s) change.Closed name same = ap (λ (n : Option ℕ). cond (bytes_eq s.0 name) None n) same
+same-change names others (Some s) change.Unchanged name same = same
 
 -- what the replies change in the numbers of names
 replies-change : (names : Naming) (session : Option (List ℕ × ℕ)) (replies : List Reply) (c : Change) → IsChangeBy replies c → (name : List ℕ) → after_change names session c name ≡ after_replies names session replies name
 replies-change names session [] c h name = ap (λ (x : Change). after_change names session x name) h ∙ sym (unchanged names session name)
-replies-change names session (r ∷ rs) c h name =
-    ap (λ (x : Change). after_change names session x name) h.1 ∙ sym (one-reply names session r name)
-    ∙ sym (ap (λ (x : List Reply). after_replies (after_reply names session r) session x name) h.0)
+replies-change names session (r ∷ []) c h name = ap (λ (x : Change). after_change names session x name) h ∙ sym (one-reply names session r name)
+replies-change names session (r ∷ q ∷ rs) c h name =
+    let first : names name ≡ after_reply names session r name =
+    unchanged names session name ∙ ap (λ (x : Change). after_change names session x name) (sym h.1) ∙ sym (one-reply names session r name) in
+    same-change names (after_reply names session r) session c name first
+    ∙ ap (λ (x : Change). after_change (after_reply names session r) session x name) h.2 ∙ sym (one-reply (after_reply names session r) session q name)
+    ∙ sym (ap (λ (x : List Reply). after_replies (after_reply (after_reply names session r) session q) session x name) h.0)
+
+-- ---- what is done behind a step
+
+-- nothing, where it completes no conversation that is to be closed
+pub behind_none : (closes : Bool) (s : Step) (r : Reply) (u : State) → (closes ≡ true → (id : ℕ) → Completes s r u id → ⊥) → ClosesBehind closes s r u u []
+behind_none false s r u none = (refl, refl)
+behind_none true s r u none = inl (none refl, refl, refl)
+
+-- the close of the conversation that it completes
+pub behind_closed : (closes : Bool) (s : Step) (r c : Reply) (u v : State) (id : ℕ) → closes ≡ true → Completes s r u id → IsAnswered u (step.Close id) c v → ClosesBehind closes s r u v (c ∷ [])
+behind_closed false s r c u v id on done closed = absurd (cc)
+behind_closed true s r c u v id on done closed = inr (id, c, done, closed, refl)
+
+module _ (o : LabelledStyle) (tag name : Option (List ℕ)) (f asked : Format) (is : f ≡ reply_format o.format asked) (s : Step) (r : Reply) (w u : State) (answered : IsAnswered w s r u) where
+  -- the step, with nothing behind it
+  pub takes_open : ClosesBehind o.closes s r u u [] → Takes o tag name w (item.Step asked s) u (r ∷ []) (labelled_reply f tag name r)
+  takes_open behind = (r, u, [], answered, behind, refl, ap (λ (g : Format). labelled_reply g tag name r) is ∙ sym (append-nil (labelled_reply (reply_format o.format asked) tag name r)))
+
+  -- the step, with a close behind it
+  pub takes_closed : (v : State) (c : Reply) → ClosesBehind o.closes s r u v (c ∷ [])
+      → Takes o tag name w (item.Step asked s) v (r ∷ c ∷ []) (labelled_reply f tag name r ++ labelled_reply f tag name c)
+  takes_closed v c behind = (
+    r,
+    u,
+    c ∷ [],
+    answered,
+    behind,
+    refl,
+    ap (λ (g : Format). labelled_reply g tag name r ++ labelled_reply g tag name c) is
+        ∙ ap (λ (t : List ℕ). labelled_reply (reply_format o.format asked) tag name r ++ t) (sym (append-nil (labelled_reply (reply_format o.format asked) tag name c))),
+  )
+
+-- ---- the note of an event
+
+-- the test of a note, where it says that nothing is to be closed
+off-or-send : (closes sends : Bool) → (closes && not sends) ≡ false → closes ≡ true → sends ≡ true
+off-or-send false sends e on = absurd (cc)
+off-or-send true false e on = absurd (cc)
+off-or-send true true e on = refl
+
+pub note_stays : (closes : Bool) (id : ℕ) (e : Event) (outcome : Result Noted Refusal) (w u : State) → (closes && not (is_send e)) ≡ false → IsAnswered w (step.Note id e) (note_reply_of id outcome) u
+    → ClosesBehind closes (step.Note id e) (note_reply_of id outcome) u u []
+note_stays closes id e outcome w u test answered =
+    behind_none closes (step.Note id e) (note_reply_of id outcome) u (λ on. send_open id e outcome w u (off-or-send closes (is_send e) test on) answered)
+
+pub closes_on : (closes sends : Bool) → (closes && not sends) ≡ true → closes ≡ true
+closes_on false sends e = absurd (cc)
+closes_on true sends e = refl
+
+pub closes_not_off : {A : Type 0} (closes : Bool) → closes ≡ true → closes ≡ false → A
+closes_not_off closes on off = absurd (cc)
+
+module _ (old new : LabelledMonitor) (tag name : Option (List ℕ)) (id : ℕ) (e : Event) (outcome : Result Noted Refusal) (u : State) (lines : old.style.format ≡ format.Line) (same : new.style ≡ old.style)
+    (answered : IsAnswered (state_of old.core) (step.Note id e) (note_reply_of id outcome) u) where
+  abbrev text : Reply → List ℕ
+  text r = labelled_reply format.Line tag name r
+
+  printed : format.Line ≡ reply_format old.style.format format.Line
+  printed = ap (λ (f : Format). reply_format f format.Line) (sym lines)
+
+  -- the note, with nothing behind it
+  pub notes_open : u ≡ state_of new.core → ClosesBehind old.style.closes (step.Note id e) (note_reply_of id outcome) u u []
+      → (old.style.closes ≡ false → GotMemory old.core new.core (note_reply_of id outcome ∷ []))
+      → new.gathered.bytes.items ≡ old.gathered.bytes.items ++ labelled_reply format.Line tag name (note_reply_of id outcome) → NotesEvent old new tag name id e change.Unchanged
+  notes_open after behind memory grows = record {
+    text = text (note_reply_of id outcome);
+    takes = record {
+      style = same;
+      replies = note_reply_of id outcome ∷ [];
+      takes =
+          subst (λ (v : State). Takes old.style tag name (state_of old.core) (item.Step format.Line (step.Note id e)) v (note_reply_of id outcome ∷ []) (text (note_reply_of id outcome))) after
+          (takes_open old.style tag name format.Line format.Line printed (step.Note id e) (note_reply_of id outcome) (state_of old.core) u answered behind);
+      changes = sym (note-changes-nothing id outcome);
+      memory = memory;
+    };
+    opens = λ wrong. absurd (cc);
+    grows = grows;
+  }
+
+  -- the note, with a close behind it
+  pub notes_closed : (r : Reply) (c : Change) → old.style.closes ≡ true → Completes (step.Note id e) (note_reply_of id outcome) u id → IsAnswered u (step.Close id) r (state_of new.core) → c ≡ change_by r → c ≢ change.Opened
+      → new.gathered.bytes.items ≡ old.gathered.bytes.items ++ (labelled_reply format.Line tag name (note_reply_of id outcome) ++ labelled_reply format.Line tag name r) → NotesEvent old new tag name id e c
+  notes_closed r c on done closed is opens grows = record {
+    text = text (note_reply_of id outcome) ++ text r;
+    takes = record {
+      style = same;
+      replies = note_reply_of id outcome ∷ r ∷ [];
+      takes =
+          takes_closed old.style tag name format.Line format.Line printed (step.Note id e) (note_reply_of id outcome) (state_of old.core) u answered (state_of new.core) r
+          (behind_closed old.style.closes (step.Note id e) (note_reply_of id outcome) r u (state_of new.core) id on done closed);
+      changes = (refl, note-changes-nothing id outcome, is);
+      memory = λ off. closes_not_off old.style.closes on off;
+    };
+    opens = opens;
+    grows = grows;
+  }
+
+-- the name of a conversation, without its number
+pub name_back : (name : Option (Bor (List ℕ))) (id : ℕ) → session_name (named_id name id) ≡ bytes_of name
+name_back None id = refl
+name_back (Some n) id = refl
+
+-- ---- any item
+
+-- the note of a line's event, as the line's item
+pub carries_note : (old new : NamedMonitor) (label : LineLabel) (id : ℕ) (e : Event) (c : Change) → NotesEvent old.monitor new.monitor label.tag (session_name label.session) id e c
+    → ((name : List ℕ) → number_of new.names name ≡ after_change (number_of old.names) label.session c name) → CarriesOut old new label (item.Step format.Line (step.Note id e))
+carries_note old new label id e c h names = record {
+  style = h.takes.style;
+  replies = h.takes.replies;
+  more = h.text;
+  takes = h.takes.takes;
+  named = λ name. names name ∙ replies-change (number_of old.names) label.session h.takes.replies c h.takes.changes name;
+  memory = h.takes.memory;
+  grows = h.grows;
+}
 
 -- an item that a monitor took, with its names
-pub carries_item : (old new : NamedMonitor) (taken : LabelledMonitor) (label : LineLabel) (i : Item) (c : Change) → TakesItem old.monitor taken label.tag (session_name label.session) i c → taken.gathered ≡ old.monitor.gathered
+pub carries_item : (old new : NamedMonitor) (taken : LabelledMonitor) (label : LineLabel) (i : Item) (c : Change) → TakesItem old.monitor taken label.tag (session_name label.session) i taken.text.items c → taken.gathered ≡ old.monitor.gathered
     → new.monitor ≡ record taken { gathered = new.monitor.gathered } → new.monitor.gathered.bytes.items ≡ taken.gathered.bytes.items ++ taken.text.items
     → ((name : List ℕ) → number_of new.names name ≡ after_change (number_of old.names) label.session c name) → CarriesOut old new label i
 carries_item old new taken label i c t kept same grows names = record {
-  format = ap (λ (m : LabelledMonitor). m.format) same ∙ t.format;
+  style = ap (λ (m : LabelledMonitor). m.style) same ∙ t.style;
   replies = t.replies;
   more = taken.text.items;
-  takes = subst (λ (m : LabelledMonitor). Takes old.monitor.format label.tag (session_name label.session) (state_of old.monitor.core) i (state_of m.core) t.replies taken.text.items) (sym same) t.takes;
+  takes = subst (λ (m : LabelledMonitor). Takes old.monitor.style label.tag (session_name label.session) (state_of old.monitor.core) i (state_of m.core) t.replies taken.text.items) (sym same) t.takes;
   named = λ name. names name ∙ replies-change (number_of old.names) label.session t.replies c t.changes name;
+  memory = λ off. subst (λ (m : LabelledMonitor). GotMemory old.monitor.core m.core t.replies) (sym same) (t.memory off);
   grows = grows ∙ ap (λ (g : Gathered). g.bytes.items ++ taken.text.items) kept;
 }

@@ -2,7 +2,7 @@
 use Rattle.std.proofs.Common.{◌≡◌, ◌≢◌, ◌∙◌, ◌+◌, ◌<◌, inl, inr, ℕ, List, [], ◌∷◌, ◌++◌, Option, Some, None, take, length, Vec, Global, vec_len, eqb, false, refl, sym, ap, subst, arith}
 use Rattle.std.proofs.lemmas.Bool.{eqb-false}
 use Rattle.std.proofs.lemmas.List.{append-nil, length-take}
-use Rattle.scrib_core.specs.Held.{state_of}
+use Rattle.scrib_labelled.specs.Behind.{Ran, behind}
 use Rattle.scrib_script_reader.specs.declared.item.Item.{Item}
 use Rattle.scrib_script_reader.specs.declared.item.Item.TheVariants as item
 use Rattle.scrib_script_reader.specs.Scripts.{NoLf, lines, text_end, with_line}
@@ -14,7 +14,7 @@ use Rattle.scrib_labelled.specs.declared.labelled_run.LabelledRun.{LabelledRun}
 use Rattle.scrib_labelled.specs.declared.named_monitor.NamedMonitor.{NamedMonitor}
 use Rattle.scrib_labelled.specs.declared.put_text.PutText.{PutText}
 use Rattle.scrib_labelled.specs.LabelledLines.{LineLabel, line_limit}
-use Rattle.scrib_labelled.specs.LabelledRuns.{IsNumberIn, Runs}
+use Rattle.scrib_labelled.specs.LabelledRuns.{IsNumberIn}
 use Rattle.scrib_labelled.specs.LabelledScripts.{LabelledText, SpellsLabelled, all_items, goes_on}
 use Rattle.scrib_labelled.specs.Progress.{CarriesOut, EndsLast, EndsLastTextLine, EndsPlainLine, EndsText, HasLabel, HoldsUnended, IsCutOf, LastLineEnds, LineEnds, PutsText, kept_len}
 use Rattle.scrib_labelled.specs.TextProgress.{tag_in}
@@ -32,7 +32,7 @@ label_held (Some k) (Some t) h = (h.tag, h.session)
 -- there is none
 pub last_none : (old new : LabelledRun) → old.line.items ≡ [] → new.named ≡ old.named → new.text ≡ old.text → EndsLast old new
 last_none old new none named text = record {
-  format = ap (λ (n : NamedMonitor). n.monitor.format) named;
+  style = ap (λ (n : NamedMonitor). n.monitor.style) named;
   wrote = gathers_nothing old new named;
   ends = λ before part held no_lf is.
       let no_part : part ≡ [] = none_taken old.options before part (sym is ∙ none) in
@@ -91,7 +91,7 @@ last-moved old new line before part more l = record { after = l.after; given = l
 pub last_in_text : (old new : LabelledRun) (line : Vec ℕ Global) (text : PutText) (kept : List ℕ) → kept ≡ old.line.items → 0 < length kept → old.text ≡ Some text
     → EndsLastTextLine (record old { line = line; text = None }) new text kept → EndsLast old new
 last_in_text old new line text kept kept_is some was e = record {
-  format = e.format;
+  style = e.style;
   wrote = record { more = e.wrote.more; grows = e.wrote.grows };
   ends = λ before part held no_lf is.
       last-moved old new line before part e.wrote.more
@@ -101,7 +101,7 @@ last_in_text old new line text kept kept_is some was e = record {
 pub last_outside : (old new : LabelledRun) (line : Vec ℕ Global) (kept : List ℕ) → kept ≡ old.line.items → 0 < length kept → old.text ≡ None
     → EndsPlainLine (record old { line = line; text = None }) new kept → EndsLast old new
 last_outside old new line kept kept_is some was e = record {
-  format = e.same.format;
+  style = e.same.style;
   wrote = record { more = e.wrote.more; grows = e.wrote.grows };
   ends = λ before part held no_lf is.
       last-moved old new line before part e.wrote.more
@@ -111,7 +111,7 @@ last_outside old new line kept kept_is some was e = record {
 -- the last line ends its text
 pub last_puts : (old new : LabelledRun) (text : PutText) (kept : List ℕ) → old.text ≡ None → kept ≡ text_end → PutsText old new text → EndsLastTextLine old new text kept
 last_puts old new text kept none is_end p = record {
-  format = p.same.format;
+  style = p.same.style;
   wrote = record { more = p.carries.more; grows = p.carries.grows };
   ends = λ t part held no_lf some is.
       last_as old new (Some t) part p.carries.more no_lf some
@@ -121,7 +121,7 @@ last_puts old new text kept none is_end p = record {
 -- it is one more line of its text
 pub last_goes_on : (old new : LabelledRun) (text : PutText) (kept : List ℕ) → new.named ≡ old.named → new.text ≡ Some text → kept ≢ text_end → EndsLastTextLine old new text kept
 last_goes_on old new text kept named is other = record {
-  format = ap (λ (n : NamedMonitor). n.monitor.format) named;
+  style = ap (λ (n : NamedMonitor). n.monitor.style) named;
   wrote = gathers_nothing old new named;
   ends = λ t part held no_lf some kept_is.
       let after : LabelledText = record { text = with_line t.text part; label = t.label } in
@@ -151,18 +151,18 @@ text_none old new none named = record {
   wrote = gathers_nothing old new named;
   runs = λ after items out held r.
       let no_text : after ≡ None = no-label after (subst (λ (x : Option PutText). HasLabel x after) none held) in
-      subst (λ (x : Option LabelledText). Runs old.named.monitor.format (all_items x items) (number_of new.named.names) (state_of new.named.monitor.core) (out ++ [])) (sym no_text)
-      (subst (λ (is : List (LineLabel × Item)). Runs old.named.monitor.format is (number_of new.named.names) (state_of new.named.monitor.core) (out ++ [])) (append-nil items)
+      subst (λ (x : Option LabelledText). Ran old.named.monitor.style (all_items x items) (behind new.named) (out ++ [])) (sym no_text)
+      (subst (λ (is : List (LineLabel × Item)). Ran old.named.monitor.style is (behind new.named) (out ++ [])) (append-nil items)
       (line_same old new named items out r));
 }
 
 in-text-ends : (old new : NamedMonitor) (label : LineLabel) (text : PutText) → (c : CarriesOut old new label item.EndOfText) → label.tag ≡ tag_in text → label.session ≡ None
-    → (after : Option LabelledText) (items : List (LineLabel × Item)) (out : List ℕ) → HasLabel (Some text) after → Runs old.monitor.format items (number_of old.names) (state_of old.monitor.core) out
-    → Runs old.monitor.format (all_items after items) (number_of new.names) (state_of new.monitor.core) (out ++ c.more)
+    → (after : Option LabelledText) (items : List (LineLabel × Item)) (out : List ℕ) → HasLabel (Some text) after → Ran old.monitor.style items (behind old) out
+    → Ran old.monitor.style (all_items after items) (behind new) (out ++ c.more)
 in-text-ends old new label text c tag session None items out held r = absurd held
 in-text-ends old new label text c tag session (Some t) items out held r =
     let same : label ≡ t.label = ap (λ (x : Option (List ℕ)). record { tag = x; session = label.session }) (tag ∙ held.0) ∙ ap (λ (x : Option (List ℕ × ℕ)). record { tag = t.label.tag; session = x }) (session ∙ sym held.1) in
-    subst (λ (b : LineLabel). Runs old.monitor.format (items ++ (b, item.EndOfText) ∷ []) (number_of new.names) (state_of new.monitor.core) (out ++ c.more)) same
+    subst (λ (b : LineLabel). Ran old.monitor.style (items ++ (b, item.EndOfText) ∷ []) (behind new) (out ++ c.more)) same
     (ran old new label item.EndOfText c (subst (λ (x : Option (List ℕ × ℕ)). IsNumberIn (number_of old.names) x) (sym session) tt) items out r)
 
 pub text_ended : (old new : LabelledRun) (label : LineLabel) (text : PutText) → old.text ≡ Some text → label.tag ≡ tag_in text → label.session ≡ None → CarriesOut old.named new.named label item.EndOfText → EndsText old new

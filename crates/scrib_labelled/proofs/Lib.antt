@@ -1,10 +1,12 @@
 mod InputLemmas
 mod LastLineLemmas
 mod LineEndLemmas
+mod NameLemmas
 mod ExchangeLemmas
 mod LineLemmas
 mod ItemLemmas
 mod PieceLemmas
+mod QueryLemmas
 mod RunLemmas
 mod SplitLemmas
 mod ObjectLemmas

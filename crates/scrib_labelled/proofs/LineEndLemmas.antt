@@ -5,7 +5,8 @@ use Rattle.std.proofs.lemmas.List.{append-nil, append_assoc, length-take}
 use Rattle.scrib_core.specs.declared.format.Format.{Format}
 use Rattle.scrib_core.specs.declared.step.Step.{Step}
 use Rattle.scrib_core.specs.declared.step.Step.TheVariants.{Put}
-use Rattle.scrib_core.specs.Held.{state_of}
+use Rattle.scrib_labelled.specs.Behind.{Ran, behind}
+use Rattle.scrib_labelled.specs.CheckedCores.{state_of}
 use Rattle.scrib_script_reader.specs.declared.item.Item.{Item}
 use Rattle.scrib_script_reader.specs.declared.item.Item.TheVariants as item
 use Rattle.scrib_script_reader.specs.declared.line.Line.{Line}
@@ -22,12 +23,13 @@ use Rattle.scrib_labelled.specs.declared.line_reading.LineParts.{LineParts}
 use Rattle.scrib_labelled.specs.declared.named_monitor.NamedMonitor.{NamedMonitor}
 use Rattle.scrib_labelled.specs.declared.put_text.PutText.{PutText}
 use Rattle.scrib_labelled.specs.LabelledLines.{IsPutObject, LineLabel, StandsFor, line_limit}
-use Rattle.scrib_labelled.specs.LabelledRuns.{IsNumberIn, Runs, takes}
+use Rattle.scrib_labelled.specs.LabelledRuns.{IsNumberIn, takes}
 use Rattle.scrib_labelled.specs.LabelledScripts.{LabelledText, SaysAs, SpellsLabelled, begins, goes_on, is_bad, makes, puts, puts_object, skips}
 use Rattle.scrib_labelled.specs.NamedLines.{IsNumbersOf, ReadsAs, ReadsRest, label_of}
 use Rattle.scrib_labelled.specs.Progress.{CarriesOut, Gathers, IsCutOf, EndsLine, EndsMeaning, EndsPlainLine, EndsTextLine, HoldsUnended, IsSameRun, LineEnds, PutsText, kept_len}
 use Rattle.scrib_labelled.specs.ObjectLines.{EndsObjectLine, SaysObject}
 use Rattle.scrib_objects.specs.declared.object_reader.ObjectReader.{ObjectReader}
+use Rattle.scrib_labelled.specs.declared.object_exchange.ObjectText.{ObjectText}
 use Rattle.scrib_labelled.specs.TextProgress.{HoldsMore, HoldsText, tag_in}
 use Rattle.scrib_labelled.proofs.LineLemmas.{put_no_session}
 
@@ -59,12 +61,12 @@ number-in names None h = tt
 number-in names (Some s) h = number-of-name names s h.0
 
 -- nothing was carried out
-pub line_same : (old new : LabelledRun) → new.named ≡ old.named → (items : List (LineLabel × Item)) (out : List ℕ) → Runs old.named.monitor.format items (number_of old.named.names) (state_of old.named.monitor.core) out
-    → Runs old.named.monitor.format (items ++ []) (number_of new.named.names) (state_of new.named.monitor.core) (out ++ [])
+pub line_same : (old new : LabelledRun) → new.named ≡ old.named → (items : List (LineLabel × Item)) (out : List ℕ) → Ran old.named.monitor.style items (behind old.named) out
+    → Ran old.named.monitor.style (items ++ []) (behind new.named) (out ++ [])
 line_same old new named items out r =
-    subst (λ (n : NamedMonitor). Runs old.named.monitor.format (items ++ []) (number_of n.names) (state_of n.monitor.core) (out ++ [])) (sym named)
-    (subst (λ (is : List (LineLabel × Item)). Runs old.named.monitor.format is (number_of old.named.names) (state_of old.named.monitor.core) (out ++ [])) (sym (append-nil items))
-    (subst (λ (t : List ℕ). Runs old.named.monitor.format items (number_of old.named.names) (state_of old.named.monitor.core) t) (sym (append-nil out)) r))
+    subst (λ (n : NamedMonitor). Ran old.named.monitor.style (items ++ []) (behind n) (out ++ [])) (sym named)
+    (subst (λ (is : List (LineLabel × Item)). Ran old.named.monitor.style is (behind old.named) (out ++ [])) (sym (append-nil items))
+    (subst (λ (t : List ℕ). Ran old.named.monitor.style items (behind old.named) t) (sym (append-nil out)) r))
 
 abbrev pub gathers_nothing : (old new : LabelledRun) → new.named ≡ old.named → Gathers old new
 gathers_nothing old new named = record {
@@ -92,10 +94,10 @@ line_skipped old new l label named text says = record {
 
 -- what an item that is carried out adds
 pub ran : (old new : NamedMonitor) (label : LineLabel) (i : Item) → (c : CarriesOut old new label i) → IsNumberIn (number_of old.names) label.session
-    → (items : List (LineLabel × Item)) (out : List ℕ) → Runs old.monitor.format items (number_of old.names) (state_of old.monitor.core) out
-    → Runs old.monitor.format (items ++ (label, i) ∷ []) (number_of new.names) (state_of new.monitor.core) (out ++ c.more)
+    → (items : List (LineLabel × Item)) (out : List ℕ) → Ran old.monitor.style items (behind old) out
+    → Ran old.monitor.style (items ++ (label, i) ∷ []) (behind new) (out ++ c.more)
 ran old new label i c number items out r =
-    takes items (number_of old.names) (number_of new.names) (state_of old.monitor.core) (state_of new.monitor.core) out c.more label i c.replies r number c.takes c.named
+    (takes items (number_of old.names) (number_of new.names) (state_of old.monitor.core) (state_of new.monitor.core) out c.more label i c.replies r.0 number c.takes c.named, λ off none. (r.1 off (c.memory off none).0, (c.memory off none).1))
 
 -- a line with a step
 pub line_makes : (old new : LabelledRun) (l : List ℕ) (label : LineLabel) (f : Format) (s : Step) → new.text ≡ None → SaysAs old.options (bare l) label (line.Step f s)
@@ -176,15 +178,15 @@ line_puts old new l text t label is h tag session ended c =
       text = subst (λ (x : Option PutText). HoldsUnended x None) (sym is) tt;
       spells = λ whole items s. puts whole (old.count.lines + 1) items l t s ended;
       runs = λ items out r.
-          subst (λ (b : LineLabel). Runs old.named.monitor.format (items ++ (b, put_of t) ∷ []) (number_of new.named.names) (state_of new.named.monitor.core) (out ++ c.more)) same
-          (subst (λ (i : Item). Runs old.named.monitor.format (items ++ (label, i) ∷ []) (number_of new.named.names) (state_of new.named.monitor.core) (out ++ c.more)) put
+          subst (λ (b : LineLabel). Ran old.named.monitor.style (items ++ (b, put_of t) ∷ []) (behind new.named) (out ++ c.more)) same
+          (subst (λ (i : Item). Ran old.named.monitor.style (items ++ (label, i) ∷ []) (behind new.named) (out ++ c.more)) put
           (ran old.named new.named label (item.Step text.format (Put text.bytes.items)) c (subst (λ (x : Option (List ℕ × ℕ)). IsNumberIn (number_of old.named.names) x) (sym session) tt) items out r));
     }
 
 -- ---- any line
 
 same-but-text : (old new : LabelledRun) → IsSameRun (record old { text = None }) new → IsSameRun old new
-same-but-text old new s = record { options = s.options; format = s.format; line = s.line; count = s.count }
+same-but-text old new s = record { options = s.options; style = s.style; line = s.line; count = s.count }
 
 ends-but-text : (old new : LabelledRun) (before : Option LabelledText) (line more : List ℕ) → LineEnds (record old { text = None }) new before line more → LineEnds old new before line more
 ends-but-text old new before line more l = record { after = l.after; given = l.given; text = l.text; spells = l.spells; runs = l.runs }
@@ -219,43 +221,51 @@ ends_outside old new kept cut was cut_is e = record {
 -- ---- a line that is read quickly, or not
 
 -- the caches of the readers do not matter
-ends-but-readers : (old new : LabelledRun) (r : Reader) (objects : ObjectReader) (plain : Vec ℕ Global) (l more : List ℕ) → LineEnds (record old { reader = r; objects = objects; plain = plain }) new None l more → LineEnds old new None l more
-ends-but-readers old new r objects plain l more ended = record { after = ended.after; given = ended.given; text = ended.text; spells = ended.spells; runs = ended.runs }
+ends-but-readers : (old new : LabelledRun) (r : Reader) (objects : ObjectReader) (text : ObjectText) (plain : Vec ℕ Global) (l more : List ℕ) → LineEnds (record old { reader = r; objects = objects; object_text = text; plain = plain }) new None l more → LineEnds old new None l more
+ends-but-readers old new r objects text plain l more ended = record { after = ended.after; given = ended.given; text = ended.text; spells = ended.spells; runs = ended.runs }
 
-same-but-readers : (old new : LabelledRun) (r : Reader) (objects : ObjectReader) (plain : Vec ℕ Global) → IsSameRun (record old { reader = r; objects = objects; plain = plain }) new → IsSameRun old new
-same-but-readers old new r objects plain s = record { options = s.options; format = s.format; line = s.line; count = s.count }
+same-but-readers : (old new : LabelledRun) (r : Reader) (objects : ObjectReader) (text : ObjectText) (plain : Vec ℕ Global) → IsSameRun (record old { reader = r; objects = objects; object_text = text; plain = plain }) new → IsSameRun old new
+same-but-readers old new r objects text plain s = record { options = s.options; style = s.style; line = s.line; count = s.count }
 
 pub ends_plain_reader : (old new : LabelledRun) (r : Reader) (cut : List ℕ) → EndsPlainLine (record old { reader = r }) new cut → EndsPlainLine old new cut
 ends_plain_reader old new r cut e = record {
-  same = same-but-readers old new r old.objects old.plain e.same;
+  same = same-but-readers old new r old.objects old.object_text old.plain e.same;
   wrote = record { more = e.wrote.more; grows = e.wrote.grows };
-  ends = λ l is. ends-but-readers old new r old.objects old.plain l e.wrote.more (e.ends l is);
+  ends = λ l is. ends-but-readers old new r old.objects old.object_text old.plain l e.wrote.more (e.ends l is);
+}
+
+-- the same where an object was not read quickly
+pub ends_plain_text : (old new : LabelledRun) (r : Reader) (text : ObjectText) (cut : List ℕ) → EndsPlainLine (record old { reader = r; object_text = text }) new cut → EndsPlainLine old new cut
+ends_plain_text old new r text cut e = record {
+  same = same-but-readers old new r old.objects text old.plain e.same;
+  wrote = record { more = e.wrote.more; grows = e.wrote.grows };
+  ends = λ l is. ends-but-readers old new r old.objects text old.plain l e.wrote.more (e.ends l is);
 }
 
 -- what a line means was carried out
 pub ends_plain_meaning : (old new : LabelledRun) (r : Reader) (objects : ObjectReader) (plain : Vec ℕ Global) (cut : List ℕ) (label : LineLabel) (meaning : Line)
     → ((l : List ℕ) → IsCutOf old.options cut l → SaysAs old.options (bare l) label meaning) → EndsMeaning (record old { reader = r; objects = objects; plain = plain }) new label meaning → EndsPlainLine old new cut
 ends_plain_meaning old new r objects plain cut label meaning says e = record {
-  same = same-but-readers old new r objects plain e.same;
+  same = same-but-readers old new r objects old.object_text plain e.same;
   wrote = record { more = e.wrote.more; grows = e.wrote.grows };
-  ends = λ l is. ends-but-readers old new r objects plain l e.wrote.more (e.ends l (says l is));
+  ends = λ l is. ends-but-readers old new r objects old.object_text plain l e.wrote.more (e.ends l (says l is));
 }
 
 -- the line of an object was carried out
 pub ends_plain_object : (old new : LabelledRun) (r : Reader) (objects : ObjectReader) (plain : Vec ℕ Global) (cut : List ℕ) (tag : Option (List ℕ)) (spelled : List ℕ)
     → ((l : List ℕ) → IsCutOf old.options cut l → SaysObject old.options tag spelled l) → EndsObjectLine (record old { reader = r; objects = objects; plain = plain }) new tag spelled → EndsPlainLine old new cut
 ends_plain_object old new r objects plain cut tag spelled says e = record {
-  same = same-but-readers old new r objects plain e.same;
+  same = same-but-readers old new r objects old.object_text plain e.same;
   wrote = record { more = e.wrote.more; grows = e.wrote.grows };
-  ends = λ l is. ends-but-readers old new r objects plain l e.wrote.more (e.ends l (says l is));
+  ends = λ l is. ends-but-readers old new r objects old.object_text plain l e.wrote.more (e.ends l (says l is));
 }
 
 pub ends_object_meaning : (old new : LabelledRun) (r : Reader) (plain : Vec ℕ Global) (tag : Option (List ℕ)) (spelled : List ℕ) (label : LineLabel) (meaning : Line) (names : SessionNames)
     → label.tag ≡ tag → ReadsRest names old.options.names spelled label.session meaning → EndsMeaning (record old { reader = r; plain = plain }) new label meaning → EndsObjectLine old new tag spelled
 ends_object_meaning old new r plain tag spelled label meaning names t rest e = record {
-  same = same-but-readers old new r old.objects plain e.same;
+  same = same-but-readers old new r old.objects old.object_text plain e.same;
   wrote = record { more = e.wrote.more; grows = e.wrote.grows };
-  ends = λ l says. ends-but-readers old new r old.objects plain l e.wrote.more (e.ends l (says label rest.plain meaning t rest.numbered rest.says));
+  ends = λ l says. ends-but-readers old new r old.objects old.object_text plain l e.wrote.more (e.ends l (says label rest.plain meaning t rest.numbered rest.says));
 }
 
 -- an object put its text
@@ -271,8 +281,8 @@ line_puts_object old new l bytes text none p kept is =
       text = subst (λ (x : Option PutText). HoldsUnended x None) (sym (p.rest ∙ none)) tt;
       spells = λ whole items s. puts_object whole (old.count.lines + 1) items l label text.format bytes s is;
       runs = λ items out r.
-          subst (λ (b : LineLabel). Runs old.named.monitor.format (items ++ (b, item.Step text.format (Put (take 1048577 bytes))) ∷ []) (number_of new.named.names) (state_of new.named.monitor.core) (out ++ p.carries.more)) same
-          (subst (λ (i : Item). Runs old.named.monitor.format (items ++ (p.label, i) ∷ []) (number_of new.named.names) (state_of new.named.monitor.core) (out ++ p.carries.more)) put
+          subst (λ (b : LineLabel). Ran old.named.monitor.style (items ++ (b, item.Step text.format (Put (take 1048577 bytes))) ∷ []) (behind new.named) (out ++ p.carries.more)) same
+          (subst (λ (i : Item). Ran old.named.monitor.style (items ++ (p.label, i) ∷ []) (behind new.named) (out ++ p.carries.more)) put
           (ran old.named new.named p.label (item.Step text.format (Put text.bytes.items)) p.carries (subst (λ (x : Option (List ℕ × ℕ)). IsNumberIn (number_of old.named.names) x) (sym p.session) tt) items out r));
     }
 
@@ -280,9 +290,9 @@ pub ends_plain_put : (old new : LabelledRun) (objects : ObjectReader) (cut bytes
     → ((l : List ℕ) → IsCutOf old.options cut l → IsPutObject old.options (bare l) (record { tag = tag_in text; session = None }) text.format bytes)
     → PutsText (record old { objects = objects }) new text → EndsPlainLine old new cut
 ends_plain_put old new objects cut bytes text none kept says p = record {
-  same = same-but-readers old new old.reader objects old.plain p.same;
+  same = same-but-readers old new old.reader objects old.object_text old.plain p.same;
   wrote = record { more = p.carries.more; grows = p.carries.grows };
-  ends = λ l is. ends-but-readers old new old.reader objects old.plain l p.carries.more (line_puts_object (record old { objects = objects }) new l bytes text none p kept (says l is));
+  ends = λ l is. ends-but-readers old new old.reader objects old.object_text old.plain l p.carries.more (line_puts_object (record old { objects = objects }) new l bytes text none p kept (says l is));
 }
 
 pub is_none_only : (o : Option PutText) (b : Bool) → is_some o ≡ not b → b ≡ true → o ≡ None

@@ -1,15 +1,13 @@
 -- What lines that are objects stand for.
-use Rattle.std.proofs.Common.{◌≡◌, ◌∙◌, ◌≤◌, ◌<◌, inl, inr, ℕ, Bool, true, List, [], ◌∷◌, Option, Some, None, option_map, cond, length, refl, sym, ap, subst, arith}
+use Rattle.std.proofs.Common.{◌≡◌, ◌≤◌, inl, inr, ℕ, Bool, true, List, [], ◌∷◌, Option, Some, None, option_map, cond, length, refl, sym, ap, subst, arith}
 use Rattle.scrib_core.specs.declared.format.Format.{Format}
-use Rattle.scrib_script_reader.specs.declared.line.Line.{Line}
 use Rattle.scrib_script_reader.specs.declared.line.Line.TheVariants as line
-use Rattle.scrib_script_reader.specs.Says.{Says}
 use Rattle.scrib_script_reader.specs.Scripts.{bare}
 use Rattle.scrib_objects.specs.Objects.{IsObjectLine, Spelled, as_bad, as_line, as_put, shown, shown_body}
 use Rattle.scrib_objects.specs.declared.object_line.ObjectBody.{ObjectBody}
 use Rattle.scrib_objects.specs.declared.object_line.ObjectLine.{ObjectLine}
 use Rattle.scrib_labelled.specs.declared.label_options.LabelOptions.{LabelOptions}
-use Rattle.scrib_labelled.specs.LabelledLines.{IsLineOf, IsObjectBody, IsPutObject, LineLabel, line_limit, no_label, object_options}
+use Rattle.scrib_labelled.specs.LabelledLines.{IsLineOf, IsNumbered, IsObjectBody, IsPutObject, LineLabel, StandsFor, line_limit, no_label, object_options}
 use Rattle.scrib_labelled.specs.LabelledScripts.{SaysAs}
 use Rattle.scrib_labelled.specs.ObjectLines.{IsObjectRead, SaysObject}
 use Rattle.scrib_labelled.specs.Progress.{IsCutOf}
@@ -79,3 +77,9 @@ says_put_object o cut tag f text on read l is =
     let same = whole-cut o l cut on is found.0 in
     let short : length (bare l) ≤ 8388608 = subst (λ (t : List ℕ). length t ≤ 8388608) same found.0 in
     (omega (arith, short, limit-of-objects o on), on, refl, subst (λ (t : List ℕ). IsObjectLine (object_options o) t (Some (record { tag = tag; body = as_put f text }))) same found.1)
+
+-- an exchange that is read of an object
+pub stands_object : (o : LabelOptions) (line : List ℕ) (tag : Option (List ℕ)) (bytes : List ℕ) (label : LineLabel) (plain : List ℕ) → o.objects ≡ true → length line ≤ 8388608
+    → IsObjectLine (object_options o) line (Some (record { tag = tag; body = as_line bytes })) → label.tag ≡ tag → IsNumbered o.names bytes label.session plain → StandsFor o line label plain
+stands_object o line tag bytes label plain on short is t numbered =
+    inr (object-says o line (record { tag = tag; body = as_line bytes }) label plain on short is t numbered)

@@ -5,9 +5,10 @@ use Rattle.std.specs.Io.KnownBytes.{Appends}
 use Rattle.std.proofs.lemmas.Bool.{eqb-true}
 use Rattle.std.proofs.lemmas.List.{append_assoc, append-nil}
 use Rattle.scrib_core.specs.Answers.{State, initial}
-use Rattle.scrib_core.specs.Held.{state_of}
+use Rattle.scrib_labelled.specs.Behind.{Behind, Ran, RanWhole, behind}
+use Rattle.scrib_labelled.specs.CheckedCores.{state_of}
 use Rattle.scrib_labelled.specs.declared.label_options.LabelOptions.{LabelOptions}
-use Rattle.scrib_core.specs.declared.format.Format.{Format}
+use Rattle.scrib_labelled.specs.declared.label_options.LabelledStyle.{LabelledStyle}
 use Rattle.scrib_script_reader.specs.Scripts.{lines}
 use Rattle.scrib_script_reader.specs.declared.limits.Limits.{Limits}
 use Rattle.scrib_script_io.specs.Writes.{AppendsPart}
@@ -17,14 +18,14 @@ use Rattle.scrib_cli.specs.Progress.{WritesFront}
 use Rattle.scrib_labels.specs.Naming.{number_of}
 use Rattle.scrib_labelled.specs.declared.labelled_run.LabelledRun.{LabelledRun}
 use Rattle.scrib_labelled.specs.declared.put_text.PutText.{PutText}
-use Rattle.scrib_labelled.specs.LabelledRuns.{IsLabelledOutput, IsLabelledPart, Runs, nothing}
+use Rattle.scrib_labelled.specs.LabelledRuns.{IsLabelledOutput, IsLabelledPart, nothing}
 use Rattle.scrib_labelled.specs.LabelledScripts.{SpellsLabelled, all_items, no_line}
-use Rattle.scrib_labelled.specs.Progress.{EndIsCut, EndSucceeds, EndsLast, EndsText, GatherFails, GathersBytes, GathersFront, IsAt, HoldsUnended, IsNewLabelled, PieceFails, RunAdvances, Style, Writes, WritesFirst, kept_len}
+use Rattle.scrib_labelled.specs.Progress.{EndIsCut, EndSucceeds, EndsLast, EndsText, GatherFails, GathersBytes, GathersFront, IsAt, HoldsUnended, IsNewLabelled, PieceFails, RunAdvances, Writes, WritesFirst, kept_len}
 use Rattle.scrib_script_reader.proofs.Bytes.{take_of_none}
 use Rattle.scrib_labelled.proofs.SplitLemmas.{split_lines, split_none}
 
 -- the output of a run so far is a beginning of what its script gives
-pub part_so_far : (o : Style) (m : Limits) (run : LabelledRun) (seen out : List ℕ) → IsAt o m run seen out → (more : List ℕ) → IsLabelledPart o.labels o.format (seen ++ more) out
+pub part_so_far : (o : LabelledStyle) (m : Limits) (run : LabelledRun) (seen out : List ℕ) → IsAt o m run seen out → (more : List ℕ) → IsLabelledPart o (seen ++ more) out
 part_so_far o m run seen out at more = record {
   first = at.whole;
   later = lines (at.part ++ more);
@@ -38,12 +39,12 @@ part_so_far o m run seen out at more = record {
   names = number_of run.named.names;
   after = state_of run.named.monitor.core;
   output = out;
-  runs = at.runs;
+  runs = at.runs.0;
   rest = [];
   begins = sym (append-nil out);
 }
 
-pub part_less : (o : Style) (input whole part rest : List ℕ) → whole ≡ part ++ rest → IsLabelledPart o.labels o.format input whole → IsLabelledPart o.labels o.format input part
+pub part_less : (o : LabelledStyle) (input whole part rest : List ℕ) → whole ≡ part ++ rest → IsLabelledPart o input whole → IsLabelledPart o input part
 part_less o input whole part rest is p = record {
   first = p.first;
   later = p.later;
@@ -63,7 +64,7 @@ part_less o input whole part rest is p = record {
 }
 
 -- all of an output
-pub part_whole : (o : Style) (input output : List ℕ) → IsLabelledOutput o.labels o.format input output → IsLabelledPart o.labels o.format input output
+pub part_whole : (o : LabelledStyle) (input output : List ℕ) → IsLabelledOutput o input output → IsLabelledPart o input output
 part_whole o input output h = record {
   first = lines input;
   later = [];
@@ -82,8 +83,12 @@ part_whole o input output h = record {
   begins = sym (append-nil output);
 }
 
+-- what a whole run gave is an output
+pub output_of : (o : LabelledStyle) (input : List ℕ) (b : Behind) (output : List ℕ) → RanWhole o input b output → IsLabelledOutput o input output
+output_of o input b output h = (h.0, h.1, h.2, b.names, b.state, h.3, h.4.0)
+
 -- nothing
-pub part_nothing : (o : Style) (input : List ℕ) → IsLabelledPart o.labels o.format input []
+pub part_nothing : (o : LabelledStyle) (input : List ℕ) → IsLabelledPart o input []
 part_nothing o input = record {
   first = [];
   later = lines input;
@@ -103,12 +108,12 @@ part_nothing o input = record {
 }
 
 -- a run before its first byte
-pub is_new : (o : Style) (m : Limits) (run : LabelledRun) → run.options ≡ o.labels → run.named.monitor.format ≡ o.format → run.count.limits ≡ m → run.count.lines ≡ 0 → run.count.bytes ≡ 0 → run.line.items ≡ [] → run.text ≡ None
+pub is_new : (o : LabelledStyle) (m : Limits) (run : LabelledRun) → run.options ≡ o.labels → run.named.monitor.style ≡ o → run.count.limits ≡ m → run.count.lines ≡ 0 → run.count.bytes ≡ 0 → run.line.items ≡ [] → run.text ≡ None
     → ((name : List ℕ) → number_of run.named.names name ≡ None) → state_of run.named.monitor.core ≡ initial → IsNewLabelled o m run
-is_new o m run options format limits lines bytes line text names state = record {
+is_new o m run options style limits lines bytes line text names state = record {
   start = record {
     options = options;
-    format = format;
+    style = style;
     limits = limits;
     whole = [];
     part = [];
@@ -118,7 +123,9 @@ is_new o m run options format limits lines bytes line text names state = record 
     spells = subst (λ (n : ℕ). SpellsLabelled o.labels [] (n + 1) None []) (sym lines) no_line;
     text = subst (λ (t : Option PutText). HoldsUnended t None) (sym text) tt;
     kept = line ∙ sym (take_of_none (kept_len run.options None));
-    runs = subst (λ (w : State). Runs o.format [] (number_of run.named.names) w []) (sym state) (nothing (number_of run.named.names) names);
+    runs =
+        subst (λ (w : State). Ran o [] (record { names = number_of run.named.names; state = w; lacked = run.named.monitor.core.lacked }) []) (sym state)
+        (nothing (number_of run.named.names) names, λ off none. tt);
     bytes = bytes;
     lines = lines;
     within = (omega arith, omega arith);
@@ -130,10 +137,10 @@ is_new o m run options format limits lines bytes line text names state = record 
 abbrev pub with_gathered : LabelledRun → Gathered → LabelledRun
 with_gathered run g = record run { named = record run.named { monitor = record run.named.monitor { gathered = g } } }
 
-pub progress_moved : (o : Style) (m : Limits) (run : LabelledRun) (g : Gathered) (seen out : List ℕ) → IsAt o m run seen out → IsAt o m (with_gathered run g) seen out
+pub progress_moved : (o : LabelledStyle) (m : Limits) (run : LabelledRun) (g : Gathered) (seen out : List ℕ) → IsAt o m run seen out → IsAt o m (with_gathered run g) seen out
 progress_moved o m run g seen out at = record {
   options = at.options;
-  format = at.format;
+  style = at.style;
   limits = at.limits;
   whole = at.whole;
   part = at.part;
@@ -161,7 +168,7 @@ fails_unread old new piece same = record {
   out = [];
   grows = same ∙ sym (append-nil old.named.monitor.gathered.bytes.items);
   fails = record {
-    so = λ o m seen before c more. subst (λ (l : List ℕ). IsLabelledPart o.labels o.format (seen ++ (piece ++ more)) l) (sym (append-nil before)) (part_so_far o m old seen before c (piece ++ more));
+    so = λ o m seen before c more. subst (λ (l : List ℕ). IsLabelledPart o (seen ++ (piece ++ more)) l) (sym (append-nil before)) (part_so_far o m old seen before c (piece ++ more));
   };
 }
 
@@ -242,8 +249,8 @@ consumed_fails old mid new piece rest was now k f =
       record {
         so = λ o m seen before c more.
             let d = f.fails.so o m (seen ++ k.done) (before ++ first) (k.went.goes o m seen before c) more in
-            subst (λ (u : List ℕ). IsLabelledPart o.labels o.format u (before ++ all)) (ahead seen k.done rest more piece k.is)
-            (subst (λ (l : List ℕ). IsLabelledPart o.labels o.format ((seen ++ k.done) ++ (rest ++ more)) l) (both all first f.out before is) d);
+            subst (λ (u : List ℕ). IsLabelledPart o u (before ++ all)) (ahead seen k.done rest more piece k.is)
+            (subst (λ (l : List ℕ). IsLabelledPart o ((seen ++ k.done) ++ (rest ++ more)) l) (both all first f.out before is) d);
       },
       k.wrote,
     )
@@ -253,7 +260,7 @@ consumed_ends : (old new : LabelledRun) (piece rest : List ℕ) (was now : Optio
 consumed_ends old new piece rest was now k = record {
   so = λ o m seen before c more.
       let all = k.out ++ new.named.monitor.gathered.bytes.items in
-      subst (λ (u : List ℕ). IsLabelledPart o.labels o.format u (before ++ all)) (ahead seen k.done rest more piece k.is)
+      subst (λ (u : List ℕ). IsLabelledPart o u (before ++ all)) (ahead seen k.done rest more piece k.is)
       (part_so_far o m new (seen ++ k.done) (before ++ all) (k.went.goes o m seen before c) (rest ++ more));
 }
 
@@ -261,7 +268,7 @@ consumed_ends old new piece rest was now k = record {
 pub advances_fails : (old new : LabelledRun) (piece out : List ℕ) → RunAdvances old new piece out → PieceFails old piece out
 advances_fails old new piece out went = record {
   so = λ o m seen before c more.
-      subst (λ (u : List ℕ). IsLabelledPart o.labels o.format u (before ++ out)) (append_assoc seen piece more)
+      subst (λ (u : List ℕ). IsLabelledPart o u (before ++ out)) (append_assoc seen piece more)
       (part_so_far o m new (seen ++ piece) (before ++ out) (went.goes o m seen before c) more);
 }
 
@@ -330,15 +337,15 @@ end_cut old whole was now fails part = (
 -- ---- the end of the script
 
 -- the whole script was carried out
-pub script_ended : (old : LabelledRun) (g : Gathered) (mid new : LabelledRun) → g.bytes.items ≡ [] → EndsLast (with_gathered old g) mid → EndsText mid new → EndSucceeds old new.named.monitor.gathered.bytes.items
+pub script_ended : (old : LabelledRun) (g : Gathered) (mid new : LabelledRun) → g.bytes.items ≡ [] → EndsLast (with_gathered old g) mid → EndsText mid new → EndSucceeds old (behind new.named) new.named.monitor.gathered.bytes.items
 script_ended old g mid new empty last text = record {
   so = λ o m seen before at.
       let line = last.ends at.unended at.part at.text at.split.no_lf at.kept in
       let spelled = line.spells at.whole at.items (subst (λ (l : LabelOptions). SpellsLabelled l at.whole (old.count.lines + 1) at.unended at.items) (sym at.options) at.spells) in
-      let here = subst (λ (f : Format). Runs f at.items (number_of old.named.names) (state_of old.named.monitor.core) before) (sym at.format) at.runs in
+      let here = subst (λ (f : LabelledStyle). Ran f at.items (behind old.named) before) (sym at.style) at.runs in
       let ran = line.runs at.items before here in
       let ended = text.runs line.after (at.items ++ line.given) (before ++ last.wrote.more) line.text
-      (subst (λ (f : Format). Runs f (at.items ++ line.given) (number_of mid.named.names) (state_of mid.named.monitor.core) (before ++ last.wrote.more)) (sym last.format) ran) in
+      (subst (λ (f : LabelledStyle). Ran f (at.items ++ line.given) (behind mid.named) (before ++ last.wrote.more)) (sym last.style) ran) in
       let all : new.named.monitor.gathered.bytes.items ≡ last.wrote.more ++ text.wrote.more =
       text.wrote.grows ∙ ap (λ (l : List ℕ). l ++ text.wrote.more) (last.wrote.grows ∙ ap (λ (l : List ℕ). l ++ last.wrote.more) empty) in
       let out : (before ++ last.wrote.more) ++ text.wrote.more ≡ before ++ new.named.monitor.gathered.bytes.items =
@@ -347,12 +354,10 @@ script_ended old g mid new empty last text = record {
           spelled.0,
           line.after,
           at.items ++ line.given,
-          number_of new.named.names,
-          state_of new.named.monitor.core,
           subst (λ (l : LabelOptions). SpellsLabelled l (lines seen) spelled.0 line.after (at.items ++ line.given)) at.options
               (subst (λ (ls : List (List ℕ)). SpellsLabelled old.options ls spelled.0 line.after (at.items ++ line.given)) (sym (split_lines seen at.whole at.part at.split)) spelled.1),
-          subst (λ (f : Format). Runs f (all_items line.after (at.items ++ line.given)) (number_of new.named.names) (state_of new.named.monitor.core) (before ++ new.named.monitor.gathered.bytes.items)) (last.format ∙ at.format)
-              (subst (λ (l : List ℕ). Runs mid.named.monitor.format (all_items line.after (at.items ++ line.given)) (number_of new.named.names) (state_of new.named.monitor.core) l) out ended),
+          subst (λ (f : LabelledStyle). Ran f (all_items line.after (at.items ++ line.given)) (behind new.named) (before ++ new.named.monitor.gathered.bytes.items)) (last.style ∙ at.style)
+              (subst (λ (l : List ℕ). Ran mid.named.monitor.style (all_items line.after (at.items ++ line.given)) (behind new.named) l) out ended),
         ),
         at.within,
       );
@@ -363,8 +368,8 @@ pub end_unread : (old : LabelledRun) (gathered : List ℕ) → gathered ≡ [] �
 end_unread old gathered none = record {
   so = λ o m seen before at.
       let same : before ≡ before ++ gathered = sym (append-nil before) ∙ ap (λ (l : List ℕ). before ++ l) (sym none) in
-      subst (λ (l : List ℕ). IsLabelledPart o.labels o.format l (before ++ gathered)) (append-nil seen)
-      (subst (λ (l : List ℕ). IsLabelledPart o.labels o.format (seen ++ []) l) same (part_so_far o m old seen before at []));
+      subst (λ (l : List ℕ). IsLabelledPart o l (before ++ gathered)) (append-nil seen)
+      (subst (λ (l : List ℕ). IsLabelledPart o (seen ++ []) l) same (part_so_far o m old seen before at []));
 }
 
 -- the end of a text failed behind the last line
@@ -373,7 +378,7 @@ end_text_fails old g mid gathered empty last is = record {
   so = λ o m seen before at.
       let line = last.ends at.unended at.part at.text at.split.no_lf at.kept in
       let spelled = line.spells at.whole at.items (subst (λ (l : LabelOptions). SpellsLabelled l at.whole (old.count.lines + 1) at.unended at.items) (sym at.options) at.spells) in
-      let here = subst (λ (f : Format). Runs f at.items (number_of old.named.names) (state_of old.named.monitor.core) before) (sym at.format) at.runs in
+      let here = subst (λ (f : LabelledStyle). Ran f at.items (behind old.named) before) (sym at.style) at.runs in
       let ran = line.runs at.items before here in
       let all : gathered ≡ last.wrote.more = is ∙ last.wrote.grows ∙ ap (λ (l : List ℕ). l ++ last.wrote.more) empty in (
       record {
@@ -391,7 +396,7 @@ end_text_fails old g mid gathered empty last is = record {
         names = number_of mid.named.names;
         after = state_of mid.named.monitor.core;
         output = before ++ last.wrote.more;
-        runs = subst (λ (f : Format). Runs f (at.items ++ line.given) (number_of mid.named.names) (state_of mid.named.monitor.core) (before ++ last.wrote.more)) at.format ran;
+        runs = (subst (λ (f : LabelledStyle). Ran f (at.items ++ line.given) (behind mid.named) (before ++ last.wrote.more)) at.style ran).0;
         rest = [];
         begins = ap (λ (l : List ℕ). before ++ l) (sym all) ∙ sym (append-nil (before ++ gathered));
       }
@@ -409,10 +414,12 @@ taken_cut (Ok x) old new piece gathered was now end went failed part =
 taken_cut (Err e) old new piece gathered was now end went failed part = piece_cut old piece (failed.0 ++ gathered) was end failed.1 (part_behind failed.0 gathered was now end failed.2 part)
 
 -- what a whole run gave is also a beginning
-whole_part : (old : LabelledRun) (out : List ℕ) → EndSucceeds old out → EndIsCut old out
-whole_part old out s = record { so = λ o m seen before at. part_whole o seen (before ++ out) (s.so o m seen before at).0 }
+whole_part : (old : LabelledRun) (b : Behind) (out : List ℕ) → EndSucceeds old b out → EndIsCut old out
+whole_part old b out s = record {
+  so = λ o m seen before at. part_whole o seen (before ++ out) (output_of o seen b (before ++ out) (s.so o m seen before at).0);
+}
 
-pub ended_cut : {T E : Type 0} (r : Result T E) (old : LabelledRun) (whole : List ℕ) (was now : Option (List ℕ)) → OnOk r (EndSucceeds old whole) → OnErr r (EndIsCut old whole)
+pub ended_cut : {T E : Type 0} (r : Result T E) (old : LabelledRun) (b : Behind) (whole : List ℕ) (was now : Option (List ℕ)) → OnOk r (EndSucceeds old b whole) → OnErr r (EndIsCut old whole)
     → AppendsPart was now whole → Writes (EndIsCut old) was now
-ended_cut (Ok x) old whole was now ended failed part = end_cut old whole was now (whole_part old whole ended) part
-ended_cut (Err e) old whole was now ended failed part = end_cut old whole was now failed part
+ended_cut (Ok x) old b whole was now ended failed part = end_cut old whole was now (whole_part old b whole ended) part
+ended_cut (Err e) old b whole was now ended failed part = end_cut old whole was now failed part

@@ -2,24 +2,22 @@
 use Rattle.std.proofs.Common.{◌≡◌, ◌∙◌, ◌+◌, ◌≤◌, ◌<◌, inl, inr, ℕ, List, [], ◌∷◌, ◌++◌, Option, Some, None, take, length, Vec, Global, min, sym, ap, subst, arith}
 use Rattle.std.proofs.lemmas.Bool.{cases_lt}
 use Rattle.std.proofs.lemmas.List.{append_cancel_right, take_all, append-nil, length-append, length-take, nil_from_length}
-use Rattle.scrib_core.specs.declared.format.Format.{Format}
-use Rattle.scrib_core.specs.Held.{state_of}
+use Rattle.scrib_labelled.specs.Behind.{Ran, behind}
 use Rattle.scrib_script_reader.specs.declared.item.Item.{Item}
 use Rattle.scrib_script_reader.specs.declared.limits.Limits.{Limits}
 use Rattle.scrib_script_reader.specs.Limits.{IsWithinLimits}
 use Rattle.scrib_script_reader.specs.Scripts.{NoLf, lines}
 use Rattle.scrib_script_reader.proofs.Bytes.{take_kept, take_of_none}
 use Rattle.scrib_script_reader.proofs.LimitLemmas.{one_last}
-use Rattle.scrib_labels.specs.Naming.{number_of}
 use Rattle.scrib_labelled.specs.declared.label_options.LabelOptions.{LabelOptions}
+use Rattle.scrib_labelled.specs.declared.label_options.LabelledStyle.{LabelledStyle}
 use Rattle.scrib_labelled.specs.declared.labelled_run.LabelledRun.{LabelledRun}
 use Rattle.scrib_labelled.specs.declared.line_count.LineCount.{LineCount}
 use Rattle.scrib_labelled.specs.declared.named_monitor.NamedMonitor.{NamedMonitor}
 use Rattle.scrib_labelled.specs.declared.put_text.PutText.{PutText}
 use Rattle.scrib_labelled.specs.LabelledLines.{LineLabel, line_limit}
-use Rattle.scrib_labelled.specs.LabelledRuns.{Runs}
 use Rattle.scrib_labelled.specs.LabelledScripts.{LabelledText, SpellsLabelled}
-use Rattle.scrib_labelled.specs.Progress.{EndsBody, EndsLine, GathersBytes, HoldsUnended, LineEnds, Style, kept_len}
+use Rattle.scrib_labelled.specs.Progress.{EndsBody, EndsLine, GathersBytes, HoldsUnended, LineEnds, kept_len}
 use Rattle.scrib_labelled.specs.Splits.{IsEnded, IsSplit}
 use Rattle.scrib_labelled.proofs.SplitLemmas.{split_line, split_lines, split_part}
 
@@ -54,7 +52,7 @@ gathers_part old new part no_lf options named text line limits lines_is bytes fe
         let counted : new.count.bytes ≡ length (seen ++ part) = omega (arith, bytes, at.bytes, length-append seen part) in
         record {
           options = options ∙ at.options;
-          format = ap (λ (n : NamedMonitor). n.monitor.format) named ∙ at.format;
+          style = ap (λ (n : NamedMonitor). n.monitor.style) named ∙ at.style;
           limits = limits ∙ at.limits;
           whole = at.whole;
           part = at.part ++ part;
@@ -68,8 +66,8 @@ gathers_part old new part no_lf options named text line limits lines_is bytes fe
               (line at.unended at.text (omega (arith, ap length at.kept, length-take (kept_len old.options at.unended) at.part))
               ∙ ap (λ (t : List ℕ). take (kept_len old.options at.unended) (t ++ part)) at.kept ∙ take_kept (kept_len old.options at.unended) at.part part);
           runs =
-              subst (λ (t : List ℕ). Runs o.format at.items (number_of new.named.names) (state_of new.named.monitor.core) t) (sym (append-nil before))
-              (subst (λ (n : NamedMonitor). Runs o.format at.items (number_of n.names) (state_of n.monitor.core) before) (sym named) at.runs);
+              subst (λ (t : List ℕ). Ran o at.items (behind new.named) t) (sym (append-nil before))
+              (subst (λ (n : NamedMonitor). Ran o at.items (behind n) before) (sym named) at.runs);
           bytes = counted;
           lines = lines_is ∙ at.lines;
           within = within_part m (seen ++ part) at.whole (at.part ++ part) old.count new.count split at.lines at.limits few_lines counted few_bytes;
@@ -101,7 +99,7 @@ pub ends_short : (old new : LabelledRun) (body kept : List ℕ) → old.line.ite
     → EndsLine old new kept → EndsBody old new body
 ends_short old new body kept none is e = record {
   options = e.same.options;
-  format = e.same.format;
+  style = e.same.style;
   line = ap (λ (v : Vec ℕ Global). v.items) e.same.line ∙ none;
   count = e.same.count;
   wrote = e.wrote;
@@ -119,7 +117,7 @@ pub ends_long : (old new : LabelledRun) (line : Vec ℕ Global) (body kept : Lis
     → EndsLine (record old { line = line }) new kept → EndsBody old new body
 ends_long old new line body kept none is e = record {
   options = e.same.options;
-  format = e.same.format;
+  style = e.same.style;
   line = ap (λ (v : Vec ℕ Global). v.items) e.same.line ∙ none;
   count = e.same.count;
   wrote = record { more = e.wrote.more; grows = e.wrote.grows };
@@ -139,7 +137,7 @@ within_line m seen before line c d s lines_is limits few bytes_is few_bytes = (
 )
 
 -- what the lines spell after one more
-spelled : (old : LabelledRun) (o : Style) (c1 c2 : LineCount) (whole : List (List ℕ)) (full : List ℕ) (before after : Option LabelledText) (items given : List (LineLabel × Item)) → old.options ≡ o.labels
+spelled : (old : LabelledRun) (o : LabelledStyle) (c1 c2 : LineCount) (whole : List (List ℕ)) (full : List ℕ) (before after : Option LabelledText) (items given : List (LineLabel × Item)) → old.options ≡ o.labels
     → c1.lines ≡ old.count.lines → c2.lines ≡ c1.lines + 1 → SpellsLabelled o.labels whole (old.count.lines + 1) before items
     → ((ls : List (List ℕ)) (is : List (LineLabel × Item)) → SpellsLabelled old.options ls (c1.lines + 1) before is → SpellsLabelled old.options (ls ++ (full ++ 10 ∷ []) ∷ []) (c1.lines + 1 + 1) after (is ++ given))
     → SpellsLabelled o.labels (whole ++ (full ++ 10 ∷ []) ∷ []) (c2.lines + 1) after (items ++ given)
@@ -165,7 +163,7 @@ gathers_end old mid c1 c2 k bytes no_lf is e limits1 lines1 bytes1 few_bytes few
         let ended = e.ends at.unended at.part at.text at.kept in
         record {
           options = e.options ∙ at.options;
-          format = e.format ∙ at.format;
+          style = e.style ∙ at.style;
           limits = limits2 ∙ limits1 ∙ at.limits;
           whole = at.whole ++ ((at.part ++ k) ++ 10 ∷ []) ∷ [];
           part = [];
@@ -176,8 +174,8 @@ gathers_end old mid c1 c2 k bytes no_lf is e limits1 lines1 bytes1 few_bytes few
           text = ended.text;
           kept = e.line ∙ sym (take_of_none (kept_len mid.options ended.after));
           runs =
-              subst (λ (f : Format). Runs f (at.items ++ ended.given) (number_of mid.named.names) (state_of mid.named.monitor.core) (before ++ e.wrote.more)) at.format
-              (ended.runs at.items before (subst (λ (f : Format). Runs f at.items (number_of old.named.names) (state_of old.named.monitor.core) before) (sym at.format) at.runs));
+              subst (λ (f : LabelledStyle). Ran f (at.items ++ ended.given) (behind mid.named) (before ++ e.wrote.more)) at.style
+              (ended.runs at.items before (subst (λ (f : LabelledStyle). Ran f at.items (behind old.named) before) (sym at.style) at.runs));
           bytes = counted;
           lines = omega (arith, lines2, lines1, at.lines, length-append at.whole (((at.part ++ k) ++ 10 ∷ []) ∷ []));
           within = within_line m (seen ++ bytes) at.whole ((at.part ++ k) ++ 10 ∷ []) old.count c2 split at.lines at.limits few_lines counted (omega (arith, bytes2, few_bytes));

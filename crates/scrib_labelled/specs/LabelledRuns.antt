@@ -1,17 +1,20 @@
 -- What scripts with tags and names write (this project's own).
-use Rattle.std.specs.Prelude.{◌≡◌, ◌≢◌, ◌⊎◌, ℕ, List, [], ◌∷◌, ◌++◌, Option, Some, None, option_map}
+use Rattle.std.specs.Prelude.{◌≡◌, ◌≢◌, ◌⊎◌, ℕ, Bool, true, false, List, [], ◌∷◌, ◌++◌, Option, Some, None, option_map}
 use Rattle.std.specs.Map.{update}
 use Rattle.std.specs.Str.{bytes_eq}
 use Rattle.scrib_core.specs.declared.format.Format.{Format}
 use Rattle.scrib_core.specs.declared.reply.Reply.{Reply}
 use Rattle.scrib_core.specs.declared.reply.Reply.TheVariants as reply
+use Rattle.scrib_core.specs.declared.step.Step.{Step}
+use Rattle.scrib_core.specs.declared.step.Step.TheVariants.{Close}
 use Rattle.scrib_core.specs.Answers.{State, initial, IsAnswered}
 use Rattle.scrib_script_reader.specs.declared.item.Item.{Item}
 use Rattle.scrib_script_reader.specs.declared.item.Item.TheVariants as item
 use Rattle.scrib_script_reader.specs.Scripts.{lines}
 use Rattle.scrib_report.specs.ReplyTexts.{reply_format}
 use Rattle.scrib_report.specs.LabelledReplies.{labelled_bad_line, labelled_end, labelled_reply}
-use Rattle.scrib_labelled.specs.declared.label_options.LabelOptions.{LabelOptions}
+use Rattle.scrib_closing.specs.ClosingScripts.{Completes}
+use Rattle.scrib_labelled.specs.declared.label_options.LabelledStyle.{LabelledStyle}
 use Rattle.scrib_labelled.specs.LabelledLines.{LineLabel}
 use Rattle.scrib_labelled.specs.LabelledScripts.{LabelledText, SpellsLabelled, all_items}
 
@@ -23,14 +26,28 @@ Naming = List ℕ → Option ℕ
 abbrev pub session_name : Option (List ℕ × ℕ) → Option (List ℕ)
 session_name session = option_map (λ s. s.0) session
 
--- The item is carried out: from a state to another, with these replies and this output. The reply has the tag and the
--- name.
-abbrev pub Takes : Format → (tag name : Option (List ℕ)) → State → Item → State → List Reply → List ℕ → Type 0
+-- What is done behind a step with this reply: from the state behind the step to another, with these replies. Where
+-- complete conversations are closed, that which the step completes is closed. In all other cases nothing is done.
+abbrev pub ClosesBehind : (closes : Bool) → Step → Reply → (u v : State) → List Reply → Type 0
+ClosesBehind false s r u v replies = (replies ≡ []) × (v ≡ u)
+ClosesBehind true s r u v replies =
+    (((id : ℕ) → Completes s r u id → ⊥) × (replies ≡ []) × (v ≡ u))
+    ⊎ ((id : ℕ) × (c : Reply) × Completes s r u id × IsAnswered u (Close id) c v × (replies ≡ c ∷ []))
+
+-- what is written for replies, one after another, with this tag and name
+abbrev pub labelled_replies : Format → (tag name : Option (List ℕ)) → List Reply → List ℕ
+labelled_replies o tag name [] = []
+labelled_replies o tag name (r ∷ rs) = labelled_reply o tag name r ++ labelled_replies o tag name rs
+
+-- The item is carried out: from a state to another, with these replies and this output. Each reply to the line has the
+-- tag and the name, and the format that the line asks for.
+abbrev pub Takes : LabelledStyle → (tag name : Option (List ℕ)) → State → Item → State → List Reply → List ℕ → Type 0
 Takes o tag name w (item.Step f s) v replies out =
-    (r : Reply) × (replies ≡ r ∷ []) × IsAnswered w s r v
-    × (out ≡ labelled_reply (reply_format o f) tag name r)
-Takes o tag name w (item.BadLine n) v replies out = (replies ≡ []) × (v ≡ w) × (out ≡ labelled_bad_line o tag n)
-Takes o tag name w item.EndOfText v replies out = (replies ≡ []) × (v ≡ w) × (out ≡ labelled_end o tag)
+    (r : Reply) × (u : State) × (later : List Reply) × IsAnswered w s r u × ClosesBehind o.closes s r u v later
+    × (replies ≡ r ∷ later) × (out ≡ labelled_replies (reply_format o.format f) tag name replies)
+Takes o tag name w (item.BadLine n) v replies out =
+    (replies ≡ []) × (v ≡ w) × (out ≡ labelled_bad_line o.format tag n)
+Takes o tag name w item.EndOfText v replies out = (replies ≡ []) × (v ≡ w) × (out ≡ labelled_end o.format tag)
 
 -- the number of a line's name: that of the name, or one that no name has where the name has none
 abbrev pub IsNumberIn : Naming → Option (List ℕ × ℕ) → Type 0
@@ -53,7 +70,7 @@ after_replies names session (r ∷ rs) = after_replies (after_reply names sessio
 -- The items with these labels are carried out one after another over a new monitor: the numbers of names then, the
 -- state, and the output. A name has a number from the reply that opens its conversation to the one that closes it. At
 -- each moment no two have the same.
-pub data Runs (o : Format) : List (LineLabel × Item) → Naming → State → List ℕ → Type 0 where
+pub data Runs (o : LabelledStyle) : List (LineLabel × Item) → Naming → State → List ℕ → Type 0 where
   nothing : (names : Naming) → ((name : List ℕ) → names name ≡ None) → Runs o [] names initial []
   takes : (items : List (LineLabel × Item)) (names after : Naming) (w v : State) (out more : List ℕ)
       (label : LineLabel) (i : Item) (replies : List Reply) → Runs o items names w out
@@ -61,23 +78,23 @@ pub data Runs (o : Format) : List (LineLabel × Item) → Naming → State → L
       → ((name : List ℕ) → after name ≡ after_replies names label.session replies name)
       → Runs o (items ++ (label, i) ∷ []) after v (out ++ more)
 
--- An output of a script with labels in a format: its items are carried out. What is written for an item is what a script
+-- An output of a script with labels in a style: its items are carried out. What is written for an item is what a script
 -- with numbers and without tags gives for the line that the item's line stands for, with name and tag put back.
-abbrev pub IsLabelledOutput : LabelOptions → Format → (input output : List ℕ) → Type 0
-IsLabelledOutput labels o input output =
+abbrev pub IsLabelledOutput : LabelledStyle → (input output : List ℕ) → Type 0
+IsLabelledOutput o input output =
     (n : ℕ) × (unended : Option LabelledText) × (items : List (LineLabel × Item)) × (names : Naming) × (after : State)
-    × SpellsLabelled labels (lines input) n unended items
+    × SpellsLabelled o.labels (lines input) n unended items
     × Runs o (all_items unended items) names after output
 
 -- the part is a beginning of what some first lines of the script give, or of what all of it gives
-pub record IsLabelledPart (labels : LabelOptions) (o : Format) (input part : List ℕ) : Type 0 where
+pub record IsLabelledPart (o : LabelledStyle) (input part : List ℕ) : Type 0 where
   pub first : List (List ℕ)
   pub later : List (List ℕ)
   pub is : lines input ≡ first ++ later
   pub number : ℕ
   pub unended : Option LabelledText
   pub items : List (LineLabel × Item)
-  pub spells : SpellsLabelled labels first number unended items
+  pub spells : SpellsLabelled o.labels first number unended items
   pub carried : List (LineLabel × Item)
   pub these : (carried ≡ items) ⊎ ((later ≡ []) × (carried ≡ all_items unended items))
   pub names : Naming

@@ -2,8 +2,12 @@ pub mod LabelledLines
 pub mod NamedLines
 pub mod LabelledScripts
 pub mod LabelledRuns
+pub mod LabelledQueries
 pub mod ExchangeLines
+pub mod CheckedCores
+pub mod Behind
 pub mod TextProgress
 pub mod Splits
 pub mod Progress
 pub mod ObjectLines
+pub mod SilentRuns

@@ -1,25 +1,24 @@
 -- The progress of a run of a script with labels: what its functions promise one another (this project's own). Only
 -- contracts of private functions cite this file.
-use Rattle.std.specs.Prelude.{◌≡◌, ◌⊎◌, ◌<◌, ℕ, ◌+◌, List, [], ◌∷◌, ◌++◌, length, take, Option, Some, None, IfSome}
+use Rattle.std.specs.Prelude.{◌≡◌, ◌≢◌, ◌⊎◌, ◌<◌, ℕ, ◌+◌, false, List, [], ◌∷◌, ◌++◌, length, take, Option, Some, None, IfSome}
 use Rattle.std.specs.Io.KnownBytes.{Appends}
 use Rattle.std.specs.Map.{update}
 use Rattle.std.specs.Str.{bytes_eq}
-use Rattle.scrib_core.specs.declared.format.Format.{Format}
 use Rattle.scrib_script_reader.specs.declared.limits.Limits.{Limits}
 use Rattle.scrib_script_reader.specs.Limits.{IsWithinLimits}
 use Rattle.scrib_script_reader.specs.Scripts.{NoLf, bare, lines}
 use Rattle.scrib_labels.specs.Naming.{number_of}
 use Rattle.scrib_labelled.specs.declared.label_options.LabelOptions.{LabelOptions}
+use Rattle.scrib_labelled.specs.Behind.{Behind, Ran, RanWhole, behind}
+use Rattle.scrib_labelled.specs.CheckedCores.{GotMemory, state_of}
+use Rattle.scrib_labelled.specs.declared.label_options.LabelledStyle.{LabelledStyle}
 use Rattle.scrib_labelled.specs.Splits.{IsSplit}
-use Rattle.scrib_core.specs.Held.{state_of}
 use Rattle.scrib_script_reader.specs.declared.item.Item.{Item}
 use Rattle.scrib_script_reader.specs.declared.item.Item.TheVariants as item
 use Rattle.scrib_script_reader.specs.declared.line.Line.{Line}
 use Rattle.scrib_types.specs.declared.event.Event.{Event}
-use Rattle.scrib_core.specs.Answers.{IsAnswered}
 use Rattle.scrib_core.specs.declared.format.Format.TheVariants as formats
 use Rattle.scrib_core.specs.declared.step.Step.TheVariants.{Note, Put}
-use Rattle.scrib_report.specs.LabelledReplies.{labelled_reply}
 use Rattle.scrib_core.specs.declared.reply.Reply.{Reply}
 use Rattle.scrib_core.specs.declared.reply.Reply.TheVariants as reply
 use Rattle.scrib_labelled.specs.declared.labelled_monitor.Change.{Change}
@@ -31,7 +30,7 @@ use Rattle.scrib_labelled.specs.declared.put_text.PutText.{PutText}
 use Rattle.scrib_labelled.specs.LabelledScripts.{LabelledText, SaysAs, SpellsLabelled, all_items}
 use Rattle.scrib_labelled.specs.TextProgress.{HoldsText, tag_in}
 use Rattle.scrib_labelled.specs.LabelledLines.{LineLabel, line_limit}
-use Rattle.scrib_labelled.specs.LabelledRuns.{IsLabelledOutput, IsLabelledPart, Naming, Runs, Takes, after_replies, session_name}
+use Rattle.scrib_labelled.specs.LabelledRuns.{IsLabelledPart, Naming, Takes, after_replies, session_name}
 
 -- what a reply changes
 abbrev pub change_by : Reply → Change
@@ -39,25 +38,28 @@ change_by (reply.Opened id name) = change.Opened
 change_by (reply.Closed id name events verdict complete) = change.Closed
 change_by _ = change.Unchanged
 
--- the replies change this; no reply changes nothing
+-- the replies change this: no reply changes nothing, and of two only the second may change something
 abbrev pub IsChangeBy : List Reply → Change → Type 0
 IsChangeBy [] c = c ≡ change.Unchanged
-IsChangeBy (r ∷ rs) c = (rs ≡ []) × (c ≡ change_by r)
+IsChangeBy (r ∷ []) c = c ≡ change_by r
+IsChangeBy (r ∷ q ∷ rs) c = (rs ≡ []) × (change_by r ≡ change.Unchanged) × (c ≡ change_by q)
 
--- the monitor carried the item out, and made its text with this tag and name; this changed
-pub record TakesItem (old new : LabelledMonitor) (tag name : Option (List ℕ)) (i : Item) (c : Change) : Type 0 where
-  pub format : new.format ≡ old.format
+-- the monitor carried the item out with this tag and name, and made this text; this changed
+pub record TakesItem (old new : LabelledMonitor) (tag name : Option (List ℕ)) (i : Item) (text : List ℕ) (c : Change)
+    : Type 0 where
+  pub style : new.style ≡ old.style
   pub replies : List Reply
-  pub takes : Takes old.format tag name (state_of old.core) i (state_of new.core) replies new.text.items
+  pub takes : Takes old.style tag name (state_of old.core) i (state_of new.core) replies text
   pub changes : IsChangeBy replies c
+  pub memory : old.style.closes ≡ false → GotMemory old.core new.core replies
 
--- the monitor noted the event, and gathered the line of its reply with this tag and name
-pub record NotesEvent (old new : LabelledMonitor) (tag name : Option (List ℕ)) (id : ℕ) (e : Event) : Type 0 where
-  pub format : new.format ≡ old.format
-  pub reply : Reply
-  pub answered : IsAnswered (state_of old.core) (Note id e) reply (state_of new.core)
-  pub changes : change_by reply ≡ change.Unchanged
-  pub grows : new.gathered.bytes.items ≡ old.gathered.bytes.items ++ labelled_reply formats.Line tag name reply
+-- the monitor noted the event, and gathered the replies with this tag and name; this changed, and nothing was opened
+pub record NotesEvent (old new : LabelledMonitor) (tag name : Option (List ℕ)) (id : ℕ) (e : Event) (c : Change)
+    : Type 0 where
+  pub text : List ℕ
+  pub takes : TakesItem old new tag name (item.Step formats.Line (Note id e)) text c
+  pub opens : c ≢ change.Opened
+  pub grows : new.gathered.bytes.items ≡ old.gathered.bytes.items ++ text
 
 -- the numbers of names behind a change in the conversation of a session
 abbrev pub after_change : Naming → Option (List ℕ × ℕ) → Change → Naming
@@ -68,19 +70,20 @@ after_change names (Some s) change.Unchanged = names
 
 -- the monitor carried the item of a line with this label out, and gathered its output
 pub record CarriesOut (old new : NamedMonitor) (label : LineLabel) (i : Item) : Type 0 where
-  pub format : new.monitor.format ≡ old.monitor.format
+  pub style : new.monitor.style ≡ old.monitor.style
   pub replies : List Reply
   pub more : List ℕ
-  pub takes : Takes old.monitor.format label.tag (session_name label.session) (state_of old.monitor.core) i
+  pub takes : Takes old.monitor.style label.tag (session_name label.session) (state_of old.monitor.core) i
       (state_of new.monitor.core) replies more
   pub named : (name : List ℕ)
       → number_of new.names name ≡ after_replies (number_of old.names) label.session replies name
+  pub memory : old.monitor.style.closes ≡ false → GotMemory old.monitor.core new.monitor.core replies
   pub grows : new.monitor.gathered.bytes.items ≡ old.monitor.gathered.bytes.items ++ more
 
 -- the run is the same, but for what a line that ended changes
 pub record IsSameRun (old new : LabelledRun) : Type 0 where
   pub options : new.options ≡ old.options
-  pub format : new.named.monitor.format ≡ old.named.monitor.format
+  pub style : new.named.monitor.style ≡ old.named.monitor.style
   pub line : new.line ≡ old.line
   pub count : new.count ≡ old.count
 
@@ -108,8 +111,8 @@ pub record LineEnds (old new : LabelledRun) (before : Option LabelledText) (l mo
       → SpellsLabelled old.options whole (old.count.lines + 1) before items
       → SpellsLabelled old.options (whole ++ l ∷ []) (old.count.lines + 1 + 1) after (items ++ given)
   pub runs : (items : List (LineLabel × Item)) (out : List ℕ)
-      → Runs old.named.monitor.format items (number_of old.named.names) (state_of old.named.monitor.core) out
-      → Runs old.named.monitor.format (items ++ given) (number_of new.named.names) (state_of new.named.monitor.core) (out ++ more)
+      → Ran old.named.monitor.style items (behind old.named) out
+      → Ran old.named.monitor.style (items ++ given) (behind new.named) (out ++ more)
 
 -- the output that a call gathered
 pub record Gathers (old new : LabelledRun) : Type 0 where
@@ -145,7 +148,7 @@ pub record EndsTextLine (old new : LabelledRun) (text : PutText) (kept : List �
 -- the run took a line that ends with these bytes
 pub record EndsBody (old new : LabelledRun) (body : List ℕ) : Type 0 where
   pub options : new.options ≡ old.options
-  pub format : new.named.monitor.format ≡ old.named.monitor.format
+  pub style : new.named.monitor.style ≡ old.named.monitor.style
   pub line : new.line.items ≡ []
   pub count : new.count ≡ old.count
   pub wrote : Gathers old new
@@ -176,19 +179,19 @@ pub record LastLineEnds (old new : LabelledRun) (before : Option LabelledText) (
       → SpellsLabelled old.options whole (old.count.lines + 1) before items
       → (n : ℕ) × SpellsLabelled old.options (whole ++ lines part) n after (items ++ given)
   pub runs : (items : List (LineLabel × Item)) (out : List ℕ)
-      → Runs old.named.monitor.format items (number_of old.named.names) (state_of old.named.monitor.core) out
-      → Runs old.named.monitor.format (items ++ given) (number_of new.named.names) (state_of new.named.monitor.core) (out ++ more)
+      → Ran old.named.monitor.style items (behind old.named) out
+      → Ran old.named.monitor.style (items ++ given) (behind new.named) (out ++ more)
 
 -- the run took the last bytes
 pub record EndsLast (old new : LabelledRun) : Type 0 where
-  pub format : new.named.monitor.format ≡ old.named.monitor.format
+  pub style : new.named.monitor.style ≡ old.named.monitor.style
   pub wrote : Gathers old new
   pub ends : (before : Option LabelledText) (part : List ℕ) → HoldsUnended old.text before → NoLf part
       → old.line.items ≡ take (kept_len old.options before) part → LastLineEnds old new before part wrote.more
 
 -- the same in this module text, with this much of the last line kept
 pub record EndsLastTextLine (old new : LabelledRun) (text : PutText) (kept : List ℕ) : Type 0 where
-  pub format : new.named.monitor.format ≡ old.named.monitor.format
+  pub style : new.named.monitor.style ≡ old.named.monitor.style
   pub wrote : Gathers old new
   pub ends : (t : LabelledText) (part : List ℕ) → HoldsText text t → NoLf part → 0 < length part
       → kept ≡ take 1048577 part → LastLineEnds old new (Some t) part wrote.more
@@ -197,23 +200,17 @@ pub record EndsLastTextLine (old new : LabelledRun) (text : PutText) (kept : Lis
 pub record EndsText (old new : LabelledRun) : Type 0 where
   pub wrote : Gathers old new
   pub runs : (after : Option LabelledText) (items : List (LineLabel × Item)) (out : List ℕ) → HasLabel old.text after
-      → Runs old.named.monitor.format items (number_of old.named.names) (state_of old.named.monitor.core) out
-      → Runs old.named.monitor.format (all_items after items) (number_of new.named.names) (state_of new.named.monitor.core)
-      (out ++ wrote.more)
+      → Ran old.named.monitor.style items (behind old.named) out
+      → Ran old.named.monitor.style (all_items after items) (behind new.named) (out ++ wrote.more)
 
--- which labels the lines of a script have, and the format of its output
-pub record Style : Type 0 where
-  pub labels : LabelOptions
-  pub format : Format
-
--- those of a run
-abbrev pub style_of : LabelledRun → Style
-style_of run = record { labels = run.options; format = run.named.monitor.format }
+-- the style of a run
+abbrev pub style_of : LabelledRun → LabelledStyle
+style_of run = run.named.monitor.style
 
 -- A run of this style consumed these bytes of a script of these limits, and gave this output.
-pub record IsAt (o : Style) (m : Limits) (run : LabelledRun) (seen out : List ℕ) : Type 0 where
+pub record IsAt (o : LabelledStyle) (m : Limits) (run : LabelledRun) (seen out : List ℕ) : Type 0 where
   pub options : run.options ≡ o.labels
-  pub format : run.named.monitor.format ≡ o.format
+  pub style : run.named.monitor.style ≡ o
   pub limits : run.count.limits ≡ m
   pub whole : List (List ℕ)
   pub part : List ℕ
@@ -223,14 +220,14 @@ pub record IsAt (o : Style) (m : Limits) (run : LabelledRun) (seen out : List �
   pub spells : SpellsLabelled o.labels whole (run.count.lines + 1) unended items
   pub text : HoldsUnended run.text unended
   pub kept : run.line.items ≡ take (kept_len run.options unended) part
-  pub runs : Runs o.format items (number_of run.named.names) (state_of run.named.monitor.core) out
+  pub runs : Ran o items (behind run.named) out
   pub bytes : run.count.bytes ≡ length seen
   pub lines : run.count.lines ≡ length whole
   pub within : IsWithinLimits m seen
 
 -- the run consumed the bytes, and gave this output
 pub record RunAdvances (old new : LabelledRun) (bytes out : List ℕ) : Type 0 where
-  pub goes : (o : Style) (m : Limits) (seen before : List ℕ) → IsAt o m old seen before
+  pub goes : (o : LabelledStyle) (m : Limits) (seen before : List ℕ) → IsAt o m old seen before
       → IsAt o m new (seen ++ bytes) (before ++ out)
 
 -- the bytes were consumed, and their output was gathered
@@ -241,8 +238,8 @@ pub record GathersBytes (old new : LabelledRun) (bytes : List ℕ) : Type 0 wher
 
 -- the run failed within these bytes, and gave this output
 pub record PieceFails (old : LabelledRun) (bytes out : List ℕ) : Type 0 where
-  pub so : (o : Style) (m : Limits) (seen before : List ℕ) → IsAt o m old seen before
-      → (more : List ℕ) → IsLabelledPart o.labels o.format (seen ++ (bytes ++ more)) (before ++ out)
+  pub so : (o : LabelledStyle) (m : Limits) (seen before : List ℕ) → IsAt o m old seen before
+      → (more : List ℕ) → IsLabelledPart o (seen ++ (bytes ++ more)) (before ++ out)
 
 -- a front of the bytes was consumed, and its output was gathered
 pub record GathersFront (old new : LabelledRun) (bytes rest : List ℕ) : Type 0 where
@@ -258,15 +255,15 @@ pub record GatherFails (old new : LabelledRun) (bytes : List ℕ) : Type 0 where
   pub grows : new.named.monitor.gathered.bytes.items ≡ old.named.monitor.gathered.bytes.items ++ out
   pub fails : PieceFails old bytes out
 
--- the run gave this output at the end of its script, which is within the limits
-pub record EndSucceeds (old : LabelledRun) (out : List ℕ) : Type 0 where
-  pub so : (o : Style) (m : Limits) (seen before : List ℕ) → IsAt o m old seen before
-      → IsLabelledOutput o.labels o.format seen (before ++ out) × IsWithinLimits m seen
+-- the run gave this output at the end of its script, which is within the limits, and this is behind it
+pub record EndSucceeds (old : LabelledRun) (b : Behind) (out : List ℕ) : Type 0 where
+  pub so : (o : LabelledStyle) (m : Limits) (seen before : List ℕ) → IsAt o m old seen before
+      → RanWhole o seen b (before ++ out) × IsWithinLimits m seen
 
 -- the run failed at the end of its script, and gave this output
 pub record EndIsCut (old : LabelledRun) (out : List ℕ) : Type 0 where
-  pub so : (o : Style) (m : Limits) (seen before : List ℕ) → IsAt o m old seen before
-      → IsLabelledPart o.labels o.format seen (before ++ out)
+  pub so : (o : LabelledStyle) (m : Limits) (seen before : List ℕ) → IsAt o m old seen before
+      → IsLabelledPart o seen (before ++ out)
 
 -- these bytes were written
 abbrev pub Writes : (List ℕ → Type 0) → Option (List ℕ) → Option (List ℕ) → Type 0
@@ -277,14 +274,14 @@ abbrev pub WritesFirst : (List ℕ → Type 0) → (gathered : List ℕ) → (wa
 WritesFirst P gathered was now = (out : List ℕ) × P (out ++ gathered) × Appends was now out
 
 -- a run before its first byte
-pub record IsNewLabelled (o : Style) (m : Limits) (run : LabelledRun) : Type 0 where
+pub record IsNewLabelled (o : LabelledStyle) (m : Limits) (run : LabelledRun) : Type 0 where
   pub start : IsAt o m run [] []
 
--- a whole script, which is within the limits, was run
-abbrev pub LabelledRunSucceeds : Style → Limits → Option (List ℕ) → (was now : Option (List ℕ)) → Type 0
-LabelledRunSucceeds o m r was now =
-    IfSome r (λ input. Writes (λ out. IsLabelledOutput o.labels o.format input out) was now × IsWithinLimits m input)
+-- a whole script, which is within the limits, was run, and this is behind it
+abbrev pub LabelledRunSucceeds : LabelledStyle → Limits → Option (List ℕ) → Behind → (was now : Option (List ℕ)) → Type 0
+LabelledRunSucceeds o m r b was now =
+    IfSome r (λ input. Writes (λ out. RanWhole o input b out) was now × IsWithinLimits m input)
 
 -- a run of the script, where it is known, failed
-abbrev pub LabelledRunFails : Style → Option (List ℕ) → (was now : Option (List ℕ)) → Type 0
-LabelledRunFails o r was now = IfSome r (λ input. Writes (λ out. IsLabelledPart o.labels o.format input out) was now)
+abbrev pub LabelledRunFails : LabelledStyle → Option (List ℕ) → (was now : Option (List ℕ)) → Type 0
+LabelledRunFails o r was now = IfSome r (λ input. Writes (λ out. IsLabelledPart o input out) was now)

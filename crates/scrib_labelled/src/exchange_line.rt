@@ -37,9 +37,9 @@ struct LineHead<'a> {
 /// The conversation and the event of an exchange.
 #[derive(Drop)]
 pub(crate) struct Exchange<'a> {
-    name: Option<&'a [u8]>,
-    id: u32,
-    event: SharedEvent,
+    pub(crate) name: Option<&'a [u8]>,
+    pub(crate) id: u32,
+    pub(crate) event: SharedEvent,
 }
 
 /// Returns the exchange of a line, given without its end, that is spelled with single blanks, and whose conversation is a
@@ -89,9 +89,9 @@ fn line_head(tags: bool, line: &[u8]) -> Option<LineHead<'_>>
     })
 }
 
-// The exchange of a line without its tag, where conversations may have names.
+/// The exchange of a line without its tag, where conversations may have names.
 #[inline(always)]
-fn exchange_in<'a>(
+pub(crate) fn exchange_in<'a>(
     reader: &mut Reader,
     names: &SessionNames,
     named: bool,

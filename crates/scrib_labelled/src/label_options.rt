@@ -1,4 +1,4 @@
-//! How the lines of a script are spelled and labelled, and how its output is printed.
+//! How a script with labels is run.
 
 use scrib_core::format::Format;
 
@@ -13,11 +13,13 @@ pub struct LabelOptions {
     pub objects: bool,
 }
 
-/// Which labels the lines of a script have, and the format of its output.
+/// How a script with labels is run.
 #[derive(Clone, Copy)]
-pub struct LabelledFormat {
-    /// The labels.
+pub struct LabelledStyle {
+    /// The labels of its lines.
     pub labels: LabelOptions,
+    /// Whether each conversation is closed once it is complete.
+    pub closes: bool,
     /// The format of a reply whose line asks for no other.
     pub format: Format,
 }

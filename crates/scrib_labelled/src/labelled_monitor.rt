@@ -1,19 +1,15 @@
 //! Carries out the entries of a script, and gathers their replies with the labels of their lines.
 
-ghost use Rattle.std.specs.Prelude.{◌≡◌, ◌++◌, ℕ, List, IfOk};
-ghost use Rattle.scrib_core.specs.Answers.{IsAnswered};
-ghost use Rattle.scrib_core.specs.Held.{state_of};
-ghost use Rattle.scrib_core.specs.declared.reply.Reply.{Reply};
-ghost use Rattle.scrib_report.specs.LabelledReplies.{labelled_reply};
-ghost use Rattle.scrib_report.specs.PutBack.{name_of, tag_of};
-ghost use Rattle.scrib_labelled.specs.LabelledRuns.{Takes};
-ghost use Rattle.scrib_labelled.specs.Progress.{IsChangeBy, change_by};
+ghost use Rattle.std.specs.Prelude.{◌≡◌};
+ghost use Rattle.scrib_labelled.specs.Progress.{change_by};
 
+use crate::checked_core::CheckedCore;
+use crate::label_options::LabelledStyle;
 use scrib_cli::gathered::Gathered;
-use scrib_core::conversation_steps::Noted;
+use scrib_closing::completion::{completed, is_accepted, is_send, judged_by};
+use scrib_core::conversation_steps::{Noted, Tested};
 use scrib_core::format::Format;
-use scrib_core::monitor::Core;
-use scrib_core::reply::{Reply, note_reply};
+use scrib_core::reply::{Refusal, Reply, close_reply, note_reply};
 use scrib_core::step::Step;
 use scrib_report::label::Label;
 use scrib_report::labelled::{push_labelled_bad_line, push_labelled_end, push_labelled_reply};
@@ -32,54 +28,132 @@ pub(crate) enum Change {
     Unchanged,
 }
 
-/// A monitor, the format of its output, and the replies that are not written yet.
+/// A monitor, the style of its script, and the replies that are not written yet.
 #[derive(Drop)]
 pub(crate) struct LabelledMonitor {
-    core: Core,
-    format: Format,
-    // The text of one reply. Where memory is refused in the midst of it, the gathered texts stay whole.
+    pub(crate) core: CheckedCore,
+    style: LabelledStyle,
+    // The text of one item. Where memory is refused in the midst of it, the gathered texts stay whole.
     text: Vec<u8>,
     pub(crate) gathered: Gathered,
 }
 
 impl LabelledMonitor {
-    ghost use Rattle.std.specs.Prelude.{◌≡◌, ◌++◌, IfOk, IsTrue, OnErr, OnOk};
-    ghost use Rattle.scrib_core.specs.Answers.{initial};
-    ghost use Rattle.scrib_core.specs.Held.{state_of};
+    ghost use Rattle.std.specs.Prelude.{◌≡◌, ◌≢◌, ◌++◌, ◌&&◌, ℕ, List, Some, true, false, not, IfOk, IsTrue, MatchOption, OnErr, OnOk};
+    ghost use Rattle.scrib_core.specs.Answers.{IsAnswered, IsCompleteIn, initial};
+    ghost use Rattle.scrib_labelled.specs.CheckedCores.{GotMemory, state_of};
+    ghost use Rattle.scrib_core.specs.ReplyValues.{note_reply_of};
     ghost use Rattle.scrib_core.specs.declared.format.Format.TheVariants as format;
+    ghost use Rattle.scrib_core.specs.declared.reply.Reply.{Reply};
+    ghost use Rattle.scrib_core.specs.declared.step.Step.TheVariants.{Close};
     ghost use Rattle.scrib_report.specs.LabelledReplies.{labelled_reply};
     ghost use Rattle.scrib_report.specs.PutBack as spec;
     ghost use Rattle.scrib_report.specs.PutBack.{name_of, tag_of};
-    ghost use Rattle.scrib_labelled.specs.Progress.{NotesEvent, TakesItem};
+    ghost use Rattle.scrib_script_reader.specs.declared.item.Item.TheVariants as item;
+    ghost use Rattle.scrib_closing.specs.ClosingScripts.{is_send};
+    ghost use Rattle.scrib_labelled.specs.LabelledRuns.{Takes};
+    ghost use Rattle.scrib_labelled.specs.Progress.{IsChangeBy, NotesEvent, TakesItem, change_by};
+    ghost use Rattle.scrib_labelled.specs.declared.labelled_monitor.Change.TheVariants as change;
 
     /// Returns a new monitor.
-    pub(crate) fn new(alloc: Global, format: Format) -> LabelledMonitor
+    pub(crate) fn new(alloc: Global, style: LabelledStyle) -> LabelledMonitor
         ensures state { state_of result.core ≡ initial }
-        ensures format { result.format ≡ format }
+        ensures style { result.style ≡ style }
     {
         LabelledMonitor {
-            core: Core::new(alloc),
-            format,
+            core: CheckedCore::new(alloc),
+            style,
             text: Vec::new(alloc),
             gathered: Gathered::new(alloc),
         }
     }
 
-    /// Carries the item out, and keeps the text of its reply with this label until [`LabelledMonitor::gather`]. Returns
-    /// what changed.
+    /// Carries the item out, and keeps the text of its replies with this label until [`LabelledMonitor::gather`].
+    /// Returns what changed.
     ///
     /// # Errors
     /// `AllocError` where there is no memory for the text.
     pub(crate) fn take(&mut self, item: Item, label: Label<'_>) -> Result<Change, AllocError>
-        ensures ok { IfOk result (TakesItem self.old self.new (tag_of label.entry) (name_of label.entry) item) }
+        ensures ok { IfOk result
+            (TakesItem self.old self.new (tag_of label.entry) (name_of label.entry) item self.new.text.items) }
         ensures same { self.new.gathered ≡ self.old.gathered }
     {
         self.text.clear();
-        push_item(&mut self.text, &mut self.core, item, self.format, label)
+        match item {
+            Item::Step(asked, step) => self.push_step(asked, step, label),
+            Item::BadLine(number) => {
+                push_labelled_bad_line(&mut self.text, number, self.style.format, label.tag)?;
+                Ok(Change::Unchanged)
+            }
+            Item::EndOfText => {
+                push_labelled_end(&mut self.text, self.style.format, label.tag)?;
+                Ok(Change::Unchanged)
+            }
+        }
     }
 
-    /// Notes the event, and gathers its reply as a line of text with this label. `tag_text` is what the line begins with
-    /// for the tag.
+    // Makes the step, whose line asks for the format `asked`, and appends the reply with this label. Where it completes
+    // a conversation that is to be closed, closes that and appends this reply too. Returns what changed.
+    fn push_step(
+        &mut self,
+        asked: Format,
+        step: Step,
+        label: Label<'_>,
+    ) -> Result<Change, AllocError>
+        ensures ok { IfOk result (λ c. (replies : List Reply) × (more : List ℕ)
+            × Takes self.old.style (tag_of label.entry) (name_of label.entry) (state_of self.old.core)
+            (item.Step asked step) (state_of self.new.core) replies more × IsChangeBy replies c
+            × (self.old.style.closes ≡ false → GotMemory self.old.core self.new.core replies)
+            × (self.new.text.items ≡ self.old.text.items ++ more)) }
+        ensures same { self.new ≡ record self.old { core = self.new.core; text = self.new.text } }
+    {
+        let format = reply_format(self.style.format, asked);
+        let judged = judged_by(&step);
+        let reply = self.core.apply(step);
+        push_labelled_reply(&mut self.text, &reply, format, label)?;
+        match self.to_close(judged, is_accepted(&reply)) {
+            Some(id) => self.push_close(id, format, label),
+            None => Ok(change_by(&reply)),
+        }
+    }
+
+    // Returns the conversation in which an accepted step noted an event or made a turn, if it is complete and complete
+    // conversations are closed.
+    fn to_close(&self, judged: Option<u32>, accepted: bool) -> Option<u32>
+        ensures { MatchOption result (self.now.style.closes ≡ true
+            → (id : ℕ) → judged ≡ Some id → accepted ≡ true → IsCompleteIn (state_of self.now.core) id → ⊥)
+            (λ id. (self.now.style.closes ≡ true)
+            × ((judged ≡ Some id) × (accepted ≡ true) × IsCompleteIn (state_of self.now.core) id)) }
+    {
+        if !self.style.closes {
+            return None;
+        }
+        completed(&self.core.core, judged, accepted)
+    }
+
+    // Closes the conversation, and appends the reply in this format with this label. Returns what changed.
+    fn push_close(
+        &mut self,
+        id: u32,
+        format: Format,
+        label: Label<'_>,
+    ) -> Result<Change, AllocError>
+        ensures ok { IfOk result (λ c. (r : Reply)
+            × IsAnswered (state_of self.old.core) (Close id) r (state_of self.new.core) × (c ≡ change_by r)
+            × (self.new.text.items ≡ self.old.text.items
+            ++ labelled_reply format (tag_of label.entry) (name_of label.entry) r)) }
+        ensures opens { IfOk result (λ c. c ≢ change.Opened) }
+        ensures same { self.new ≡ record self.old { core = self.new.core; text = self.new.text } }
+    {
+        let closed = self.core.core.close_conversation(id);
+        let reply = close_reply(id, closed);
+        push_labelled_reply(&mut self.text, &reply, format, label)?;
+        Ok(change_by(&reply))
+    }
+
+    /// Notes the event, and gathers its reply as a line of text with this label. `tag_text` is what the line begins
+    /// with for the tag. Where the conversation is complete then and is to be closed, closes it and gathers this reply
+    /// too. Returns what changed.
     ///
     /// # Errors
     /// `AllocError` where there is no memory for the text. The gathered texts are then unchanged.
@@ -90,12 +164,108 @@ impl LabelledMonitor {
         event: SharedEvent,
         label: Label<'_>,
         tag_text: &[u8],
-    ) -> Result<(), AllocError>
-        requires { tag_text.now ≡ spec.tag_text (tag_of label) }
-        ensures ok { OnOk result (NotesEvent self.old self.new (tag_of label.entry) (name_of label.entry) id event) }
+    ) -> Result<Change, AllocError>
+        requires tag { tag_text.now ≡ spec.tag_text (tag_of label) }
+        requires lines { self.old.style.format ≡ format.Line }
+        ensures ok { IfOk result (NotesEvent self.old self.new (tag_of label.entry) (name_of label.entry) id event) }
         ensures err { OnErr result (self.new.gathered.bytes.items ≡ self.old.gathered.bytes.items) }
     {
-        match self.core.note_event(id, event) {
+        if self.may_close(&event) {
+            return self.note_and_close(id, event, label, tag_text);
+        }
+        let noted = self.core.note_event(id, event);
+        self.gather_noted(id, noted, label, tag_text)?;
+        Ok(Change::Unchanged)
+    }
+
+    // Returns whether the conversation may be complete behind a note of the event, and is to be closed then. Behind a
+    // send it is not complete: the message is in flight.
+    #[inline(always)]
+    fn may_close(&self, event: &SharedEvent) -> bool
+        ensures { result ≡ (self.now.style.closes && not (is_send event.now)) }
+    {
+        self.style.closes && !is_send(event)
+    }
+
+    // The same as `note`, where complete conversations are closed.
+    #[inline(never)]
+    fn note_and_close(
+        &mut self,
+        id: u32,
+        event: SharedEvent,
+        label: Label<'_>,
+        tag_text: &[u8],
+    ) -> Result<Change, AllocError>
+        requires tag { tag_text.now ≡ spec.tag_text (tag_of label) }
+        requires lines { self.old.style.format ≡ format.Line }
+        requires closes { self.old.style.closes ≡ true }
+        ensures ok { IfOk result (NotesEvent self.old self.new (tag_of label.entry) (name_of label.entry) id event) }
+        ensures err { OnErr result (self.new.gathered.bytes.items ≡ self.old.gathered.bytes.items) }
+    {
+        match self.core.core.note_and_test(id, event) {
+            Ok(Tested { noted, complete }) => {
+                if complete {
+                    return self.gather_closing(id, noted, label);
+                }
+                self.gather_noted(id, Ok(noted), label, tag_text)?;
+                Ok(Change::Unchanged)
+            }
+            Err(refusal) => {
+                self.gather_noted(id, Err(refusal), label, tag_text)?;
+                Ok(Change::Unchanged)
+            }
+        }
+    }
+
+    // Closes the conversation in which an event was noted with this outcome, and gathers both replies as lines of text
+    // with this label. They are gathered together, so that after an error the gathered texts are unchanged. Returns what
+    // changed.
+    #[inline(never)]
+    fn gather_closing(
+        &mut self,
+        id: u32,
+        noted: Noted,
+        label: Label<'_>,
+    ) -> Result<Change, AllocError>
+        ensures ok { IfOk result (λ c. (r : Reply)
+            × IsAnswered (state_of self.old.core) (Close id) r (state_of self.new.core) × (c ≡ change_by r)
+            × (self.new.gathered.bytes.items ≡ self.old.gathered.bytes.items
+            ++ (labelled_reply format.Line (tag_of label.entry) (name_of label.entry) (note_reply_of id (Ok noted))
+            ++ labelled_reply format.Line (tag_of label.entry) (name_of label.entry) r))) }
+        ensures opens { IfOk result (λ c. c ≢ change.Opened) }
+        ensures style { self.new.style ≡ self.old.style }
+        ensures err { OnErr result (self.new.gathered.bytes.items ≡ self.old.gathered.bytes.items) }
+    {
+        self.text.clear();
+        push_labelled_reply(
+            &mut self.text,
+            &note_reply(id, Ok(noted)),
+            Format::Line,
+            label,
+        )?;
+        let change = self.push_close(id, Format::Line, label)?;
+        self.gather()?;
+        Ok(change)
+    }
+
+    // Gathers the reply to a note with this outcome as a line of text with this label. After an error the gathered
+    // texts are unchanged.
+    #[inline(always)]
+    fn gather_noted(
+        &mut self,
+        id: u32,
+        noted: Result<Noted, Refusal>,
+        label: Label<'_>,
+        tag_text: &[u8],
+    ) -> Result<(), AllocError>
+        requires { tag_text.now ≡ spec.tag_text (tag_of label) }
+        ensures core { self.new.core ≡ self.old.core }
+        ensures style { self.new.style ≡ self.old.style }
+        ensures ok { OnOk result (self.new.gathered.bytes.items ≡ self.old.gathered.bytes.items
+            ++ labelled_reply format.Line (tag_of label.entry) (name_of label.entry) (note_reply_of id noted)) }
+        ensures err { OnErr result (self.new.gathered.bytes.items ≡ self.old.gathered.bytes.items) }
+    {
+        match noted {
             // most replies of a long script
             Ok(
                 Noted {
@@ -117,7 +287,7 @@ impl LabelledMonitor {
     #[inline(never)]
     fn gather_line(&mut self, reply: &Reply, label: Label<'_>) -> Result<(), AllocError>
         ensures core { self.new.core ≡ self.old.core }
-        ensures format { self.new.format ≡ self.old.format }
+        ensures style { self.new.style ≡ self.old.style }
         ensures ok { OnOk result (self.new.gathered.bytes.items ≡ self.old.gathered.bytes.items
             ++ labelled_reply format.Line (tag_of label.entry) (name_of label.entry) reply.now) }
         ensures err { OnErr result (self.new.gathered.bytes.items ≡ self.old.gathered.bytes.items) }
@@ -129,12 +299,12 @@ impl LabelledMonitor {
 
     /// Returns whether replies are printed as lines of text, where a line asks for no format.
     pub(crate) fn prints_lines(&self) -> bool
-        ensures { IsTrue result → self.now.format ≡ format.Line }
+        ensures { IsTrue result → self.now.style.format ≡ format.Line }
     {
-        matches!(self.format, Format::Line)
+        matches!(self.style.format, Format::Line)
     }
 
-    /// Gathers the text of the last reply.
+    /// Gathers the text of the last item.
     ///
     /// # Errors
     /// `AllocError` where there is no memory for it. The gathered texts are then unchanged.
@@ -156,48 +326,5 @@ fn change_by(reply: &Reply) -> Change
         Reply::Opened { .. } => Change::Opened,
         Reply::Closed { .. } => Change::Closed,
         _ => Change::Unchanged,
-    }
-}
-
-// Makes the step, and appends the reply in this format with this label. Returns what changed.
-fn push_step(
-    text: &mut Vec<u8>,
-    core: &mut Core,
-    step: Step,
-    format: Format,
-    label: Label<'_>,
-) -> Result<Change, AllocError>
-    ensures { IfOk result (λ change. (r : Reply) × IsAnswered (state_of core.old) step r (state_of core.new)
-        × (change ≡ change_by r) × (text.new.items ≡ text.old.items
-        ++ labelled_reply format (tag_of label.entry) (name_of label.entry) r)) }
-{
-    let reply = core.apply(step);
-    push_labelled_reply(text, &reply, format, label)?;
-    Ok(change_by(&reply))
-}
-
-// Carries the item out, and appends what is written for it. Returns what changed.
-fn push_item(
-    text: &mut Vec<u8>,
-    core: &mut Core,
-    item: Item,
-    format: Format,
-    label: Label<'_>,
-) -> Result<Change, AllocError>
-    ensures { IfOk result (λ change. (replies : List Reply) × (more : List ℕ)
-        × Takes format (tag_of label.entry) (name_of label.entry) (state_of core.old) item
-        (state_of core.new) replies more × IsChangeBy replies change
-        × (text.new.items ≡ text.old.items ++ more)) }
-{
-    match item {
-        Item::Step(asked, step) => push_step(text, core, step, reply_format(format, asked), label),
-        Item::BadLine(number) => {
-            push_labelled_bad_line(text, number, format, label.tag)?;
-            Ok(Change::Unchanged)
-        }
-        Item::EndOfText => {
-            push_labelled_end(text, format, label.tag)?;
-            Ok(Change::Unchanged)
-        }
     }
 }

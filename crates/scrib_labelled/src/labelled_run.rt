@@ -10,6 +10,7 @@ use crate::label_options::LabelOptions;
 use crate::line_count::LineCount;
 use crate::line_reading::{LineParts, read_line};
 use crate::named_monitor::NamedMonitor;
+use crate::object_exchange::ObjectText;
 use crate::put_text::PutText;
 use scrib_core::format::Format;
 use scrib_core::step::Step;
@@ -35,6 +36,7 @@ pub(crate) struct LabelledRun {
     pub(crate) options: LabelOptions,
     pub(crate) reader: Reader,
     pub(crate) objects: ObjectReader,
+    pub(crate) object_text: ObjectText,
     pub(crate) named: NamedMonitor,
     // The line so far, as far as it is kept.
     pub(crate) line: Vec<u8>,
@@ -101,7 +103,7 @@ impl LabelledRun {
         }
         append_up_to(&mut self.line, body, capacity)?;
         let line = replace(&mut self.line, Vec::new(self.alloc));
-        self.end_line(line.as_slice())
+        self.end_any_line(line.as_slice())
     }
 
     // Returns how many bytes of the line are kept.
@@ -141,7 +143,7 @@ impl LabelledRun {
     {
         match self.text.take() {
             Some(text) => self.end_text_line(text, line),
-            None => self.end_plain_line(without_cr(line)),
+            None => self.end_any_plain_line(without_cr(line)),
         }
     }
 
@@ -202,7 +204,20 @@ impl LabelledRun {
         self.end_other_line(line)
     }
 
-    // The same of a line that is no object, where it may be any.
+    // The same, where the line may be any.
+    fn end_any_plain_line(&mut self, line: &[u8]) -> Result<(), AllocError>
+        requires { self.old.text ≡ None }
+        ensures ok { OnOk result (EndsPlainLine self.old self.new line.now) }
+        ensures err { OnErr result
+            (self.new.named.monitor.gathered.bytes.items ≡ self.old.named.monitor.gathered.bytes.items) }
+    {
+        if self.options.objects {
+            return self.end_any_object(line);
+        }
+        self.end_other_line(line)
+    }
+
+    // The same of a line that is no object.
     #[inline(never)]
     fn end_other_line(&mut self, line: &[u8]) -> Result<(), AllocError>
         requires text { self.old.text ≡ None }
@@ -258,7 +273,7 @@ impl LabelledRun {
         let line = replace(&mut self.line, Vec::new(self.alloc));
         match self.text.take() {
             Some(text) => self.end_last_text_line(text, line.as_slice()),
-            None => self.end_plain_line(line.as_slice()),
+            None => self.end_any_plain_line(line.as_slice()),
         }
     }
 

@@ -1,9 +1,9 @@
 //! A monitor whose conversations may have names.
 
 use crate::exchange_line::ExchangeLine;
+use crate::label_options::LabelledStyle;
 use crate::labelled_monitor::{Change, LabelledMonitor};
 use crate::line_reading::{LineParts, Session};
-use scrib_core::format::Format;
 use scrib_labels::session_names::SessionNames;
 use scrib_report::label::Label;
 use scrib_script_reader::item::Item;
@@ -17,27 +17,29 @@ pub(crate) struct NamedMonitor {
 }
 
 impl NamedMonitor {
-    ghost use Rattle.std.specs.Prelude.{◌≡◌, ℕ, List, OnErr, OnOk, None, Some};
+    ghost use Rattle.std.specs.Prelude.{◌≡◌, ℕ, List, IfSome, OnErr, OnOk, None, Some, true};
     ghost use Rattle.scrib_core.specs.Answers.{initial};
-    ghost use Rattle.scrib_core.specs.Held.{state_of};
     ghost use Rattle.scrib_core.specs.declared.format.Format.TheVariants as format;
     ghost use Rattle.scrib_core.specs.declared.step.Step.TheVariants.{Note};
     ghost use Rattle.scrib_script_reader.specs.declared.item.Item.TheVariants as item;
     ghost use Rattle.scrib_report.specs.PutBack.{bytes_of, tag_text};
     ghost use Rattle.scrib_labels.specs.Naming.{number_of};
-    ghost use Rattle.scrib_labelled.specs.ExchangeLines.{exchange_label};
+    ghost use Rattle.scrib_labelled.specs.CheckedCores.{state_of};
+    ghost use Rattle.scrib_labels.specs.SessionNames.{is_session_name};
+    ghost use Rattle.scrib_labelled.specs.ExchangeLines.{exchange_label, named_id};
     ghost use Rattle.scrib_labelled.specs.NamedLines.{IsNumbersOf, label_of, session_of};
     ghost use Rattle.scrib_labelled.specs.Progress.{CarriesOut, after_change};
+    ghost use Rattle.scrib_labelled.specs.declared.labelled_monitor.Change.TheVariants as change;
 
     /// Returns a new monitor, without names.
-    pub(crate) fn new(alloc: Global, format: Format) -> NamedMonitor
+    pub(crate) fn new(alloc: Global, style: LabelledStyle) -> NamedMonitor
         ensures state { state_of result.monitor.core ≡ initial }
-        ensures format { result.monitor.format ≡ format }
+        ensures style { result.monitor.style ≡ style }
         ensures names { (name : List ℕ) → number_of result.names name ≡ None }
     {
         NamedMonitor {
             names: SessionNames::new(alloc),
-            monitor: LabelledMonitor::new(alloc, format),
+            monitor: LabelledMonitor::new(alloc, style),
         }
     }
 
@@ -66,14 +68,15 @@ impl NamedMonitor {
         self.monitor.gather()
     }
 
-    /// Notes the event of a line, and gathers its reply as a line of text.
+    /// Notes the event of a line, and gathers its replies as lines of text.
     ///
     /// # Errors
     /// `AllocError` where there is no memory for the text. Nothing is gathered then.
     #[inline(always)]
     pub(crate) fn note(&mut self, line: ExchangeLine<'_>) -> Result<(), AllocError>
         requires tag { line.tag_text.now ≡ tag_text (bytes_of line.tag) }
-        requires lines { self.old.monitor.format ≡ format.Line }
+        requires lines { self.old.monitor.style.format ≡ format.Line }
+        requires numbers { IsNumbersOf self.old.names (exchange_label line).session }
         ensures ok { OnOk result (CarriesOut self.old self.new (exchange_label line.entry)
             (item.Step format.Line (Note line.entry.id line.entry.event))) }
         ensures err { OnErr result
@@ -86,7 +89,30 @@ impl NamedMonitor {
             id,
             event,
         } = line;
-        self.monitor.note(id, event, Label { tag, name }, tag_text)
+        let change = self.monitor.note(id, event, Label { tag, name }, tag_text)?;
+        match change {
+            Change::Closed => self.forget(name),
+            Change::Opened | Change::Unchanged => {}
+        }
+        Ok(())
+    }
+
+    // Takes the number of the name away, if there is a name.
+    #[inline(never)]
+    fn forget(&mut self, name: Option<&[u8]>)
+        requires { IfSome name (λ name. is_session_name name.now ≡ true) }
+        ensures same { self.new ≡ record self.old { names = self.new.names } }
+        ensures named { (id : ℕ) (other : List ℕ) → number_of self.new.names other
+            ≡ after_change (number_of self.old.names) (named_id name.entry id) change.Closed other }
+    {
+        let Some(name) = name else {
+            return;
+        };
+        let Ok(name) = str::from_utf8(name) else {
+            // names are ASCII
+            unreachable!()
+        };
+        self.names.remove(name);
     }
 
     // Gives the name its number where its conversation was opened, and takes it away where that was closed.

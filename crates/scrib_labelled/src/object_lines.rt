@@ -1,13 +1,15 @@
 //! Takes the lines of a script that are JSON objects.
 
-ghost use Rattle.std.specs.Prelude.{IfOk, option_map};
+ghost use Rattle.std.specs.Prelude.{◌≡◌, IfOk, option_map};
 ghost use Rattle.scrib_objects.specs.Objects.{shown};
+ghost use Rattle.scrib_labelled.specs.LabelledLines.{object_options};
 ghost use Rattle.scrib_labelled.specs.ObjectLines.{IsObjectRead};
 
 use crate::label_options::LabelOptions;
 use crate::labelled_line::Untagged;
 use crate::labelled_run::{LabelledRun, tag_of};
 use crate::line_reading::{LineParts, read_untagged};
+use crate::object_exchange::object_exchange;
 use crate::put_text::PutText;
 use scrib_objects::object_line::{ObjectBody, ObjectLine};
 use scrib_objects::object_options::ObjectOptions;
@@ -29,6 +31,30 @@ impl LabelledRun {
     // Takes a line outside module texts, given without its end, as an object.
     #[inline(never)]
     pub(crate) fn end_object(&mut self, line: &[u8]) -> Result<(), AllocError>
+        requires text { self.old.text ≡ None }
+        requires objects { self.old.options.objects ≡ true }
+        ensures ok { OnOk result (EndsPlainLine self.old self.new line.now) }
+        ensures err { OnErr result
+            (self.new.named.monitor.gathered.bytes.items ≡ self.old.named.monitor.gathered.bytes.items) }
+    {
+        // most objects of a long script
+        if self.named.monitor.prints_lines()
+            && let Some(exchange) = object_exchange(
+                &mut self.reader,
+                &self.named.names,
+                self.options,
+                &mut self.object_text,
+                line,
+            )
+        {
+            return self.named.note(exchange);
+        }
+        self.end_any_object(line)
+    }
+
+    // The same of any object.
+    #[inline(never)]
+    pub(crate) fn end_any_object(&mut self, line: &[u8]) -> Result<(), AllocError>
         requires text { self.old.text ≡ None }
         requires objects { self.old.options.objects ≡ true }
         ensures ok { OnOk result (EndsPlainLine self.old self.new line.now) }
@@ -90,9 +116,15 @@ fn read_object(
     if line.len() > MAX_OBJECT_BYTES {
         return Ok(None);
     }
-    let options = ObjectOptions {
+    objects.read(object_options(options), line)
+}
+
+/// Returns which members objects may have.
+pub(crate) fn object_options(options: LabelOptions) -> ObjectOptions
+    ensures { result ≡ object_options options }
+{
+    ObjectOptions {
         tags: options.tags,
         names: options.names,
-    };
-    objects.read(options, line)
+    }
 }

@@ -1,10 +1,10 @@
 //! Runs a script with labels over a monitor, piece by piece.
 
-use crate::label_options::LabelOptions;
+use crate::label_options::LabelledStyle;
 use crate::labelled_run::LabelledRun;
 use crate::line_count::LineCount;
 use crate::named_monitor::NamedMonitor;
-use scrib_core::format::Format;
+use crate::object_exchange::ObjectText;
 use scrib_objects::object_reader::ObjectReader;
 use scrib_script_io::fault::ScriptFault;
 use scrib_script_reader::kept_bytes::next_lf;
@@ -17,25 +17,25 @@ impl LabelledRun {
     ghost use Rattle.std.specs.Prelude.{◌≡◌, ◌<◌, ◌+◌, ◌^◌, true, length, IfOk, IfErr, OnErr, OnOk};
     ghost use Rattle.std.specs.Io.KnownBytes.{Appends};
     ghost use Rattle.scrib_script_io.specs.Faults.{of_output, of_script};
+    ghost use Rattle.scrib_labelled.specs.Behind.{behind};
     ghost use Rattle.scrib_labelled.specs.Progress.{EndIsCut, EndSucceeds, GatherFails, GathersFront, IsNewLabelled};
-    ghost use Rattle.scrib_labelled.specs.Progress.{PieceFails, RunAdvances, Style, Writes, WritesFirst};
+    ghost use Rattle.scrib_labelled.specs.Progress.{PieceFails, RunAdvances, Writes, WritesFirst};
 
     /// Returns a run before the first byte of its script, which may have these limits.
-    pub(crate) fn new(
-        alloc: Global,
-        options: LabelOptions,
-        format: Format,
-        limits: Limits,
-    ) -> LabelledRun
+    pub(crate) fn new(alloc: Global, style: LabelledStyle, limits: Limits) -> LabelledRun
         requires { limits.lines + 1 < 2 ^ 64 }
-        ensures { IsNewLabelled (record { labels = options; format = format }) limits result }
+        ensures { IsNewLabelled style limits result }
     {
         LabelledRun {
             alloc,
-            options,
+            options: style.labels,
             reader: Reader::new(alloc),
             objects: ObjectReader::new(alloc),
-            named: NamedMonitor::new(alloc, format),
+            object_text: ObjectText {
+                line: Vec::new(alloc),
+                tag_text: Vec::new(alloc),
+            },
+            named: NamedMonitor::new(alloc, style),
             line: Vec::new(alloc),
             text: None,
             plain: Vec::new(alloc),
@@ -83,6 +83,7 @@ impl LabelledRun {
     }
 
     // Consumes the bytes up to the end of the next line, and gathers its output. Returns what is left.
+    #[inline(always)]
     fn gather_next<'a>(&mut self, piece: &'a [u8]) -> Result<&'a [u8], ScriptFault>
         ensures ok { IfOk result (λ rest. GathersFront self.old self.new piece.now rest.now) }
         ensures shorter { IfOk result (λ rest. 0 < length piece.now → length rest.now < length piece.now) }
@@ -102,7 +103,7 @@ impl LabelledRun {
     /// # Errors
     /// `Write` where the writer fails, and `OutOfMemory` where there is no memory for a line or a text.
     pub(crate) fn finish<W: Write>(&mut self, writer: &mut W) -> Result<(), ScriptFault>
-        ensures ok { OnOk result (Writes (λ out. EndSucceeds self.old out)
+        ensures ok { OnOk result (Writes (λ out. EndSucceeds self.old (behind self.new.named) out)
             (W.contents writer.old) (W.contents writer.new)) }
         ensures err { OnErr result (Writes (λ out. EndIsCut self.old out)
             (W.contents writer.old) (W.contents writer.new)) }
@@ -115,7 +116,8 @@ impl LabelledRun {
 
     // Takes the last line, if there is one, and the end of the script, and gathers their output.
     fn gather_end(&mut self) -> Result<(), ScriptFault>
-        ensures ok { OnOk result (EndSucceeds self.old self.new.named.monitor.gathered.bytes.items) }
+        ensures ok { OnOk result
+            (EndSucceeds self.old (behind self.new.named) self.new.named.monitor.gathered.bytes.items) }
         ensures err { OnErr result (EndIsCut self.old self.new.named.monitor.gathered.bytes.items) }
         ensures fault { IfErr result (λ e. of_output e ≡ true) }
     {

@@ -4,10 +4,11 @@ ghost use Rattle.std.specs.Prelude.{◌≡◌, ◌<◌, ◌+◌, ◌^◌, ℕ, L
 ghost use Rattle.std.specs.Io.KnownBytes.{Appends};
 ghost use Rattle.scrib_script_io.specs.Faults.{of_script};
 ghost use Rattle.scrib_script_reader.specs.Limits.{IsWithinLimits};
+ghost use Rattle.scrib_labelled.specs.Behind.{behind};
 ghost use Rattle.scrib_labelled.specs.LabelledRuns.{IsLabelledOutput, IsLabelledPart};
 ghost use Rattle.scrib_labelled.specs.Progress.{IsNewLabelled, LabelledRunSucceeds, LabelledRunFails, style_of};
 
-pub use crate::label_options::LabelledFormat;
+pub use crate::label_options::LabelledStyle;
 use crate::labelled_run::LabelledRun;
 pub use scrib_script_io::fault::ScriptFault;
 use scrib_script_io::reading::read_piece;
@@ -17,15 +18,17 @@ use std::alloc::Global;
 use std::io::{Read, Write};
 use std::mem::forget;
 
-// The number of bytes that one read asks for.
-const SCRIPT_PIECE_BYTES: usize = 65_536;
+/// The number of bytes that one read asks for.
+pub(crate) const SCRIPT_PIECE_BYTES: usize = 65_536;
 
-/// Reads a script with labels, makes its steps over a new monitor, and writes each reply in this format.
+/// Reads a script with labels, makes its steps over a new monitor, and writes each reply in the format of `style`.
 ///
-/// `style` has which labels the lines have, and the format. With tags, a line may begin with `@`, a tag and a blank; the reply to the
-/// line begins with the same tag. With names, a session name is written where a script has the number of a conversation,
-/// and the reply has that name in place of the number. A name has its number from the reply that opens its conversation
-/// to the one that closes it.
+/// With tags, a line may begin with `@`, a tag and a blank; the reply to the line begins with the same tag. With names,
+/// a session name is written where a script has the number of a conversation, and the reply has that name in place of
+/// the number. A name has its number from the reply that opens its conversation to the one that closes it.
+///
+/// Where `style` closes conversations, each is closed once it is complete, as in `run_closing_script`. The reply to such
+/// a close has the tag and the name of the line that completed the conversation.
 ///
 /// Replies, bad lines, flushes and memory are as in `run_script`.
 ///
@@ -37,32 +40,35 @@ const SCRIPT_PIECE_BYTES: usize = 65_536;
 ///   its reply, and the script continues.
 pub fn run_labelled_script<R: Read, W: Write>(
     alloc: Global,
-    style: LabelledFormat,
+    style: LabelledStyle,
     limits: Limits,
     reader: &mut R,
     writer: &mut W,
 ) -> Result<(), ScriptFault>
     requires { limits.lines + 1 < 2 ^ 64 }
     ensures ok { OnOk result (IfSome (R.remaining reader.old) (λ input. (output : List ℕ)
-        × IsLabelledOutput style.labels style.format input output
+        × IsLabelledOutput style input output
         × Appends (W.contents writer.old) (W.contents writer.new) output)) }
     ensures err { OnErr result (IfSome (R.remaining reader.old) (λ input. (part : List ℕ)
-        × IsLabelledPart style.labels style.format input part
+        × IsLabelledPart style input part
         × Appends (W.contents writer.old) (W.contents writer.new) part)) }
     ensures fault { IfErr result (λ e. of_script e ≡ true) }
     ensures within { OnOk result (IfSome (R.remaining reader.old) (λ input. IsWithinLimits limits input)) }
 {
     let mut piece = vec![in alloc; 0u8; SCRIPT_PIECE_BYTES]?;
-    let mut run = LabelledRun::new(alloc, style.labels, style.format, limits);
+    let mut run = LabelledRun::new(alloc, style, limits);
     run_by_pieces(&mut run, reader, writer, piece.as_mut_slice())?;
     // Freeing long logs takes up to a tenth of a run, and the process ends here.
     forget(run);
     flush_out(writer)
 }
 
-// Reads a whole script into a run that has read nothing yet, with `piece` as the buffer of the reads. The replies of a
-// piece are flushed before the next is read.
-fn run_by_pieces<R: Read, W: Write>(
+/// Reads a whole script into a run that has read nothing yet, with `piece` as the buffer of the reads. The replies of a
+/// piece are flushed before the next is read.
+///
+/// # Errors
+/// As those of [`run_labelled_script`].
+pub(crate) fn run_by_pieces<R: Read, W: Write>(
     run: &mut LabelledRun,
     reader: &mut R,
     writer: &mut W,
@@ -71,7 +77,7 @@ fn run_by_pieces<R: Read, W: Write>(
     requires new { IsNewLabelled (style_of run.old) run.old.count.limits run.old }
     requires some { 0 < length piece.old }
     ensures ok { OnOk result (LabelledRunSucceeds (style_of run.old) run.old.count.limits
-        (R.remaining reader.old) (W.contents writer.old) (W.contents writer.new)) }
+        (R.remaining reader.old) (behind run.new.named) (W.contents writer.old) (W.contents writer.new)) }
     ensures err { OnErr result (LabelledRunFails (style_of run.old)
         (R.remaining reader.old) (W.contents writer.old) (W.contents writer.new)) }
     ensures fault { IfErr result (λ e. of_script e ≡ true) }

@@ -1,6 +1,7 @@
 use Rattle.std.proofs.Common.{◌<◌, length, take, arith}
 use Rattle.std.specs.Io.KnownBytes.{IsAtEnd}
 use Rattle.std.proofs.lemmas.Result.{err_from_is_err_and, on_ok_weaker, on_err_weaker}
+use Rattle.scrib_labelled.specs.Behind.{behind}
 use Rattle.scrib_labelled.proofs.InputLemmas.{reaches_none, reaches_flushed, reaches_end, reaches_went, reached_end, end_failed, read_failed, piece_failed}
 use Rattle.scrib_labelled.specs.Progress.{style_of}
 use Rattle.scrib_labelled.proofs.run_labelled_script.run_by_pieces.Goals as goal
@@ -22,7 +23,7 @@ returns-then-n-eq0-clause-ok g c =
     let at_end : IsAtEnd (g.R.Read.remaining c.read_piece.new.reader) = c.in_ok-n.ensures.bytes.1 c.if-n-eq0.true some in
     let reached = reaches_end (style_of c.args.run.now) c.args.run.now.count.limits c.loop.run r0 (g.R.Read.remaining c.loop.reader) (g.R.Read.remaining c.read_piece.new.reader) w0 (g.W.Write.contents c.loop.writer) c.in_ok-n.n c.read_piece.new.piece c.loop.invariant c.in_ok-n.ensures.bytes.0 c.if-n-eq0.true in
     on_ok_weaker c.finish.result
-    (λ ended. reached_end (style_of c.args.run.now) c.args.run.now.count.limits c.loop.run (g.R.Read.remaining c.args.reader.now) (g.R.Read.remaining c.read_piece.new.reader) (g.W.Write.contents c.args.writer.now) (g.W.Write.contents c.loop.writer) (g.W.Write.contents c.finish.new.writer) reached at_end ended)
+    (λ ended. reached_end (style_of c.args.run.now) c.args.run.now.count.limits c.loop.run (behind c.finish.new.self.named) (g.R.Read.remaining c.args.reader.now) (g.R.Read.remaining c.read_piece.new.reader) (g.W.Write.contents c.args.writer.now) (g.W.Write.contents c.loop.writer) (g.W.Write.contents c.finish.new.writer) reached at_end ended)
     c.finish.ensures.ok
 
 pub returns-then-n-eq0-clause-err : goal.returns-then-n-eq0-clause-err

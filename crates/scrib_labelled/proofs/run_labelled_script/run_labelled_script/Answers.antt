@@ -1,22 +1,23 @@
 use Rattle.std.proofs.Common.{◌∙◌, ap}
 use Rattle.std.proofs.lemmas.Result.{err_from_is_err_and}
+use Rattle.scrib_labelled.specs.Behind.{behind}
 use Rattle.scrib_script_io.specs.Faults.{of_script}
 use Rattle.scrib_cli.proofs.Results.{on_ok_any, on_err_any}
 use Rattle.scrib_labelled.proofs.InputLemmas.{new_itself, flushed, flush_failed, ran_within, never_started, same_success, same_failure, written_fault}
 use Rattle.scrib_labelled.proofs.run_labelled_script.run_labelled_script.Goals as goal
 
 pub run_by_pieces-requires-clause-new : goal.run_by_pieces-requires-clause-new
-run_by_pieces-requires-clause-new g c = new_itself (record { labels = c.args.style.labels; format = c.args.style.format }) c.args.limits c.new-run.result c.new-run.ensures
+run_by_pieces-requires-clause-new g c = new_itself c.args.style c.args.limits c.new-run.result c.new-run.ensures
 
 pub returns-in_err-piece-clause-err : goal.returns-in_err-piece-clause-err
 returns-in_err-piece-clause-err g c =
     let p = err_from_is_err_and c.from_residual.result c.from_residual.ensures.1 in
-    rw p.1 (never_started (record { labels = c.args.style.labels; format = c.args.style.format }) (g.R.Read.remaining c.args.reader.now) (g.W.Write.contents c.args.writer.now))
+    rw p.1 (never_started c.args.style (g.R.Read.remaining c.args.reader.now) (g.W.Write.contents c.args.writer.now))
 
 pub returns-in_err-run_by_pieces-clause-err : goal.returns-in_err-run_by_pieces-clause-err
 returns-in_err-run_by_pieces-clause-err g c =
     let p = err_from_is_err_and c.from_residual-in_err-run_by_pieces.result c.from_residual-in_err-run_by_pieces.ensures.1 in
-    rw p.1 (same_failure (record { labels = c.args.style.labels; format = c.args.style.format }) c.args.limits c.new-run.result (g.R.Read.remaining c.args.reader.now) (g.W.Write.contents c.args.writer.now) (g.W.Write.contents c.run_by_pieces.new.writer) c.new-run.ensures c.in_err-run_by_pieces.ensures.err)
+    rw p.1 (same_failure c.args.style c.args.limits c.new-run.result (g.R.Read.remaining c.args.reader.now) (g.W.Write.contents c.args.writer.now) (g.W.Write.contents c.run_by_pieces.new.writer) c.new-run.ensures c.in_err-run_by_pieces.ensures.err)
 
 pub returns-in_err-run_by_pieces-clause-fault : goal.returns-in_err-run_by_pieces-clause-fault
 returns-in_err-run_by_pieces-clause-fault g c =
@@ -25,20 +26,20 @@ returns-in_err-run_by_pieces-clause-fault g c =
 
 pub returns-clause-ok : goal.returns-clause-ok
 returns-clause-ok g c =
-    let ran = same_success (record { labels = c.args.style.labels; format = c.args.style.format }) c.args.limits c.new-run.result (g.R.Read.remaining c.args.reader.now) (g.W.Write.contents c.args.writer.now) (g.W.Write.contents c.run_by_pieces.new.writer) c.new-run.ensures c.in_ok-run_by_pieces.ensures.ok in
+    let ran = same_success c.args.style c.args.limits c.new-run.result (g.R.Read.remaining c.args.reader.now) (behind c.run_by_pieces.new.run.named) (g.W.Write.contents c.args.writer.now) (g.W.Write.contents c.run_by_pieces.new.writer) c.new-run.ensures c.in_ok-run_by_pieces.ensures.ok in
     on_ok_any c.flush_out.result
-    (flushed (record { labels = c.args.style.labels; format = c.args.style.format }) c.args.limits (g.R.Read.remaining c.args.reader.now) (g.W.Write.contents c.args.writer.now) (g.W.Write.contents c.run_by_pieces.new.writer) (g.W.Write.contents c.flush_out.new.writer) ran c.flush_out.ensures.kept)
+    (flushed c.args.style c.args.limits (g.R.Read.remaining c.args.reader.now) (behind c.run_by_pieces.new.run.named) (g.W.Write.contents c.args.writer.now) (g.W.Write.contents c.run_by_pieces.new.writer) (g.W.Write.contents c.flush_out.new.writer) ran c.flush_out.ensures.kept)
 
 pub returns-clause-err : goal.returns-clause-err
 returns-clause-err g c =
-    let ran = same_success (record { labels = c.args.style.labels; format = c.args.style.format }) c.args.limits c.new-run.result (g.R.Read.remaining c.args.reader.now) (g.W.Write.contents c.args.writer.now) (g.W.Write.contents c.run_by_pieces.new.writer) c.new-run.ensures c.in_ok-run_by_pieces.ensures.ok in
+    let ran = same_success c.args.style c.args.limits c.new-run.result (g.R.Read.remaining c.args.reader.now) (behind c.run_by_pieces.new.run.named) (g.W.Write.contents c.args.writer.now) (g.W.Write.contents c.run_by_pieces.new.writer) c.new-run.ensures c.in_ok-run_by_pieces.ensures.ok in
     on_err_any c.flush_out.result
-    (flush_failed (record { labels = c.args.style.labels; format = c.args.style.format }) c.args.limits (g.R.Read.remaining c.args.reader.now) (g.W.Write.contents c.args.writer.now) (g.W.Write.contents c.run_by_pieces.new.writer) (g.W.Write.contents c.flush_out.new.writer) ran c.flush_out.ensures.kept)
+    (flush_failed c.args.style c.args.limits (g.R.Read.remaining c.args.reader.now) (behind c.run_by_pieces.new.run.named) (g.W.Write.contents c.args.writer.now) (g.W.Write.contents c.run_by_pieces.new.writer) (g.W.Write.contents c.flush_out.new.writer) ran c.flush_out.ensures.kept)
 
 pub returns-clause-within : goal.returns-clause-within
 returns-clause-within g c =
-    let ran = same_success (record { labels = c.args.style.labels; format = c.args.style.format }) c.args.limits c.new-run.result (g.R.Read.remaining c.args.reader.now) (g.W.Write.contents c.args.writer.now) (g.W.Write.contents c.run_by_pieces.new.writer) c.new-run.ensures c.in_ok-run_by_pieces.ensures.ok in
-    on_ok_any c.flush_out.result (ran_within (record { labels = c.args.style.labels; format = c.args.style.format }) c.args.limits (g.R.Read.remaining c.args.reader.now) (g.W.Write.contents c.args.writer.now) (g.W.Write.contents c.run_by_pieces.new.writer) ran)
+    let ran = same_success c.args.style c.args.limits c.new-run.result (g.R.Read.remaining c.args.reader.now) (behind c.run_by_pieces.new.run.named) (g.W.Write.contents c.args.writer.now) (g.W.Write.contents c.run_by_pieces.new.writer) c.new-run.ensures c.in_ok-run_by_pieces.ensures.ok in
+    on_ok_any c.flush_out.result (ran_within c.args.style c.args.limits (g.R.Read.remaining c.args.reader.now) (behind c.run_by_pieces.new.run.named) (g.W.Write.contents c.args.writer.now) (g.W.Write.contents c.run_by_pieces.new.writer) ran)
 
 pub returns-clause-fault : goal.returns-clause-fault
 returns-clause-fault g c = written_fault c.flush_out.result c.flush_out.ensures.fault

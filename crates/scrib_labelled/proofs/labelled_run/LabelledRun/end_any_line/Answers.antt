@@ -9,4 +9,4 @@ pub returns-in-Some-clause-ok : goal.returns-in-Some-clause-ok
 returns-in-Some-clause-ok c = on_ok_weaker c.end_text_line.result (λ e. ends_in_text c.args.self.now c.end_text_line.new.self c.in-Some.text c.args.line.now (sym c.take.ensures.value ∙ c.in-Some.is) (subst (λ (t : Option PutText). EndsTextLine (record c.args.self.now { text = t }) c.end_text_line.new.self c.in-Some.text c.args.line.now) c.take.ensures.after e)) c.end_text_line.ensures.ok
 
 pub returns-in-None-clause-ok : goal.returns-in-None-clause-ok
-returns-in-None-clause-ok c = on_ok_weaker c.end_plain_line.result (λ e. ends_outside c.args.self.now c.end_plain_line.new.self c.args.line.now c.without_cr.result.now (sym c.take.ensures.value ∙ c.in-None.is) c.without_cr.ensures (subst (λ (t : Option PutText). EndsPlainLine (record c.args.self.now { text = t }) c.end_plain_line.new.self c.without_cr.result.now) c.take.ensures.after e)) c.end_plain_line.ensures.ok
+returns-in-None-clause-ok c = on_ok_weaker c.end_any_plain_line.result (λ e. ends_outside c.args.self.now c.end_any_plain_line.new.self c.args.line.now c.without_cr.result.now (sym c.take.ensures.value ∙ c.in-None.is) c.without_cr.ensures (subst (λ (t : Option PutText). EndsPlainLine (record c.args.self.now { text = t }) c.end_any_plain_line.new.self c.without_cr.result.now) c.take.ensures.after e)) c.end_any_plain_line.ensures.ok

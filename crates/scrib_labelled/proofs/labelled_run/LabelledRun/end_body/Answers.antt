@@ -15,9 +15,9 @@ returns-then-is_empty-clause-ok c =
 
 pub returns-clause-ok : goal.returns-clause-ok
 returns-clause-ok c =
-    on_ok_weaker c.end_line-2.result
+    on_ok_weaker c.end_any_line.result
     (λ ended.
-    ends_long c.args.self.now c.end_line-2.new.self c.replace-line.new.dest c.args.body.now _
+    ends_long c.args.self.now c.end_any_line.new.self c.replace-line.new.dest c.args.body.now _
     (ap (λ (v : Vec ℕ Global). v.items) c.replace-line.ensures.after ∙ c.new.ensures.items)
     (λ before held short.
     let e = c.capacity-capacity.ensures before held in
@@ -25,4 +25,4 @@ returns-clause-ok c =
     ∙ subst (λ (n : ℕ). c.append_up_to.new.kept.items ≡ take n (c.args.self.now.line.items ++ c.args.body.now)) e
     (c.in_ok-append_up_to.ensures (omega (arith, short, e, c.args.self.now.line.ok.0))))
     ended)
-    c.end_line-2.ensures.ok
+    c.end_any_line.ensures.ok

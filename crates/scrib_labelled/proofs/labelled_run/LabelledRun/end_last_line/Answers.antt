@@ -22,7 +22,7 @@ returns-in-Some-clause-ok c =
 pub returns-clause-ok : goal.returns-clause-ok
 returns-clause-ok c =
     let is : c.as_slice-in-None.result.now ≡ c.args.self.now.line.items = c.as_slice-in-None.ensures.value ∙ ap (λ (v : Vec ℕ Global). v.items) c.replace-line.ensures.value in
-    on_ok_weaker c.end_plain_line.result
-    (λ e. last_outside c.args.self.now c.end_plain_line.new.self c.replace-line.new.dest c.as_slice-in-None.result.now is (some_items c.args.self.now.line c.as_slice-in-None.result.now is (sym c.is_empty.ensures ∙ c.if-is_empty.false)) (sym c.take.ensures.value ∙ c.in-None.is)
-    (subst (λ (t : Option PutText). EndsPlainLine (record c.args.self.now { line = c.replace-line.new.dest; text = t }) c.end_plain_line.new.self c.as_slice-in-None.result.now) c.take.ensures.after e))
-    c.end_plain_line.ensures.ok
+    on_ok_weaker c.end_any_plain_line.result
+    (λ e. last_outside c.args.self.now c.end_any_plain_line.new.self c.replace-line.new.dest c.as_slice-in-None.result.now is (some_items c.args.self.now.line c.as_slice-in-None.result.now is (sym c.is_empty.ensures ∙ c.if-is_empty.false)) (sym c.take.ensures.value ∙ c.in-None.is)
+    (subst (λ (t : Option PutText). EndsPlainLine (record c.args.self.now { line = c.replace-line.new.dest; text = t }) c.end_any_plain_line.new.self c.as_slice-in-None.result.now) c.take.ensures.after e))
+    c.end_any_plain_line.ensures.ok

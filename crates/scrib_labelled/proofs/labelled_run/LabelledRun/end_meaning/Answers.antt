@@ -11,7 +11,7 @@ use Rattle.scrib_labelled.proofs.labelled_run.LabelledRun.end_meaning.Goals as g
 
 pub returns-in-Skipped-clause-ok : goal.returns-in-Skipped-clause-ok
 returns-in-Skipped-clause-ok c = record {
-  same = record { options = refl; format = refl; line = refl; count = refl };
+  same = record { options = refl; style = refl; line = refl; count = refl };
   wrote = gathers_nothing c.args.self.now _ refl;
   ends = λ l is.
       line_skipped c.args.self.now _ l (label_of c.args.parts) refl c.requires.text
@@ -20,7 +20,7 @@ returns-in-Skipped-clause-ok c = record {
 
 pub returns-in_ok-new-in-Put-clause-ok : goal.returns-in_ok-new-in-Put-clause-ok
 returns-in_ok-new-in-Put-clause-ok c = record {
-  same = record { options = refl; format = refl; line = refl; count = refl };
+  same = record { options = refl; style = refl; line = refl; count = refl };
   wrote = gathers_nothing c.args.self.now _ refl;
   ends = λ l is.
       line_begins c.args.self.now _ l (label_of c.args.parts) c.in-Put.format c.in_ok-new-in-Put.field-0 refl refl
@@ -32,7 +32,7 @@ pub returns-in-Step-clause-ok : goal.returns-in-Step-clause-ok
 returns-in-Step-clause-ok c =
     on_ok_weaker c.carry_out.result
     (λ h. record {
-      same = record { options = refl; format = h.format; line = refl; count = refl };
+      same = record { options = refl; style = h.style; line = refl; count = refl };
       wrote = gathers_output c.args.self.now _ (label_of c.args.parts) (item.Step c.in-Step.format c.in-Step.step) h;
       ends = λ l is.
           line_makes c.args.self.now _ l (label_of c.args.parts) c.in-Step.format c.in-Step.step c.requires.text
@@ -48,7 +48,7 @@ returns-in-Bad-clause-ok c =
     let h : CarriesOut c.args.self.now.named c.carry_out-in-Bad.new.self (label_of c.args.parts) (item.BadLine (c.args.self.now.count.lines + 1)) =
     subst (λ (n : ℕ). CarriesOut c.args.self.now.named c.carry_out-in-Bad.new.self (label_of c.args.parts) (item.BadLine n)) c.number.ensures h0 in
     record {
-      same = record { options = refl; format = h.format; line = refl; count = refl };
+      same = record { options = refl; style = h.style; line = refl; count = refl };
       wrote = record { more = h.more; grows = h.grows };
       ends = λ l is.
           line_bad c.args.self.now _ l (label_of c.args.parts) c.requires.text

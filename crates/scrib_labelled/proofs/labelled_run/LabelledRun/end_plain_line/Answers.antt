@@ -19,7 +19,7 @@ returns-clause-ok c =
     let step = Note exchange.id exchange.event in
     on_ok_weaker c.note.result
     (λ h. record {
-      same = record { options = refl; format = h.format; line = refl; count = refl };
+      same = record { options = refl; style = h.style; line = refl; count = refl };
       wrote = gathers_output c.args.self.now _ label (item.Step format.Line step) h;
       ends = λ l cut.
           line_makes c.args.self.now _ l label format.Line step c.requires

@@ -8,7 +8,7 @@ use Rattle.scrib_labelled.proofs.labelled_run.LabelledRun.end_text_line.Goals as
 
 pub returns-then-not-is_text_end-clause-ok : goal.returns-then-not-is_text_end-clause-ok
 returns-then-not-is_text_end-clause-ok c = record {
-  same = record { options = refl; format = refl; line = refl; count = refl };
+  same = record { options = refl; style = refl; line = refl; count = refl };
   wrote = gathers_nothing c.args.self.now _ refl;
   ends = λ t full held is.
       line_goes_on c.args.self.now _ full c.args.line.now c.args.text c.add_line.new.self t refl refl held c.in_ok-add_line.ensures is

@@ -1,6 +1,9 @@
 use Rattle.std.proofs.lemmas.Result.{err_from_is_err_and}
-use Rattle.scrib_labelled.proofs.PieceLemmas.{consumed_more, consumed_fails, consumed_written, consumed_cut}
+use Rattle.scrib_labelled.proofs.PieceLemmas.{consumed_none, consumed_more, consumed_fails, consumed_written, consumed_cut}
 use Rattle.scrib_labelled.proofs.labelled_run.LabelledRun.gather_piece.Goals as goal
+
+pub loop-rest-init : goal.loop-rest-init
+loop-rest-init g c = consumed_none c.args.self.now c.clear.new.self c.args.piece.now (g.W.Write.contents c.args.writer.now) c.clear.ensures
 
 pub returns-in_err-rest-clause-err : goal.returns-in_err-rest-clause-err
 returns-in_err-rest-clause-err g c =

@@ -4,5 +4,5 @@ use Rattle.scrib_labelled.proofs.labelled_run.LabelledRun.new.Goals as goal
 
 pub returns : goal.returns
 returns c =
-    is_new (record { labels = c.args.options; format = c.args.format }) c.args.limits _ refl c.new-3.ensures.format c.new-6.ensures.limits c.new-6.ensures.lines c.new-6.ensures.bytes c.new-4.ensures.items refl
-    c.new-3.ensures.names c.new-3.ensures.state
+    is_new c.args.style c.args.limits _ refl c.new-5.ensures.style c.new-8.ensures.limits c.new-8.ensures.lines c.new-8.ensures.bytes c.new-6.ensures.items refl
+    c.new-5.ensures.names c.new-5.ensures.state

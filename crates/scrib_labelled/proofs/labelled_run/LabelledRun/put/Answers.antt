@@ -10,7 +10,7 @@ pub returns-clause-ok : goal.returns-clause-ok
 returns-clause-ok c =
     on_ok_weaker c.carry_out.result
     (λ h. record {
-      same = record { options = refl; format = h.format; line = refl; count = refl };
+      same = record { options = refl; style = h.style; line = refl; count = refl };
       rest = refl;
       label = label_of (record { tag = c.tag_of.result; session = None });
       tag = c.tag_of.ensures;

@@ -33,7 +33,7 @@ returns-clause-ok c =
     ] in
     on_ok_weaker c.gather.result
     (λ h. carries_item c.args.self.now _ c.take.new.self (label_of c.args.parts) c.args.item c.in_ok-change.change
-    (subst (λ (n : Option (List ℕ)). TakesItem c.args.self.now.monitor c.take.new.self (bytes_of c.args.parts.tag) n c.args.item c.in_ok-change.change) name c.in_ok-change.ensures.ok)
+    (subst (λ (n : Option (List ℕ)). TakesItem c.args.self.now.monitor c.take.new.self (bytes_of c.args.parts.tag) n c.args.item c.take.new.self.text.items c.in_ok-change.change) name c.in_ok-change.ensures.ok)
     c.in_ok-change.ensures.same
     (c.gather.ensures.same ∙ ap (λ (m : LabelledMonitor). record m { gathered = c.gather.new.self.gathered }) monitor)
     (h ∙ ap (λ (m : LabelledMonitor). m.gathered.bytes.items ++ m.text.items) monitor) names)
