@@ -3,15 +3,20 @@
 ghost use Rattle.std.specs.Prelude.{◌<◌, ◌+◌, ◌^◌};
 
 use crate::held_scripts::open;
-use crate::outcomes::flush_and_print_fault;
-use crate::request::{format_of, limits_of};
+use crate::outcomes::{flush_and_print_fault, refuse_value};
+use crate::request::{format_of, limits_of, session_key_of};
 use crate::run_command_line::Streams;
+use crate::subcommands::Report;
 use clap::ArgMatches;
 use scrib_cli::commands::fault::CommandFault;
 use scrib_cli::commands::folder::SystemFiles;
 use scrib_cli::commands::opened::Opened;
+use scrib_cli::explanation::Explained;
+use scrib_labelled::explain_labelled_script::explain_labelled_script;
 use scrib_labelled::label_options::{LabelOptions, LabelledStyle};
+use scrib_labelled::next_labelled_script::next_labelled_script;
 use scrib_labelled::run_labelled_script::run_labelled_script;
+use scrib_labelled::session_key::SessionKey;
 use scrib_script_reader::limits::Limits;
 use std::alloc::Global;
 use std::io::{Input, Read, Write};
@@ -88,6 +93,7 @@ pub(crate) fn report_labelled<R: Files + AllocGlobal, I: Input, W: Write, E: Pri
 }
 
 // What a command reports of which conversation of a script with labels.
+#[derive(Clone, Copy)]
 struct LabelledQuery<'a> {
     report: Report,
     labels: LabelOptions,

@@ -7,6 +7,8 @@ use scrib_cli::id::id_of;
 use scrib_cli::role_query::{Form, RoleQuery};
 use scrib_core::format::Format;
 use scrib_labelled::label_options::LabelOptions;
+use scrib_labelled::session_key::SessionKey;
+use scrib_labels::session_name::is_session_name;
 use scrib_run_service::shape::{Shape, ShapeFault};
 use scrib_script_reader::limits::Limits;
 use scrib_types::profile::Profile;

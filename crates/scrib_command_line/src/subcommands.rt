@@ -2,9 +2,9 @@
 
 use crate::closing_scripts::watch_closing;
 use crate::held_scripts::watch_held;
-use crate::labelled_scripts::watch_labelled;
+use crate::labelled_scripts::{report_labelled, watch_labelled};
 use crate::outcomes::{flush_and_print_fault, refuse_value};
-use crate::request::{format_of, labels_of, limits_of, profile_of, query_of, shape_of};
+use crate::request::{format_of, labels_of, limits_of, number_of, profile_of, query_of, shape_of};
 use crate::run_command_line::Streams;
 use crate::run_files::{RunScripts, run_files};
 use clap::ArgMatches;
@@ -16,7 +16,6 @@ use scrib_cli::commands::next::next;
 use scrib_cli::commands::role_query::query_files;
 use scrib_cli::commands::script_input::ScriptInput;
 use scrib_cli::commands::watch::watch;
-use scrib_cli::id::id_of;
 use scrib_cli::role_query::Form;
 use scrib_run_service::options::Options;
 use scrib_run_service::progress::StandardError;
