@@ -1,21 +1,13 @@
 //! What each role may do next after short logs, as text.
 
+use crate::short_logs::monitor_after;
 use scrib_core::monitor::Core;
-use scrib_core::step::Step;
 use scrib_global::fault::ExplainFault;
 use scrib_global::next::{RoleNext, RoleStatus, next_of_roles};
-use scrib_script_reader::line::{Line, line_of};
-use scrib_types::containers::Items;
 use scrib_types::event::Action;
 use scrib_types::text::{push_action, push_number};
 use std::alloc::{AllocError, Global};
 use std::test::Fail;
-
-const MODULE: &[u8] = b"module k;
-global protocol K(role A, role B, role C, role D) {
-  choice at A { l(Int) from A to B; } or { r() from A to B; }
-  z() from C to B;
-}";
 
 // The lines of a log, and what each role may do then.
 const ROWS: [(&[&str], &str); 6] = [
@@ -93,29 +85,6 @@ fn push_all(out: &mut Vec<u8>, list: &[RoleStatus]) -> Result<(), AllocError> {
         push_status(out, status)?;
     }
     Ok(())
-}
-
-// Makes the step of the line. A line that is no step is left out.
-fn make(core: &mut Core, alloc: Global, line: &str) -> Result<(), AllocError> {
-    if let Line::Step(_, step) = line_of(alloc, line.as_bytes())? {
-        let _reply = core.apply(step);
-    }
-    Ok(())
-}
-
-// The monitor after these lines of a conversation of the protocol.
-fn monitor_after(alloc: Global, lines: &[&str]) -> Result<Core, AllocError> {
-    let mut core = Core::new(alloc);
-    let mut text = Vec::new(alloc);
-    text.extend_from_slice(MODULE)?;
-    let _reply = core.apply(Step::Put {
-        text: Items::from_vec(text),
-    });
-    make(&mut core, alloc, "open 1 k.K")?;
-    for line in lines {
-        make(&mut core, alloc, line)?;
-    }
-    Ok(core)
 }
 
 fn next_text(alloc: Global, core: &Core) -> Result<Vec<u8>, AllocError> {

@@ -1,6 +1,7 @@
 //! Objects, and what each stands for.
 
 use scrib_core::format::Format;
+use scrib_objects::exchange_object::{ExchangeObject, exchange_object};
 use scrib_objects::object_line::{ObjectBody, ObjectLine};
 use scrib_objects::object_options::ObjectOptions;
 use scrib_objects::object_reader::ObjectReader;
@@ -85,6 +86,67 @@ const PLAIN_OBJECTS: [(&str, &str); 3] = [
     ("{\"do\":\"ask\",\"id\":\"1\"}", "bad"),
     ("{\"do\":\"ask\",\"id\":1,\"tag\":0}", "ask 1"),
 ];
+
+// Objects, and what they stand for where they are exchanges that are spelled as the program prints objects.
+const EXCHANGES: [(&str, &str); 7] = [
+    (
+        "{\"do\":\"send\",\"from\":\"A\",\"id\":1,\"message\":\"hello(Int)\",\"to\":\"B\"}",
+        "send 1 A B hello(Int)",
+    ),
+    (
+        "{\"do\":\"recv\",\"from\":\"A\",\"id\":\"order-8\",\"message\":\"hello()\",\"tag\":\"17\",\"to\":\"B\"}",
+        "@17 recv order-8 A B hello()",
+    ),
+    (
+        "{\"do\":\"recv\", \"from\":\"A\",\"id\":1,\"message\":\"hello()\",\"to\":\"B\"}",
+        "other",
+    ),
+    (
+        "{\"from\":\"A\",\"do\":\"recv\",\"id\":1,\"message\":\"hello()\",\"to\":\"B\"}",
+        "other",
+    ),
+    (
+        "{\"do\":\"recv\",\"from\":\"\\u0041\",\"id\":1,\"message\":\"hello()\",\"to\":\"B\"}",
+        "other",
+    ),
+    (
+        "{\"do\":\"recv\",\"from\":\"A\",\"id\":01,\"message\":\"hello()\",\"to\":\"B\"}",
+        "other",
+    ),
+    ("{\"do\":\"join\",\"id\":1,\"role\":\"A\"}", "other"),
+];
+
+// The line, behind its tag.
+fn printed_exchange(
+    alloc: Global,
+    object: Option<ExchangeObject<'_>>,
+) -> Result<Vec<u8>, AllocError> {
+    let mut out = Vec::new(alloc);
+    let Some(object) = object else {
+        out.extend_from_slice(b"other")?;
+        return Ok(out);
+    };
+    if let Some(tag) = object.tag {
+        out.extend_from_slice(b"@")?;
+        out.extend_from_slice(tag)?;
+        out.extend_from_slice(b" ")?;
+    }
+    out.extend_from_slice(object.word)?;
+    for field in [object.id, object.from, object.to, object.message] {
+        out.extend_from_slice(b" ")?;
+        out.extend_from_slice(field)?;
+    }
+    Ok(out)
+}
+
+#[test]
+fn exchanges_are_read_in_one_pass(rt: HostRuntime) -> Result<(), Fail> {
+    for (object, wanted) in EXCHANGES {
+        let line = printed_exchange(rt.alloc(), exchange_object(ALL, object.as_bytes()))?;
+        assert_eq!(rt; line.as_slice(), wanted.as_bytes(), "{object}");
+    }
+    Ok(())
+}
 
 // The line, behind its tag, and a put with its text.
 fn printed(alloc: Global, line: Option<ObjectLine>) -> Result<Vec<u8>, AllocError> {

@@ -7,8 +7,12 @@ use scrib_cli::check::{Core, check_module};
 use scrib_cli::explain_script::explain_script;
 use scrib_cli::next_script::next_script;
 use scrib_cli::run_script::{Format, ScriptFault, run_script};
-use scrib_labelled::label_options::LabelOptions;
-use scrib_labelled::run_labelled_script::{LabelledFormat, Limits, run_labelled_script};
+use scrib_labelled::explain_labelled_script::explain_labelled_script;
+use scrib_labelled::label_options::{LabelOptions, LabelledStyle};
+use scrib_labelled::next_labelled_script::next_labelled_script;
+use scrib_labelled::run_labelled_script::run_labelled_script;
+use scrib_labelled::session_key::SessionKey;
+use scrib_script_reader::limits::Limits;
 use std::alloc::Global;
 use std::io;
 use std::io::{ErrorKind, Read, Write};
@@ -74,6 +78,14 @@ enum Command {
     Watch,
     // It is a script with names and tags.
     Labelled,
+    // It is a script with names and tags, whose complete conversations are closed.
+    Closing,
+    // It is a script of objects with names and tags, whose complete conversations are closed.
+    Objects,
+    // It is a script of objects with names and tags, of whose conversation `a.b:c` the messages in flight are listed.
+    ExplainNamed,
+    // It is the same, behind which each role of conversation `a.b:c` has a line.
+    NextNamed,
     // It is a script, of whose conversation 1 the messages in flight are told.
     Explain,
     // It is a script, behind which each role of conversation 1 has a line.
@@ -91,13 +103,26 @@ struct Outcome {
     writes: u32,
 }
 
-const LABELLED: LabelledFormat = LabelledFormat {
-    labels: LabelOptions {
-        tags: true,
-        names: true,
-    },
-    format: Format::Line,
+const NAMES_AND_TAGS: LabelOptions = LabelOptions {
+    tags: true,
+    names: true,
+    objects: false,
 };
+
+const OBJECTS: LabelOptions = LabelOptions {
+    tags: true,
+    names: true,
+    objects: true,
+};
+
+// The style of a script with these labels.
+fn style_of(labels: LabelOptions, closes: bool) -> LabelledStyle {
+    LabelledStyle {
+        labels,
+        closes,
+        format: Format::Line,
+    }
+}
 
 fn obey<R: Read, W: Write>(
     alloc: Global,
@@ -108,7 +133,22 @@ fn obey<R: Read, W: Write>(
     match command {
         Command::Watch => run_script(alloc, Format::Line, reader, writer)?,
         Command::Labelled => {
-            run_labelled_script(alloc, LABELLED, Limits::of_scripts(), reader, writer)?
+            let style = style_of(NAMES_AND_TAGS, false);
+            run_labelled_script(alloc, style, Limits::of_scripts(), reader, writer)?
+        }
+        Command::Closing => {
+            let style = style_of(NAMES_AND_TAGS, true);
+            run_labelled_script(alloc, style, Limits::of_scripts(), reader, writer)?
+        }
+        Command::Objects => {
+            let style = style_of(OBJECTS, true);
+            run_labelled_script(alloc, style, Limits::of_scripts(), reader, writer)?
+        }
+        Command::ExplainNamed => {
+            explain_labelled_script(alloc, OBJECTS, reader, SessionKey::Name("a.b:c"), writer)?;
+        }
+        Command::NextNamed => {
+            next_labelled_script(alloc, OBJECTS, reader, SessionKey::Name("a.b:c"), writer)?;
         }
         Command::Explain => {
             explain_script(alloc, reader, 1, writer)?;
@@ -179,6 +219,20 @@ const NAMED: &[u8] =
 const NAMED_OUTPUT: &[u8] =
     b"@p put demo: +demo.Hello\n@1 open a.b:c: demo.Hello\na.b:c.1 permitted\n@2 a.b:c.2 permitted\n@3 a.b:c.3 permitted\nrefused BadLine 8\n@4 close a.b:c: permitted\n@5 refused NoConversation\n{\"conversation\":\"a.b:c\",\"opened\":\"demo.Hello\",\"tag\":\"6\"}\n@7 a.b:c.1 offence at 1 by B, allowed: join\n@8 refused EndOfText\n";
 
+// A conversation with a name that is complete, and another one of this name.
+const CLOSED: &[u8] =
+    b"put\nmodule demo; global protocol Hello(role A, role B) { hello() from A to B; }\n%%\nopen a demo.Hello\njoin a A\njoin a B\nsend a A B hello()\n@5 recv a A B hello()\n@6 ask a\nopen a demo.Hello\n@7 json ask a\n";
+
+const CLOSED_OUTPUT: &[u8] =
+    b"put demo: +demo.Hello\nopen a: demo.Hello\na.1 permitted\na.2 permitted\na.3 permitted\n@5 a.4 permitted\n@5 close a: complete\n@6 refused NoConversation\nopen a: demo.Hello\n{\"conversation\":\"a\",\"events\":0,\"protocol\":\"demo.Hello\",\"tag\":\"7\",\"verdict\":\"permitted\"}\n";
+
+// The same of objects: exchanges as the program prints objects, with blanks, in another order and with escapes.
+const OBJECT_LINES: &[u8] =
+    b"{\"do\":\"put\",\"tag\":\"p\",\"text\":\"module demo;\\nglobal protocol Hello(role A, role B) { hello() from A to B; }\"}\n{\"do\":\"open\",\"id\":\"a.b:c\",\"protocol\":\"demo.Hello\"}\n{\"do\":\"join\",\"id\":\"a.b:c\",\"role\":\"A\"}\n{\"role\":\"\\u0042\", \"do\":\"join\", \"id\":\"a.b:c\", \"tag\":\"1\"}\n{\"do\":\"send\",\"from\":\"A\",\"id\":\"a.b:c\",\"message\":\"hello()\",\"tag\":\"2\",\"to\":\"B\"}\n{\"do\":\"recv\",\"from\":\"A\",\"id\":\"a.b:c\",\"message\":\"hello()\",\"tag\":\"3 4\",\"to\":\"B\"}\nask a.b:c\n{\"do\":\"ask\",\"id\":7,\"tag\":\"5\"}";
+
+const OBJECT_OUTPUT: &[u8] =
+    b"@p put demo: +demo.Hello\nopen a.b:c: demo.Hello\na.b:c.1 permitted\n@1 a.b:c.2 permitted\n@2 a.b:c.3 permitted\nrefused BadLine 6\nrefused BadLine 7\n@5 refused NoConversation\n";
+
 // The demonstration, up to the first message.
 const SENT: &[u8] =
     b"put\nmodule demo; global protocol Hello(role A, role B) { hello() from A to B; bye() from B to A; }\n%%\nopen 1 demo.Hello\njoin 1 A\njoin 1 B\nsend 1 A B hello()\n";
@@ -187,11 +241,20 @@ const MODULE: &[u8] =
     b"module demo; global protocol Hello(role A, role B) { hello() from A to B; bye() from B to A; }";
 
 // Commands, the texts that they are given, and what they write where no call fails.
-const ROWS: [(Command, &[u8], &[u8]); 12] = [
+const ROWS: [(Command, &[u8], &[u8]); 17] = [
     (Command::Watch, DEMO, DEMO_OUTPUT),
     (Command::Watch, CALLED, CALLED_OUTPUT),
     (Command::Watch, CUT, CUT_OUTPUT),
     (Command::Labelled, NAMED, NAMED_OUTPUT),
+    (Command::Closing, CLOSED, CLOSED_OUTPUT),
+    (Command::Objects, OBJECT_LINES, OBJECT_OUTPUT),
+    (Command::ExplainNamed, OBJECT_LINES, b"A B hello()\n"),
+    (
+        Command::NextNamed,
+        OBJECT_LINES,
+        b"A: done\nB: may A?hello()\n",
+    ),
+    (Command::NextNamed, b"{", b"refused NoConversation\n"),
     (Command::Explain, SENT, b"A B hello()\n"),
     (Command::Explain, DEMO, b""),
     (Command::Explain, CUT, b"refused NoConversation\n"),
@@ -222,6 +285,14 @@ fn obeys_by_pieces(rt: HostRuntime) -> Result<(), Fail> {
     Ok(())
 }
 
+// Whether the command writes each reply out before it reads on.
+fn writes_early(command: Command) -> bool {
+    matches!(
+        command,
+        Command::Watch | Command::Labelled | Command::Closing | Command::Objects
+    )
+}
+
 // Fails each read in turn. It is told, and a beginning of the output was written until then; nothing, if the text is
 // read to its end before anything is written.
 fn fail_reads(
@@ -242,7 +313,7 @@ fn fail_reads(
             "read {at} of {size} bytes"
         );
         assert!(rt;
-            matches!(command, Command::Watch | Command::Labelled) || output.is_empty(),
+            writes_early(command) || output.is_empty(),
             "read {at} of {size} bytes"
         );
     }
