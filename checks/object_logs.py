@@ -5,7 +5,8 @@
 
 The stored scripts are those of the worked examples that `watch`, `hold`, `explain`, `next` or `judge` reads, and those
 of the numbered examples. Each line that has a reply becomes an object, and a module text becomes one with its put.
-`watch --input json` must print what `watch` prints for the stored script, but for the numbers of bad lines. With
+Half of the objects are spelled as the program prints objects, and the others with blanks and with their members in any
+order. `watch --input json` must print what `watch` prints for the script, but for the numbers of bad lines. With
 `--names --tags` half of the objects have a tag, each conversation has a word, and the replies have both. All are compared
 in lines and in JSON. Left out are scripts with bytes that no object has, with a number of a conversation in more digits
 than it needs, with a line that is near the longest one, and with labels of their own.
@@ -92,17 +93,23 @@ class Objects:
         return "c-" + number if self.has_labels else int(number)
 
     def add(self, members, is_json):
-        """Adds the object with these members, in any order."""
+        """Adds the object with these members."""
         self.words[members["do"]] += 1
         tag = "t%d" % self.pick.randrange(10**6) if self.has_labels and self.pick.random() < 0.5 else None
         if is_json:
             members["json"] = True
         if tag is not None:
             members["tag"] = tag
+        self.objects.append(self.spelled(members))
+        self.tags.append(tag)
+
+    def spelled(self, members):
+        """The object as the program prints objects, or with its members in any order and with blanks."""
+        if self.pick.random() < 0.5:
+            return json.dumps(members, sort_keys=True, separators=(",", ":"), ensure_ascii=False)
         keys = list(members)
         self.pick.shuffle(keys)
-        self.objects.append(json.dumps({key: members[key] for key in keys}, ensure_ascii=self.pick.random() < 0.5))
-        self.tags.append(tag)
+        return json.dumps({key: members[key] for key in keys}, ensure_ascii=self.pick.random() < 0.5)
 
     def script(self):
         """The script, as a text of its bytes."""
