@@ -76,6 +76,34 @@ judged_unchanged w u s (reply.Judged i n events told) id judged a = refl
 judged_unchanged w u s (reply.Closed i n events verdict complete) id judged a = absurd (judged-closes w u s i n events verdict complete id judged a)
 judged_unchanged w u s (reply.Refused f) id judged a = refl
 
+-- the reply to a close opens nothing
+close-opens : (u v : State) (id : ℕ) (q : Reply) → IsAnswered u (step.Close id) q v → change_by q ≡ change.Opened → ⊥
+close-opens u v id (reply.Edited e cs) a wrong = absurd (cc)
+close-opens u v id (reply.Profiled p) a wrong = absurd (cc)
+close-opens u v id (reply.Opened i n) a wrong = a.replies
+close-opens u v id (reply.Noted i place told) a wrong = absurd (cc)
+close-opens u v id (reply.Judged i n events told) a wrong = absurd (cc)
+close-opens u v id (reply.Closed i n events verdict complete) a wrong = absurd (cc)
+close-opens u v id (reply.Refused f) a wrong = absurd (cc)
+
+note-alone : (w u : State) (id : ℕ) (e : Event) (r : Reply) (c : Change) → IsAnswered w (step.Note id e) r u → (later : List Reply) → later ≡ [] → IsChangeBy (r ∷ later) c → c ≡ change.Opened → ⊥
+note-alone w u id e r c answered [] nil by wrong =
+    let same = judged_unchanged w u (step.Note id e) r id refl answered in
+    absurd (cc)
+note-alone w u id e r c answered (q ∷ later) nil by wrong = absurd (cc)
+
+note-closed : (u v : State) (k : ℕ) (r q : Reply) (c : Change) → IsAnswered u (step.Close k) q v → (later : List Reply) → later ≡ q ∷ [] → IsChangeBy (r ∷ later) c → c ≡ change.Opened → ⊥
+note-closed u v k r q c closed [] is by wrong = absurd (cc)
+note-closed u v k r q c closed (x ∷ []) is by wrong = close-opens u v k q closed (cc)
+note-closed u v k r q c closed (x ∷ y ∷ later) is by wrong = absurd (cc)
+
+-- a note opens nothing, nor does what is done behind it
+pub note_opens : (closes : Bool) (w u v : State) (id : ℕ) (e : Event) (r : Reply) (c : Change) (later : List Reply) → IsAnswered w (step.Note id e) r u → ClosesBehind closes (step.Note id e) r u v later
+    → IsChangeBy (r ∷ later) c → c ≢ change.Opened
+note_opens false w u v id e r c later answered behind by wrong = note-alone w u id e r c answered later behind.0 by wrong
+note_opens true w u v id e r c later answered (inl behind) by wrong = note-alone w u id e r c answered later behind.1 by wrong
+note_opens true w u v id e r c later answered (inr behind) by wrong = note-closed u v behind.0 r behind.1 c behind.3 later behind.4 by wrong
+
 one-reply : (names : Naming) (session : Option (List ℕ × ℕ)) (r : Reply) (name : List ℕ) → after_reply names session r name ≡ after_change names session (change_by r) name
 one-reply names None r name = refl
 one-reply names (Some s) (reply.Edited e cs) name = refl

@@ -151,9 +151,9 @@ impl LabelledMonitor {
         Ok(change_by(&reply))
     }
 
-    /// Notes the event, and gathers its reply as a line of text with this label. `tag_text` is what the line begins
-    /// with for the tag. Where the conversation is complete then and is to be closed, closes it and gathers this reply
-    /// too. Returns what changed.
+    /// Notes the event, and gathers its reply with this label. `tag_text` is what a line of text begins with for the
+    /// tag. Where the conversation is complete then and is to be closed, closes it and gathers this reply too. Returns
+    /// what changed.
     ///
     /// # Errors
     /// `AllocError` where there is no memory for the text. The gathered texts are then unchanged.
@@ -165,17 +165,36 @@ impl LabelledMonitor {
         label: Label<'_>,
         tag_text: &[u8],
     ) -> Result<Change, AllocError>
-        requires tag { tag_text.now ≡ spec.tag_text (tag_of label) }
-        requires lines { self.old.style.format ≡ format.Line }
+        requires { tag_text.now ≡ spec.tag_text (tag_of label) }
         ensures ok { IfOk result (NotesEvent self.old self.new (tag_of label.entry) (name_of label.entry) id event) }
         ensures err { OnErr result (self.new.gathered.bytes.items ≡ self.old.gathered.bytes.items) }
     {
+        if !self.prints_lines() {
+            return self.note_as_object(id, event, label);
+        }
         if self.may_close(&event) {
             return self.note_and_close(id, event, label, tag_text);
         }
         let noted = self.core.note_event(id, event);
         self.gather_noted(id, noted, label, tag_text)?;
         Ok(Change::Unchanged)
+    }
+
+    // The same as `note`, where replies are printed as objects.
+    #[inline(never)]
+    fn note_as_object(
+        &mut self,
+        id: u32,
+        event: SharedEvent,
+        label: Label<'_>,
+    ) -> Result<Change, AllocError>
+        ensures ok { IfOk result (NotesEvent self.old self.new (tag_of label.entry) (name_of label.entry) id event) }
+        ensures err { OnErr result (self.new.gathered.bytes.items ≡ self.old.gathered.bytes.items) }
+    {
+        let step = Step::Note { id, event };
+        let change = self.take(Item::Step(Format::Line, step), label)?;
+        self.gather()?;
+        Ok(change)
     }
 
     // Returns whether the conversation may be complete behind a note of the event, and is to be closed then. Behind a
@@ -297,8 +316,9 @@ impl LabelledMonitor {
         self.gather()
     }
 
-    /// Returns whether replies are printed as lines of text, where a line asks for no format.
-    pub(crate) fn prints_lines(&self) -> bool
+    // Returns whether replies are printed as lines of text, where a line asks for no format.
+    #[inline(always)]
+    fn prints_lines(&self) -> bool
         ensures { IsTrue result → self.now.style.format ≡ format.Line }
     {
         matches!(self.style.format, Format::Line)

@@ -191,14 +191,12 @@ impl LabelledRun {
             return self.end_object(line);
         }
         // most lines of a long script
-        if self.named.monitor.prints_lines()
-            && let Some(exchange) = exchange_line(
-                &mut self.reader,
-                &self.named.names,
-                self.options,
-                line,
-            )
-        {
+        if let Some(exchange) = exchange_line(
+            &mut self.reader,
+            &self.named.names,
+            self.options,
+            line,
+        ) {
             return self.named.note(exchange);
         }
         self.end_other_line(line)

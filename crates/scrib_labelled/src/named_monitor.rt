@@ -68,14 +68,13 @@ impl NamedMonitor {
         self.monitor.gather()
     }
 
-    /// Notes the event of a line, and gathers its replies as lines of text.
+    /// Notes the event of a line, and gathers its replies.
     ///
     /// # Errors
     /// `AllocError` where there is no memory for the text. Nothing is gathered then.
     #[inline(always)]
     pub(crate) fn note(&mut self, line: ExchangeLine<'_>) -> Result<(), AllocError>
         requires tag { line.tag_text.now ≡ tag_text (bytes_of line.tag) }
-        requires lines { self.old.monitor.style.format ≡ format.Line }
         requires numbers { IsNumbersOf self.old.names (exchange_label line).session }
         ensures ok { OnOk result (CarriesOut self.old self.new (exchange_label line.entry)
             (item.Step format.Line (Note line.entry.id line.entry.event))) }

@@ -38,15 +38,13 @@ impl LabelledRun {
             (self.new.named.monitor.gathered.bytes.items ≡ self.old.named.monitor.gathered.bytes.items) }
     {
         // most objects of a long script
-        if self.named.monitor.prints_lines()
-            && let Some(exchange) = object_exchange(
-                &mut self.reader,
-                &self.named.names,
-                self.options,
-                &mut self.object_text,
-                line,
-            )
-        {
+        if let Some(exchange) = object_exchange(
+            &mut self.reader,
+            &self.named.names,
+            self.options,
+            &mut self.object_text,
+            line,
+        ) {
             return self.named.note(exchange);
         }
         self.end_any_object(line)

@@ -1,18 +1,15 @@
-use Rattle.std.proofs.Common.{refl, subst}
+use Rattle.std.proofs.Common.{refl}
 use Rattle.std.proofs.lemmas.Result.{on_ok_weaker}
 use Rattle.scrib_core.specs.declared.format.Format.TheVariants as format
 use Rattle.scrib_core.specs.declared.step.Step.TheVariants.{Note}
 use Rattle.scrib_script_reader.specs.declared.item.Item.TheVariants as item
 use Rattle.scrib_script_reader.specs.declared.line.Line.TheVariants as line
-use Rattle.scrib_labelled.specs.declared.labelled_run.LabelledRun.{LabelledRun}
 use Rattle.scrib_labelled.specs.ExchangeLines.{exchange_label}
-use Rattle.scrib_labelled.specs.Progress.{EndsPlainLine}
 use Rattle.scrib_labelled.proofs.LineEndLemmas.{ends_plain_reader, gathers_output, line_makes, stands_cut}
-use Rattle.scrib_labelled.proofs.labelled_run.LabelledRun.end_plain_line.Goals.{else-prints_lines-via-else-prints_lines, else-prints_lines-via-then-prints_lines+in-None-1}
 use Rattle.scrib_labelled.proofs.labelled_run.LabelledRun.end_plain_line.Goals as goal
 
-pub returns-clause-ok : goal.returns-clause-ok
-returns-clause-ok c =
+pub returns-in-Some-clause-ok : goal.returns-in-Some-clause-ok
+returns-in-Some-clause-ok c =
     let exchange = c.in-Some.exchange in
     let is = c.in-Some.ensures in
     let label = exchange_label exchange in
@@ -27,13 +24,8 @@ returns-clause-ok c =
     })
     c.note.ensures.ok
 
-pub returns-2-clause-ok : goal.returns-2-clause-ok
-returns-2-clause-ok c =
+pub returns-clause-ok : goal.returns-clause-ok
+returns-clause-ok c =
     on_ok_weaker c.end_other_line.result
-    (λ e. elim c.else-prints_lines.branch [
-      | else-prints_lines-via-else-prints_lines w ↦ subst (λ (s : LabelledRun). EndsPlainLine s c.end_other_line.new.self c.args.line.now) w.self-is e
-      | else-prints_lines-via-then-prints_lines+in-None-1 w ↦
-          ends_plain_reader c.args.self.now c.end_other_line.new.self w.exchange_line.new.reader c.args.line.now
-          (subst (λ (s : LabelledRun). EndsPlainLine s c.end_other_line.new.self c.args.line.now) w.self-is e)
-    ])
+    (λ e. ends_plain_reader c.args.self.now c.end_other_line.new.self c.exchange_line.new.reader c.args.line.now e)
     c.end_other_line.ensures.ok
