@@ -119,6 +119,12 @@ def expected(plain, tags):
     return [label[reply.startswith("{")](reply, tag) for reply, tag in zip(plain, tags)]
 
 
+def first_difference(wanted, given):
+    """The first reply that differs from the one that is wanted, as a line. One of the lists may end there."""
+    at = next(at for at, pair in enumerate(zip(wanted + [None], given + [None])) if pair[0] != pair[1])
+    return "reply %d: %r, not %r" % (at + 1, (given + [None])[at], (wanted + [None])[at])
+
+
 def compare(program, pick, script, seen):
     """What differs between the replies to the script with and without labels, as lines. None where all is right."""
     labelled = Labelled(pick, script)
@@ -127,8 +133,7 @@ def compare(program, pick, script, seen):
         wanted = expected(plain, labelled.tags)
         given = reply_lines(program, ["watch", "--names", "--tags", *words], labelled.script())
         if given != wanted:
-            at = next(at for at, pair in enumerate(zip(wanted + [None], given + [None])) if pair[0] != pair[1])
-            return "reply %d: %r, not %r" % (at + 1, (given + [None])[at], (wanted + [None])[at])
+            return first_difference(wanted, given)
         if not words:
             seen.update(kind_of(reply) for reply, tag in zip(plain, labelled.tags) if tag is not None)
     return None

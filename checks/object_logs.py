@@ -23,7 +23,7 @@ import sys
 from collections import Counter
 
 from examples import read_examples
-from labelled_logs import LONGEST, PUT, SHOWN_FAILURES, SILENT, expected, has_labels
+from labelled_logs import LONGEST, PUT, SHOWN_FAILURES, SILENT, expected, first_difference, has_labels
 from next_prefixes import PROGRAM, is_script, reply_lines
 
 # The keys of the fields behind each word.
@@ -143,8 +143,7 @@ def compare(program, pick, script, words):
                 wanted = expected(wanted, objects.tags)
             given = reply_lines(program, ["watch", "--input", "json", *flags, *form], objects.script())
             if given != wanted:
-                at = next(at for at, pair in enumerate(zip(wanted + [None], given + [None])) if pair[0] != pair[1])
-                return "reply %d: %r, not %r" % (at + 1, (given + [None])[at], (wanted + [None])[at])
+                return first_difference(wanted, given)
     return None
 
 
