@@ -65,6 +65,7 @@ prove: ## proves one crate, CRATE=.., over what earlier checks kept
 checks: ## tries the built programs outside the gate: some ten minutes
 	$(PYTHON) checks/documents.py
 	$(PYTHON) checks/held_pipe.py
+	$(PYTHON) checks/stream_ends.py
 	$(PYTHON) checks/held_logs.py
 	$(PYTHON) checks/next_prefixes.py
 	$(PYTHON) checks/closed_logs.py

@@ -10,7 +10,8 @@ Exit status:
      refusals or offences count as done
   1  check, project, machine, explain or next printed a refusal; a read or
      write failed; memory ran out (a line on standard error names the cause)
-  2  the command line was refused\n";
+  2  the command line was refused
+  141  the reader of the output has gone\n";
 
 // After the options of `check`.
 pub(crate) const CHECK: &str = "\

@@ -5,6 +5,7 @@ mod closing_scripts;
 mod held_scripts;
 mod labelled_scripts;
 mod outcomes;
+pub mod pipe_output;
 mod request;
 pub mod run_command_line;
 mod run_files;

@@ -1,7 +1,10 @@
 //! Runs a command line.
 
 use crate::held_scripts::hold;
-use crate::outcomes::{REFUSED_STATUS, flush_and_print_fault, print_fault, print_usage};
+use crate::outcomes::{
+    REFUSED_STATUS, flush_and_print_fault, print_fault, print_terminal_hint, print_usage,
+};
+pub use crate::pipe_output::PipeOutput;
 use crate::subcommands::{Report, report_by_id, run_over_service, run_simple_command, run_watch};
 use clap::ArgMatches;
 use scrib_arguments::arguments::command;
@@ -18,14 +21,17 @@ use std::thread::Threads;
 #[derive(Drop)]
 pub struct Streams<'a, I, W, E> {
     pub input: &'a I,
-    pub output: &'a mut W,
+    /// Whether standard input is a terminal. A command that reads a script from it then prints how the script ends.
+    pub input_is_terminal: bool,
+    pub output: &'a mut PipeOutput<W>,
     pub messages: &'a E,
 }
 
 /// Runs the command line of these words, and returns the exit status. The first word is the program's name.
 ///
 /// The status is that of `status_of`, 2 where the command line is refused, and 0 where it asks for help or the version.
-/// A fault is printed to standard error as its fixed line, followed by a line with the file and the cause.
+/// A fault is printed to standard error as its fixed line, followed by a line with the file and the cause. Where the
+/// reader of the output has gone, nothing is printed, and the status is 141, as of a program that the broken pipe ends.
 pub fn run_command_line<
     R: Files + Threads + Wait + AllocGlobal + Sync,
     I: Input + Sync,
@@ -57,16 +63,29 @@ where
     I::Reader: Send,
 {
     match matches.subcommand() {
-        Some(("explain", matches)) => report_by_id(system, streams, Report::Flights, matches),
-        Some(("hold", matches)) => hold(system, streams, matches),
-        Some(("next", matches)) => report_by_id(system, streams, Report::Next, matches),
         Some(("run", matches)) => run_over_service(system, streams, matches),
-        Some(("watch", matches)) => run_watch(system, streams, matches),
-        Some((name, matches)) => {
+        Some((name @ ("check" | "project" | "machine"), matches)) => {
             let outcome = run_simple_command(system, streams, name, matches);
             flush_and_print_fault(streams, &outcome)
         }
+        Some((name, matches)) => read_script(system, streams, name, matches),
         None => REFUSED_STATUS,
+    }
+}
+
+// Runs a command that reads a script, and returns the exit status.
+fn read_script<R: Files + AllocGlobal, I: Input, W: Write, E: Print + Eprint>(
+    system: &R,
+    streams: &mut Streams<'_, I, W, E>,
+    name: &str,
+    matches: &ArgMatches<'_>,
+) -> u8 {
+    print_terminal_hint(streams, matches.get_str("FILE"));
+    match name {
+        "explain" => report_by_id(system, streams, Report::Flights, matches),
+        "hold" => hold(system, streams, matches),
+        "next" => report_by_id(system, streams, Report::Next, matches),
+        _ => run_watch(system, streams, matches),
     }
 }
 

@@ -1,13 +1,13 @@
 //! Command lines as a user types them, over files and an example's own standard input.
 
-ghost use Rattle.std.specs.Prelude.{◌≡◌, ◌+◌, IfOk, string_len};
+ghost use Rattle.std.specs.Prelude.{◌≡◌, ◌+◌, IfOk, None, string_len};
 
 use crate::fault::RowsFault;
-use scrib_command_line::run_command_line::{Streams, run_command_line};
-use std::alloc::Allocator;
+use scrib_command_line::run_command_line::{PipeOutput, Streams, run_command_line};
+use std::alloc::{Allocator, Global};
 use std::fmt::Display;
 use std::io;
-use std::io::{BufRead, Input, Lines, Write};
+use std::io::{BufRead, ErrorKind, Input, Lines, Write};
 use std::marker::Send;
 use std::rt::Files;
 use std::sync::Wait;
@@ -15,7 +15,11 @@ use std::thread::Threads;
 
 // Standard input that is the text of an example.
 #[derive(Clone, Copy)]
-struct ExampleInput<'a>(&'a [u8]);
+struct ExampleInput<'a> {
+    text: &'a [u8],
+    // Whether it is said to be a terminal.
+    is_terminal: bool,
+}
 
 impl<'a> Input for ExampleInput<'a> {
     type Reader = &'a [u8];
@@ -29,7 +33,23 @@ impl<'a> Input for ExampleInput<'a> {
     }
 
     fn reader(&self) -> &'a [u8] {
-        self.0
+        self.text
+    }
+}
+
+// An output whose reader has gone.
+#[derive(Drop)]
+struct UnreadOutput;
+
+impl Write for UnreadOutput {
+    ghost contents = { λ _. None };
+
+    fn write(&mut self, _buf: &[u8]) -> io::Result<usize> {
+        Err(io::Error::from(ErrorKind::BrokenPipe))
+    }
+
+    fn flush(&mut self) -> io::Result<()> {
+        Ok(())
     }
 }
 
@@ -62,26 +82,48 @@ impl<R: Print> Eprint for OneStream<'_, R> {
 }
 
 // Runs the program's command line of these words over these streams, and returns the status that it ends with.
-fn run_words<R, I, E, W>(rt: &R, input: &I, messages: &E, writer: &mut W, words: &[String]) -> u8
+fn run_words<R, W>(rt: &R, input: &ExampleInput<'_>, writer: W, words: &[String]) -> u8
 where
-    R: Files + Threads + Wait + AllocGlobal + Sync,
-    I: Input + Sync,
-    E: Print + Eprint + Sync,
-    W: Write,
+    R: Print + Files + Threads + Wait + AllocGlobal + Sync,
+    W: Write + Drop,
     R::File: Send,
-    I::Reader: Send,
 {
+    let messages = OneStream(rt);
+    let mut output = PipeOutput::new(writer);
     let mut streams = Streams {
         input,
-        output: writer,
-        messages,
+        input_is_terminal: input.is_terminal,
+        output: &mut output,
+        messages: &messages,
     };
     run_command_line(rt, &mut streams, words)
+}
+
+/// The standard streams of a command line.
+#[derive(Clone, Copy, PartialEq, Eq)]
+pub(crate) enum Ends {
+    /// Both are read and written as files are.
+    Files,
+    /// Standard input is a terminal.
+    Terminal,
+    /// The reader of standard output has gone.
+    Unread,
+}
+
+// The words of the command line, the program's name first.
+fn words_of(alloc: Global, command: &str) -> Result<Vec<String>, RowsFault> {
+    let mut words = Vec::new(alloc);
+    words.push(String::from_str(alloc, "scribmon")?)?;
+    for word in command.split_whitespace() {
+        words.push(String::from_str(alloc, word)?)?;
+    }
+    Ok(words)
 }
 
 /// Runs the program's command line of these words, and writes the status that it ends with.
 pub(crate) fn obey_files<R: Print + Files + Threads + Wait + AllocGlobal + Sync, W: Write>(
     rt: &R,
+    ends: Ends,
     command: &str,
     input: &str,
     writer: &mut W,
@@ -89,17 +131,17 @@ pub(crate) fn obey_files<R: Print + Files + Threads + Wait + AllocGlobal + Sync,
 where
     R::File: Send,
 {
-    let alloc = rt.alloc();
-    let mut words = Vec::new(alloc);
-    words.push(String::from_str(alloc, "scribmon")?)?;
-    for word in command.split_whitespace() {
-        words.push(String::from_str(alloc, word)?)?;
-    }
+    let words = words_of(rt.alloc(), command)?;
+    let input = ExampleInput {
+        text: input.as_bytes(),
+        is_terminal: ends == Ends::Terminal,
+    };
     writer.flush()?;
-    let bytes = input.as_bytes();
-    let input = ExampleInput(bytes);
-    let messages = OneStream(rt);
-    let status = run_words(rt, &input, &messages, writer, words.as_slice());
+    let status = if ends == Ends::Unread {
+        run_words(rt, &input, UnreadOutput, words.as_slice())
+    } else {
+        run_words(rt, &input, &mut *writer, words.as_slice())
+    };
     writeln!(writer, "status {status}")?;
     Ok(())
 }

@@ -6,6 +6,8 @@
 //!   follow. What such a command prints where receptions merge is printed too, where it is something else;
 //! - `files` and a command as the program takes it, with files of the folder that this is run in; standard input
 //!   follows. What goes to standard error, and the exit status, are printed too;
+//! - `terminal` or `unread` and a command, as behind `files`, but standard input is a terminal, or the reader of standard
+//!   output has gone;
 //! - `repeated`; a script of `watch` follows whose blocks `[COUNT:TEXT]` are repeated so often, with a number from 0 in
 //!   place of each `@` and the next one in place of `@+`. Of lines that follow one another and differ in digits alone
 //!   the first, the last and the number of the others are printed;
@@ -26,7 +28,7 @@ mod service;
 mod texts;
 
 use crate::fault::{RowsFault, second};
-use crate::files::obey_files;
+use crate::files::{Ends, obey_files};
 use crate::memory::run_refused;
 use crate::service::printed_service;
 use crate::texts::{printed_beside, printed_past, printed_repeated, printed_texts};
@@ -55,7 +57,15 @@ where
         ("edits beside notes", _) => printed_beside(rt, alloc)?,
         ("one line too many", _) => printed_past(rt, alloc, body)?,
         ("repeated", _) => printed_repeated(alloc, body)?,
-        (_, Some(("files", command))) => return obey_files(rt, command, body, writer),
+        (_, Some(("files", command))) => {
+            return obey_files(rt, Ends::Files, command, body, writer);
+        }
+        (_, Some(("terminal", command))) => {
+            return obey_files(rt, Ends::Terminal, command, body, writer);
+        }
+        (_, Some(("unread", command))) => {
+            return obey_files(rt, Ends::Unread, command, body, writer);
+        }
         (_, Some(("memory", name))) => return run_refused(rt, alloc, name, writer),
         (_, Some(("service", command))) => printed_service(rt, alloc, command, body)?,
         _ => printed_texts(alloc, command, body)?,

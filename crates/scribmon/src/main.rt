@@ -1,8 +1,10 @@
 //! `scribmon`: a monitor of conversations against Scribble protocols.
 #![tactic(auto)]
 
-use scrib_command_line::run_command_line::{Streams, print_start_fault, run_command_line};
-use std::io::BufWriter;
+use scrib_command_line::run_command_line::{
+    PipeOutput, Streams, print_start_fault, run_command_line,
+};
+use std::io::{BufWriter, IsTerminal};
 use std::marker::Send;
 use std::process::ExitCode;
 use std::rt::{Env, Files};
@@ -28,12 +30,14 @@ fn run<R: Print + Eprint + Input + Files + Env + Threads + Wait + AllocGlobal + 
 ) -> io::Result<u8>
 where
     R::File: Send,
-    R::Reader: Send,
+    R::Reader: Send + IsTerminal,
 {
     let words = words(rt)?;
-    let mut output = BufWriter::with_capacity(rt.alloc(), OUTPUT_BYTES, io::writer(rt))?;
+    let buffer = BufWriter::with_capacity(rt.alloc(), OUTPUT_BYTES, io::writer(rt))?;
+    let mut output = PipeOutput::new(buffer);
     let mut streams = Streams {
         input: rt,
+        input_is_terminal: rt.reader().is_terminal(),
         output: &mut output,
         messages: rt,
     };
