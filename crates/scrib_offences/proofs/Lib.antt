@@ -1,0 +1,3 @@
+mod OffenceLemmas
+mod PlaceLemmas
+mod StatusLemmas
