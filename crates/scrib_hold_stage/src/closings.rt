@@ -1,6 +1,6 @@
 //! Closings that wait for the events of their conversations.
 
-ghost use Rattle.std.specs.Prelude.{◌≡◌, ◌++◌, ◌∷◌, [], IfOk, IfSome, IsFalse, IsTrue, MatchOption, None, OnErr, OnOk};
+ghost use Rattle.std.specs.Prelude.{◌≡◌, ◌++◌, ◌∷◌, ℕ, [], IfOk, IfSome, IsFalse, IsTrue, MatchOption, None, OnErr, OnOk};
 ghost use Rattle.std.specs.List.{AllByRecursion};
 ghost use Rattle.scrib_hold_stage.specs.Conversations.{IsAddedTo};
 ghost use Rattle.scrib_hold_stage.specs.Firsts.{IsFirstAt};
@@ -46,6 +46,15 @@ impl<T: Drop> PendingClosings<T> {
         ensures { IsTrue result → closings_in self.now ≡ [] }
     {
         self.closings.is_empty()
+    }
+
+    /// Whether a closing of the conversation waits.
+    pub fn has_of(&self, conversation: u32) -> bool
+        ensures some { IsTrue result
+            → (index : ℕ) × IsFirstAt (IsOf conversation) (IsApart conversation) index (closings_in self.now) }
+        ensures none { IsFalse result → AllByRecursion (IsApart conversation) (closings_in self.now) }
+    {
+        self.first_of(conversation).is_some()
     }
 
     /// Adds a closing, which waits from now on.

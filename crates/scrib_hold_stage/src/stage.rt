@@ -179,7 +179,16 @@ impl<A: Arrival> HoldStage<A> {
         Ok(())
     }
 
+    /// Returns how many entries were read.
+    #[inline(always)]
+    pub fn time(&self) -> u64
+        ensures { result ≡ (stage_state self.now).time }
+    {
+        self.time
+    }
+
     /// Returns the number of the next entry, or `None` after 2^64 - 1 entries.
+    #[inline(always)]
     pub fn next_time(&self) -> Option<u64>
         ensures { IfSome result (λ time. time ≡ (stage_state self.now).time + 1) }
     {
