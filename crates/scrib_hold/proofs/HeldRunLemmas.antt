@@ -20,16 +20,17 @@ use Rattle.scrib_cli.specs.declared.gathered.Gathered.{Gathered}
 use Rattle.scrib_cli.specs.Progress.{WritesFront}
 use Rattle.scrib_hold.specs.declared.held_monitor.HeldMonitor.{HeldMonitor}
 use Rattle.scrib_hold.specs.declared.held_run.HeldRun.{HeldRun}
+use Rattle.scrib_hold.specs.declared.replies.Replies.{Replies}
 use Rattle.scrib_hold.specs.HeldScripts.{IsOutputOf, IsBeginningOf, IsHeldPart}
-use Rattle.scrib_hold.specs.Progress.{HasTaken, TakesEntry, FailsAtEntry, Ends, HeldEndFails, HasHeldProgressed, HeldRunAdvances, HeldPieceFails, GathersHeldFront, GatherFails, HeldEndSucceeds, EndIsCut, TakesLast, Writes, WritesFirst, IsNewHeld}
-use Rattle.scrib_hold.proofs.MonitorLemmas.{begun, begun_more, begun_less, begun_whole}
+use Rattle.scrib_hold.specs.Progress.{HasGiven, HasHeldProgressed, HeldRunAdvances, HeldPieceFails, GathersHeldFront, GatherFails, HeldEndSucceeds, EndIsCut, TakesLast, Writes, WritesFirst, IsNewHeld}
+use Rattle.scrib_hold.proofs.RepliesLemmas.{GivesEntry, GivesPart, GivesEnd, GivesEndPart, begun_more, begun_less, begun_whole, given_begun, given_moved}
 
 -- whatever follows, the script gives these entries first
 pub first_entries : (m : Limits) (s : Script) (seen : List ℕ) (entries : List Entry) → HasRead m s seen entries → (more : List ℕ) → (rest : List Entry) × SpellsEntries 1 None (lines (seen ++ more)) (entries ++ rest)
 first_entries m s seen entries r more = let p = give_entries (lines (r.line ++ more)) (s.lines + 1) r.text in (p.0, r.leads more p.0 p.1)
 
 -- a run before its first byte
-pub is_new : (o : Format) (bound : ℕ) (m : Limits) (run : HeldRun) → Holds run.script None [] → run.script.lines ≡ 0 → run.script.bytes ≡ 0 → run.script.limits ≡ m → HasTaken o bound run.monitor [] [] → IsNewHeld o bound m run
+pub is_new : (o : Format) (bound : ℕ) (m : Limits) (run : HeldRun) → Holds run.script None [] → run.script.lines ≡ 0 → run.script.bytes ≡ 0 → run.script.limits ≡ m → HasGiven o bound run.monitor [] [] → IsNewHeld o bound m run
 is_new o bound m run holds no_lines no_bytes limits taken = record {
   progress = record { entries = []; read = entries_none m run.script holds no_lines no_bytes limits; taken = taken };
 }
@@ -41,30 +42,18 @@ held_part o bound m s seen entries part r b more = let p = first_entries m s see
 -- the output of a run so far is a beginning of that of the script
 pub part_so_far : (o : Format) (bound : ℕ) (m : Limits) (run : HeldRun) (seen out : List ℕ) → HasHeldProgressed o bound m run seen out → (more : List ℕ) → IsHeldPart o bound (seen ++ more) out
 part_so_far o bound m run seen out c more =
-    held_part o bound m run.script seen c.entries out c.read (subst (λ (l : List Entry). IsBeginningOf o bound l out) (append-nil c.entries) (begun o bound run.monitor c.entries [] out c.taken)) more
+    held_part o bound m run.script seen c.entries out c.read (subst (λ (l : List Entry). IsBeginningOf o bound l out) (append-nil c.entries) (given_begun o bound run.monitor c.entries [] out c.taken)) more
 
 pub part_less : (o : Format) (bound : ℕ) (input whole part rest : List ℕ) → whole ≡ part ++ rest → IsHeldPart o bound input whole → IsHeldPart o bound input part
 part_less o bound input whole part rest is p = (p.0, p.1, begun_less o bound p.0 whole part rest is p.2)
 
 -- ---- what is gathered does not matter for what was taken
 
-pub taken_moved : (o : Format) (bound : ℕ) (m : HeldMonitor) (g : Gathered) (entries : List Entry) (out : List ℕ) → HasTaken o bound m entries out → HasTaken o bound (record m { gathered = g }) entries out
-taken_moved o bound m g entries out c = record {
-  at = record {
-    format = c.at.format;
-    items = c.at.items;
-    so_far = c.at.so_far;
-    inside = c.at.inside;
-    carried = c.at.carried;
-  };
-  wait = c.wait;
-}
-
 abbrev pub with_gathered : HeldRun → Gathered → HeldRun
-with_gathered run g = record run { monitor = record run.monitor { gathered = g } }
+with_gathered run g = record run { monitor = record run.monitor { sink = record run.monitor.sink { gathered = g } } }
 
 pub progress_moved : (o : Format) (bound : ℕ) (m : Limits) (run : HeldRun) (g : Gathered) (seen out : List ℕ) → HasHeldProgressed o bound m run seen out → HasHeldProgressed o bound m (with_gathered run g) seen out
-progress_moved o bound m run g seen out c = record { entries = c.entries; read = c.read; taken = taken_moved o bound run.monitor g c.entries out c.taken }
+progress_moved o bound m run g seen out c = record { entries = c.entries; read = c.read; taken = given_moved o bound run.monitor (record run.monitor.sink { gathered = g }) c.entries out refl refl c.taken }
 
 -- ---- a line
 
@@ -77,21 +66,21 @@ gathers_none old script piece rest found none takes =
       front = takes.0;
       out = [];
       is = takes.1;
-      grows = sym (append-nil old.monitor.gathered.bytes.items);
+      grows = sym (append-nil old.monitor.sink.gathered.bytes.items);
       went = record {
         goes = λ o bound m seen before c. record {
           entries = c.entries;
           read =
               subst (λ (l : List Entry). HasRead m script (seen ++ takes.0) l) (append-nil c.entries)
               (more_entries m old.script script seen takes.0 c.entries [] c.read here);
-          taken = subst (λ (l : List ℕ). HasTaken o bound old.monitor c.entries l) (sym (append-nil before)) c.taken;
+          taken = subst (λ (l : List ℕ). HasGiven o bound old.monitor c.entries l) (sym (append-nil before)) c.taken;
         };
       };
     }
 
 -- a line with one
-pub gathers_entry : (old : HeldRun) (script : Script) (monitor : HeldMonitor) (piece rest : List ℕ) (found : Option Entry) (e : Entry) → found ≡ Some e → TakesFrontEntries old.script script piece rest (entry_list found)
-    → TakesEntry old.monitor monitor e → GathersHeldFront old (record old { script = script; monitor = monitor }) piece rest
+pub gathers_entry : (old : HeldRun) (script : Script) (monitor : HeldMonitor Replies) (piece rest : List ℕ) (found : Option Entry) (e : Entry) → found ≡ Some e → TakesFrontEntries old.script script piece rest (entry_list found)
+    → GivesEntry old.monitor monitor e → GathersHeldFront old (record old { script = script; monitor = monitor }) piece rest
 gathers_entry old script monitor piece rest found e is takes took =
     let here : TakesEntries old.script script takes.0 (e ∷ []) = subst (λ (f : Option Entry). TakesEntries old.script script takes.0 (entry_list f)) is takes.2 in
     record {
@@ -149,15 +138,15 @@ fails_later old new script piece takes f = record {
 }
 
 -- the entry of a line that was read at the first attempt
-pub gathers_line : (old : HeldRun) (script : Script) (monitor : HeldMonitor) (piece rest : List ℕ) (e : Entry) → TakesFrontEntries old.script script piece rest (e ∷ [])
-    → TakesEntry old.monitor monitor e → GathersHeldFront old (record old { script = script; monitor = monitor }) piece rest
+pub gathers_line : (old : HeldRun) (script : Script) (monitor : HeldMonitor Replies) (piece rest : List ℕ) (e : Entry) → TakesFrontEntries old.script script piece rest (e ∷ [])
+    → GivesEntry old.monitor monitor e → GathersHeldFront old (record old { script = script; monitor = monitor }) piece rest
 gathers_line old script monitor piece rest e takes took = gathers_entry old script monitor piece rest (Some e) e refl takes took
 
 -- nothing was consumed
-pub fails_unread : (old new : HeldRun) (piece : List ℕ) → new.monitor.gathered.bytes.items ≡ old.monitor.gathered.bytes.items → GatherFails old new piece
+pub fails_unread : (old new : HeldRun) (piece : List ℕ) → new.monitor.sink.gathered.bytes.items ≡ old.monitor.sink.gathered.bytes.items → GatherFails old new piece
 fails_unread old new piece same = record {
   out = [];
-  grows = same ∙ sym (append-nil old.monitor.gathered.bytes.items);
+  grows = same ∙ sym (append-nil old.monitor.sink.gathered.bytes.items);
   fails = record {
     so = λ o bound m seen before c more. subst (λ (l : List ℕ). IsHeldPart o bound (seen ++ (piece ++ more)) l) (sym (append-nil before)) (part_so_far o bound m old seen before c (piece ++ more));
   };
@@ -170,7 +159,7 @@ ahead seen done rest more piece e =
 
 -- the entry of a line failed
 pub fails_entry : (old new : HeldRun) (script : Script) (piece rest : List ℕ) (found : Option Entry) (e : Entry) → found ≡ Some e → TakesFrontEntries old.script script piece rest (entry_list found)
-    → FailsAtEntry old.monitor new.monitor e → GatherFails old new piece
+    → GivesPart old.monitor new.monitor e → GatherFails old new piece
 fails_entry old new script piece rest found e is takes failed =
     let here : TakesEntries old.script script takes.0 (e ∷ []) = subst (λ (f : Option Entry). TakesEntries old.script script takes.0 (entry_list f)) is takes.2 in
     record {
@@ -184,7 +173,7 @@ fails_entry old new script piece rest found e is takes failed =
       };
     }
 
-pub fails_line : (old new : HeldRun) (script : Script) (piece rest : List ℕ) (e : Entry) → TakesFrontEntries old.script script piece rest (e ∷ []) → FailsAtEntry old.monitor new.monitor e → GatherFails old new piece
+pub fails_line : (old new : HeldRun) (script : Script) (piece rest : List ℕ) (e : Entry) → TakesFrontEntries old.script script piece rest (e ∷ []) → GivesPart old.monitor new.monitor e → GatherFails old new piece
 fails_line old new script piece rest e takes failed = fails_entry old new script piece rest (Some e) e refl takes failed
 
 -- ---- a piece
@@ -194,7 +183,7 @@ pub record ConsumedFront (old new : HeldRun) (piece rest : List ℕ) (was now : 
   pub done : List ℕ
   pub is : piece ≡ done ++ rest
   pub out : List ℕ
-  pub went : HeldRunAdvances old new done (out ++ new.monitor.gathered.bytes.items)
+  pub went : HeldRunAdvances old new done (out ++ new.monitor.sink.gathered.bytes.items)
   pub wrote : Appends was now out
 
 pub consumed_none : (run : HeldRun) (g : Gathered) (piece : List ℕ) (w : Option (List ℕ)) → g.bytes.items ≡ [] → ConsumedFront run (with_gathered run g) piece piece w w
@@ -221,9 +210,9 @@ both_behind out all a b is = sym (both all a b out is)
 
 pub consumed_more : (old mid new : HeldRun) (piece rest after : List ℕ) (was now : Option (List ℕ)) → ConsumedFront old mid piece rest was now → GathersHeldFront mid new rest after → ConsumedFront old new piece after was now
 consumed_more old mid new piece rest after was now k f =
-    let all = k.out ++ new.monitor.gathered.bytes.items in
-    let first = k.out ++ mid.monitor.gathered.bytes.items in
-    let is : all ≡ first ++ f.out = both_behind k.out new.monitor.gathered.bytes.items mid.monitor.gathered.bytes.items f.out f.grows in
+    let all = k.out ++ new.monitor.sink.gathered.bytes.items in
+    let first = k.out ++ mid.monitor.sink.gathered.bytes.items in
+    let is : all ≡ first ++ f.out = both_behind k.out new.monitor.sink.gathered.bytes.items mid.monitor.sink.gathered.bytes.items f.out f.grows in
     record {
       done = k.done ++ f.front;
       is = k.is ∙ ap (λ (u : List ℕ). k.done ++ u) f.is ∙ sym (append_assoc k.done f.front after);
@@ -242,19 +231,19 @@ no_items [] e = refl
 no_items (x ∷ xs) e = absurd (omega (arith, e))
 
 pub consumed_all : (old new : HeldRun) (piece rest : List ℕ) (was now : Option (List ℕ)) → ConsumedFront old new piece rest was now → true ≡ eqb (length rest) 0
-    → WritesFirst (HeldRunAdvances old new piece) new.monitor.gathered.bytes.items was now
+    → WritesFirst (HeldRunAdvances old new piece) new.monitor.sink.gathered.bytes.items was now
 consumed_all old new piece rest was now k e =
     let none = no_items rest (eqb-true (length rest) 0 (sym e)) in
     let all : piece ≡ k.done = k.is ∙ ap (λ (u : List ℕ). k.done ++ u) none ∙ append-nil k.done in
-    (k.out, subst (λ (u : List ℕ). HeldRunAdvances old new u (k.out ++ new.monitor.gathered.bytes.items)) (sym all) k.went, k.wrote)
+    (k.out, subst (λ (u : List ℕ). HeldRunAdvances old new u (k.out ++ new.monitor.sink.gathered.bytes.items)) (sym all) k.went, k.wrote)
 
 -- a further line failed
 pub consumed_fails : (old mid new : HeldRun) (piece rest : List ℕ) (was now : Option (List ℕ)) → ConsumedFront old mid piece rest was now → GatherFails mid new rest
-    → WritesFirst (HeldPieceFails old piece) new.monitor.gathered.bytes.items was now
+    → WritesFirst (HeldPieceFails old piece) new.monitor.sink.gathered.bytes.items was now
 consumed_fails old mid new piece rest was now k f =
-    let all = k.out ++ new.monitor.gathered.bytes.items in
-    let first = k.out ++ mid.monitor.gathered.bytes.items in
-    let is : all ≡ first ++ f.out = both_behind k.out new.monitor.gathered.bytes.items mid.monitor.gathered.bytes.items f.out f.grows in (
+    let all = k.out ++ new.monitor.sink.gathered.bytes.items in
+    let first = k.out ++ mid.monitor.sink.gathered.bytes.items in
+    let is : all ≡ first ++ f.out = both_behind k.out new.monitor.sink.gathered.bytes.items mid.monitor.sink.gathered.bytes.items f.out f.grows in (
       k.out,
       record {
         so = λ o bound m seen before c more.
@@ -266,10 +255,10 @@ consumed_fails old mid new piece rest was now k f =
     )
 
 -- it ends somewhere in the piece
-consumed_ends : (old new : HeldRun) (piece rest : List ℕ) (was now : Option (List ℕ)) → (k : ConsumedFront old new piece rest was now) → HeldPieceFails old piece (k.out ++ new.monitor.gathered.bytes.items)
+consumed_ends : (old new : HeldRun) (piece rest : List ℕ) (was now : Option (List ℕ)) → (k : ConsumedFront old new piece rest was now) → HeldPieceFails old piece (k.out ++ new.monitor.sink.gathered.bytes.items)
 consumed_ends old new piece rest was now k = record {
   so = λ o bound m seen before c more.
-      let all = k.out ++ new.monitor.gathered.bytes.items in
+      let all = k.out ++ new.monitor.sink.gathered.bytes.items in
       subst (λ (u : List ℕ). IsHeldPart o bound u (before ++ all)) (ahead seen k.done rest more piece k.is)
       (part_so_far o bound m new (seen ++ k.done) (before ++ all) (k.went.goes o bound m seen before c) (rest ++ more));
 }
@@ -289,10 +278,10 @@ advances_moved old new g piece out went = record {
 
 -- a front of what is gathered was written
 pub consumed_written : (old new : HeldRun) (g : Gathered) (piece rest : List ℕ) (was now end : Option (List ℕ)) → ConsumedFront old new piece rest was now
-    → WritesFront new.monitor.gathered.bytes.items g.bytes.items now end → ConsumedFront old (with_gathered new g) piece rest was end
+    → WritesFront new.monitor.sink.gathered.bytes.items g.bytes.items now end → ConsumedFront old (with_gathered new g) piece rest was end
 consumed_written old new g piece rest was now end k f =
     let out = k.out ++ f.0 in
-    let all = both_behind k.out new.monitor.gathered.bytes.items f.0 g.bytes.items f.1 in
+    let all = both_behind k.out new.monitor.sink.gathered.bytes.items f.0 g.bytes.items f.1 in
     record {
       done = k.done;
       is = k.is;
@@ -327,10 +316,10 @@ piece_cut old piece whole was now fails part = (
 
 -- it was not written whole, and is dropped
 pub consumed_cut : (old new : HeldRun) (piece rest left : List ℕ) (was now end : Option (List ℕ)) → ConsumedFront old new piece rest was now
-    → AppendsPart now end new.monitor.gathered.bytes.items → left ≡ [] → WritesFirst (HeldPieceFails old piece) left was end
+    → AppendsPart now end new.monitor.sink.gathered.bytes.items → left ≡ [] → WritesFirst (HeldPieceFails old piece) left was end
 consumed_cut old new piece rest left was now end k part none =
-    let whole = k.out ++ new.monitor.gathered.bytes.items in
-    let cut = piece_cut old piece whole was end (consumed_ends old new piece rest was now k) (part_behind k.out new.monitor.gathered.bytes.items was now end k.wrote part) in
+    let whole = k.out ++ new.monitor.sink.gathered.bytes.items in
+    let cut = piece_cut old piece whole was end (consumed_ends old new piece rest was now k) (part_behind k.out new.monitor.sink.gathered.bytes.items was now end k.wrote part) in
     let same : cut.0 ≡ cut.0 ++ left = sym (append-nil cut.0) ∙ ap (λ (l : List ℕ). cut.0 ++ l) (sym none) in
     (cut.0, subst (λ (l : List ℕ). HeldPieceFails old piece l) same cut.1, cut.2)
 
@@ -346,28 +335,28 @@ end_cut old whole was now fails part = (
 
 -- ---- the end of the script
 
-pub took_no_end : (old : HeldRun) (g : Gathered) (found : Option Entry) → found ≡ None → g.bytes.items ≡ [] → EndGives old.script (entry_list found) → TakesLast old (record old.monitor { gathered = g })
+pub took_no_end : (old : HeldRun) (g : Gathered) (found : Option Entry) → found ≡ None → g.bytes.items ≡ [] → EndGives old.script (entry_list found) → TakesLast old (record old.monitor { sink = record old.monitor.sink { gathered = g } })
 took_no_end old g found none empty gives = record {
   out = [];
   grows = empty;
   so = λ o bound m seen before c.
       let here = subst (λ (f : Option Entry). EndGives old.script (entry_list f)) none gives in
-      let taken = taken_moved o bound old.monitor g c.entries before c.taken in (
+      let taken = given_moved o bound old.monitor (record old.monitor.sink { gathered = g }) c.entries before refl refl c.taken in (
         c.entries,
         subst (λ (l : List Entry). SpellsEntries 1 None (lines seen) l) (append-nil c.entries) (all_entries m old.script seen c.entries [] c.read here),
-        subst (λ (l : List ℕ). HasTaken o bound (record old.monitor { gathered = g }) c.entries l) (sym (append-nil before)) taken,
+        subst (λ (l : List ℕ). HasGiven o bound (record old.monitor { sink = record old.monitor.sink { gathered = g } }) c.entries l) (sym (append-nil before)) taken,
         c.read.within,
       );
 }
 
-pub took_end : (old : HeldRun) (g : Gathered) (monitor : HeldMonitor) (found : Option Entry) (e : Entry) → found ≡ Some e → g.bytes.items ≡ [] → EndGives old.script (entry_list found)
-    → TakesEntry (record old.monitor { gathered = g }) monitor e → TakesLast old monitor
+pub took_end : (old : HeldRun) (g : Gathered) (monitor : HeldMonitor Replies) (found : Option Entry) (e : Entry) → found ≡ Some e → g.bytes.items ≡ [] → EndGives old.script (entry_list found)
+    → GivesEntry (record old.monitor { sink = record old.monitor.sink { gathered = g } }) monitor e → TakesLast old monitor
 took_end old g monitor found e is empty gives took = record {
   out = took.out;
   grows = took.grows ∙ ap (λ (l : List ℕ). l ++ took.out) empty;
   so = λ o bound m seen before c.
       let here = subst (λ (f : Option Entry). EndGives old.script (entry_list f)) is gives in
-      let taken = taken_moved o bound old.monitor g c.entries before c.taken in (
+      let taken = given_moved o bound old.monitor (record old.monitor.sink { gathered = g }) c.entries before refl refl c.taken in (
         c.entries ++ e ∷ [],
         all_entries m old.script seen c.entries (e ∷ []) c.read here,
         took.after o bound c.entries before taken,
@@ -375,28 +364,28 @@ took_end old g monitor found e is empty gives took = record {
       );
 }
 
-pub end_succeeds : (old : HeldRun) (mid new : HeldMonitor) (counts : Counts) → TakesLast old mid → Ends mid new counts → HeldEndSucceeds old counts new.gathered.bytes.items
+pub end_succeeds : (old : HeldRun) (mid new : HeldMonitor Replies) (counts : Counts) → TakesLast old mid → GivesEnd mid new counts → HeldEndSucceeds old counts new.sink.gathered.bytes.items
 end_succeeds old mid new counts t f = record {
   so = λ o bound m seen before c.
       let s = t.so o bound m seen before c in
-      let all : new.gathered.bytes.items ≡ t.out ++ f.out = f.grows ∙ ap (λ (l : List ℕ). l ++ f.out) t.grows in (
+      let all : new.sink.gathered.bytes.items ≡ t.out ++ f.out = f.grows ∙ ap (λ (l : List ℕ). l ++ f.out) t.grows in (
         (
           s.0,
           s.1,
-          subst (λ (l : List ℕ). IsOutputOf o bound s.0 counts l) (both new.gathered.bytes.items t.out f.out before all) (f.after o bound s.0 (before ++ t.out) s.2),
+          subst (λ (l : List ℕ). IsOutputOf o bound s.0 counts l) (both new.sink.gathered.bytes.items t.out f.out before all) (f.after o bound s.0 (before ++ t.out) s.2),
         ),
         s.3,
       );
 }
 
-pub end_fails : (old : HeldRun) (mid new : HeldMonitor) → TakesLast old mid → HeldEndFails mid new → EndIsCut old new.gathered.bytes.items
+pub end_fails : (old : HeldRun) (mid new : HeldMonitor Replies) → TakesLast old mid → GivesEndPart mid new → EndIsCut old new.sink.gathered.bytes.items
 end_fails old mid new t f = record {
   so = λ o bound m seen before c.
       let s = t.so o bound m seen before c in
-      let all : new.gathered.bytes.items ≡ t.out ++ f.out = f.grows ∙ ap (λ (l : List ℕ). l ++ f.out) t.grows in (
+      let all : new.sink.gathered.bytes.items ≡ t.out ++ f.out = f.grows ∙ ap (λ (l : List ℕ). l ++ f.out) t.grows in (
         s.0,
         s.1,
-        subst (λ (l : List ℕ). IsBeginningOf o bound s.0 l) (both new.gathered.bytes.items t.out f.out before all) (f.after o bound s.0 (before ++ t.out) s.2),
+        subst (λ (l : List ℕ). IsBeginningOf o bound s.0 l) (both new.sink.gathered.bytes.items t.out f.out before all) (f.after o bound s.0 (before ++ t.out) s.2),
       );
 }
 
@@ -410,13 +399,13 @@ end_unread old gathered none = record {
 }
 
 -- the last entry failed
-pub end_entry_fails : (old : HeldRun) (g : Gathered) (monitor : HeldMonitor) (found : Option Entry) (e : Entry) → found ≡ Some e → g.bytes.items ≡ [] → EndGives old.script (entry_list found)
-    → FailsAtEntry (record old.monitor { gathered = g }) monitor e → EndIsCut old monitor.gathered.bytes.items
+pub end_entry_fails : (old : HeldRun) (g : Gathered) (monitor : HeldMonitor Replies) (found : Option Entry) (e : Entry) → found ≡ Some e → g.bytes.items ≡ [] → EndGives old.script (entry_list found)
+    → GivesPart (record old.monitor { sink = record old.monitor.sink { gathered = g } }) monitor e → EndIsCut old monitor.sink.gathered.bytes.items
 end_entry_fails old g monitor found e is empty gives failed = record {
   so = λ o bound m seen before c.
       let here = subst (λ (f : Option Entry). EndGives old.script (entry_list f)) is gives in
-      let all : monitor.gathered.bytes.items ≡ failed.out = failed.grows ∙ ap (λ (l : List ℕ). l ++ failed.out) empty in
-      let taken = taken_moved o bound old.monitor g c.entries before c.taken in (
+      let all : monitor.sink.gathered.bytes.items ≡ failed.out = failed.grows ∙ ap (λ (l : List ℕ). l ++ failed.out) empty in
+      let taken = given_moved o bound old.monitor (record old.monitor.sink { gathered = g }) c.entries before refl refl c.taken in (
         c.entries ++ e ∷ [],
         all_entries m old.script seen c.entries (e ∷ []) c.read here,
         subst (λ (l : List ℕ). IsBeginningOf o bound (c.entries ++ e ∷ []) (before ++ l)) (sym all) (failed.after o bound c.entries before taken),

@@ -13,23 +13,23 @@ use Rattle.scrib_script_io.proofs.WriterLemmas.{appends_kept, appends_more, appe
 use Rattle.scrib_hold.specs.declared.held_run.HeldRun.{HeldRun}
 use Rattle.scrib_hold.specs.HeldScripts.{IsHeldOutput, IsHeldPart}
 use Rattle.scrib_hold.specs.Progress.{HasHeldProgressed, IsNewHeld, HeldRunAdvances, HeldPieceFails, HeldEndSucceeds, EndIsCut, Writes, HeldRunSucceeds, HeldRunFails}
-use Rattle.scrib_hold.proofs.MonitorLemmas.{begun_whole, begun_none}
+use Rattle.scrib_hold.proofs.RepliesLemmas.{begun_whole, begun_none}
 use Rattle.scrib_hold.proofs.HeldRunLemmas.{part_so_far}
 
 -- a new run has the given format, bound and limits
-pub format_kept : (o : Format) (bound : ℕ) (m : Limits) (run : HeldRun) → IsNewHeld o bound m run → run.monitor.format ≡ o
-format_kept o bound m run new = new.progress.taken.at.format
+pub format_kept : (o : Format) (bound : ℕ) (m : Limits) (run : HeldRun) → IsNewHeld o bound m run → run.monitor.sink.format ≡ o
+format_kept o bound m run new = new.progress.taken.format
 
 pub bound_kept : (o : Format) (bound : ℕ) (m : Limits) (run : HeldRun) → IsNewHeld o bound m run → run.monitor.stage.bound ≡ bound
-bound_kept o bound m run new = new.progress.taken.at.so_far.staged.kept.bounded
+bound_kept o bound m run new = new.progress.taken.taken.at.so_far.staged.kept.bounded
 
 pub limits_kept : (o : Format) (bound : ℕ) (m : Limits) (run : HeldRun) → IsNewHeld o bound m run → run.script.limits ≡ m
 limits_kept o bound m run new = new.progress.read.limits
 
-pub new_itself : (o : Format) (bound : ℕ) (m : Limits) (run : HeldRun) → IsNewHeld o bound m run → IsNewHeld run.monitor.format run.monitor.stage.bound run.script.limits run
+pub new_itself : (o : Format) (bound : ℕ) (m : Limits) (run : HeldRun) → IsNewHeld o bound m run → IsNewHeld run.monitor.sink.format run.monitor.stage.bound run.script.limits run
 new_itself o bound m run new =
-    subst (λ (k : Limits). IsNewHeld run.monitor.format run.monitor.stage.bound k run) (sym (limits_kept o bound m run new))
-    (subst (λ (b : ℕ). IsNewHeld run.monitor.format b m run) (sym (bound_kept o bound m run new))
+    subst (λ (k : Limits). IsNewHeld run.monitor.sink.format run.monitor.stage.bound k run) (sym (limits_kept o bound m run new))
+    (subst (λ (b : ℕ). IsNewHeld run.monitor.sink.format b m run) (sym (bound_kept o bound m run new))
     (subst (λ (f : Format). IsNewHeld f bound m run) (sym (format_kept o bound m run new)) new))
 
 -- A run consumed all that was read, and wrote its output.
@@ -136,13 +136,13 @@ never_started o bound (Some input) w0 = let p = give_entries (lines input) 1 Non
 
 -- a run that was new is of this format and bound, and of these limits
 pub same_success : (o : Format) (bound : ℕ) (m : Limits) (run : HeldRun) (counts : Counts) (r was now : Option (List ℕ)) → IsNewHeld o bound m run
-    → HeldRunSucceeds run.monitor.format run.monitor.stage.bound run.script.limits r counts was now → HeldRunSucceeds o bound m r counts was now
+    → HeldRunSucceeds run.monitor.sink.format run.monitor.stage.bound run.script.limits r counts was now → HeldRunSucceeds o bound m r counts was now
 same_success o bound m run counts r was now new h =
     subst (λ (k : Limits). HeldRunSucceeds o bound k r counts was now) (limits_kept o bound m run new)
     (subst (λ (b : ℕ). HeldRunSucceeds o b run.script.limits r counts was now) (bound_kept o bound m run new)
     (subst (λ (f : Format). HeldRunSucceeds f run.monitor.stage.bound run.script.limits r counts was now) (format_kept o bound m run new) h))
 
-pub same_failure : (o : Format) (bound : ℕ) (m : Limits) (run : HeldRun) (r was now : Option (List ℕ)) → IsNewHeld o bound m run → HeldRunFails run.monitor.format run.monitor.stage.bound r was now → HeldRunFails o bound r was now
+pub same_failure : (o : Format) (bound : ℕ) (m : Limits) (run : HeldRun) (r was now : Option (List ℕ)) → IsNewHeld o bound m run → HeldRunFails run.monitor.sink.format run.monitor.stage.bound r was now → HeldRunFails o bound r was now
 same_failure o bound m run r was now new h =
     subst (λ (b : ℕ). HeldRunFails o b r was now) (bound_kept o bound m run new)
     (subst (λ (f : Format). HeldRunFails f run.monitor.stage.bound r was now) (format_kept o bound m run new) h)

@@ -14,29 +14,11 @@ use Rattle.scrib_hold_stage.specs.Changes.{LeavesOthers}
 use Rattle.scrib_hold_stage.specs.PendingClosings.{IsMade, IsOf, IsApart, IsReady, IsNotReady}
 use Rattle.scrib_hold_stage.specs.Stages.{StageState, HasStaged, IsRead, IsFinished}
 use Rattle.scrib_hold_stage.proofs.HistoryLemmas.{unreleased, all_released}
-use Rattle.scrib_hold.specs.HeldScripts.{Asked, Pending, event_in, staged, staged_from, item_of, closing_item, closing_at, passing, opens_conversation, opens_next, ends_inside, end_item, WaitsFurther, IsDue, IsNext, LetsOut, nothing, reads, closes, AreHeldItems, AreLetOut}
+use Rattle.scrib_hold.specs.HeldScripts.{Asked, Pending, event_in, staged, staged_from, item_of, closing_item, closing_at, passing, opens_conversation, ends_inside, end_item, WaitsFurther, IsDue, IsNext, nothing, reads, closes, noted_events_of}
+use Rattle.scrib_hold.specs.NumberedItems.{Numbered, items_in, numbered_read, numbered_closed, numbered_last, LetsOutNumbered, AreHeldNumbered, AreLetOutNumbered}
 use Rattle.scrib_hold.specs.LetOutSoFar.{LetsOutSoFar, closing_items}
-use Rattle.scrib_hold.proofs.EntryLemmas.{staged_more, length_staged, noted_more, noted_closing, all_noted}
-
-opens_further : (id : ℕ) (later more : List Entry) → opens_next id later → opens_next id (later ++ more)
-opens_further id [] more o = absurd o
-opens_further id (e ∷ later) more o = o
-
-next_further : (bound : ℕ) (entries later more : List Entry) (closed : Closings) (released : List (Noted Asked)) (front : List Pending) (c : Pending) → IsNext bound entries later closed released front c → IsNext bound entries (later ++ more) closed released front c
-next_further bound entries later more closed released front c (inl n) = inl n
-next_further bound entries later more closed released front c (inr n) = inr (n.0, opens_further c.conversation later more n.1)
-
-pub lets_further : {bound : ℕ} {entries later : List Entry} {closed : Closings} {pending : List Pending} {released expired : List (Noted Asked)} {items : List Item} (more : List Entry)
-    → LetsOut bound entries later closed pending released expired items → LetsOut bound entries (later ++ more) closed pending released expired items
-lets_further more (nothing later) = nothing (later ++ more)
-lets_further more (reads entries later closed pending released expired items e given late gone l w a s x) =
-    reads entries (later ++ more) closed pending released expired items e given late gone (lets_further more l) w a s x
-lets_further {bound} more (closes entries later closed front back c released expired items given gone l n s x r) =
-    closes entries (later ++ more) closed front back c released expired items given gone (lets_further more l) (next_further bound entries later more closed released front c n) s x r
-
-pub let_out_further : (bound : ℕ) (entries later more : List Entry) (items : List Item) → AreLetOut bound entries later items → AreLetOut bound entries (later ++ more) items
-let_out_further bound entries later more items (inl o) = inl (o.0, o.1, o.2, o.3, lets_further more o.4)
-let_out_further bound entries later more items (inr o) = inr o
+use Rattle.scrib_hold.proofs.EntryLemmas.{given_to, staged_more, length_staged, noted_more, noted_closing, all_noted}
+use Rattle.scrib_hold.proofs.NumberedLemmas.{more_read, more_closed, items_let_out}
 
 -- ---- lists of closings
 
@@ -60,13 +42,13 @@ so_far_none bound s pending a none = record {
   released = [];
   expired = [];
   staged = a;
-  lets = λ later. subst (λ (l : List Pending). LetsOut bound [] later none_closed l [] [] []) (sym none) (nothing later);
+  lets = λ later. subst (λ (l : List Pending). LetsOutNumbered bound [] later none_closed l [] [] []) (sym none) ([], nothing later, refl);
   noted = λ id. refl;
 }
 
 -- where the next entries are known
-pub so_far_next : (bound : ℕ) (s : StageState Asked) (pending : List Pending) (entries next : List Entry) (items : List Item) → LetsOutSoFar bound s pending entries [] items → LetsOutSoFar bound s pending entries next items
-so_far_next bound s pending entries next items a = record {
+pub so_far_next : (bound : ℕ) (s : StageState Asked) (pending : List Pending) (entries next : List Entry) (numbered : List Numbered) → LetsOutSoFar bound s pending entries [] numbered → LetsOutSoFar bound s pending entries next numbered
+so_far_next bound s pending entries next numbered a = record {
   closed = a.closed;
   released = a.released;
   expired = a.expired;
@@ -76,61 +58,71 @@ so_far_next bound s pending entries next items a = record {
 }
 
 -- the same of an equal state and equal closings
-pub so_far_same : (bound : ℕ) (s t : StageState Asked) (pending others : List Pending) (entries next : List Entry) (items : List Item) → t ≡ s → others ≡ pending → LetsOutSoFar bound s pending entries next items → LetsOutSoFar bound t others entries next items
-so_far_same bound s t pending others entries next items same equal a =
-    subst (λ (z : StageState Asked). LetsOutSoFar bound z others entries next items) (sym same) (subst (λ (l : List Pending). LetsOutSoFar bound s l entries next items) (sym equal) a)
+pub so_far_same : (bound : ℕ) (s t : StageState Asked) (pending others : List Pending) (entries next : List Entry) (numbered : List Numbered) → t ≡ s → others ≡ pending → LetsOutSoFar bound s pending entries next numbered → LetsOutSoFar bound t others entries next numbered
+so_far_same bound s t pending others entries next numbered same equal a =
+    subst (λ (z : StageState Asked). LetsOutSoFar bound z others entries next numbered) (sym same) (subst (λ (l : List Pending). LetsOutSoFar bound s l entries next numbered) (sym equal) a)
 
-pub so_far_let_out : (bound : ℕ) (s : StageState Asked) (pending : List Pending) (entries next later : List Entry) (items : List Item) → LetsOutSoFar bound s pending entries next items → AreLetOut bound entries (next ++ later) items
-so_far_let_out bound s pending entries next later items a = inl (a.closed, pending, a.released, a.expired, a.lets later)
+pub so_far_let_out : (bound : ℕ) (s : StageState Asked) (pending : List Pending) (entries next later : List Entry) (numbered : List Numbered) → LetsOutSoFar bound s pending entries next numbered → AreLetOutNumbered bound entries (next ++ later) numbered
+so_far_let_out bound s pending entries next later numbered a = inl (a.closed, pending, a.released, a.expired, a.lets later)
 
 -- a closing waits further
-pub waiting_further : (bound : ℕ) (s : StageState Asked) (all : List Pending) (entries next : List Entry) (items : List Item) (a : LetsOutSoFar bound s all entries next items) (pending : List Pending)
+pub waiting_further : (bound : ℕ) (s : StageState Asked) (all : List Pending) (entries next : List Entry) (numbered : List Numbered) (a : LetsOutSoFar bound s all entries next numbered) (pending : List Pending)
     → AllByRecursion (λ c. IsNotReady c s) pending → AllByRecursion (WaitsFurther bound entries a.closed a.released) pending
-waiting_further bound s all entries next items a [] w = tt
-waiting_further bound s all entries next items a (c ∷ pending) w = (
+waiting_further bound s all entries next numbered a [] w = tt
+waiting_further bound s all entries next numbered a (c ∷ pending) w = (
   (
     omega (arith, w.0.0, a.staged.kept.timed, a.staged.kept.bounded, length_staged 1 entries),
     unreleased event_in bound c.conversation (staged_from 1 entries) a.closed a.released a.expired s a.staged w.0.1,
   ),
-  waiting_further bound s all entries next items a pending w.1,
+  waiting_further bound s all entries next numbered a pending w.1,
 )
 
 -- the entry that follows is read
-module _ (bound : ℕ) (s t : StageState Asked) (pending more : List Pending) (entries : List Entry) (items : List Item) (e : Entry) (released : List (Noted Asked)) (a : LetsOutSoFar bound s pending entries (e ∷ []) items)
+module _ (bound : ℕ) (s t : StageState Asked) (pending more : List Pending) (entries : List Entry) (numbered : List Numbered) (e : Entry) (released : List (Noted Asked)) (a : LetsOutSoFar bound s pending entries (e ∷ []) numbered)
     (wait : AllByRecursion (λ c. IsNotReady c s) pending) (apart : AllByRecursion (λ c. opens_conversation c.conversation e ≡ false) pending)
     (read : IsRead event_in (staged (s.time + 1) e) s t [] released) (more_is : more ≡ pending ++ closing_at (s.time + 1) e) where
-  numbered : length entries + 1 ≡ s.time + 1
-  numbered = omega (arith, a.staged.kept.timed, length_staged 1 entries)
+  number_is : length entries + 1 ≡ s.time + 1
+  number_is = omega (arith, a.staged.kept.timed, length_staged 1 entries)
 
   staged_further : HasStaged event_in bound (staged_from 1 (entries ++ e ∷ [])) a.closed (a.released ++ (read.given ++ read.late)) (a.expired ++ read.gone) t
   staged_further =
-      let number : 1 + length entries ≡ s.time + 1 = omega (arith, numbered) in
+      let number : 1 + length entries ≡ s.time + 1 = omega (arith, number_is) in
       let same : staged_from 1 (entries ++ e ∷ []) ≡ staged_from 1 entries ++ staged (s.time + 1) e ∷ [] =
       staged_more 1 entries e ∙ ap (λ (k : ℕ). staged_from 1 entries ++ staged k e ∷ []) number in
       subst (λ (l : List (stage.Entry Asked)). HasStaged event_in bound l a.closed (a.released ++ (read.given ++ read.late)) (a.expired ++ read.gone) t) (sym same)
       (read.after bound (staged_from 1 entries) a.closed a.released a.expired a.staged)
 
-  lets_more : (later : List Entry) → LetsOut bound (entries ++ e ∷ []) later a.closed more (a.released ++ (read.given ++ read.late)) (a.expired ++ read.gone) (items ++ (passing e ++ map item_of (read.given ++ read.late)))
+  lets_more : (later : List Entry) → LetsOutNumbered bound (entries ++ e ∷ []) later a.closed more (a.released ++ (read.given ++ read.late)) (a.expired ++ read.gone) (numbered ++ numbered_read (s.time + 1) e (read.given ++ read.late))
   lets_more later =
-      subst (λ (l : List Pending). LetsOut bound (entries ++ e ∷ []) later a.closed l (a.released ++ (read.given ++ read.late)) (a.expired ++ read.gone) (items ++ (passing e ++ map item_of (read.given ++ read.late))))
-      (ap (λ (k : ℕ). pending ++ closing_at k e) numbered ∙ sym more_is)
-      (reads entries later a.closed pending a.released a.expired items e read.given read.late read.gone (a.lets later) (waiting_further bound s pending entries (e ∷ []) items a pending wait) apart (t, staged_further)
-      (read.in_turn bound (staged_from 1 entries) a.closed a.released a.expired a.staged))
+      let all = read.given ++ read.late in
+      let k = a.lets later in
+      subst (λ (l : List Pending). LetsOutNumbered bound (entries ++ e ∷ []) later a.closed l (a.released ++ all) (a.expired ++ read.gone) (numbered ++ numbered_read (s.time + 1) e all))
+      (ap (λ (n : ℕ). pending ++ closing_at n e) number_is ∙ sym more_is) (
+        k.0 ++ (passing e ++ map item_of all),
+        reads entries later a.closed pending a.released a.expired k.0 e read.given read.late read.gone k.1 (waiting_further bound s pending entries (e ∷ []) numbered a pending wait) apart (t, staged_further)
+            (read.in_turn bound (staged_from 1 entries) a.closed a.released a.expired a.staged),
+        ap (λ (l : List Numbered). l ++ numbered_read (length entries + 1) e all) k.2 ∙ ap (λ (n : ℕ). numbered ++ numbered_read n e all) number_is,
+      )
 
-  pub read_further : LetsOutSoFar bound t more (entries ++ e ∷ []) [] (items ++ (passing e ++ map item_of released))
+  noted_further : (id : ℕ) → noted_events_of id (items_in (numbered ++ numbered_read (s.time + 1) e (read.given ++ read.late))) ≡ given_to id (a.released ++ (read.given ++ read.late))
+  noted_further id =
+      let all = read.given ++ read.late in
+      ap (noted_events_of id) (more_read numbered (s.time + 1) e all) ∙ noted_more id (items_in numbered) a.released all e (a.noted id)
+
+  pub read_further : LetsOutSoFar bound t more (entries ++ e ∷ []) [] (numbered ++ numbered_read (s.time + 1) e released)
   read_further =
-      subst (λ (l : List (Noted Asked)). LetsOutSoFar bound t more (entries ++ e ∷ []) [] (items ++ (passing e ++ map item_of l))) (sym read.appended) (record {
+      subst (λ (l : List (Noted Asked)). LetsOutSoFar bound t more (entries ++ e ∷ []) [] (numbered ++ numbered_read (s.time + 1) e l)) (sym read.appended) (record {
         closed = a.closed;
         released = a.released ++ (read.given ++ read.late);
         expired = a.expired ++ read.gone;
         staged = staged_further;
         lets = lets_more;
-        noted = λ id. noted_more id items a.released (read.given ++ read.late) e (a.noted id);
+        noted = noted_further;
       })
 
 -- a closing is made
-module _ (Is IsNot : Pending → Type 0) (bound : ℕ) (s t : StageState Asked) (pending left : List Pending) (entries next : List Entry) (items : List Item) (c : Pending) (released : List (Noted Asked))
-    (made : IsMade event_in Is IsNot c pending left s t [] released) (a : LetsOutSoFar bound s pending entries next items) (n : (later : List Entry) → IsNext bound entries (next ++ later) a.closed a.released made.taken.front c) where
+module _ (Is IsNot : Pending → Type 0) (bound : ℕ) (s t : StageState Asked) (pending left : List Pending) (entries next : List Entry) (numbered : List Numbered) (c : Pending) (released : List (Noted Asked))
+    (made : IsMade event_in Is IsNot c pending left s t [] released) (a : LetsOutSoFar bound s pending entries next numbered) (n : (later : List Entry) → IsNext bound entries (next ++ later) a.closed a.released made.taken.front c) where
   abbrev closed_now : Closings
   closed_now = closed_at c.conversation (length entries) a.closed
 
@@ -139,35 +131,44 @@ module _ (Is IsNot : Pending → Type 0) (bound : ℕ) (s t : StageState Asked) 
       subst (λ (k : ℕ). HasStaged event_in bound (staged_from 1 entries) (closed_at c.conversation k a.closed) (a.released ++ made.closed.given) (a.expired ++ made.closed.gone) t) (length_staged 1 entries)
       (made.closed.after bound (staged_from 1 entries) a.closed a.released a.expired a.staged)
 
-  lets_closed : (later : List Entry) → LetsOut bound entries (next ++ later) closed_now left (a.released ++ made.closed.given) (a.expired ++ made.closed.gone) (items ++ closing_items c made.closed.given)
+  lets_closed : (later : List Entry) → LetsOutNumbered bound entries (next ++ later) closed_now left (a.released ++ made.closed.given) (a.expired ++ made.closed.gone) (numbered ++ numbered_closed c made.closed.given)
   lets_closed later =
-      subst (λ (l : List Pending). LetsOut bound entries (next ++ later) closed_now l (a.released ++ made.closed.given) (a.expired ++ made.closed.gone) (items ++ closing_items c made.closed.given)) (sym made.taken.left)
-      (closes entries (next ++ later) a.closed made.taken.front made.taken.back c a.released a.expired items made.closed.given made.closed.gone
-      (subst (λ (l : List Pending). LetsOut bound entries (next ++ later) a.closed l a.released a.expired items) made.taken.was (a.lets later)) (n later) (t, staged_closed)
-      (made.closed.in_turn bound (staged_from 1 entries) a.closed a.released a.expired a.staged)
-      (made.closed.law bound (staged_from 1 entries) a.closed a.released a.expired a.staged))
+      let all = a.released ++ made.closed.given in
+      let gone = a.expired ++ made.closed.gone in
+      let k = subst (λ (l : List Pending). LetsOutNumbered bound entries (next ++ later) a.closed l a.released a.expired numbered) made.taken.was (a.lets later) in
+      subst (λ (l : List Pending). LetsOutNumbered bound entries (next ++ later) closed_now l all gone (numbered ++ numbered_closed c made.closed.given)) (sym made.taken.left) (
+        k.0 ++ closing_items c made.closed.given,
+        closes entries (next ++ later) a.closed made.taken.front made.taken.back c a.released a.expired k.0 made.closed.given made.closed.gone k.1 (n later) (t, staged_closed)
+            (made.closed.in_turn bound (staged_from 1 entries) a.closed a.released a.expired a.staged)
+            (made.closed.law bound (staged_from 1 entries) a.closed a.released a.expired a.staged),
+        ap (λ (l : List Numbered). l ++ numbered_closed c made.closed.given) k.2,
+      )
 
-  pub closed_further : LetsOutSoFar bound t left entries next (items ++ closing_items c released)
+  noted_closed : (id : ℕ) → noted_events_of id (items_in (numbered ++ numbered_closed c made.closed.given)) ≡ given_to id (a.released ++ made.closed.given)
+  noted_closed id =
+      ap (noted_events_of id) (more_closed numbered c made.closed.given) ∙ noted_closing id (items_in numbered) a.released made.closed.given c (a.noted id)
+
+  pub closed_further : LetsOutSoFar bound t left entries next (numbered ++ numbered_closed c released)
   closed_further =
-      subst (λ (l : List (Noted Asked)). LetsOutSoFar bound t left entries next (items ++ closing_items c l)) (sym made.closed.appended) (record {
+      subst (λ (l : List (Noted Asked)). LetsOutSoFar bound t left entries next (numbered ++ numbered_closed c l)) (sym made.closed.appended) (record {
         closed = closed_now;
         released = a.released ++ made.closed.given;
         expired = a.expired ++ made.closed.gone;
         staged = staged_closed;
         lets = lets_closed;
-        noted = λ id. noted_closing id items a.released made.closed.given c (a.noted id);
+        noted = noted_closed;
       })
 
 -- ---- why a closing is made
 
-due_now : (bound : ℕ) (s : StageState Asked) (pending : List Pending) (entries next : List Entry) (items : List Item) (a : LetsOutSoFar bound s pending entries next items) (c : Pending) → IsReady c s → IsDue bound entries a.closed a.released c
-due_now bound s pending entries next items a c (inl le) = inl (omega (arith, le, a.staged.kept.timed, a.staged.kept.bounded, length_staged 1 entries))
-due_now bound s pending entries next items a c (inr none) = inr (all_released event_in bound c.conversation (staged_from 1 entries) a.closed a.released a.expired s a.staged none)
+due_now : (bound : ℕ) (s : StageState Asked) (pending : List Pending) (entries next : List Entry) (numbered : List Numbered) (a : LetsOutSoFar bound s pending entries next numbered) (c : Pending) → IsReady c s → IsDue bound entries a.closed a.released c
+due_now bound s pending entries next numbered a c (inl le) = inl (omega (arith, le, a.staged.kept.timed, a.staged.kept.bounded, length_staged 1 entries))
+due_now bound s pending entries next numbered a c (inr none) = inr (all_released event_in bound c.conversation (staged_from 1 entries) a.closed a.released a.expired s a.staged none)
 
 -- it waits no further
-pub ready_next : (bound : ℕ) (s : StageState Asked) (pending : List Pending) (entries : List Entry) (items : List Item) (a : LetsOutSoFar bound s pending entries [] items) (front : List Pending) (c : Pending)
+pub ready_next : (bound : ℕ) (s : StageState Asked) (pending : List Pending) (entries : List Entry) (numbered : List Numbered) (a : LetsOutSoFar bound s pending entries [] numbered) (front : List Pending) (c : Pending)
     → AllByRecursion (λ d. IsNotReady d s) front → IsReady c s → (later : List Entry) → IsNext bound entries ([] ++ later) a.closed a.released front c
-ready_next bound s pending entries items a front c before ready later = inl (waiting_further bound s pending entries [] items a front before, due_now bound s pending entries [] items a c ready)
+ready_next bound s pending entries numbered a front c before ready later = inl (waiting_further bound s pending entries [] numbered a front before, due_now bound s pending entries [] numbered a c ready)
 
 -- the next entry opens its conversation
 pub forced_next : (id bound : ℕ) (entries : List Entry) (closed : Closings) (released : List (Noted Asked)) (e : Entry) (front : List Pending) (c : Pending) → opens_conversation id e ≡ true → AllByRecursion (IsApart id) front → IsOf id c
@@ -185,10 +186,10 @@ still_waits id s t time bound others d w apart = (
 )
 
 -- all those of other conversations do
-pub others_wait : (bound id : ℕ) (s t : StageState Asked) (pending left : List Pending) (entries next : List Entry) (items more : List Item) (c : Pending) (released : List (Noted Asked))
-    → LetsOutSoFar bound s pending entries next items → LetsOutSoFar bound t left entries next more → IsMade event_in (IsOf id) (IsApart id) c pending left s t [] released
+pub others_wait : (bound id : ℕ) (s t : StageState Asked) (pending left : List Pending) (entries next : List Entry) (numbered more : List Numbered) (c : Pending) (released : List (Noted Asked))
+    → LetsOutSoFar bound s pending entries next numbered → LetsOutSoFar bound t left entries next more → IsMade event_in (IsOf id) (IsApart id) c pending left s t [] released
     → AllByRecursion (λ d. IsApart id d → IsNotReady d s) pending → AllByRecursion (λ d. IsApart id d → IsNotReady d t) left
-others_wait bound id s t pending left entries next items more c released a b made w =
+others_wait bound id s t pending left entries next numbered more c released a b made w =
     all_weaker (λ (d : Pending). IsApart id d → IsNotReady d s) (λ (d : Pending). IsApart id d → IsNotReady d t)
     (λ d v. still_waits id s t (b.staged.kept.timed ∙ sym a.staged.kept.timed) (b.staged.kept.bounded ∙ sym a.staged.kept.bounded)
     (subst (λ (i : ℕ). LeavesOthers i s.conversations t.conversations) made.taken.is made.closed.others) d v)
@@ -208,24 +209,30 @@ none_opened id e pending only a =
 
 -- ---- the end of the script
 
-pub held_at_end : (bound : ℕ) (s : StageState Asked) (pending : List Pending) (entries : List Entry) (items : List Item) (released : List (Noted Asked)) (inside : Bool) → (a : LetsOutSoFar bound s pending entries [] items)
+pub held_at_end : (bound : ℕ) (s : StageState Asked) (pending : List Pending) (entries : List Entry) (numbered : List Numbered) (released : List (Noted Asked)) (inside : Bool) → (a : LetsOutSoFar bound s pending entries [] numbered)
     → AllByRecursion (λ c. IsNotReady c s) pending → IsFinished event_in s [] released → inside ≡ ends_inside entries
-    → AreHeldItems bound entries a.expired (items ++ (map item_of released ++ (map closing_item pending ++ end_item inside)))
-held_at_end bound s pending entries items released inside a wait finished inside_is =
-    let end = map closing_item pending ++ end_item (ends_inside entries) in
-    let is : items ++ (map item_of finished.given ++ end) ≡ items ++ (map item_of released ++ (map closing_item pending ++ end_item inside)) =
-    ap (λ (l : List (Noted Asked)). items ++ (map item_of l ++ end)) (sym finished.appended) ∙ ap (λ (x : Bool). items ++ (map item_of released ++ (map closing_item pending ++ end_item x))) (sym inside_is) in
-    subst (AreHeldItems bound entries a.expired) is (record {
-      closed = a.closed;
-      pending = pending;
-      released = a.released;
-      waited = finished.given;
-      gone = finished.gone;
-      let_out = items;
-      lets = a.lets [];
-      wait = waiting_further bound s pending entries [] items a pending wait;
-      in_turn = finished.in_turn bound (staged_from 1 entries) a.closed a.released a.expired a.staged;
-      law = finished.law bound (staged_from 1 entries) a.closed a.released a.expired a.staged;
-      noted = λ id. all_noted id items a.released finished.given pending (ends_inside entries) (a.noted id);
-      is = refl;
-    })
+    → AreHeldNumbered bound entries a.expired (numbered ++ numbered_last s.time released pending inside)
+held_at_end bound s pending entries numbered released inside a wait finished inside_is =
+    let k = a.lets [] in
+    let items_are : k.0 ≡ items_in numbered = sym (items_let_out k.1) ∙ ap items_in k.2 in
+    let number : length entries ≡ s.time = omega (arith, a.staged.kept.timed, length_staged 1 entries) in (
+      k.0 ++ (map item_of finished.given ++ (map closing_item pending ++ end_item (ends_inside entries))),
+      record {
+        closed = a.closed;
+        pending = pending;
+        released = a.released;
+        waited = finished.given;
+        gone = finished.gone;
+        let_out = k.0;
+        lets = k.1;
+        wait = waiting_further bound s pending entries [] numbered a pending wait;
+        in_turn = finished.in_turn bound (staged_from 1 entries) a.closed a.released a.expired a.staged;
+        law = finished.law bound (staged_from 1 entries) a.closed a.released a.expired a.staged;
+        noted = λ id. all_noted id k.0 a.released finished.given pending (ends_inside entries) (ap (noted_events_of id) items_are ∙ a.noted id);
+        is = refl;
+      },
+      ap (λ (l : List Numbered). l ++ numbered_last (length entries) finished.given pending (ends_inside entries)) k.2
+          ∙ ap (λ (n : ℕ). numbered ++ numbered_last n finished.given pending (ends_inside entries)) number
+          ∙ ap (λ (l : List (Noted Asked)). numbered ++ numbered_last s.time l pending (ends_inside entries)) (sym finished.appended)
+          ∙ ap (λ (b : Bool). numbered ++ numbered_last s.time released pending b) (sym inside_is),
+    )

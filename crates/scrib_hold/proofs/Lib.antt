@@ -1,8 +1,10 @@
-mod CarriedLemmas
 pub mod EntryLemmas
+pub mod NumberedLemmas
 pub mod LetOutLemmas
-mod MonitorLemmas
+pub mod SinkLemmas
+pub mod MonitorLemmas
 mod ClosingLemmas
+mod LineLemmas
+mod RepliesLemmas
 mod HeldRunLemmas
 mod InputLemmas
-mod LineLemmas

@@ -1,4 +1,9 @@
 pub mod HeldScripts
+pub mod NumberedItems
+pub mod Sinks
 pub mod LetOutSoFar
 pub mod StagedEntries
+pub mod HeldMonitors
+pub mod EntrySteps
+pub mod Replies
 pub mod Progress

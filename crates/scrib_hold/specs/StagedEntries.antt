@@ -1,18 +1,12 @@
 -- What a stage does with an entry (this project's own). Only contracts of private functions cite this file.
-use Rattle.std.specs.Prelude.{◌≡◌, ℕ, ◌+◌, List, [], ◌∷◌, ◌++◌, map, Some}
+use Rattle.std.specs.Prelude.{ℕ, List, [], ◌∷◌, Some}
 use Rattle.scrib_script_reader.specs.declared.item.Item.{Item}
-use Rattle.scrib_script_reader.specs.declared.short_line.ShortLine.{ShortLine}
 use Rattle.scrib_script_reader.specs.Scripts.{item_list}
-use Rattle.scrib_script_reader.specs.ShortLines.{short_entry, short_items}
-use Rattle.scrib_hold_stage.specs.declared.noted.Noted.{Noted}
-use Rattle.scrib_hold_stage.specs.declared.stage.HoldStage.{HoldStage}
 use Rattle.scrib_hold_stage.specs.Entries as stage
 use Rattle.scrib_hold_stage.specs.Entries.{note, Opens, Passes}
-use Rattle.scrib_hold_stage.specs.Stages as stages
-use Rattle.scrib_hold_stage.specs.Stages.{IsRead}
 use Rattle.scrib_hold.specs.declared.staged.Staged.{Staged}
 use Rattle.scrib_hold.specs.declared.staged.Staged.TheVariants as kind
-use Rattle.scrib_hold.specs.HeldScripts.{Asked, Pending, event_in, item_of, passing, closing_at, staged}
+use Rattle.scrib_hold.specs.HeldScripts.{Asked, Pending}
 
 -- as entry n of a stage
 abbrev pub as_entry : ℕ → Staged → stage.Entry Asked
@@ -32,11 +26,3 @@ passing_of (kind.Other found) = item_list found
 abbrev pub closing_of : ℕ → Staged → List Pending
 closing_of n (kind.Closing id f) = record { conversation = id; time = n; line = f } ∷ []
 closing_of n _ = []
-
--- the stage read the entry of the line, and lets out what the line spells
-pub record PassesLine (line : ShortLine) (old new : HoldStage Asked) : Type 0 where
-  pub released : List (Noted Asked)
-  pub read : IsRead event_in (staged (old.time + 1) (short_entry line))
-      (stages.stage_state old) (stages.stage_state new) [] released
-  pub all : short_items line ≡ passing (short_entry line) ++ map item_of released
-  pub none : closing_at (old.time + 1) (short_entry line) ≡ []

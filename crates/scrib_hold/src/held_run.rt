@@ -1,6 +1,7 @@
 //! Runs a script with its events held back, piece by piece.
 
 use crate::held_monitor::HeldMonitor;
+use crate::replies::Replies;
 use scrib_core::format::Format;
 use scrib_hold_stage::stage::Counts;
 use scrib_script_io::fault::ScriptFault;
@@ -13,7 +14,7 @@ use std::io::Write;
 #[derive(Drop)]
 pub struct HeldRun {
     script: Script,
-    monitor: HeldMonitor,
+    monitor: HeldMonitor<Replies>,
 }
 
 impl HeldRun {
@@ -30,7 +31,7 @@ impl HeldRun {
     {
         HeldRun {
             script: Script::with_limits(alloc, limits),
-            monitor: HeldMonitor::new(alloc, format, bound),
+            monitor: HeldMonitor::new(alloc, bound, Replies::new(alloc, format)),
         }
     }
 
@@ -48,23 +49,23 @@ impl HeldRun {
         ensures fault { IfErr result (λ e. of_script e ≡ true) }
     {
         let taken = self.gather_piece(writer, piece);
-        self.monitor.gathered.write_all(writer)?;
+        self.monitor.sink.gathered.write_all(writer)?;
         taken
     }
 
     // Consumes the bytes, carries out what they let out, and gathers the replies. Writes them when they are long.
     fn gather_piece<W: Write>(&mut self, writer: &mut W, piece: &[u8]) -> Result<(), ScriptFault>
         ensures ok { OnOk result (WritesFirst (λ out. HeldRunAdvances self.old self.new piece.now out)
-            self.new.monitor.gathered.bytes.items (W.contents writer.old) (W.contents writer.new)) }
+            self.new.monitor.sink.gathered.bytes.items (W.contents writer.old) (W.contents writer.new)) }
         ensures err { OnErr result (WritesFirst (λ out. HeldPieceFails self.old piece.now out)
-            self.new.monitor.gathered.bytes.items (W.contents writer.old) (W.contents writer.new)) }
+            self.new.monitor.sink.gathered.bytes.items (W.contents writer.old) (W.contents writer.new)) }
         ensures fault { IfErr result (λ e. of_script e ≡ true) }
     {
-        self.monitor.gathered.clear();
+        self.monitor.sink.gathered.clear();
         let mut rest = piece;
         while !rest.is_empty() {
             rest = self.gather_next(rest)?;
-            self.monitor.gathered.write_long(writer)?;
+            self.monitor.sink.gathered.write_long(writer)?;
         }
         Ok(())
     }
@@ -113,14 +114,15 @@ impl HeldRun {
         ensures fault { IfErr result (λ e. of_output e ≡ true) }
     {
         let ended = self.gather_end();
-        self.monitor.gathered.write_all(writer)?;
+        self.monitor.sink.gathered.write_all(writer)?;
         ended
     }
 
     // Carries out what the end of the script lets out, and gathers the replies.
     fn gather_end(&mut self) -> Result<Counts, ScriptFault>
-        ensures ok { IfOk result (λ counts. HeldEndSucceeds self.old counts self.new.monitor.gathered.bytes.items) }
-        ensures err { OnErr result (EndIsCut self.old self.new.monitor.gathered.bytes.items) }
+        ensures ok { IfOk result (λ counts. HeldEndSucceeds self.old counts
+            self.new.monitor.sink.gathered.bytes.items) }
+        ensures err { OnErr result (EndIsCut self.old self.new.monitor.sink.gathered.bytes.items) }
         ensures fault { IfErr result (λ e. of_output e ≡ true) }
     {
         self.take_last()?;
@@ -130,10 +132,10 @@ impl HeldRun {
     // Takes the entry of the last line, if there is one, and gathers what it lets out.
     fn take_last(&mut self) -> Result<(), ScriptFault>
         ensures ok { OnOk result (TakesLast self.old self.new.monitor) }
-        ensures err { OnErr result (EndIsCut self.old self.new.monitor.gathered.bytes.items) }
+        ensures err { OnErr result (EndIsCut self.old self.new.monitor.sink.gathered.bytes.items) }
         ensures fault { IfErr result (λ e. of_output e ≡ true) }
     {
-        self.monitor.gathered.clear();
+        self.monitor.sink.gathered.clear();
         let last = self.script.last_entry()?;
         let Some(entry) = last else {
             return Ok(());

@@ -74,11 +74,11 @@ fn run_by_pieces<R: Read, W: Write>(
     writer: &mut W,
     piece: &mut [u8],
 ) -> Result<Counts, ScriptFault>
-    requires new { IsNewHeld run.old.monitor.format run.old.monitor.stage.bound run.old.script.limits run.old }
+    requires new { IsNewHeld run.old.monitor.sink.format run.old.monitor.stage.bound run.old.script.limits run.old }
     requires some { 0 < length piece.old }
-    ensures ok { IfOk result (λ counts. HeldRunSucceeds run.old.monitor.format run.old.monitor.stage.bound
+    ensures ok { IfOk result (λ counts. HeldRunSucceeds run.old.monitor.sink.format run.old.monitor.stage.bound
         run.old.script.limits (R.remaining reader.old) counts (W.contents writer.old) (W.contents writer.new)) }
-    ensures err { OnErr result (HeldRunFails run.old.monitor.format run.old.monitor.stage.bound
+    ensures err { OnErr result (HeldRunFails run.old.monitor.sink.format run.old.monitor.stage.bound
         (R.remaining reader.old) (W.contents writer.old) (W.contents writer.new)) }
     ensures fault { IfErr result (λ e. of_script e ≡ true) }
 {

@@ -5,10 +5,10 @@ ghost use Rattle.scrib_script_reader.specs.declared.entry.Entry.TheVariants as e
 ghost use Rattle.scrib_script_reader.specs.declared.item.Item.TheVariants as item;
 ghost use Rattle.scrib_script_reader.specs.Scripts.{item_list};
 ghost use Rattle.scrib_hold_stage.specs.PendingClosings.{closings_in};
-ghost use Rattle.scrib_hold_stage.specs.Stages.{IsRead, stage_state};
+ghost use Rattle.scrib_hold_stage.specs.Stages.{IsRead, PassesStageAlone, stage_state};
 ghost use Rattle.scrib_hold.specs.HeldScripts.{closing_at, event_in, passing, staged};
 ghost use Rattle.scrib_script_reader.specs.ShortLines.{short_entry};
-ghost use Rattle.scrib_hold.specs.StagedEntries.{as_entry, closing_of, passing_of, PassesLine};
+ghost use Rattle.scrib_hold.specs.StagedEntries.{as_entry, closing_of, passing_of};
 
 use scrib_core::format::Format;
 use scrib_core::step::Step;
@@ -131,26 +131,21 @@ pub(crate) fn read_entry(
     }
 }
 
-/// Puts the entry of the line into the stage, if it is an event that the stage releases at once, and nothing else then,
-/// and no closing waits. Returns whether it is so. If not, the stage has read nothing.
+/// Puts the event into the stage, if the stage releases it at once, and nothing else then, and no closing waits. Its
+/// line asks for no format. Returns whether it is so. If not, the stage has read nothing.
 #[inline(always)]
-pub(crate) fn passes_line(
+pub(crate) fn passes_event(
     pending: &PendingClosings<Format>,
     stage: &mut HoldStage<(SharedEvent, Format)>,
-    line: &ShortLine,
+    id: u32,
+    event: &SharedEvent,
 ) -> bool
-    ensures passed { IsTrue result → PassesLine line.now stage.old stage.new }
+    ensures passed { IsTrue result → PassesStageAlone event_in id event.now
+        (stage_state stage.old) (stage_state stage.new) }
     ensures none_wait { IsTrue result → closings_in pending.now ≡ [] }
     ensures same { IsFalse result → stage_state stage.new ≡ stage_state stage.old }
 {
-    if !pending.is_empty() {
-        return false;
-    }
-    match line {
-        ShortLine::Note { id, event } => stage.try_pass(*id, event),
-        ShortLine::Ask { .. } | ShortLine::Open { .. } | ShortLine::Bad(..) | ShortLine::Skipped =>
-            false,
-    }
+    pending.is_empty() && stage.try_pass(id, event)
 }
 
 /// Returns the entry of the line.

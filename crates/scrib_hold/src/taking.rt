@@ -1,187 +1,164 @@
-//! Carries items out over a monitor, in order.
+//! Hands items on to a sink, in order.
 
-ghost use Rattle.std.specs.Prelude.{◌≡◌, ◌++◌, Some, true, IfErr, OnOk, OnErr, map};
-ghost use Rattle.scrib_core.specs.Held.{state_of};
+ghost use Rattle.std.specs.Prelude.{◌≡◌, ◌++◌, ◌∷◌, [], true, IfErr, OnOk, OnErr, map};
 ghost use Rattle.scrib_script_reader.specs.Scripts.{item_list};
 ghost use Rattle.scrib_script_io.specs.Faults.{of_output};
 ghost use Rattle.scrib_hold_stage.specs.PendingClosings.{closings_in};
-ghost use Rattle.scrib_cli.specs.Progress.{IsCarriedOut};
-ghost use Rattle.scrib_cli.specs.declared.output_mode.OutputMode.TheVariants.{Printed};
-ghost use Rattle.scrib_hold.specs.HeldScripts.{closing_item, item_of};
-ghost use Rattle.scrib_hold.specs.Progress.{AreCarriedOut, AreCarriedInPart};
+ghost use Rattle.scrib_hold.specs.HeldScripts.{item_of};
+ghost use Rattle.scrib_hold.specs.NumberedItems.{numbered_at, numbered_closed, numbered_closing, numbered_event};
+ghost use Rattle.scrib_hold.specs.Sinks.{FailsWithin, GathersItem, GathersItems};
 
-use scrib_cli::gathered::Gathered;
-use scrib_cli::item_output::{gather_item, gather_short};
-use scrib_cli::output_mode::OutputMode;
+use crate::item_sink::ItemSink;
 use scrib_core::format::Format;
-use scrib_core::monitor::Core;
 use scrib_core::step::Step;
 use scrib_hold_stage::closings::{Closing, PendingClosings};
 use scrib_hold_stage::noted::Noted;
 use scrib_script_io::fault::ScriptFault;
 use scrib_script_reader::item::Item;
-use scrib_script_reader::short_line::ShortLine;
 use scrib_types::shared_event::SharedEvent;
 
-// Carries out an event that was released, and gathers the reply. After an error the gathered texts are unchanged.
-fn gather_event(
-    gathered: &mut Gathered,
-    core: &mut Core,
+// Carries out an event that was released. After an error what is gathered is unchanged.
+fn take_event<S: ItemSink>(
+    sink: &mut S,
     noted: Noted<(SharedEvent, Format)>,
-    format: Format,
 ) -> Result<(), ScriptFault>
-    ensures ok { OnOk result (IsCarriedOut (Printed format) (item_of noted)
-        (state_of core.old) (state_of core.new) (Some gathered.old.bytes.items) (Some gathered.new.bytes.items)) }
-    ensures err { OnErr result (gathered.new.bytes.items ≡ gathered.old.bytes.items) }
+    ensures ok { OnOk result (GathersItem S.carries S.gathered sink.old sink.new noted.time (item_of noted)) }
+    ensures err { OnErr result (S.gathered sink.new ≡ S.gathered sink.old) }
     ensures fault { IfErr result (λ e. of_output e ≡ true) }
 {
     let id = noted.conversation;
     let (event, asked) = noted.arrival;
     match asked {
         // most events of a long script
-        Format::Line => {
-            let line = ShortLine::Note { id, event };
-            gather_short(gathered, core, line, OutputMode::Printed(format))
-        }
-        Format::Json => {
-            let item = Item::Step(Format::Json, Step::Note { id, event });
-            gather_item(gathered, core, item, OutputMode::Printed(format))
-        }
+        Format::Line => sink.note(noted.time, id, event),
+        Format::Json => sink.take(
+            noted.time,
+            Item::Step(Format::Json, Step::Note { id, event }),
+        ),
     }
 }
 
-/// Carries out the events that were released, in order, and gathers the replies.
+/// Carries out the events that were released, in order.
 ///
 /// # Errors
-/// `OutOfMemory` where there is no memory for a text. The replies to some first events are then gathered.
-pub(crate) fn gather_released(
-    gathered: &mut Gathered,
-    core: &mut Core,
+/// `OutOfMemory` where there is no memory for the output. That of some first events is then gathered.
+pub(crate) fn take_released<S: ItemSink>(
+    sink: &mut S,
     released: &mut Vec<Noted<(SharedEvent, Format)>>,
-    format: Format,
 ) -> Result<(), ScriptFault>
-    ensures ok { OnOk result (AreCarriedOut format (map item_of released.old.items)
-        (state_of core.old) (state_of core.new) gathered.old.bytes.items gathered.new.bytes.items) }
-    ensures err { OnErr result (AreCarriedInPart format (map item_of released.old.items)
-        (state_of core.old) gathered.old.bytes.items gathered.new.bytes.items) }
+    ensures ok { OnOk result (GathersItems S.carries S.gathered sink.old sink.new
+        (map numbered_event released.old.items)) }
+    ensures err { OnErr result (FailsWithin S.carries S.gathered sink.old sink.new
+        (map numbered_event released.old.items)) }
     ensures fault { IfErr result (λ e. of_output e ≡ true) }
 {
     released.reverse();
     while let Some(noted) = released.pop() {
-        gather_event(gathered, core, noted, format)?;
+        take_event(sink, noted)?;
     }
     Ok(())
 }
 
-// Carries the item out, if there is one, and gathers what is written for it. After an error the gathered texts are
-// unchanged.
-fn gather_passing(
-    gathered: &mut Gathered,
-    core: &mut Core,
+// Carries the item of entry `number` out, if there is one. After an error what is gathered is unchanged.
+fn take_passing<S: ItemSink>(
+    sink: &mut S,
+    number: u64,
     passing: Option<Item>,
-    format: Format,
 ) -> Result<(), ScriptFault>
-    ensures ok { OnOk result (AreCarriedOut format (item_list passing)
-        (state_of core.old) (state_of core.new) gathered.old.bytes.items gathered.new.bytes.items) }
-    ensures err { OnErr result (gathered.new.bytes.items ≡ gathered.old.bytes.items) }
+    ensures ok { OnOk result (GathersItems S.carries S.gathered sink.old sink.new
+        (numbered_at number (item_list passing))) }
+    ensures err { OnErr result (S.gathered sink.new ≡ S.gathered sink.old) }
     ensures fault { IfErr result (λ e. of_output e ≡ true) }
 {
     match passing {
-        Some(item) => gather_item(gathered, core, item, OutputMode::Printed(format)),
+        Some(item) => sink.take(number, item),
         None => Ok(()),
     }
 }
 
-/// Carries out what passes at once, and then the events that were released, and gathers the replies.
+/// Carries out what passes at once of entry `number`, and then the events that were released.
 ///
 /// # Errors
-/// `OutOfMemory` where there is no memory for a text. The replies to some first items are then gathered.
-pub(crate) fn gather_let_out(
-    gathered: &mut Gathered,
-    core: &mut Core,
+/// `OutOfMemory` where there is no memory for the output. That of some first items is then gathered.
+pub(crate) fn take_let_out<S: ItemSink>(
+    sink: &mut S,
+    number: u64,
     passing: Option<Item>,
     released: &mut Vec<Noted<(SharedEvent, Format)>>,
-    format: Format,
 ) -> Result<(), ScriptFault>
-    ensures ok { OnOk result (AreCarriedOut format (item_list passing ++ map item_of released.old.items)
-        (state_of core.old) (state_of core.new) gathered.old.bytes.items gathered.new.bytes.items) }
-    ensures err { OnErr result (AreCarriedInPart format (item_list passing ++ map item_of released.old.items)
-        (state_of core.old) gathered.old.bytes.items gathered.new.bytes.items) }
+    ensures ok { OnOk result (GathersItems S.carries S.gathered sink.old sink.new
+        (numbered_at number (item_list passing) ++ map numbered_event released.old.items)) }
+    ensures err { OnErr result (FailsWithin S.carries S.gathered sink.old sink.new
+        (numbered_at number (item_list passing) ++ map numbered_event released.old.items)) }
     ensures fault { IfErr result (λ e. of_output e ≡ true) }
 {
-    gather_passing(gathered, core, passing, format)?;
-    gather_released(gathered, core, released, format)
+    take_passing(sink, number, passing)?;
+    take_released(sink, released)
 }
 
-/// Carries out the events that were released, and then the item behind them, if there is one.
+// Carries the closing out. After an error what is gathered is unchanged.
+fn take_closing<S: ItemSink>(sink: &mut S, closing: Closing<Format>) -> Result<(), ScriptFault>
+    ensures ok { OnOk result (GathersItems S.carries S.gathered sink.old sink.new (numbered_closing closing ∷ [])) }
+    ensures err { OnErr result (S.gathered sink.new ≡ S.gathered sink.old) }
+    ensures fault { IfErr result (λ e. of_output e ≡ true) }
+{
+    let id = closing.conversation;
+    sink.take(closing.time, Item::Step(closing.line, Step::Close { id }))
+}
+
+/// Carries out the events that were released, and then the closing.
 ///
 /// # Errors
-/// `OutOfMemory` where there is no memory for a text. The replies to some first items are then gathered.
-pub(crate) fn gather_last(
-    gathered: &mut Gathered,
-    core: &mut Core,
+/// `OutOfMemory` where there is no memory for the output. That of some first items is then gathered.
+pub(crate) fn take_closed<S: ItemSink>(
+    sink: &mut S,
     released: &mut Vec<Noted<(SharedEvent, Format)>>,
-    last: Option<Item>,
-    format: Format,
+    closing: Closing<Format>,
 ) -> Result<(), ScriptFault>
-    ensures ok { OnOk result (AreCarriedOut format (map item_of released.old.items ++ item_list last)
-        (state_of core.old) (state_of core.new) gathered.old.bytes.items gathered.new.bytes.items) }
-    ensures err { OnErr result (AreCarriedInPart format (map item_of released.old.items ++ item_list last)
-        (state_of core.old) gathered.old.bytes.items gathered.new.bytes.items) }
+    ensures ok { OnOk result (GathersItems S.carries S.gathered sink.old sink.new
+        (numbered_closed closing released.old.items)) }
+    ensures err { OnErr result (FailsWithin S.carries S.gathered sink.old sink.new
+        (numbered_closed closing released.old.items)) }
     ensures fault { IfErr result (λ e. of_output e ≡ true) }
 {
-    gather_released(gathered, core, released, format)?;
-    gather_passing(gathered, core, last, format)
+    take_released(sink, released)?;
+    take_closing(sink, closing)
 }
 
-/// Returns the item of a closing.
-pub(crate) fn item_of_closing(closing: Closing<Format>) -> Item
-    ensures { result ≡ closing_item closing }
-{
-    Item::Step(
-        closing.line,
-        Step::Close {
-            id: closing.conversation,
-        },
-    )
-}
-
-// Carries out the closings that wait, in order. After an error the replies to some first items are gathered.
-fn gather_closings(
-    gathered: &mut Gathered,
-    core: &mut Core,
+// Carries out the closings that wait, in order. After an error the output of some first ones is gathered.
+fn take_closings<S: ItemSink>(
+    sink: &mut S,
     pending: &mut PendingClosings<Format>,
-    format: Format,
 ) -> Result<(), ScriptFault>
-    ensures ok { OnOk result (AreCarriedOut format (map closing_item (closings_in pending.old))
-        (state_of core.old) (state_of core.new) gathered.old.bytes.items gathered.new.bytes.items) }
-    ensures err { OnErr result (AreCarriedInPart format (map closing_item (closings_in pending.old))
-        (state_of core.old) gathered.old.bytes.items gathered.new.bytes.items) }
+    ensures ok { OnOk result (GathersItems S.carries S.gathered sink.old sink.new
+        (map numbered_closing (closings_in pending.old))) }
+    ensures err { OnErr result (FailsWithin S.carries S.gathered sink.old sink.new
+        (map numbered_closing (closings_in pending.old))) }
     ensures fault { IfErr result (λ e. of_output e ≡ true) }
 {
     while let Some(closing) = pending.pop() {
-        gather_passing(gathered, core, Some(item_of_closing(closing)), format)?;
+        take_closing(sink, closing)?;
     }
     Ok(())
 }
 
-/// Carries out the closings that wait, in order, and then reports an end inside a module text, where there is one.
+/// Carries out the closings that wait, in order. Then carries out an end inside a module text, where there is one,
+/// with `number`.
 ///
 /// # Errors
-/// `OutOfMemory` where there is no memory for a text. The replies to some first items are then gathered.
-pub(crate) fn gather_end(
-    gathered: &mut Gathered,
-    core: &mut Core,
+/// `OutOfMemory` where there is no memory for the output. That of some first items is then gathered.
+pub(crate) fn take_end<S: ItemSink>(
+    sink: &mut S,
     pending: &mut PendingClosings<Format>,
+    number: u64,
     end: Option<Item>,
-    format: Format,
 ) -> Result<(), ScriptFault>
-    ensures ok { OnOk result (AreCarriedOut format (map closing_item (closings_in pending.old) ++ item_list end)
-        (state_of core.old) (state_of core.new) gathered.old.bytes.items gathered.new.bytes.items) }
-    ensures err { OnErr result (AreCarriedInPart format (map closing_item (closings_in pending.old) ++ item_list end)
-        (state_of core.old) gathered.old.bytes.items gathered.new.bytes.items) }
+    ensures ok { OnOk result (GathersItems S.carries S.gathered sink.old sink.new
+        (map numbered_closing (closings_in pending.old) ++ numbered_at number (item_list end))) }
+    ensures err { OnErr result (FailsWithin S.carries S.gathered sink.old sink.new
+        (map numbered_closing (closings_in pending.old) ++ numbered_at number (item_list end))) }
     ensures fault { IfErr result (λ e. of_output e ≡ true) }
 {
-    gather_closings(gathered, core, pending, format)?;
-    gather_passing(gathered, core, end, format)
+    take_closings(sink, pending)?;
+    take_passing(sink, number, end)
 }

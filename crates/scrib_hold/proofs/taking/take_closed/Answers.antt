@@ -1,28 +1,26 @@
-use Rattle.std.proofs.Common.{map}
+use Rattle.std.proofs.Common.{◌∷◌, [], map}
 use Rattle.std.proofs.lemmas.Result.{err_from_is_err_and, on_ok_weaker, on_err_weaker}
-use Rattle.scrib_core.specs.Held.{state_of}
-use Rattle.scrib_script_reader.specs.Scripts.{item_list}
-use Rattle.scrib_hold.specs.HeldScripts.{item_of}
-use Rattle.scrib_hold.proofs.CarriedLemmas.{carried_more, part_extended, part_none, part_after}
-use Rattle.scrib_hold.proofs.taking.gather_last.Goals as goal
+use Rattle.scrib_hold.specs.NumberedItems.{numbered_event, numbered_closing}
+use Rattle.scrib_hold.proofs.SinkLemmas.{gathers_more, fails_extended, fails_none, fails_after}
+use Rattle.scrib_hold.proofs.taking.take_closed.Goals as goal
 
-pub returns-in_err-gather_released-clause-err : goal.returns-in_err-gather_released-clause-err
-returns-in_err-gather_released-clause-err c =
+pub returns-in_err-take_released-clause-err : goal.returns-in_err-take_released-clause-err
+returns-in_err-take_released-clause-err g c =
     let p = err_from_is_err_and c.from_residual.result c.from_residual.ensures.1 in
-    rw p.1 (part_extended c.args.format (map item_of c.args.released.now.items) (item_list c.args.last) (state_of c.args.core.now) c.args.gathered.now.bytes.items c.gather_released.new.gathered.bytes.items
-    c.in_err-gather_released.ensures.err)
+    rw p.1 (fails_extended g.S.ItemSink.carries g.S.ItemSink.gathered c.args.sink.now c.take_released.new.sink (map numbered_event c.args.released.now.items) (numbered_closing c.args.closing ∷ [])
+    c.in_err-take_released.ensures.err)
 
 pub returns-clause-ok : goal.returns-clause-ok
-returns-clause-ok c =
-    on_ok_weaker c.gather_passing.result
-    (λ carried. carried_more c.args.format (map item_of c.args.released.now.items) (item_list c.args.last) (state_of c.args.core.now) (state_of c.gather_released.new.core) (state_of c.gather_passing.new.core)
-    c.args.gathered.now.bytes.items c.gather_released.new.gathered.bytes.items c.gather_passing.new.gathered.bytes.items c.in_ok-gather_released.ensures.ok carried)
-    c.gather_passing.ensures.ok
+returns-clause-ok g c =
+    on_ok_weaker c.take_closing.result
+    (λ closed. gathers_more g.S.ItemSink.carries g.S.ItemSink.gathered c.args.sink.now c.take_released.new.sink c.take_closing.new.sink (map numbered_event c.args.released.now.items) (numbered_closing c.args.closing ∷ [])
+    c.in_ok-take_released.ensures.ok closed)
+    c.take_closing.ensures.ok
 
 pub returns-clause-err : goal.returns-clause-err
-returns-clause-err c =
-    on_err_weaker c.gather_passing.result
-    (λ same. part_after c.args.format (map item_of c.args.released.now.items) (item_list c.args.last) (state_of c.args.core.now) (state_of c.gather_released.new.core)
-    c.args.gathered.now.bytes.items c.gather_released.new.gathered.bytes.items c.gather_passing.new.gathered.bytes.items c.in_ok-gather_released.ensures.ok
-    (part_none c.args.format (item_list c.args.last) (state_of c.gather_released.new.core) c.gather_released.new.gathered.bytes.items c.gather_passing.new.gathered.bytes.items same))
-    c.gather_passing.ensures.err
+returns-clause-err g c =
+    on_err_weaker c.take_closing.result
+    (λ same. fails_after g.S.ItemSink.carries g.S.ItemSink.gathered c.args.sink.now c.take_released.new.sink c.take_closing.new.sink (map numbered_event c.args.released.now.items) (numbered_closing c.args.closing ∷ [])
+    c.in_ok-take_released.ensures.ok
+    (fails_none g.S.ItemSink.carries g.S.ItemSink.gathered c.take_released.new.sink c.take_closing.new.sink (numbered_closing c.args.closing ∷ []) same))
+    c.take_closing.ensures.err

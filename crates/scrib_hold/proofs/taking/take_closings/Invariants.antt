@@ -1,12 +1,10 @@
 use Rattle.std.proofs.Common.{length}
-use Rattle.scrib_core.specs.Held.{state_of}
 use Rattle.scrib_hold_stage.specs.PendingClosings.{closings_in}
-use Rattle.scrib_hold.proofs.CarriedLemmas.{ClosedSoFar}
-use Rattle.scrib_hold.proofs.taking.gather_closings.Given as goal
+use Rattle.scrib_hold.proofs.SinkLemmas.{ClosedSoFar}
+use Rattle.scrib_hold.proofs.taking.take_closings.Given as goal
 
 abbrev pub invariant-loop-closing : goal.invariant-loop-closing
-invariant-loop-closing l =
-    ClosedSoFar l.format (closings_in l.fn.pending) (closings_in l.pending) (state_of l.fn.core) (state_of l.core) l.fn.gathered.bytes.items l.gathered.bytes.items
+invariant-loop-closing g l = ClosedSoFar g.S.ItemSink.carries g.S.ItemSink.gathered (closings_in l.fn.pending) (closings_in l.pending) l.fn.sink l.sink
 
 abbrev pub decreases-loop-closing : goal.decreases-loop-closing
-decreases-loop-closing l = length (closings_in l.pending)
+decreases-loop-closing g l = length (closings_in l.pending)

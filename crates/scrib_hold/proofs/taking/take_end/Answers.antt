@@ -1,29 +1,28 @@
 use Rattle.std.proofs.Common.{map}
 use Rattle.std.proofs.lemmas.Result.{err_from_is_err_and, on_ok_weaker, on_err_weaker}
-use Rattle.scrib_core.specs.Held.{state_of}
 use Rattle.scrib_script_reader.specs.Scripts.{item_list}
 use Rattle.scrib_hold_stage.specs.PendingClosings.{closings_in}
-use Rattle.scrib_hold.specs.HeldScripts.{closing_item}
-use Rattle.scrib_hold.proofs.CarriedLemmas.{carried_more, part_extended, part_none, part_after}
-use Rattle.scrib_hold.proofs.taking.gather_end.Goals as goal
+use Rattle.scrib_hold.specs.NumberedItems.{numbered_at, numbered_closing}
+use Rattle.scrib_hold.proofs.SinkLemmas.{gathers_more, fails_extended, fails_none, fails_after}
+use Rattle.scrib_hold.proofs.taking.take_end.Goals as goal
 
-pub returns-in_err-gather_closings-clause-err : goal.returns-in_err-gather_closings-clause-err
-returns-in_err-gather_closings-clause-err c =
+pub returns-in_err-take_closings-clause-err : goal.returns-in_err-take_closings-clause-err
+returns-in_err-take_closings-clause-err g c =
     let p = err_from_is_err_and c.from_residual.result c.from_residual.ensures.1 in
-    rw p.1 (part_extended c.args.format (map closing_item (closings_in c.args.pending.now)) (item_list c.args.end) (state_of c.args.core.now) c.args.gathered.now.bytes.items c.gather_closings.new.gathered.bytes.items
-    c.in_err-gather_closings.ensures.err)
+    rw p.1 (fails_extended g.S.ItemSink.carries g.S.ItemSink.gathered c.args.sink.now c.take_closings.new.sink (map numbered_closing (closings_in c.args.pending.now)) (numbered_at c.args.number (item_list c.args.end))
+    c.in_err-take_closings.ensures.err)
 
 pub returns-clause-ok : goal.returns-clause-ok
-returns-clause-ok c =
-    on_ok_weaker c.gather_passing.result
-    (λ carried. carried_more c.args.format (map closing_item (closings_in c.args.pending.now)) (item_list c.args.end) (state_of c.args.core.now) (state_of c.gather_closings.new.core) (state_of c.gather_passing.new.core)
-    c.args.gathered.now.bytes.items c.gather_closings.new.gathered.bytes.items c.gather_passing.new.gathered.bytes.items c.in_ok-gather_closings.ensures.ok carried)
-    c.gather_passing.ensures.ok
+returns-clause-ok g c =
+    on_ok_weaker c.take_passing.result
+    (λ passed. gathers_more g.S.ItemSink.carries g.S.ItemSink.gathered c.args.sink.now c.take_closings.new.sink c.take_passing.new.sink (map numbered_closing (closings_in c.args.pending.now)) (numbered_at c.args.number (item_list c.args.end))
+    c.in_ok-take_closings.ensures.ok passed)
+    c.take_passing.ensures.ok
 
 pub returns-clause-err : goal.returns-clause-err
-returns-clause-err c =
-    on_err_weaker c.gather_passing.result
-    (λ same. part_after c.args.format (map closing_item (closings_in c.args.pending.now)) (item_list c.args.end) (state_of c.args.core.now) (state_of c.gather_closings.new.core)
-    c.args.gathered.now.bytes.items c.gather_closings.new.gathered.bytes.items c.gather_passing.new.gathered.bytes.items c.in_ok-gather_closings.ensures.ok
-    (part_none c.args.format (item_list c.args.end) (state_of c.gather_closings.new.core) c.gather_closings.new.gathered.bytes.items c.gather_passing.new.gathered.bytes.items same))
-    c.gather_passing.ensures.err
+returns-clause-err g c =
+    on_err_weaker c.take_passing.result
+    (λ same. fails_after g.S.ItemSink.carries g.S.ItemSink.gathered c.args.sink.now c.take_closings.new.sink c.take_passing.new.sink (map numbered_closing (closings_in c.args.pending.now)) (numbered_at c.args.number (item_list c.args.end))
+    c.in_ok-take_closings.ensures.ok
+    (fails_none g.S.ItemSink.carries g.S.ItemSink.gathered c.take_closings.new.sink c.take_passing.new.sink (numbered_at c.args.number (item_list c.args.end)) same))
+    c.take_passing.ensures.err

@@ -4,7 +4,7 @@ use Rattle.scrib_hold.proofs.ClosingLemmas.{IsClosing}
 use Rattle.scrib_hold.proofs.held_monitor.HeldMonitor.close_each_ready.Given as goal
 
 abbrev pub invariant-loop : goal.invariant-loop
-invariant-loop l = IsClosing l.initial.self l.self
+invariant-loop g l = IsClosing g.S.ItemSink.carries g.S.ItemSink.gathered l.initial.self l.self
 
 abbrev pub decreases-loop : goal.decreases-loop
-decreases-loop l = length (closings_in l.self.pending)
+decreases-loop g l = length (closings_in l.self.pending)

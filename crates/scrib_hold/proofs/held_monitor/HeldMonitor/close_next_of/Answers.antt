@@ -5,13 +5,13 @@ use Rattle.scrib_hold.proofs.ClosingLemmas.{closes_one, close_fails}
 use Rattle.scrib_hold.proofs.held_monitor.HeldMonitor.close_next_of.Goals as goal
 
 pub returns-clause-closed : goal.returns-clause-closed
-returns-clause-closed c =
-    let mid : HeldMonitor = record c.args.self.now { stage = c.close_of.new.stage; pending = c.close_of.new.self; released = c.close_of.new.released } in
-    closes_one (IsOf c.args.id) (IsApart c.args.id) c.args.self.now mid c.gather_closing.new.self c.in_ok-made.made c.clear.new.self.items c.clear.ensures.items c.in_ok-made.ensures.made refl refl refl refl c.gather_closing.ensures.others
-    c.gather_closing.result c.gather_closing.ensures.some c.gather_closing.ensures.ok
+returns-clause-closed g c =
+    let mid : HeldMonitor g.row.S.Denot = record c.args.self.now { stage = c.close_of.new.stage; pending = c.close_of.new.self; released = c.close_of.new.released } in
+    closes_one g.S.ItemSink.carries g.S.ItemSink.gathered (IsOf c.args.id) (IsApart c.args.id) c.args.self.now mid c.take_made.new.self c.in_ok-made.made c.clear.new.self.items c.clear.ensures.items c.in_ok-made.ensures.made refl refl c.take_made.ensures.others
+    c.take_made.result c.take_made.ensures.some c.take_made.ensures.ok
 
 pub returns-clause-err : goal.returns-clause-err
-returns-clause-err c =
-    let mid : HeldMonitor = record c.args.self.now { stage = c.close_of.new.stage; pending = c.close_of.new.self; released = c.close_of.new.released } in
-    close_fails (IsOf c.args.id) (IsApart c.args.id) c.args.self.now mid c.gather_closing.new.self c.in_ok-made.made c.clear.new.self.items c.clear.ensures.items c.in_ok-made.ensures.made refl refl refl refl c.gather_closing.ensures.others
-    c.gather_closing.ensures.none c.gather_closing.result c.gather_closing.ensures.err
+returns-clause-err g c =
+    let mid : HeldMonitor g.row.S.Denot = record c.args.self.now { stage = c.close_of.new.stage; pending = c.close_of.new.self; released = c.close_of.new.released } in
+    close_fails g.S.ItemSink.carries g.S.ItemSink.gathered (IsOf c.args.id) (IsApart c.args.id) c.args.self.now mid c.take_made.new.self c.in_ok-made.made c.clear.new.self.items c.clear.ensures.items c.in_ok-made.ensures.made refl refl c.take_made.ensures.others
+    c.take_made.ensures.none c.take_made.result c.take_made.ensures.err
