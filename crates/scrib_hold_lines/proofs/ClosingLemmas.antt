@@ -10,10 +10,13 @@ use Rattle.scrib_hold_stage.specs.declared.noted.Noted.{Noted}
 use Rattle.scrib_hold_stage.specs.PendingClosings.{IsMade, IsOf, IsApart, IsReady, IsNotReady, closings_in}
 use Rattle.scrib_hold_stage.specs.Stages as stages
 use Rattle.scrib_hold.specs.HeldScripts.{Asked, Pending, event_in, opens_conversation, IsNext}
+use Rattle.scrib_hold.specs.NumberedItems.{items_in, numbered_closed}
 use Rattle.scrib_hold.specs.LetOutSoFar.{LetsOutSoFar, closing_items}
+use Rattle.scrib_hold.proofs.NumberedLemmas.{more_closed, are_let_out}
 use Rattle.scrib_hold.proofs.LetOutLemmas.{all_weaker, all_applied, so_far_same, so_far_let_out, closed_further, ready_next, forced_next, others_wait, none_opened}
 use Rattle.scrib_hold_lines.specs.declared.held_lines.HeldLines.{HeldLines}
 use Rattle.scrib_hold_lines.specs.HeldLines.{IsBeginningOfScript}
+use Rattle.scrib_hold_lines.specs.Lines.{WritesItems}
 use Rattle.scrib_hold_lines.specs.Progress.{AreWritten, AreWrittenInPart, AreLinesAt, HasTakenLines, LinesCloseBefore, ReadsLineEntry, LineReadFails, LinesCloseReady, LinesReadyFail, TakesLineEntry, LinesFailAt, LinesCloseOne, LinesCloseFails, AreSameLines}
 use Rattle.scrib_hold_lines.proofs.SpelledLines.{writes_more}
 use Rattle.scrib_hold_lines.proofs.StageLemmas.{at_next, begins_with, begun_at}
@@ -24,23 +27,25 @@ module _ (Is IsNot : Pending → Type 0) (old : HeldLines) (c : Pending) (left :
     (made : IsMade event_in Is IsNot c (closings_in old.pending) left (stages.stage_state old.stage) after [] released) where
   module _ (bound : ℕ) (entries next : List Entry) (before : List ℕ) (a : AreLinesAt bound old entries next before)
       (n : (later : List Entry) → IsNext bound entries (next ++ later) a.so_far.closed a.so_far.released made.taken.front c) where
-    so_far_after : LetsOutSoFar bound after left entries next (a.items ++ closing_items c released)
-    so_far_after = closed_further Is IsNot bound (stages.stage_state old.stage) after (closings_in old.pending) left entries next a.items c released made a.so_far n
+    so_far_after : LetsOutSoFar bound after left entries next (a.numbered ++ numbered_closed c released)
+    so_far_after = closed_further Is IsNot bound (stages.stage_state old.stage) after (closings_in old.pending) left entries next a.numbered c released made a.so_far n
 
     pub at_after : (new : HeldLines) → stages.stage_state new.stage ≡ after → closings_in new.pending ≡ left → new.ended_inside ≡ old.ended_inside
         → (d : AreWritten (closing_items c released) old.output.items new.output.items) → AreLinesAt bound new entries next (before ++ d.0)
     at_after new stage_is pending_is inside d = record {
-      items = a.items ++ closing_items c released;
-      so_far = so_far_same bound after (stages.stage_state new.stage) left (closings_in new.pending) entries next (a.items ++ closing_items c released) stage_is pending_is so_far_after;
+      numbered = a.numbered ++ numbered_closed c released;
+      so_far = so_far_same bound after (stages.stage_state new.stage) left (closings_in new.pending) entries next (a.numbered ++ numbered_closed c released) stage_is pending_is so_far_after;
       inside = inside ∙ a.inside;
-      written = writes_more before d.0 a.items (closing_items c released) a.written d.2;
+      written =
+          subst (WritesItems (before ++ d.0)) (sym (more_closed a.numbered c released))
+          (writes_more before d.0 (items_in a.numbered) (closing_items c released) a.written d.2);
     }
 
     -- it was gathered in part
     pub part_made : (new : HeldLines) (part : AreWrittenInPart (closing_items c released) old.output.items new.output.items) → IsBeginningOfScript bound (entries ++ (next ++ [])) (before ++ part.0)
     part_made new part =
-        begins_with bound entries (next ++ []) a.items (closing_items c released) (a.items ++ closing_items c released) before part.0 a.written refl
-        (so_far_let_out bound after left entries next [] (a.items ++ closing_items c released) so_far_after) part.2
+        begins_with bound entries (next ++ []) (items_in a.numbered) (closing_items c released) (items_in (a.numbered ++ numbered_closed c released)) before part.0 a.written (more_closed a.numbered c released)
+        (are_let_out bound entries (next ++ []) (a.numbered ++ numbered_closed c released) (so_far_let_out bound after left entries next [] (a.numbered ++ numbered_closed c released) so_far_after)) part.2
 
 -- ---- one closing that is gathered, or not
 
@@ -107,7 +112,7 @@ NotReadyIn m c = IsNotReady c (stages.stage_state m.stage)
 
 next_ready : (bound : ℕ) (m : HeldLines) (entries : List Entry) (out : List ℕ) (a : AreLinesAt bound m entries [] out) (front : List Pending) (c : Pending) → AllByRecursion (NotReadyIn m) front → ReadyIn m c
     → (later : List Entry) → IsNext bound entries ([] ++ later) a.so_far.closed a.so_far.released front c
-next_ready bound m entries out a front c = ready_next bound (stages.stage_state m.stage) (closings_in m.pending) entries a.items a.so_far front c
+next_ready bound m entries out a front c = ready_next bound (stages.stage_state m.stage) (closings_in m.pending) entries a.numbered a.so_far front c
 
 pub closing_more : (old mid new : HeldLines) → IsClosing old mid → LinesCloseOne (ReadyIn mid) (NotReadyIn mid) mid new → IsClosing old new
 closing_more old mid new p q = record {
@@ -122,8 +127,8 @@ closing_more old mid new p q = record {
 -- the lines are the same
 at_same : (bound : ℕ) (old new : HeldLines) (entries next : List Entry) (out : List ℕ) → AreSameLines old new → AreLinesAt bound old entries next out → AreLinesAt bound new entries next out
 at_same bound old new entries next out s a = record {
-  items = a.items;
-  so_far = so_far_same bound (stages.stage_state old.stage) (stages.stage_state new.stage) (closings_in old.pending) (closings_in new.pending) entries next a.items s.stage s.pending a.so_far;
+  numbered = a.numbered;
+  so_far = so_far_same bound (stages.stage_state old.stage) (stages.stage_state new.stage) (closings_in old.pending) (closings_in new.pending) entries next a.numbered s.stage s.pending a.so_far;
   inside = s.inside ∙ a.inside;
   written = a.written;
 }
@@ -207,7 +212,7 @@ forcing_more id old mid new p q = record {
       (forced_next id bound entries k.at.so_far.closed k.at.so_far.released e q.made.taken.front q.c opens q.made.taken.before q.made.taken.is) new refl refl q.inside q.written in
       record {
         at = subst (AreLinesAt bound new entries (e ∷ [])) (append_assoc before p.out q.written.0) t;
-        wait = others_wait bound id (stages.stage_state mid.stage) (stages.stage_state new.stage) (closings_in mid.pending) (closings_in new.pending) entries (e ∷ []) k.at.items t.items q.c q.released
+        wait = others_wait bound id (stages.stage_state mid.stage) (stages.stage_state new.stage) (closings_in mid.pending) (closings_in new.pending) entries (e ∷ []) k.at.numbered t.numbered q.c q.released
             k.at.so_far t.so_far q.made k.wait;
       });
 }

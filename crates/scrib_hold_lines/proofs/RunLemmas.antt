@@ -42,7 +42,7 @@ part_less bound input whole part rest is p = (p.0, p.1, begun_less bound p.0 who
 
 pub taken_moved : (bound : ℕ) (m : HeldLines) (g : Vec ℕ Global) (entries : List Entry) (out : List ℕ) → HasTakenLines bound m entries out → HasTakenLines bound (record m { output = g }) entries out
 taken_moved bound m g entries out c = record {
-  at = record { items = c.at.items; so_far = c.at.so_far; inside = c.at.inside; written = c.at.written };
+  at = record { numbered = c.at.numbered; so_far = c.at.so_far; inside = c.at.inside; written = c.at.written };
   wait = c.wait;
 }
 

@@ -13,9 +13,11 @@ use Rattle.scrib_hold_stage.specs.PendingClosings.{IsNotReady, closings_in}
 use Rattle.scrib_hold_stage.specs.Stages as stages
 use Rattle.scrib_hold_stage.specs.Stages.{HasStaged, IsRead, IsFinished}
 use Rattle.scrib_hold.specs.HeldScripts.{Asked, Pending, event_in, staged, staged_from, item_of, closing_item, closing_at, passing, is_end_inside, ends_inside, end_item, nothing, AreHeldItems, AreLetOut}
+use Rattle.scrib_hold.specs.NumberedItems.{Numbered, items_in, numbered_read, numbered_last}
 use Rattle.scrib_hold.specs.LetOutSoFar.{LetsOutSoFar}
 use Rattle.scrib_hold.proofs.EntryLemmas.{inside_more}
-use Rattle.scrib_hold.proofs.LetOutLemmas.{let_out_further, so_far_none, so_far_next, so_far_same, so_far_let_out, read_further, held_at_end}
+use Rattle.scrib_hold.proofs.NumberedLemmas.{more_read, more_last, are_held, are_let_out, let_out_further}
+use Rattle.scrib_hold.proofs.LetOutLemmas.{so_far_none, so_far_next, so_far_same, so_far_let_out, read_further, held_at_end}
 use Rattle.scrib_hold_lines.specs.declared.staging.Passing.{Passing}
 use Rattle.scrib_hold_lines.specs.declared.held_lines.HeldLines.{HeldLines}
 use Rattle.scrib_hold_lines.specs.HeldLines.{SpellsButForNumbers, IsHeldScriptOf, IsBeginningOfScript}
@@ -27,7 +29,7 @@ use Rattle.scrib_hold_lines.proofs.Passings.{writes_passing, part_passing}
 -- a new stage
 pub taken_none : (bound : ℕ) (m : HeldLines) → HasStaged event_in bound [] none_closed [] [] (stages.stage_state m.stage) → closings_in m.pending ≡ [] → m.ended_inside ≡ ends_inside [] → HasTakenLines bound m [] []
 taken_none bound m after none inside = record {
-  at = record { items = []; so_far = so_far_none bound (stages.stage_state m.stage) (closings_in m.pending) after none; inside = inside; written = writes_none };
+  at = record { numbered = []; so_far = so_far_none bound (stages.stage_state m.stage) (closings_in m.pending) after none; inside = inside; written = writes_none };
   wait = subst (AllByRecursion (λ (c : Pending). IsNotReady c (stages.stage_state m.stage))) (sym none) tt;
 }
 
@@ -36,8 +38,8 @@ taken_none bound m after none inside = record {
 -- where the next entry is known
 pub at_next : (bound : ℕ) (m : HeldLines) (entries next : List Entry) (out : List ℕ) → AreLinesAt bound m entries [] out → AreLinesAt bound m entries next out
 at_next bound m entries next out c = record {
-  items = c.items;
-  so_far = so_far_next bound (stages.stage_state m.stage) (closings_in m.pending) entries next c.items c.so_far;
+  numbered = c.numbered;
+  so_far = so_far_next bound (stages.stage_state m.stage) (closings_in m.pending) entries next c.numbered c.so_far;
   inside = c.inside;
   written = c.written;
 }
@@ -46,8 +48,8 @@ at_next bound m entries next out c = record {
 module _ (old : HeldLines) (e : Entry) (after : stages.StageState Asked) (released : List (Noted Asked)) (pending : List Pending)
     (read : IsRead event_in (staged (old.stage.time + 1) e) (stages.stage_state old.stage) after [] released)
     (more_pending : pending ≡ closings_in old.pending ++ closing_at (old.stage.time + 1) e) where
-  so_far_read : (bound : ℕ) (entries : List Entry) (before : List ℕ) → (b : AreLinesBefore bound old entries e before) → LetsOutSoFar bound after pending (entries ++ e ∷ []) [] (b.at.items ++ (passing e ++ map item_of released))
-  so_far_read bound entries before b = read_further bound (stages.stage_state old.stage) after (closings_in old.pending) pending entries b.at.items e released b.at.so_far b.wait b.apart read more_pending
+  so_far_read : (bound : ℕ) (entries : List Entry) (before : List ℕ) → (b : AreLinesBefore bound old entries e before) → LetsOutSoFar bound after pending (entries ++ e ∷ []) [] (b.at.numbered ++ numbered_read (old.stage.time + 1) e released)
+  so_far_read bound entries before b = read_further bound (stages.stage_state old.stage) after (closings_in old.pending) pending entries b.at.numbered e released b.at.so_far b.wait b.apart read more_pending
 
   pub read_entry : (new : HeldLines) (found : Passing) (l mid : List ℕ) → IsPassing e found → GivesLine l e → stages.stage_state new.stage ≡ after → closings_in new.pending ≡ pending
       → new.ended_inside ≡ cond old.ended_inside true (is_end_inside e) → AddsBytes (IsTextOfEvent found l) old.output.items mid → AreWritten (map item_of released) mid new.output.items
@@ -59,10 +61,12 @@ module _ (old : HeldLines) (e : Entry) (after : stages.StageState Asked) (releas
         out = first.0 ++ next.0;
         grows = next.1 ∙ ap (λ (t : List ℕ). t ++ next.0) first.1 ∙ append_assoc old.output.items first.0 next.0;
         after = λ bound entries before b. record {
-          items = b.at.items ++ (passing e ++ map item_of released);
-          so_far = so_far_same bound after (stages.stage_state new.stage) pending (closings_in new.pending) (entries ++ e ∷ []) [] (b.at.items ++ (passing e ++ map item_of released)) stage_is pending_is (so_far_read bound entries before b);
+          numbered = b.at.numbered ++ numbered_read (old.stage.time + 1) e released;
+          so_far = so_far_same bound after (stages.stage_state new.stage) pending (closings_in new.pending) (entries ++ e ∷ []) [] (b.at.numbered ++ numbered_read (old.stage.time + 1) e released) stage_is pending_is (so_far_read bound entries before b);
           inside = inside ∙ ap (λ (x : Bool). cond x true (is_end_inside e)) b.at.inside ∙ sym (inside_more entries e);
-          written = writes_more before (first.0 ++ next.0) b.at.items (passing e ++ map item_of released) b.at.written out;
+          written =
+              subst (WritesItems (before ++ (first.0 ++ next.0))) (sym (more_read b.at.numbered (old.stage.time + 1) e released))
+              (writes_more before (first.0 ++ next.0) (items_in b.at.numbered) (passing e ++ map item_of released) b.at.written out);
         };
       }
 
@@ -86,8 +90,8 @@ begins_with bound first later items more all before part w is out p =
 pub begun_at : (bound : ℕ) (m : HeldLines) (entries next later : List Entry) (out : List ℕ) → AreLinesAt bound m entries next out → IsBeginningOfScript bound (entries ++ (next ++ later)) out
 begun_at bound m entries next later out c =
     subst (λ (t : List ℕ). IsBeginningOfScript bound (entries ++ (next ++ later)) t) (append-nil out)
-    (begins_with bound entries (next ++ later) c.items [] c.items out [] c.written (sym (append-nil c.items))
-    (so_far_let_out bound (stages.stage_state m.stage) (closings_in m.pending) entries next later c.items c.so_far) (part_none []))
+    (begins_with bound entries (next ++ later) (items_in c.numbered) [] (items_in c.numbered) out [] c.written (sym (append-nil (items_in c.numbered)))
+    (are_let_out bound entries (next ++ later) c.numbered (so_far_let_out bound (stages.stage_state m.stage) (closings_in m.pending) entries next later c.numbered c.so_far)) (part_none []))
 
 pub begun : (bound : ℕ) (m : HeldLines) (entries later : List Entry) (out : List ℕ) → HasTakenLines bound m entries out → IsBeginningOfScript bound (entries ++ later) out
 begun bound m entries later out c = begun_at bound m entries [] later out c.at
@@ -136,9 +140,10 @@ module _ (old new : HeldLines) (e : Entry) (after : stages.StageState Asked) (re
     grows = grows;
     after = λ bound entries before b.
         let all = passing e ++ map item_of released in
+        let numbered = b.at.numbered ++ numbered_read (old.stage.time + 1) e released in
         subst (λ (l : List Entry). IsBeginningOfScript bound l (before ++ out)) (append-nil (entries ++ e ∷ []))
-        (begins_with bound (entries ++ e ∷ []) [] b.at.items all (b.at.items ++ all) before out b.at.written refl
-        (so_far_let_out bound after pending (entries ++ e ∷ []) [] [] (b.at.items ++ all) (so_far_read old e after released pending read more_pending bound entries before b)) part);
+        (begins_with bound (entries ++ e ∷ []) [] (items_in b.at.numbered) all (items_in numbered) before out b.at.written (more_read b.at.numbered (old.stage.time + 1) e released)
+        (are_let_out bound (entries ++ e ∷ []) [] numbered (so_far_let_out bound after pending (entries ++ e ∷ []) [] [] numbered (so_far_read old e after released pending read more_pending bound entries before b))) part);
   }
 
   -- what passes at once failed
@@ -169,9 +174,12 @@ module _ (old : HeldLines) (released : List (Noted Asked)) (finished : IsFinishe
   abbrev last_items : List Item
   last_items = map item_of released ++ (close_items ++ end_item old.ended_inside)
 
-  items_at_end : (bound : ℕ) (entries : List Entry) (before : List ℕ) → (h : HasTakenLines bound old entries before) → AreHeldItems bound entries h.at.so_far.expired (h.at.items ++ last_items)
+  items_at_end : (bound : ℕ) (entries : List Entry) (before : List ℕ) → (h : HasTakenLines bound old entries before) → AreHeldItems bound entries h.at.so_far.expired (items_in h.at.numbered ++ last_items)
   items_at_end bound entries before h =
-      held_at_end bound (stages.stage_state old.stage) (closings_in old.pending) entries h.at.items released old.ended_inside h.at.so_far h.wait finished h.at.inside
+      let numbered = h.at.numbered ++ numbered_last old.stage.time released (closings_in old.pending) old.ended_inside in
+      subst (AreHeldItems bound entries h.at.so_far.expired) (more_last h.at.numbered old.stage.time released (closings_in old.pending) old.ended_inside)
+      (are_held bound entries h.at.so_far.expired numbered
+      (held_at_end bound (stages.stage_state old.stage) (closings_in old.pending) entries h.at.numbered released old.ended_inside h.at.so_far h.wait finished h.at.inside))
 
   pub ended : (new : HeldLines) (counts : Counts) (mid last : List ℕ)
       → ((bound : ℕ) (entries : List (stage.Entry Asked)) (closed : Closings) (earlier expired : List (Noted Asked)) → HasStaged event_in bound entries closed earlier expired (stages.stage_state old.stage)
@@ -186,19 +194,19 @@ module _ (old : HeldLines) (released : List (Noted Asked)) (finished : IsFinishe
     after = λ bound entries before h.
         let c = h.at in
         let count = counted bound (staged_from 1 entries) c.so_far.closed c.so_far.released c.so_far.expired c.so_far.staged in
-        let items = c.items ++ map item_of released in
-        let written : WritesItems ((before ++ first.0) ++ next.0) (items ++ close_items) = writes_more (before ++ first.0) next.0 items close_items (writes_more before first.0 c.items (map item_of released) c.written first.2) next.2 in
+        let items = items_in c.numbered ++ map item_of released in
+        let written : WritesItems ((before ++ first.0) ++ next.0) (items ++ close_items) = writes_more (before ++ first.0) next.0 items close_items (writes_more before first.0 (items_in c.numbered) (map item_of released) c.written first.2) next.2 in
         let whole : SpellsButForNumbers (((before ++ first.0) ++ next.0) ++ end.0) ((items ++ close_items) ++ end_item old.ended_inside) =
         spelled_with ((before ++ first.0) ++ next.0) end.0 (items ++ close_items) (end_item old.ended_inside) written end.2 in
         record {
           expired = c.so_far.expired;
-          items = c.items ++ last_items;
+          items = items_in c.numbered ++ last_items;
           held = items_at_end bound entries before h;
           events_counted = count.0;
           expired_counted = count.1;
           spells =
               subst (λ (l : List Item). SpellsButForNumbers (before ++ (first.0 ++ (next.0 ++ end.0))) l)
-              (append_assoc items close_items (end_item old.ended_inside) ∙ append_assoc c.items (map item_of released) (close_items ++ end_item old.ended_inside))
+              (append_assoc items close_items (end_item old.ended_inside) ∙ append_assoc (items_in c.numbered) (map item_of released) (close_items ++ end_item old.ended_inside))
               (subst (λ (t : List ℕ). SpellsButForNumbers t ((items ++ close_items) ++ end_item old.ended_inside))
               (append_assoc (before ++ first.0) next.0 end.0 ∙ append_assoc before first.0 (next.0 ++ end.0)) whole);
         };
@@ -212,7 +220,7 @@ module _ (old : HeldLines) (released : List (Noted Asked)) (finished : IsFinishe
     after = λ bound entries before h.
         let c = h.at in
         subst (λ (l : List Entry). IsBeginningOfScript bound l (before ++ out)) (append-nil entries)
-        (begins_with bound entries [] c.items last_items (c.items ++ last_items) before out c.written refl (inr (c.so_far.expired, items_at_end bound entries before h)) part);
+        (begins_with bound entries [] (items_in c.numbered) last_items (items_in c.numbered ++ last_items) before out c.written refl (inr (c.so_far.expired, items_at_end bound entries before h)) part);
   }
 
   pub failed_last : (new : HeldLines) → AreWrittenInPart (map item_of released) old.output.items new.output.items → LinesEndFails old new

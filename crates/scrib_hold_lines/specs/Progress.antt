@@ -21,6 +21,7 @@ use Rattle.scrib_hold_stage.specs.Entries.{note, Opens, Passes}
 use Rattle.scrib_hold_stage.specs.PendingClosings.{IsMade, IsNotReady, closings_in}
 use Rattle.scrib_hold_stage.specs.Stages as stages
 use Rattle.scrib_hold.specs.HeldScripts.{Asked, Pending, event_in, opens_conversation, passing, ends_inside}
+use Rattle.scrib_hold.specs.NumberedItems.{Numbered, items_in}
 use Rattle.scrib_hold.specs.LetOutSoFar.{LetsOutSoFar, closing_items}
 use Rattle.scrib_hold_lines.specs.declared.staging.Passing.{Passing}
 use Rattle.scrib_hold_lines.specs.declared.staging.Passing.TheVariants as passed
@@ -80,10 +81,10 @@ AreWrittenInPart items was now = AddsBytes (λ out. WritesItemsPart out items) w
 
 -- A stage with this bound took these entries, and gave this output. These follow next, if they are known.
 pub record AreLinesAt (bound : ℕ) (m : HeldLines) (entries next : List Entry) (out : List ℕ) : Type 0 where
-  pub items : List Item
-  pub so_far : LetsOutSoFar bound (stages.stage_state m.stage) (closings_in m.pending) entries next items
+  pub numbered : List Numbered
+  pub so_far : LetsOutSoFar bound (stages.stage_state m.stage) (closings_in m.pending) entries next numbered
   pub inside : m.ended_inside ≡ ends_inside entries
-  pub written : WritesItems out items
+  pub written : WritesItems out (items_in numbered)
 
 -- the same, where each closing waits further
 pub record HasTakenLines (bound : ℕ) (m : HeldLines) (entries : List Entry) (out : List ℕ) : Type 0 where
