@@ -48,8 +48,11 @@ fn roles_text(alloc: Global, roles: &[RoleStatus]) -> Result<Vec<u8>, AllocError
     Ok(text)
 }
 
-// Adds the line of each role.
-fn push_lines(out: &mut Vec<u8>, roles: &[RoleStatus]) -> Result<(), AllocError>
+/// Adds the line of each role.
+///
+/// # Errors
+/// `AllocError` where memory for the longer text is refused.
+pub fn push_lines(out: &mut Vec<u8>, roles: &[RoleStatus]) -> Result<(), AllocError>
     ensures { OnOk result (out.new.items ≡ out.old.items ++ lines.next_lines roles.now) }
 {
     for status in roles {
@@ -98,8 +101,9 @@ fn push_complete(out: &mut Vec<u8>, is_complete: bool) -> Result<(), AllocError>
     }
 }
 
-// Whether each role is at rest. After a permitted log this holds exactly where the log is complete.
-fn are_at_rest(roles: &[RoleStatus]) -> bool
+/// Returns whether each role is at rest: done, or not joined and without any action. After a permitted log this holds
+/// exactly where the log is complete.
+pub fn are_at_rest(roles: &[RoleStatus]) -> bool
     ensures { result ≡ lines.are_at_rest roles.now }
 {
     for status in roles {

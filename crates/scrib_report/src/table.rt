@@ -26,8 +26,11 @@ fn push_blanks(out: &mut Vec<u8>, count: usize) -> Result<(), AllocError>
     Ok(())
 }
 
-// Appends the number, filled up with blanks on its left to `width` bytes.
-fn push_right_aligned(out: &mut Vec<u8>, width: usize, number: u64) -> Result<(), AllocError>
+/// Appends the number, filled up with blanks on its left to `width` bytes.
+///
+/// # Errors
+/// `AllocError` where memory for the longer text is refused.
+pub fn push_right_aligned(out: &mut Vec<u8>, width: usize, number: u64) -> Result<(), AllocError>
     ensures { OnOk result (out.new.items ≡ out.old.items ++ rows.right_aligned width number) }
 {
     let digits = number.to_string(*out.allocator())?;
