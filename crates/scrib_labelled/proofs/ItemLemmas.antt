@@ -33,7 +33,8 @@ use Rattle.scrib_labelled.specs.declared.named_monitor.NamedMonitor.{NamedMonito
 use Rattle.scrib_labelled.specs.ExchangeLines.{named_id}
 use Rattle.scrib_labelled.specs.LabelledLines.{LineLabel}
 use Rattle.scrib_labelled.specs.LabelledRuns.{ClosesBehind, Naming, Takes, after_replies, after_reply, session_name}
-use Rattle.scrib_labelled.specs.Progress.{CarriesOut, IsChangeBy, NotesEvent, TakesItem, after_change, change_by}
+use Rattle.scrib_labelled.specs.Behind.{CarriesOut}
+use Rattle.scrib_labelled.specs.Changes.{IsChangeBy, NotesEvent, TakesItem, after_change, change_by}
 
 -- ---- what replies change
 

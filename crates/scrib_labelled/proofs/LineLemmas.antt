@@ -19,8 +19,8 @@ use Rattle.std.specs.Borrow.{Bor}
 use Rattle.scrib_labels.specs.declared.session_names.SessionNames.{SessionNames}
 use Rattle.scrib_report.specs.PutBack.{bytes_of}
 use Rattle.scrib_labelled.specs.declared.label_options.LabelOptions.{LabelOptions}
-use Rattle.scrib_labelled.specs.declared.line_reading.LineParts.{LineParts}
-use Rattle.scrib_labelled.specs.declared.line_reading.Session.{Session}
+use Rattle.scrib_labelled.specs.declared.line_parts.LineParts.{LineParts}
+use Rattle.scrib_labelled.specs.declared.line_parts.Session.{Session}
 use Rattle.scrib_labelled.specs.NamedLines.{IsNumbersOf, ReadsAs, ReadsRest, label_of, session_of}
 use Rattle.scrib_labelled.specs.LabelledLines.{IsLineOf, IsNumbered, IsNumberedBy, IsObjectBody, IsObjectOf, IsUntagged, LineLabel, StandsFor, bare_with_id, line_limit, with_id}
 use Rattle.scrib_objects.specs.Objects.{Spelled, Spelling, as_bad, as_line, as_put}

@@ -9,8 +9,8 @@ use Rattle.scrib_objects.specs.declared.object_line.ObjectLine.{ObjectLine}
 use Rattle.scrib_labelled.specs.declared.label_options.LabelOptions.{LabelOptions}
 use Rattle.scrib_labelled.specs.LabelledLines.{IsLineOf, IsNumbered, IsObjectBody, IsPutObject, LineLabel, StandsFor, line_limit, no_label, object_options}
 use Rattle.scrib_labelled.specs.LabelledScripts.{SaysAs}
-use Rattle.scrib_labelled.specs.ObjectLines.{IsObjectRead, SaysObject}
-use Rattle.scrib_labelled.specs.Progress.{IsCutOf}
+use Rattle.scrib_labelled.specs.LineEnds.{IsCutOf, SaysObject}
+use Rattle.scrib_labelled.specs.ObjectLines.{IsObjectRead}
 use Rattle.scrib_labelled.proofs.LineLemmas.{bad_mark}
 
 -- the tag of an object

@@ -1,9 +1,10 @@
 -- A text about what is behind the silent run of a script with labels, and where writing it fails.
-use Rattle.std.proofs.Common.{◌≡◌, ◌⊎◌, inl, inr, ℕ, List, [], Option, Some, None, Result, Ok, Err, false, true, refl, sym, ap, rules}
+use Rattle.std.proofs.Common.{◌≡◌, ◌⊎◌, inl, inr, ℕ, List, [], Option, Some, None, Result, Ok, Err, false, true, refl, sym, ap, subst, rules}
 use Rattle.std.specs.Prelude.{IfErr, IfSome}
 use Rattle.std.specs.Io.KnownBytes.{Appends, Keeps}
 use Rattle.std.proofs.lemmas.List.{append-nil}
 use Rattle.scrib_core.specs.Answers.{State}
+use Rattle.scrib_script_reader.specs.declared.limits.Limits.{Limits}
 use Rattle.scrib_script_reader.specs.Limits.{IsWithinLimits, of_scripts}
 use Rattle.scrib_script_io.specs.Faults.{of_script}
 use Rattle.scrib_script_io.specs.declared.fault.ScriptFault.{ScriptFault}
@@ -11,32 +12,33 @@ use Rattle.scrib_script_io.specs.declared.fault.ScriptFault.TheVariants as fault
 use Rattle.scrib_script_io.specs.Writes.{AppendsPart}
 use Rattle.scrib_script_io.proofs.WriterLemmas.{appends_kept, appends_none}
 use Rattle.scrib_labelled.specs.declared.label_options.LabelOptions.{LabelOptions}
-use Rattle.scrib_labelled.specs.declared.labelled_run.LabelledRun.{LabelledRun}
-use Rattle.scrib_labelled.specs.Behind.{behind}
+use Rattle.scrib_labelled.specs.declared.named_monitor.NamedMonitor.{NamedMonitor}
+use Rattle.scrib_labelled.specs.Behind.{RanEntries}
 use Rattle.scrib_labelled.specs.LabelledRuns.{Naming}
 use Rattle.scrib_labelled.specs.LabelledQueries.{LeavesBehind, silent_style}
-use Rattle.scrib_labelled.specs.Progress.{LabelledRunSucceeds}
+use Rattle.scrib_labelled.specs.Readings.{Beginning, ReadingSucceeds}
 use Rattle.scrib_labelled.specs.SilentRuns.{RanSilently, names_behind, state_behind}
+use Rattle.scrib_labelled.proofs.OutputLemmas.{IsNewReading, whole_output}
 
 -- ---- the run
 
 -- a run whose replies were dropped, and whose steps were not refused memory
-pub ran_silently : (labels : LabelOptions) (r : Option (List ℕ)) (run : LabelledRun) (was now : Option (List ℕ))
-    → LabelledRunSucceeds (silent_style labels) of_scripts r (behind run.named) was now → run.named.monitor.core.lacked ≡ false → RanSilently labels r run
-ran_silently labels None run was now h served = search rules
-ran_silently labels (Some input) run was now h served =
-    let whole = h.0.1 in
-    ((whole.0, whole.1, whole.2, h.0.0, whole.3, (whole.4.0, whole.4.1 refl served)), h.1)
+pub ran_silently : (labels : LabelOptions) (b : Beginning NamedMonitor) (r : Option (List ℕ)) (after : NamedMonitor) (was now : Option (List ℕ)) → IsNewReading (silent_style labels) of_scripts b
+    → ReadingSucceeds RanEntries b after r was now → after.monitor.core.lacked ≡ false → RanSilently labels r after
+ran_silently labels b None after was now new h served = search rules
+ran_silently labels b (Some input) after was now new h served =
+    let whole = whole_output (silent_style labels) of_scripts b after input h.0.0 new h.0.1 in
+    ((whole.0, whole.1, whole.2, h.0.0, whole.3, (whole.4.0, whole.4.1 refl served)), subst (λ (m : Limits). IsWithinLimits m input) new.limits h.1)
 
 -- the text, of this kind, is one about what is behind the script
 abbrev pub IsTextBehind : {K : Type 0} (Text : Naming → State → K → List ℕ → Type 0) → LabelOptions → List ℕ → K → List ℕ → Type 0
 IsTextBehind Text labels input k output = (names : Naming) × (after : State) × LeavesBehind labels input names after × Text names after k output
 
 -- a text about the run is one about its script, which is within the limits
-pub text_behind : {K : Type 0} (Text : Naming → State → K → List ℕ → Type 0) (labels : LabelOptions) (r : Option (List ℕ)) (run : LabelledRun) (k : K) (text : List ℕ) → RanSilently labels r run
-    → Text (names_behind run) (state_behind run) k text → IfSome r (λ input. IsTextBehind Text labels input k text × IsWithinLimits of_scripts input)
-text_behind Text labels None run k text h x = search rules
-text_behind Text labels (Some input) run k text h x = ((names_behind run, state_behind run, h.0, x), h.1)
+pub text_behind : {K : Type 0} (Text : Naming → State → K → List ℕ → Type 0) (labels : LabelOptions) (r : Option (List ℕ)) (n : NamedMonitor) (k : K) (text : List ℕ) → RanSilently labels r n
+    → Text (names_behind n) (state_behind n) k text → IfSome r (λ input. IsTextBehind Text labels input k text × IsWithinLimits of_scripts input)
+text_behind Text labels None n k text h x = search rules
+text_behind Text labels (Some input) n k text h x = ((names_behind n, state_behind n, h.0, x), h.1)
 
 -- where memory is refused
 pub memory_fault : {T : Type 0} (r : Result T ScriptFault) → IfErr r (λ e. e ≡ fault.OutOfMemory) → IfErr r (λ e. of_script e ≡ true)

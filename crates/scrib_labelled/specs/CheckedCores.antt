@@ -1,5 +1,4 @@
--- Monitors that keep whether a step was refused memory (this project's own). Only contracts of private functions cite
--- this file.
+-- Monitors that keep whether a step was refused memory (this project's own).
 use Rattle.std.specs.Prelude.{◌≡◌, ◌≢◌, false, List, All}
 use Rattle.scrib_core.specs.declared.reply.Refusal.TheVariants.{OutOfMemory}
 use Rattle.scrib_core.specs.declared.reply.Reply.{Reply}

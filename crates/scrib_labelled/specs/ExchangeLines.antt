@@ -1,4 +1,4 @@
--- Lines of exchanges with labels (this project's own). Only contracts of private functions cite this file.
+-- Lines of exchanges with labels (this project's own).
 use Rattle.std.specs.Prelude.{◌≡◌, ℕ, Bool, List, Option, option_map}
 use Rattle.std.specs.Borrow.{Bor}
 use Rattle.scrib_core.specs.declared.format.Format.TheVariants as format

@@ -1,4 +1,4 @@
--- What lines say of their conversations (this project's own). Only contracts of private functions cite this file.
+-- What lines say of their conversations (this project's own).
 use Rattle.std.specs.Prelude.{◌≡◌, ◌⊎◌, ℕ, Bool, true, false, List, Option, Some, None, option_map}
 use Rattle.scrib_script_reader.specs.Fields.{fields}
 use Rattle.scrib_labels.specs.SessionLines.{IsSessionLine, id_field}
@@ -9,8 +9,8 @@ use Rattle.scrib_labels.specs.declared.session_names.SessionNames.{SessionNames}
 use Rattle.scrib_labels.specs.Naming.{IsNumberFor}
 use Rattle.scrib_report.specs.PutBack.{bytes_of}
 use Rattle.scrib_labelled.specs.declared.label_options.LabelOptions.{LabelOptions}
-use Rattle.scrib_labelled.specs.declared.line_reading.LineParts.{LineParts}
-use Rattle.scrib_labelled.specs.declared.line_reading.Session.{Session}
+use Rattle.scrib_labelled.specs.declared.line_parts.LineParts.{LineParts}
+use Rattle.scrib_labelled.specs.declared.line_parts.Session.{Session}
 use Rattle.scrib_labelled.specs.LabelledLines.{IsNumbered, LineLabel, StandsFor}
 use Rattle.scrib_labelled.specs.declared.labelled_line.Named.{Named}
 use Rattle.scrib_labelled.specs.declared.labelled_line.Named.TheVariants as named

@@ -1,4 +1,4 @@
--- Bytes as lines and a part of a line (this project's own). Only contracts of private functions cite this file.
+-- Bytes as lines and a part of a line (this project's own).
 use Rattle.std.specs.Prelude.{◌≡◌, ℕ, List, [], ◌∷◌, ◌++◌}
 use Rattle.scrib_script_reader.specs.Scripts.{NoLf, lines}
 

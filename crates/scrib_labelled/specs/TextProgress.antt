@@ -1,4 +1,4 @@
--- What is kept of a module text (this project's own). Only contracts of private functions cite this file.
+-- What is kept of a module text (this project's own).
 use Rattle.std.specs.Prelude.{◌≡◌, ◌≤◌, ℕ, List, [], ◌∷◌, ◌++◌, length, take, Option, None, option_map}
 use Rattle.scrib_labelled.specs.declared.put_text.PutText.{PutText}
 use Rattle.scrib_labelled.specs.LabelledScripts.{LabelledText}

@@ -16,14 +16,17 @@ use scrib_types::shared_event::SharedEvent;
 
 /// The line of an exchange, with its label.
 #[derive(Drop)]
-pub(crate) struct ExchangeLine<'a> {
-    pub(crate) tag: Option<&'a [u8]>,
+pub struct ExchangeLine<'a> {
+    /// The tag, if the line has one.
+    pub tag: Option<&'a [u8]>,
     /// What a reply begins with for the tag.
-    pub(crate) tag_text: &'a [u8],
+    pub tag_text: &'a [u8],
     /// The name of the conversation, if it has one.
-    pub(crate) name: Option<&'a [u8]>,
-    pub(crate) id: u32,
-    pub(crate) event: SharedEvent,
+    pub name: Option<&'a [u8]>,
+    /// The number of the conversation.
+    pub id: u32,
+    /// The event.
+    pub event: SharedEvent,
 }
 
 // A line without its tag, and what a reply begins with for the tag.

@@ -11,7 +11,7 @@ ghost use Rattle.scrib_labelled.specs.LabelledQueries.{ExplanationOf, IsLabelled
 ghost use Rattle.scrib_labelled.specs.SilentRuns.{names_behind, state_behind};
 
 use crate::label_options::LabelOptions;
-use crate::labelled_run::LabelledRun;
+use crate::named_monitor::NamedMonitor;
 pub use crate::session_key::SessionKey;
 use crate::silent_run::{number_meant, run_silently};
 pub use scrib_cli::explanation::Explained;
@@ -68,22 +68,22 @@ fn explanation_in<R: Read>(
         IsLabelledExplanation labels input key.entry r.0 r.1.items × IsWithinLimits of_scripts input)) }
     ensures fault { IfErr result (λ e. of_script e ≡ true) }
 {
-    let run = run_silently(alloc, labels, reader)?;
-    explanation_behind(alloc, &run, key)
+    let monitor = run_silently(alloc, labels, reader)?;
+    explanation_behind(alloc, &monitor, key)
 }
 
-// Returns the kind and the text of the explanation of the conversation that is meant behind the run.
+// Returns the kind and the text of the explanation of the conversation that is meant behind the script.
 fn explanation_behind(
     alloc: Global,
-    run: &LabelledRun,
+    monitor: &NamedMonitor,
     key: SessionKey<'_>,
 ) -> Result<(Explained, Vec<u8>), ScriptFault>
-    ensures explained { IfOk result (λ r. ExplanationOf (state_behind run.now).world
-        (number_meant (names_behind run.now) key.entry) r.0 r.1.items) }
+    ensures explained { IfOk result (λ r. ExplanationOf (state_behind monitor.now).world
+        (number_meant (names_behind monitor.now) key.entry) r.0 r.1.items) }
     ensures fault { IfErr result (λ e. e ≡ fault.OutOfMemory) }
 {
-    match number_meant(run, key) {
-        Some(id) => explanation(alloc, &run.named.monitor.core.core, id),
+    match number_meant(monitor, key) {
+        Some(id) => explanation(alloc, &monitor.monitor.core.core, id),
         None => Ok((Explained::Refused, refusal(alloc, b"NoConversation")?)),
     }
 }

@@ -1,7 +1,7 @@
 //! Carries out the entries of a script, and gathers their replies with the labels of their lines.
 
 ghost use Rattle.std.specs.Prelude.{◌≡◌};
-ghost use Rattle.scrib_labelled.specs.Progress.{change_by};
+ghost use Rattle.scrib_labelled.specs.Changes.{change_by};
 
 use crate::checked_core::CheckedCore;
 use crate::label_options::LabelledStyle;
@@ -22,20 +22,24 @@ use std::alloc::{AllocError, Global};
 
 /// What an entry changes in which conversations are open.
 #[derive(Clone, Copy, Debug, PartialEq, Eq)]
-pub(crate) enum Change {
+pub enum Change {
+    /// A conversation was opened.
     Opened,
+    /// A conversation was closed.
     Closed,
+    /// Nothing.
     Unchanged,
 }
 
 /// A monitor, the style of its script, and the replies that are not written yet.
 #[derive(Drop)]
-pub(crate) struct LabelledMonitor {
+pub struct LabelledMonitor {
     pub(crate) core: CheckedCore,
     style: LabelledStyle,
     // The text of one item. Where memory is refused in the midst of it, the gathered texts stay whole.
     text: Vec<u8>,
-    pub(crate) gathered: Gathered,
+    /// The replies that are not written yet.
+    pub gathered: Gathered,
 }
 
 impl LabelledMonitor {
@@ -52,11 +56,11 @@ impl LabelledMonitor {
     ghost use Rattle.scrib_script_reader.specs.declared.item.Item.TheVariants as item;
     ghost use Rattle.scrib_closing.specs.ClosingScripts.{is_send};
     ghost use Rattle.scrib_labelled.specs.LabelledRuns.{Takes};
-    ghost use Rattle.scrib_labelled.specs.Progress.{IsChangeBy, NotesEvent, TakesItem, change_by};
+    ghost use Rattle.scrib_labelled.specs.Changes.{IsChangeBy, NotesEvent, TakesItem, change_by};
     ghost use Rattle.scrib_labelled.specs.declared.labelled_monitor.Change.TheVariants as change;
 
     /// Returns a new monitor.
-    pub(crate) fn new(alloc: Global, style: LabelledStyle) -> LabelledMonitor
+    pub fn new(alloc: Global, style: LabelledStyle) -> LabelledMonitor
         ensures state { state_of result.core ≡ initial }
         ensures style { result.style ≡ style }
     {
@@ -73,7 +77,7 @@ impl LabelledMonitor {
     ///
     /// # Errors
     /// `AllocError` where there is no memory for the text.
-    pub(crate) fn take(&mut self, item: Item, label: Label<'_>) -> Result<Change, AllocError>
+    pub fn take(&mut self, item: Item, label: Label<'_>) -> Result<Change, AllocError>
         ensures ok { IfOk result
             (TakesItem self.old self.new (tag_of label.entry) (name_of label.entry) item self.new.text.items) }
         ensures same { self.new.gathered ≡ self.old.gathered }
@@ -158,7 +162,7 @@ impl LabelledMonitor {
     /// # Errors
     /// `AllocError` where there is no memory for the text. The gathered texts are then unchanged.
     #[inline(always)]
-    pub(crate) fn note(
+    pub fn note(
         &mut self,
         id: u32,
         event: SharedEvent,
@@ -328,7 +332,7 @@ impl LabelledMonitor {
     ///
     /// # Errors
     /// `AllocError` where there is no memory for it. The gathered texts are then unchanged.
-    pub(crate) fn gather(&mut self) -> Result<(), AllocError>
+    pub fn gather(&mut self) -> Result<(), AllocError>
         ensures same { self.new ≡ record self.old { gathered = self.new.gathered } }
         ensures ok { OnOk result
             (self.new.gathered.bytes.items ≡ self.old.gathered.bytes.items ++ self.old.text.items) }

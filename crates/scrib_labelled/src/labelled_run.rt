@@ -5,17 +5,19 @@ ghost use Rattle.scrib_report.specs.PutBack.{bytes_of};
 ghost use Rattle.scrib_script_reader.specs.Scripts.{bare, text_end};
 ghost use Rattle.scrib_labelled.specs.Splits.{IsEnded};
 
+use crate::entry_stage::EntryStage;
 use crate::exchange_line::exchange_line;
 use crate::label_options::LabelOptions;
 use crate::line_count::LineCount;
-use crate::line_reading::{LineParts, read_line};
-use crate::named_monitor::NamedMonitor;
+use crate::line_parts::LineParts;
+use crate::line_reading::read_line;
 use crate::object_exchange::ObjectText;
 use crate::put_text::PutText;
 use scrib_core::format::Format;
 use scrib_core::step::Step;
 use scrib_objects::object_reader::ObjectReader;
 use scrib_script_io::fault::ScriptFault;
+use scrib_script_reader::entry::Entry;
 use scrib_script_reader::item::Item;
 use scrib_script_reader::kept_bytes::{KEPT_TEXT_BYTES, append_up_to, without_cr};
 use scrib_script_reader::line::Line;
@@ -29,15 +31,16 @@ const KEPT_LINE_BYTES: usize = 131_074;
 
 const KEPT_OBJECT_BYTES: usize = 8_388_610;
 
-/// A script with labels that runs over a monitor.
+/// A script with labels whose entries go into a stage.
 #[derive(Drop)]
-pub(crate) struct LabelledRun {
+pub struct LabelledRun<S: EntryStage> {
     pub(crate) alloc: Global,
     pub(crate) options: LabelOptions,
     pub(crate) reader: Reader,
     pub(crate) objects: ObjectReader,
     pub(crate) object_text: ObjectText,
-    pub(crate) named: NamedMonitor,
+    /// What takes the entries.
+    pub stage: S,
     // The line so far, as far as it is kept.
     pub(crate) line: Vec<u8>,
     // The module text that is read, or none outside module texts.
@@ -47,22 +50,23 @@ pub(crate) struct LabelledRun {
     pub(crate) count: LineCount,
 }
 
-impl LabelledRun {
+impl<S: EntryStage> LabelledRun<S> {
     ghost use Rattle.std.specs.Prelude.{◌≡◌, ◌<◌, ◌+◌, ◌^◌, true, false, length, Option, IfOk, IfErr, OnErr, OnOk, None};
     ghost use Rattle.scrib_script_io.specs.Faults.{of_script};
     ghost use Rattle.scrib_script_reader.specs.Scripts.{NoLf};
     ghost use Rattle.scrib_labelled.specs.LabelledScripts.{LabelledText};
     ghost use Rattle.scrib_labelled.specs.Splits.{IsEnded};
-    ghost use Rattle.scrib_labelled.specs.Progress.{EndsBody, EndsLine, EndsPlainLine, EndsTextLine, GathersBytes, HoldsUnended, kept_len};
-    ghost use Rattle.scrib_labelled.specs.Progress.{EndsLast, EndsLastTextLine, EndsMeaning, EndsText, PutsText};
+    ghost use Rattle.scrib_labelled.specs.GatheredBytes.{GatherFails, GathersBytes};
+    ghost use Rattle.scrib_labelled.specs.LineEnds.{EndsBody, EndsLast, EndsLine, EndsText, FailsLast, FailsLine, FailsText, PutFails, PutsText};
+    ghost use Rattle.scrib_labelled.specs.LineEnds.{of_body, of_cut, of_kept, of_last, of_last_text_line, of_meaning, of_text_line};
+    ghost use Rattle.scrib_labelled.specs.Readings.{HoldsUnended, kept_len};
     ghost use Rattle.scrib_labelled.specs.NamedLines.{IsNumbersOf, label_of, session_of};
 
     // Consumes bytes of a line, without its LF.
     pub(crate) fn take_part(&mut self, part: &[u8]) -> Result<(), ScriptFault>
         requires { NoLf part.now }
-        ensures ok { OnOk result (GathersBytes self.old self.new part.now) }
-        ensures err { OnErr result
-            (self.new.named.monitor.gathered.bytes.items ≡ self.old.named.monitor.gathered.bytes.items) }
+        ensures ok { OnOk result (GathersBytes S.Took S.gathered self.old self.new part.now) }
+        ensures err { OnErr result (GatherFails S.Took S.TookPart S.gathered self.old self.new part.now) }
         ensures fault { IfErr result (λ e. of_script e ≡ true) }
     {
         if !self.count.take(part.len()) {
@@ -77,9 +81,8 @@ impl LabelledRun {
     #[inline(always)]
     pub(crate) fn take_end(&mut self, bytes: &[u8]) -> Result<(), ScriptFault>
         requires { IsEnded bytes.now }
-        ensures ok { OnOk result (GathersBytes self.old self.new bytes.now) }
-        ensures err { OnErr result
-            (self.new.named.monitor.gathered.bytes.items ≡ self.old.named.monitor.gathered.bytes.items) }
+        ensures ok { OnOk result (GathersBytes S.Took S.gathered self.old self.new bytes.now) }
+        ensures err { OnErr result (GatherFails S.Took S.TookPart S.gathered self.old self.new bytes.now) }
         ensures fault { IfErr result (λ e. of_script e ≡ true) }
     {
         if !self.count.take(bytes.len()) {
@@ -93,9 +96,9 @@ impl LabelledRun {
     // Takes a line that ends with these bytes, without its LF.
     #[inline(always)]
     fn end_body(&mut self, body: &[u8]) -> Result<(), AllocError>
-        ensures ok { OnOk result (EndsBody self.old self.new body.now) }
-        ensures err { OnErr result
-            (self.new.named.monitor.gathered.bytes.items ≡ self.old.named.monitor.gathered.bytes.items) }
+        ensures ok { OnOk result (EndsBody S.Took S.gathered self.old self.new body.now) }
+        ensures err { OnErr result (FailsLine S.Took S.TookPart S.gathered self.old self.new
+            (of_body self.old.options self.old.text self.old.line.items body.now)) }
     {
         let capacity = self.capacity();
         if self.line.is_empty() {
@@ -123,9 +126,10 @@ impl LabelledRun {
     // Takes a line that has ended, as far as it is kept, without its LF.
     #[inline(always)]
     fn end_line(&mut self, line: &[u8]) -> Result<(), AllocError>
-        ensures ok { OnOk result (EndsLine self.old self.new line.now) }
-        ensures err { OnErr result
-            (self.new.named.monitor.gathered.bytes.items ≡ self.old.named.monitor.gathered.bytes.items) }
+        ensures ok { OnOk result (EndsLine S.Took S.gathered self.old self.new
+            (of_kept self.old.options self.old.text line.now)) }
+        ensures err { OnErr result (FailsLine S.Took S.TookPart S.gathered self.old self.new
+            (of_kept self.old.options self.old.text line.now)) }
     {
         // most lines of a long script
         if self.text.is_none() {
@@ -137,9 +141,10 @@ impl LabelledRun {
     // The same, in a module text and outside of one.
     #[inline(never)]
     fn end_any_line(&mut self, line: &[u8]) -> Result<(), AllocError>
-        ensures ok { OnOk result (EndsLine self.old self.new line.now) }
-        ensures err { OnErr result
-            (self.new.named.monitor.gathered.bytes.items ≡ self.old.named.monitor.gathered.bytes.items) }
+        ensures ok { OnOk result (EndsLine S.Took S.gathered self.old self.new
+            (of_kept self.old.options self.old.text line.now)) }
+        ensures err { OnErr result (FailsLine S.Took S.TookPart S.gathered self.old self.new
+            (of_kept self.old.options self.old.text line.now)) }
     {
         match self.text.take() {
             Some(text) => self.end_text_line(text, line),
@@ -150,9 +155,10 @@ impl LabelledRun {
     // The same of a line in this module text.
     fn end_text_line(&mut self, mut text: PutText, line: &[u8]) -> Result<(), AllocError>
         requires { self.old.text ≡ None }
-        ensures ok { OnOk result (EndsTextLine self.old self.new text line.now) }
-        ensures err { OnErr result
-            (self.new.named.monitor.gathered.bytes.items ≡ self.old.named.monitor.gathered.bytes.items) }
+        ensures ok { OnOk result (EndsLine S.Took S.gathered self.old self.new
+            (of_text_line text line.now)) }
+        ensures err { OnErr result (FailsLine S.Took S.TookPart S.gathered self.old self.new
+            (of_text_line text line.now)) }
     {
         if !is_text_end(line) {
             text.add_line(line)?;
@@ -164,9 +170,8 @@ impl LabelledRun {
 
     // Carries the put of a text out.
     pub(crate) fn put(&mut self, text: PutText) -> Result<(), AllocError>
-        ensures ok { OnOk result (PutsText self.old self.new text) }
-        ensures err { OnErr result
-            (self.new.named.monitor.gathered.bytes.items ≡ self.old.named.monitor.gathered.bytes.items) }
+        ensures ok { OnOk result (PutsText S.Took S.gathered self.old self.new text) }
+        ensures err { OnErr result (PutFails S.Took S.TookPart S.gathered self.old self.new text) }
     {
         let PutText { bytes, format, tag } = text;
         let put = Step::Put {
@@ -176,16 +181,17 @@ impl LabelledRun {
             tag: tag_of(&tag),
             session: None,
         };
-        self.named.carry_out(Item::Step(format, put), parts)
+        self.stage.take(Entry::Item(Item::Step(format, put)), parts)
     }
 
     // Takes a line outside module texts, given without its end.
     #[inline(always)]
     fn end_plain_line(&mut self, line: &[u8]) -> Result<(), AllocError>
         requires { self.old.text ≡ None }
-        ensures ok { OnOk result (EndsPlainLine self.old self.new line.now) }
-        ensures err { OnErr result
-            (self.new.named.monitor.gathered.bytes.items ≡ self.old.named.monitor.gathered.bytes.items) }
+        ensures ok { OnOk result (EndsLine S.Took S.gathered self.old self.new
+            (of_cut self.old.options line.now)) }
+        ensures err { OnErr result (FailsLine S.Took S.TookPart S.gathered self.old self.new
+            (of_cut self.old.options line.now)) }
     {
         if self.options.objects {
             return self.end_object(line);
@@ -193,11 +199,11 @@ impl LabelledRun {
         // most lines of a long script
         if let Some(exchange) = exchange_line(
             &mut self.reader,
-            &self.named.names,
+            self.stage.names(),
             self.options,
             line,
         ) {
-            return self.named.note(exchange);
+            return self.stage.note(exchange);
         }
         self.end_other_line(line)
     }
@@ -205,9 +211,10 @@ impl LabelledRun {
     // The same, where the line may be any.
     fn end_any_plain_line(&mut self, line: &[u8]) -> Result<(), AllocError>
         requires { self.old.text ≡ None }
-        ensures ok { OnOk result (EndsPlainLine self.old self.new line.now) }
-        ensures err { OnErr result
-            (self.new.named.monitor.gathered.bytes.items ≡ self.old.named.monitor.gathered.bytes.items) }
+        ensures ok { OnOk result (EndsLine S.Took S.gathered self.old self.new
+            (of_cut self.old.options line.now)) }
+        ensures err { OnErr result (FailsLine S.Took S.TookPart S.gathered self.old self.new
+            (of_cut self.old.options line.now)) }
     {
         if self.options.objects {
             return self.end_any_object(line);
@@ -220,14 +227,15 @@ impl LabelledRun {
     fn end_other_line(&mut self, line: &[u8]) -> Result<(), AllocError>
         requires text { self.old.text ≡ None }
         requires lines { self.old.options.objects ≡ false }
-        ensures ok { OnOk result (EndsPlainLine self.old self.new line.now) }
-        ensures err { OnErr result
-            (self.new.named.monitor.gathered.bytes.items ≡ self.old.named.monitor.gathered.bytes.items) }
+        ensures ok { OnOk result (EndsLine S.Took S.gathered self.old self.new
+            (of_cut self.old.options line.now)) }
+        ensures err { OnErr result (FailsLine S.Took S.TookPart S.gathered self.old self.new
+            (of_cut self.old.options line.now)) }
     {
         let (parts, meaning) = read_line(
             &mut self.reader,
             &mut self.plain,
-            &self.named.names,
+            self.stage.names(),
             self.options,
             line,
         )?;
@@ -241,29 +249,33 @@ impl LabelledRun {
         meaning: Line,
     ) -> Result<(), AllocError>
         requires text { self.old.text ≡ None }
-        requires numbers { IsNumbersOf self.old.named.names (session_of parts.session) }
-        ensures ok { OnOk result (EndsMeaning self.old self.new (label_of parts.entry) meaning) }
-        ensures err { OnErr result
-            (self.new.named.monitor.gathered.bytes.items ≡ self.old.named.monitor.gathered.bytes.items) }
+        requires numbers { IsNumbersOf (S.names self.old.stage) (session_of parts.session) }
+        ensures ok { OnOk result (EndsLine S.Took S.gathered self.old self.new
+            (of_meaning self.old.options (label_of parts.entry) meaning)) }
+        ensures err { OnErr result (FailsLine S.Took S.TookPart S.gathered self.old self.new
+            (of_meaning self.old.options (label_of parts.entry) meaning)) }
     {
         match meaning {
-            Line::Skipped => Ok(()),
+            Line::Skipped => self.stage.take(Entry::Skipped, parts),
             Line::Put(format) => {
                 self.text = Some(PutText::new(self.alloc, format, parts.tag)?);
                 Ok(())
             }
-            Line::Step(format, step) => self.named.carry_out(Item::Step(format, step), parts),
+            Line::Step(format, step) => self
+                .stage
+                .take(Entry::Item(Item::Step(format, step)), parts),
             Line::Bad => self
-                .named
-                .carry_out(Item::BadLine(self.count.number()), parts),
+                .stage
+                .take(Entry::Item(Item::BadLine(self.count.number())), parts),
         }
     }
 
     // Takes the last bytes of the script, which no LF ended.
     pub(crate) fn end_last_line(&mut self) -> Result<(), AllocError>
-        ensures ok { OnOk result (EndsLast self.old self.new) }
-        ensures err { OnErr result
-            (self.new.named.monitor.gathered.bytes.items ≡ self.old.named.monitor.gathered.bytes.items) }
+        ensures ok { OnOk result (EndsLast S.Took S.gathered self.old self.new
+            (of_last self.old.options self.old.text self.old.line.items)) }
+        ensures err { OnErr result (FailsLast S.Took S.TookPart S.gathered self.old self.new
+            (of_last self.old.options self.old.text self.old.line.items)) }
     {
         if self.line.is_empty() {
             return Ok(());
@@ -278,9 +290,9 @@ impl LabelledRun {
     // The same in this module text.
     fn end_last_text_line(&mut self, text: PutText, line: &[u8]) -> Result<(), AllocError>
         requires { self.old.text ≡ None }
-        ensures ok { OnOk result (EndsLastTextLine self.old self.new text line.now) }
-        ensures err { OnErr result
-            (self.new.named.monitor.gathered.bytes.items ≡ self.old.named.monitor.gathered.bytes.items) }
+        ensures ok { OnOk result (EndsLast S.Took S.gathered self.old self.new (of_last_text_line text line.now)) }
+        ensures err { OnErr result (FailsLast S.Took S.TookPart S.gathered self.old self.new
+            (of_last_text_line text line.now)) }
     {
         if is_mark(line) {
             return self.put(text);
@@ -291,9 +303,8 @@ impl LabelledRun {
 
     // Takes the end of the script.
     pub(crate) fn end_text(&mut self) -> Result<(), AllocError>
-        ensures ok { OnOk result (EndsText self.old self.new) }
-        ensures err { OnErr result
-            (self.new.named.monitor.gathered.bytes.items ≡ self.old.named.monitor.gathered.bytes.items) }
+        ensures ok { OnOk result (EndsText S.Took S.gathered self.old self.new) }
+        ensures err { OnErr result (FailsText S.Took S.TookPart S.gathered self.old self.new) }
     {
         let Some(text) = self.text.take() else {
             return Ok(());
@@ -302,7 +313,7 @@ impl LabelledRun {
             tag: tag_of(&text.tag),
             session: None,
         };
-        self.named.carry_out(Item::EndOfText, parts)
+        self.stage.take(Entry::Item(Item::EndOfText), parts)
     }
 }
 

@@ -1,14 +1,16 @@
-//! Runs scripts whose lines have tags and names of conversations, or are JSON objects, over one monitor.
+//! Reads scripts whose lines have tags and names of conversations, or are JSON objects, and runs them over one monitor.
 #![tactic(auto)]
 
 mod checked_core;
-mod exchange_line;
+pub mod entry_stage;
+pub mod exchange_line;
 pub mod explain_labelled_script;
 pub mod label_options;
 mod labelled_line;
-mod labelled_monitor;
-mod labelled_run;
+pub mod labelled_monitor;
+pub mod labelled_run;
 mod line_count;
+pub mod line_parts;
 mod line_reading;
 mod named_monitor;
 pub mod next_labelled_script;

@@ -6,25 +6,12 @@ ghost use Rattle.scrib_labelled.specs.NamedLines.{ReadsAs, ReadsRest, session_of
 
 use crate::label_options::LabelOptions;
 use crate::labelled_line::{Named, Untagged, conversation_in, without_tag};
+use crate::line_parts::{LineParts, Session};
 use scrib_labels::session_line::push_numbered_line;
 use scrib_labels::session_names::SessionNames;
 use scrib_script_reader::line::{Line, MAX_LINE_BYTES};
 use scrib_script_reader::reader::Reader;
 use std::alloc::AllocError;
-
-/// The name of a conversation, and the number that stands for it.
-#[derive(Clone, Copy)]
-pub(crate) struct Session<'a> {
-    pub(crate) name: &'a str,
-    pub(crate) number: u32,
-}
-
-/// The label of a line.
-#[derive(Clone, Copy)]
-pub(crate) struct LineParts<'a> {
-    pub(crate) tag: Option<&'a [u8]>,
-    pub(crate) session: Option<Session<'a>>,
-}
 
 /// Returns the label of a line, given without its end, and the meaning of the line that it stands for. `plain` is scratch.
 ///

@@ -1,13 +1,17 @@
 //! A monitor whose conversations may have names.
 
+use crate::entry_stage::EntryStage;
 use crate::exchange_line::ExchangeLine;
 use crate::label_options::LabelledStyle;
 use crate::labelled_monitor::{Change, LabelledMonitor};
-use crate::line_reading::{LineParts, Session};
+use crate::line_parts::{LineParts, Session};
 use scrib_labels::session_names::SessionNames;
 use scrib_report::label::Label;
+use scrib_script_io::fault::ScriptFault;
+use scrib_script_reader::entry::Entry;
 use scrib_script_reader::item::Item;
 use std::alloc::{AllocError, Global};
+use std::io::Write;
 
 /// A monitor, and the numbers that stand for the names of its conversations.
 #[derive(Drop)]
@@ -28,7 +32,8 @@ impl NamedMonitor {
     ghost use Rattle.scrib_labels.specs.SessionNames.{is_session_name};
     ghost use Rattle.scrib_labelled.specs.ExchangeLines.{exchange_label, named_id};
     ghost use Rattle.scrib_labelled.specs.NamedLines.{IsNumbersOf, label_of, session_of};
-    ghost use Rattle.scrib_labelled.specs.Progress.{CarriesOut, after_change};
+    ghost use Rattle.scrib_labelled.specs.Behind.{CarriesOut};
+    ghost use Rattle.scrib_labelled.specs.Changes.{after_change};
     ghost use Rattle.scrib_labelled.specs.declared.labelled_monitor.Change.TheVariants as change;
 
     /// Returns a new monitor, without names.
@@ -43,11 +48,9 @@ impl NamedMonitor {
         }
     }
 
-    /// Carries the item of a line with this label out, and gathers its output.
-    ///
-    /// # Errors
-    /// `AllocError` where there is no memory for its text or its name. Nothing is gathered then.
-    pub(crate) fn carry_out(&mut self, item: Item, parts: LineParts<'_>) -> Result<(), AllocError>
+    // Carries the item of a line with this label out, and gathers its output. Where there is no memory for its text or
+    // its name, nothing is gathered.
+    fn carry_out(&mut self, item: Item, parts: LineParts<'_>) -> Result<(), AllocError>
         requires { IsNumbersOf self.old.names (session_of parts.session) }
         ensures ok { OnOk result (CarriesOut self.old self.new (label_of parts.entry) item) }
         ensures err { OnErr result
@@ -68,12 +71,9 @@ impl NamedMonitor {
         self.monitor.gather()
     }
 
-    /// Notes the event of a line, and gathers its replies.
-    ///
-    /// # Errors
-    /// `AllocError` where there is no memory for the text. Nothing is gathered then.
+    // Notes the event of a line, and gathers its replies. Where there is no memory for the text, nothing is gathered.
     #[inline(always)]
-    pub(crate) fn note(&mut self, line: ExchangeLine<'_>) -> Result<(), AllocError>
+    fn note_line(&mut self, line: ExchangeLine<'_>) -> Result<(), AllocError>
         requires tag { line.tag_text.now ≡ tag_text (bytes_of line.tag) }
         requires numbers { IsNumbersOf self.old.names (exchange_label line).session }
         ensures ok { OnOk result (CarriesOut self.old self.new (exchange_label line.entry)
@@ -129,4 +129,59 @@ impl NamedMonitor {
         }
         Ok(())
     }
+}
+
+impl EntryStage for NamedMonitor {
+    ghost use Rattle.scrib_labelled.specs.Behind.{BeginsOutput, RanEntries, gathered_by, less_begins, ran_begins};
+
+    ghost gathered = { gathered_by };
+
+    ghost names = { λ n. n.names };
+
+    ghost Took = { RanEntries };
+
+    ghost TookAll = { RanEntries };
+
+    ghost TookPart = { BeginsOutput };
+
+    #[inline(always)]
+    fn names(&self) -> &SessionNames {
+        &self.names
+    }
+
+    #[inline(always)]
+    fn take(&mut self, entry: Entry, parts: LineParts<'_>) -> Result<(), AllocError> {
+        match entry {
+            Entry::Skipped => Ok(()),
+            Entry::Item(item) => self.carry_out(item, parts),
+        }
+    }
+
+    #[inline(always)]
+    fn note(&mut self, line: ExchangeLine<'_>) -> Result<(), AllocError> {
+        self.note_line(line)
+    }
+
+    fn finish(&mut self) -> Result<(), AllocError> {
+        Ok(())
+    }
+
+    fn clear(&mut self) {
+        self.monitor.gathered.clear();
+    }
+
+    fn write_all<W: Write>(&mut self, writer: &mut W) -> Result<(), ScriptFault> {
+        self.monitor.gathered.write_all(writer)
+    }
+
+    #[inline(always)]
+    fn write_long<W: Write>(&mut self, writer: &mut W) -> Result<(), ScriptFault> {
+        self.monitor.gathered.write_long(writer)
+    }
+
+    ghost is_part = { ran_begins };
+
+    ghost all_is_part = { ran_begins };
+
+    ghost less_is_part = { less_begins };
 }

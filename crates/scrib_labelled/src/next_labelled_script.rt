@@ -10,7 +10,7 @@ ghost use Rattle.scrib_labelled.specs.LabelledQueries.{NextStepsOf, IsLabelledNe
 ghost use Rattle.scrib_labelled.specs.SilentRuns.{names_behind, state_behind};
 
 use crate::label_options::LabelOptions;
-use crate::labelled_run::LabelledRun;
+use crate::named_monitor::NamedMonitor;
 pub use crate::session_key::SessionKey;
 use crate::silent_run::{number_meant, run_silently};
 use scrib_cli::explanation::refusal;
@@ -66,22 +66,22 @@ fn steps_in<R: Read>(
         IsLabelledNext labels input key.entry r.0 r.1.items × IsWithinLimits of_scripts input)) }
     ensures fault { IfErr result (λ e. of_script e ≡ true) }
 {
-    let run = run_silently(alloc, labels, reader)?;
-    steps_behind(alloc, &run, key)
+    let monitor = run_silently(alloc, labels, reader)?;
+    steps_behind(alloc, &monitor, key)
 }
 
-// Returns whether the roles of the conversation that is meant behind the run are listed, and the text.
+// Returns whether the roles of the conversation that is meant behind the script are listed, and the text.
 fn steps_behind(
     alloc: Global,
-    run: &LabelledRun,
+    monitor: &NamedMonitor,
     key: SessionKey<'_>,
 ) -> Result<(bool, Vec<u8>), ScriptFault>
-    ensures steps { IfOk result (λ r. NextStepsOf (state_behind run.now).world
-        (number_meant (names_behind run.now) key.entry) r.0 r.1.items) }
+    ensures steps { IfOk result (λ r. NextStepsOf (state_behind monitor.now).world
+        (number_meant (names_behind monitor.now) key.entry) r.0 r.1.items) }
     ensures fault { IfErr result (λ e. e ≡ fault.OutOfMemory) }
 {
-    match number_meant(run, key) {
-        Some(id) => next_steps(alloc, &run.named.monitor.core.core, id),
+    match number_meant(monitor, key) {
+        Some(id) => next_steps(alloc, &monitor.monitor.core.core, id),
         None => Ok((false, refusal(alloc, b"NoConversation")?)),
     }
 }

@@ -5,10 +5,12 @@ ghost use Rattle.scrib_objects.specs.Objects.{shown};
 ghost use Rattle.scrib_labelled.specs.LabelledLines.{object_options};
 ghost use Rattle.scrib_labelled.specs.ObjectLines.{IsObjectRead};
 
+use crate::entry_stage::EntryStage;
 use crate::label_options::LabelOptions;
 use crate::labelled_line::Untagged;
 use crate::labelled_run::{LabelledRun, tag_of};
-use crate::line_reading::{LineParts, read_untagged};
+use crate::line_parts::LineParts;
+use crate::line_reading::read_untagged;
 use crate::object_exchange::object_exchange;
 use crate::put_text::PutText;
 use scrib_objects::object_line::{ObjectBody, ObjectLine};
@@ -21,31 +23,31 @@ use std::alloc::AllocError;
 /// The most bytes of a line that is an object.
 pub const MAX_OBJECT_BYTES: usize = 8_388_608;
 
-impl LabelledRun {
+impl<S: EntryStage> LabelledRun<S> {
     ghost use Rattle.std.specs.Prelude.{◌≡◌, true, OnOk, OnErr, None};
     ghost use Rattle.scrib_report.specs.PutBack.{bytes_of};
     ghost use Rattle.scrib_script_reader.specs.declared.line.Line.TheVariants as line;
-    ghost use Rattle.scrib_labelled.specs.Progress.{EndsMeaning, EndsPlainLine};
-    ghost use Rattle.scrib_labelled.specs.ObjectLines.{EndsObjectLine};
+    ghost use Rattle.scrib_labelled.specs.LineEnds.{EndsLine, FailsLine, of_cut, of_meaning, of_object};
 
     // Takes a line outside module texts, given without its end, as an object.
     #[inline(never)]
     pub(crate) fn end_object(&mut self, line: &[u8]) -> Result<(), AllocError>
         requires text { self.old.text ≡ None }
         requires objects { self.old.options.objects ≡ true }
-        ensures ok { OnOk result (EndsPlainLine self.old self.new line.now) }
-        ensures err { OnErr result
-            (self.new.named.monitor.gathered.bytes.items ≡ self.old.named.monitor.gathered.bytes.items) }
+        ensures ok { OnOk result (EndsLine S.Took S.gathered self.old self.new
+            (of_cut self.old.options line.now)) }
+        ensures err { OnErr result (FailsLine S.Took S.TookPart S.gathered self.old self.new
+            (of_cut self.old.options line.now)) }
     {
         // most objects of a long script
         if let Some(exchange) = object_exchange(
             &mut self.reader,
-            &self.named.names,
+            self.stage.names(),
             self.options,
             &mut self.object_text,
             line,
         ) {
-            return self.named.note(exchange);
+            return self.stage.note(exchange);
         }
         self.end_any_object(line)
     }
@@ -55,9 +57,10 @@ impl LabelledRun {
     pub(crate) fn end_any_object(&mut self, line: &[u8]) -> Result<(), AllocError>
         requires text { self.old.text ≡ None }
         requires objects { self.old.options.objects ≡ true }
-        ensures ok { OnOk result (EndsPlainLine self.old self.new line.now) }
-        ensures err { OnErr result
-            (self.new.named.monitor.gathered.bytes.items ≡ self.old.named.monitor.gathered.bytes.items) }
+        ensures ok { OnOk result (EndsLine S.Took S.gathered self.old self.new
+            (of_cut self.old.options line.now)) }
+        ensures err { OnErr result (FailsLine S.Took S.TookPart S.gathered self.old self.new
+            (of_cut self.old.options line.now)) }
     {
         let Some(object) = read_object(&mut self.objects, self.options, line)? else {
             return self.end_bad_object(None);
@@ -77,14 +80,15 @@ impl LabelledRun {
     // Takes the line that an object with this tag stands for.
     fn end_object_line(&mut self, tag: Option<&[u8]>, line: &[u8]) -> Result<(), AllocError>
         requires { self.old.text ≡ None }
-        ensures ok { OnOk result (EndsObjectLine self.old self.new (bytes_of tag.entry) line.now) }
-        ensures err { OnErr result
-            (self.new.named.monitor.gathered.bytes.items ≡ self.old.named.monitor.gathered.bytes.items) }
+        ensures ok { OnOk result (EndsLine S.Took S.gathered self.old self.new
+            (of_object self.old.options (bytes_of tag.entry) line.now)) }
+        ensures err { OnErr result (FailsLine S.Took S.TookPart S.gathered self.old self.new
+            (of_object self.old.options (bytes_of tag.entry) line.now)) }
     {
         let (parts, meaning) = read_untagged(
             &mut self.reader,
             &mut self.plain,
-            &self.named.names,
+            self.stage.names(),
             self.options.names,
             Untagged { tag, rest: line },
         )?;
@@ -94,10 +98,10 @@ impl LabelledRun {
     // Takes a bad object with this tag.
     fn end_bad_object(&mut self, tag: Option<&[u8]>) -> Result<(), AllocError>
         requires { self.old.text ≡ None }
-        ensures ok { OnOk result
-            (EndsMeaning self.old self.new (record { tag = bytes_of tag.entry; session = None }) line.Bad) }
-        ensures err { OnErr result
-            (self.new.named.monitor.gathered.bytes.items ≡ self.old.named.monitor.gathered.bytes.items) }
+        ensures ok { OnOk result (EndsLine S.Took S.gathered self.old self.new
+            (of_meaning self.old.options (record { tag = bytes_of tag.entry; session = None }) line.Bad)) }
+        ensures err { OnErr result (FailsLine S.Took S.TookPart S.gathered self.old self.new
+            (of_meaning self.old.options (record { tag = bytes_of tag.entry; session = None }) line.Bad)) }
     {
         self.end_meaning(LineParts { tag, session: None }, Line::Bad)
     }

@@ -1,15 +1,16 @@
 //! Runs a whole script with labels from a reader.
 
-ghost use Rattle.std.specs.Prelude.{◌≡◌, ◌<◌, ◌+◌, ◌^◌, ℕ, List, true, IfOk, IfErr, OnOk, OnErr, IfSome, length};
+ghost use Rattle.std.specs.Prelude.{◌≡◌, ◌<◌, ◌+◌, ◌^◌, [], ℕ, List, true, IfOk, IfErr, OnOk, OnErr, IfSome, length};
 ghost use Rattle.std.specs.Io.KnownBytes.{Appends};
 ghost use Rattle.scrib_script_io.specs.Faults.{of_script};
 ghost use Rattle.scrib_script_reader.specs.Limits.{IsWithinLimits};
-ghost use Rattle.scrib_labelled.specs.Behind.{behind};
 ghost use Rattle.scrib_labelled.specs.LabelledRuns.{IsLabelledOutput, IsLabelledPart};
-ghost use Rattle.scrib_labelled.specs.Progress.{IsNewLabelled, LabelledRunSucceeds, LabelledRunFails, style_of};
+ghost use Rattle.scrib_labelled.specs.Readings.{IsAt, ReadingFails, ReadingSucceeds, beginning};
 
+use crate::entry_stage::EntryStage;
 pub use crate::label_options::LabelledStyle;
 use crate::labelled_run::LabelledRun;
+use crate::named_monitor::NamedMonitor;
 pub use scrib_script_io::fault::ScriptFault;
 use scrib_script_io::reading::read_piece;
 use scrib_script_io::writing::flush_out;
@@ -19,7 +20,7 @@ use std::io::{Read, Write};
 use std::mem::forget;
 
 /// The number of bytes that one read asks for.
-pub(crate) const SCRIPT_PIECE_BYTES: usize = 65_536;
+pub const SCRIPT_PIECE_BYTES: usize = 65_536;
 
 /// Reads a script with labels, makes its steps over a new monitor, and writes each reply in the format of `style`.
 ///
@@ -56,29 +57,33 @@ pub fn run_labelled_script<R: Read, W: Write>(
     ensures within { OnOk result (IfSome (R.remaining reader.old) (λ input. IsWithinLimits limits input)) }
 {
     let mut piece = vec![in alloc; 0u8; SCRIPT_PIECE_BYTES]?;
-    let mut run = LabelledRun::new(alloc, style, limits);
+    let monitor = NamedMonitor::new(alloc, style);
+    let mut run = LabelledRun::new(alloc, style.labels, limits, monitor);
     run_by_pieces(&mut run, reader, writer, piece.as_mut_slice())?;
     // Freeing long logs takes up to a tenth of a run, and the process ends here.
     forget(run);
     flush_out(writer)
 }
 
-/// Reads a whole script into a run that has read nothing yet, with `piece` as the buffer of the reads. The replies of a
-/// piece are flushed before the next is read.
+/// Reads a whole script into a run that has read nothing yet, with `piece` as the buffer of the reads. What the stage
+/// gathers for a piece is written and flushed before the next is read.
 ///
 /// # Errors
-/// As those of [`run_labelled_script`].
-pub(crate) fn run_by_pieces<R: Read, W: Write>(
-    run: &mut LabelledRun,
+/// After an error, a part of the output is written.
+/// - `Read` where the reader fails, and in the line of the first byte past the script's limits.
+/// - `Write` where the writer fails.
+/// - `OutOfMemory` where there is no memory for a line, a name or a text, or the stage lacks memory.
+pub fn run_by_pieces<S: EntryStage, R: Read, W: Write>(
+    run: &mut LabelledRun<S>,
     reader: &mut R,
     writer: &mut W,
     piece: &mut [u8],
 ) -> Result<(), ScriptFault>
-    requires new { IsNewLabelled (style_of run.old) run.old.count.limits run.old }
+    requires new { IsAt S.Took (beginning run.old) run.old [] [] }
     requires some { 0 < length piece.old }
-    ensures ok { OnOk result (LabelledRunSucceeds (style_of run.old) run.old.count.limits
-        (R.remaining reader.old) (behind run.new.named) (W.contents writer.old) (W.contents writer.new)) }
-    ensures err { OnErr result (LabelledRunFails (style_of run.old)
+    ensures ok { OnOk result (ReadingSucceeds S.TookAll (beginning run.old) run.new.stage
+        (R.remaining reader.old) (W.contents writer.old) (W.contents writer.new)) }
+    ensures err { OnErr result (ReadingFails S.TookPart (beginning run.old)
         (R.remaining reader.old) (W.contents writer.old) (W.contents writer.new)) }
     ensures fault { IfErr result (λ e. of_script e ≡ true) }
 {

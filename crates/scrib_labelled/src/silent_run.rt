@@ -7,6 +7,7 @@ ghost use Rattle.scrib_labelled.specs.SilentRuns.{RanSilently, names_behind};
 
 use crate::label_options::{LabelOptions, LabelledStyle};
 use crate::labelled_run::LabelledRun;
+use crate::named_monitor::NamedMonitor;
 use crate::run_labelled_script::{SCRIPT_PIECE_BYTES, run_by_pieces};
 use crate::session_key::SessionKey;
 use scrib_core::format::Format;
@@ -15,8 +16,8 @@ use scrib_script_reader::limits::Limits;
 use std::alloc::Global;
 use std::io::{Read, sink};
 
-/// Reads a script with these labels and makes its steps over a new monitor. Its replies are dropped. Returns the run
-/// behind it.
+/// Reads a script with these labels and makes its steps over a new monitor. Its replies are dropped. Returns the
+/// monitor behind it.
 ///
 /// # Errors
 /// - `Read` where the reader fails, and in the line of the first byte past the limits of scripts.
@@ -25,8 +26,8 @@ pub(crate) fn run_silently<R: Read>(
     alloc: Global,
     labels: LabelOptions,
     reader: &mut R,
-) -> Result<LabelledRun, ScriptFault>
-    ensures ok { IfOk result (λ run. RanSilently labels (R.remaining reader.old) run) }
+) -> Result<NamedMonitor, ScriptFault>
+    ensures ok { IfOk result (λ monitor. RanSilently labels (R.remaining reader.old) monitor) }
     ensures fault { IfErr result (λ e. of_script e ≡ true) }
 {
     let mut piece = vec![in alloc; 0u8; SCRIPT_PIECE_BYTES]?;
@@ -35,21 +36,22 @@ pub(crate) fn run_silently<R: Read>(
         closes: false,
         format: Format::Line,
     };
-    let mut run = LabelledRun::new(alloc, style, Limits::of_scripts());
+    let monitor = NamedMonitor::new(alloc, style);
+    let mut run = LabelledRun::new(alloc, labels, Limits::of_scripts(), monitor);
     run_by_pieces(&mut run, reader, &mut sink(), piece.as_mut_slice())?;
     // No output has the refusal of such a step, and the state would be taken for that of the whole script.
-    if run.named.monitor.core.lacked {
+    if run.stage.monitor.core.lacked {
         return Err(ScriptFault::OutOfMemory);
     }
-    Ok(run)
+    Ok(run.stage)
 }
 
 /// Returns the number of the conversation that is meant behind the run, if there is one.
-pub(crate) fn number_meant(run: &LabelledRun, key: SessionKey<'_>) -> Option<u32>
-    ensures { result ≡ number_meant (names_behind run.now) key.entry }
+pub(crate) fn number_meant(monitor: &NamedMonitor, key: SessionKey<'_>) -> Option<u32>
+    ensures { result ≡ number_meant (names_behind monitor.now) key.entry }
 {
     match key {
         SessionKey::Number(id) => Some(id),
-        SessionKey::Name(name) => run.named.names.number_of(name),
+        SessionKey::Name(name) => monitor.names.number_of(name),
     }
 }

@@ -1,13 +1,14 @@
 use Rattle.std.proofs.Common.{◌∙◌, ap}
 use Rattle.std.proofs.lemmas.Result.{err_from_is_err_and}
-use Rattle.scrib_labelled.specs.Behind.{behind}
 use Rattle.scrib_script_io.specs.Faults.{of_script}
 use Rattle.scrib_cli.proofs.Results.{on_ok_any, on_err_any}
-use Rattle.scrib_labelled.proofs.InputLemmas.{new_itself, flushed, flush_failed, ran_within, never_started, same_success, same_failure, written_fault}
+use Rattle.scrib_labelled.specs.Behind.{style_of}
+use Rattle.scrib_labelled.specs.Readings.{beginning}
+use Rattle.scrib_labelled.proofs.OutputLemmas.{flushed, flush_failed, never_started, ran_nothing, ran_within, reading_failed, written_fault}
 use Rattle.scrib_labelled.proofs.run_labelled_script.run_labelled_script.Goals as goal
 
-pub run_by_pieces-requires-clause-new : goal.run_by_pieces-requires-clause-new
-run_by_pieces-requires-clause-new g c = new_itself c.args.style c.args.limits c.new-run.result c.new-run.ensures
+pub new-run-requires-clause-new : goal.new-run-requires-clause-new
+new-run-requires-clause-new g c = ran_nothing c.new-monitor.result c.new-monitor.ensures.names c.new-monitor.ensures.state
 
 pub returns-in_err-piece-clause-err : goal.returns-in_err-piece-clause-err
 returns-in_err-piece-clause-err g c =
@@ -17,7 +18,9 @@ returns-in_err-piece-clause-err g c =
 pub returns-in_err-run_by_pieces-clause-err : goal.returns-in_err-run_by_pieces-clause-err
 returns-in_err-run_by_pieces-clause-err g c =
     let p = err_from_is_err_and c.from_residual-in_err-run_by_pieces.result c.from_residual-in_err-run_by_pieces.ensures.1 in
-    rw p.1 (same_failure c.args.style c.args.limits c.new-run.result (g.R.Read.remaining c.args.reader.now) (g.W.Write.contents c.args.writer.now) (g.W.Write.contents c.run_by_pieces.new.writer) c.new-run.ensures c.in_err-run_by_pieces.ensures.err)
+    rw p.1
+    (reading_failed c.args.style c.args.limits (beginning c.new-run.result) (g.R.Read.remaining c.args.reader.now) (g.W.Write.contents c.args.writer.now) (g.W.Write.contents c.run_by_pieces.new.writer)
+    (record { style = ap style_of c.new-run.ensures.stage ∙ c.new-monitor.ensures.style; labels = c.new-run.ensures.labels; limits = c.new-run.ensures.limits }) c.in_err-run_by_pieces.ensures.err)
 
 pub returns-in_err-run_by_pieces-clause-fault : goal.returns-in_err-run_by_pieces-clause-fault
 returns-in_err-run_by_pieces-clause-fault g c =
@@ -26,20 +29,21 @@ returns-in_err-run_by_pieces-clause-fault g c =
 
 pub returns-clause-ok : goal.returns-clause-ok
 returns-clause-ok g c =
-    let ran = same_success c.args.style c.args.limits c.new-run.result (g.R.Read.remaining c.args.reader.now) (behind c.run_by_pieces.new.run.named) (g.W.Write.contents c.args.writer.now) (g.W.Write.contents c.run_by_pieces.new.writer) c.new-run.ensures c.in_ok-run_by_pieces.ensures.ok in
     on_ok_any c.flush_out.result
-    (flushed c.args.style c.args.limits (g.R.Read.remaining c.args.reader.now) (behind c.run_by_pieces.new.run.named) (g.W.Write.contents c.args.writer.now) (g.W.Write.contents c.run_by_pieces.new.writer) (g.W.Write.contents c.flush_out.new.writer) ran c.flush_out.ensures.kept)
+    (flushed c.args.style c.args.limits (beginning c.new-run.result) c.run_by_pieces.new.run.stage (g.R.Read.remaining c.args.reader.now) (g.W.Write.contents c.args.writer.now) (g.W.Write.contents c.run_by_pieces.new.writer) (g.W.Write.contents c.flush_out.new.writer)
+    (record { style = ap style_of c.new-run.ensures.stage ∙ c.new-monitor.ensures.style; labels = c.new-run.ensures.labels; limits = c.new-run.ensures.limits }) c.in_ok-run_by_pieces.ensures.ok c.flush_out.ensures.kept)
 
 pub returns-clause-err : goal.returns-clause-err
 returns-clause-err g c =
-    let ran = same_success c.args.style c.args.limits c.new-run.result (g.R.Read.remaining c.args.reader.now) (behind c.run_by_pieces.new.run.named) (g.W.Write.contents c.args.writer.now) (g.W.Write.contents c.run_by_pieces.new.writer) c.new-run.ensures c.in_ok-run_by_pieces.ensures.ok in
     on_err_any c.flush_out.result
-    (flush_failed c.args.style c.args.limits (g.R.Read.remaining c.args.reader.now) (behind c.run_by_pieces.new.run.named) (g.W.Write.contents c.args.writer.now) (g.W.Write.contents c.run_by_pieces.new.writer) (g.W.Write.contents c.flush_out.new.writer) ran c.flush_out.ensures.kept)
+    (flush_failed c.args.style c.args.limits (beginning c.new-run.result) c.run_by_pieces.new.run.stage (g.R.Read.remaining c.args.reader.now) (g.W.Write.contents c.args.writer.now) (g.W.Write.contents c.run_by_pieces.new.writer) (g.W.Write.contents c.flush_out.new.writer)
+    (record { style = ap style_of c.new-run.ensures.stage ∙ c.new-monitor.ensures.style; labels = c.new-run.ensures.labels; limits = c.new-run.ensures.limits }) c.in_ok-run_by_pieces.ensures.ok c.flush_out.ensures.kept)
 
 pub returns-clause-within : goal.returns-clause-within
 returns-clause-within g c =
-    let ran = same_success c.args.style c.args.limits c.new-run.result (g.R.Read.remaining c.args.reader.now) (behind c.run_by_pieces.new.run.named) (g.W.Write.contents c.args.writer.now) (g.W.Write.contents c.run_by_pieces.new.writer) c.new-run.ensures c.in_ok-run_by_pieces.ensures.ok in
-    on_ok_any c.flush_out.result (ran_within c.args.style c.args.limits (g.R.Read.remaining c.args.reader.now) (behind c.run_by_pieces.new.run.named) (g.W.Write.contents c.args.writer.now) (g.W.Write.contents c.run_by_pieces.new.writer) ran)
+    on_ok_any c.flush_out.result
+    (ran_within c.args.style c.args.limits (beginning c.new-run.result) c.run_by_pieces.new.run.stage (g.R.Read.remaining c.args.reader.now) (g.W.Write.contents c.args.writer.now) (g.W.Write.contents c.run_by_pieces.new.writer)
+    (record { style = ap style_of c.new-run.ensures.stage ∙ c.new-monitor.ensures.style; labels = c.new-run.ensures.labels; limits = c.new-run.ensures.limits }) c.in_ok-run_by_pieces.ensures.ok)
 
 pub returns-clause-fault : goal.returns-clause-fault
 returns-clause-fault g c = written_fault c.flush_out.result c.flush_out.ensures.fault

@@ -1,16 +1,14 @@
-use Rattle.std.proofs.Common.{◌∙◌, None, ap, subst}
+use Rattle.std.proofs.Common.{◌∙◌, None, ap}
 use Rattle.std.proofs.lemmas.Result.{err_from_is_err_and}
 use Rattle.scrib_script_io.specs.Faults.{of_script}
-use Rattle.scrib_script_reader.specs.declared.limits.Limits.{Limits}
-use Rattle.scrib_labelled.specs.Behind.{behind}
-use Rattle.scrib_labelled.specs.LabelledQueries.{silent_style}
-use Rattle.scrib_labelled.specs.Progress.{LabelledRunSucceeds}
-use Rattle.scrib_labelled.proofs.InputLemmas.{new_itself, same_success}
+use Rattle.scrib_labelled.specs.Behind.{style_of}
+use Rattle.scrib_labelled.specs.Readings.{beginning}
+use Rattle.scrib_labelled.proofs.OutputLemmas.{ran_nothing}
 use Rattle.scrib_labelled.proofs.QueryLemmas.{ran_silently}
 use Rattle.scrib_labelled.proofs.silent_run.run_silently.Goals as goal
 
-pub run_by_pieces-requires-clause-new : goal.run_by_pieces-requires-clause-new
-run_by_pieces-requires-clause-new g c = new_itself (silent_style c.args.labels) c.of_scripts.result c.new-run.result c.new-run.ensures
+pub new-run-requires-clause-new : goal.new-run-requires-clause-new
+new-run-requires-clause-new g c = ran_nothing c.new-monitor.result c.new-monitor.ensures.names c.new-monitor.ensures.state
 
 pub returns-in_err-run_by_pieces-clause-fault : goal.returns-in_err-run_by_pieces-clause-fault
 returns-in_err-run_by_pieces-clause-fault g c =
@@ -19,7 +17,6 @@ returns-in_err-run_by_pieces-clause-fault g c =
 
 pub returns-clause-ok : goal.returns-clause-ok
 returns-clause-ok g c =
-    let r = g.R.Read.remaining c.args.reader.now in
-    let ran = same_success (silent_style c.args.labels) c.of_scripts.result c.new-run.result r (behind c.run_by_pieces.new.run.named) None None c.new-run.ensures c.in_ok-run_by_pieces.ensures.ok in
-    ran_silently c.args.labels r c.run_by_pieces.new.run None None
-    (subst (λ (m : Limits). LabelledRunSucceeds (silent_style c.args.labels) m r (behind c.run_by_pieces.new.run.named) None None) c.of_scripts.ensures ran) c.if-run.false
+    ran_silently c.args.labels (beginning c.new-run.result) (g.R.Read.remaining c.args.reader.now) c.run_by_pieces.new.run.stage None None
+    (record { style = ap style_of c.new-run.ensures.stage ∙ c.new-monitor.ensures.style; labels = c.new-run.ensures.labels; limits = c.new-run.ensures.limits ∙ c.of_scripts.ensures })
+    c.in_ok-run_by_pieces.ensures.ok c.if-run.false

@@ -7,7 +7,7 @@ use Rattle.scrib_script_reader.specs.declared.item.Item.TheVariants as item
 use Rattle.scrib_report.specs.PutBack.{name_of, tag_of}
 use Rattle.scrib_labelled.specs.declared.labelled_monitor.LabelledMonitor.{LabelledMonitor}
 use Rattle.scrib_labelled.specs.CheckedCores.{state_of}
-use Rattle.scrib_labelled.specs.Progress.{IsChangeBy, TakesItem}
+use Rattle.scrib_labelled.specs.Changes.{IsChangeBy, TakesItem}
 use Rattle.scrib_labelled.proofs.ItemLemmas.{note_opens}
 use Rattle.scrib_labelled.proofs.labelled_monitor.LabelledMonitor.note_as_object.Goals as goal
 

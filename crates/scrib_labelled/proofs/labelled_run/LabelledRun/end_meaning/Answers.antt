@@ -1,58 +1,88 @@
-use Rattle.std.proofs.Common.{ℕ, ◌+◌, refl, subst}
-use Rattle.std.proofs.lemmas.Result.{on_ok_weaker}
+use Rattle.std.proofs.Common.{ℕ, ◌+◌, [], None, refl, sym, subst}
+use Rattle.std.proofs.lemmas.List.{append-nil}
+use Rattle.std.proofs.lemmas.Result.{err_from_is_err_and, on_err_weaker, on_ok_weaker}
+use Rattle.scrib_script_reader.specs.declared.entry.Entry.TheVariants as entry
 use Rattle.scrib_script_reader.specs.declared.item.Item.TheVariants as item
 use Rattle.scrib_script_reader.specs.declared.line.Line.{Line}
 use Rattle.scrib_script_reader.specs.Scripts.{bare}
 use Rattle.scrib_labelled.specs.LabelledScripts.{SaysAs}
-use Rattle.scrib_labelled.specs.Progress.{CarriesOut}
+use Rattle.scrib_labelled.specs.LineEnds.{of_meaning}
 use Rattle.scrib_labelled.specs.NamedLines.{label_of}
-use Rattle.scrib_labelled.proofs.LineEndLemmas.{gathers_nothing, gathers_output, line_bad, line_begins, line_makes, line_skipped}
+use Rattle.scrib_labelled.specs.Stages.{FailsEntry, TakesEntry}
+use Rattle.scrib_labelled.proofs.LineEndLemmas.{ends_one, fails_one, fails_unread, gives_bad, gives_skipped, gives_step, line_begins}
 use Rattle.scrib_labelled.proofs.labelled_run.LabelledRun.end_meaning.Goals as goal
 
 pub returns-in-Skipped-clause-ok : goal.returns-in-Skipped-clause-ok
-returns-in-Skipped-clause-ok c = record {
-  same = record { options = refl; style = refl; line = refl; count = refl };
-  wrote = gathers_nothing c.args.self.now _ refl;
-  ends = λ l is.
-      line_skipped c.args.self.now _ l (label_of c.args.parts) refl c.requires.text
-      (subst (λ (m : Line). SaysAs c.args.self.now.options (bare l) (label_of c.args.parts) m) c.in-Skipped.is is);
-}
+returns-in-Skipped-clause-ok g c =
+    let old = c.args.self.now in
+    let label = label_of c.args.parts in
+    on_ok_weaker c.take.result
+    (ends_one g.S.EntryStage.Took g.S.EntryStage.gathered old (record old { stage = c.take.new.self }) (of_meaning old.options label c.args.meaning) label (entry.Skipped) c.requires.text (refl, refl, refl)
+    (λ P made l is. made None l (gives_skipped old.options (old.count.lines + 1) l label (subst (λ (m : Line). SaysAs old.options (bare l) label m) c.in-Skipped.is is))))
+    c.take.ensures.ok
+
+pub returns-in-Skipped-clause-err : goal.returns-in-Skipped-clause-err
+returns-in-Skipped-clause-err g c =
+    let old = c.args.self.now in
+    let label = label_of c.args.parts in
+    on_err_weaker c.take.result
+    (fails_one g.S.EntryStage.Took g.S.EntryStage.TookPart g.S.EntryStage.gathered old (record old { stage = c.take.new.self }) (of_meaning old.options label c.args.meaning) label (entry.Skipped)
+    (λ P made l is. made None l (gives_skipped old.options (old.count.lines + 1) l label (subst (λ (m : Line). SaysAs old.options (bare l) label m) c.in-Skipped.is is))))
+    c.take.ensures.err
 
 pub returns-in_ok-new-in-Put-clause-ok : goal.returns-in_ok-new-in-Put-clause-ok
-returns-in_ok-new-in-Put-clause-ok c = record {
-  same = record { options = refl; style = refl; line = refl; count = refl };
-  wrote = gathers_nothing c.args.self.now _ refl;
-  ends = λ l is.
-      line_begins c.args.self.now _ l (label_of c.args.parts) c.in-Put.format c.in_ok-new-in-Put.field-0 refl refl
-      c.in_ok-new-in-Put.ensures.bytes c.in_ok-new-in-Put.ensures.format c.in_ok-new-in-Put.ensures.tag
-      (subst (λ (m : Line). SaysAs c.args.self.now.options (bare l) (label_of c.args.parts) m) c.in-Put.is is);
-}
+returns-in_ok-new-in-Put-clause-ok g c =
+    let old = c.args.self.now in
+    let label = label_of c.args.parts in (
+      [],
+      sym (append-nil (g.S.EntryStage.gathered old.stage)),
+      (refl, refl, refl),
+      λ l is.
+          line_begins g.S.EntryStage.Took old.options (old.count.lines + 1) old.stage l label c.in-Put.format c.in_ok-new-in-Put.field-0
+          c.in_ok-new-in-Put.ensures.bytes c.in_ok-new-in-Put.ensures.format c.in_ok-new-in-Put.ensures.tag
+          (subst (λ (m : Line). SaysAs old.options (bare l) label m) c.in-Put.is is),
+    )
+
+pub returns-in_err-new-in-Put-clause-err : goal.returns-in_err-new-in-Put-clause-err
+returns-in_err-new-in-Put-clause-err g c =
+    let p = err_from_is_err_and c.from_residual.result c.from_residual.ensures.1 in
+    rw p.1
+    (fails_unread g.S.EntryStage.Took g.S.EntryStage.TookPart g.S.EntryStage.gathered g.met.S.EntryStage.is_part c.args.self.now c.args.self.now (of_meaning c.args.self.now.options (label_of c.args.parts) c.args.meaning) refl (λ P all l is. all None l tt))
 
 pub returns-in-Step-clause-ok : goal.returns-in-Step-clause-ok
-returns-in-Step-clause-ok c =
-    on_ok_weaker c.carry_out.result
-    (λ h. record {
-      same = record { options = refl; style = h.style; line = refl; count = refl };
-      wrote = gathers_output c.args.self.now _ (label_of c.args.parts) (item.Step c.in-Step.format c.in-Step.step) h;
-      ends = λ l is.
-          line_makes c.args.self.now _ l (label_of c.args.parts) c.in-Step.format c.in-Step.step c.requires.text
-          (subst (λ (m : Line). SaysAs c.args.self.now.options (bare l) (label_of c.args.parts) m) c.in-Step.is is)
-          c.requires.numbers h;
-    })
-    c.carry_out.ensures.ok
+returns-in-Step-clause-ok g c =
+    let old = c.args.self.now in
+    let label = label_of c.args.parts in
+    on_ok_weaker c.take-in-Step.result
+    (ends_one g.S.EntryStage.Took g.S.EntryStage.gathered old (record old { stage = c.take-in-Step.new.self }) (of_meaning old.options label c.args.meaning) label (entry.Item (item.Step c.in-Step.format c.in-Step.step)) c.requires.text (refl, refl, refl)
+    (λ P made l is. made None l (gives_step old.options (old.count.lines + 1) l label c.in-Step.format c.in-Step.step (subst (λ (m : Line). SaysAs old.options (bare l) label m) c.in-Step.is is))))
+    c.take-in-Step.ensures.ok
+
+pub returns-in-Step-clause-err : goal.returns-in-Step-clause-err
+returns-in-Step-clause-err g c =
+    let old = c.args.self.now in
+    let label = label_of c.args.parts in
+    on_err_weaker c.take-in-Step.result
+    (fails_one g.S.EntryStage.Took g.S.EntryStage.TookPart g.S.EntryStage.gathered old (record old { stage = c.take-in-Step.new.self }) (of_meaning old.options label c.args.meaning) label (entry.Item (item.Step c.in-Step.format c.in-Step.step))
+    (λ P made l is. made None l (gives_step old.options (old.count.lines + 1) l label c.in-Step.format c.in-Step.step (subst (λ (m : Line). SaysAs old.options (bare l) label m) c.in-Step.is is))))
+    c.take-in-Step.ensures.err
 
 pub returns-in-Bad-clause-ok : goal.returns-in-Bad-clause-ok
-returns-in-Bad-clause-ok c =
-    on_ok_weaker c.carry_out-in-Bad.result
-    (λ h0.
-    let h : CarriesOut c.args.self.now.named c.carry_out-in-Bad.new.self (label_of c.args.parts) (item.BadLine (c.args.self.now.count.lines + 1)) =
-    subst (λ (n : ℕ). CarriesOut c.args.self.now.named c.carry_out-in-Bad.new.self (label_of c.args.parts) (item.BadLine n)) c.number.ensures h0 in
-    record {
-      same = record { options = refl; style = h.style; line = refl; count = refl };
-      wrote = record { more = h.more; grows = h.grows };
-      ends = λ l is.
-          line_bad c.args.self.now _ l (label_of c.args.parts) c.requires.text
-          (subst (λ (m : Line). SaysAs c.args.self.now.options (bare l) (label_of c.args.parts) m) c.in-Bad.is is)
-          c.requires.numbers h;
-    })
-    c.carry_out-in-Bad.ensures.ok
+returns-in-Bad-clause-ok g c =
+    let old = c.args.self.now in
+    let label = label_of c.args.parts in
+    on_ok_weaker c.take-in-Bad.result
+    (λ h. ends_one g.S.EntryStage.Took g.S.EntryStage.gathered old (record old { stage = c.take-in-Bad.new.self }) (of_meaning old.options label c.args.meaning) label (entry.Item (item.BadLine (old.count.lines + 1))) c.requires.text (refl, refl, refl)
+    (λ P made l is. made None l (gives_bad old.options (old.count.lines + 1) l label (subst (λ (m : Line). SaysAs old.options (bare l) label m) c.in-Bad.is is)))
+    (subst (λ (n : ℕ). TakesEntry g.S.EntryStage.Took g.S.EntryStage.gathered old.stage c.take-in-Bad.new.self label (entry.Item (item.BadLine n))) c.number.ensures h))
+    c.take-in-Bad.ensures.ok
+
+pub returns-in-Bad-clause-err : goal.returns-in-Bad-clause-err
+returns-in-Bad-clause-err g c =
+    let old = c.args.self.now in
+    let label = label_of c.args.parts in
+    on_err_weaker c.take-in-Bad.result
+    (λ h. fails_one g.S.EntryStage.Took g.S.EntryStage.TookPart g.S.EntryStage.gathered old (record old { stage = c.take-in-Bad.new.self }) (of_meaning old.options label c.args.meaning) label (entry.Item (item.BadLine (old.count.lines + 1)))
+    (λ P made l is. made None l (gives_bad old.options (old.count.lines + 1) l label (subst (λ (m : Line). SaysAs old.options (bare l) label m) c.in-Bad.is is)))
+    (subst (λ (n : ℕ). FailsEntry g.S.EntryStage.Took g.S.EntryStage.TookPart g.S.EntryStage.gathered old.stage c.take-in-Bad.new.self label (entry.Item (item.BadLine n))) c.number.ensures h))
+    c.take-in-Bad.ensures.err

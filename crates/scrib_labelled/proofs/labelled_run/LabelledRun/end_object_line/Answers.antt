@@ -1,13 +1,33 @@
-use Rattle.std.proofs.Common.{ap}
-use Rattle.std.proofs.lemmas.Result.{on_ok_weaker}
+use Rattle.std.proofs.Common.{None, ap, refl}
+use Rattle.std.proofs.lemmas.Result.{err_from_is_err_and, on_err_weaker, on_ok_weaker}
 use Rattle.scrib_report.specs.PutBack.{bytes_of}
+use Rattle.scrib_labelled.specs.LineEnds.{of_meaning, of_object}
 use Rattle.scrib_labelled.specs.NamedLines.{label_of}
-use Rattle.scrib_labelled.proofs.LineEndLemmas.{ends_object_meaning}
+use Rattle.scrib_labelled.proofs.LineEndLemmas.{ends_of, fails_of, fails_unread, object_means}
 use Rattle.scrib_labelled.proofs.labelled_run.LabelledRun.end_object_line.Goals as goal
 
+pub returns-in_err-parts-clause-err : goal.returns-in_err-parts-clause-err
+returns-in_err-parts-clause-err g c =
+    let p = err_from_is_err_and c.from_residual.result c.from_residual.ensures.1 in
+    rw p.1
+    (fails_unread g.S.EntryStage.Took g.S.EntryStage.TookPart g.S.EntryStage.gathered g.met.S.EntryStage.is_part c.args.self.now c.args.self.now (of_object c.args.self.now.options (bytes_of c.args.tag) c.args.line.now) refl (λ P all l is. all None l tt))
+
 pub returns-clause-ok : goal.returns-clause-ok
-returns-clause-ok c =
+returns-clause-ok g c =
+    let old = c.args.self.now in
+    let parts = c.in_ok-parts.parts in
+    let meaning = c.in_ok-parts.meaning in
     on_ok_weaker c.end_meaning.result
-    (λ h. ends_object_meaning c.args.self.now c.end_meaning.new.self c.read_untagged.new.reader c.read_untagged.new.plain (bytes_of c.args.tag) c.args.line.now (label_of c.in_ok-parts.parts) c.in_ok-parts.meaning
-    c.args.self.now.named.names (ap bytes_of c.in_ok-parts.ensures.0) c.in_ok-parts.ensures.1 h)
+    (ends_of g.S.EntryStage.Took g.S.EntryStage.gathered old c.end_meaning.new.self (of_meaning old.options (label_of parts) meaning) (of_object old.options (bytes_of c.args.tag) c.args.line.now)
+    (λ P. object_means old.options (bytes_of c.args.tag) c.args.line.now (label_of parts) meaning c.names.result.now P (ap bytes_of c.in_ok-parts.ensures.0) c.in_ok-parts.ensures.1))
     c.end_meaning.ensures.ok
+
+pub returns-clause-err : goal.returns-clause-err
+returns-clause-err g c =
+    let old = c.args.self.now in
+    let parts = c.in_ok-parts.parts in
+    let meaning = c.in_ok-parts.meaning in
+    on_err_weaker c.end_meaning.result
+    (fails_of g.S.EntryStage.Took g.S.EntryStage.TookPart g.S.EntryStage.gathered old c.end_meaning.new.self (of_meaning old.options (label_of parts) meaning) (of_object old.options (bytes_of c.args.tag) c.args.line.now)
+    (λ P. object_means old.options (bytes_of c.args.tag) c.args.line.now (label_of parts) meaning c.names.result.now P (ap bytes_of c.in_ok-parts.ensures.0) c.in_ok-parts.ensures.1))
+    c.end_meaning.ensures.err

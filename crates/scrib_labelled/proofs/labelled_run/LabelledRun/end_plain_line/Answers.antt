@@ -1,31 +1,35 @@
-use Rattle.std.proofs.Common.{refl}
-use Rattle.std.proofs.lemmas.Result.{on_ok_weaker}
+use Rattle.std.proofs.Common.{◌+◌, None, refl}
+use Rattle.std.proofs.lemmas.Result.{on_err_weaker, on_ok_weaker}
 use Rattle.scrib_core.specs.declared.format.Format.TheVariants as format
 use Rattle.scrib_core.specs.declared.step.Step.TheVariants.{Note}
+use Rattle.scrib_script_reader.specs.declared.entry.Entry.TheVariants as entry
 use Rattle.scrib_script_reader.specs.declared.item.Item.TheVariants as item
 use Rattle.scrib_script_reader.specs.declared.line.Line.TheVariants as line
 use Rattle.scrib_labelled.specs.ExchangeLines.{exchange_label}
-use Rattle.scrib_labelled.proofs.LineEndLemmas.{ends_plain_reader, gathers_output, line_makes, stands_cut}
+use Rattle.scrib_labelled.specs.LineEnds.{of_cut}
+use Rattle.scrib_labelled.proofs.LineEndLemmas.{ends_one, fails_one, gives_step, stands_cut}
 use Rattle.scrib_labelled.proofs.labelled_run.LabelledRun.end_plain_line.Goals as goal
 
 pub returns-in-Some-clause-ok : goal.returns-in-Some-clause-ok
-returns-in-Some-clause-ok c =
+returns-in-Some-clause-ok g c =
+    let old = c.args.self.now in
     let exchange = c.in-Some.exchange in
     let is = c.in-Some.ensures in
-    let label = exchange_label exchange in
     let step = Note exchange.id exchange.event in
     on_ok_weaker c.note.result
-    (λ h. record {
-      same = record { options = refl; style = h.style; line = refl; count = refl };
-      wrote = gathers_output c.args.self.now _ label (item.Step format.Line step) h;
-      ends = λ l cut.
-          line_makes c.args.self.now _ l label format.Line step c.requires
-          (stands_cut c.args.self.now.options l c.args.line.now label is.plain (line.Step format.Line step) cut is.stands is.says) is.numbers h;
-    })
+    (ends_one g.S.EntryStage.Took g.S.EntryStage.gathered old (record old { stage = c.note.new.self }) (of_cut old.options c.args.line.now) (exchange_label exchange) (entry.Item (item.Step format.Line step)) c.requires (refl, refl, refl)
+    (λ P made l cut. made None l (gives_step old.options (old.count.lines + 1) l (exchange_label exchange) format.Line step
+    (stands_cut old.options l c.args.line.now (exchange_label exchange) is.plain (line.Step format.Line step) cut is.stands is.says))))
     c.note.ensures.ok
 
-pub returns-clause-ok : goal.returns-clause-ok
-returns-clause-ok c =
-    on_ok_weaker c.end_other_line.result
-    (λ e. ends_plain_reader c.args.self.now c.end_other_line.new.self c.exchange_line.new.reader c.args.line.now e)
-    c.end_other_line.ensures.ok
+pub returns-in-Some-clause-err : goal.returns-in-Some-clause-err
+returns-in-Some-clause-err g c =
+    let old = c.args.self.now in
+    let exchange = c.in-Some.exchange in
+    let is = c.in-Some.ensures in
+    let step = Note exchange.id exchange.event in
+    on_err_weaker c.note.result
+    (fails_one g.S.EntryStage.Took g.S.EntryStage.TookPart g.S.EntryStage.gathered old (record old { stage = c.note.new.self }) (of_cut old.options c.args.line.now) (exchange_label exchange) (entry.Item (item.Step format.Line step))
+    (λ P made l cut. made None l (gives_step old.options (old.count.lines + 1) l (exchange_label exchange) format.Line step
+    (stands_cut old.options l c.args.line.now (exchange_label exchange) is.plain (line.Step format.Line step) cut is.stands is.says))))
+    c.note.ensures.err

@@ -3,11 +3,11 @@ use Rattle.std.proofs.lemmas.Result.{on_ok_weaker}
 use Rattle.scrib_labels.specs.Naming.{number_of}
 use Rattle.scrib_report.specs.PutBack.{bytes_of}
 use Rattle.scrib_labelled.specs.declared.labelled_monitor.LabelledMonitor.{LabelledMonitor}
-use Rattle.scrib_labelled.specs.declared.line_reading.Session.{Session}
+use Rattle.scrib_labelled.specs.declared.line_parts.Session.{Session}
 use Rattle.scrib_labelled.specs.declared.named_monitor.NamedMonitor.{NamedMonitor}
 use Rattle.scrib_labelled.specs.LabelledRuns.{session_name}
 use Rattle.scrib_labelled.specs.NamedLines.{label_of, session_of}
-use Rattle.scrib_labelled.specs.Progress.{TakesItem, after_change}
+use Rattle.scrib_labelled.specs.Changes.{TakesItem, after_change}
 use Rattle.scrib_labelled.proofs.ItemLemmas.{carries_item}
 use Rattle.scrib_labelled.proofs.named_monitor.NamedMonitor.carry_out.Goals.{in-Some, in-None, in-Some-session+in_ok-rename, in_default}
 use Rattle.scrib_labelled.proofs.named_monitor.NamedMonitor.carry_out.Goals as goal

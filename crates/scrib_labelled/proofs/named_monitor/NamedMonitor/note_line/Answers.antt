@@ -7,9 +7,9 @@ use Rattle.scrib_labelled.specs.declared.labelled_monitor.LabelledMonitor.{Label
 use Rattle.scrib_labelled.specs.declared.named_monitor.NamedMonitor.{NamedMonitor}
 use Rattle.scrib_labelled.specs.ExchangeLines.{exchange_label}
 use Rattle.scrib_labelled.specs.LabelledRuns.{session_name}
-use Rattle.scrib_labelled.specs.Progress.{NotesEvent, after_change}
+use Rattle.scrib_labelled.specs.Changes.{NotesEvent, after_change}
 use Rattle.scrib_labelled.proofs.ItemLemmas.{carries_note, name_back, unchanged}
-use Rattle.scrib_labelled.proofs.named_monitor.NamedMonitor.note.Goals as goal
+use Rattle.scrib_labelled.proofs.named_monitor.NamedMonitor.note_line.Goals as goal
 
 pub returns-in-Closed-clause-ok : goal.returns-in-Closed-clause-ok
 returns-in-Closed-clause-ok c =
