@@ -233,6 +233,18 @@ fn next_command<'a>(alloc: Global) -> Result<Command<'a>, AllocError> {
     conversation_command(alloc, "next", about, help::NEXT)
 }
 
+fn show_command<'a>(alloc: Global) -> Result<Command<'a>, AllocError> {
+    let chart = "Print the conversation as a sequence diagram, for Mermaid";
+    Command::new(alloc, "show")
+        .about(
+            "Runs a script in silence, and shows a conversation: its verdict, its last events with their lines, what is in flight, what each role may do",
+        )
+        .after_help(help::SHOW)
+        .arg(flag_arg(alloc, "chart", chart))?
+        .arg(value_arg(alloc, "ID", "The conversation's number in the script"))?
+        .arg(file_arg(alloc))
+}
+
 // Each argument is made where it is used: the time of a proof grows with the values that are alive at each `?`.
 fn run_command<'a>(alloc: Global) -> Result<Command<'a>, AllocError> {
     Command::new(alloc, "run")
@@ -269,6 +281,7 @@ fn with_script_commands<'a>(alloc: Global, line: Command<'a>) -> Result<Command<
     let line = with_command(line, hold_command(alloc))?;
     let line = with_command(line, explain_command(alloc))?;
     let line = with_command(line, next_command(alloc))?;
+    let line = with_command(line, show_command(alloc))?;
     with_command(line, run_command(alloc))
 }
 

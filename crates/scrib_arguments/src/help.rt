@@ -8,8 +8,8 @@ A FILE may be - for standard input.
 Exit status:
   0  the command did what it was to do; replies of watch and run that are
      refusals or offences count as done
-  1  check, project, machine, explain or next printed a refusal; a read or
-     write failed; memory ran out (a line on standard error names the cause)
+  1  check, project, machine, explain, next or show printed a refusal; a read
+     or write failed; memory ran out (a line on standard error names the cause)
   2  the command line was refused
   141  the reader of the output has gone\n";
 
@@ -158,6 +158,37 @@ Example:
 
 Exit status:
   0  the roles were printed
+  1  a refusal was printed; a read or write failed; memory ran out
+  2  the command line was refused\n";
+
+// After the options of `show`.
+pub(crate) const SHOW: &str = "\
+Prints how the log is judged, the last ten events with their lines, the messages
+in flight, and a line for each role as `scribmon next` prints it:
+  demo.Hello, 4 events: offence at event 3 by B: NotSent
+  events 1 to 3:
+    line 5  join A
+    line 6  join B
+    line 7  recv A B hello()    <- offence
+  A: may B!hello()
+  B: waits for A?hello()
+After an offence the last ten events end with it, and flights and roles are
+those before it. The reason of an offence is one of these:
+  NotDeclared  the protocol has no such role
+  JoinedTwice  the role joined before
+  NotJoined    the role has not joined
+  Done         the role is at its end
+  NotAllowed   the role may act, but not like this
+  NotSent      the message was not sent
+  OtherFirst   another message from the same role comes first
+With --chart it prints a sequence diagram, as Mermaid draws it.
+The lines of a script are those of `scribmon watch --help`.
+
+Example:
+  scribmon show 1 examples/01_hello/receive_before_send.script
+
+Exit status:
+  0  the conversation was shown
   1  a refusal was printed; a read or write failed; memory ran out
   2  the command line was refused\n";
 

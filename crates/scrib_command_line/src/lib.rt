@@ -9,4 +9,5 @@ pub mod pipe_output;
 mod request;
 pub mod run_command_line;
 mod run_files;
+mod show;
 mod subcommands;

@@ -5,6 +5,7 @@ use crate::outcomes::{
     REFUSED_STATUS, flush_and_print_fault, print_fault, print_terminal_hint, print_usage,
 };
 pub use crate::pipe_output::PipeOutput;
+use crate::show::show;
 use crate::subcommands::{Report, report_by_id, run_over_service, run_simple_command, run_watch};
 use clap::ArgMatches;
 use scrib_arguments::arguments::command;
@@ -85,6 +86,7 @@ fn read_script<R: Files + AllocGlobal, I: Input, W: Write, E: Print + Eprint>(
         "explain" => report_by_id(system, streams, Report::Flights, matches),
         "hold" => hold(system, streams, matches),
         "next" => report_by_id(system, streams, Report::Next, matches),
+        "show" => show(system, streams, matches),
         _ => run_watch(system, streams, matches),
     }
 }
