@@ -18,15 +18,15 @@ LOST_STATUS = 141
 
 
 def is_hinted(program, words, is_wanted):
-    """Whether the hint is printed, and alone, exactly where it is wanted: standard input is a terminal that ends."""
+    """Whether the hint is printed once, and first, exactly where it is wanted: standard input is a terminal that ends."""
     main, terminal = pty.openpty()
     run = subprocess.Popen([program, *words], stdin=terminal, stdout=subprocess.PIPE, stderr=subprocess.PIPE)
     os.close(terminal)
     os.write(main, b"\x04")
-    printed, messages = run.communicate(timeout=20)
+    _, messages = run.communicate(timeout=20)
     os.close(main)
     wanted = 1 if is_wanted else 0
-    return printed == b"" and messages.count(b"\n") == wanted and messages.startswith(HINT) == is_wanted
+    return messages.count(HINT) == wanted and messages.startswith(HINT) == is_wanted
 
 
 def is_silent(program, words, script):
