@@ -7,7 +7,7 @@ use scrib_command_line::run_command_line::{PipeOutput, Streams, run_command_line
 use std::alloc::{Allocator, Global};
 use std::fmt::Display;
 use std::io;
-use std::io::{BufRead, ErrorKind, Input, Lines, Write};
+use std::io::{BufRead, ErrorKind, Input, IsTerminal, Lines, Write};
 use std::marker::Send;
 use std::rt::Files;
 use std::sync::Wait;
@@ -34,6 +34,12 @@ impl<'a> Input for ExampleInput<'a> {
 
     fn reader(&self) -> &'a [u8] {
         self.text
+    }
+}
+
+impl IsTerminal for ExampleInput<'_> {
+    fn is_terminal(&self) -> bool {
+        self.is_terminal
     }
 }
 
@@ -82,19 +88,21 @@ impl<R: Print> Eprint for OneStream<'_, R> {
 }
 
 // Runs the program's command line of these words over these streams, and returns the status that it ends with.
-fn run_words<R, W>(rt: &R, input: &ExampleInput<'_>, writer: W, words: &[String]) -> u8
+fn run_words<R, I, E, W>(rt: &R, input: &I, messages: &E, writer: W, words: &[String]) -> u8
 where
-    R: Print + Files + Threads + Wait + AllocGlobal + Sync,
+    R: Files + Threads + Wait + AllocGlobal + Sync,
+    I: Input + IsTerminal + Sync,
+    E: Print + Eprint + Sync,
     W: Write + Drop,
     R::File: Send,
+    I::Reader: Send,
 {
-    let messages = OneStream(rt);
     let mut output = PipeOutput::new(writer);
     let mut streams = Streams {
         input,
-        input_is_terminal: input.is_terminal,
+        input_is_terminal: input.is_terminal(),
         output: &mut output,
-        messages: &messages,
+        messages,
     };
     run_command_line(rt, &mut streams, words)
 }
@@ -136,11 +144,12 @@ where
         text: input.as_bytes(),
         is_terminal: ends == Ends::Terminal,
     };
+    let messages = OneStream(rt);
     writer.flush()?;
     let status = if ends == Ends::Unread {
-        run_words(rt, &input, UnreadOutput, words.as_slice())
+        run_words(rt, &input, &messages, UnreadOutput, words.as_slice())
     } else {
-        run_words(rt, &input, &mut *writer, words.as_slice())
+        run_words(rt, &input, &messages, &mut *writer, words.as_slice())
     };
     writeln!(writer, "status {status}")?;
     Ok(())
