@@ -7,13 +7,12 @@ Prints how many replies came. Status: 0 fine, 1 a reply is wrong or did not come
 line.
 """
 
-import argparse
-import os
 import select
 import subprocess
 import sys
 
-PROGRAM = os.path.join(os.path.dirname(os.path.abspath(__file__)), "..", "crates", "scribmon", "out", "scribmon")
+from built_program import built_program
+
 TEXT = b"""put
 module demo; global protocol Hello(role A, role B) { hello() from A to B; bye() from B to A; }
 %%
@@ -82,12 +81,8 @@ def replies_in_turn(path, words, exchanges):
 
 
 def main():
-    parser = argparse.ArgumentParser(description=__doc__, formatter_class=argparse.RawDescriptionHelpFormatter)
-    parser.add_argument("--program", metavar="FILE", default=PROGRAM, help="the built scribmon")
-    options = parser.parse_args()
-    if not os.path.exists(options.program):
-        parser.error("%s is not built: make build" % options.program)
-    if not all(replies_in_turn(options.program, words, exchanges) for words, exchanges in RUNS):
+    program = built_program(__doc__)
+    if not all(replies_in_turn(program, words, exchanges) for words, exchanges in RUNS):
         return 1
     print("%d replies, each before the next line was sent" % sum(len(exchanges) for _, exchanges in RUNS))
     return 0

@@ -10,15 +10,13 @@ and status 1, behind some of these replies. Prints for each size how many runs g
 refused and how many runs ended early. Status: 0 fine, 1 a run did anything else, 2 a bad command line.
 """
 
-import argparse
-import os
 import resource
 import subprocess
 import sys
 
+from built_program import built_program
 from examples import read_numbered
 
-PROGRAM = os.path.join(os.path.dirname(os.path.abspath(__file__)), "..", "crates", "scribmon", "out", "scribmon")
 REFUSED = b"refused OutOfMemory"
 SIZES = [4, 8, 16, 32, 64, 128, 256, 512]
 EXCHANGES = [b"send 1 A B a()", b"recv 1 A B a()"]
@@ -89,11 +87,7 @@ def fault_of(program, script, megabytes, counts):
 
 
 def main():
-    parser = argparse.ArgumentParser(description=__doc__, formatter_class=argparse.RawDescriptionHelpFormatter)
-    parser.add_argument("--program", metavar="FILE", default=PROGRAM, help="the built scribmon")
-    options = parser.parse_args()
-    if not os.path.exists(options.program):
-        parser.error("%s is not built: make build" % options.program)
+    program = built_program(__doc__)
     scripts = {example.path: example.input for example in read_numbered()}
     scripts["a long log"] = long_log()
     scripts["a large module"] = large_module()
@@ -101,7 +95,7 @@ def main():
     for megabytes in SIZES:
         counts = {"whole": 0, "refused": 0, "early": 0}
         for name, script in sorted(scripts.items()):
-            fault = fault_of(options.program, script, megabytes, counts)
+            fault = fault_of(program, script, megabytes, counts)
             if fault:
                 print("%d MB, %s: %s" % (megabytes, name, fault))
                 failed = True

@@ -6,13 +6,13 @@
 Prints how many runs were right. Status: 0 fine, 1 a run printed or returned something else, 2 a bad command line.
 """
 
-import argparse
 import os
 import pty
 import subprocess
 import sys
 
-PROGRAM = os.path.join(os.path.dirname(os.path.abspath(__file__)), "..", "crates", "scribmon", "out", "scribmon")
+from built_program import built_program
+
 HINT = b"scribmon: reading a script from the terminal;"
 LOST_STATUS = 141
 
@@ -40,17 +40,13 @@ def is_silent(program, words, script):
 
 
 def main():
-    parser = argparse.ArgumentParser(description=__doc__, formatter_class=argparse.RawDescriptionHelpFormatter)
-    parser.add_argument("--program", metavar="FILE", default=PROGRAM, help="the built scribmon")
-    options = parser.parse_args()
-    if not os.path.exists(options.program):
-        parser.error("%s is not built: make build" % options.program)
+    program = built_program(__doc__)
     asked = b"ask 1\n"
     runs = [(["watch"], True), (["watch", "-"], True), (["hold"], True), (["watch", os.devnull], False)]
-    found = [words for words, wanted in runs if not is_hinted(options.program, words, wanted)]
+    found = [words for words, wanted in runs if not is_hinted(program, words, wanted)]
     lost = [["watch"], ["watch", "--json"], ["watch", "--tags"], ["watch", "--hold", "9"], ["watch", "--close-complete"],
             ["hold"], ["next", "1"], ["explain", "1"], ["check", "-"]]
-    found += [words for words in lost if not is_silent(options.program, words, asked)]
+    found += [words for words in lost if not is_silent(program, words, asked)]
     for words in found:
         print("wrong: scribmon %s" % " ".join(words))
     print("%d runs, %d wrong" % (len(runs) + len(lost), len(found)))
