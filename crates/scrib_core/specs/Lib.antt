@@ -6,4 +6,5 @@ pub mod ConversationSteps
 pub mod ReplyValues
 pub mod Runs
 pub mod Permitted
+pub mod FreshRecords
 pub mod Turns

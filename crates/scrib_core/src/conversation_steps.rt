@@ -3,6 +3,7 @@
 ghost use Rattle.std.specs.Prelude.{◌≡◌, ◌≢◌, ◌⊎◌, true, false, IfOk, IfErr, OnOk, OnErr};
 ghost use Rattle.std.specs.Option.{option_copied};
 ghost use Rattle.scrib_core.specs.ConversationSteps.{IsOpened, OpenFails, IsNotedAt, NoteFails, IsTurnedAt, IsAskedAt, VerdictFails, IsClosedAt, CloseFails, IsCompleteTest, IsBegun, IsPresent, IsSoundComparison, IsSoundForRecord};
+ghost use Rattle.scrib_core.specs.FreshRecords.{FindsUnstale};
 ghost use Rattle.scrib_core.specs.Permitted.{IsOutcomeTest};
 ghost use Rattle.scrib_record.specs.CompleteRecords.{IsCompleteRecord};
 ghost use Rattle.scrib_types.specs.declared.event.Told.TheVariants.{Stale};
@@ -299,6 +300,26 @@ pub fn is_permitted(
     let _log = record.log();
     let (_, present) = present_of(library, record, comparison);
     is_permitted_answer(record.ask(present, comparison))
+}
+
+/// Returns the record of a conversation, if it is open and its verdict is not stale. It allocates nothing.
+pub fn fresh_record<'a>(
+    library: &Library,
+    records: &'a IndexMap<u32, Record>,
+    comparison: Comparison,
+    key: RecordKey,
+) -> Option<&'a Record>
+    requires { IsSoundComparison comparison library.now records.now.entries }
+    ensures { FindsUnstale library.now records.now.entries key.id result }
+{
+    let record = record_of(records, key)?;
+    // Its clause says that the record is lawful.
+    let _log = record.log();
+    let (_, present) = present_of(library, record, comparison);
+    match record.ask(present, comparison) {
+        Answer::Stale => None,
+        Answer::Permitted | Answer::Offence { .. } | Answer::Withdrawn => Some(record),
+    }
 }
 
 /// Returns whether the conversation is open, its verdict is not stale, and its log is complete: permitted, no role has a

@@ -8,13 +8,14 @@ ghost use Rattle.scrib_core.specs.declared.step.Step.TheVariants.{Put, Withdraw,
 ghost use Rattle.scrib_core.specs.declared.step.Step.TheVariants as steps;
 ghost use Rattle.scrib_core.specs.Answers.{initial, initial_under, IsCompleteIn, IsAnswered, IsDue, AnswersAsDue};
 ghost use Rattle.scrib_core.specs.Held.{state_of, LeavesRefused, AnswersHeld, IsViewed};
+ghost use Rattle.scrib_core.specs.FreshRecords.{FindsFreshRecord};
 ghost use Rattle.scrib_core.specs.Permitted.{IsReplyTest};
 ghost use Rattle.scrib_core.specs.ReplyValues.{close_reply_of, note_reply_of, open_reply_of, tested_reply_of, verdict_reply_of};
 ghost use Rattle.scrib_core.specs.Runs.{PermitsRuns};
 
 use crate::conversation_steps::{
-    Closed, Judged, Noted, Opening, Tested, ask, close, is_complete, is_permitted, note,
-    note_and_test, open, turn,
+    Closed, Judged, Noted, Opening, Tested, ask, close, fresh_record, is_complete, is_permitted,
+    note, note_and_test, open, turn,
 };
 use crate::places::{PlaceHints, RecordKey};
 use crate::reply::{
@@ -221,6 +222,16 @@ impl Core {
         let hint = self.places.hint(&self.records, id);
         let key = RecordKey { id, hint };
         is_complete(&self.library, &self.records, Comparison::Numbers, key)
+    }
+
+    /// Returns the record of the conversation, if it is open and its verdict is not stale. It allocates nothing.
+    pub fn fresh_record(&self, id: u32) -> Option<&Record>
+        ensures { FindsFreshRecord self.now id result }
+    {
+        self.library.are_numbered();
+        let hint = self.places.hint(&self.records, id);
+        let key = RecordKey { id, hint };
+        fresh_record(&self.library, &self.records, Comparison::Numbers, key)
     }
 
     /// Makes the step `Open` with this id and name. Returns the protocol's name. What `apply` ensures of a reply holds

@@ -162,7 +162,7 @@ further_refused log events old new v end n e answer p most k held free runs at r
     let never = subst (λ (x : List Event). MayFollow (meaning_of v) x e → ⊥) there (runs.halts.1 (take old.reached log) before.0 e (slice_get-get_or events n e runs.halts.0 ∙ ap Some (in_events ∙ sym at))) in
     let more : take m log ++ e ∷ [] ≡ take new.reached log = ap (λ x. take m log ++ x ∷ []) at ∙ sym (take_more log m e in_log) ∙ ap (λ i. take i log) (sym r) in
     let verdict = refusal (take m log) now.0 now.1 (ap (λ i. i + 1) (sym (length-take-le m log (omega (arith, in_log))))) never in
-    let final = refusal_final v (take m log) e new.verdict new.configuration new.judged (length log) (verdict new.configuration) never in
+    let final = refusal_final v (take m log) e new.verdict new.configuration new.judged (length log) verdict never in
     record {
       kept = record {
         within = omega (arith, r, in_log);
@@ -171,7 +171,7 @@ further_refused log events old new v end n e answer p most k held free runs at r
         together = inr (j ∙ sym r);
         keeps =
             subst (λ (x : Option Version). Keeps x (take new.reached log) new.verdict new.configuration) (sym (h ∙ held))
-            (subst (λ (x : List Event). Keeps (Some v) x new.verdict new.configuration) more (verdict new.configuration));
+            (subst (λ (x : List Event). Keeps (Some v) x new.verdict new.configuration) more verdict);
       };
       held = h;
       further = inl final;

@@ -15,6 +15,7 @@ pub mod VerdictLemmas
 pub mod JudgingLemmas
 pub mod WholeVerdictLemmas
 pub mod ResultLemmas
+pub mod RefusedLemmas
 pub mod FlatFormLemmas
 pub mod ByteLemmas
 pub mod NumberingLemmas

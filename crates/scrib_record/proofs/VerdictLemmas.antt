@@ -1,5 +1,5 @@
 -- What a record keeps: the verdict on the judged events, and when that is the verdict on the whole log.
-use Rattle.std.proofs.Common.{◌≡◌, true, ℕ, suc, ◌+◌, ◌<◌, ◌≤◌, nat_le, List, [], ◌∷◌, ◌++◌, Option, Some, None, length, take, drop, get_or, slice_get, refl, sym, ap, subst, ◌∙◌, append_assoc, length-append, inl, inr, arith}
+use Rattle.std.proofs.Common.{◌≡◌, true, ℕ, suc, ◌+◌, ◌-◌, ◌<◌, ◌≤◌, nat_le, List, [], ◌∷◌, ◌++◌, Option, Some, None, length, take, drop, get_or, slice_get, refl, sym, ap, subst, ◌∙◌, append_assoc, length-append, inl, inr, arith}
 use Rattle.std.specs.Option.{option_map}
 use Rattle.std.proofs.lemmas.Bool.{cases_lt}
 use Rattle.std.proofs.lemmas.Bool.Decides.{nat_tests}
@@ -44,11 +44,11 @@ keeps_judges None log Permitted c k = absurd k
 keeps_judges None log (Offence place role allowed) c k = absurd k
 keeps_judges None log Withdrawn c k = tt
 keeps_judges (Some v) log Permitted c k = throughout_all (meaning_of v) log k.1
-keeps_judges (Some v) log (Offence place role allowed) c k = k
+keeps_judges (Some v) log (Offence place role allowed) c k = k.0
 keeps_judges (Some v) log Withdrawn c k = absurd k
 
 -- an offence is that of each longer log
-offence_longer : (a : Agreement) (xs ys : List Event) (place : ℕ) (role : List ℕ) (allowed : List Action) → IsOffence a xs place role allowed → IsOffence a (xs ++ ys) place role allowed
+pub offence_longer : (a : Agreement) (xs ys : List Event) (place : ℕ) (role : List ℕ) (allowed : List Action) → IsOffence a xs place role allowed → IsOffence a (xs ++ ys) place role allowed
 offence_longer a xs ys place role allowed o =
     let long : length xs ≡ length o.before + suc (length o.after) = ap length o.here ∙ length-append o.before (o.event ∷ o.after) in
     record {
@@ -189,3 +189,8 @@ offends_there a log e place role allowed p at never by allows = record {
   by = by;
   allows = allows;
 }
+
+-- the events before the place lead to the configuration
+pub led_before : (v : Version) (log : List Event) (e : Event) (place : ℕ) (c : Configuration) → place ≡ length log + 1 → LeadsTo (meaning_of v) v.machines log c → LeadsTo (meaning_of v) v.machines (take (place - 1) (log ++ e ∷ [])) c
+led_before v log e place c at st =
+    subst (λ (x : List Event). LeadsTo (meaning_of v) v.machines x c) (sym (take-append-le (place - 1) log (e ∷ []) (omega (arith, at)) ∙ take_all (place - 1) log (omega (arith, at)))) st

@@ -1,5 +1,5 @@
 -- What a record keeps of the judged events. Only contracts of private functions cite this file.
-use Rattle.std.specs.Prelude.{◌≡◌, ◌⊎◌, ℕ, true, ◌+◌, ◌<◌, ◌≤◌, List, [], ◌∷◌, ◌++◌, length, take, slice_get, Option, Some, None, IsSome, if◌then◌else◌}
+use Rattle.std.specs.Prelude.{◌≡◌, ◌⊎◌, ℕ, true, ◌+◌, ◌-◌, ◌<◌, ◌≤◌, List, [], ◌∷◌, ◌++◌, length, take, slice_get, Option, Some, None, IsSome, if◌then◌else◌}
 use Rattle.scrib_types.specs.declared.event.Event.{Event}
 use Rattle.scrib_types.specs.declared.event.Told.{Told}
 use Rattle.scrib_types.specs.declared.event.Told.TheVariants.{Judged, Stale}
@@ -22,11 +22,13 @@ use Rattle.scrib_record.specs.Versions.{meaning_of}
 abbrev pub IsPermittedThroughout : Agreement → List Event → Type 0
 IsPermittedThroughout a log = (n : ℕ) → n ≤ length log → IsPermitted a (take n log)
 
--- the log leads to the configuration while it is permitted, and otherwise the verdict is its first offence
+-- The log leads to the configuration while it is permitted. Otherwise the verdict is its first offence, and the events
+-- before that lead to the configuration.
 abbrev pub Keeps : Option Version → List Event → Verdict → Configuration → Type 0
 Keeps None log Withdrawn c = Unit {0}
 Keeps (Some v) log Permitted c = LeadsTo (meaning_of v) v.machines log c × IsPermittedThroughout (meaning_of v) log
-Keeps (Some v) log (Offence place role allowed) c = IsOffence (meaning_of v) log place role allowed
+Keeps (Some v) log (Offence place role allowed) c =
+    IsOffence (meaning_of v) log place role allowed × LeadsTo (meaning_of v) v.machines (take (place - 1) log) c
 Keeps _ log _ c = ⊥
 
 -- What is kept of the log: the verdict on the judged events, and the configuration that `reached` events lead to. These
@@ -102,5 +104,4 @@ pub record RunsFrom (v : Version) (events : List Event) (old new : Configuration
 abbrev pub IsRefusal : Version → Configuration → ℕ → Event → Verdict → Type 0
 IsRefusal v c place e verdict =
     (log : List Event) → LeadsTo (meaning_of v) v.machines log c → IsPermittedThroughout (meaning_of v) log
-    → place ≡ length log + 1 → (MayFollow (meaning_of v) log e → ⊥) → (d : Configuration)
-    → Keeps (Some v) (log ++ e ∷ []) verdict d
+    → place ≡ length log + 1 → (MayFollow (meaning_of v) log e → ⊥) → Keeps (Some v) (log ++ e ∷ []) verdict c

@@ -8,6 +8,7 @@ pub mod Judgings
 pub mod Places
 pub mod RoleMachines
 pub mod Stale
+pub mod RefusedEvents
 pub mod Told
 pub mod Turns
 pub mod Versions

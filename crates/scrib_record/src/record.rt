@@ -4,6 +4,7 @@ ghost use Rattle.std.specs.Prelude.{◌≡◌, ◌↔◌, ◌<◌, IfOk, IfErr, 
 ghost use Rattle.std.specs.Option.{option_copied, option_map};
 ghost use Rattle.scrib_record.specs.Comparisons.{ServesFor};
 ghost use Rattle.scrib_record.specs.CompleteRecords.{IsCompleteRecord, IsWholeVerdict};
+ghost use Rattle.scrib_record.specs.RefusedEvents.{FindsRefused};
 ghost use Rattle.scrib_record.specs.Stale.{Recorded, IsLawful};
 ghost use Rattle.scrib_record.specs.Turns.{new_record};
 ghost use Rattle.scrib_record.specs.Versions.{number_of};
@@ -16,6 +17,7 @@ use crate::fault::NoteFault;
 use crate::judge_whole::judge_whole;
 use crate::judging::Judging;
 use crate::numbering::Numbering;
+use crate::refused_event::RefusedEvent;
 use crate::version::Version;
 use crate::whole_verdict::WholeVerdict;
 use scrib_types::event::{Told, Verdict};
@@ -215,6 +217,25 @@ impl Record {
             },
             Verdict::Withdrawn => Answer::Withdrawn,
         }
+    }
+
+    /// Returns the event of the offence, where the verdict on the judged events is one. It allocates nothing.
+    pub fn refused_event(&self) -> Option<RefusedEvent<'_>>
+        ensures { FindsRefused self.now result }
+    {
+        let Verdict::Offence { place, .. } = &self.judging.verdict else {
+            return None;
+        };
+        let Some(version) = &self.judging.held else {
+            return None;
+        };
+        let event = self.log.get(place.checked_sub(1)?)?;
+        Some(RefusedEvent {
+            version,
+            configuration: &self.judging.configuration,
+            place: *place,
+            event,
+        })
     }
 
     /// Returns whether the record holds a version, its verdict on the whole log is `Permitted`, and the log is complete

@@ -53,7 +53,7 @@ returns-clause-ok c =
     let log = c.args.log.now in
     let w = kept_whole log self v c.requires.kept c.in-Some-Permitted.is-0 c.in-Some-Permitted.is-1 c.requires.whole in
     let next = subst (λ (b : Bool). IsNext (meaning_of v) v.machines log c.args.event.now c.advance.new.self b) c.if-branch.false (c.in_ok-advance.ensures.ok log w.0) in
-    judged_on log c.args.event.now self _ _ v refl c.in-Some-Permitted.is-0 refl refl (c.in_ok-verdict-2.ensures log next.1 w.1 refl next.0 _) (ap Judged c.in_ok-copied.ensures)
+    judged_on log c.args.event.now self _ _ v refl c.in-Some-Permitted.is-0 refl refl (c.in_ok-verdict-2.ensures log next.1 w.1 refl next.0) (ap Judged c.in_ok-copied.ensures)
 
 pub returns-in_err-advance-clause-kept : goal.returns-in_err-advance-clause-kept
 returns-in_err-advance-clause-kept c =
