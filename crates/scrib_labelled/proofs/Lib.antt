@@ -1,6 +1,6 @@
 mod SplitLemmas
 mod LineLemmas
-mod NameLemmas
+pub mod NameLemmas
 mod ExchangeLemmas
 mod ItemLemmas
 mod EntryLemmas

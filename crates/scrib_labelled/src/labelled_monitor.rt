@@ -11,6 +11,7 @@ use scrib_core::conversation_steps::{Noted, Tested};
 use scrib_core::format::Format;
 use scrib_core::reply::{Refusal, Reply, close_reply, note_reply};
 use scrib_core::step::Step;
+use scrib_report::headed_line::HeadedLine;
 use scrib_report::label::Label;
 use scrib_report::labelled::{push_labelled_bad_line, push_labelled_end, push_labelled_reply};
 use scrib_report::printing::reply_format;
@@ -38,18 +39,24 @@ pub struct LabelledMonitor {
     style: LabelledStyle,
     // The text of one item. Where memory is refused in the midst of it, the gathered texts stay whole.
     text: Vec<u8>,
+    // The line of one permitted event.
+    line: HeadedLine,
     /// The replies that are not written yet.
     pub gathered: Gathered,
 }
 
 impl LabelledMonitor {
-    ghost use Rattle.std.specs.Prelude.{◌≡◌, ◌≢◌, ◌++◌, ◌&&◌, ℕ, List, Some, true, false, not, IfOk, IsTrue, MatchOption, OnErr, OnOk};
+    ghost use Rattle.std.specs.Prelude.{◌≡◌, ◌≢◌, ◌++◌, ◌&&◌, ℕ, List, None, Some, true, false, not, IfOk, IsFalse, IsTrue, MatchOption, OnErr, OnOk};
     ghost use Rattle.scrib_core.specs.Answers.{IsAnswered, IsCompleteIn, initial};
+    ghost use Rattle.scrib_core.specs.World.{conversation};
     ghost use Rattle.scrib_labelled.specs.CheckedCores.{GotMemory, state_of};
     ghost use Rattle.scrib_core.specs.ReplyValues.{note_reply_of};
     ghost use Rattle.scrib_core.specs.declared.format.Format.TheVariants as format;
     ghost use Rattle.scrib_core.specs.declared.reply.Reply.{Reply};
+    ghost use Rattle.scrib_core.specs.declared.reply.Reply.TheVariants as reply;
     ghost use Rattle.scrib_core.specs.declared.step.Step.TheVariants.{Close};
+    ghost use Rattle.scrib_types.specs.declared.event.Told.TheVariants.{Judged};
+    ghost use Rattle.scrib_types.specs.declared.event.Verdict.TheVariants.{Permitted};
     ghost use Rattle.scrib_report.specs.LabelledReplies.{labelled_reply};
     ghost use Rattle.scrib_report.specs.PutBack as spec;
     ghost use Rattle.scrib_report.specs.PutBack.{name_of, tag_of};
@@ -68,6 +75,7 @@ impl LabelledMonitor {
             core: CheckedCore::new(alloc),
             style,
             text: Vec::new(alloc),
+            line: HeadedLine::new(),
             gathered: Gathered::new(alloc),
         }
     }
@@ -94,6 +102,14 @@ impl LabelledMonitor {
                 Ok(Change::Unchanged)
             }
         }
+    }
+
+    /// Returns whether the conversation is open.
+    #[inline(always)]
+    pub fn is_open(&self, id: u32) -> bool
+        ensures { IsFalse result → conversation (state_of self.now.core).world id ≡ None }
+    {
+        self.core.core.view(id).is_some()
     }
 
     // Makes the step, whose line asks for the format `asked`, and appends the reply with this label. Where it completes
@@ -295,14 +311,40 @@ impl LabelledMonitor {
                     place,
                     told: Told::Judged(Verdict::Permitted),
                 },
-            ) => {
-                let head = ReplyHead {
-                    tag_text,
-                    name: label.name,
-                };
-                self.gathered.add_headed_permitted(id, place as u64, head)
-            }
+            ) => self.gather_permitted(id, place, label, tag_text),
             noted => self.gather_line(&note_reply(id, noted), label),
+        }
+    }
+
+    // Gathers the line of the permitted event at this place with this label. After an error the gathered texts are
+    // unchanged.
+    #[inline(always)]
+    fn gather_permitted(
+        &mut self,
+        id: u32,
+        place: usize,
+        label: Label<'_>,
+        tag_text: &[u8],
+    ) -> Result<(), AllocError>
+        requires { tag_text.now ≡ spec.tag_text (tag_of label) }
+        ensures core { self.new.core ≡ self.old.core }
+        ensures style { self.new.style ≡ self.old.style }
+        ensures ok { OnOk result (self.new.gathered.bytes.items ≡ self.old.gathered.bytes.items
+            ++ labelled_reply format.Line (tag_of label.entry) (name_of label.entry)
+            (reply.Noted id place (Judged Permitted))) }
+        ensures err { OnErr result (self.new.gathered.bytes.items ≡ self.old.gathered.bytes.items) }
+    {
+        let head = ReplyHead {
+            tag_text,
+            name: label.name,
+        };
+        match self.line.permitted(id, place as u64, head) {
+            Some(line) => self.gathered.add_bytes(line),
+            // no label is as long as that
+            None => {
+                let told = Told::Judged(Verdict::Permitted);
+                self.gather_line(&note_reply(id, Ok(Noted { place, told })), label)
+            }
         }
     }
 

@@ -1,5 +1,6 @@
 pub mod EventLine
 mod HeadedEventLemmas
+mod HeadedLineLemmas
 mod LabelledMembers
 mod Members
 mod Totals

@@ -1,0 +1,29 @@
+use Rattle.std.proofs.Common.{◌∙◌, ◌++◌, ℕ, List, ap, subst, sym}
+use Rattle.std.proofs.lemmas.Result.{IfOk-weaker}
+use Rattle.scrib_report.specs.PutBack.{name_of, tag_of}
+use Rattle.scrib_script_reader.specs.declared.item.Item.{Item}
+use Rattle.scrib_script_reader.specs.declared.item.Item.TheVariants as item
+use Rattle.scrib_labelled.specs.CheckedCores.{state_of}
+use Rattle.scrib_labelled.specs.LabelledRuns.{Takes}
+use Rattle.scrib_labelled.specs.declared.labelled_monitor.LabelledMonitor.{LabelledMonitor}
+use Rattle.scrib_labelled.proofs.labelled_monitor.LabelledMonitor.take.Goals as goal
+
+pub returns-in-Step-clause-ok : goal.returns-in-Step-clause-ok
+returns-in-Step-clause-ok c =
+    let o = c.args.self.now.style in
+    let tag = tag_of c.args.label in
+    let name = name_of c.args.label in
+    let w = state_of c.args.self.now.core in
+    let u = state_of c.push_step.new.self.core in
+    let step = item.Step c.in-Step.asked c.in-Step.step in
+    IfOk-weaker c.push_step.result _ _
+    (λ change k. record {
+      style = ap (λ (m : LabelledMonitor). m.style) c.push_step.ensures.same;
+      replies = k.0;
+      takes =
+          subst (λ (i : Item). Takes o tag name w i u k.0 c.push_step.new.self.text.items) (sym c.in-Step.is)
+          (subst (λ (t : List ℕ). Takes o tag name w step u k.0 t) (sym (k.5 ∙ ap (λ (t : List ℕ). t ++ k.1) c.clear.ensures.items)) k.2);
+      changes = k.3;
+      memory = k.4;
+    })
+    c.push_step.ensures.ok
