@@ -1,2 +1,3 @@
 mod LineLemmas
 mod ExchangeObjectLemmas
+mod ExchangeMemberLemmas

@@ -50,9 +50,6 @@ pub(crate) struct TagValue<'a> {
 pub fn exchange_object(options: ObjectOptions, line: &[u8]) -> Option<ExchangeObject<'_>>
     ensures { IfSome result (spec.IsExchangeObject options line.now) }
 {
-    let Ok(_) = from_utf8(line) else {
-        return None;
-    };
     let word = quoted_text(behind_do(line)?)?;
     if !is_exchange(word.text) {
         return None;
@@ -65,6 +62,9 @@ pub fn exchange_object(options: ObjectOptions, line: &[u8]) -> Option<ExchangeOb
     if !is_end(to.rest) {
         return None;
     }
+    let Ok(_) = from_utf8(line) else {
+        return None;
+    };
     Some(ExchangeObject {
         word: word.text,
         id: id.text,
@@ -75,8 +75,8 @@ pub fn exchange_object(options: ObjectOptions, line: &[u8]) -> Option<ExchangeOb
     })
 }
 
-// Whether the word is that of a send or a reception.
-fn is_exchange(word: &[u8]) -> bool
+/// Returns whether the word is that of a send or a reception.
+pub(crate) fn is_exchange(word: &[u8]) -> bool
     ensures { result ≡ spec.is_exchange word.now }
 {
     same_bytes(word, b"send") || same_bytes(word, b"recv")

@@ -79,8 +79,8 @@ fn text_field<'a>(member: &Element<'_, 'a>) -> Option<&'a str>
     member.as_str().filter(|text| is_field(text.as_bytes()))
 }
 
-// Whether the bytes are one field: not empty, without blanks and tabs.
-fn is_field(bytes: &[u8]) -> bool
+/// Returns whether the bytes are one field: not empty, without blanks and tabs.
+pub(crate) fn is_field(bytes: &[u8]) -> bool
     ensures { result ≡ spec.is_field bytes.now }
 {
     !bytes.is_empty() && has_no_blank(bytes)

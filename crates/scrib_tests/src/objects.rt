@@ -116,6 +116,70 @@ const EXCHANGES: [(&str, &str); 7] = [
     ("{\"do\":\"join\",\"id\":1,\"role\":\"A\"}", "other"),
 ];
 
+// Objects, and what they stand for where they are exchanges without other members.
+const ANY_EXCHANGES: [(&str, &str); 12] = [
+    (
+        "{\"do\": \"send\", \"id\": 1, \"from\": \"A\", \"to\": \"B\", \"message\": \"hello(Int)\"}",
+        "send 1 A B hello(Int)",
+    ),
+    (
+        "{ \"tag\" :\"17\",\"to\":\"B\",\"message\":\"m()\",\"from\":\"\\u0041\",\"id\":\"o8\",\"\\u0064o\":\"recv\"} ",
+        "@17 recv o8 A B m()",
+    ),
+    (
+        "{\"do\":\"recv\",\"from\":\"A\",\"id\":-1e3,\"message\":\"hello()\",\"to\":\"B\"}",
+        "recv -1e3 A B hello()",
+    ),
+    (
+        "{\"do\":\"recv\",\"from\":\"A\",\"from\":\"A\",\"id\":1,\"message\":\"hello()\",\"to\":\"B\"}",
+        "other",
+    ),
+    (
+        "{\"do\":\"recv\",\"from\":\"A\",\"id\":1,\"json\":true,\"message\":\"hello()\",\"to\":\"B\"}",
+        "other",
+    ),
+    (
+        "{\"do\":\"recv\",\"from\":\"A\",\"id\":1,\"message\":\"hello()\"}",
+        "other",
+    ),
+    (
+        "{\"do\":\"recv\",\"from\":\"A B\",\"id\":1,\"message\":\"hello()\",\"to\":\"B\"}",
+        "other",
+    ),
+    (
+        "{\"do\":\"recv\",\"from\":1,\"id\":1,\"message\":\"hello()\",\"to\":\"B\"}",
+        "other",
+    ),
+    (
+        "{\"do\":\"recv\",\"from\":\"A\",\"id\":1,\"message\":\"hello()\",\"tag\":\"a b\",\"to\":\"B\"}",
+        "other",
+    ),
+    (
+        "{\"do\":\"turn\",\"from\":\"A\",\"id\":1,\"message\":\"hello()\",\"to\":\"B\"}",
+        "other",
+    ),
+    (
+        "{\"do\":\"recv\",\"from\":\"A\",\"id\":1,\"message\":\"hello()\",\"to\":\"B\"}{}",
+        "other",
+    ),
+    (
+        "{\"do\":\"recv\",\"from\":\"A\",\"id\":1,\"message\":\"hello()\",\"to\":\"B\"",
+        "other",
+    ),
+];
+
+// The same where no tags and names are allowed.
+const PLAIN_EXCHANGES: [(&str, &str); 2] = [
+    (
+        "{\"tag\": \"a b\", \"do\": \"recv\", \"id\": 1, \"from\": \"A\", \"to\": \"B\", \"message\": \"hello()\"}",
+        "recv 1 A B hello()",
+    ),
+    (
+        "{\"do\": \"recv\", \"id\": \"1\", \"from\": \"A\", \"to\": \"B\", \"message\": \"hello()\"}",
+        "other",
+    ),
+];
+
 // The line, behind its tag.
 fn printed_exchange(
     alloc: Global,
@@ -143,6 +207,21 @@ fn printed_exchange(
 fn exchanges_are_read_in_one_pass(rt: HostRuntime) -> Result<(), Fail> {
     for (object, wanted) in EXCHANGES {
         let line = printed_exchange(rt.alloc(), exchange_object(ALL, object.as_bytes()))?;
+        assert_eq!(rt; line.as_slice(), wanted.as_bytes(), "{object}");
+    }
+    Ok(())
+}
+
+#[test]
+fn exchanges_are_read_in_any_order(rt: HostRuntime) -> Result<(), Fail> {
+    let alloc = rt.alloc();
+    let mut reader = ObjectReader::new(alloc);
+    for (object, wanted) in ANY_EXCHANGES {
+        let line = printed_exchange(alloc, reader.read_exchange(ALL, object.as_bytes()))?;
+        assert_eq!(rt; line.as_slice(), wanted.as_bytes(), "{object}");
+    }
+    for (object, wanted) in PLAIN_EXCHANGES {
+        let line = printed_exchange(alloc, reader.read_exchange(NONE, object.as_bytes()))?;
         assert_eq!(rt; line.as_slice(), wanted.as_bytes(), "{object}");
     }
     Ok(())
