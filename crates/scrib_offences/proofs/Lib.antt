@@ -1,3 +1,6 @@
-mod OffenceLemmas
-mod PlaceLemmas
-mod StatusLemmas
+mod MachineSteps
+mod ParticipantLemmas
+mod OldestLemmas
+mod RefusalLemmas
+mod NextLemmas
+mod ExplanationLemmas

@@ -1,1 +1,3 @@
 pub mod ExplainedOffences
+pub mod Refusals
+pub mod Participants

@@ -1,5 +1,9 @@
-//! Offences with their reason, the records of what is reported of conversations, and their texts.
+//! Offences with their reason, and with what the role might do in their place.
 #![tactic(auto)]
 
-pub mod explain_offence;
+pub mod explain_refused;
 pub mod explained_offence;
+mod next_actions;
+mod oldest;
+mod participant;
+mod refusal;

@@ -1,4 +1,4 @@
 mod Choices
-mod ReasonLemmas
+pub mod ReasonLemmas
 mod FindLemmas
 mod Samples
