@@ -101,9 +101,12 @@ fn push_row(out: &mut Vec<u8>, width: usize, number: u64, event: &Event) -> Resu
     push_event(out, event)
 }
 
-// Adds the event as a line spells it, without the id.
+/// Adds the event as a line spells it, without the id.
+///
+/// # Errors
+/// `AllocError` where memory for the longer text is refused.
 #[tactic(auto, unfolding(crate::specs::ShownLines::event_text))]
-pub(crate) fn push_event(out: &mut Vec<u8>, event: &Event) -> Result<(), AllocError>
+pub fn push_event(out: &mut Vec<u8>, event: &Event) -> Result<(), AllocError>
     ensures { OnOk result (out.new.items ≡ out.old.items ++ lines.event_text event.now) }
 {
     match event {

@@ -76,8 +76,8 @@ pub(crate) fn push_offence(
     push_bytes(out, reason_word(reason).as_bytes())
 }
 
-// The word of a reason.
-fn reason_word(reason: Reason) -> &'static str
+/// Returns the word of a reason.
+pub fn reason_word(reason: Reason) -> &'static str
     ensures { result.now ≡ lines.reason_word reason }
 {
     match reason {

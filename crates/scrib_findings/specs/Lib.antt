@@ -1,0 +1,3 @@
+pub mod FindingLines
+pub mod FindingObjects
+pub mod FindingTexts
