@@ -334,6 +334,33 @@ impl LabelledMonitor {
             (reply.Noted id place (Judged Permitted))) }
         ensures err { OnErr result (self.new.gathered.bytes.items ≡ self.old.gathered.bytes.items) }
     {
+        if label.tag.is_none() && label.name.is_none() {
+            let told = Told::Judged(Verdict::Permitted);
+            return self
+                .gathered
+                .add_noted(id, Ok(Noted { place, told }), Format::Line);
+        }
+        self.gather_headed(id, place, label, tag_text)
+    }
+
+    // The same where the line has a tag or the conversation a name. It is not inlined, so that LLVM inlines what it
+    // calls.
+    #[inline(never)]
+    fn gather_headed(
+        &mut self,
+        id: u32,
+        place: usize,
+        label: Label<'_>,
+        tag_text: &[u8],
+    ) -> Result<(), AllocError>
+        requires { tag_text.now ≡ spec.tag_text (tag_of label) }
+        ensures core { self.new.core ≡ self.old.core }
+        ensures style { self.new.style ≡ self.old.style }
+        ensures ok { OnOk result (self.new.gathered.bytes.items ≡ self.old.gathered.bytes.items
+            ++ labelled_reply format.Line (tag_of label.entry) (name_of label.entry)
+            (reply.Noted id place (Judged Permitted))) }
+        ensures err { OnErr result (self.new.gathered.bytes.items ≡ self.old.gathered.bytes.items) }
+    {
         let head = ReplyHead {
             tag_text,
             name: label.name,

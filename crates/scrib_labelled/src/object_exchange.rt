@@ -106,7 +106,7 @@ fn write_line(line: &mut Vec<u8>, object: ExchangeObject<'_>) -> Result<(), Allo
 fn push_field(line: &mut Vec<u8>, field: &[u8]) -> Result<(), AllocError>
     ensures { OnOk result (line.new.items ≡ line.old.items ++ 32 ∷ field.now) }
 {
-    push_bytes(line, b" ")?;
+    line.push(b' ')?;
     push_bytes(line, field)
 }
 
@@ -118,7 +118,8 @@ fn write_tag(text: &mut Vec<u8>, tag: Option<&[u8]>) -> Result<(), AllocError>
     let Some(tag) = tag else {
         return Ok(());
     };
-    push_bytes(text, b"@")?;
+    text.push(b'@')?;
     push_bytes(text, tag)?;
-    push_bytes(text, b" ")
+    text.push(b' ')?;
+    Ok(())
 }

@@ -77,6 +77,9 @@ fn write_line(line: &mut [u8; BUFFER_BYTES], id: u32, place: u64, head: ReplyHea
         ≡ 245 }
 {
     let event_at = write_event_text(line, id, place, head.name);
+    if head.tag_text.is_empty() {
+        return event_at;
+    }
     write_text(line, head.tag_text, event_at)
 }
 
