@@ -1,0 +1,7 @@
+mod CarryLemmas
+mod EntryLemmas
+mod LabelLemmas
+mod NameLemmas
+mod OutputLemmas
+mod SinkLemmas
+mod StageLemmas

@@ -1,0 +1,6 @@
+pub mod HeldRuns
+pub mod HeldLabels
+pub mod WaitingLabels
+pub mod Sinks
+pub mod Stages
+pub mod StageLaws
