@@ -190,9 +190,9 @@ fn watch_command<'a>(alloc: Global) -> Result<Command<'a>, AllocError> {
         .arg(json_arg(alloc))?
         .arg(hold_arg(alloc))?
         .arg(unheld(close_complete_arg(alloc))?)?
-        .arg(unheld(names_arg(alloc))?)?
-        .arg(unheld(tags_arg(alloc))?)?
-        .arg(unheld(input_arg(alloc))?)?
+        .arg(names_arg(alloc))?
+        .arg(tags_arg(alloc))?
+        .arg(input_arg(alloc))?
         .arg(endless_arg(alloc))?
         .arg(file_arg(alloc))
 }

@@ -90,7 +90,7 @@ With --tags a line may begin with a tag, and its reply then does:
 With --input json each line is one JSON object, as in:
   {\"do\":\"send\",\"from\":\"A\",\"id\":1,\"message\":\"hello()\",\"to\":\"B\"}
   {\"do\":\"put\",\"text\":\"module demo; ..\"}
-These three and --close-complete go together, but not with --hold.
+These three go together, and with --hold or --close-complete.
 
 Example:
   scribmon watch examples/01_hello/receive_before_send.script

@@ -3,7 +3,7 @@
 ghost use Rattle.std.specs.Prelude.{◌<◌, ◌+◌, ◌^◌};
 
 use crate::outcomes::{flush_and_print_fault, refuse_value};
-use crate::request::{bound_of, format_of, limits_of};
+use crate::request::{bound_of, format_of, labels_of, limits_of};
 use crate::run_command_line::Streams;
 use clap::ArgMatches;
 use scrib_cli::commands::fault::CommandFault;
@@ -11,9 +11,11 @@ use scrib_cli::commands::folder::{Folder, SystemFiles};
 use scrib_cli::commands::opened::Opened;
 use scrib_cli::commands::source::Source;
 use scrib_core::format::Format;
+use scrib_held_labels::run_held_labelled_script::run_held_labelled_script;
 use scrib_hold::hold_limits::HoldLimits;
 use scrib_hold::run_held_script::{Counts, run_held_script};
 use scrib_hold_lines::hold_script::hold_script;
+use scrib_labelled::label_options::LabelledStyle;
 use std::alloc::Global;
 use std::io::{Input, Read, Write};
 use std::rt::Files;
@@ -23,6 +25,8 @@ use std::rt::Files;
 enum HeldOutput {
     // It writes the replies to its steps in this format.
     Replies(Format),
+    // It writes the replies with the labels of its lines, in this style.
+    LabelledReplies(LabelledStyle),
     // It writes the script anew.
     Script,
 }
@@ -34,8 +38,20 @@ pub(crate) fn watch_held<R: Files + AllocGlobal, I: Input, W: Write, E: Print + 
     matches: &ArgMatches<'_>,
     bound: &str,
 ) -> u8 {
-    let output = HeldOutput::Replies(format_of(matches));
-    run_held(system, streams, matches, bound, output)
+    run_held(system, streams, matches, bound, replies_of(matches))
+}
+
+// The replies that `watch --hold` writes.
+fn replies_of(matches: &ArgMatches<'_>) -> HeldOutput {
+    let format = format_of(matches);
+    match labels_of(matches) {
+        Some(labels) => HeldOutput::LabelledReplies(LabelledStyle {
+            labels,
+            closes: false,
+            format,
+        }),
+        None => HeldOutput::Replies(format),
+    }
 }
 
 // Runs `hold`, and returns the exit status.
@@ -99,6 +115,9 @@ fn write_held<'a, R: Read + Drop, W: Write>(
     let written = match output {
         HeldOutput::Replies(format) => {
             run_held_script(alloc, format, limits, &mut script.reader, writer)
+        }
+        HeldOutput::LabelledReplies(style) => {
+            run_held_labelled_script(alloc, style, limits, &mut script.reader, writer)
         }
         HeldOutput::Script => hold_script(alloc, limits, &mut script.reader, writer),
     };
