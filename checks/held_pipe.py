@@ -39,7 +39,17 @@ HELD = [
     (b"close 1\n", b"close 1: permitted\n"),
     (b"nothing\n", b"refused BadLine 10\n"),
 ]
-# With `hold`: the same lines, and what is printed of them.
+# With `watch --hold --names --tags`: the reply to a line that waited has the tag of that line.
+LABELLED = [
+    (TEXT, b"put demo: +demo.Hello\n"),
+    (b"@1 open a demo.Hello\n", b"@1 open a: demo.Hello\n"),
+    (b"@2 join a B\n", b"@2 a.1 permitted\n"),
+    (b"@3 recv a A B hello()\n@4 join a A\n", b"@4 a.2 permitted\n"),
+    (b"@5 send a A B hello()\n", b"@5 a.3 permitted\n@3 a.4 permitted\n"),
+    (b"close a\n", b"close a: permitted\n"),
+    (b"@6 nothing\n", b"@6 refused BadLine 10\n"),
+]
+# With `hold`: the same lines as with `watch --hold`, and what is printed of them.
 PRINTED = [
     (TEXT, TEXT),
     (b"open 1 demo.Hello\n", b"open 1 demo.Hello\n"),
@@ -49,7 +59,12 @@ PRINTED = [
     (b"close 1\n", b"close 1\n"),
     (b"nothing\n", b"nothing\n"),
 ]
-RUNS = [(["watch"], WATCHED), (["watch", "--hold", "100"], HELD), (["hold"], PRINTED)]
+RUNS = [
+    (["watch"], WATCHED),
+    (["watch", "--hold", "100"], HELD),
+    (["watch", "--hold", "100", "--names", "--tags"], LABELLED),
+    (["hold"], PRINTED),
+]
 
 
 def reply(program, wanted):

@@ -7,8 +7,9 @@ The stored scripts are those of the worked examples that `watch`, `hold`, `expla
 of the numbered examples. In each line about a conversation the number becomes a word, and half of the lines outside
 module texts get a tag in front. Some have a tab behind the tag, and some two blanks. `watch --names --tags` must then
 print what `watch` prints for the stored script, with the word in place of the number and the tag in front. Both are
-compared in lines and in JSON. Scripts with a line that is about a bad number or near the longest line are left out, and
-so are those with labels of their own.
+compared in lines and in JSON. With `--hold` beside the flags the replies but for their tags must be those of
+`watch --hold`, and each tag must come with a reply to its own line. Scripts with a line that is about a bad number or
+near the longest line are left out, and so are those with labels of their own.
 
 Prints how many scripts were compared, and how often each kind of reply had a label. Status: 0 fine; 1 where a reply is
 another one, or a kind of reply never had a label; 2 a bad command line, or no program.
@@ -33,13 +34,15 @@ SILENT = re.compile(r"[ \t]*(?:#.*)?", re.S)
 LONGEST = 131_000
 KINDS = ["event", "verdict", "open", "close", "put", "withdraw", "profile", "refused"]
 SHOWN_FAILURES = 3
+# For how many lines events wait.
+HELD = ["3", "1000"]
 
 
 class Labelled:
     """A script with names and tags, and the tag of each of its replies, or none."""
 
     def __init__(self, pick, script):
-        self.pick, self.lines, self.tags = pick, [], []
+        self.pick, self.lines, self.tags, self.lines_of = pick, [], [], {}
         self.in_text, self.text_tag = False, None
         lines = script.split("\n")
         for at, line in enumerate(lines):
@@ -65,6 +68,8 @@ class Labelled:
             self.in_text, self.text_tag = True, tag
         elif not SILENT.fullmatch(bare):
             self.tags.append(tag)
+        if tag is not None:
+            self.lines_of.setdefault(tag, []).append(bare)
 
     def script(self):
         return "\n".join(self.lines)
@@ -136,7 +141,46 @@ def compare(program, pick, script, seen):
             return first_difference(wanted, given)
         if not words:
             seen.update(kind_of(reply) for reply, tag in zip(plain, labelled.tags) if tag is not None)
+    for bound in HELD:
+        fault = compare_held(program, script, labelled, ["--hold", bound])
+        if fault:
+            return fault
     return None
+
+
+def split_tag(reply):
+    """The tag of a reply, or none, and the reply without it."""
+    if reply.startswith("{"):
+        members = json.loads(reply)
+        tag = members.pop("tag", None)
+        return tag, json.dumps(members, separators=(",", ":"), ensure_ascii=False)
+    found = re.fullmatch(r"(?s)@(\S+) (.*)", reply)
+    return (found[1], found[2]) if found else (None, reply)
+
+
+def is_of_line(reply, lines):
+    """Whether a reply without its tag may be to one of these lines: an event's is to an event of its conversation."""
+    event = re.match(r"(c-[0-9]+)\.", reply)
+    if not event:
+        return True
+    number = event[1][2:]
+    return any(re.match(r"(?:[ \t]*json)?[ \t]*(?:join|send|recv)[ \t]+0*%s[ \t]" % number, line) for line in lines)
+
+
+def compare_held(program, script, labelled, words):
+    """The same with the events held back: the order of the replies is that of `watch --hold`."""
+    *plain, counts = reply_lines(program, ["watch", *words], script)
+    wanted = [split_tag(reply)[1] for reply in expected(plain, [None] * len(plain))]
+    *given, labelled_counts = reply_lines(program, ["watch", "--names", "--tags", *words], labelled.script())
+    pairs = [split_tag(reply) for reply in given]
+    if labelled_counts != counts:
+        return "%s, %r, not %r" % (" ".join(words), labelled_counts, counts)
+    if [reply for _, reply in pairs] != wanted:
+        return " ".join(words) + ", " + first_difference(wanted, [reply for _, reply in pairs])
+    if Counter(tag for tag, _ in pairs) != Counter(labelled.tags):
+        return " ".join(words) + ", other tags"
+    wrong = [pair for pair in pairs if pair[0] is not None and not is_of_line(pair[1], labelled.lines_of[pair[0]])]
+    return "%s, tag %r of reply %r" % (" ".join(words), *wrong[0]) if wrong else None
 
 
 def parse_arguments():
